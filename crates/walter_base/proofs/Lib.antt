@@ -1,0 +1,3 @@
+pub mod NameTests
+pub mod Maps
+pub mod Rising

@@ -1,0 +1,9 @@
+use Rattle.std.proofs.Common.{ap, ◌∙◌}
+use Rattle.std.specs.FinMap as map
+use Rattle.walter_base.proofs.Maps.{one_given}
+use Rattle.walter_base.proofs.containers.Containers.insert.Goals as goal
+
+pub returns-clause-ok : goal.returns-clause-ok
+returns-clause-ok c =
+    one_given c.self.inside.entries.entries c.insert.new.self.entries c.args.number c.args.container c.in_ok-insert.ensures.updates.0
+    ∙ ap (λ m. map.insert m c.args.number c.args.container) c.self.view_is

@@ -1,0 +1,6 @@
+pub mod Names
+pub mod Vectors
+pub mod Padding
+pub mod Container
+pub mod Catalogs
+pub mod Values

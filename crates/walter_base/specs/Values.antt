@@ -1,0 +1,55 @@
+-- What a list of updates makes of an object, and which lists conflict (Sovran et al., SOSP 2011: sections 2 and 3.3 on
+-- counting sets, section 3.2 on write sets).
+use Rattle.std.specs.Prelude.{◌≡◌, ◌≢◌, ◌↔◌, ◌-ℤ◌, ◌<◌, ℕ, ℤ, pos, Bool, false, ◌&&◌, nat_eq, List, [], ◌∷◌, Option, Some, None, Contains, count_by, flat_map, AllPairs, if◌then◌else◌}
+use Rattle.walter_base.specs.declared.names.ObjId.{ObjId}
+use Rattle.walter_base.specs.declared.update.Update.{Update}
+use Rattle.walter_base.specs.declared.update.Update.TheVariants.{Write, Add, Del}
+use Rattle.walter_base.specs.Names.{same_object}
+
+-- what a regular object holds after an update, that held this before
+abbrev pub held_after : ObjId → Option (List ℕ) → Update → Option (List ℕ)
+held_after oid held (Write at bytes) = if same_object at oid then Some bytes else held
+held_after oid held (Add at id) = held
+held_after oid held (Del at id) = held
+
+abbrev pub value_from : Option (List ℕ) → ObjId → List Update → Option (List ℕ)
+value_from held oid [] = held
+value_from held oid (update ∷ updates) = value_from (held_after oid held update) oid updates
+
+-- the value of a regular object: that of the last write to it, or none
+abbrev pub value_of : ObjId → List Update → Option (List ℕ)
+value_of oid updates = value_from None oid updates
+
+-- whether an update adds the id to the set, or takes it away
+abbrev pub adds : ObjId → ℕ → Update → Bool
+adds oid id (Write at bytes) = false
+adds oid id (Add at name) = same_object at oid && nat_eq name id
+adds oid id (Del at name) = false
+
+abbrev pub takes : ObjId → ℕ → Update → Bool
+takes oid id (Write at bytes) = false
+takes oid id (Add at name) = false
+takes oid id (Del at name) = same_object at oid && nat_eq name id
+
+-- the count of an id in a set: how often it was added, less how often it was taken away
+abbrev pub count_of : ObjId → ℕ → List Update → ℤ
+count_of oid id updates = pos (count_by (adds oid id) updates) -ℤ pos (count_by (takes oid id) updates)
+
+-- the counts of a set: the ids with a count other than 0, by rising id
+pub record AreCounts (oid : ObjId) (updates : List Update) (counts : List (ℕ × ℤ)) : Type 0 where
+  pub rising : AllPairs (λ a b. a.0 < b.0) counts
+  pub held : (id : ℕ) (n : ℤ) → Contains counts (id, n) ↔ ((count_of oid id updates ≡ n) × (n ≢ pos 0))
+
+-- the regular object that an update writes, if it writes one
+abbrev pub written : Update → List ObjId
+written (Write oid bytes) = oid ∷ []
+written (Add oid id) = []
+written (Del oid id) = []
+
+-- the regular objects written, each as often as it was
+abbrev pub write_set : List Update → List ObjId
+write_set updates = flat_map written updates
+
+-- two write sets share an object
+abbrev pub DoConflict : List Update → List Update → Type 0
+DoConflict updates others = (oid : ObjId) × Contains (write_set updates) oid × Contains (write_set others) oid

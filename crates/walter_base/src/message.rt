@@ -1,0 +1,80 @@
+ghost use Rattle.std.specs.Prelude.{◌≡◌};
+
+use crate::bytes::Bytes;
+use crate::names::{ObjId, Tid, Version};
+use crate::transaction::Tx;
+use std::alloc::AllocError;
+
+/// What a client asks.
+#[derive(Debug, Drop)]
+pub enum Request {
+    /// A new transaction.
+    Start,
+    /// The value of an object.
+    Read(ObjId),
+    /// A new value for an object.
+    Write(ObjId, Bytes),
+    /// The end of the transaction, with its updates committed.
+    Commit,
+}
+
+impl Clone for Request {
+    ghost is_clone = { λ a b. b ≡ a };
+
+    fn clone(&self) -> Result<Request, AllocError> {
+        match self {
+            Request::Start => Ok(Request::Start),
+            Request::Read(oid) => Ok(Request::Read(*oid)),
+            Request::Write(oid, bytes) => Ok(Request::Write(*oid, bytes.clone()?)),
+            Request::Commit => Ok(Request::Commit),
+        }
+    }
+}
+
+/// What a client is answered.
+#[derive(Debug, Drop)]
+pub enum Reply {
+    /// The transaction that was started.
+    Started(Tid),
+    /// The value of an object, where it has one.
+    Value(Option<Bytes>),
+    /// The update is taken.
+    Done,
+    /// The transaction is committed, as this version.
+    Committed(Version),
+    /// The transaction had no updates, and is over.
+    Ended,
+    /// The request is refused, and the site is as before.
+    Refused(Refusal),
+}
+
+/// Why a request is refused.
+#[derive(Clone, Copy, Debug, PartialEq, Eq)]
+pub enum Refusal {
+    /// No transaction is open.
+    NoTx,
+    /// A transaction is open.
+    TxOpen,
+    /// Memory ran out.
+    Memory,
+}
+
+/// What a site journals.
+#[derive(Debug, Drop)]
+pub enum Record {
+    /// The site is up, in this epoch.
+    Boot(u32),
+    /// The site's own commit of this number.
+    Own(u64, Tx),
+}
+
+impl Clone for Record {
+    ghost is_clone = { λ a b. b ≡ a };
+
+    fn clone(&self) -> Result<Record, AllocError> {
+        match self {
+            Record::Boot(epoch) => Ok(Record::Boot(*epoch)),
+            Record::Own(seq, tx) => Ok(Record::Own(*seq, tx.clone()?)),
+        }
+    }
+}

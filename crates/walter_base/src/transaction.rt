@@ -1,0 +1,51 @@
+ghost use Rattle.std.specs.Prelude.{◌≡◌};
+
+use crate::names::{ObjId, Tid, Version};
+use crate::update::Updates;
+use crate::vts::Vts;
+use std::alloc::AllocError;
+
+/// A transaction with updates. `slow` is 0 for a fast commit, else the number of the slow commit at its site. `start`
+/// is its snapshot.
+#[derive(Debug, Drop)]
+pub struct Tx {
+    pub tid: Tid,
+    pub slow: u64,
+    pub start: Vts,
+    pub updates: Updates,
+}
+
+impl Clone for Tx {
+    ghost is_clone = { λ a b. b ≡ a };
+
+    fn clone(&self) -> Result<Tx, AllocError> {
+        Ok(Tx {
+            tid: self.tid,
+            slow: self.slow,
+            start: self.start,
+            updates: self.updates.clone()?,
+        })
+    }
+}
+
+/// What stands in the way of a commit.
+#[derive(Clone, Copy, Debug, PartialEq, Eq)]
+pub enum Conflict {
+    /// A version of the object is outside the snapshot.
+    Modified { oid: ObjId, version: Version },
+    /// The object is locked by the owner.
+    Locked { oid: ObjId, owner: Tid },
+    /// The slow commit is over.
+    Dead,
+}
+
+/// Why a transaction ended as aborted.
+#[derive(Clone, Copy, Debug, PartialEq, Eq)]
+pub enum Cause {
+    /// A version of the object was outside the snapshot.
+    Modified { oid: ObjId, version: Version },
+    /// The object was locked by the owner.
+    Locked { oid: ObjId, owner: Tid },
+    /// Its caller asked for it.
+    Asked,
+}

@@ -1,0 +1,77 @@
+ghost use Rattle.std.specs.Prelude.{◌≡◌};
+
+use crate::bytes::Bytes;
+use crate::names::{ObjId, Version};
+use std::alloc::AllocError;
+use std::marker::Model;
+
+/// One change of a transaction.
+#[derive(Debug, Drop)]
+pub enum Update {
+    /// The value of a regular object becomes these bytes.
+    Write(ObjId, Bytes),
+    /// The count of an id in a set that counts rises by one.
+    Add(ObjId, u64),
+    /// The count falls by one.
+    Del(ObjId, u64),
+}
+
+impl Clone for Update {
+    ghost is_clone = { λ a b. b ≡ a };
+
+    fn clone(&self) -> Result<Update, AllocError> {
+        match self {
+            Update::Write(oid, bytes) => Ok(Update::Write(*oid, bytes.clone()?)),
+            Update::Add(oid, id) => Ok(Update::Add(*oid, *id)),
+            Update::Del(oid, id) => Ok(Update::Del(*oid, *id)),
+        }
+    }
+}
+
+/// An update as a site keeps it: with the version that its transaction became.
+#[derive(Debug, Drop)]
+pub struct Row {
+    pub version: Version,
+    pub update: Update,
+}
+
+/// The updates of a transaction, in order. Contracts see the list of them.
+#[derive(Debug, Drop)]
+pub struct Updates {
+    items: Vec<Update>,
+}
+
+impl Model for Updates {
+    ghost use Rattle.std.specs.Prelude.{List};
+    ghost use Rattle.walter_base.specs.declared.update.Update.{Update};
+
+    ghost Value = { List Update };
+
+    ghost view = { λ u. u.items.items };
+}
+
+impl Updates {
+    pub fn as_slice(&self) -> &[Update]
+        ensures { result.now ≡ self.now }
+    {
+        &self.items
+    }
+}
+
+impl Clone for Updates {
+    ghost is_clone = { λ a b. b ≡ a };
+
+    fn clone(&self) -> Result<Updates, AllocError> {
+        Ok(Updates {
+            items: self.items.clone()?,
+        })
+    }
+}
+
+impl From<Vec<Update>> for Updates {
+    ghost from_gives = { λ v u. u ≡ v.items };
+
+    fn from(items: Vec<Update>) -> Updates {
+        Updates { items }
+    }
+}

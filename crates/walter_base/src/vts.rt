@@ -1,0 +1,81 @@
+ghost use Rattle.std.specs.Prelude.{◌≡◌, ◌<◌, ◌≤◌, ◌↔◌, IsTrue, ℕ, max, replicate, length, slice_set};
+ghost use Rattle.walter_base.specs.Vectors.{entry_at, IsSeenBy, Covers, NoneFrom};
+
+use crate::names::{SiteId, Version};
+use std::marker::Model;
+
+/// How many sites there may be.
+pub const MOST_SITES: usize = 8;
+
+/// A number for each site: how many of its commits are meant, from the first on. Contracts see the list of them.
+#[derive(Clone, Copy, Debug)]
+pub struct Vts {
+    sites: u8,
+    entries: [u64; 8],
+}
+
+impl Model for Vts {
+    ghost use Rattle.std.specs.Prelude.{◌≡◌, ◌+◌, ◌-◌, ◌≤◌, ◌++◌, ℕ, List, take, length, replicate};
+    ghost use Rattle.std.proofs.Common.{sym, subst};
+    ghost use Rattle.std.proofs.lemmas.List.{length-take-le};
+    ghost use Rattle.walter_base.specs.Vectors.{NoneFrom};
+    ghost use Rattle.walter_base.specs.Padding.{filled};
+
+    ghost Value = { List ℕ };
+
+    ghost view = { λ v. take v.sites v.entries };
+
+    ghost invariant = { λ v. (v.sites ≤ 8) × (length v.entries ≡ 8) × NoneFrom v.sites v.entries };
+
+    ghost inverse = { λ xs. record { sites = length xs; entries = xs ++ replicate (8 - length xs) 0 } };
+
+    ghost inverse_ok = { λ a h. λ i. record { sites = length-take-le a.sites a.entries (subst (λ n. a.sites ≤ n) (sym h.1) h.0) i; entries = filled a.sites a.entries h.0 h.1 h.2 i } };
+}
+
+impl Vts {
+    /// No commit of any site.
+    pub fn zero(sites: u8) -> Vts
+        requires { sites ≤ 8 }
+        ensures { result ≡ replicate sites 0 }
+    {
+        Vts {
+            sites,
+            entries: [0; 8],
+        }
+    }
+
+    pub fn get(&self, site: SiteId) -> u64
+        requires { site.0 < length self.now }
+        ensures { result ≡ entry_at self.now site }
+    {
+        self.entries[usize::from(site.0)]
+    }
+
+    /// Whether it is at least as great as the other one at each site.
+    #[tactic(auto, using(crate::specs::Padding::at_front))]
+    pub fn covers(&self, other: &Vts) -> bool
+        ensures { IsTrue result ↔ Covers self.now other.now }
+    {
+        self.entries
+            .iter()
+            .zip(other.entries.iter())
+            .all(|(mine, theirs)| *mine >= *theirs)
+    }
+
+    /// Whether the version is among the commits that are meant.
+    pub fn sees(&self, version: Version) -> bool
+        requires { version.site.0 < length self.now }
+        ensures { IsTrue result ↔ IsSeenBy self.now version }
+    {
+        version.seq <= self.get(version.site)
+    }
+
+    /// The entry of the site becomes the greater of what it is and `to`.
+    pub fn raise(&mut self, site: SiteId, to: u64)
+        requires { site.0 < length self.old }
+        ensures { self.new ≡ slice_set self.old site.0 (max (entry_at self.old site) to) }
+    {
+        let at = usize::from(site.0);
+        self.entries[at] = self.entries[at].max(to);
+    }
+}

@@ -1,0 +1,6 @@
+pub mod Calls
+pub mod Memory
+pub mod ReadError
+pub mod StdSink
+pub mod StdSource
+pub mod Streams

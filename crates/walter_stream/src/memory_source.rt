@@ -1,0 +1,77 @@
+ghost use Rattle.std.specs.Prelude.{◌≡◌, ◌↔◌, ◌+◌, ◌<◌, ◌≤◌, length, take, min, Some, IsErr, IfOk, OnOk, OnErr};
+ghost use Rattle.walter_stream.specs.Calls.{planned, NextFails, AddsCall};
+ghost use Rattle.walter_stream.specs.Streams.{AtEnd, TakesFront};
+
+use crate::schedule::Schedule;
+use crate::source::{Failed, Source};
+use std::marker::Model;
+
+/// A source over bytes in memory, some of whose calls fail.
+#[derive(Drop)]
+pub struct MemorySource {
+    bytes: Vec<u8>,
+    taken: usize,
+    schedule: Schedule,
+}
+
+impl Model for MemorySource {
+    ghost use Rattle.std.specs.Prelude.{◌≤◌, drop, vec_len};
+    ghost use Rattle.walter_stream.specs.Memory.{Input};
+
+    ghost Value = { Input };
+
+    ghost view = { λ s. record { left = drop s.taken s.bytes.items; calls = s.schedule } };
+
+    ghost invariant = { λ s. s.taken ≤ vec_len s.bytes };
+}
+
+impl MemorySource {
+    /// The calls whose numbers are in `failing`, counted from 1, fail and take nothing.
+    pub fn new(bytes: Vec<u8>, failing: Vec<u64>) -> MemorySource
+        ensures left { result.left ≡ bytes.items }
+        ensures calls { result.calls ≡ planned failing.items }
+    {
+        MemorySource {
+            bytes,
+            taken: 0,
+            schedule: Schedule::new(failing),
+        }
+    }
+}
+
+impl Source for MemorySource {
+    ghost use Rattle.std.specs.Prelude.{Some};
+
+    ghost faults = { λ s. s.calls.faults };
+
+    ghost left = { λ s. Some s.left };
+
+    fn read(&mut self, into: &mut [u8]) -> Result<usize, Failed>
+        ensures within { IfOk result (λ n. n ≤ length into.old) }
+        ensures taken { IfOk result (λ n. TakesFront (Some self.old.left) (Some self.new.left) (take n into.new)) }
+        ensures end { result ≡ Ok 0 → 0 < length into.old → AtEnd (Some self.old.left) }
+        ensures same { OnErr result (Some self.new.left ≡ Some self.old.left) }
+        ensures faultless { OnOk result (self.new.calls.faults ≡ self.old.calls.faults) }
+        ensures cause { OnErr result (self.old.calls.faults < self.new.calls.faults) }
+
+        // It fails where it is planned, and takes all that there is room for otherwise.
+        ensures fails { IsErr result ↔ NextFails self.old.calls }
+        ensures calls { AddsCall self.old.calls self.new.calls }
+        ensures most { IfOk result (λ n. n ≡ min (length self.old.left) (length into.old)) }
+    {
+        self.schedule.call()?;
+        let count = copy_front(&self.bytes[self.taken..], into);
+        self.taken += count;
+        Ok(count)
+    }
+}
+
+// Copies as many bytes as both have, and answers how many.
+fn copy_front(from: &[u8], into: &mut [u8]) -> usize
+    ensures count { result ≡ min (length from.now) (length into.old) }
+    ensures copied { take result into.new ≡ take result from.now }
+{
+    let count = from.len().min(into.len());
+    into[..count].copy_from_slice(&from[..count]);
+    count
+}
