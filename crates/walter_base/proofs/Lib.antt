@@ -1,3 +1,4 @@
 pub mod NameTests
 pub mod Maps
 pub mod Rising
+pub mod ValuesFrom

@@ -5,6 +5,8 @@
 mod bytes;
 mod catalog;
 mod containers;
+mod counts;
+mod memory;
 mod message;
 mod names;
 mod transaction;
@@ -14,6 +16,8 @@ mod vts;
 pub use bytes::Bytes;
 pub use catalog::{Catalog, CatalogFault};
 pub use containers::{Container, Containers};
+pub use counts::Counts;
+pub use memory::{Mem, NoMemory};
 pub use message::{Record, Refusal, Reply, Request};
 pub use names::{Kind, ObjId, SiteId, Tid, Version};
 pub use transaction::{Cause, Conflict, Tx};

@@ -44,11 +44,12 @@ impl Vts {
         }
     }
 
+    /// The number of the site, 0 for one that the vector doesn't have.
+    #[tactic(auto, using(crate::specs::Padding::at_front))]
     pub fn get(&self, site: SiteId) -> u64
-        requires { site.0 < length self.now }
         ensures { result ≡ entry_at self.now site }
     {
-        self.entries[usize::from(site.0)]
+        self.entries.get(usize::from(site.0)).copied().unwrap_or(0)
     }
 
     /// Whether it is at least as great as the other one at each site.
@@ -64,7 +65,6 @@ impl Vts {
 
     /// Whether the version is among the commits that are meant.
     pub fn sees(&self, version: Version) -> bool
-        requires { version.site.0 < length self.now }
         ensures { IsTrue result ↔ IsSeenBy self.now version }
     {
         version.seq <= self.get(version.site)

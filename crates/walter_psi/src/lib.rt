@@ -1,0 +1,8 @@
+//! Parallel snapshot isolation, as a definition over histories, and the laws of one more step.
+#![tactic(auto)]
+
+mod laws;
+mod step;
+
+pub use laws::{one_more_step, state_after_step};
+pub use step::{Answer, Level, Step, Told};

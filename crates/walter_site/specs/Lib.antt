@@ -1,0 +1,4 @@
+pub mod Knowledge
+pub mod Rule
+pub mod Trails
+pub mod Sites

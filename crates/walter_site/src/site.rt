@@ -1,0 +1,226 @@
+ghost use Rattle.std.specs.Prelude.{◌≡◌, ◌<◌, ◌≤◌, ◌+◌, ◌^◌, ℕ, List, [], ◌∷◌, length, vec_len, vec_capacity, OnOk, IfOk, IfSome, None};
+
+use crate::held::Held;
+use crate::plan::{Input, Plan};
+use crate::reading::{value_after, value_seen};
+use crate::transaction::Transaction;
+use crate::trail::{Outcome, TrailEvent};
+use crate::transactions::{add_update, end_all, find, reserve_update};
+use std::alloc::Global;
+use walter_base::{Mem, ObjId, Record, Refusal, Reply, Request, SiteId, Tid, Tx, Update, Updates, Version, Vts};
+
+/// One site of the store: what it knows, ready to be read and to be changed by plans.
+#[derive(Debug, Drop)]
+pub struct Site {
+    site: SiteId,
+    epoch: u32,
+    starts: u64,
+    committed: Vts,
+    held: Vec<Held>,
+    transactions: Vec<Transaction>,
+    ghost here: { site.0 < length committed },
+}
+
+#[tactic(auto, unfolding(crate::specs::Sites::known, crate::specs::Sites::site_of))]
+impl Site {
+    ghost use Rattle.walter_site.specs.Sites.{known, site_of, CanCount, IsPlan, HasRoom, CanKeep, CanAnswer, CanTake, IsFresh, IsNext, answered, recorded, event_of, expected, first_of, session_among};
+    ghost use Rattle.walter_site.specs.Knowledge.{after};
+    ghost use Rattle.walter_site.specs.Rule.{answers, call_rule, Expected};
+    ghost use Rattle.walter_base.specs.declared.names.ObjId.{ObjId};
+    ghost use Rattle.walter_site.specs.Trails.{knowledge, opening};
+
+    /// A site as its first restart leaves it.
+    pub fn booted(alloc: Global, site: SiteId, sites: u8) -> Site
+        requires here { site.0 < sites }
+        requires most { sites ≤ 8 }
+        ensures known { known result ≡ knowledge sites site (opening ∷ []) }
+        ensures site { site_of result ≡ site }
+    {
+        Site {
+            site,
+            epoch: 1,
+            starts: 0,
+            committed: Vts::zero(sites),
+            held: Vec::new(alloc),
+            transactions: Vec::new(alloc),
+        }
+    }
+
+    /// The plan of the rule for an input. It takes all the memory that applying it needs, and changes nothing.
+    pub fn plan(&mut self, input: &Input) -> Mem<Plan>
+        requires { CanCount (site_of self.old) (known self.old) }
+        ensures rule { IfOk result (IsPlan (site_of self.old) (known self.old) input.now) }
+        ensures room { IfOk result (HasRoom self.new) }
+        ensures same { known self.new ≡ known self.old }
+        ensures site { site_of self.new ≡ site_of self.old }
+    {
+        let Input::Call { client, request } = input;
+        let (rec, reply) = self.plan_call(*client, request)?;
+        Ok(Plan {
+            input: input.clone()?,
+            rec,
+            reply,
+        })
+    }
+
+    fn plan_call(&mut self, client: u32, request: &Request) -> Mem<(Option<Record>, Reply)>
+        requires { CanCount (site_of self.old) (known self.old) }
+        ensures rule { IfOk result (λ p. expected p ≡ call_rule (site_of self.old) (known self.old) request.now ((known self.old).session client)) }
+        ensures keeps { IfOk result (λ p. CanKeep self.new p.0) }
+        ensures answers { IfOk result (λ p. CanAnswer self.new client p.1) }
+        ensures same { known self.new ≡ known self.old }
+        ensures site { site_of self.new ≡ site_of self.old }
+    {
+        match request {
+            Request::Start => Ok((None, self.plan_start(client)?)),
+            Request::Read(oid) => Ok((None, self.plan_read(client, *oid)?)),
+            Request::Write(_, _) => Ok((None, self.plan_write(client)?)),
+            Request::Commit => self.plan_commit(client),
+        }
+    }
+
+    fn plan_start(&mut self, client: u32) -> Mem<Reply>
+        requires { CanCount (site_of self.old) (known self.old) }
+        ensures rule { IfOk result (λ reply. answers reply ≡ call_rule (site_of self.old) (known self.old) Request.Start ((known self.old).session client)) }
+        ensures room { IfOk result (CanAnswer self.new client) }
+        ensures same { known self.new ≡ known self.old }
+        ensures site { site_of self.new ≡ site_of self.old }
+    {
+        if find(&self.transactions, client).is_some() {
+            return Ok(Reply::Refused(Refusal::TxOpen));
+        }
+        self.transactions.reserve(1)?;
+        Ok(Reply::Started(Tid {
+            site: self.site,
+            epoch: self.epoch,
+            number: self.starts + 1,
+        }))
+    }
+
+    fn plan_read(&self, client: u32, oid: ObjId) -> Mem<Reply>
+        ensures rule { IfOk result (λ reply. answers reply ≡ call_rule (site_of self.now) (known self.now) (Request.Read oid) ((known self.now).session client)) }
+        ensures room { IfOk result (CanAnswer self.now client) }
+    {
+        let Some(transaction) = find(&self.transactions, client) else {
+            return Ok(Reply::Refused(Refusal::NoTx));
+        };
+        let seen = value_seen(&self.held, &transaction.snapshot, oid);
+        match value_after(seen, &transaction.updates, oid) {
+            Some(value) => Ok(Reply::Value(Some(value.clone()?))),
+            None => Ok(Reply::Value(None)),
+        }
+    }
+
+    fn plan_write(&mut self, client: u32) -> Mem<Reply>
+        ensures rule { (oid : ObjId) (bytes : List ℕ) → IfOk result (λ reply. answers reply ≡ call_rule (site_of self.old) (known self.old) (Request.Write oid bytes) ((known self.old).session client)) }
+        ensures room { IfOk result (CanAnswer self.new client) }
+        ensures same { known self.new ≡ known self.old }
+        ensures site { site_of self.new ≡ site_of self.old }
+    {
+        if find(&self.transactions, client).is_none() {
+            return Ok(Reply::Refused(Refusal::NoTx));
+        }
+        reserve_update(&mut self.transactions, client)?;
+        Ok(Reply::Done)
+    }
+
+    fn plan_commit(&mut self, client: u32) -> Mem<(Option<Record>, Reply)>
+        requires { CanCount (site_of self.old) (known self.old) }
+        ensures rule { IfOk result (λ p. expected p ≡ call_rule (site_of self.old) (known self.old) Request.Commit ((known self.old).session client)) }
+        ensures keeps { IfOk result (λ p. CanKeep self.new p.0) }
+        ensures answers { IfOk result (λ p. CanAnswer self.new client p.1) }
+        ensures same { known self.new ≡ known self.old }
+        ensures site { site_of self.new ≡ site_of self.old }
+    {
+        self.held.reserve(1)?;
+        let Some(transaction) = find(&self.transactions, client) else {
+            return Ok((None, Reply::Refused(Refusal::NoTx)));
+        };
+        if transaction.updates.is_empty() {
+            return Ok((None, Reply::Ended));
+        }
+        let seq = self.committed.get(self.site) + 1;
+        let tx = Tx {
+            tid: transaction.tid,
+            slow: 0,
+            start: transaction.snapshot,
+            updates: Updates::from(transaction.updates.clone()?),
+        };
+        let version = Version {
+            site: self.site,
+            seq,
+        };
+        Ok((Some(Record::Own(seq, tx)), Reply::Committed(version)))
+    }
+
+    /// Leaves what the rule's record and the reply leave. It takes no memory.
+    pub fn apply(&mut self, plan: Plan)
+        requires planned { IsPlan (site_of self.old) (known self.old) plan.input plan }
+        requires room { HasRoom self.old plan }
+        requires counts { CanCount (site_of self.old) (known self.old) }
+        ensures known { known self.new ≡ after (site_of self.old) (known self.old) (event_of plan.input) (Outcome.Replied plan.reply) plan.rec }
+        ensures site { site_of self.new ≡ site_of self.old }
+    {
+        let Plan { input, rec, reply } = plan;
+        let Input::Call { client, request } = input;
+        self.answer(client, request, reply);
+        self.keep(rec);
+    }
+
+    fn answer(&mut self, client: u32, request: Request, reply: Reply)
+        requires fresh { IsFresh ((known self.old).session client) reply }
+        requires room { CanAnswer self.old client reply }
+        requires counts { CanCount (site_of self.old) (known self.old) }
+        ensures known { known self.new ≡ answered (known self.old) (TrailEvent.Call client request) (Outcome.Replied reply) }
+        ensures held { self.new.held ≡ self.old.held }
+        ensures site { site_of self.new ≡ site_of self.old }
+    {
+        match reply {
+            Reply::Started(tid) => self.start(client, tid),
+            Reply::Done => self.update(client, request),
+            Reply::Committed(_) | Reply::Ended => end_all(&mut self.transactions, client),
+            Reply::Value(_) | Reply::Refused(_) => {}
+        }
+    }
+
+    fn start(&mut self, client: u32, tid: Tid)
+        requires none { session_among client self.old.transactions.items ≡ None }
+        requires room { vec_len self.old.transactions < vec_capacity self.old.transactions }
+        requires counts { self.old.starts + 1 < 2 ^ 64 }
+        ensures known { known self.new ≡ answered (known self.old) (TrailEvent.Call client Request.Start) (Outcome.Replied (Reply.Started tid)) }
+        ensures held { self.new.held ≡ self.old.held }
+        ensures site { site_of self.new ≡ site_of self.old }
+    {
+        let alloc = *self.transactions.allocator();
+        self.starts += 1;
+        self.transactions.push_reserved(Transaction {
+            client,
+            tid,
+            snapshot: self.committed,
+            updates: Vec::new(alloc),
+        });
+    }
+
+    fn update(&mut self, client: u32, request: Request)
+        requires { IfSome (first_of client self.old.transactions.items) CanTake }
+        ensures known { known self.new ≡ answered (known self.old) (TrailEvent.Call client request) (Outcome.Replied Reply.Done) }
+        ensures held { self.new.held ≡ self.old.held }
+        ensures site { site_of self.new ≡ site_of self.old }
+    {
+        if let Request::Write(oid, bytes) = request {
+            add_update(&mut self.transactions, client, Update::Write(oid, bytes));
+        }
+    }
+
+    fn keep(&mut self, rec: Option<Record>)
+        requires next { IsNext (site_of self.old) (known self.old) rec }
+        requires room { CanKeep self.old rec }
+        ensures known { known self.new ≡ recorded (site_of self.old) (known self.old) rec }
+        ensures site { site_of self.new ≡ site_of self.old }
+    {
+        if let Some(Record::Own(seq, tx)) = rec {
+            self.held.push_reserved(Held { seq, tx });
+            self.committed.raise(self.site, seq);
+        }
+    }
+}
