@@ -1,6 +1,6 @@
 -- What a caller sees of streams in memory.
-use Rattle.std.specs.Prelude.{ℕ, List}
-use Rattle.walter_stream.specs.Calls.{Calls}
+use Rattle.std.specs.Prelude.{◌⊎◌, ◌<◌, ◌≤◌, ℕ, List, length}
+use Rattle.walter_stream.specs.Calls.{Calls, NextFails}
 
 -- the bytes that are left, and the calls
 pub record Input : Type 0 where
@@ -12,3 +12,8 @@ pub record Output : Type 0 where
   pub held : List ℕ
   pub room : ℕ
   pub calls : Calls
+
+-- the next write of these bytes fails: it is one of those that fail, or no byte fits
+abbrev pub NextWriteFails : Output → List ℕ → Type 0
+NextWriteFails sink bytes =
+    NextFails sink.calls ⊎ ((0 < length bytes) × (sink.room ≤ length sink.held))

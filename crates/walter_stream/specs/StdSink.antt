@@ -1,3 +1,4 @@
+-- What a caller sees of a sink over a writer of std.
 use Rattle.std.specs.Prelude.{ℕ}
 use Rattle.walter_stream.specs.declared.std_sink.StdSink.{StdSink}
 

@@ -13,6 +13,9 @@ impl Model for FaultCount {
     ghost also_owns = { λ _. ftrue };
 }
 
+// It owns nothing.
+unsafe impl Send for FaultCount {}
+
 impl FaultCount {
     pub(crate) fn zero() -> FaultCount
         ensures { result.count ≡ 0 }

@@ -11,6 +11,8 @@ mod sink;
 mod source;
 mod std_sink;
 mod std_source;
+#[cfg(test)]
+mod tests;
 mod writing;
 
 pub use memory_sink::MemorySink;

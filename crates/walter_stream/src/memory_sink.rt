@@ -1,5 +1,6 @@
-ghost use Rattle.std.specs.Prelude.{◌≡◌, ◌⊎◌, ◌↔◌, ◌-◌, ◌<◌, ◌≤◌, [], length, take, min, Some, IsErr, IfOk, OnOk, OnErr};
-ghost use Rattle.walter_stream.specs.Calls.{planned, NextFails, AddsCall};
+ghost use Rattle.std.specs.Prelude.{◌≡◌, ◌↔◌, ◌-◌, ◌<◌, ◌≤◌, [], length, take, min, Some, IsErr, IfOk, OnOk, OnErr};
+ghost use Rattle.walter_stream.specs.Calls.{planned, AddsCall};
+ghost use Rattle.walter_stream.specs.Memory.{NextWriteFails};
 ghost use Rattle.walter_stream.specs.Streams.{Appends};
 
 use crate::schedule::Schedule;
@@ -29,8 +30,13 @@ impl Model for MemorySink {
 
 impl MemorySink {
     /// Takes the memory for `room` bytes at once. The calls whose numbers are in `failing`, counted from 1, fail.
-    pub fn with_room(alloc: Global, room: usize, failing: Vec<u64>) -> Result<MemorySink, AllocError>
-        ensures { IfOk result (λ sink. sink ≡ record { held = []; room = room; calls = planned failing.items }) }
+    pub fn with_room(
+        alloc: Global,
+        room: usize,
+        failing: Vec<u64>,
+    ) -> Result<MemorySink, AllocError>
+        ensures { IfOk result (λ sink.
+            sink ≡ record { held = []; room = room; calls = planned failing.items }) }
     {
         Ok(MemorySink {
             held: Vec::with_capacity(alloc, room)?,
@@ -58,15 +64,17 @@ impl Sink for MemorySink {
     fn write(&mut self, from: &[u8]) -> Result<usize, Failed>
         ensures within { IfOk result (λ n. n ≤ length from.now) }
         ensures moves { 0 < length from.now → IfOk result (λ n. 0 < n) }
-        ensures appended { IfOk result (λ n. Appends (Some self.old.held) (Some self.new.held) (take n from.now)) }
+        ensures appended { IfOk result (λ n.
+            Appends (Some self.old.held) (Some self.new.held) (take n from.now)) }
         ensures same { OnErr result (Some self.new.held ≡ Some self.old.held) }
         ensures faultless { OnOk result (self.new.calls.faults ≡ self.old.calls.faults) }
         ensures cause { OnErr result (self.old.calls.faults < self.new.calls.faults) }
 
         // It fails where it is planned and where no byte fits, and takes all that fits otherwise.
-        ensures fails { IsErr result ↔ (NextFails self.old.calls ⊎ ((0 < length from.now) × (self.old.room ≤ length self.old.held))) }
+        ensures fails { IsErr result ↔ NextWriteFails self.old from.now }
         ensures calls { AddsCall self.old.calls self.new.calls }
-        ensures most { IfOk result (λ n. n ≡ min (length from.now) (self.old.room - length self.old.held)) }
+        ensures most { IfOk result (λ n.
+            n ≡ min (length from.now) (self.old.room - length self.old.held)) }
         ensures room { self.new.room ≡ self.old.room }
     {
         self.schedule.call()?;

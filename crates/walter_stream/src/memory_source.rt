@@ -48,7 +48,8 @@ impl Source for MemorySource {
 
     fn read(&mut self, into: &mut [u8]) -> Result<usize, Failed>
         ensures within { IfOk result (λ n. n ≤ length into.old) }
-        ensures taken { IfOk result (λ n. TakesFront (Some self.old.left) (Some self.new.left) (take n into.new)) }
+        ensures taken { IfOk result (λ n.
+            TakesFront (Some self.old.left) (Some self.new.left) (take n into.new)) }
         ensures end { result ≡ Ok 0 → 0 < length into.old → AtEnd (Some self.old.left) }
         ensures same { OnErr result (Some self.new.left ≡ Some self.old.left) }
         ensures faultless { OnOk result (self.new.calls.faults ≡ self.old.calls.faults) }

@@ -16,7 +16,8 @@ pub trait Sink {
     fn write(&mut self, from: &[u8]) -> Result<usize, Failed>
         ensures within { IfOk result (λ n. n ≤ length from.now) }
         ensures moves { 0 < length from.now → IfOk result (λ n. 0 < n) }
-        ensures appended { IfOk result (λ n. Appends (holds self.old) (holds self.new) (take n from.now)) }
+        ensures appended { IfOk result (λ n.
+            Appends (holds self.old) (holds self.new) (take n from.now)) }
         ensures same { OnErr result (holds self.new ≡ holds self.old) }
         ensures faultless { OnOk result (faults self.new ≡ faults self.old) }
         ensures cause { OnErr result (faults self.old < faults self.new) };

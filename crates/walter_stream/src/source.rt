@@ -9,6 +9,10 @@ use std::fmt;
 pub struct Failed;
 
 impl fmt::Display for Failed {
+    ghost use Rattle.std.specs.Prelude.{Some, codes};
+
+    ghost output = { λ _. Some (codes "a call on a stream failed") };
+
     fn fmt<W: fmt::Write>(&self, f: &mut fmt::Formatter<W>) -> fmt::Result {
         f.write_str("a call on a stream failed")
     }
@@ -28,7 +32,8 @@ pub trait Source {
     /// slice that isn't empty is the end. After a fault what is left is as before.
     fn read(&mut self, into: &mut [u8]) -> Result<usize, Failed>
         ensures within { IfOk result (λ n. n ≤ length into.old) }
-        ensures taken { IfOk result (λ n. TakesFront (left self.old) (left self.new) (take n into.new)) }
+        ensures taken { IfOk result (λ n.
+            TakesFront (left self.old) (left self.new) (take n into.new)) }
         ensures end { result ≡ Ok 0 → 0 < length into.old → AtEnd (left self.old) }
         ensures same { OnErr result (left self.new ≡ left self.old) }
         ensures faultless { OnOk result (faults self.new ≡ faults self.old) }

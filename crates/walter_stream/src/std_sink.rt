@@ -1,5 +1,5 @@
 ghost use Rattle.std.specs.Prelude.{◌≡◌, ◌<◌, ◌≤◌, ◌+◌, length, take, None, IfOk, OnOk, OnErr};
-ghost use Rattle.std.specs.Io.KnownBytes.{Keeps, WriteAppends};
+ghost use Rattle.std.specs.Io.KnownBytes.{WriteAppends};
 ghost use Rattle.walter_stream.specs.StdSink.{writer_of, faults_of};
 
 use crate::fault_count::FaultCount;
@@ -24,18 +24,7 @@ impl<W: Write + Drop> StdSink<W> {
         }
     }
 
-    /// Passes on what the writer still buffers. Each write goes to the writer at once, so call this at the end.
-    pub fn flush(&mut self) -> Result<(), Failed>
-        ensures writer { Keeps (W.contents (writer_of self.old)) (W.contents (writer_of self.new)) }
-        ensures faultless { OnOk result (faults_of self.new ≡ faults_of self.old) }
-        ensures cause { OnErr result (faults_of self.old < faults_of self.new) }
-    {
-        match self.writer.flush() {
-            Ok(()) => Ok(()),
-            Err(_) => Err(self.fault()),
-        }
-    }
-
+    /// Gives the writer back. Each write went to it at once, so only what it buffers itself is left to flush.
     pub fn into_inner(self) -> W
         ensures { result ≡ writer_of self }
     {
@@ -65,7 +54,8 @@ impl<W: Write + Drop> Sink for StdSink<W> {
         ensures cause { OnErr result (faults_of self.old < faults_of self.new) }
 
         // The bytes went to the writer.
-        ensures writer { WriteAppends (W.contents (writer_of self.old)) (W.contents (writer_of self.new)) result from.now }
+        ensures writer { WriteAppends (W.contents (writer_of self.old))
+            (W.contents (writer_of self.new)) result from.now }
     {
         match self.writer.write(from) {
             // A writer that takes nothing would be asked without end.

@@ -1,6 +1,6 @@
 ghost use Rattle.std.specs.Prelude.{◌≡◌, ◌<◌, ◌≤◌, length, take, None, IfOk, OnOk, OnErr};
 ghost use Rattle.std.specs.Io.KnownBytes.{ReadConsumes};
-ghost use Rattle.walter_stream.specs.StdSource.{reader_of};
+ghost use Rattle.walter_stream.specs.StdSource.{reader_of, faults_of};
 
 use crate::fault_count::FaultCount;
 use crate::source::{Failed, Source};
@@ -32,11 +32,12 @@ impl<R: Read + Drop> Source for StdSource<R> {
     /// An interrupted read is a fault like any other.
     fn read(&mut self, into: &mut [u8]) -> Result<usize, Failed>
         ensures within { IfOk result (λ n. n ≤ length into.old) }
-        ensures faultless { OnOk result (self.new.faults.count ≡ self.old.faults.count) }
-        ensures cause { OnErr result (self.old.faults.count < self.new.faults.count) }
+        ensures faultless { OnOk result (faults_of self.new ≡ faults_of self.old) }
+        ensures cause { OnErr result (faults_of self.old < faults_of self.new) }
 
         // It is the reader's own answer.
-        ensures reader { ReadConsumes (R.remaining (reader_of self.old)) (R.remaining (reader_of self.new)) result into.new }
+        ensures reader { ReadConsumes (R.remaining (reader_of self.old))
+            (R.remaining (reader_of self.new)) result into.new }
     {
         match self.reader.read(into) {
             Ok(count) => Ok(count),

@@ -1,5 +1,5 @@
-ghost use Rattle.std.specs.Prelude.{◌≡◌, ◌<◌, ◌≤◌, ℕ, length, take, OnOk, OnErr};
-ghost use Rattle.walter_stream.specs.Streams.{Appends};
+ghost use Rattle.std.specs.Prelude.{◌≡◌, ◌<◌, OnOk, OnErr};
+ghost use Rattle.walter_stream.specs.Streams.{Appends, AppendsFront};
 
 use crate::sink::Sink;
 use crate::source::Failed;
@@ -10,7 +10,7 @@ pub fn write_all<K: Sink>(sink: &mut K, bytes: &[u8]) -> Result<(), Failed>
     ensures faultless { OnOk result (K.faults sink.new ≡ K.faults sink.old) }
 
     // A front of the bytes was written before the fault.
-    ensures front { OnErr result ((n : ℕ) × (n ≤ length bytes.now) × Appends (K.holds sink.old) (K.holds sink.new) (take n bytes.now)) }
+    ensures front { OnErr result (AppendsFront (K.holds sink.old) (K.holds sink.new) bytes.now) }
     ensures cause { OnErr result (K.faults sink.old < K.faults sink.new) }
 {
     let mut written = 0;

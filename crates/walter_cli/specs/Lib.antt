@@ -1,0 +1,6 @@
+pub mod Frames
+pub mod Scenarios
+pub mod Replies
+pub mod Reports
+pub mod Plays
+pub mod Spelled
