@@ -48,6 +48,22 @@ pub enum Reply {
     Refused(Refusal),
 }
 
+impl Clone for Reply {
+    ghost is_clone = { λ a b. b ≡ a };
+
+    fn clone(&self) -> Result<Reply, AllocError> {
+        match self {
+            Reply::Started(tid) => Ok(Reply::Started(*tid)),
+            Reply::Value(Some(bytes)) => Ok(Reply::Value(Some(bytes.clone()?))),
+            Reply::Value(None) => Ok(Reply::Value(None)),
+            Reply::Done => Ok(Reply::Done),
+            Reply::Committed(version) => Ok(Reply::Committed(*version)),
+            Reply::Ended => Ok(Reply::Ended),
+            Reply::Refused(refusal) => Ok(Reply::Refused(*refusal)),
+        }
+    }
+}
+
 /// Why a request is refused.
 #[derive(Clone, Copy, Debug, PartialEq, Eq)]
 pub enum Refusal {

@@ -4,3 +4,4 @@ pub mod Replies
 pub mod Reports
 pub mod Plays
 pub mod Spelled
+pub mod Cells

@@ -1,17 +1,26 @@
 -- How a run is driven: by the steps of the scenario, in order.
 use Rattle.std.specs.Prelude.{◌≡◌, ℕ, zero, suc, List, [], ◌∷◌, ◌++◌, flat_map, All}
 use Rattle.walter_base.specs.declared.message.Request.{Request}
+use Rattle.walter_base.specs.declared.names.SiteId.{SiteId}
 use Rattle.walter_site.specs.declared.trail.Entry.{Entry}
 use Rattle.walter_site.specs.declared.trail.TrailEvent.{TrailEvent}
 use Rattle.walter_site.specs.declared.trail.TrailEvent.TheVariants.{Call, Restart}
 use Rattle.walter_site.specs.Trails.{opening}
+
+-- the one site
+abbrev pub the_site : SiteId
+the_site = record { 0 = 0 }
+
+-- the entry is of this request
+abbrev pub IsEntryOf : Request → Entry → Type 0
+IsEntryOf request e = e.event ≡ Call 0 request
 
 -- each turn adds one entry, of the client's next request; it adds none once the client has asked all
 abbrev pub Turns : ℕ → List Request → List Entry → Type 0
 Turns zero requests entries = entries ≡ []
 Turns (suc turns) [] entries = Turns turns [] entries
 Turns (suc turns) (request ∷ requests) [] = ⊥
-Turns (suc turns) (request ∷ requests) (e ∷ entries) = (e.event ≡ Call 0 request) × Turns turns requests entries
+Turns (suc turns) (request ∷ requests) (e ∷ entries) = IsEntryOf request e × Turns turns requests entries
 
 -- the trail of a run: the opening, then the turns
 pub record IsPlayed (turns : ℕ) (requests : List Request) (trail : List Entry) : Type 0 where

@@ -1,6 +1,8 @@
 //! The program: reads a scenario, plays it, and writes the report.
 #![tactic(auto)]
 
+mod cell;
+mod play;
 mod report;
 mod requests;
 mod scenario;
