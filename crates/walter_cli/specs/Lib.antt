@@ -5,3 +5,7 @@ pub mod Reports
 pub mod Plays
 pub mod Spelled
 pub mod Cells
+pub mod Statuses
+pub mod Words
+pub mod Headline
+pub mod Ending

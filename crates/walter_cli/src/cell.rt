@@ -43,6 +43,13 @@ impl Cell {
         Ok(Cell { site, trail })
     }
 
+    /// The trail so far.
+    pub fn into_trail(self) -> Trail
+        ensures { result ≡ self.trail }
+    {
+        self.trail
+    }
+
     /// Serves a request of the client: one entry comes to the trail, or none where memory runs out.
     pub fn serve(&mut self, request: Request) -> Mem<()>
         requires cell { IsCell self.old }

@@ -2,11 +2,19 @@
 #![tactic(auto)]
 
 mod cell;
+mod ended;
+mod laws;
 mod play;
 mod report;
 mod requests;
+mod program;
+mod running;
 mod scenario;
+mod taking;
 
+mod words;
+
+pub use ended::{Ended, Fault, Place};
 pub use requests::Requests;
 pub use scenario::{ReadFault, Scenario, read};
-pub use report::report_of;
+pub use program::top;

@@ -1,0 +1,71 @@
+ghost use Rattle.std.specs.Prelude.{◌≡◌, [], Some};
+
+use std::alloc::Global;
+use thiserror::Error;
+use walter_site::Trail;
+
+/// The place of a scenario at which it has no reading.
+#[derive(Clone, Copy, Debug, PartialEq, Eq, Error)]
+pub enum Place {
+    /// The bytes aren't of the one form that can be played.
+    #[error("the bytes aren't of the one form that can be played")]
+    Unbuilt,
+}
+
+/// Why a run wrote no whole report.
+#[derive(Clone, Copy, Debug, PartialEq, Eq, Error)]
+pub enum Fault {
+    #[error("usage: walter play, with a scenario on standard input; the report comes on standard output")]
+    Usage,
+    #[error("the scenario has no reading: {place}")]
+    Scenario { place: Place },
+    #[error("the scenario could not be read to its end")]
+    Read,
+    #[error("the report could not be written to its end")]
+    Write,
+    #[error("out of memory")]
+    Memory,
+}
+
+/// How a call of the program ended: its status, the fault if the status isn't 0, and the trails of its run. There are
+/// none where no run began.
+#[derive(Debug, Drop)]
+pub struct Ended {
+    pub status: u8,
+    pub fault: Option<Fault>,
+    pub trails: Vec<Trail>,
+}
+
+impl Ended {
+    ghost use Rattle.walter_cli.specs.Statuses.{status_of};
+
+    /// The end of a call that began no run.
+    pub fn early(alloc: Global, fault: Fault) -> Ended
+        ensures status { result.status ≡ status_of (Some fault) }
+        ensures fault { result.fault ≡ Some fault }
+        ensures trails { result.trails.items ≡ [] }
+    {
+        Ended::late(Vec::new(alloc), Some(fault))
+    }
+
+    /// The end of a call whose run has these trails.
+    pub fn late(trails: Vec<Trail>, fault: Option<Fault>) -> Ended
+        ensures status { result.status ≡ status_of fault }
+        ensures fault { result.fault ≡ fault }
+        ensures trails { result.trails ≡ trails }
+    {
+        let status = match fault {
+            None => 0,
+            Some(Fault::Usage) => 1,
+            Some(Fault::Scenario { .. }) => 2,
+            Some(Fault::Read) => 3,
+            Some(Fault::Write) => 4,
+            Some(Fault::Memory) => 5,
+        };
+        Ended {
+            status,
+            fault,
+            trails,
+        }
+    }
+}

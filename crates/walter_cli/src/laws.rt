@@ -1,0 +1,11 @@
+ghost use Rattle.std.specs.Prelude.{List, [], ◌∷◌, All};
+ghost use Rattle.walter_psi.specs.Legal.{IsLegal};
+ghost use Rattle.walter_site.specs.declared.trail.Entry.{Entry};
+ghost use Rattle.walter_site.specs.Trails.{IsRightTrail};
+ghost use Rattle.walter_cli.specs.Plays.{IsOfClient, the_site};
+ghost use Rattle.walter_cli.specs.Spelled.{merge, psi_of};
+
+/// A right trail of the one site, whose calls are those of one client, spells a legal history.
+pub fn one_client_spells_legal()
+    ensures { (trail : List Entry) → IsRightTrail 1 the_site trail → All (λ e. IsOfClient e.event) trail → IsLegal (psi_of 1 (merge (trail ∷ []))) }
+{}
