@@ -23,3 +23,6 @@ pub use names::{Kind, ObjId, SiteId, Tid, Version};
 pub use transaction::{Cause, Conflict, Tx};
 pub use update::{Row, Update, Updates};
 pub use vts::Vts;
+
+#[cfg(test)]
+mod tests;

@@ -3,3 +3,6 @@ pub mod Serving
 pub mod Turning
 pub mod Promises
 pub mod OneWord
+mod OneTrail
+mod SpelledSteps
+mod SpelledRun

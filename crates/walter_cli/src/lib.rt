@@ -18,3 +18,6 @@ pub use ended::{Ended, Fault, Place};
 pub use requests::Requests;
 pub use scenario::{ReadFault, Scenario, read};
 pub use program::top;
+
+#[cfg(test)]
+mod tests;

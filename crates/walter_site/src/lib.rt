@@ -13,3 +13,6 @@ pub use held::Held;
 pub use plan::{Input, Plan};
 pub use site::Site;
 pub use trail::{Entry, Outcome, Trail, TrailEvent};
+
+#[cfg(test)]
+mod tests;

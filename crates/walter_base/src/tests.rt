@@ -1,0 +1,146 @@
+use crate::{
+    Bytes, Catalog, CatalogFault, Container, Containers, Counts, Kind, NoMemory, ObjId, Record, Refusal, Reply,
+    Request, SiteId, Tid, Tx, Update, Updates, Version, Vts,
+};
+use std::test::Fail;
+
+const OBJECT: ObjId = ObjId {
+    container: 1,
+    local: 5,
+};
+
+const TID: Tid = Tid {
+    site: SiteId(0),
+    epoch: 1,
+    number: 1,
+};
+
+#[test]
+fn a_vector_sees_the_first_commits_of_each_site(rt: HostRuntime) {
+    let mut vector = Vts::zero(2);
+    vector.raise(SiteId(1), 3);
+    vector.raise(SiteId(1), 2);
+    assert_eq!(rt; vector.get(SiteId(0)), 0);
+    assert_eq!(rt; vector.get(SiteId(1)), 3);
+    assert_eq!(rt; vector.get(SiteId(7)), 0);
+    let third = Version {
+        site: SiteId(1),
+        seq: 3,
+    };
+    let fourth = Version {
+        site: SiteId(1),
+        seq: 4,
+    };
+    assert!(rt; vector.sees(third));
+    assert!(rt; !vector.sees(fourth));
+    assert!(rt; vector.covers(&Vts::zero(2)));
+    assert!(rt; !Vts::zero(2).covers(&vector));
+}
+
+#[test]
+fn a_catalog_tells_kinds_and_preferred_sites(rt: HostRuntime) -> Result<(), Fail> {
+    let items = [
+        (1, Kind::Regular, SiteId(0)),
+        (4, Kind::Cset, SiteId(1)),
+    ];
+    let catalog = Catalog::build(rt.alloc(), 2, 0, &items)?;
+    assert_eq!(rt; catalog.kind(OBJECT), Some(Kind::Regular));
+    assert_eq!(rt; catalog.preferred(OBJECT), Some(SiteId(0)));
+    let set = ObjId {
+        container: 4,
+        local: 5,
+    };
+    assert_eq!(rt; catalog.kind(set), Some(Kind::Cset));
+    assert_eq!(rt; catalog.preferred(set), Some(SiteId(1)));
+    let other = ObjId {
+        container: 2,
+        local: 5,
+    };
+    assert_eq!(rt; catalog.kind(other), None);
+    assert_eq!(rt; (catalog.sites, catalog.faults), (2, 0));
+    Ok(())
+}
+
+#[test]
+fn a_catalog_names_the_first_wrong_item(rt: HostRuntime) -> Result<(), Fail> {
+    let equal = [
+        (1, Kind::Regular, SiteId(0)),
+        (1, Kind::Regular, SiteId(0)),
+    ];
+    let fault = Catalog::build(rt.alloc(), 1, 0, &equal).err();
+    assert_eq!(rt; fault, Some(CatalogFault::Bad { index: 1 }));
+    let elsewhere = [(1, Kind::Regular, SiteId(1))];
+    let fault = Catalog::build(rt.alloc(), 1, 0, &elsewhere).err();
+    assert_eq!(rt; fault, Some(CatalogFault::Bad { index: 0 }));
+    let mut many = Vec::new(rt.alloc());
+    for number in 0..257 {
+        many.push((number, Kind::Regular, SiteId(0)))?;
+    }
+    let fault = Catalog::build(rt.alloc(), 1, 0, &many).err();
+    assert_eq!(rt; fault, Some(CatalogFault::Bad { index: 256 }));
+    Ok(())
+}
+
+#[test]
+fn containers_are_found_by_number(rt: HostRuntime) -> Result<(), Fail> {
+    let mut containers = Containers::new(rt.alloc());
+    let container = Container {
+        kind: Kind::Cset,
+        preferred: SiteId(0),
+    };
+    containers.insert(3, container)?;
+    assert_eq!(rt; containers.get(3), Some(container));
+    assert_eq!(rt; containers.get(4), None);
+    Ok(())
+}
+
+#[test]
+fn values_are_copied(rt: HostRuntime) -> Result<(), Fail> {
+    let bytes = Bytes::from_slice(rt.alloc(), b"hello")?;
+    assert_eq!(rt; (bytes.len(), bytes.is_empty()), (5, false));
+    assert_eq!(rt; bytes.clone()?.as_slice(), b"hello".as_slice());
+    let write = Update::Write(OBJECT, bytes);
+    let updates = Updates::from(vec![in rt.alloc(); write.clone()?, Update::Add(OBJECT, 9).clone()?, Update::Del(OBJECT, 9).clone()?]?);
+    let tx = Tx {
+        tid: TID,
+        slow: 0,
+        start: Vts::zero(1),
+        updates: updates.clone()?,
+    };
+    let Record::Own(seq, copy) = Record::Own(1, tx).clone()? else {
+        panic!(rt; "an Own is copied as an Own");
+    };
+    assert_eq!(rt; (seq, copy.updates.as_slice().len()), (1, 3));
+    assert!(rt; matches!(Record::Boot(1).clone()?, Record::Boot(1)));
+    if let Update::Write(_, copied) = write {
+        let held = copied.into_vec();
+        assert_eq!(rt; held.as_slice(), b"hello".as_slice());
+    }
+    Ok(())
+}
+
+#[test]
+fn requests_and_replies_are_copied(rt: HostRuntime) -> Result<(), Fail> {
+    let request = Request::Write(OBJECT, Bytes::from_slice(rt.alloc(), b"x")?);
+    assert!(rt; matches!(request.clone()?, Request::Write(OBJECT, _)));
+    assert!(rt; matches!(Request::Start.clone()?, Request::Start));
+    assert!(rt; matches!(Request::Read(OBJECT).clone()?, Request::Read(OBJECT)));
+    assert!(rt; matches!(Request::Commit.clone()?, Request::Commit));
+    let reply = Reply::Value(Some(Bytes::from_slice(rt.alloc(), b"x")?));
+    assert!(rt; matches!(reply.clone()?, Reply::Value(Some(_))));
+    assert!(rt; matches!(Reply::Refused(Refusal::NoTx).clone()?, Reply::Refused(Refusal::NoTx)));
+    Ok(())
+}
+
+#[test]
+fn counts_keep_their_order(rt: HostRuntime) -> Result<(), Fail> {
+    let counts = Counts::from(vec![in rt.alloc(); (7, 1), (9, -1)]?);
+    assert_eq!(rt; counts.as_slice(), [(7, 1), (9, -1)].as_slice());
+    Ok(())
+}
+
+#[test]
+fn want_of_memory_has_a_text(rt: HostRuntime) -> Result<(), Fail> {
+    assert_eq!(rt; format!(in rt.alloc(); "{NoMemory}")?.as_str(), "out of memory");
+    Ok(())
+}
