@@ -1,8 +1,16 @@
+pub mod Declarations
 pub mod Growing
-pub mod Serving
-pub mod Turning
-pub mod Promises
-pub mod OneWord
+pub mod Joined
 mod OneTrail
-mod SpelledSteps
+pub mod OneWord
+pub mod Outcomes
+pub mod Promises
+pub mod Readings
+pub mod Sameness
+pub mod Sequences
+pub mod Serving
+pub mod Spellings
 mod SpelledRun
+mod SpelledSteps
+pub mod Turning
+pub mod Values

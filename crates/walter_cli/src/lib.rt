@@ -3,21 +3,22 @@
 
 mod cell;
 mod ended;
+mod frames;
 mod laws;
 mod play;
+mod program;
+mod replies;
 mod report;
 mod requests;
-mod program;
 mod running;
 mod scenario;
 mod taking;
-
 mod words;
 
 pub use ended::{Ended, Fault, Place};
+pub use program::top;
 pub use requests::Requests;
 pub use scenario::{ReadFault, Scenario, read};
-pub use program::top;
 
 #[cfg(test)]
 mod tests;
