@@ -1,5 +1,5 @@
--- What a list of updates makes of an object, and which lists conflict (Sovran et al., SOSP 2011: sections 2 and 3.3 on
--- counting sets, section 3.2 on write sets).
+-- What a list of updates makes of an object, and which lists conflict (Sovran et al., SOSP 2011, sections 2 and 3:
+-- regular objects, counting sets, write sets).
 use Rattle.std.specs.Prelude.{◌≡◌, ◌≢◌, ◌↔◌, ◌-ℤ◌, ◌<◌, ℕ, ℤ, pos, Bool, false, ◌&&◌, nat_eq, List, [], ◌∷◌, Option, Some, None, Contains, count_by, flat_map, AllPairs, if◌then◌else◌}
 use Rattle.walter_base.specs.declared.names.ObjId.{ObjId}
 use Rattle.walter_base.specs.declared.update.Update.{Update}

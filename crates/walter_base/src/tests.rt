@@ -1,6 +1,6 @@
 use crate::{
-    Bytes, Catalog, CatalogFault, Container, Containers, Counts, Kind, NoMemory, ObjId, Record, Refusal, Reply,
-    Request, SiteId, Tid, Tx, Update, Updates, Version, Vts,
+    Bytes, Catalog, CatalogFault, Container, Containers, Counts, Kind, NoMemory, ObjId, Record,
+    Refusal, Reply, Request, SiteId, Tid, Tx, Update, Updates, Version, Vts,
 };
 use std::test::Fail;
 
@@ -39,10 +39,7 @@ fn a_vector_sees_the_first_commits_of_each_site(rt: HostRuntime) {
 
 #[test]
 fn a_catalog_tells_kinds_and_preferred_sites(rt: HostRuntime) -> Result<(), Fail> {
-    let items = [
-        (1, Kind::Regular, SiteId(0)),
-        (4, Kind::Cset, SiteId(1)),
-    ];
+    let items = [(1, Kind::Regular, SiteId(0)), (4, Kind::Cset, SiteId(1))];
     let catalog = Catalog::build(rt.alloc(), 2, 0, &items)?;
     assert_eq!(rt; catalog.kind(OBJECT), Some(Kind::Regular));
     assert_eq!(rt; catalog.preferred(OBJECT), Some(SiteId(0)));
@@ -63,10 +60,7 @@ fn a_catalog_tells_kinds_and_preferred_sites(rt: HostRuntime) -> Result<(), Fail
 
 #[test]
 fn a_catalog_names_the_first_wrong_item(rt: HostRuntime) -> Result<(), Fail> {
-    let equal = [
-        (1, Kind::Regular, SiteId(0)),
-        (1, Kind::Regular, SiteId(0)),
-    ];
+    let equal = [(1, Kind::Regular, SiteId(0)), (1, Kind::Regular, SiteId(0))];
     let fault = Catalog::build(rt.alloc(), 1, 0, &equal).err();
     assert_eq!(rt; fault, Some(CatalogFault::Bad { index: 1 }));
     let elsewhere = [(1, Kind::Regular, SiteId(1))];
@@ -100,7 +94,11 @@ fn values_are_copied(rt: HostRuntime) -> Result<(), Fail> {
     assert_eq!(rt; (bytes.len(), bytes.is_empty()), (5, false));
     assert_eq!(rt; bytes.clone()?.as_slice(), b"hello".as_slice());
     let write = Update::Write(OBJECT, bytes);
-    let updates = Updates::from(vec![in rt.alloc(); write.clone()?, Update::Add(OBJECT, 9).clone()?, Update::Del(OBJECT, 9).clone()?]?);
+    let updates = Updates::from(vec![in rt.alloc();
+        write.clone()?,
+        Update::Add(OBJECT, 9).clone()?,
+        Update::Del(OBJECT, 9).clone()?,
+    ]?);
     let tx = Tx {
         tid: TID,
         slow: 0,
@@ -128,7 +126,12 @@ fn requests_and_replies_are_copied(rt: HostRuntime) -> Result<(), Fail> {
     assert!(rt; matches!(Request::Commit.clone()?, Request::Commit));
     let reply = Reply::Value(Some(Bytes::from_slice(rt.alloc(), b"x")?));
     assert!(rt; matches!(reply.clone()?, Reply::Value(Some(_))));
-    assert!(rt; matches!(Reply::Refused(Refusal::NoTx).clone()?, Reply::Refused(Refusal::NoTx)));
+    assert!(rt;
+        matches!(
+            Reply::Refused(Refusal::NoTx).clone()?,
+            Reply::Refused(Refusal::NoTx)
+        )
+    );
     Ok(())
 }
 
@@ -141,6 +144,9 @@ fn counts_keep_their_order(rt: HostRuntime) -> Result<(), Fail> {
 
 #[test]
 fn want_of_memory_has_a_text(rt: HostRuntime) -> Result<(), Fail> {
-    assert_eq!(rt; format!(in rt.alloc(); "{NoMemory}")?.as_str(), "out of memory");
+    assert_eq!(rt;
+        format!(in rt.alloc(); "{NoMemory}")?.as_str(),
+        "out of memory"
+    );
     Ok(())
 }

@@ -1,6 +1,6 @@
 -- What one more right entry makes of a trail, and how far a trail counts.
-use Rattle.std.proofs.Common.{◌≡◌, ℕ, zero, suc, ◌+◌, ◌<◌, ◌≤◌, ◌^◌, List, [], ◌∷◌, ◌++◌, length, reverse, slice_get, slice_set, get_or, replicate, Option, Some, None, refl, ap, sym, ◌∙◌, subst, arith, inl, inr}
-use Rattle.std.proofs.lemmas.List.{reverse-append, length-reverse, get_or-set_same, get_or_past, length-set, length-append}
+use Rattle.std.proofs.Common.{◌≡◌, ℕ, zero, suc, ◌+◌, ◌<◌, ◌≤◌, List, [], ◌∷◌, ◌++◌, length, reverse, slice_get, slice_set, get_or, replicate, Option, Some, None, refl, ap, sym, ◌∙◌, subst, arith, inl, inr}
+use Rattle.std.proofs.lemmas.List.{reverse-append, get_or-set_same, get_or_past, length-set, length-append}
 use Rattle.std.proofs.lemmas.Bool.{cases_lt}
 use Rattle.walter_base.specs.declared.message.Record.{Record}
 use Rattle.walter_base.specs.declared.message.Record.TheVariants.{Boot, Own}
@@ -10,7 +10,7 @@ use Rattle.walter_base.specs.Vectors.{entry_at}
 use Rattle.walter_site.specs.declared.trail.Entry.{Entry}
 use Rattle.walter_site.specs.declared.trail.Outcome.{Outcome}
 use Rattle.walter_site.specs.declared.trail.Outcome.TheVariants.{Replied, Taken, Passed}
-use Rattle.walter_site.specs.Knowledge.{Knowledge, after, starts_booted, starts_replied, committed_after}
+use Rattle.walter_site.specs.Knowledge.{after, starts_booted, starts_replied, committed_after}
 use Rattle.walter_site.specs.Sites.{CanCount}
 use Rattle.walter_site.specs.Trails.{knowledge, clock, opening, AreRight, IsRightEntry, IsRightTrail}
 

@@ -1,5 +1,5 @@
 -- A line of one word.
-use Rattle.std.proofs.Common.{◌≡◌, ℕ, ◌<◌, ◌≤◌, List, [], ◌∷◌, length, map, get_or, refl, ap, sym, ◌∙◌, arith}
+use Rattle.std.proofs.Common.{◌≡◌, ℕ, ◌<◌, ◌≤◌, List, [], ◌∷◌, length, map, get_or, ap, sym, ◌∙◌, arith}
 use Rattle.std.specs.Prelude.{◌↔◌, String, string_bytes}
 use Rattle.std.specs.Global.{Global}
 

@@ -1,5 +1,5 @@
 -- What the parts of a call of the program promise together.
-use Rattle.std.proofs.Common.{◌≡◌, ◌≢◌, ℕ, ◌<◌, ◌≤◌, List, [], ◌∷◌, ◌++◌, length, reverse, Option, Some, None, option_map, refl, ap, sym, ◌∙◌, subst, arith, inl, inr, ◌⊎◌}
+use Rattle.std.proofs.Common.{◌≡◌, ◌≢◌, ℕ, ◌<◌, List, [], ◌∷◌, ◌++◌, length, reverse, Option, Some, None, option_map, refl, ap, sym, ◌∙◌, subst, arith, inl, inr, ◌⊎◌}
 use Rattle.std.specs.Prelude.{All, String, OnOk, Result, Ok, Err, false}
 use Rattle.std.specs.Result.{is_err}
 use Rattle.std.specs.Global.{Global}
@@ -8,13 +8,12 @@ use Rattle.walter_base.specs.declared.message.Request.TheVariants.{Commit}
 use Rattle.walter_base.specs.declared.update.Update.{Update}
 use Rattle.walter_psi.specs.Legal.{IsLegal}
 use Rattle.walter_site.specs.declared.trail.Entry.{Entry}
-use Rattle.walter_site.specs.declared.trail.Outcome.{Outcome}
 use Rattle.walter_site.specs.declared.trail.TrailEvent.{TrailEvent}
 use Rattle.walter_site.specs.declared.trail.TrailEvent.TheVariants.{Call}
 use Rattle.walter_site.specs.Knowledge.{Knowledge, Session}
-use Rattle.walter_site.specs.Rule.{Expected, commits, rule, call_rule}
+use Rattle.walter_site.specs.Rule.{commits, rule, call_rule}
 use Rattle.walter_site.specs.Trails.{knowledge, AreRight, IsRightEntry, IsRightTrail}
-use Rattle.walter_stream.specs.Streams.{AtEnd, TakesFront}
+use Rattle.walter_stream.specs.Streams.{AtEnd}
 use Rattle.walter_cli.specs.declared.ended.Ended.{Ended}
 use Rattle.walter_cli.specs.declared.ended.Fault.{Fault}
 use Rattle.walter_cli.specs.declared.ended.Fault.TheVariants.{Usage, Scenario as ScenarioFault, Read, Write, Memory}
@@ -40,7 +39,7 @@ entry_answers older e client s right is has some =
     elim right [
       | inl by_rule ↦
           let outcome : e.outcome ≡ (commits the_site K s s.updates).outcome =
-              ap (λ (x : Entry). x.outcome) by_rule ∙ ap (λ (v : TrailEvent). (rule the_site K v).outcome) is ∙ ap (λ (o : Option Session). (call_rule the_site K Commit o).outcome) has in
+          ap (λ (x : Entry). x.outcome) by_rule ∙ ap (λ (v : TrailEvent). (rule the_site K v).outcome) is ∙ ap (λ (o : Option Session). (call_rule the_site K Commit o).outcome) has in
           subst IsCommitAnswer (sym outcome) (commit_answer K s s.updates some)
       | inr memory ↦ subst IsCommitAnswer (sym (ap (λ (x : Entry). x.outcome) memory.1)) tt
     ]

@@ -1,21 +1,15 @@
 -- A cell after one more entry.
-use Rattle.std.proofs.Common.{◌≡◌, ◌<◌, ◌+◌, ◌++◌, ◌∷◌, [], ℕ, List, Option, Some, None, length, reverse, ap, sym, subst, ◌∙◌, inl, inr, ◌⊎◌, refl, arith, Result, Ok, Err}
+use Rattle.std.proofs.Common.{◌≡◌, ◌<◌, ◌+◌, ◌++◌, ◌∷◌, [], List, length, reverse, ap, sym, subst, ◌∙◌, inl, inr, refl, arith, Result, Ok, Err}
 use Rattle.std.specs.Prelude.{OnOk, OnErr}
 use Rattle.std.proofs.lemmas.List.{length-reverse}
-use Rattle.walter_base.specs.declared.message.Record.{Record}
-use Rattle.walter_base.specs.declared.message.Refusal.TheVariants.{Memory}
-use Rattle.walter_base.specs.declared.message.Reply.{Reply}
-use Rattle.walter_base.specs.declared.message.Reply.TheVariants.{Refused}
 use Rattle.walter_base.specs.declared.message.Request.{Request}
 use Rattle.walter_base.specs.declared.names.SiteId.{SiteId}
-use Rattle.walter_site.specs.declared.plan.Input.TheVariants.{Call}
 use Rattle.walter_site.specs.declared.site.Site.{Site}
 use Rattle.walter_site.specs.declared.trail.Entry.{Entry}
-use Rattle.walter_site.specs.declared.trail.Outcome.TheVariants.{Replied}
 use Rattle.walter_site.specs.declared.trail.TrailEvent.TheVariants.{Call as CallEvent}
 use Rattle.walter_site.specs.Knowledge.{Knowledge, after}
 use Rattle.walter_site.specs.Rule.{Expected, rule, no_memory}
-use Rattle.walter_site.specs.Sites.{known, site_of, expected, event_of, CanCount}
+use Rattle.walter_site.specs.Sites.{known, site_of, CanCount}
 use Rattle.walter_site.specs.Trails.{knowledge, clock, entry_of, IsRightEntry, IsRightTrail}
 use Rattle.walter_cli.specs.declared.cell.Cell.{Cell}
 use Rattle.walter_cli.specs.Cells.{IsCell}
@@ -43,7 +37,7 @@ pub rule_entry : (cell : Cell) (request : Request) (x : Expected) → IsCell cel
     → IsRightEntry 1 the_site (reverse cell.trail) (next_entry cell request x)
 rule_entry cell request x is by_rule =
     let here : x ≡ rule the_site (knowledge 1 the_site (reverse cell.trail)) (CallEvent 0 request) =
-        by_rule ∙ ap (λ (i : SiteId). rule i (known cell.site) (CallEvent 0 request)) is.site ∙ ap (λ (K : Knowledge). rule the_site K (CallEvent 0 request)) is.knows in
+    by_rule ∙ ap (λ (i : SiteId). rule i (known cell.site) (CallEvent 0 request)) is.site ∙ ap (λ (K : Knowledge). rule the_site K (CallEvent 0 request)) is.knows in
     inl (λ i. entry_of (sym is.stamps i + 1) (CallEvent 0 request) (here i))
 
 -- so is one for want of memory

@@ -1,7 +1,6 @@
 -- One more turn of a run.
-use Rattle.std.proofs.Common.{◌≡◌, ℕ, zero, suc, ◌+◌, ◌<◌, ◌≤◌, List, [], ◌∷◌, ◌++◌, length, take, Option, Some, None, flat_map, refl, ap, sym, ◌∙◌, subst, arith, slice_get, add-one}
+use Rattle.std.proofs.Common.{◌≡◌, ℕ, zero, suc, ◌+◌, ◌≤◌, List, [], ◌∷◌, ◌++◌, length, Some, None, refl, ap, sym, ◌∙◌, subst, arith, slice_get, add-one}
 use Rattle.std.specs.Prelude.{All}
-use Rattle.std.proofs.lemmas.List.{length-append}
 use Rattle.std.specs.List.{AllByRecursion}
 use Rattle.std.proofs.lemmas.List.Elements.{All-from_recursion}
 use Rattle.walter_base.specs.declared.message.Request.{Request}

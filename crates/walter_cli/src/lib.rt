@@ -16,9 +16,8 @@ mod taking;
 mod words;
 
 pub use ended::{Ended, Fault, Place};
+pub use laws::one_client_spells_legal;
 pub use program::top;
-pub use requests::Requests;
-pub use scenario::{ReadFault, Scenario, read};
 
 #[cfg(test)]
 mod tests;

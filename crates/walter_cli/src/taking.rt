@@ -16,13 +16,17 @@ pub fn take_scenario<S: Source>(alloc: Global, source: &mut S) -> Result<Scenari
 {
     let bytes = match read_to_end(alloc, source, MOST_BYTES) {
         Ok(bytes) => bytes,
-        Err(ReadError::TooLong) => return Err(Fault::Scenario { place: Place::Unbuilt }),
+        Err(ReadError::TooLong) => return Err(Fault::Scenario {
+            place: Place::Unbuilt,
+        }),
         Err(ReadError::Failed) => return Err(Fault::Read),
         Err(ReadError::NoMemory) => return Err(Fault::Memory),
     };
     match read(alloc, &bytes) {
         Ok(scenario) => Ok(scenario),
-        Err(ReadFault::Unbuilt) => Err(Fault::Scenario { place: Place::Unbuilt }),
+        Err(ReadFault::Unbuilt) => Err(Fault::Scenario {
+            place: Place::Unbuilt,
+        }),
         Err(ReadFault::NoMemory) => Err(Fault::Memory),
     }
 }

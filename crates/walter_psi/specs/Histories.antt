@@ -1,5 +1,5 @@
--- Histories, the log of a site, and the state that a transaction reads (Sovran et al., SOSP 2011, section 3.2, figures 2
--- to 5: logs of sites, start and commit timestamps, reads). A timestamp is a place in the one list of steps.
+-- Histories, the log of a site, and the state that a transaction reads (Sovran et al., SOSP 2011, section 3.2: logs of
+-- sites, start and commit timestamps, snapshots). A timestamp is a place in the one list of steps.
 use Rattle.std.specs.Prelude.{Bool, false, List, [], ◌∷◌, ◌++◌, flat_map, Contains, if◌then◌else◌}
 use Rattle.walter_base.specs.declared.names.SiteId.{SiteId}
 use Rattle.walter_base.specs.declared.names.Tid.{Tid}

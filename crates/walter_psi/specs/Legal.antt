@@ -1,4 +1,5 @@
--- Which histories parallel snapshot isolation allows (Sovran et al., SOSP 2011, sections 3.2 and 3.3, figures 3 to 6).
+-- Which histories parallel snapshot isolation allows (Sovran et al., SOSP 2011, section 3.2: the abstract machine of
+-- parallel snapshot isolation, with its counting sets).
 use Rattle.std.specs.Prelude.{◌≡◌, ◌≢◌, ◌+◌, ℕ, List, [], Some, ◌⊎◌, Contains, All, slice_get, take}
 use Rattle.walter_base.specs.declared.names.ObjId.{ObjId}
 use Rattle.walter_base.specs.declared.names.SiteId.{SiteId}

@@ -15,14 +15,16 @@ tail client t ts place none = record { other = λ k u lt at. none.other (suc k) 
 
 pub none_more : (client : ℕ) (ts : List Transaction) (place : ℕ) (t : Transaction) → NoneBefore client ts place → slice_get ts place ≡ Some t → t.client ≢ client
     → NoneBefore client ts (place + 1)
-none_more client ts place t none at apart = record { other = λ k u lt is. elim (cases_lt k place) [
+none_more client ts place t none at apart = record {
+  other = λ k u lt is. elim (cases_lt k place) [
     | inl before ↦ none.other k u before is
     | inr after ↦
         let same : k ≡ place = omega arith in
         let there : slice_get ts place ≡ Some u = subst (λ j. slice_get ts j ≡ Some u) same is in
         let e : t ≡ u = cc in
         subst (λ (z : Transaction). z.client ≢ client) e apart
-  ] }
+  ];
+}
 
 pub place_here : (client : ℕ) (ts : List Transaction) (place : ℕ) (t : Transaction) → NoneBefore client ts place → slice_get ts place ≡ Some t → t.client ≡ client
     → IsPlaceOf client ts place
@@ -147,6 +149,7 @@ session_among-push ts new none c =
     absent : (o : Option Transaction) → option_map session_of o ≡ None → o ≡ None
     absent None e = refl
     absent (Some t) e = absurd cc
+
     inner : (b : Bool) (o : Option Transaction) → option_map session_of (if b then Some new else o) ≡ (if b then Some (session_of new) else option_map session_of o)
     inner true o = refl
     inner false o = refl

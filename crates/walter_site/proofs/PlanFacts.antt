@@ -1,9 +1,7 @@
 -- What the rule of a call says of its record and its reply.
-use Rattle.std.proofs.Common.{◌≡◌, ℕ, List, [], ◌∷◌, Option, Some, None, refl, ap, sym, subst}
+use Rattle.std.proofs.Common.{◌≡◌, List, [], ◌∷◌, Option, Some, None, refl, ap, sym, subst}
 use Rattle.walter_base.specs.declared.message.Record.{Record}
-use Rattle.walter_base.specs.declared.message.Record.TheVariants.{Boot, Own}
-use Rattle.walter_base.specs.declared.message.Refusal.{Refusal}
-use Rattle.walter_base.specs.declared.message.Refusal.TheVariants.{NoTx, TxOpen}
+use Rattle.walter_base.specs.declared.message.Refusal.TheVariants.{TxOpen}
 use Rattle.walter_base.specs.declared.message.Reply.{Reply}
 use Rattle.walter_base.specs.declared.message.Reply.TheVariants.{Started, Value, Done, Committed, Ended, Refused}
 use Rattle.walter_base.specs.declared.message.Request.{Request}
@@ -11,10 +9,9 @@ use Rattle.walter_base.specs.declared.message.Request.TheVariants.{Start, Read, 
 use Rattle.walter_base.specs.declared.names.SiteId.{SiteId}
 use Rattle.walter_base.specs.declared.update.Update.{Update}
 use Rattle.walter_base.specs.Values.{value_of}
-use Rattle.walter_site.specs.declared.trail.Outcome.{Outcome}
 use Rattle.walter_site.specs.declared.trail.Outcome.TheVariants.{Replied}
 use Rattle.walter_site.specs.Knowledge.{Knowledge, Session, read_updates}
-use Rattle.walter_site.specs.Rule.{Expected, answers, commits, call_rule, next_seq, tx_of}
+use Rattle.walter_site.specs.Rule.{Expected, commits, call_rule, next_seq}
 use Rattle.walter_site.specs.Sites.{expected, IsNext, IsFresh}
 
 reply_is : (rec : Option Record) (reply : Reply) (x : Expected) (r : Reply) → expected (rec, reply) ≡ x → x.outcome ≡ Replied r → r ≡ reply

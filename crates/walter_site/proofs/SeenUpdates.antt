@@ -1,5 +1,5 @@
 -- What a read of the transactions that are held comes to, one after another.
-use Rattle.std.proofs.Common.{◌≡◌, ◌∙◌, ◌+◌, ◌<◌, ℕ, List, ◌++◌, ◌∷◌, true, false, drop, filter, flat_map, get_or, length, Option, Some, None, suc, add-one, nat_le, ◌≤◌, ◌↔◌, IsTrue, Bool, arith, ap, sym, refl}
+use Rattle.std.proofs.Common.{◌≡◌, ◌∙◌, ◌+◌, ◌<◌, ℕ, List, ◌∷◌, true, false, drop, filter, flat_map, get_or, length, Option, Some, None, suc, add-one, nat_le, ◌≤◌, ◌↔◌, IsTrue, Bool, arith, ap, sym, refl}
 use Rattle.std.proofs.Math.Seq.{drop-cons}
 use Rattle.std.proofs.lemmas.Bool.{le-leb}
 use Rattle.std.proofs.lemmas.Bool.Decides.{nat_tests}

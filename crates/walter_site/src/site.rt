@@ -1,13 +1,15 @@
-ghost use Rattle.std.specs.Prelude.{◌≡◌, ◌<◌, ◌≤◌, ◌+◌, ◌^◌, ℕ, List, [], ◌∷◌, length, vec_len, vec_capacity, OnOk, IfOk, IfSome, None};
+ghost use Rattle.std.specs.Prelude.{◌≡◌, ◌<◌, ◌≤◌, ◌+◌, ◌^◌, ◌↔◌, IsTrue, ℕ, List, [], ◌∷◌, length, vec_len, vec_capacity, OnOk, IfOk, IfSome, None};
 
 use crate::held::Held;
 use crate::plan::{Input, Plan};
 use crate::reading::{value_after, value_seen};
-use crate::transaction::Transaction;
 use crate::trail::{Outcome, TrailEvent};
+use crate::transaction::Transaction;
 use crate::transactions::{add_update, end_all, find, reserve_update};
 use std::alloc::Global;
-use walter_base::{Mem, ObjId, Record, Refusal, Reply, Request, SiteId, Tid, Tx, Update, Updates, Version, Vts};
+use walter_base::{
+    Mem, ObjId, Record, Refusal, Reply, Request, SiteId, Tid, Tx, Update, Updates, Version, Vts,
+};
 
 /// One site of the store: what it knows, ready to be read and to be changed by plans.
 #[derive(Debug, Drop)]
@@ -44,6 +46,13 @@ impl Site {
             held: Vec::new(alloc),
             transactions: Vec::new(alloc),
         }
+    }
+
+    /// Whether one more start and one more commit have numbers.
+    pub fn can_count(&self) -> bool
+        ensures { IsTrue result ↔ CanCount (site_of self.now) (known self.now) }
+    {
+        self.starts < u64::MAX && self.committed.get(self.site) < u64::MAX
     }
 
     /// The plan of the rule for an input. It takes all the memory that applying it needs, and changes nothing.

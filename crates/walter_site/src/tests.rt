@@ -1,5 +1,6 @@
 use crate::{Entry, Input, Outcome, Plan, Site, Trail, TrailEvent};
 use std::alloc::Global;
+use std::process::Abort;
 use std::test::Fail;
 use walter_base::{Bytes, Mem, ObjId, Record, Refusal, Reply, Request, SiteId};
 
@@ -10,6 +11,15 @@ const OBJECT: ObjId = ObjId {
 
 fn write(alloc: Global, bytes: &[u8]) -> Mem<Request> {
     Ok(Request::Write(OBJECT, Bytes::from_slice(alloc, bytes)?))
+}
+
+// What the site answers to a request, which it then applies.
+fn served(rt: &impl Abort, site: &mut Site, client: u32, request: Request) -> Mem<Reply> {
+    assert!(rt; site.can_count());
+    let plan = site.plan(&Input::Call { client, request })?;
+    let reply = plan.reply.clone()?;
+    site.apply(plan);
+    Ok(reply)
 }
 
 #[test]
@@ -29,9 +39,7 @@ fn a_transaction_reads_its_own_write_and_commits(rt: HostRuntime) -> Result<(), 
     ];
     let mut replies = Vec::new(alloc);
     for request in requests {
-        let plan = site.plan(&Input::Call { client: 0, request })?;
-        replies.push(plan.reply.clone()?)?;
-        site.apply(plan);
+        replies.push(served(&rt, &mut site, 0, request)?)?;
     }
     assert_eq!(rt; replies.len(), 9);
     assert!(rt; matches!(&replies[0], Reply::Refused(Refusal::NoTx)));
@@ -40,8 +48,8 @@ fn a_transaction_reads_its_own_write_and_commits(rt: HostRuntime) -> Result<(), 
     assert!(rt; matches!(&replies[3], Reply::Done));
     assert!(rt; matches!(&replies[5], Reply::Committed(_)));
     assert!(rt; matches!(&replies[8], Reply::Ended));
-    for place in [4, 7] {
-        let Reply::Value(Some(value)) = &replies[place] else {
+    for reply in [&replies[4], &replies[7]] {
+        let Reply::Value(Some(value)) = reply else {
             panic!(rt; "the object has a value");
         };
         assert_eq!(rt; value.as_slice(), b"hello".as_slice());
@@ -62,9 +70,7 @@ fn a_snapshot_leaves_out_what_commits_later(rt: HostRuntime) -> Result<(), Fail>
     ];
     let mut last = None;
     for (client, request) in calls {
-        let plan = site.plan(&Input::Call { client, request })?;
-        last = Some(plan.reply.clone()?);
-        site.apply(plan);
+        last = Some(served(&rt, &mut site, client, request)?);
     }
     assert!(rt; matches!(last, Some(Reply::Value(None))));
     Ok(())
@@ -78,6 +84,7 @@ fn an_unapplied_plan_changes_nothing(rt: HostRuntime) -> Result<(), Fail> {
         request: Request::Start,
     };
     for _ in 0..2 {
+        assert!(rt; site.can_count());
         let Plan { reply, .. } = site.plan(&start)?;
         let Reply::Started(tid) = reply else {
             panic!(rt; "no transaction is open");

@@ -1,5 +1,3 @@
-
-
 use walter_base::{Tid, Update, Vts};
 
 /// The open transaction of a client.

@@ -1,8 +1,7 @@
-use Rattle.std.proofs.Common.{◌≡◌, ◌++◌, ◌∷◌, [], List, Vec, Global, Option, Some, None, inr, subst, ap, sym, refl, ◌∙◌}
+use Rattle.std.proofs.Common.{◌++◌, ◌∷◌, [], List, Vec, Global, Some, None, inr, subst, ap, sym, refl, ◌∙◌}
 use Rattle.walter_site.specs.declared.trail.Entry.{Entry}
 use Rattle.walter_site.specs.declared.trail.Trail.{Trail}
 use Rattle.walter_stream.specs.Streams.{Appends}
-use Rattle.walter_cli.specs.declared.ended.Fault.{Fault}
 use Rattle.walter_cli.specs.declared.ended.Fault.TheVariants.{Memory}
 use Rattle.walter_cli.specs.Ending.{IsWriteFault}
 use Rattle.walter_cli.specs.Reports.{report_text}
@@ -28,7 +27,7 @@ returns-in-Ok-write_report-clause-run g c =
     let driven = ok_part c.play-played.result _ played.played (sym c.is_err.ensures.value ∙ c.if-is_err.false) in
     let run = whole_is s trails c.play-played.new.cell.trail c.one_client_spells_legal.ensures one played.cell.right played.calls driven in
     let written = subst (λ (ts : List (List Entry)). Appends (g.K.Sink.holds c.args.sink.now) (g.K.Sink.holds c.write_report.new.sink) (report_text s ts)) c.deref.ensures.value
-        c.in-Ok-write_report.ensures.ok in
+    c.in-Ok-write_report.ensures.ok in
     ends_with s _ _ _ _ trails _ None _ (run, written)
     (ap (λ (v : Vec Trail Global). v.items) c.late-in-Ok-write_report.ensures.trails) c.late-in-Ok-write_report.ensures.fault
 
@@ -42,6 +41,6 @@ returns-in-Err-clause-run g c =
     let driven = ok_part c.play-played.result _ played.played (sym c.is_err.ensures.value ∙ c.if-is_err.false) in
     let run = whole_is s trails c.play-played.new.cell.trail c.one_client_spells_legal.ensures one played.cell.right played.calls driven in
     let why = subst (λ (ts : List (List Entry)). IsWriteFault (report_text s ts) (g.K.Sink.holds c.args.sink.now) (g.K.Sink.holds c.write_report.new.sink)
-            (g.K.Sink.faults c.args.sink.now) (g.K.Sink.faults c.write_report.new.sink) c.in-Err.fault) c.deref.ensures.value c.in-Err.ensures.fault in
+    (g.K.Sink.faults c.args.sink.now) (g.K.Sink.faults c.write_report.new.sink) c.in-Err.fault) c.deref.ensures.value c.in-Err.ensures.fault in
     ends_with s _ _ _ _ trails _ (Some c.in-Err.fault) _ (ends_cut s _ _ _ _ trails c.in-Err.fault run why)
     (ap (λ (v : Vec Trail Global). v.items) c.late-in-Err.ensures.trails) c.late-in-Err.ensures.fault

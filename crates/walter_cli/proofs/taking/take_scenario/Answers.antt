@@ -1,4 +1,4 @@
-use Rattle.std.proofs.Common.{◌≡◌, ℕ, List, inl, subst}
+use Rattle.std.proofs.Common.{ℕ, List, inl, subst}
 use Rattle.walter_cli.specs.declared.scenario.Scenario.{Scenario}
 use Rattle.walter_cli.specs.Scenarios.{IsReading}
 use Rattle.walter_cli.proofs.taking.take_scenario.Goals as goal

@@ -1,8 +1,7 @@
-use Rattle.std.proofs.Common.{◌≡◌, ◌∙◌, ◌++◌, ◌∷◌, ◌+◌, Bool, true, false, drop, filter, flat_map, ap, sym, subst, arith}
+use Rattle.std.proofs.Common.{◌∙◌, ◌+◌, drop, ap, sym}
 use Rattle.std.specs.Option.{option_copied}
 use Rattle.walter_base.specs.Values.{value_from}
 use Rattle.walter_base.specs.Vectors.{entry_at}
-use Rattle.walter_site.specs.Knowledge.{sees}
 use Rattle.walter_site.proofs.SeenUpdates.{seen_updates, seen_step, unseen_step, test_is, drop_here}
 use Rattle.walter_site.proofs.reading.value_seen.Goals as goal
 use Rattle.walter_site.proofs.reading.value_seen.Goals.{then-sees, else-sees}

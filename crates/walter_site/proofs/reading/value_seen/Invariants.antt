@@ -1,4 +1,4 @@
-use Rattle.std.proofs.Common.{◌≡◌, drop, filter, flat_map, None}
+use Rattle.std.proofs.Common.{◌≡◌, drop, filter, flat_map}
 use Rattle.std.specs.Option.{option_copied}
 use Rattle.walter_base.specs.Values.{value_from, value_of}
 use Rattle.walter_site.specs.Knowledge.{sees}

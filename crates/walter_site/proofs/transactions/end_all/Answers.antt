@@ -1,4 +1,4 @@
-use Rattle.std.proofs.Common.{◌≡◌, ◌∙◌, Bool, true, false, not, nat_eq, None, option_map, ap, refl, rules}
+use Rattle.std.proofs.Common.{◌∙◌, not, nat_eq, ap, rules}
 use Rattle.std.proofs.lemmas.Fn.{filter_same}
 use Rattle.walter_site.specs.declared.transaction.Transaction.{Transaction}
 use Rattle.walter_site.specs.Sites.{session_among}

@@ -1,5 +1,4 @@
 use Rattle.std.proofs.Common.{◌≡◌, length, Some, ◌∙◌, ap, sym, subst, arith}
-use Rattle.std.specs.Prelude.{slice_get}
 use Rattle.std.proofs.lemmas.Option.{slice_get-get_or}
 use Rattle.walter_site.specs.declared.transaction.Transaction.{Transaction}
 use Rattle.walter_site.proofs.Places.{place_here, none_more, none_at_all, NoneBefore}
@@ -18,6 +17,6 @@ loop-place-preserved c =
     none_more c.args.client c.args.transactions.now c.loop-place.place t c.loop-place.invariant at c.if-transaction-client.false
 
 pub returns-clause-none : goal.returns-clause-none
-returns-clause-none c = 
+returns-clause-none c =
     let end : c.loop-place.place ≡ length c.args.transactions.now = omega arith in
     none_at_all c.args.client c.args.transactions.now (subst (λ n. NoneBefore c.args.client c.args.transactions.now n) end c.loop-place.invariant)

@@ -1,9 +1,9 @@
-use Rattle.std.proofs.Common.{◌≡◌, ◌≤◌, ◌+◌, Some, get_or, slice_set, option_map, ap, refl, sym, ◌∙◌, subst, arith}
+use Rattle.std.proofs.Common.{◌≡◌, Some, get_or, slice_set, ap, refl, sym, ◌∙◌, subst, arith}
 use Rattle.std.specs.Prelude.{IfSome}
 use Rattle.std.proofs.lemmas.Bool.{eq-eqb}
 use Rattle.walter_site.specs.declared.transaction.Transaction.{Transaction}
-use Rattle.walter_site.specs.Sites.{CanTake, session_of, first_of}
-use Rattle.walter_site.proofs.Places.{first_is, client_at, session_among-kept, first_of-set}
+use Rattle.walter_site.specs.Sites.{CanTake, first_of}
+use Rattle.walter_site.proofs.Places.{client_at, session_among-kept, first_of-set}
 use Rattle.walter_site.proofs.transactions.reserve_update.Goals as goal
 
 pub returns-in_err-reserve-clause-same : goal.returns-in_err-reserve-clause-same
@@ -30,7 +30,7 @@ returns-in_ok-reserve-clause-room c =
     let old = get_or c.args.transactions.now c.in-Some.place t in
     let new : Transaction = record { client = old.client; tid = old.tid; snapshot = old.snapshot; updates = c.reserve.new.self } in
     let set = first_of-set c.args.client c.args.transactions.now c.in-Some.place new c.in-Some.ensures.place
-        (client_at c.args.client c.args.transactions.now c.in-Some.place t c.in-Some.ensures.place) c.args.client in
+    (client_at c.args.client c.args.transactions.now c.in-Some.place t c.in-Some.ensures.place) c.args.client in
     let here : first_of c.args.client (slice_set c.args.transactions.now c.in-Some.place new) ≡ Some new = set ∙ rw (eq-eqb c.args.client c.args.client refl) refl in
     let room : CanTake new = omega (arith, c.in_ok-reserve.ensures.ok) in
     subst (λ o. IfSome o CanTake) (sym here) room

@@ -1,15 +1,14 @@
-use Rattle.std.proofs.Common.{◌≡◌, ◌+◌, ◌++◌, ◌∷◌, [], List, length, ap, sym, subst, ◌∙◌}
+use Rattle.std.proofs.Common.{◌≡◌, ◌+◌, ◌++◌, ◌∷◌, [], List, length, ap, subst, ◌∙◌}
 use Rattle.std.specs.Prelude.{OnOk, OnErr}
 use Rattle.walter_site.specs.declared.trail.Entry.{Entry}
-use Rattle.walter_site.specs.declared.plan.Input.{Input}
 use Rattle.walter_site.specs.declared.site.Site.{Site}
 use Rattle.walter_site.specs.declared.trail.Outcome.TheVariants.{Replied}
 use Rattle.walter_site.specs.declared.trail.TrailEvent.TheVariants.{Call}
-use Rattle.walter_site.specs.Knowledge.{Knowledge, after}
-use Rattle.walter_site.specs.Rule.{Expected, no_memory}
+use Rattle.walter_site.specs.Knowledge.{after}
+use Rattle.walter_site.specs.Rule.{no_memory}
 use Rattle.walter_site.specs.Sites.{known, site_of, expected, event_of}
 use Rattle.walter_site.specs.Trails.{entry_of}
-use Rattle.walter_cli.proofs.Serving.{cell_counts, same_counts, next_entry, rule_entry, cell_more, cell_short}
+use Rattle.walter_cli.proofs.Serving.{cell_counts, same_counts, rule_entry, cell_more, cell_short}
 use Rattle.walter_cli.proofs.cell.Cell.serve.Goals as goal
 
 pub planned-requires : goal.planned-requires

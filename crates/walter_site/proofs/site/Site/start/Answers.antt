@@ -12,7 +12,7 @@ returns-clause-known c =
     let items = old.transactions.items in
     let new : Transaction = record { client = client; tid = c.args.tid; snapshot = old.committed; updates = c.new.result } in
     let sessions : (k : ℕ) → session_among k c.push_reserved.new.self.items
-            ≡ (if nat_eq k client then Some (record { tid = c.args.tid; snapshot = old.committed; updates = [] }) else session_among k items) = λ k.
-        ap (session_among k) c.push_reserved.ensures.items ∙ session_among-push items new c.requires.none k
-        ∙ ap (λ us. if nat_eq k client then Some (record { tid = c.args.tid; snapshot = old.committed; updates = us }) else session_among k items) c.new.ensures.items in
+    ≡ (if nat_eq k client then Some (record { tid = c.args.tid; snapshot = old.committed; updates = [] }) else session_among k items) = λ k.
+    ap (session_among k) c.push_reserved.ensures.items ∙ session_among-push items new c.requires.none k
+    ∙ ap (λ us. if nat_eq k client then Some (record { tid = c.args.tid; snapshot = old.committed; updates = us }) else session_among k items) c.new.ensures.items in
     λ i. record { epoch = old.epoch; starts = old.starts + 1; committed = old.committed; held = old.held.items; session = λ k. sessions k i }
