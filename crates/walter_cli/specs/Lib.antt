@@ -1,5 +1,6 @@
 pub mod Cells
 pub mod Ending
+pub mod Examples
 pub mod Faults
 pub mod Frames
 pub mod Headline

@@ -16,7 +16,7 @@ mod taking;
 mod words;
 
 pub use ended::{Ended, Fault, Place};
-pub use laws::one_client_spells_legal;
+pub use laws::{example_spells, one_client_spells_legal};
 pub use program::top;
 
 #[cfg(test)]

@@ -24,7 +24,7 @@ use thiserror::Error;
 use walter_base::{Catalog, CatalogFault, Kind, Request, SiteId};
 
 /// The most bytes that a scenario may have.
-const LONGEST_TEXT: usize = 16_777_216;
+pub const LONGEST_TEXT: usize = 16_777_216;
 
 /// The most turns that a scenario may have.
 const MOST_TURNS: usize = 1000;

@@ -2,19 +2,16 @@ ghost use Rattle.std.specs.Prelude.{◌≡◌, IfOk, IfErr};
 ghost use Rattle.walter_cli.specs.Ending.{IsTaken, IsTakeFault};
 
 use crate::ended::{Fault, Place};
-use crate::scenario::{ReadFault, Scenario, read};
+use crate::scenario::{LONGEST_TEXT, ReadFault, Scenario, read};
 use std::alloc::Global;
 use walter_stream::{ReadError, Source, read_to_end};
-
-/// How many bytes a scenario has at most.
-const MOST_BYTES: usize = 16_777_216;
 
 /// The scenario that the bytes of the source spell, read to their end.
 pub fn take_scenario<S: Source>(alloc: Global, source: &mut S) -> Result<Scenario, Fault>
     ensures ok { IfOk result (IsTaken (S.left source.old) (S.left source.new)) }
     ensures fault { IfErr result (IsTakeFault (S.left source.old) (S.left source.new) (S.faults source.old) (S.faults source.new)) }
 {
-    let bytes = match read_to_end(alloc, source, MOST_BYTES) {
+    let bytes = match read_to_end(alloc, source, LONGEST_TEXT) {
         Ok(bytes) => bytes,
         Err(ReadError::TooLong) => return Err(Fault::Scenario {
             place: Place::Unbuilt,
