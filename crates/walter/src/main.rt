@@ -1,28 +1,40 @@
 //! The program `walter`: `top` over standard input, standard output and the process.
 #![tactic(auto)]
 
-use std::env::Env;
+use std::env;
+use std::io::{self, ErrorKind};
 use std::process::ExitCode;
-use std::{env, io};
-use walter_cli::{Ended, top};
+use walter_cli::{Ended, Fault, top};
 use walter_stream::{StdSink, StdSource};
 
-// The words behind the program's name.
-fn words_of<R: Env + AllocGlobal>(rt: &R) -> io::Result<Vec<String>> {
+// The words behind the program's name. A word that is no text is none of any line.
+fn words_of(rt: &HostRuntime) -> Result<Vec<String>, Fault> {
+    let args = env::args(rt).map_err(|error| match error.kind() {
+        ErrorKind::OutOfMemory => Fault::Memory,
+        _ => Fault::Usage,
+    })?;
     let mut words = Vec::new(rt.alloc());
-    for word in env::args(rt)?.skip(1) {
-        words.push(word)?;
+    for word in args.skip(1) {
+        words.push(word).map_err(|_| Fault::Memory)?;
     }
     Ok(words)
 }
 
-fn main(rt: HostRuntime) -> io::Result<ExitCode> {
-    let words = words_of(&rt)?;
+fn run(rt: &HostRuntime) -> Ended {
+    let words = match words_of(rt) {
+        Ok(words) => words,
+        Err(fault) => return Ended::early(rt.alloc(), fault),
+    };
     let mut source = StdSource::new(rt.reader());
-    let mut sink = StdSink::new(io::writer(&rt));
-    let Ended { status, fault, .. } = top(&rt, &words, &mut source, &mut sink);
+    let mut sink = StdSink::new(io::writer(rt));
+    top(rt, &words, &mut source, &mut sink)
+}
+
+fn main(rt: HostRuntime) -> ExitCode {
+    let Ended { status, fault, .. } = run(&rt);
     if let Some(fault) = fault {
-        eprintln!(rt; "walter: {fault}")?;
+        // The status tells it too, so it stands where standard error fails.
+        let _ = eprintln!(rt; "walter: {fault}");
     }
-    Ok(ExitCode::from(status))
+    ExitCode::from(status)
 }

@@ -141,7 +141,6 @@ impl Site {
         ensures same { known self.new ≡ known self.old }
         ensures site { site_of self.new ≡ site_of self.old }
     {
-        self.held.reserve(1)?;
         let Some(transaction) = find(&self.transactions, client) else {
             return Ok((None, Reply::Refused(Refusal::NoTx)));
         };
@@ -159,6 +158,7 @@ impl Site {
             site: self.site,
             seq,
         };
+        self.held.reserve(1)?;
         Ok((Some(Record::Own(seq, tx)), Reply::Committed(version)))
     }
 

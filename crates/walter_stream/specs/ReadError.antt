@@ -1,5 +1,5 @@
 -- Why bytes were not read to their end.
-use Rattle.std.specs.Prelude.{◌≡◌, ◌<◌, ℕ, List, codes, Result, Ok, Err}
+use Rattle.std.specs.Prelude.{◌≡◌, ◌<◌, ℕ, Result, Ok, Err}
 use Rattle.walter_stream.specs.declared.reading.ReadError.{ReadError}
 use Rattle.walter_stream.specs.declared.reading.ReadError.TheVariants.{TooLong, Failed, NoMemory}
 
@@ -9,9 +9,3 @@ CountsFaults (Ok _) old new = new ≡ old
 CountsFaults (Err TooLong) old new = new ≡ old
 CountsFaults (Err Failed) old new = old < new
 CountsFaults (Err NoMemory) old new = new ≡ old
-
--- what is printed
-abbrev pub message_of : ReadError → List ℕ
-message_of TooLong = codes "there are more bytes than may be read"
-message_of Failed = codes "a read failed"
-message_of NoMemory = codes "there is no memory for the bytes"

@@ -4,36 +4,21 @@ ghost use Rattle.walter_stream.specs.Streams.{AtEnd, TakesFront, TakesSome, Take
 
 use crate::source::{Failed, Source};
 use std::alloc::{AllocError, Global};
-use std::error::Error;
-use std::fmt;
+use thiserror::Error;
 
 /// How many bytes are asked for at once.
 const PIECE: usize = 8192;
 
 /// Why bytes were not read to their end.
-#[derive(Clone, Copy, Debug, PartialEq, Eq)]
+#[derive(Clone, Copy, Debug, PartialEq, Eq, Error)]
 pub enum ReadError {
+    #[error("there are more bytes than may be read")]
     TooLong,
+    #[error("a read failed")]
     Failed,
+    #[error("there is no memory for the bytes")]
     NoMemory,
 }
-
-impl fmt::Display for ReadError {
-    ghost use Rattle.std.specs.Prelude.{Some};
-    ghost use Rattle.walter_stream.specs.ReadError.{message_of};
-
-    ghost output = { λ error. Some (message_of error) };
-
-    fn fmt<W: fmt::Write>(&self, f: &mut fmt::Formatter<W>) -> fmt::Result {
-        f.write_str(match self {
-            ReadError::TooLong => "there are more bytes than may be read",
-            ReadError::Failed => "a read failed",
-            ReadError::NoMemory => "there is no memory for the bytes",
-        })
-    }
-}
-
-impl Error for ReadError {}
 
 impl From<Failed> for ReadError {
     ghost use Rattle.walter_stream.specs.declared.reading.ReadError.TheVariants.{Failed};

@@ -1,24 +1,12 @@
 ghost use Rattle.std.specs.Prelude.{◌≡◌, ◌<◌, ◌≤◌, ℕ, List, length, take, Option, IfOk, OnOk, OnErr};
 ghost use Rattle.walter_stream.specs.Streams.{AtEnd, TakesFront};
 
-use std::error::Error;
-use std::fmt;
+use thiserror::Error;
 
 /// A call on a source or a sink met a fault.
-#[derive(Clone, Copy, Debug, PartialEq, Eq)]
+#[derive(Clone, Copy, Debug, PartialEq, Eq, Error)]
+#[error("a call on a stream failed")]
 pub struct Failed;
-
-impl fmt::Display for Failed {
-    ghost use Rattle.std.specs.Prelude.{Some, codes};
-
-    ghost output = { λ _. Some (codes "a call on a stream failed") };
-
-    fn fmt<W: fmt::Write>(&self, f: &mut fmt::Formatter<W>) -> fmt::Result {
-        f.write_str("a call on a stream failed")
-    }
-}
-
-impl Error for Failed {}
 
 /// Where bytes come from.
 pub trait Source {
