@@ -6,3 +6,5 @@ pub mod LegalFacts
 pub mod Logs
 pub mod Seen
 pub mod Versions
+pub mod CheckerLists
+pub mod CheckerCounts
