@@ -6,3 +6,4 @@ pub mod LegalFacts
 pub mod Logs
 pub mod Seen
 pub mod Versions
+pub mod TimestampFacts

@@ -2,7 +2,9 @@
 #![tactic(auto)]
 
 mod laws;
+mod properties;
 mod step;
 
 pub use laws::{one_more_step, state_after_step};
+pub use properties::timestamps;
 pub use step::{Answer, Level, Step, Told};
