@@ -7,3 +7,6 @@ pub mod Logs
 pub mod Seen
 pub mod Versions
 pub mod TimestampFacts
+pub mod ReadFacts
+pub mod WriterFacts
+pub mod CausalFacts

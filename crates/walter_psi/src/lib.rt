@@ -6,5 +6,5 @@ mod properties;
 mod step;
 
 pub use laws::{one_more_step, state_after_step};
-pub use properties::timestamps;
+pub use properties::{causality, no_concurrent_writers, snapshot_reads, timestamps};
 pub use step::{Answer, Level, Step, Told};

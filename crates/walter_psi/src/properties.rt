@@ -8,3 +8,22 @@ ghost use Rattle.walter_psi.specs.Properties.{HasTimestamps, ReadsSnapshot, NoCo
 pub fn timestamps()
     ensures { (steps : List Step) → IsLegal steps → HasTimestamps steps }
 {}
+
+/// Property 1 of parallel snapshot isolation, site snapshot read: each read of a legal history is answered by
+/// what had been committed at the transaction's site when it started, and by its own updates since.
+pub fn snapshot_reads()
+    ensures { (steps : List Step) → IsLegal steps → ReadsSnapshot steps }
+{}
+
+/// Property 2 of parallel snapshot isolation, no write-write conflicts: two transactions of a legal history that
+/// are somewhere concurrent, so that one commits between the start and the commit of the other at the site of
+/// one of them, write no object both.
+pub fn no_concurrent_writers()
+    ensures { (steps : List Step) → IsLegal steps → NoConcurrentWriters steps }
+{}
+
+/// Property 3 of parallel snapshot isolation, commit causality across sites: what commits at a site before a
+/// transaction of that site starts commits before it at each site where that one commits.
+pub fn causality()
+    ensures { (steps : List Step) → IsLegal steps → IsCausal steps }
+{}
