@@ -71,10 +71,25 @@ abbrev pub NoConcurrentWriters : List Step → Type 0
 NoConcurrentWriters steps =
     (x y : Tid) → x ≢ y → AreSomewhereConcurrent steps x y → ¬ DoConflict (committed_updates steps x) (committed_updates steps y)
 
--- Property 3, commit causality across sites: what commits at a site before a transaction of that site starts has committed
--- before it at each site where it commits
+-- the first transaction commits at the site of the second before the second starts
+pub record CommitsBeforeStart (steps : List Step) (x y : Tid) : Type 0 where
+  pub place : ℕ
+  pub begun : ℕ
+  pub commits : CommitsAt steps x y.site place
+  pub starts : StartsAt steps y begun
+  pub before : place < begun
+
+-- the same where an arrival is still to come: of two transactions that write one object, one commits at the site of the other
+-- before the other starts
+abbrev pub AreWritersOrdered : List Step → Type 0
+AreWritersOrdered steps =
+    (x y : Tid) → x ≢ y → DoConflict (committed_updates steps x) (committed_updates steps y)
+    → CommitsBeforeStart steps x y ⊎ CommitsBeforeStart steps y x
+
+-- Property 3, commit causality across sites: what commits at the site of a transaction before it starts commits before it at
+-- each site
 abbrev pub IsCausal : List Step → Type 0
 IsCausal steps =
-    (x y : Tid) (first begun : ℕ) → CommitsAt steps x y.site first → StartsAt steps y begun → first < begun
+    (x y : Tid) → CommitsBeforeStart steps x y
     → (site : SiteId) (place : ℕ) → CommitsAt steps y site place
     → (earlier : ℕ) × (earlier < place) × CommitsAt steps x site earlier

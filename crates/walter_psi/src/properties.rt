@@ -1,7 +1,7 @@
 ghost use Rattle.std.specs.Prelude.{List};
 ghost use Rattle.walter_psi.specs.declared.step.Step.{Step};
 ghost use Rattle.walter_psi.specs.Legal.{IsLegal};
-ghost use Rattle.walter_psi.specs.Properties.{HasTimestamps, ReadsSnapshot, NoConcurrentWriters, IsCausal};
+ghost use Rattle.walter_psi.specs.Properties.{HasTimestamps, ReadsSnapshot, NoConcurrentWriters, AreWritersOrdered, IsCausal};
 
 /// In a legal history a transaction has one start timestamp at most, and one commit timestamp at each site,
 /// which is after its start and not before its commit at its own site. The three properties speak of these.
@@ -17,9 +17,11 @@ pub fn snapshot_reads()
 
 /// Property 2 of parallel snapshot isolation, no write-write conflicts: two transactions of a legal history that
 /// are somewhere concurrent, so that one commits between the start and the commit of the other at the site of
-/// one of them, write no object both.
+/// one of them, write no object both. More is so, since a commit may still be on its way to that site: of two
+/// that write one object, one was committed at the site of the other when that started.
 pub fn no_concurrent_writers()
-    ensures { (steps : List Step) → IsLegal steps → NoConcurrentWriters steps }
+    ensures disjoint { (steps : List Step) → IsLegal steps → NoConcurrentWriters steps }
+    ensures ordered { (steps : List Step) → IsLegal steps → AreWritersOrdered steps }
 {}
 
 /// Property 3 of parallel snapshot isolation, commit causality across sites: what commits at a site before a
