@@ -62,7 +62,7 @@ pub record CommitsDuring (steps : List Step) (x y : Tid) (site : SiteId) : Type 
 abbrev pub AreConcurrentAt : List Step → Tid → Tid → SiteId → Type 0
 AreConcurrentAt steps x y site = CommitsDuring steps x y site ⊎ CommitsDuring steps y x site
 
--- they are concurrent at the site of one of them
+-- they are concurrent at the site of one of the two
 abbrev pub AreSomewhereConcurrent : List Step → Tid → Tid → Type 0
 AreSomewhereConcurrent steps x y = AreConcurrentAt steps x y x.site ⊎ AreConcurrentAt steps x y y.site
 
@@ -79,15 +79,15 @@ pub record CommitsBeforeStart (steps : List Step) (x y : Tid) : Type 0 where
   pub starts : StartsAt steps y begun
   pub before : place < begun
 
--- the same where an arrival is still to come: of two transactions that write one object, one commits at the site of the other
--- before the other starts
+-- what Property 2 comes to before the arrivals too: of two transactions that write one object, one commits at the site of
+-- the other before the other starts
 abbrev pub AreWritersOrdered : List Step → Type 0
 AreWritersOrdered steps =
     (x y : Tid) → x ≢ y → DoConflict (committed_updates steps x) (committed_updates steps y)
     → CommitsBeforeStart steps x y ⊎ CommitsBeforeStart steps y x
 
--- Property 3, commit causality across sites: what commits at the site of a transaction before it starts commits before it at
--- each site
+-- Property 3, commit causality across sites: what commits at the site of a transaction before it starts commits before it
+-- at each site where it commits
 abbrev pub IsCausal : List Step → Type 0
 IsCausal steps =
     (x y : Tid) → CommitsBeforeStart steps x y

@@ -1,4 +1,5 @@
 //! Parallel snapshot isolation, as a definition over histories, and the laws of one more step.
+//! Every legal history has the three properties that define it.
 #![tactic(auto)]
 
 mod laws;

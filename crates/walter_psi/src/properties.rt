@@ -17,15 +17,16 @@ pub fn snapshot_reads()
 
 /// Property 2 of parallel snapshot isolation, no write-write conflicts: two transactions of a legal history that
 /// are somewhere concurrent, so that one commits between the start and the commit of the other at the site of
-/// one of them, write no object both. More is so, since a commit may still be on its way to that site: of two
-/// that write one object, one was committed at the site of the other when that started.
+/// one of them, write no object both. The second clause says it of commits too that haven't arrived there yet:
+/// of two transactions that write one object, one was committed at the site of the other when that started.
 pub fn no_concurrent_writers()
     ensures disjoint { (steps : List Step) → IsLegal steps → NoConcurrentWriters steps }
     ensures ordered { (steps : List Step) → IsLegal steps → AreWritersOrdered steps }
 {}
 
 /// Property 3 of parallel snapshot isolation, commit causality across sites: what commits at a site before a
-/// transaction of that site starts commits before it at each site where that one commits.
+/// transaction of that site starts commits before it at each site where that one commits (and once, by
+/// `timestamps`).
 pub fn causality()
     ensures { (steps : List Step) → IsLegal steps → IsCausal steps }
 {}
