@@ -90,7 +90,7 @@ writers_ordered steps legal x y apart conflict =
           | inl same ↦
               let here : Some (Commit x us) ≡ Some (Commit y vs) = sym at ∙ (ap (λ n. slice_get steps n) same ∙ there) in
               absurd (apart cc)
-          | inr apart ↦ apart
+          | inr ordered ↦ ordered
         ]
 
 -- what commits at a site before another starts isn't concurrent with it there
