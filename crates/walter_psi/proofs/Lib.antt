@@ -8,3 +8,7 @@ pub mod Seen
 pub mod Versions
 pub mod CheckerLists
 pub mod CheckerCounts
+pub mod TimestampFacts
+pub mod ReadFacts
+pub mod WriterFacts
+pub mod CausalFacts

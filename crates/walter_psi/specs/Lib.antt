@@ -1,3 +1,4 @@
 pub mod Histories
 pub mod Legal
 pub mod Checking
+pub mod Properties
