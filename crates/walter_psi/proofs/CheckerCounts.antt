@@ -1,6 +1,6 @@
 -- When entries are the counts of a set after some updates.
-use Rattle.std.proofs.Common.{◌≡◌, ◌≢◌, ℕ, zero, suc, ◌+◌, ◌<◌, List, [], ◌∷◌, ◌++◌, length, get_or, Some, nat_eq, refl, ap, sym, ◌∙◌, subst, arith, Bool, true, false, ◌&&◌, inl, inr, ◌⊎◌, ◌↔◌, if◌then◌else◌}
-use Rattle.std.specs.Prelude.{ℤ, pos, negsuc, ◌-ℤ◌, Contains, All, Any, AllPairs, count_by, flat_map}
+use Rattle.std.proofs.Common.{◌≡◌, ◌≢◌, ℕ, zero, suc, ◌<◌, List, [], ◌∷◌, get_or, Some, nat_eq, refl, ap, sym, ◌∙◌, subst, Bool, true, false, ◌&&◌, inl, inr, ◌⊎◌, if◌then◌else◌}
+use Rattle.std.specs.Prelude.{ℤ, pos, negsuc, Contains, All, AllPairs, count_by, flat_map}
 use Rattle.std.proofs.lemmas.Bool.{eqb-true, cases_Bool}
 use Rattle.std.proofs.lemmas.List.Elements.{Contains-append_left, Contains-append_right, Contains-get_or, All-contains}
 use Rattle.walter_base.specs.declared.names.ObjId.{ObjId}
@@ -8,7 +8,7 @@ use Rattle.walter_base.specs.declared.update.Update.{Update}
 use Rattle.walter_base.specs.declared.update.Update.TheVariants.{Write, Add, Del}
 use Rattle.walter_base.specs.Names.{same_object}
 use Rattle.walter_base.specs.Values.{count_of, adds, takes, AreCounts}
-use Rattle.walter_psi.specs.Checking.{IsCountOf, IsListed, HasId, ids_named}
+use Rattle.walter_psi.specs.Checking.{IsCountOf, IsListed, ids_named}
 use Rattle.walter_psi.proofs.Lists.{contains_at}
 
 -- an id that the updates don't name is neither added nor taken away

@@ -1,9 +1,9 @@
 -- What the checker's loops keep, one element further.
-use Rattle.std.proofs.Common.{◌≡◌, ◌≢◌, ℕ, zero, suc, ◌+◌, ◌-◌, ◌<◌, ◌≤◌, List, [], ◌∷◌, ◌++◌, length, take, drop, get_or, Option, Some, slice_get, refl, ap, sym, ◌∙◌, subst, arith, true, false, inl, inr, ◌⊎◌, ◌↔◌, if◌then◌else◌, append_assoc, add-one}
+use Rattle.std.proofs.Common.{◌≡◌, ℕ, zero, suc, ◌+◌, ◌-◌, ◌<◌, ◌≤◌, List, [], ◌∷◌, ◌++◌, length, take, drop, get_or, Option, Some, slice_get, refl, ap, sym, ◌∙◌, subst, arith, false, inl, inr, ◌↔◌, if◌then◌else◌, append_assoc, add-one}
 use Rattle.std.specs.Prelude.{Contains, All, AllPairs, flat_map, IsTrue, IfOk, Result, Ok, Err}
 use Rattle.std.proofs.Math.Seq.{drop-cons}
 use Rattle.std.proofs.lemmas.Bool.{false_from_ne_true}
-use Rattle.std.proofs.lemmas.List.{append-nil, take_more, get_or-drop, get_or_default, take_all}
+use Rattle.std.proofs.lemmas.List.{take_more, get_or-drop, get_or_default, take_all}
 use Rattle.std.proofs.lemmas.List.Elements.{All-more, Contains-get_or}
 use Rattle.std.proofs.lemmas.Option.{slice_get-get_or}
 use Rattle.walter_psi.proofs.Lists.{flat_map-push, slice_get-take}

@@ -156,12 +156,7 @@ fn are_listed(updates: &[Update], oid: ObjId, counts: &[(u64, i64)], ids: &[u64]
 }
 
 // Whether the counts are those of the set after the updates.
-fn are_counts(
-    alloc: Global,
-    updates: &[Update],
-    oid: ObjId,
-    counts: &[(u64, i64)],
-) -> Mem<bool>
+fn are_counts(alloc: Global, updates: &[Update], oid: ObjId, counts: &[(u64, i64)]) -> Mem<bool>
     ensures { IfOk result (λ are. IsTrue are ↔ AreCounts oid updates.now counts.now) }
 {
     if !are_rising(counts) {

@@ -129,13 +129,7 @@ fn is_unseen_writer(alloc: Global, steps: &[Step], x: Tid, oid: ObjId, y: Tid) -
     Ok(written)
 }
 
-fn is_outside(
-    alloc: Global,
-    steps: &[Step],
-    x: Tid,
-    oid: ObjId,
-    version: Version,
-) -> Mem<bool>
+fn is_outside(alloc: Global, steps: &[Step], x: Tid, oid: ObjId, version: Version) -> Mem<bool>
     ensures { IfOk result (λ is. IsTrue is ↔ IsOutside x steps.now oid version) }
 {
     match transaction_of(alloc, steps, version)? {

@@ -1,4 +1,4 @@
-use Rattle.std.proofs.Common.{◌≡◌, ap, sym, subst, refl, Some}
+use Rattle.std.proofs.Common.{◌≡◌, ap, subst, refl, Some}
 use Rattle.std.proofs.lemmas.List.{take_all}
 use Rattle.walter_psi.specs.Legal.{IsLegal}
 use Rattle.walter_psi.specs.Checking.{IsFirstIllegal}

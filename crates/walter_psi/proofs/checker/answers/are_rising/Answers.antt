@@ -21,5 +21,5 @@ returns-then-not-is_below_all c =
     let first = get_or counts c.loop-place.place (0, pos 0) in (
       λ no. absurd cc,
       λ all. c.if-not-is_below_all.ensures.1 (subst (λ rest. All (λ count. first.0 < count.0) rest) (sym (behind counts (c.loop-place.place + 1))) (pairs_behind (λ a b. a.0 < b.0) counts c.loop-place.place first c.loop-place-test.true
-      (get_or_default counts c.loop-place.place (0, pos 0) first c.loop-place-test.true) all)),
+          (get_or_default counts c.loop-place.place (0, pos 0) first c.loop-place-test.true) all)),
     )

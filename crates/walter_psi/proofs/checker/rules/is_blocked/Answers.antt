@@ -1,4 +1,4 @@
-use Rattle.std.proofs.Common.{◌≡◌, ◌∙◌, ap, sym, subst, refl, List}
+use Rattle.std.proofs.Common.{◌≡◌, ◌∙◌, sym, subst, refl, List}
 use Rattle.std.proofs.lemmas.List.{take_all}
 use Rattle.walter_base.specs.declared.names.Tid.{Tid}
 use Rattle.walter_psi.specs.Histories.{IsCommitted, snapshot}

@@ -1,7 +1,5 @@
 use Rattle.std.proofs.Common.{take}
-use Rattle.std.specs.Prelude.{Contains, List}
 use Rattle.walter_base.specs.declared.names.Tid.{Tid}
-use Rattle.walter_base.specs.declared.update.Update.{Update}
 use Rattle.walter_psi.specs.Histories.{snapshot, IsCommitted}
 use Rattle.walter_psi.specs.Checking.{Blocks}
 use Rattle.walter_psi.proofs.checker.rules.is_blocked.Given as goal

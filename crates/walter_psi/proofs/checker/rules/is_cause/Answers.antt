@@ -1,9 +1,8 @@
-use Rattle.std.proofs.Common.{◌≡◌, ◌∙◌, subst, sym, List, ◌↔◌}
+use Rattle.std.proofs.Common.{◌∙◌, subst, sym, List, ◌↔◌}
 use Rattle.std.specs.Prelude.{Contains, IfOk, IsTrue}
 use Rattle.walter_base.specs.declared.update.Update.{Update}
 use Rattle.walter_base.specs.Values.{write_set}
 use Rattle.walter_psi.specs.Legal.{IsOutside, IsCause}
-use Rattle.walter_psi.specs.declared.step.Step.{Step}
 use Rattle.walter_base.specs.declared.transaction.Cause.TheVariants.{Modified}
 use Rattle.walter_psi.proofs.CheckerLists.{tells_same}
 use Rattle.walter_psi.proofs.checker.rules.is_cause.Goals as goal

@@ -1,4 +1,4 @@
-use Rattle.std.proofs.Common.{◌≡◌, ◌∙◌, ap, sym, Some}
+use Rattle.std.proofs.Common.{◌∙◌, ap, Some}
 use Rattle.walter_psi.proofs.checker.rules.is_version_of.Goals as goal
 
 pub returns-in-Some : goal.returns-in-Some

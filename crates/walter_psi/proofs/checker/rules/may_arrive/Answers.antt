@@ -4,7 +4,7 @@ use Rattle.walter_base.specs.declared.names.Tid.{Tid}
 use Rattle.walter_base.specs.declared.names.SiteId.{SiteId}
 use Rattle.walter_base.specs.Names.{same_site}
 use Rattle.walter_base.proofs.NameTests.{same_site_refl}
-use Rattle.walter_psi.specs.Histories.{log, snapshot}
+use Rattle.walter_psi.specs.Histories.{snapshot}
 use Rattle.walter_psi.proofs.checker.rules.may_arrive.Goals as goal
 
 pub returns : goal.returns
@@ -19,8 +19,8 @@ returns c =
         elsewhere = λ same. let test = c.if-eq.ensures in let own = subst (λ (site : SiteId). same_site site c.args.x.site ≡ true) (sym same) (same_site_refl c.args.x.site) in cc;
         new = λ there. let found = c.if-is_among.ensures.1 (subst (λ (all : List Tid). Contains all c.args.x) (sym stands) there) in cc;
         causal = subst (λ (all : List Tid). All (λ y. Contains all y) (snapshot c.args.x steps)) others
-        (subst (λ (all : List Tid). All (λ y. Contains c.deref-3.result.now y) all) seen (causal.0 is));
+            (subst (λ (all : List Tid). All (λ y. Contains c.deref-3.result.now y) all) seen (causal.0 is));
       },
       λ legal. causal.1 (subst (λ (all : List Tid). All (λ y. Contains c.deref-3.result.now y) all) (sym seen)
-      (subst (λ (all : List Tid). All (λ y. Contains all y) (snapshot c.args.x steps)) (sym others) legal.causal)),
+          (subst (λ (all : List Tid). All (λ y. Contains all y) (snapshot c.args.x steps)) (sym others) legal.causal)),
     )

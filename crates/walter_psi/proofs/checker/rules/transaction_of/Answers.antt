@@ -1,4 +1,4 @@
-use Rattle.std.proofs.Common.{◌≡◌, ◌-◌, ap, ◌∙◌, slice_get, List}
+use Rattle.std.proofs.Common.{◌-◌, ap, ◌∙◌, slice_get, List}
 use Rattle.walter_base.specs.declared.names.Tid.{Tid}
 use Rattle.walter_psi.proofs.CheckerLists.{version_at}
 use Rattle.walter_psi.proofs.checker.rules.transaction_of.Goals as goal
