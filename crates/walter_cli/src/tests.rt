@@ -1,6 +1,10 @@
+mod spelling;
+
 use crate::{Ended, Fault, Place, top};
+use spelling::spelled;
 use std::process::Abort;
 use std::test::Fail;
+use walter_psi::first_illegal;
 use walter_stream::{MemorySink, MemorySource};
 
 const FIRST_RUN: &str =
@@ -29,13 +33,18 @@ fn ended(
     Ok((ended, text))
 }
 
-// The program writes the report of the scenario, at status 0.
+// The program writes the report of the scenario, at status 0, and the checker finds nothing in the history that its
+// trail spells.
 fn plays(rt: &(impl Abort + AllocGlobal), scenario: &str, report: &str) -> Result<(), Fail> {
     let (ended, text) = ended(rt, "play", scenario, &[], &[])?;
     assert_eq!(rt; ended.status, 0);
     assert_eq!(rt; ended.fault, None);
     assert_eq!(rt; ended.trails.len(), 1);
     assert_eq!(rt; text.as_slice(), report.as_bytes());
+    for trail in &ended.trails {
+        let history = spelled(rt.alloc(), trail.as_slice())?;
+        assert_eq!(rt; first_illegal(rt.alloc(), &history)?, None);
+    }
     Ok(())
 }
 
