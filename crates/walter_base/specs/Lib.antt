@@ -4,3 +4,4 @@ pub mod Padding
 pub mod Container
 pub mod Catalogs
 pub mod Values
+pub mod Sizes

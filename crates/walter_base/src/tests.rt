@@ -118,6 +118,20 @@ fn values_are_copied(rt: HostRuntime) -> Result<(), Fail> {
 }
 
 #[test]
+fn a_transaction_has_a_size(rt: HostRuntime) -> Result<(), Fail> {
+    let bytes = Bytes::from_slice(rt.alloc(), b"hello")?;
+    let updates = vec![in rt.alloc(); Update::Write(OBJECT, bytes), Update::Add(OBJECT, 9)]?;
+    let tx = Tx {
+        tid: TID,
+        slow: 0,
+        start: Vts::zero(1),
+        updates: Updates::from(updates),
+    };
+    assert_eq!(rt; tx.size(), 87 + 22 + 21);
+    Ok(())
+}
+
+#[test]
 fn requests_and_replies_are_copied(rt: HostRuntime) -> Result<(), Fail> {
     let request = Request::Write(OBJECT, Bytes::from_slice(rt.alloc(), b"x")?);
     assert!(rt; matches!(request.clone()?, Request::Write(OBJECT, _)));

@@ -1,4 +1,5 @@
-ghost use Rattle.std.specs.Prelude.{◌≡◌};
+ghost use Rattle.std.specs.Prelude.{◌≡◌, ◌<◌, ◌^◌};
+ghost use Rattle.walter_base.specs.Sizes.{size_of};
 
 use crate::names::{ObjId, Tid, Version};
 use crate::update::Updates;
@@ -13,6 +14,21 @@ pub struct Tx {
     pub slow: u64,
     pub start: Vts,
     pub updates: Updates,
+}
+
+impl Tx {
+    /// How many bytes spell the transaction.
+    pub fn size(&self) -> u64
+        requires { size_of self.now < 2 ^ 64 }
+        ensures { result ≡ size_of self.now }
+    {
+        let updates = self.updates.as_slice();
+        let mut size = 87;
+        for update in updates {
+            size += update.size();
+        }
+        size
+    }
 }
 
 impl Clone for Tx {

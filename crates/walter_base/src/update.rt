@@ -1,4 +1,4 @@
-ghost use Rattle.std.specs.Prelude.{◌≡◌};
+ghost use Rattle.std.specs.Prelude.{◌≡◌, ◌<◌, ◌^◌};
 
 use crate::bytes::Bytes;
 use crate::names::{ObjId, Version};
@@ -14,6 +14,21 @@ pub enum Update {
     Add(ObjId, u64),
     /// The count falls by one.
     Del(ObjId, u64),
+}
+
+impl Update {
+    ghost use Rattle.walter_base.specs.Sizes.{size_of_update};
+
+    /// How many bytes spell the update.
+    pub(crate) fn size(&self) -> u64
+        requires { size_of_update self.now < 2 ^ 64 }
+        ensures { result ≡ size_of_update self.now }
+    {
+        match self {
+            Update::Write(_, bytes) => 17 + bytes.len() as u64,
+            Update::Add(_, _) | Update::Del(_, _) => 21,
+        }
+    }
 }
 
 impl Clone for Update {
