@@ -1,5 +1,6 @@
 -- Bytes are a journal of one list of bodies, or foreign, or damaged at one place.
 use Rattle.std.proofs.Common.{◌≡◌, ◌≢◌, ℕ, ◌+◌, ◌-◌, ◌<◌, get_or, ◌≤◌, List, [], ◌∷◌, ◌++◌, length, take, drop, All, refl, sym, ap, subst, ◌∙◌, inl, inr, ⊎_elim, arith, append_assoc, length-append}
+use Rattle.std.proofs.lemmas.Grind.{flat_map-append}
 use Rattle.std.proofs.lemmas.List.{take_at, drop_at}
 use Rattle.std.proofs.lemmas.List.Elements.{recursion_from_All}
 use Rattle.std.proofs.lemmas.List.Sums.{sum_by-cons}
@@ -23,6 +24,11 @@ same_record a b x y short_a short_b e =
 -- the first record, and what stands behind it
 pub records-cons : (body : List ℕ) (bodies : List (List ℕ)) (tail : List ℕ) → records (body ∷ bodies) ++ tail ≡ 1 ∷ (record_of body ++ (records bodies ++ tail))
 records-cons body bodies tail = ap (λ (l : List ℕ). 1 ∷ (big_bytes 4 (length body) ++ l)) (append_assoc body (records bodies) tail)
+
+-- and one more behind the others
+pub records-push : (bodies : List (List ℕ)) (body tail : List ℕ) → records (bodies ++ body ∷ []) ++ tail ≡ records bodies ++ 1 ∷ (record_of body ++ tail)
+records-push bodies body tail =
+    ap (λ l. l ++ tail) (flat_map-append (λ body. 1 ∷ record_of body) bodies (body ∷ [])) ∙ append_assoc (records bodies) (records (body ∷ [])) tail ∙ ap (λ l. records bodies ++ l) (records-cons body [] tail)
 
 -- what stands here is no open gate with a record and one more gate behind it
 abbrev pub EndsRecords : List ℕ → Type 0

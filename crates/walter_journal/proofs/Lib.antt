@@ -1,2 +1,5 @@
+mod Appending
+mod Gates
 mod Layouts
+mod Moments
 mod Reading
