@@ -3,3 +3,4 @@ mod Gates
 mod Layouts
 mod Moments
 mod Reading
+mod Told

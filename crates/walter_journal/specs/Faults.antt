@@ -26,3 +26,10 @@ HasCause Failed images old new = old.faults < new.faults
 HasCause Foreign images old new = Finds IsForeign images old new
 HasCause (Damaged at length) images old new = Finds (λ bytes. IsDamaged bytes at length) images old new
 HasCause NoMemory images old new = new.faults ≡ old.faults
+
+-- why a call on the disk failed that judges no bytes
+abbrev pub IsDiskFault : (old new : DiskState) → JournalFault → Type 0
+IsDiskFault old new Failed = old.faults < new.faults
+IsDiskFault old new Foreign = ⊥
+IsDiskFault old new (Damaged at length) = ⊥
+IsDiskFault old new NoMemory = new.faults ≡ old.faults

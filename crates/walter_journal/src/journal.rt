@@ -6,6 +6,7 @@ ghost use Rattle.walter_journal.specs.Steps.{Fails};
 use crate::fault::AppendFault;
 use crate::step::write_and_sync;
 use byteorder::{BigEndian, ByteOrder};
+use std::alloc::Global;
 use walter_disk::{Disk, Mem, NoMemory};
 
 /// A journal on a disk. Clauses see the lists of bodies that it stands for.
@@ -22,6 +23,22 @@ pub struct Journal<D: Disk> {
 
 impl<D: Disk> Journal<D> {
     ghost use Rattle.walter_journal.specs.Journals.{disk_of, end_of, capacity_of, left_of, need_of, StandsFor, HasRoom, Appends};
+
+    // The journal on a disk that has it, with the place behind its bodies.
+    pub(crate) fn new(alloc: Global, disk: D, capacity: u64, end: u64) -> Journal<D>
+        requires begun { 9 ≤ end }
+        requires within { end ≤ (D.known disk).size }
+        ensures disk { disk_of result ≡ disk }
+        ensures capacity { capacity_of result ≡ capacity }
+        ensures end { end_of result ≡ end }
+    {
+        Journal {
+            disk,
+            capacity,
+            end,
+            staged: Vec::new(alloc),
+        }
+    }
 
     /// The disk, as it is.
     pub fn into_disk(self) -> D

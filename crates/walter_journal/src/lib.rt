@@ -5,12 +5,14 @@ mod bodies;
 mod fault;
 mod journal;
 mod layout;
+mod loading;
 mod step;
 
 pub use bodies::Bodies;
 pub use fault::{AppendFault, JournalFault};
 pub use journal::Journal;
 pub use layout::layouts_differ;
+pub use loading::load;
 
 #[cfg(test)]
 mod tests;
