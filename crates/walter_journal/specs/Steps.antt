@@ -1,5 +1,4 @@
--- What the steps of a load and of an append say of the disk (Sovran et al., SOSP 2011, 5.6: a log on disk, flushed
--- before a commit is told).
+-- What the steps of a load and of an append leave of the disk (docs/FORMATS.md, "Journal").
 use Rattle.std.specs.Prelude.{◌≡◌, ◌<◌, ◌≤◌, ℕ, true, false, List, is_some, IfSome}
 use Rattle.walter_disk.specs.Disks.{DiskState}
 use Rattle.walter_disk.specs.Images.{IsDurable}

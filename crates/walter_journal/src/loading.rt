@@ -22,13 +22,18 @@ pub fn load<D: Disk>(
     mut disk: D,
     capacity: u64,
 ) -> Result<(Journal<D>, Bodies), (D, JournalFault)>
-    ensures loaded { IfOk result (λ it. IsSome (D.known (disk_of it.0)).reads → StandsFor it.0 it.1) }
-    ensures capacity { IfOk result (λ it. capacity_of it.0 ≡ capacity) }
+    // Where the disk tells its bytes, the journal stands for the bodies.
+    ensures loaded { IsSome (D.known disk).reads → IfOk result (λ it. StandsFor it.0 it.1) }
     ensures fresh { (D.known disk).size ≡ 0 → IfOk result (λ it. it.1 ≡ []) }
     ensures image { 0 < (D.known disk).size
         → OnOk result (IsImage (D.known (disk_behind result)).reads (D.may_leave disk)) }
+    ensures capacity { IfOk result (λ it. capacity_of it.0 ≡ capacity) }
+    ensures whole { OnOk result ((D.known (disk_behind result)).broken ≡ false) }
     ensures faultless { OnOk result ((D.known (disk_behind result)).faults ≡ (D.known disk).faults) }
+
+    // Why it failed. `layouts_differ` says that these exclude each other.
     ensures cause { IfErr result (λ left. HasCause left.1 (D.may_leave disk) (D.known disk) (D.known left.0)) }
+
     ensures arms { (D.known (disk_behind result)).arms ≡ (D.known disk).arms }
     ensures tells { is_some (D.known (disk_behind result)).reads ≡ is_some (D.known disk).reads }
 
