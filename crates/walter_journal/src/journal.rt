@@ -51,14 +51,17 @@ impl<D: Disk> Journal<D> {
     /// Does to the disk what `Disk::arm` does.
     pub fn arm(&mut self, nth: u64, choice: u64) -> Mem<()>
         requires { 0 < nth }
-        ensures armed { OnOk result (D.known (disk_of self.new) ≡ record (D.known (disk_of self.old)) { arms = option_map (λ arms. arms ++ (nth, choice) ∷ []) (D.known (disk_of self.old)).arms }) }
+        ensures armed { let old = D.known (disk_of self.old) in
+            OnOk result (D.known (disk_of self.new) ≡ record old { arms = option_map (λ arms. arms ++ (nth, choice) ∷ []) old.arms }) }
         ensures same { OnErr result (D.known (disk_of self.new) ≡ D.known (disk_of self.old)) }
         ensures capacity { capacity_of self.new ≡ capacity_of self.old }
         ensures end { end_of self.new ≡ end_of self.old }
         ensures room { (n : ℕ) → HasRoom self.old n → HasRoom self.new n }
-        ensures stands { (bodies : List (List ℕ)) → StandsFor self.old bodies → StandsFor self.new bodies }
+        ensures stands { (bodies : List (List ℕ))
+            → StandsFor self.old bodies → StandsFor self.new bodies }
         ensures crash { Narrows (D.may_leave (disk_of self.old)) (D.may_leave (disk_of self.new)) }
-        ensures any_moment { LeavesOnly D.moment D.left_since (disk_of self.old) (disk_of self.new) (D.may_leave (disk_of self.old)) }
+        ensures any_moment { LeavesOnly D.moment D.left_since (disk_of self.old) (disk_of self.new)
+            (D.may_leave (disk_of self.old)) }
     {
         self.disk.arm(nth, choice)
     }
@@ -69,9 +72,11 @@ impl<D: Disk> Journal<D> {
         ensures same { D.known (disk_of self.new) ≡ D.known (disk_of self.old) }
         ensures capacity { capacity_of self.new ≡ capacity_of self.old }
         ensures end { end_of self.new ≡ end_of self.old }
-        ensures stands { (bodies : List (List ℕ)) → StandsFor self.old bodies → StandsFor self.new bodies }
+        ensures stands { (bodies : List (List ℕ))
+            → StandsFor self.old bodies → StandsFor self.new bodies }
         ensures crash { Narrows (D.may_leave (disk_of self.old)) (D.may_leave (disk_of self.new)) }
-        ensures any_moment { LeavesOnly D.moment D.left_since (disk_of self.old) (disk_of self.new) (D.may_leave (disk_of self.old)) }
+        ensures any_moment { LeavesOnly D.moment D.left_since (disk_of self.old) (disk_of self.new)
+            (D.may_leave (disk_of self.old)) }
     {
         // No disk and no memory reaches past the largest number.
         let need = n.checked_add(5).ok_or(NoMemory)?;
@@ -89,17 +94,23 @@ impl<D: Disk> Journal<D> {
 
         // `Full` comes exactly where the body needs more than is left.
         ensures full { left_of self.old < need_of body.now
-            → (result ≡ Err (AppendFault.Full (need_of body.now) (left_of self.old))) × (self.new ≡ self.old) }
+            → (result ≡ Err (AppendFault.Full (need_of body.now) (left_of self.old)))
+            × (self.new ≡ self.old) }
         ensures failed { need_of body.now ≤ left_of self.old
-            → OnErr result ((result ≡ Err AppendFault.Failed) × Fails (D.known (disk_of self.old)) (D.known (disk_of self.new)) × (end_of self.new ≡ end_of self.old)) }
-        ensures broken { need_of body.now ≤ left_of self.old → (D.known (disk_of self.old)).broken ≡ true → result ≡ Err AppendFault.Failed }
+            → OnErr result ((result ≡ Err AppendFault.Failed)
+            × Fails (D.known (disk_of self.old)) (D.known (disk_of self.new))
+            × (end_of self.new ≡ end_of self.old)) }
+        ensures broken { need_of body.now ≤ left_of self.old
+            → (D.known (disk_of self.old)).broken ≡ true → result ≡ Err AppendFault.Failed }
         ensures ok { OnOk result (Appends self.old self.new body.now) }
 
         // A crash at any moment of the call leaves the bodies from before it, with this one behind them or without.
         ensures any_moment { (bodies : List (List ℕ)) → StandsFor self.old bodies
-            → LeavesOnly D.moment D.left_since (disk_of self.old) (disk_of self.new) (IsBeforeOrBehind bodies body.now) }
+            → LeavesOnly D.moment D.left_since (disk_of self.old) (disk_of self.new)
+            (IsBeforeOrBehind bodies body.now) }
         ensures arms { (D.known (disk_of self.new)).arms ≡ (D.known (disk_of self.old)).arms }
-        ensures tells { is_some (D.known (disk_of self.new)).reads ≡ is_some (D.known (disk_of self.old)).reads }
+        ensures tells { is_some (D.known (disk_of self.new)).reads
+            ≡ is_some (D.known (disk_of self.old)).reads }
         ensures capacity { capacity_of self.new ≡ capacity_of self.old }
     {
         let need = body.len() as u64 + 5;

@@ -32,7 +32,8 @@ pub fn load<D: Disk>(
     ensures faultless { OnOk result ((D.known (disk_behind result)).faults ≡ (D.known disk).faults) }
 
     // Why it failed. `layouts_differ` says that these exclude each other.
-    ensures cause { IfErr result (λ left. HasCause left.1 (D.may_leave disk) (D.known disk) (D.known left.0)) }
+    ensures cause { IfErr result (λ left.
+        HasCause left.1 (D.may_leave disk) (D.known disk) (D.known left.0)) }
 
     ensures arms { (D.known (disk_behind result)).arms ≡ (D.known disk).arms }
     ensures tells { is_some (D.known (disk_behind result)).reads ≡ is_some (D.known disk).reads }
@@ -56,9 +57,11 @@ pub fn load<D: Disk>(
 fn begin<D: Disk>(alloc: Global, disk: &mut D) -> Result<(Bodies, u64), JournalFault>
     requires { (D.known disk.old).size ≡ 0 }
     ensures empty { IfOk result (λ found. found.0 ≡ []) }
-    ensures ok { IfOk result (λ found. IsReady found.0 found.1 (D.may_leave disk.new) (D.known disk.new)) }
+    ensures ok { IfOk result (λ found.
+        IsReady found.0 found.1 (D.may_leave disk.new) (D.known disk.new)) }
     ensures faultless { OnOk result ((D.known disk.new).faults ≡ (D.known disk.old).faults) }
-    ensures cause { IfErr result (λ fault. HasCause fault (D.may_leave disk.old) (D.known disk.old) (D.known disk.new)) }
+    ensures cause { IfErr result (λ fault.
+        HasCause fault (D.may_leave disk.old) (D.known disk.old) (D.known disk.new)) }
     ensures arms { (D.known disk.new).arms ≡ (D.known disk.old).arms }
     ensures tells { is_some (D.known disk.new).reads ≡ is_some (D.known disk.old).reads }
 {
@@ -70,10 +73,12 @@ fn begin<D: Disk>(alloc: Global, disk: &mut D) -> Result<(Bodies, u64), JournalF
 // Reads the journal of a disk that has bytes.
 fn resume<D: Disk>(alloc: Global, disk: &mut D) -> Result<(Bodies, u64), JournalFault>
     requires { 0 < (D.known disk.old).size }
-    ensures ok { IfOk result (λ found. IsReady found.0 found.1 (D.may_leave disk.new) (D.known disk.new)) }
+    ensures ok { IfOk result (λ found.
+        IsReady found.0 found.1 (D.may_leave disk.new) (D.known disk.new)) }
     ensures image { OnOk result (IsImage (D.known disk.new).reads (D.may_leave disk.old)) }
     ensures faultless { OnOk result ((D.known disk.new).faults ≡ (D.known disk.old).faults) }
-    ensures cause { IfErr result (λ fault. HasCause fault (D.may_leave disk.old) (D.known disk.old) (D.known disk.new)) }
+    ensures cause { IfErr result (λ fault.
+        HasCause fault (D.may_leave disk.old) (D.known disk.old) (D.known disk.new)) }
     ensures arms { (D.known disk.new).arms ≡ (D.known disk.old).arms }
     ensures tells { is_some (D.known disk.new).reads ≡ is_some (D.known disk.old).reads }
     ensures any_moment { LeavesOnly D.moment D.left_since disk.old disk.new (D.may_leave disk.old) }

@@ -14,7 +14,8 @@ pub(crate) fn write_and_sync<D: Disk>(disk: &mut D, at: u64, from: &[u8]) -> Res
     ensures done { OnOk result (D.known disk.new ≡ written at from.now (D.known disk.old)) }
     ensures durable { OnOk result (IsDurable (D.known disk.new).reads (D.may_leave disk.new)) }
     ensures failed { OnErr result (Fails (D.known disk.old) (D.known disk.new)) }
-    ensures room { TakesRoom 2 (D.room_end disk.old) (D.room_end disk.new) (D.room_calls disk.old) (D.room_calls disk.new) }
+    ensures room { TakesRoom 2 (D.room_end disk.old) (D.room_end disk.new)
+        (D.room_calls disk.old) (D.room_calls disk.new) }
 
     // A crash leaves what there was, with any bytes where these go.
     ensures any_moment { (bytes : List ℕ) → Only bytes (D.may_leave disk.old)
