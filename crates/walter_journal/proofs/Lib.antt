@@ -1,0 +1,6 @@
+mod Appending
+mod Gates
+mod Layouts
+mod Moments
+mod Reading
+mod Told

@@ -1,0 +1,4 @@
+pub mod Faults
+pub mod Journals
+pub mod Layout
+pub mod Steps

@@ -1,0 +1,142 @@
+ghost use Rattle.std.specs.Prelude.{◌≡◌, ◌+◌, ◌<◌, ◌≤◌, ◌++◌, ◌∷◌, [], ℕ, List, length, is_some, option_map, vec_capacity, true, Err, OnOk, OnErr};
+ghost use Rattle.walter_disk.specs.Images.{Narrows, LeavesOnly};
+ghost use Rattle.walter_journal.specs.Layout.{record_of, IsBeforeOrBehind};
+ghost use Rattle.walter_journal.specs.Steps.{Fails};
+
+use crate::fault::AppendFault;
+use crate::step::write_and_sync;
+use byteorder::{BigEndian, ByteOrder};
+use std::alloc::Global;
+use walter_disk::{Disk, Mem, NoMemory};
+
+/// A journal on a disk. Clauses see the lists of bodies that it stands for.
+#[derive(Drop)]
+pub struct Journal<D: Disk> {
+    disk: D,
+    capacity: u64,
+    end: u64,
+    // The bytes of the next write.
+    staged: Vec<u8>,
+    ghost begun: { 9 ≤ end },
+    ghost within: { end ≤ (D.known disk).size },
+}
+
+impl<D: Disk> Journal<D> {
+    ghost use Rattle.walter_journal.specs.Journals.{disk_of, end_of, capacity_of, left_of, need_of, StandsFor, HasRoom, Appends};
+
+    // The journal on a disk that has it, with the place behind its bodies.
+    pub(crate) fn new(alloc: Global, disk: D, capacity: u64, end: u64) -> Journal<D>
+        requires begun { 9 ≤ end }
+        requires within { end ≤ (D.known disk).size }
+        ensures disk { disk_of result ≡ disk }
+        ensures capacity { capacity_of result ≡ capacity }
+        ensures end { end_of result ≡ end }
+    {
+        Journal {
+            disk,
+            capacity,
+            end,
+            staged: Vec::new(alloc),
+        }
+    }
+
+    /// The disk, as it is.
+    pub fn into_disk(self) -> D
+        ensures { result ≡ disk_of self }
+    {
+        let Journal { disk, .. } = self;
+        disk
+    }
+
+    /// Does to the disk what `Disk::arm` does.
+    pub fn arm(&mut self, nth: u64, choice: u64) -> Mem<()>
+        requires { 0 < nth }
+        ensures armed { let old = D.known (disk_of self.old) in
+            OnOk result (D.known (disk_of self.new) ≡ record old { arms = option_map (λ arms. arms ++ (nth, choice) ∷ []) old.arms }) }
+        ensures same { OnErr result (D.known (disk_of self.new) ≡ D.known (disk_of self.old)) }
+        ensures capacity { capacity_of self.new ≡ capacity_of self.old }
+        ensures end { end_of self.new ≡ end_of self.old }
+        ensures room { (n : ℕ) → HasRoom self.old n → HasRoom self.new n }
+        ensures stands { (bodies : List (List ℕ))
+            → StandsFor self.old bodies → StandsFor self.new bodies }
+        ensures crash { Narrows (D.may_leave (disk_of self.old)) (D.may_leave (disk_of self.new)) }
+        ensures any_moment { LeavesOnly D.moment D.left_since (disk_of self.old) (disk_of self.new)
+            (D.may_leave (disk_of self.old)) }
+    {
+        self.disk.arm(nth, choice)
+    }
+
+    /// Makes room to append a body of `n` bytes.
+    pub fn make_room(&mut self, n: u64) -> Mem<()>
+        ensures room { OnOk result (HasRoom self.new n) }
+        ensures same { D.known (disk_of self.new) ≡ D.known (disk_of self.old) }
+        ensures capacity { capacity_of self.new ≡ capacity_of self.old }
+        ensures end { end_of self.new ≡ end_of self.old }
+        ensures stands { (bodies : List (List ℕ))
+            → StandsFor self.old bodies → StandsFor self.new bodies }
+        ensures crash { Narrows (D.may_leave (disk_of self.old)) (D.may_leave (disk_of self.new)) }
+        ensures any_moment { LeavesOnly D.moment D.left_since (disk_of self.old) (disk_of self.new)
+            (D.may_leave (disk_of self.old)) }
+    {
+        // No disk and no memory reaches past the largest number.
+        let need = n.checked_add(5).ok_or(NoMemory)?;
+        let reach = self.end.checked_add(need).ok_or(NoMemory)?;
+        self.staged.clear();
+        self.staged.reserve(need as usize)?;
+        self.disk.reserve(reach, 4)
+    }
+
+    /// Adds a body behind the others. It takes no memory, and is safe once this answers Ok. After `Failed` each append
+    /// that isn't `Full` fails, until the journal is loaded again.
+    pub fn append(&mut self, body: &[u8]) -> Result<(), AppendFault>
+        requires short { length body.now ≤ 65536 }
+        requires room { HasRoom self.old (length body.now) }
+
+        // `Full` comes exactly where the body needs more than is left.
+        ensures full { left_of self.old < need_of body.now
+            → (result ≡ Err (AppendFault.Full (need_of body.now) (left_of self.old)))
+            × (self.new ≡ self.old) }
+        ensures failed { need_of body.now ≤ left_of self.old
+            → OnErr result ((result ≡ Err AppendFault.Failed)
+            × Fails (D.known (disk_of self.old)) (D.known (disk_of self.new))
+            × (end_of self.new ≡ end_of self.old)) }
+        ensures broken { need_of body.now ≤ left_of self.old
+            → (D.known (disk_of self.old)).broken ≡ true → result ≡ Err AppendFault.Failed }
+        ensures ok { OnOk result (Appends self.old self.new body.now) }
+
+        // A crash at any moment of the call leaves the bodies from before it, with this one behind them or without.
+        ensures any_moment { (bodies : List (List ℕ)) → StandsFor self.old bodies
+            → LeavesOnly D.moment D.left_since (disk_of self.old) (disk_of self.new)
+            (IsBeforeOrBehind bodies body.now) }
+        ensures arms { (D.known (disk_of self.new)).arms ≡ (D.known (disk_of self.old)).arms }
+        ensures tells { is_some (D.known (disk_of self.new)).reads
+            ≡ is_some (D.known (disk_of self.old)).reads }
+        ensures capacity { capacity_of self.new ≡ capacity_of self.old }
+    {
+        let need = body.len() as u64 + 5;
+        let left = self.capacity.saturating_sub(self.end);
+        if need > left {
+            return Err(AppendFault::Full { need, left });
+        }
+        stage(&mut self.staged, body);
+        write_and_sync(&mut self.disk, self.end, &self.staged)?;
+        // The gate in front opens only once what stands behind it is safe.
+        write_and_sync(&mut self.disk, self.end - 1, &[1])?;
+        self.end += need;
+        Ok(())
+    }
+}
+
+// Leaves the body's record there, and the closed gate behind it.
+fn stage(staged: &mut Vec<u8>, body: &[u8])
+    requires short { length body.now ≤ 65536 }
+    requires room { length body.now + 5 ≤ vec_capacity staged.old }
+    ensures { staged.new.items ≡ record_of body.now ++ 0 ∷ [] }
+{
+    let mut length = [0; 4];
+    BigEndian::write_u32(&mut length, body.len() as u32);
+    staged.clear();
+    staged.extend_from_slice(&length).unwrap();
+    staged.extend_from_slice(body).unwrap();
+    staged.extend_from_slice(&[0]).unwrap();
+}

@@ -1,0 +1,70 @@
+ghost use Rattle.std.specs.Prelude.{◌≡◌, ◌<◌, ◌++◌, ℕ, List, length, IfOk, IfErr};
+ghost use Rattle.walter_journal.specs.Faults.{IsWrong};
+ghost use Rattle.walter_journal.specs.Layout.{record_of, end_behind, IsShort, ClaimsTooMuch, HasContent, IsForeign, IsDamaged};
+
+use crate::bodies::Bodies;
+use crate::fault::JournalFault;
+use byteorder::{BigEndian, ByteOrder};
+use std::alloc::Global;
+
+/// What a journal begins with, in front of its first gate.
+pub(crate) const HEADER: [u8; 8] = *b"WALTERJ1";
+
+/// The most bytes that a body may have.
+const LONGEST_BODY: usize = 65_536;
+
+// The body behind an open gate, and what follows it from the next gate on; or the length that claims too much.
+fn record_at(behind: &[u8]) -> Result<(&[u8], &[u8]), u32>
+    ensures ok { IfOk result (λ found.
+        (behind.now ≡ record_of found.0.now ++ found.1.now) × IsShort found.0.now × (0 < length found.1.now)) }
+    ensures err { IfErr result (ClaimsTooMuch behind.now) }
+{
+    let Some((front, rest)) = behind.split_at_checked(4) else {
+        return Err(0);
+    };
+    let length = BigEndian::read_u32(front);
+    if length as usize > LONGEST_BODY || rest.len() <= length as usize {
+        return Err(length);
+    }
+    Ok(rest.split_at(length as usize))
+}
+
+/// The bodies that the bytes are a journal of, and the place behind the gate that ends them.
+pub(crate) fn bodies_of(alloc: Global, bytes: &[u8]) -> Result<(Bodies, usize), JournalFault>
+    ensures ok { IfOk result (λ found.
+        HasContent bytes.now found.0 × (found.1 ≡ end_behind found.0)) }
+    ensures fault { IfErr result (IsWrong bytes.now) }
+{
+    if bytes.len() <= HEADER.len() || !bytes.starts_with(&HEADER) {
+        return Err(JournalFault::Foreign);
+    }
+    let mut bodies = Bodies::new(alloc);
+    let mut rest = &bytes[HEADER.len()..];
+    while let [1, behind @ ..] = rest {
+        let (body, next) = match record_at(behind) {
+            Ok(found) => found,
+            Err(length) => {
+                let at = (bytes.len() - rest.len()) as u64;
+                return Err(JournalFault::Damaged { at, length });
+            }
+        };
+        bodies.push(body)?;
+        rest = next;
+    }
+    Ok((bodies, bytes.len() - rest.len() + 1))
+}
+
+/// Bytes are a journal of one list of bodies, or foreign, or damaged at one place with one length. A law of the
+/// definitions, which does nothing.
+pub fn layouts_differ()
+    ensures content { (bytes : List ℕ) (a b : List (List ℕ))
+        → HasContent bytes a → HasContent bytes b → a ≡ b }
+    ensures content_or_foreign { (bytes : List ℕ) (bodies : List (List ℕ))
+        → HasContent bytes bodies → IsForeign bytes → ⊥ }
+    ensures content_or_damaged { (bytes : List ℕ) (bodies : List (List ℕ)) (at claimed : ℕ)
+        → HasContent bytes bodies → IsDamaged bytes at claimed → ⊥ }
+    ensures foreign_or_damaged { (bytes : List ℕ) (at claimed : ℕ)
+        → IsForeign bytes → IsDamaged bytes at claimed → ⊥ }
+    ensures damaged { (bytes : List ℕ) (at claimed at' claimed' : ℕ)
+        → IsDamaged bytes at claimed → IsDamaged bytes at' claimed' → (at ≡ at') × (claimed ≡ claimed') }
+{}

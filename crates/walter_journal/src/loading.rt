@@ -1,0 +1,112 @@
+ghost use Rattle.std.specs.Prelude.{◌≡◌, ◌<◌, [], length, is_some, false, IsSome, IfSome, IfOk, IfErr, OnOk};
+ghost use Rattle.walter_disk.specs.Images.{IsDurable, IsImage, LeavesOnly};
+ghost use Rattle.walter_journal.specs.Faults.{HasCause, IsDiskFault};
+ghost use Rattle.walter_journal.specs.Journals.{disk_of, capacity_of, disk_behind, StandsFor};
+ghost use Rattle.walter_journal.specs.Steps.{IsReady};
+
+use crate::bodies::Bodies;
+use crate::fault::JournalFault;
+use crate::journal::Journal;
+use crate::layout::bodies_of;
+use crate::step::write_and_sync;
+use std::alloc::Global;
+use walter_disk::Disk;
+
+/// A header and a closed gate.
+const EMPTY: [u8; 9] = *b"WALTERJ1\0";
+
+/// Loads the journal of a disk, and makes an empty one on a disk of no bytes. A disk that has bytes is settled first,
+/// whatever happened to it. At a fault the disk comes back.
+pub fn load<D: Disk>(
+    alloc: Global,
+    mut disk: D,
+    capacity: u64,
+) -> Result<(Journal<D>, Bodies), (D, JournalFault)>
+    // Where the disk tells its bytes, the journal stands for the bodies.
+    ensures loaded { IsSome (D.known disk).reads → IfOk result (λ it. StandsFor it.0 it.1) }
+    ensures fresh { (D.known disk).size ≡ 0 → IfOk result (λ it. it.1 ≡ []) }
+    ensures image { 0 < (D.known disk).size
+        → OnOk result (IsImage (D.known (disk_behind result)).reads (D.may_leave disk)) }
+    ensures capacity { IfOk result (λ it. capacity_of it.0 ≡ capacity) }
+    ensures whole { OnOk result ((D.known (disk_behind result)).broken ≡ false) }
+    ensures faultless { OnOk result ((D.known (disk_behind result)).faults ≡ (D.known disk).faults) }
+
+    // Why it failed. `layouts_differ` says that these exclude each other.
+    ensures cause { IfErr result (λ left.
+        HasCause left.1 (D.may_leave disk) (D.known disk) (D.known left.0)) }
+
+    ensures arms { (D.known (disk_behind result)).arms ≡ (D.known disk).arms }
+    ensures tells { is_some (D.known (disk_behind result)).reads ≡ is_some (D.known disk).reads }
+
+    // A crash at any moment leaves what it might have left before.
+    ensures any_moment { 0 < (D.known disk).size
+        → LeavesOnly D.moment D.left_since disk (disk_behind result) (D.may_leave disk) }
+{
+    let found = if disk.size() == 0 {
+        begin(alloc, &mut disk)
+    } else {
+        resume(alloc, &mut disk)
+    };
+    match found {
+        Ok((bodies, end)) => Ok((Journal::new(alloc, disk, capacity, end), bodies)),
+        Err(fault) => Err((disk, fault)),
+    }
+}
+
+// Makes an empty journal on a disk of no bytes.
+fn begin<D: Disk>(alloc: Global, disk: &mut D) -> Result<(Bodies, u64), JournalFault>
+    requires { (D.known disk.old).size ≡ 0 }
+    ensures empty { IfOk result (λ found. found.0 ≡ []) }
+    ensures ok { IfOk result (λ found.
+        IsReady found.0 found.1 (D.may_leave disk.new) (D.known disk.new)) }
+    ensures faultless { OnOk result ((D.known disk.new).faults ≡ (D.known disk.old).faults) }
+    ensures cause { IfErr result (λ fault.
+        HasCause fault (D.may_leave disk.old) (D.known disk.old) (D.known disk.new)) }
+    ensures arms { (D.known disk.new).arms ≡ (D.known disk.old).arms }
+    ensures tells { is_some (D.known disk.new).reads ≡ is_some (D.known disk.old).reads }
+{
+    disk.reserve(EMPTY.len() as u64, 2)?;
+    write_and_sync(disk, 0, &EMPTY)?;
+    Ok((Bodies::new(alloc), EMPTY.len() as u64))
+}
+
+// Reads the journal of a disk that has bytes.
+fn resume<D: Disk>(alloc: Global, disk: &mut D) -> Result<(Bodies, u64), JournalFault>
+    requires { 0 < (D.known disk.old).size }
+    ensures ok { IfOk result (λ found.
+        IsReady found.0 found.1 (D.may_leave disk.new) (D.known disk.new)) }
+    ensures image { OnOk result (IsImage (D.known disk.new).reads (D.may_leave disk.old)) }
+    ensures faultless { OnOk result ((D.known disk.new).faults ≡ (D.known disk.old).faults) }
+    ensures cause { IfErr result (λ fault.
+        HasCause fault (D.may_leave disk.old) (D.known disk.old) (D.known disk.new)) }
+    ensures arms { (D.known disk.new).arms ≡ (D.known disk.old).arms }
+    ensures tells { is_some (D.known disk.new).reads ≡ is_some (D.known disk.old).reads }
+    ensures any_moment { LeavesOnly D.moment D.left_since disk.old disk.new (D.may_leave disk.old) }
+{
+    let bytes = settle_and_read(alloc, disk)?;
+    let (bodies, end) = bodies_of(alloc, &bytes)?;
+    Ok((bodies, end as u64))
+}
+
+// All the bytes of a disk, which is settled first.
+fn settle_and_read<D: Disk>(alloc: Global, disk: &mut D) -> Result<Vec<u8>, JournalFault>
+    requires { 0 < (D.known disk.old).size }
+    ensures told { IfOk result (λ bytes. IfSome (D.known disk.new).reads (λ told. bytes.items ≡ told)) }
+    ensures size { IfOk result (λ bytes. length bytes.items ≡ (D.known disk.new).size) }
+    ensures image { OnOk result (IsImage (D.known disk.new).reads (D.may_leave disk.old)) }
+    ensures durable { OnOk result (IsDurable (D.known disk.new).reads (D.may_leave disk.new)) }
+    ensures whole { OnOk result ((D.known disk.new).broken ≡ false) }
+    ensures faultless { OnOk result ((D.known disk.new).faults ≡ (D.known disk.old).faults) }
+    ensures cause { IfErr result (IsDiskFault (D.known disk.old) (D.known disk.new)) }
+    ensures arms { (D.known disk.new).arms ≡ (D.known disk.old).arms }
+    ensures tells { is_some (D.known disk.new).reads ≡ is_some (D.known disk.old).reads }
+    ensures any_moment { LeavesOnly D.moment D.left_since disk.old disk.new (D.may_leave disk.old) }
+{
+    let size = disk.size();
+    disk.reserve(size, 1)?;
+    disk.settle()?;
+    let size = disk.size();
+    let mut bytes = vec![in alloc; 0; size as usize]?;
+    disk.read(0, &mut bytes)?;
+    Ok(bytes)
+}
