@@ -2,6 +2,8 @@
 #![tactic(auto)]
 
 mod content;
+mod entry;
 mod fault_count;
 mod place;
+mod record;
 mod stops;
