@@ -1,3 +1,5 @@
 pub mod Contents
+pub mod ImageLaws
+pub mod MemoryDisks
 pub mod Records
 pub mod Stops
