@@ -1,3 +1,4 @@
 pub mod Reaches
 pub mod Recording
 pub mod Moments
+pub mod Rooms

@@ -70,6 +70,12 @@ impl Content {
         &self.reads
     }
 
+    pub(crate) fn end(&self) -> usize
+        ensures { result ≡ self.now.end }
+    {
+        self.end
+    }
+
     pub(crate) fn reserve(&mut self, end: usize, slots: usize) -> Result<(), AllocError>
         ensures same { self.new.content ≡ self.old.content }
         ensures slots { self.old.slots ≤ self.new.slots }

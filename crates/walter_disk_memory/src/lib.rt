@@ -4,6 +4,9 @@
 mod content;
 mod entry;
 mod fault_count;
+mod memory_disk;
 mod place;
 mod record;
 mod stops;
+
+pub use memory_disk::MemoryDisk;
