@@ -2,3 +2,4 @@ pub mod Reaches
 pub mod Recording
 pub mod Moments
 pub mod Rooms
+pub mod Called

@@ -1,5 +1,5 @@
 -- Calls that fail: from the call on that an arm has named, until the disk has settled.
-use Rattle.std.specs.Prelude.{◌+◌, ◌-◌, ◌==◌, ◌||◌, ℕ, Bool, false, List, [], ◌∷◌, ◌++◌, Option, Some, None, is_some, unwrap_or}
+use Rattle.std.specs.Prelude.{◌+◌, ◌-◌, ◌==◌, ◌||◌, ℕ, Bool, false, List, [], ◌∷◌, ◌++◌, Option, Some, None, is_some, unwrap_or, if◌then◌else◌}
 
 pub record Stops : Type 0 where
   -- each arm: which of the calls behind it fails, counted from 1, and its choice
@@ -38,13 +38,13 @@ abbrev pub choice_of : Option (ℕ × ℕ) → ℕ
 choice_of None = 0
 choice_of (Some arm) = arm.1
 
--- After a call that failed. On a broken disk an arm that is to come stays as far away.
+-- After a call that failed. On a broken disk the arm that is to come stays as far away, and what came first stands.
 abbrev pub failed : Stops → Stops
-failed stops = stopped stops stops.came
-  where
-    stopped : Stops → Option ℕ → Stops
-    stopped stops None = record stops { due = None; came = Some (choice_of stops.due); faults = stops.faults + 1 }
-    stopped stops (Some choice) = record stops { faults = stops.faults + 1 }
+failed stops = record stops {
+  due = if is_some stops.came then stops.due else None;
+  came = Some (unwrap_or stops.came (choice_of stops.due));
+  faults = stops.faults + 1;
+}
 
 -- armed once more: a later arm takes the place of one that is to come
 abbrev pub armed : ℕ → ℕ → Stops → Stops
