@@ -1,5 +1,7 @@
 pub mod Contents
 pub mod ImageLaws
 pub mod MemoryDisks
+pub mod MemoryRacks
 pub mod Records
+pub mod Schedules
 pub mod Stops

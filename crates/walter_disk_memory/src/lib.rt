@@ -1,12 +1,15 @@
-//! A disk in memory that keeps its calls, and fails where it is told to.
+//! Disks in memory, and a rack of them. A disk keeps its calls, and fails where it is told to.
 #![tactic(auto)]
 
 mod content;
 mod entry;
 mod fault_count;
 mod memory_disk;
+mod memory_rack;
 mod place;
 mod record;
+mod schedule;
 mod stops;
 
 pub use memory_disk::MemoryDisk;
+pub use memory_rack::MemoryRack;

@@ -1,0 +1,71 @@
+ghost use Rattle.std.specs.Prelude.{◌≡◌, ◌<◌, ◌++◌, ◌∷◌, [], IsErr, IfOk, OnOk, OnErr};
+ghost use Rattle.walter_disk_memory.specs.MemoryRacks.{contents_of, disk_of};
+ghost use Rattle.walter_disk_memory.specs.Schedules.{planned, NextFails, AddsCall};
+
+use crate::memory_disk::MemoryDisk;
+use crate::schedule::Schedule;
+use std::alloc::Global;
+use std::marker::Model;
+use walter_disk::{Failed, Mem, Rack};
+
+/// A rack of disks in memory, some of whose calls fail. It hands out the same disks for every folder, as often as
+/// they are asked for, and keeps those that are given back.
+#[derive(Drop)]
+pub struct MemoryRack {
+    alloc: Global,
+    contents: Vec<Vec<u8>>,
+    given: Vec<(u8, MemoryDisk)>,
+    schedule: Schedule,
+}
+
+impl Model for MemoryRack {
+    ghost use Rattle.walter_disk_memory.specs.MemoryRacks.{RackState, contents_of};
+
+    ghost Value = { RackState };
+
+    ghost view = { λ s. record { contents = contents_of s.contents.items; given = s.given.items; schedule = s.schedule } };
+}
+
+impl MemoryRack {
+    /// A rack of empty disks.
+    pub fn new(alloc: Global) -> MemoryRack
+        ensures { result ≡ record { contents = []; given = []; schedule = planned [] } }
+    {
+        MemoryRack::holding(alloc, Vec::new(alloc))
+    }
+
+    /// A rack of disks that hold these bytes, from site 0 on. The disks behind them are empty.
+    pub fn holding(alloc: Global, contents: Vec<Vec<u8>>) -> MemoryRack
+        ensures { result ≡ record { contents = contents_of contents.items; given = []; schedule = planned [] } }
+    {
+        MemoryRack {
+            alloc,
+            contents,
+            given: Vec::new(alloc),
+            schedule: Schedule::new(Vec::new(alloc)),
+        }
+    }
+
+    /// The calls of `take` and `give` whose numbers are listed fail, counted over both from now on, beginning at 1.
+    pub fn set_failing(&mut self, failing: Vec<u64>)
+        ensures { self.new ≡ record self.old { schedule = record { failing = failing.items; made = 0; faults = self.old.schedule.faults } } }
+    {
+        self.schedule.plan(failing);
+    }
+
+    /// The disks that were given back, in order, each with its site.
+    pub fn given(&self) -> &[(u8, MemoryDisk)]
+        ensures { result.now ≡ self.now.given }
+    {
+        &self.given
+    }
+
+    fn disk_of(&self, site: u8) -> Mem<MemoryDisk>
+        ensures { IfOk result (λ disk. disk ≡ disk_of self.now.contents site) }
+    {
+        match self.contents.get(site as usize) {
+            Some(bytes) => MemoryDisk::holding(self.alloc, bytes.to_vec(self.alloc)?),
+            None => Ok(MemoryDisk::new(self.alloc)),
+        }
+    }
+}
