@@ -69,3 +69,55 @@ impl MemoryRack {
         }
     }
 }
+
+impl Rack for MemoryRack {
+    type D = MemoryDisk;
+
+    ghost use Rattle.std.specs.Prelude.{Some, IfSome, option_map};
+    ghost use Rattle.walter_disk.specs.Racks.{IsFresh};
+    ghost use Rattle.walter_disk_memory.specs.MemoryDisks.{known_of, may_leave_of};
+
+    ghost faults = { λ r. r.schedule.faults };
+
+    ghost disks = { λ r. Some (λ dir site. disk_of r.contents site) };
+
+    ghost given = { λ r. Some r.given };
+
+    /// Takes memory for the disk. Want of it is a fault.
+    fn take(&mut self, site: u8, _dir: Option<&str>) -> Result<MemoryDisk, Failed>
+        ensures disk { IfOk result (λ disk. disk ≡ disk_of self.old.contents site) }
+        ensures fresh { IfOk result (λ disk. IsFresh (known_of disk) (may_leave_of disk)) }
+        ensures faultless { OnOk result (self.new.schedule.faults ≡ self.old.schedule.faults) }
+        ensures cause { OnErr result (self.old.schedule.faults < self.new.schedule.faults) }
+
+        // It fails where it is planned, and changes nothing but the number of calls.
+        ensures fails { NextFails self.old.schedule → IsErr result }
+        ensures calls { AddsCall self.old.schedule self.new.schedule }
+        ensures same { self.new ≡ record self.old { schedule = self.new.schedule } }
+    {
+        self.schedule.call()?;
+        match self.disk_of(site) {
+            Ok(disk) => Ok(disk),
+            Err(_) => Err(self.schedule.fault()),
+        }
+    }
+
+    /// Takes memory to keep the disk. Want of it is a fault.
+    fn give(&mut self, site: u8, disk: MemoryDisk) -> Result<(), Failed>
+        ensures given { OnOk result (self.new.given ≡ self.old.given ++ (site, disk) ∷ []) }
+        ensures same_given { OnErr result (self.new.given ≡ self.old.given) }
+        ensures same_disks { self.new.contents ≡ self.old.contents }
+        ensures faultless { OnOk result (self.new.schedule.faults ≡ self.old.schedule.faults) }
+        ensures cause { OnErr result (self.old.schedule.faults < self.new.schedule.faults) }
+
+        // It fails where it is planned.
+        ensures fails { NextFails self.old.schedule → IsErr result }
+        ensures calls { AddsCall self.old.schedule self.new.schedule }
+    {
+        self.schedule.call()?;
+        match self.given.push((site, disk)) {
+            Ok(()) => Ok(()),
+            Err(_) => Err(self.schedule.fault()),
+        }
+    }
+}
