@@ -46,10 +46,11 @@ leaves_back bytes (p ∷ places) place image left =
 filled_left : (byte : ℕ) (places : List Place) (bytes : List ℕ) → Leaves bytes places (filled byte places bytes)
 filled_left byte [] bytes = refl
 filled_left byte (place ∷ places) bytes =
-    let next = put place.at (replicate place.count byte) bytes in
-    (next,
-     subst (λ (n : ℕ). Torn place.at n bytes next) (length-replicate place.count byte) (put_torn place.at (replicate place.count byte) bytes),
-     filled_left byte places next)
+    let next = put place.at (replicate place.count byte) bytes in (
+      next,
+      subst (λ (n : ℕ). Torn place.at n bytes next) (length-replicate place.count byte) (put_torn place.at (replicate place.count byte) bytes),
+      filled_left byte places next,
+    )
 
 -- all writes may be cut off altogether
 untouched_left : (bytes : List ℕ) (places : List Place) → Leaves bytes places bytes
@@ -92,9 +93,12 @@ always_sound first calls = replayed_sound calls (at_rest first) (record { reads 
 -- this moment is one of those since an earlier one
 pub left_now : (first : List ℕ) (calls : List Call) (t : ℕ) (image : List ℕ) → t ≤ length calls
     → MayLeave (replayed calls (at_rest first)) image → MightHaveLeft first calls t image
-left_now first calls t image le now =
-    (length calls, le, omega arith,
-     subst (λ (cs : List Call). MayLeave (replayed cs (at_rest first)) image) (sym (take_all (length calls) calls (omega arith))) now)
+left_now first calls t image le now = (
+  length calls,
+  le,
+  omega arith,
+  subst (λ (cs : List Call). MayLeave (replayed cs (at_rest first)) image) (sym (take_all (length calls) calls (omega arith))) now,
+)
 
 -- since this moment there is no other
 pub left_only_now : (first : List ℕ) (calls : List Call) (image : List ℕ) → MightHaveLeft first calls (length calls) image

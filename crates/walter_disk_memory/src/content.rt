@@ -22,14 +22,14 @@ impl Model for Content {
     ghost Value = { Held };
 
     ghost view = { λ s. record {
-        content = record {
-            reads = s.reads.items;
-            whole = s.whole.items;
-            synced = s.synced.items;
-            pending = s.pending.items;
-        };
-        end = s.end;
-        slots = vec_capacity s.pending - vec_len s.pending;
+      content = record {
+        reads = s.reads.items;
+        whole = s.whole.items;
+        synced = s.synced.items;
+        pending = s.pending.items;
+      };
+      end = s.end;
+      slots = vec_capacity s.pending - vec_len s.pending;
     } };
 
     ghost invariant = { λ s.

@@ -10,6 +10,8 @@ mod place;
 mod record;
 mod schedule;
 mod stops;
+#[cfg(test)]
+mod tests;
 
 pub use memory_disk::MemoryDisk;
 pub use memory_rack::MemoryRack;

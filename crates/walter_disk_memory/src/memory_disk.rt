@@ -28,11 +28,11 @@ impl Model for MemoryDisk {
     ghost Value = { MemoryState };
 
     ghost view = { λ s. record {
-        first = s.first.items;
-        calls = s.history.calls;
-        stops = s.stops;
-        room_end = s.content.end;
-        room_calls = s.room_calls;
+      first = s.first.items;
+      calls = s.history.calls;
+      stops = s.stops;
+      room_end = s.content.end;
+      room_calls = s.room_calls;
     } };
 
     ghost invariant = { λ s.

@@ -22,9 +22,9 @@ impl Model for Record {
     ghost Value = { Recorded };
 
     ghost view = { λ s. record {
-        calls = calls_of s.entries.items s.written.items;
-        slots = vec_capacity s.entries - vec_len s.entries;
-        space = vec_capacity s.written - vec_len s.written;
+      calls = calls_of s.entries.items s.written.items;
+      slots = vec_capacity s.entries - vec_len s.entries;
+      space = vec_capacity s.written - vec_len s.written;
     } };
 
     ghost invariant = { λ s. total s.entries.items ≡ vec_len s.written };

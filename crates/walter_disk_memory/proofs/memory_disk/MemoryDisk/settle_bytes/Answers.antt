@@ -11,8 +11,7 @@ invariant_of-self c =
     let call = Settle c.mend-choice.result in
     let calls_are : disk.room_calls ≡ c.args.self.now.room_calls = ap (λ (d : MemoryState). d.room_calls) c.self.view_is in
     let some : 0 < disk.room_calls = omega (arith, c.requires) in
-    let replay = replayed_more disk.history.calls call (at_rest disk.first.items) in
-    (
+    let replay = replayed_more disk.history.calls call (at_rest disk.first.items) in (
       c.settle.ensures.content ∙ ap (after call) c.self.invariant.0 ∙ sym replay ∙ ap (λ calls. replayed calls (at_rest disk.first.items)) (sym c.settle-2.ensures.calls),
       omega (arith, c.self.invariant.1),
       omega (arith, c.self.invariant.2),

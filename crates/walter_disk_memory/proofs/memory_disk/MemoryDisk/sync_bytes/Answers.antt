@@ -10,8 +10,7 @@ invariant_of-self-2 c =
     let disk = c.self.inside in
     let calls_are : disk.room_calls ≡ c.args.self.now.room_calls = ap (λ (d : MemoryState). d.room_calls) c.self.view_is in
     let some : 0 < disk.room_calls = omega (arith, c.requires) in
-    let replay = replayed_more disk.history.calls Sync (at_rest disk.first.items) in
-    (
+    let replay = replayed_more disk.history.calls Sync (at_rest disk.first.items) in (
       c.sync.ensures.content ∙ ap (after Sync) c.self.invariant.0 ∙ sym replay ∙ ap (λ calls. replayed calls (at_rest disk.first.items)) (sym c.sync-2.ensures.calls),
       omega (arith, c.self.invariant.1),
       omega (arith, c.self.invariant.2),
