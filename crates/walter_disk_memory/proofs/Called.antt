@@ -1,14 +1,14 @@
 -- A disk in memory after one more call, as the trait sees it.
-use Rattle.std.proofs.Common.{◌≡◌, ◌<◌, ◌≤◌, ℕ, ◌+◌, max, List, [], ◌∷◌, ◌++◌, length, take, drop, true, Some, Result, Ok, Err, OnOk, OnErr, is_some, refl, sym, ap, subst, ◌∙◌, arith, length-append, length-drop}
+use Rattle.std.proofs.Common.{◌≡◌, ◌≤◌, ℕ, ◌+◌, max, List, [], ◌∷◌, ◌++◌, length, take, drop, Some, Result, Ok, Err, OnOk, OnErr, is_some, refl, sym, ap, subst, ◌∙◌, arith, length-append, length-drop}
 use Rattle.std.proofs.lemmas.Bool.{cond-true, le-leb}
 use Rattle.std.proofs.lemmas.List.{length-take-le}
 use Rattle.std.specs.Prelude.{nat_le}
 use Rattle.walter_disk.specs.Disks.{DiskState, laid, written, Breaks}
 use Rattle.walter_disk.specs.Images.{Torn, Follows, Narrows, Only}
-use Rattle.walter_disk_memory.specs.Contents.{Call, Write, FailedWrite, Sync, Settle, Content, at_rest, after, put, settled, replayed, MayLeave}
+use Rattle.walter_disk_memory.specs.Contents.{Call, Write, FailedWrite, Sync, Settle, Content, at_rest, after, put, replayed, MayLeave}
 use Rattle.walter_disk_memory.specs.ImageLaws.{always_sound, settled_left}
 use Rattle.walter_disk_memory.specs.MemoryDisks.{MemoryState, content_of, known_of, may_leave_of, called}
-use Rattle.walter_disk_memory.specs.Stops.{Stops, passed, failed, mended}
+use Rattle.walter_disk_memory.specs.Stops.{Stops, passed, failed}
 use Rattle.walter_disk_memory.proofs.Moments.{replayed_more, write_follows, failed_write_follows, sync_narrows, settle_narrows}
 
 -- by what a call answered

@@ -1,10 +1,7 @@
 -- One more call of a disk, and what a crash might have left since.
-use Rattle.std.proofs.Common.{◌≡◌, ◌⊎◌, inl, inr, ℕ, zero, suc, ◌+◌, ◌≤◌, List, [], ◌∷◌, ◌++◌, length, take, refl, sym, subst, arith, length-append}
-use Rattle.std.proofs.lemmas.List.{take_all, take-append-le}
-use Rattle.std.proofs.lemmas.Bool.{cases_lt}
-use Rattle.walter_disk.specs.Images.{Torn, Follows, Narrows, Elapses}
-use Rattle.walter_disk_memory.specs.declared.place.Place.{Place}
-use Rattle.walter_disk_memory.specs.Contents.{Call, Write, FailedWrite, Sync, Settle, Content, at_rest, after, settled, replayed, MayLeave, MightHaveLeft}
+use Rattle.std.proofs.Common.{◌≡◌, ℕ, List, [], ◌∷◌, ◌++◌, length, refl, sym, subst}
+use Rattle.walter_disk.specs.Images.{Torn, Follows, Narrows}
+use Rattle.walter_disk_memory.specs.Contents.{Call, Write, FailedWrite, Sync, Settle, Content, after, replayed, MayLeave}
 use Rattle.walter_disk_memory.specs.ImageLaws.{IsSound, settled_left, leaves_back}
 
 pub replayed_more : (calls : List Call) (call : Call) (content : Content) → replayed (calls ++ call ∷ []) content ≡ after call (replayed calls content)

@@ -1,5 +1,5 @@
 -- How far places reach.
-use Rattle.std.proofs.Common.{◌≡◌, ℕ, ◌+◌, ◌≤◌, max, List, [], ◌∷◌, ◌++◌, refl, arith}
+use Rattle.std.proofs.Common.{ℕ, ◌+◌, ◌≤◌, List, [], ◌∷◌, ◌++◌, arith}
 use Rattle.walter_disk_memory.specs.declared.place.Place.{Place}
 use Rattle.walter_disk_memory.specs.Contents.{reach}
 

@@ -1,9 +1,9 @@
 -- One more call in a record.
-use Rattle.std.proofs.Common.{◌≡◌, ℕ, ◌+◌, ◌≤◌, List, [], ◌∷◌, ◌++◌, length, take, drop, refl, sym, ap, ◌∙◌, arith, append-nil, length-append, length-drop, add_assoc}
-use Rattle.std.proofs.lemmas.List.{take-append-le, drop-append-le, take_all, drop_all}
+use Rattle.std.proofs.Common.{◌≡◌, ℕ, ◌+◌, ◌≤◌, List, [], ◌∷◌, ◌++◌, length, take, drop, refl, sym, ap, ◌∙◌, arith, append-nil, length-drop}
+use Rattle.std.proofs.lemmas.List.{take-append-le, drop-append-le, take_all}
 use Rattle.walter_disk_memory.specs.declared.entry.Entry.{Entry}
 use Rattle.walter_disk_memory.specs.declared.entry.Entry.TheVariants as entry
-use Rattle.walter_disk_memory.specs.Contents.{Call, Write, FailedWrite, Sync, Settle}
+use Rattle.walter_disk_memory.specs.Contents.{Write, FailedWrite, Sync, Settle}
 use Rattle.walter_disk_memory.specs.Records.{calls_of, total}
 
 total_more : (entries : List Entry) (one : Entry) → total (entries ++ one ∷ []) ≡ total entries + total (one ∷ [])

@@ -1,5 +1,5 @@
 -- What reads, and what a settle finds, is always one of the images that a crash may leave.
-use Rattle.std.specs.Prelude.{◌≡◌, ◌⊎◌, ◌≤◌, ◌+◌, ◌%◌, ◌==◌, ℕ, max, nat_le, List, [], ◌∷◌, ◌++◌, length, take, drop, replicate, refl, if◌then◌else◌}
+use Rattle.std.specs.Prelude.{◌≡◌, ◌≤◌, ◌+◌, ◌%◌, ◌==◌, ℕ, nat_le, List, [], ◌∷◌, ◌++◌, length, take, drop, replicate, refl, if◌then◌else◌}
 use Rattle.std.proofs.Common.{inl, inr, sym, ap, subst, ◌∙◌, arith, append_assoc, length-append, length-drop}
 use Rattle.std.proofs.lemmas.Bool.{cond_both, leb-true}
 use Rattle.std.proofs.lemmas.List.{take_at, drop_at, take_all, length-take-le, length-replicate}

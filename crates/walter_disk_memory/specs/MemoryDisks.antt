@@ -1,9 +1,9 @@
 -- A disk in memory, as its callers see it: what it held at first, its calls since, which calls fail, and its room.
-use Rattle.std.specs.Prelude.{◌≡◌, ◌+◌, ◌-◌, ℕ, List, [], ◌∷◌, ◌++◌, length, Some, is_some}
+use Rattle.std.specs.Prelude.{◌-◌, ℕ, List, [], ◌∷◌, ◌++◌, length, Some, is_some}
 use Rattle.walter_disk.specs.Disks.{DiskState}
 use Rattle.walter_disk.specs.Images.{Elapses}
-use Rattle.walter_disk_memory.specs.Contents.{Call, Write, FailedWrite, Sync, Settle, Content, at_rest, replayed, MayLeave, MightHaveLeft}
-use Rattle.walter_disk_memory.specs.Stops.{Stops, unarmed, passed, failed, choice_made, mended}
+use Rattle.walter_disk_memory.specs.Contents.{Call, Content, at_rest, replayed, MayLeave, MightHaveLeft}
+use Rattle.walter_disk_memory.specs.Stops.{Stops, unarmed}
 
 pub record MemoryState : Type 0 where
   pub first : List ℕ

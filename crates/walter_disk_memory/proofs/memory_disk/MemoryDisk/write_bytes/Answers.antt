@@ -1,4 +1,4 @@
-use Rattle.std.proofs.Common.{◌≡◌, ◌+◌, ◌≤◌, ◌<◌, length, ap, sym, ◌∙◌, arith}
+use Rattle.std.proofs.Common.{◌≡◌, ◌<◌, length, ap, sym, ◌∙◌, arith}
 use Rattle.walter_disk_memory.specs.Contents.{Write, FailedWrite, at_rest, after, replayed}
 use Rattle.walter_disk_memory.specs.MemoryDisks.{MemoryState}
 use Rattle.walter_disk_memory.proofs.Moments.{replayed_more}

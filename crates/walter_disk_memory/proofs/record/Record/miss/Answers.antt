@@ -1,6 +1,5 @@
-use Rattle.std.proofs.Common.{◌≡◌, ◌+◌, ◌++◌, length, vec_len, ap, ◌∙◌, arith}
+use Rattle.std.proofs.Common.{◌≡◌, ◌+◌, ◌++◌, length, vec_len, ap, arith}
 use Rattle.std.proofs.lemmas.Grind.{common_steps}
-use Rattle.walter_disk_memory.specs.Contents.{FailedWrite}
 use Rattle.walter_disk_memory.specs.Records.{Recorded, total}
 use Rattle.walter_disk_memory.proofs.Recording.{total_grown, calls_missed}
 use Rattle.walter_disk_memory.proofs.record.Record.miss.Goals as goal

@@ -1,4 +1,4 @@
-use Rattle.std.proofs.Common.{◌≡◌, length, ap, ◌∙◌, arith}
+use Rattle.std.proofs.Common.{◌≡◌, length, ap, arith}
 use Rattle.std.proofs.lemmas.Grind.{common_steps}
 use Rattle.walter_disk_memory.specs.Records.{Recorded, total}
 use Rattle.walter_disk_memory.proofs.Recording.{total_grown, calls_same}
