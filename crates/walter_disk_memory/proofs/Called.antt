@@ -5,7 +5,7 @@ use Rattle.std.proofs.lemmas.List.{length-take-le}
 use Rattle.std.specs.Prelude.{nat_le}
 use Rattle.walter_disk.specs.Disks.{DiskState, laid, written, Breaks}
 use Rattle.walter_disk.specs.Images.{Torn, Follows, Narrows, Only}
-use Rattle.walter_disk_memory.specs.Contents.{Call, Write, FailedWrite, Sync, Settle, Content, at_rest, after, put, replayed, MayLeave}
+use Rattle.walter_disk_memory.specs.Contents.{Call, settled, Write, FailedWrite, Sync, Settle, Content, at_rest, after, put, replayed, MayLeave}
 use Rattle.walter_disk_memory.specs.ImageLaws.{always_sound, settled_left}
 use Rattle.walter_disk_memory.specs.MemoryDisks.{MemoryState, content_of, known_of, may_leave_of, called}
 use Rattle.walter_disk_memory.specs.Stops.{Stops, passed, failed}
@@ -66,6 +66,9 @@ module _ (disk : MemoryState) where
 
   pub sync_crash : (stops : Stops) → Narrows (may_leave_of disk) (may_leave_of (called Sync (record disk { stops = stops })))
   sync_crash stops = at_called (λ content. Narrows (may_leave_of disk) (MayLeave content)) disk Sync (sync_narrows (content_of disk) (always_sound disk.first disk.calls))
+
+  pub settle_finds : (stops : Stops) (choice : ℕ) → (content_of (called (Settle choice) (record disk { stops = stops }))).reads ≡ settled choice (content_of disk)
+  settle_finds stops choice = at_called (λ content. content.reads ≡ settled choice (content_of disk)) disk (Settle choice) refl
 
   pub settle_image : (stops : Stops) (choice : ℕ) → may_leave_of disk (content_of (called (Settle choice) (record disk { stops = stops }))).reads
   settle_image stops choice =

@@ -1,6 +1,6 @@
 -- What a disk in memory holds after its calls, and what a crash may leave of it: the bytes of the last sync after the
 -- writes since, each of which a crash may have cut short.
-use Rattle.std.specs.Prelude.{◌≡◌, ◌+◌, ◌≤◌, ◌%◌, ◌==◌, ℕ, max, nat_le, List, [], ◌∷◌, ◌++◌, length, take, replicate, if◌then◌else◌}
+use Rattle.std.specs.Prelude.{◌≡◌, ◌≤◌, ◌%◌, ◌==◌, ℕ, nat_le, List, [], ◌∷◌, ◌++◌, length, take, replicate, if◌then◌else◌}
 use Rattle.walter_disk.specs.Disks.{laid}
 use Rattle.walter_disk.specs.Images.{Torn}
 use Rattle.walter_disk_memory.specs.declared.place.Place.{Place}
@@ -12,6 +12,7 @@ pub data Call : Type 0 where
   Sync : Call
   Settle : ℕ → Call
 
+-- what is on a disk
 pub record Content : Type 0 where
   -- what a read gives
   pub reads : List ℕ
@@ -68,11 +69,6 @@ abbrev pub Leaves : List ℕ → List Place → List ℕ → Type 0
 Leaves bytes [] image = image ≡ bytes
 Leaves bytes (place ∷ places) image = (next : List ℕ) × Torn place.at place.count bytes next × Leaves next places image
 
--- how far the places reach
-abbrev pub reach : List Place → ℕ
-reach [] = 0
-reach (place ∷ places) = max (place.at + place.count) (reach places)
-
 -- what a crash may leave of the content
 abbrev pub MayLeave : Content → List ℕ → Type 0
 MayLeave content image = Leaves content.synced content.pending image
@@ -81,9 +77,3 @@ MayLeave content image = Leaves content.synced content.pending image
 abbrev pub MightHaveLeft : List ℕ → List Call → ℕ → List ℕ → Type 0
 MightHaveLeft first calls t image =
     (k : ℕ) × (t ≤ k) × (k ≤ length calls) × MayLeave (replayed (take k calls) (at_rest first)) image
-
--- a content with its room: how far the bytes may reach, and how many writes may be added
-pub record Held : Type 0 where
-  pub content : Content
-  pub end : ℕ
-  pub slots : ℕ

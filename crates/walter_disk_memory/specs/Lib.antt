@@ -3,5 +3,6 @@ pub mod ImageLaws
 pub mod MemoryDisks
 pub mod MemoryRacks
 pub mod Records
+pub mod Rooms
 pub mod Schedules
 pub mod Stops

@@ -21,6 +21,7 @@ holding bytes = record { first = bytes; calls = []; stops = unarmed; room_end = 
 abbrev pub content_of : MemoryState → Content
 content_of disk = replayed disk.calls (at_rest disk.first)
 
+-- what the trait tells of it
 abbrev pub known_of : MemoryState → DiskState
 known_of disk = record {
   reads = Some (content_of disk).reads;

@@ -1,5 +1,6 @@
 ghost use Rattle.std.specs.Prelude.{◌≡◌, ◌+◌, ◌-◌, ◌%◌, ◌<◌, ◌≤◌, [], length, take, drop, max, replicate, vec_len, vec_capacity, IfOk, OnOk, OnErr};
-ghost use Rattle.walter_disk_memory.specs.Contents.{Write, FailedWrite, Sync, Settle, Held, put, filled, reach, at_rest, after};
+ghost use Rattle.walter_disk_memory.specs.Contents.{Write, FailedWrite, Sync, Settle, put, filled, at_rest, after};
+ghost use Rattle.walter_disk_memory.specs.Rooms.{Held, reach};
 
 use crate::place::Place;
 use std::alloc::{AllocError, Global};
@@ -17,7 +18,7 @@ pub(crate) struct Content {
 
 impl Model for Content {
     ghost use Rattle.std.specs.Prelude.{◌≡◌, ◌-◌, ◌≤◌, vec_len, vec_capacity};
-    ghost use Rattle.walter_disk_memory.specs.Contents.{Held, reach};
+    ghost use Rattle.walter_disk_memory.specs.Rooms.{Held, reach};
 
     ghost Value = { Held };
 

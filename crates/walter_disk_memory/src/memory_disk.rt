@@ -1,5 +1,5 @@
 ghost use Rattle.std.specs.Prelude.{◌≡◌, ◌+◌, ◌<◌, ◌≤◌, [], length, take, drop, max, is_err, IsOk, IfOk, OnOk, OnErr};
-ghost use Rattle.walter_disk_memory.specs.Contents.{Write, FailedWrite, Sync, Settle};
+ghost use Rattle.walter_disk_memory.specs.Contents.{Write, FailedWrite, Sync, Settle, settled};
 ghost use Rattle.walter_disk_memory.specs.MemoryDisks.{holding, content_of, called};
 ghost use Rattle.walter_disk_memory.specs.Stops.{fails, passed, failed, armed, choice_made, mended};
 
@@ -259,7 +259,8 @@ impl Disk for MemoryDisk {
 
         // Exactly:
         ensures never_fails { IsOk result }
-        ensures settled { self.new ≡ called (Settle (choice_made self.old.stops)) (record self.old { stops = mended self.old.stops }) }
+        ensures finds { (content_of self.new).reads ≡ settled (choice_made self.old.stops) (content_of self.old) }
+        ensures after { self.new ≡ called (Settle (choice_made self.old.stops)) (record self.old { stops = mended self.old.stops }) }
     {
         self.settle_bytes();
         Ok(())

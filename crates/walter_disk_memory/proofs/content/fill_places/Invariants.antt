@@ -1,5 +1,6 @@
 use Rattle.std.proofs.Common.{◌≡◌, ◌≤◌, drop, max, vec_len, vec_capacity}
-use Rattle.walter_disk_memory.specs.Contents.{filled, reach}
+use Rattle.walter_disk_memory.specs.Contents.{filled}
+use Rattle.walter_disk_memory.specs.Rooms.{reach}
 use Rattle.walter_disk_memory.proofs.content.fill_places.Given as goal
 
 abbrev pub invariant-loop-place : goal.invariant-loop-place

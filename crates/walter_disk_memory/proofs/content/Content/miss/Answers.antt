@@ -1,5 +1,5 @@
 use Rattle.std.proofs.Common.{◌≡◌, ◌+◌, ◌≤◌, length, ap, arith}
-use Rattle.walter_disk_memory.specs.Contents.{Held, reach}
+use Rattle.walter_disk_memory.specs.Rooms.{Held, reach}
 use Rattle.walter_disk_memory.proofs.Reaches.{reach_more}
 use Rattle.walter_disk_memory.proofs.content.Content.miss.Goals as goal
 

@@ -2,7 +2,7 @@ use Rattle.std.proofs.Common.{◌≡◌, ◌<◌, ap, sym, ◌∙◌, arith}
 use Rattle.walter_disk_memory.specs.Contents.{Sync, at_rest, after, replayed}
 use Rattle.walter_disk_memory.specs.MemoryDisks.{MemoryState}
 use Rattle.walter_disk_memory.proofs.Moments.{replayed_more}
-use Rattle.walter_disk_memory.proofs.Rooms.{one_fewer}
+use Rattle.walter_disk_memory.proofs.RoomLeft.{one_fewer}
 use Rattle.walter_disk_memory.proofs.memory_disk.MemoryDisk.sync_bytes.Goals as goal
 
 pub invariant_of-self-2 : goal.invariant_of-self-2
