@@ -1,0 +1,8 @@
+pub mod Contents
+pub mod ImageLaws
+pub mod MemoryDisks
+pub mod MemoryRacks
+pub mod Records
+pub mod Rooms
+pub mod Schedules
+pub mod Stops

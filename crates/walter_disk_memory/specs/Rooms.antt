@@ -1,0 +1,14 @@
+-- Room for a content: how far its bytes may reach, and how many writes may be added.
+use Rattle.std.specs.Prelude.{ℕ, ◌+◌, max, List, [], ◌∷◌}
+use Rattle.walter_disk_memory.specs.declared.place.Place.{Place}
+use Rattle.walter_disk_memory.specs.Contents.{Content}
+
+pub record Held : Type 0 where
+  pub content : Content
+  pub end : ℕ
+  pub slots : ℕ
+
+-- how far the places reach
+abbrev pub reach : List Place → ℕ
+reach [] = 0
+reach (place ∷ places) = max (place.at + place.count) (reach places)

@@ -1,0 +1,208 @@
+ghost use Rattle.std.specs.Prelude.{◌≡◌, ◌+◌, ◌-◌, ◌%◌, ◌<◌, ◌≤◌, [], length, take, drop, max, replicate, vec_len, vec_capacity, IfOk, OnOk, OnErr};
+ghost use Rattle.walter_disk_memory.specs.Contents.{Write, FailedWrite, Sync, Settle, put, filled, at_rest, after};
+ghost use Rattle.walter_disk_memory.specs.Rooms.{Held, reach};
+
+use crate::place::Place;
+use std::alloc::{AllocError, Global};
+use std::marker::Model;
+
+/// What a disk holds, and what pends on it. All bytes lie below `end`, up to which there is room.
+#[derive(Drop)]
+pub(crate) struct Content {
+    reads: Vec<u8>,
+    whole: Vec<u8>,
+    synced: Vec<u8>,
+    pending: Vec<Place>,
+    end: usize,
+}
+
+impl Model for Content {
+    ghost use Rattle.std.specs.Prelude.{◌≡◌, ◌-◌, ◌≤◌, vec_len, vec_capacity};
+    ghost use Rattle.walter_disk_memory.specs.Rooms.{Held, reach};
+
+    ghost Value = { Held };
+
+    ghost view = { λ s. record {
+      content = record {
+        reads = s.reads.items;
+        whole = s.whole.items;
+        synced = s.synced.items;
+        pending = s.pending.items;
+      };
+      end = s.end;
+      slots = vec_capacity s.pending - vec_len s.pending;
+    } };
+
+    ghost invariant = { λ s.
+        (vec_len s.reads ≤ s.end) × (s.end ≤ vec_capacity s.reads)
+        × (vec_len s.whole ≤ s.end) × (s.end ≤ vec_capacity s.whole)
+        × (vec_len s.synced ≤ s.end) × (s.end ≤ vec_capacity s.synced)
+        × (reach s.pending.items ≤ s.end) };
+}
+
+impl Content {
+    pub(crate) fn new(alloc: Global) -> Content
+        ensures { result ≡ record { content = at_rest []; end = 0; slots = 0 } }
+    {
+        Content {
+            reads: Vec::new(alloc),
+            whole: Vec::new(alloc),
+            synced: Vec::new(alloc),
+            pending: Vec::new(alloc),
+            end: 0,
+        }
+    }
+
+    pub(crate) fn holding(alloc: Global, bytes: Vec<u8>) -> Result<Content, AllocError>
+        ensures { IfOk result (λ made. made ≡ record { content = at_rest bytes.items; end = vec_len bytes; slots = 0 }) }
+    {
+        Ok(Content {
+            whole: bytes.to_vec(alloc)?,
+            synced: bytes.to_vec(alloc)?,
+            pending: Vec::new(alloc),
+            end: bytes.len(),
+            reads: bytes,
+        })
+    }
+
+    pub(crate) fn reads(&self) -> &[u8]
+        ensures { result.now ≡ self.now.content.reads }
+    {
+        &self.reads
+    }
+
+    pub(crate) fn end(&self) -> usize
+        ensures { result ≡ self.now.end }
+    {
+        self.end
+    }
+
+    pub(crate) fn reserve(&mut self, end: usize, slots: usize) -> Result<(), AllocError>
+        ensures same { self.new.content ≡ self.old.content }
+        ensures slots { self.old.slots ≤ self.new.slots }
+        ensures ok { OnOk result ((self.new.end ≡ max self.old.end end) × (slots ≤ self.new.slots)) }
+        ensures err { OnErr result (self.new.end ≡ self.old.end) }
+    {
+        let end = self.end.max(end);
+        self.reads.reserve(end - self.reads.len())?;
+        self.whole.reserve(end - self.whole.len())?;
+        self.synced.reserve(end - self.synced.len())?;
+        self.pending.reserve(slots)?;
+        self.end = end;
+        Ok(())
+    }
+
+    /// A write that reaches the disk.
+    pub(crate) fn write(&mut self, at: usize, from: &[u8])
+        requires within { at + length from.now ≤ self.old.end }
+        requires slot { 0 < self.old.slots }
+        ensures content { self.new.content ≡ after (Write at from.now) self.old.content }
+        ensures end { self.new.end ≡ self.old.end }
+        ensures slots { self.new.slots + 1 ≡ self.old.slots }
+    {
+        write_over(&mut self.reads, at, from);
+        write_over(&mut self.whole, at, from);
+        self.pending.push_reserved(Place {
+            at,
+            count: from.len(),
+        });
+    }
+
+    /// A write that fails.
+    pub(crate) fn miss(&mut self, at: usize, from: &[u8])
+        requires within { at + length from.now ≤ self.old.end }
+        requires slot { 0 < self.old.slots }
+        ensures content { self.new.content ≡ after (FailedWrite at from.now) self.old.content }
+        ensures end { self.new.end ≡ self.old.end }
+        ensures slots { self.new.slots + 1 ≡ self.old.slots }
+    {
+        write_over(&mut self.whole, at, from);
+        self.pending.push_reserved(Place {
+            at,
+            count: from.len(),
+        });
+    }
+
+    pub(crate) fn sync(&mut self)
+        ensures content { self.new.content ≡ after Sync self.old.content }
+        ensures end { self.new.end ≡ self.old.end }
+        ensures slots { self.old.slots ≤ self.new.slots }
+    {
+        copy_over(&mut self.whole, &self.reads);
+        copy_over(&mut self.synced, &self.reads);
+        self.pending.clear();
+    }
+
+    pub(crate) fn settle(&mut self, choice: u64)
+        ensures content { self.new.content ≡ after (Settle choice) self.old.content }
+        ensures end { self.new.end ≡ self.old.end }
+        ensures slots { self.old.slots ≤ self.new.slots }
+    {
+        match choice {
+            0 => copy_over(&mut self.reads, &self.synced),
+            1 => copy_over(&mut self.reads, &self.whole),
+            _ => {
+                copy_over(&mut self.reads, &self.synced);
+                fill_places(&mut self.reads, &self.pending, (choice % 256) as u8);
+            }
+        }
+        self.sync();
+    }
+}
+
+fn copy_over(bytes: &mut Vec<u8>, from: &[u8])
+    requires { length from.now ≤ vec_capacity bytes.old }
+    ensures items { bytes.new.items ≡ from.now }
+    ensures capacity { vec_capacity bytes.old ≤ vec_capacity bytes.new }
+{
+    bytes.clear();
+    bytes.extend_from_slice(from).unwrap();
+}
+
+// Takes no memory.
+fn write_over(bytes: &mut Vec<u8>, at: usize, from: &[u8])
+    requires { at + length from.now ≤ vec_capacity bytes.old }
+    ensures items { bytes.new.items ≡ put at from.now bytes.old.items }
+    ensures len { vec_len bytes.new ≤ max (vec_len bytes.old) (at + length from.now) }
+    ensures capacity { vec_capacity bytes.old ≤ vec_capacity bytes.new }
+{
+    if at > bytes.len() {
+        return;
+    }
+    let end = at + from.len();
+    if end < bytes.len() {
+        bytes[at..end].copy_from_slice(from);
+    } else {
+        bytes.truncate(at);
+        bytes.extend_from_slice(from).unwrap();
+    }
+}
+
+fn fill_over(bytes: &mut Vec<u8>, place: Place, byte: u8)
+    requires { place.at + place.count ≤ vec_capacity bytes.old }
+    ensures items { bytes.new.items ≡ put place.at (replicate place.count byte) bytes.old.items }
+    ensures len { vec_len bytes.new ≤ max (vec_len bytes.old) (place.at + place.count) }
+    ensures capacity { vec_capacity bytes.old ≤ vec_capacity bytes.new }
+{
+    if place.at > bytes.len() {
+        return;
+    }
+    let end = place.at + place.count;
+    if end < bytes.len() {
+        bytes[place.at..end].fill(byte);
+    } else {
+        bytes.truncate(place.at);
+        bytes.resize(end, byte).unwrap();
+    }
+}
+
+fn fill_places(bytes: &mut Vec<u8>, places: &[Place], byte: u8)
+    requires { reach places.now ≤ vec_capacity bytes.old }
+    ensures items { bytes.new.items ≡ filled byte places.now bytes.old.items }
+    ensures len { vec_len bytes.new ≤ max (vec_len bytes.old) (reach places.now) }
+    ensures capacity { vec_capacity bytes.old ≤ vec_capacity bytes.new }
+{
+    for place in places {
+        fill_over(bytes, *place, byte);
+    }
+}

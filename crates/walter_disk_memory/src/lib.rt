@@ -1,0 +1,17 @@
+//! Disks in memory, and a rack of them. A disk keeps its calls, and fails where it is told to.
+#![tactic(auto)]
+
+mod content;
+mod entry;
+mod fault_count;
+mod memory_disk;
+mod memory_rack;
+mod place;
+mod record;
+mod schedule;
+mod stops;
+#[cfg(test)]
+mod tests;
+
+pub use memory_disk::MemoryDisk;
+pub use memory_rack::MemoryRack;

@@ -1,0 +1,283 @@
+ghost use Rattle.std.specs.Prelude.{◌≡◌, ◌+◌, ◌<◌, ◌≤◌, [], length, take, drop, max, is_err, IsOk, IfOk, OnOk, OnErr};
+ghost use Rattle.walter_disk_memory.specs.Contents.{Write, FailedWrite, Sync, Settle, settled};
+ghost use Rattle.walter_disk_memory.specs.MemoryDisks.{holding, content_of, called};
+ghost use Rattle.walter_disk_memory.specs.Stops.{fails, passed, failed, armed, choice_made, mended};
+
+use crate::content::Content;
+use crate::record::Record;
+use crate::stops::Stops;
+use std::alloc::Global;
+use std::marker::Model;
+use walter_disk::{Disk, Failed, Mem, NoMemory};
+
+/// A disk in memory. It fails where it is armed to, and then a settle finds what the arm's choice says.
+#[derive(Drop)]
+pub struct MemoryDisk {
+    first: Vec<u8>,
+    content: Content,
+    history: Record,
+    stops: Stops,
+    room_calls: usize,
+}
+
+impl Model for MemoryDisk {
+    ghost use Rattle.std.specs.Prelude.{◌≡◌, ◌≤◌, ◌*◌};
+    ghost use Rattle.walter_disk_memory.specs.Contents.{at_rest, replayed};
+    ghost use Rattle.walter_disk_memory.specs.MemoryDisks.{MemoryState};
+
+    ghost Value = { MemoryState };
+
+    ghost view = { λ s. record {
+      first = s.first.items;
+      calls = s.history.calls;
+      stops = s.stops;
+      room_end = s.content.end;
+      room_calls = s.room_calls;
+    } };
+
+    ghost invariant = { λ s.
+        (s.content.content ≡ replayed s.history.calls (at_rest s.first.items))
+        × (s.room_calls ≤ s.content.slots)
+        × (s.room_calls ≤ s.history.slots)
+        × (s.room_calls * s.content.end ≤ s.history.space) };
+}
+
+impl MemoryDisk {
+    /// An empty disk.
+    pub fn new(alloc: Global) -> MemoryDisk
+        ensures { result ≡ holding [] }
+    {
+        MemoryDisk {
+            first: Vec::new(alloc),
+            content: Content::new(alloc),
+            history: Record::new(alloc),
+            stops: Stops::new(alloc),
+            room_calls: 0,
+        }
+    }
+
+    /// A disk that holds these bytes, safe from a crash.
+    pub fn holding(alloc: Global, bytes: Vec<u8>) -> Mem<MemoryDisk>
+        ensures { IfOk result (λ disk. disk ≡ holding bytes.items) }
+    {
+        Ok(MemoryDisk {
+            first: bytes.to_vec(alloc)?,
+            content: Content::holding(alloc, bytes)?,
+            history: Record::new(alloc),
+            stops: Stops::new(alloc),
+            room_calls: 0,
+        })
+    }
+
+    /// What a read of the whole disk gives.
+    pub fn bytes(&self) -> &[u8]
+        ensures { result.now ≡ (content_of self.now).reads }
+    {
+        self.content.reads()
+    }
+
+    fn make_room(&mut self, end: usize, calls: usize) -> Mem<()>
+        ensures ok { OnOk result (self.new ≡ record self.old { room_end = max self.old.room_end end; room_calls = max self.old.room_calls calls }) }
+        ensures err { OnErr result (self.new ≡ self.old) }
+    {
+        let end = self.content.end().max(end);
+        let calls = self.room_calls.max(calls);
+        let space = calls.checked_mul(end).ok_or(NoMemory)?;
+        self.history.reserve(calls, space)?;
+        self.content.reserve(end, calls)?;
+        self.room_calls = calls;
+        Ok(())
+    }
+
+    fn read_bytes(&mut self, at: usize, into: &mut [u8]) -> Result<(), Failed>
+        requires { at + length into.old ≤ length (content_of self.old).reads }
+        ensures fails { is_err result ≡ fails self.old.stops }
+        ensures given { OnOk result (into.new ≡ take (length into.old) (drop at (content_of self.old).reads)) }
+        ensures ok { OnOk result (self.new ≡ record self.old { stops = passed self.old.stops }) }
+        ensures err { OnErr result (self.new ≡ record self.old { stops = failed self.old.stops }) }
+    {
+        self.stops.call()?;
+        into.copy_from_slice(&self.content.reads()[at..at + into.len()]);
+        Ok(())
+    }
+
+    fn write_bytes(&mut self, at: usize, from: &[u8]) -> Result<(), Failed>
+        requires end { at + length from.now ≤ self.old.room_end }
+        requires calls { 0 < self.old.room_calls }
+        ensures fails { is_err result ≡ fails self.old.stops }
+        ensures ok { OnOk result (self.new ≡ called (Write at from.now) (record self.old { stops = passed self.old.stops })) }
+        ensures err { OnErr result (self.new ≡ called (FailedWrite at from.now) (record self.old { stops = failed self.old.stops })) }
+    {
+        let outcome = self.stops.call();
+        self.room_calls -= 1;
+        match outcome {
+            Ok(()) => {
+                self.content.write(at, from);
+                self.history.write(at, from);
+            }
+            Err(Failed) => {
+                self.content.miss(at, from);
+                self.history.miss(at, from);
+            }
+        }
+        outcome
+    }
+
+    fn sync_bytes(&mut self) -> Result<(), Failed>
+        requires { 0 < self.old.room_calls }
+        ensures fails { is_err result ≡ fails self.old.stops }
+        ensures ok { OnOk result (self.new ≡ called Sync (record self.old { stops = passed self.old.stops })) }
+        ensures err { OnErr result (self.new ≡ record self.old { stops = failed self.old.stops }) }
+    {
+        self.stops.call()?;
+        self.room_calls -= 1;
+        self.content.sync();
+        self.history.sync();
+        Ok(())
+    }
+
+    fn settle_bytes(&mut self)
+        requires { 0 < self.old.room_calls }
+        ensures { self.new ≡ called (Settle (choice_made self.old.stops)) (record self.old { stops = mended self.old.stops }) }
+    {
+        let choice = self.stops.mend();
+        self.room_calls -= 1;
+        self.content.settle(choice);
+        self.history.settle(choice);
+    }
+}
+
+impl Disk for MemoryDisk {
+    ghost use Rattle.std.specs.Prelude.{◌++◌, ◌∷◌, Some, refl, false, is_some, option_map, IfSome};
+    ghost use Rattle.walter_disk.specs.Disks.{written, Breaks, MakesRoom, TakesRoom};
+    ghost use Rattle.walter_disk.specs.Images.{Torn, Follows, Narrows, IsDurable, IsImage};
+    ghost use Rattle.walter_disk_memory.specs.ImageLaws.{always_sound, left_now, left_only_now};
+    ghost use Rattle.walter_disk_memory.specs.MemoryDisks.{known_of, moment_of, may_leave_of, left_since_of, GoesOn};
+
+    ghost known = { known_of };
+
+    ghost room_end = { λ d. d.room_end };
+
+    ghost room_calls = { λ d. d.room_calls };
+
+    ghost may_leave = { may_leave_of };
+
+    ghost moment = { moment_of };
+
+    ghost left_since = { left_since_of };
+
+    ghost size_is = { λ d. refl };
+
+    ghost leaves_what_reads = { λ d whole. (always_sound d.first d.calls).reads };
+
+    ghost counts_now = { λ d t image le now. left_now d.first d.calls t image le now };
+
+    ghost only_now = { λ d image left. left_only_now d.first d.calls image left };
+
+    fn size(&self) -> u64 {
+        self.bytes().len() as u64
+    }
+
+    fn reserve(&mut self, end: u64, calls: u64) -> Mem<()>
+        ensures room { OnOk result (MakesRoom end calls self.old.room_end self.new.room_end self.old.room_calls self.new.room_calls) }
+        ensures same { known_of self.new ≡ known_of self.old }
+        ensures crash { Narrows (may_leave_of self.old) (may_leave_of self.new) }
+        ensures time { GoesOn self.old self.new }
+
+        // Exactly:
+        ensures ok { OnOk result (self.new ≡ record self.old { room_end = max self.old.room_end end; room_calls = max self.old.room_calls calls }) }
+        ensures err { OnErr result (self.new ≡ self.old) }
+    {
+        self.make_room(end as usize, calls as usize)
+    }
+
+    fn read(&mut self, at: u64, into: &mut [u8]) -> Result<(), Failed>
+        requires within { at + length into.old ≤ (known_of self.old).size }
+        ensures given { OnOk result (into.new ≡ take (length into.old) (drop at (content_of self.old).reads)) }
+        ensures whole { OnOk result (is_some self.old.stops.came ≡ false) }
+        ensures same { OnOk result (known_of self.new ≡ known_of self.old) }
+        ensures failed { OnErr result (Breaks (known_of self.old) (known_of self.new)) }
+        ensures room { TakesRoom 0 self.old.room_end self.new.room_end self.old.room_calls self.new.room_calls }
+        ensures crash { Narrows (may_leave_of self.old) (may_leave_of self.new) }
+        ensures time { GoesOn self.old self.new }
+
+        // Exactly:
+        ensures fails { is_err result ≡ fails self.old.stops }
+        ensures ok { OnOk result (self.new ≡ record self.old { stops = passed self.old.stops }) }
+        ensures err { OnErr result (self.new ≡ record self.old { stops = failed self.old.stops }) }
+    {
+        self.read_bytes(at as usize, into)
+    }
+
+    fn write_at(&mut self, at: u64, from: &[u8]) -> Result<(), Failed>
+        requires begins { at ≤ (known_of self.old).size }
+        requires end { at + length from.now ≤ self.old.room_end }
+        requires calls { 0 < self.old.room_calls }
+        ensures whole { OnOk result (is_some self.old.stops.came ≡ false) }
+        ensures done { OnOk result (known_of self.new ≡ written at from.now (known_of self.old)) }
+        ensures failed { OnErr result (Breaks (known_of self.old) (known_of self.new)) }
+        ensures room { TakesRoom 1 self.old.room_end self.new.room_end self.old.room_calls self.new.room_calls }
+        ensures crash { Follows (Torn at (length from.now)) (may_leave_of self.old) (may_leave_of self.new) }
+        ensures time { GoesOn self.old self.new }
+
+        // Exactly:
+        ensures fails { is_err result ≡ fails self.old.stops }
+        ensures ok { OnOk result (self.new ≡ called (Write at from.now) (record self.old { stops = passed self.old.stops })) }
+        ensures err { OnErr result (self.new ≡ called (FailedWrite at from.now) (record self.old { stops = failed self.old.stops })) }
+    {
+        self.write_bytes(at as usize, from)
+    }
+
+    fn sync(&mut self) -> Result<(), Failed>
+        requires calls { 0 < self.old.room_calls }
+        ensures durable { OnOk result (IsDurable (known_of self.new).reads (may_leave_of self.new)) }
+        ensures whole { OnOk result (is_some self.old.stops.came ≡ false) }
+        ensures same { OnOk result (known_of self.new ≡ known_of self.old) }
+        ensures failed { OnErr result (Breaks (known_of self.old) (known_of self.new)) }
+        ensures room { TakesRoom 1 self.old.room_end self.new.room_end self.old.room_calls self.new.room_calls }
+        ensures crash { Narrows (may_leave_of self.old) (may_leave_of self.new) }
+        ensures time { GoesOn self.old self.new }
+
+        // Exactly:
+        ensures fails { is_err result ≡ fails self.old.stops }
+        ensures ok { OnOk result (self.new ≡ called Sync (record self.old { stops = passed self.old.stops })) }
+        ensures err { OnErr result (self.new ≡ record self.old { stops = failed self.old.stops }) }
+    {
+        self.sync_bytes()
+    }
+
+    fn settle(&mut self) -> Result<(), Failed>
+        requires calls { 0 < self.old.room_calls }
+        ensures tells { is_some (known_of self.new).reads ≡ is_some (known_of self.old).reads }
+        ensures image { OnOk result (IsImage (known_of self.new).reads (may_leave_of self.old)) }
+        ensures durable { OnOk result (IsDurable (known_of self.new).reads (may_leave_of self.new)) }
+        ensures done { OnOk result (known_of self.new ≡ record (known_of self.old) { reads = (known_of self.new).reads; size = (known_of self.new).size; broken = false }) }
+        ensures failed { OnErr result (Breaks (known_of self.old) (known_of self.new)) }
+        ensures room { TakesRoom 1 self.old.room_end self.new.room_end self.old.room_calls self.new.room_calls }
+        ensures crash { Narrows (may_leave_of self.old) (may_leave_of self.new) }
+        ensures time { GoesOn self.old self.new }
+
+        // Exactly:
+        ensures never_fails { IsOk result }
+        ensures finds { (content_of self.new).reads ≡ settled (choice_made self.old.stops) (content_of self.old) }
+        ensures after { self.new ≡ called (Settle (choice_made self.old.stops)) (record self.old { stops = mended self.old.stops }) }
+    {
+        self.settle_bytes();
+        Ok(())
+    }
+
+    fn arm(&mut self, nth: u64, choice: u64) -> Mem<()>
+        requires { 0 < nth }
+        ensures armed { OnOk result (known_of self.new ≡ record (known_of self.old) { arms = option_map (λ arms. arms ++ (nth, choice) ∷ []) (known_of self.old).arms }) }
+        ensures same { OnErr result (known_of self.new ≡ known_of self.old) }
+        ensures room { TakesRoom 0 self.old.room_end self.new.room_end self.old.room_calls self.new.room_calls }
+        ensures crash { Narrows (may_leave_of self.old) (may_leave_of self.new) }
+        ensures time { GoesOn self.old self.new }
+
+        // Exactly:
+        ensures ok { OnOk result (self.new ≡ record self.old { stops = armed nth choice self.old.stops }) }
+        ensures err { OnErr result (self.new ≡ self.old) }
+    {
+        self.stops.arm(nth, choice)
+    }
+}

@@ -1,0 +1,5 @@
+//! Tests that cross crates. The crate has nothing else.
+#![tactic(auto)]
+
+#[cfg(test)]
+mod journals;
