@@ -20,7 +20,8 @@ pub trait Rack {
 
     /// Takes a site's disk.
     fn take(&mut self, site: u8, dir: Option<&str>) -> Result<Self::D, Failed>
-        ensures disk { IfOk result (λ disk. IfSome (disks self.old) (λ told. disk ≡ told (option_copied dir.entry) site)) }
+        ensures disk { IfOk result (λ disk.
+            IfSome (disks self.old) (λ told. disk ≡ told (option_copied dir.entry) site)) }
         ensures fresh { IfOk result (λ disk. IsFresh (Self.D.known disk) (Self.D.may_leave disk)) }
         ensures same_disks { disks self.new ≡ disks self.old }
         ensures same_given { given self.new ≡ given self.old }
@@ -29,7 +30,8 @@ pub trait Rack {
 
     /// Gives a site's disk back. After a fault the disk is gone, and nothing is known of it.
     fn give(&mut self, site: u8, disk: Self::D) -> Result<(), Failed>
-        ensures given { OnOk result (given self.new ≡ option_map (λ told. told ++ (site, disk) ∷ []) (given self.old)) }
+        ensures given { OnOk result (
+            given self.new ≡ option_map (λ told. told ++ (site, disk) ∷ []) (given self.old)) }
         ensures same_given { OnErr result (given self.new ≡ given self.old) }
         ensures same_disks { disks self.new ≡ disks self.old }
         ensures faultless { OnOk result (faults self.new ≡ faults self.old) }

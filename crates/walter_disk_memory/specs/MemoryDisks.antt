@@ -1,9 +1,9 @@
 -- A disk in memory, as its callers see it: what it held at first, its calls since, which calls fail, and its room.
-use Rattle.std.specs.Prelude.{◌-◌, ℕ, List, [], ◌∷◌, ◌++◌, length, Some, is_some}
+use Rattle.std.specs.Prelude.{◌-◌, ℕ, max, List, [], ◌∷◌, ◌++◌, length, Some, is_some}
 use Rattle.walter_disk.specs.Disks.{DiskState}
 use Rattle.walter_disk.specs.Images.{Elapses}
 use Rattle.walter_disk_memory.specs.Contents.{Call, Content, at_rest, replayed, MayLeave, MightHaveLeft}
-use Rattle.walter_disk_memory.specs.Stops.{Stops, unarmed}
+use Rattle.walter_disk_memory.specs.Stops.{Stops, unarmed, passed, failed, mended}
 
 pub record MemoryState : Type 0 where
   pub first : List ℕ
@@ -48,3 +48,17 @@ GoesOn old new = Elapses (moment_of old) (moment_of new) (left_since_of old) (le
 -- the disk after a call that it keeps, which takes the room of one
 abbrev pub called : Call → MemoryState → MemoryState
 called call disk = record disk { calls = disk.calls ++ call ∷ []; room_calls = disk.room_calls - 1 }
+
+-- the disk after a call that passed, after one that failed, and as a settle ends its stop
+abbrev pub after_pass : MemoryState → MemoryState
+after_pass disk = record disk { stops = passed disk.stops }
+
+abbrev pub after_fault : MemoryState → MemoryState
+after_fault disk = record disk { stops = failed disk.stops }
+
+abbrev pub after_mend : MemoryState → MemoryState
+after_mend disk = record disk { stops = mended disk.stops }
+
+-- the disk with room up to an end and for so many calls
+abbrev pub with_room : ℕ → ℕ → MemoryState → MemoryState
+with_room end calls disk = record disk { room_end = max disk.room_end end; room_calls = max disk.room_calls calls }

@@ -54,7 +54,8 @@ impl Content {
     }
 
     pub(crate) fn holding(alloc: Global, bytes: Vec<u8>) -> Result<Content, AllocError>
-        ensures { IfOk result (λ made. made ≡ record { content = at_rest bytes.items; end = vec_len bytes; slots = 0 }) }
+        ensures { IfOk result (λ made.
+            made ≡ record { content = at_rest bytes.items; end = vec_len bytes; slots = 0 }) }
     {
         Ok(Content {
             whole: bytes.to_vec(alloc)?,
@@ -80,7 +81,8 @@ impl Content {
     pub(crate) fn reserve(&mut self, end: usize, slots: usize) -> Result<(), AllocError>
         ensures same { self.new.content ≡ self.old.content }
         ensures slots { self.old.slots ≤ self.new.slots }
-        ensures ok { OnOk result ((self.new.end ≡ max self.old.end end) × (slots ≤ self.new.slots)) }
+        ensures ok { OnOk result ((self.new.end ≡ max self.old.end end)
+            × (slots ≤ self.new.slots)) }
         ensures err { OnErr result (self.new.end ≡ self.old.end) }
     {
         let end = self.end.max(end);

@@ -1,7 +1,7 @@
-ghost use Rattle.std.specs.Prelude.{◌≡◌, ◌+◌, ◌<◌, ◌≤◌, [], length, take, drop, max, is_err, IsOk, IfOk, OnOk, OnErr};
+ghost use Rattle.std.specs.Prelude.{◌≡◌, ◌+◌, ◌<◌, ◌≤◌, [], length, take, drop, is_err, IsOk, IfOk, OnOk, OnErr};
 ghost use Rattle.walter_disk_memory.specs.Contents.{Write, FailedWrite, Sync, Settle, settled};
-ghost use Rattle.walter_disk_memory.specs.MemoryDisks.{holding, content_of, called};
-ghost use Rattle.walter_disk_memory.specs.Stops.{fails, passed, failed, armed, choice_made, mended};
+ghost use Rattle.walter_disk_memory.specs.MemoryDisks.{holding, content_of, called, after_pass, after_fault, after_mend, with_room};
+ghost use Rattle.walter_disk_memory.specs.Stops.{fails, armed, choice_made};
 
 use crate::content::Content;
 use crate::record::Record;
@@ -77,7 +77,7 @@ impl MemoryDisk {
     }
 
     fn make_room(&mut self, end: usize, calls: usize) -> Mem<()>
-        ensures ok { OnOk result (self.new ≡ record self.old { room_end = max self.old.room_end end; room_calls = max self.old.room_calls calls }) }
+        ensures ok { OnOk result (self.new ≡ with_room end calls self.old) }
         ensures err { OnErr result (self.new ≡ self.old) }
     {
         let end = self.content.end().max(end);
@@ -92,9 +92,10 @@ impl MemoryDisk {
     fn read_bytes(&mut self, at: usize, into: &mut [u8]) -> Result<(), Failed>
         requires { at + length into.old ≤ length (content_of self.old).reads }
         ensures fails { is_err result ≡ fails self.old.stops }
-        ensures given { OnOk result (into.new ≡ take (length into.old) (drop at (content_of self.old).reads)) }
-        ensures ok { OnOk result (self.new ≡ record self.old { stops = passed self.old.stops }) }
-        ensures err { OnErr result (self.new ≡ record self.old { stops = failed self.old.stops }) }
+        ensures given { OnOk result (
+            into.new ≡ take (length into.old) (drop at (content_of self.old).reads)) }
+        ensures ok { OnOk result (self.new ≡ after_pass self.old) }
+        ensures err { OnErr result (self.new ≡ after_fault self.old) }
     {
         self.stops.call()?;
         into.copy_from_slice(&self.content.reads()[at..at + into.len()]);
@@ -105,8 +106,8 @@ impl MemoryDisk {
         requires end { at + length from.now ≤ self.old.room_end }
         requires calls { 0 < self.old.room_calls }
         ensures fails { is_err result ≡ fails self.old.stops }
-        ensures ok { OnOk result (self.new ≡ called (Write at from.now) (record self.old { stops = passed self.old.stops })) }
-        ensures err { OnErr result (self.new ≡ called (FailedWrite at from.now) (record self.old { stops = failed self.old.stops })) }
+        ensures ok { OnOk result (self.new ≡ called (Write at from.now) (after_pass self.old)) }
+        ensures err { OnErr result (self.new ≡ called (FailedWrite at from.now) (after_fault self.old)) }
     {
         let outcome = self.stops.call();
         self.room_calls -= 1;
@@ -126,8 +127,8 @@ impl MemoryDisk {
     fn sync_bytes(&mut self) -> Result<(), Failed>
         requires { 0 < self.old.room_calls }
         ensures fails { is_err result ≡ fails self.old.stops }
-        ensures ok { OnOk result (self.new ≡ called Sync (record self.old { stops = passed self.old.stops })) }
-        ensures err { OnErr result (self.new ≡ record self.old { stops = failed self.old.stops }) }
+        ensures ok { OnOk result (self.new ≡ called Sync (after_pass self.old)) }
+        ensures err { OnErr result (self.new ≡ after_fault self.old) }
     {
         self.stops.call()?;
         self.room_calls -= 1;
@@ -138,7 +139,7 @@ impl MemoryDisk {
 
     fn settle_bytes(&mut self)
         requires { 0 < self.old.room_calls }
-        ensures { self.new ≡ called (Settle (choice_made self.old.stops)) (record self.old { stops = mended self.old.stops }) }
+        ensures { self.new ≡ called (Settle (choice_made self.old.stops)) (after_mend self.old) }
     {
         let choice = self.stops.mend();
         self.room_calls -= 1;
@@ -179,13 +180,14 @@ impl Disk for MemoryDisk {
     }
 
     fn reserve(&mut self, end: u64, calls: u64) -> Mem<()>
-        ensures room { OnOk result (MakesRoom end calls self.old.room_end self.new.room_end self.old.room_calls self.new.room_calls) }
+        ensures room { OnOk result (MakesRoom end calls
+            self.old.room_end self.new.room_end self.old.room_calls self.new.room_calls) }
         ensures same { known_of self.new ≡ known_of self.old }
         ensures crash { Narrows (may_leave_of self.old) (may_leave_of self.new) }
         ensures time { GoesOn self.old self.new }
 
         // Exactly:
-        ensures ok { OnOk result (self.new ≡ record self.old { room_end = max self.old.room_end end; room_calls = max self.old.room_calls calls }) }
+        ensures ok { OnOk result (self.new ≡ with_room end calls self.old) }
         ensures err { OnErr result (self.new ≡ self.old) }
     {
         self.make_room(end as usize, calls as usize)
@@ -193,18 +195,20 @@ impl Disk for MemoryDisk {
 
     fn read(&mut self, at: u64, into: &mut [u8]) -> Result<(), Failed>
         requires within { at + length into.old ≤ (known_of self.old).size }
-        ensures given { OnOk result (into.new ≡ take (length into.old) (drop at (content_of self.old).reads)) }
+        ensures given { OnOk result (
+            into.new ≡ take (length into.old) (drop at (content_of self.old).reads)) }
         ensures whole { OnOk result (is_some self.old.stops.came ≡ false) }
         ensures same { OnOk result (known_of self.new ≡ known_of self.old) }
         ensures failed { OnErr result (Breaks (known_of self.old) (known_of self.new)) }
-        ensures room { TakesRoom 0 self.old.room_end self.new.room_end self.old.room_calls self.new.room_calls }
+        ensures room { TakesRoom 0
+            self.old.room_end self.new.room_end self.old.room_calls self.new.room_calls }
         ensures crash { Narrows (may_leave_of self.old) (may_leave_of self.new) }
         ensures time { GoesOn self.old self.new }
 
         // Exactly:
         ensures fails { is_err result ≡ fails self.old.stops }
-        ensures ok { OnOk result (self.new ≡ record self.old { stops = passed self.old.stops }) }
-        ensures err { OnErr result (self.new ≡ record self.old { stops = failed self.old.stops }) }
+        ensures ok { OnOk result (self.new ≡ after_pass self.old) }
+        ensures err { OnErr result (self.new ≡ after_fault self.old) }
     {
         self.read_bytes(at as usize, into)
     }
@@ -216,14 +220,15 @@ impl Disk for MemoryDisk {
         ensures whole { OnOk result (is_some self.old.stops.came ≡ false) }
         ensures done { OnOk result (known_of self.new ≡ written at from.now (known_of self.old)) }
         ensures failed { OnErr result (Breaks (known_of self.old) (known_of self.new)) }
-        ensures room { TakesRoom 1 self.old.room_end self.new.room_end self.old.room_calls self.new.room_calls }
+        ensures room { TakesRoom 1
+            self.old.room_end self.new.room_end self.old.room_calls self.new.room_calls }
         ensures crash { Follows (Torn at (length from.now)) (may_leave_of self.old) (may_leave_of self.new) }
         ensures time { GoesOn self.old self.new }
 
         // Exactly:
         ensures fails { is_err result ≡ fails self.old.stops }
-        ensures ok { OnOk result (self.new ≡ called (Write at from.now) (record self.old { stops = passed self.old.stops })) }
-        ensures err { OnErr result (self.new ≡ called (FailedWrite at from.now) (record self.old { stops = failed self.old.stops })) }
+        ensures ok { OnOk result (self.new ≡ called (Write at from.now) (after_pass self.old)) }
+        ensures err { OnErr result (self.new ≡ called (FailedWrite at from.now) (after_fault self.old)) }
     {
         self.write_bytes(at as usize, from)
     }
@@ -234,14 +239,15 @@ impl Disk for MemoryDisk {
         ensures whole { OnOk result (is_some self.old.stops.came ≡ false) }
         ensures same { OnOk result (known_of self.new ≡ known_of self.old) }
         ensures failed { OnErr result (Breaks (known_of self.old) (known_of self.new)) }
-        ensures room { TakesRoom 1 self.old.room_end self.new.room_end self.old.room_calls self.new.room_calls }
+        ensures room { TakesRoom 1
+            self.old.room_end self.new.room_end self.old.room_calls self.new.room_calls }
         ensures crash { Narrows (may_leave_of self.old) (may_leave_of self.new) }
         ensures time { GoesOn self.old self.new }
 
         // Exactly:
         ensures fails { is_err result ≡ fails self.old.stops }
-        ensures ok { OnOk result (self.new ≡ called Sync (record self.old { stops = passed self.old.stops })) }
-        ensures err { OnErr result (self.new ≡ record self.old { stops = failed self.old.stops }) }
+        ensures ok { OnOk result (self.new ≡ called Sync (after_pass self.old)) }
+        ensures err { OnErr result (self.new ≡ after_fault self.old) }
     {
         self.sync_bytes()
     }
@@ -251,16 +257,21 @@ impl Disk for MemoryDisk {
         ensures tells { is_some (known_of self.new).reads ≡ is_some (known_of self.old).reads }
         ensures image { OnOk result (IsImage (known_of self.new).reads (may_leave_of self.old)) }
         ensures durable { OnOk result (IsDurable (known_of self.new).reads (may_leave_of self.new)) }
-        ensures done { OnOk result (known_of self.new ≡ record (known_of self.old) { reads = (known_of self.new).reads; size = (known_of self.new).size; broken = false }) }
+        ensures done { OnOk result (known_of self.new ≡ record (known_of self.old) {
+          reads = (known_of self.new).reads;
+          size = (known_of self.new).size;
+          broken = false;
+        }) }
         ensures failed { OnErr result (Breaks (known_of self.old) (known_of self.new)) }
-        ensures room { TakesRoom 1 self.old.room_end self.new.room_end self.old.room_calls self.new.room_calls }
+        ensures room { TakesRoom 1
+            self.old.room_end self.new.room_end self.old.room_calls self.new.room_calls }
         ensures crash { Narrows (may_leave_of self.old) (may_leave_of self.new) }
         ensures time { GoesOn self.old self.new }
 
         // Exactly:
         ensures never_fails { IsOk result }
         ensures finds { (content_of self.new).reads ≡ settled (choice_made self.old.stops) (content_of self.old) }
-        ensures after { self.new ≡ called (Settle (choice_made self.old.stops)) (record self.old { stops = mended self.old.stops }) }
+        ensures after { self.new ≡ called (Settle (choice_made self.old.stops)) (after_mend self.old) }
     {
         self.settle_bytes();
         Ok(())
@@ -268,9 +279,12 @@ impl Disk for MemoryDisk {
 
     fn arm(&mut self, nth: u64, choice: u64) -> Mem<()>
         requires { 0 < nth }
-        ensures armed { OnOk result (known_of self.new ≡ record (known_of self.old) { arms = option_map (λ arms. arms ++ (nth, choice) ∷ []) (known_of self.old).arms }) }
+        ensures armed { OnOk result (known_of self.new ≡ record (known_of self.old) {
+          arms = option_map (λ arms. arms ++ (nth, choice) ∷ []) (known_of self.old).arms;
+        }) }
         ensures same { OnErr result (known_of self.new ≡ known_of self.old) }
-        ensures room { TakesRoom 0 self.old.room_end self.new.room_end self.old.room_calls self.new.room_calls }
+        ensures room { TakesRoom 0
+            self.old.room_end self.new.room_end self.old.room_calls self.new.room_calls }
         ensures crash { Narrows (may_leave_of self.old) (may_leave_of self.new) }
         ensures time { GoesOn self.old self.new }
 

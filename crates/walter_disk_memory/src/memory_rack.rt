@@ -36,7 +36,11 @@ impl MemoryRack {
 
     /// A rack of disks that hold these bytes, from site 0 on. The disks behind them are empty.
     pub fn holding(alloc: Global, contents: Vec<Vec<u8>>) -> MemoryRack
-        ensures { result ≡ record { contents = contents_of contents.items; given = []; schedule = planned [] } }
+        ensures { result ≡ record {
+          contents = contents_of contents.items;
+          given = [];
+          schedule = planned [];
+        } }
     {
         MemoryRack {
             alloc,
@@ -48,7 +52,9 @@ impl MemoryRack {
 
     /// The calls of `take` and `give` whose numbers are listed fail, counted over both from now on, beginning at 1.
     pub fn set_failing(&mut self, failing: Vec<u64>)
-        ensures { self.new ≡ record self.old { schedule = record { failing = failing.items; made = 0; faults = self.old.schedule.faults } } }
+        ensures { self.new ≡ record self.old {
+          schedule = record (planned failing.items) { faults = self.old.schedule.faults };
+        } }
     {
         self.schedule.plan(failing);
     }
