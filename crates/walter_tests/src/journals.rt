@@ -76,11 +76,10 @@ fn bodies_behind_a_stop<R: Abort + AllocGlobal>(
     let Ok((mut journal, _bodies)) = loaded(alloc, MemoryDisk::new(alloc)) else {
         return Err(Fail::from("no journal"));
     };
-    journal.make_room(BODY.len() as u64)?;
     if nth != 0 {
         journal.arm(nth, choice)?;
     }
-    let appended = journal.append(BODY);
+    let appended = append(&mut journal, BODY)?;
     assert_eq!(rt; appended.is_err(), nth != 0);
     let Ok((_journal, bodies)) = loaded(alloc, journal.into_disk()) else {
         return Err(Fail::from("no journal behind the stop"));
