@@ -1,0 +1,79 @@
+-- How many bytes a spelling has.
+use Rattle.std.proofs.Common.{◌≡◌, ℕ, ◌+◌, ◌*◌, ◌-◌, ◌≤◌, List, [], ◌∷◌, ◌++◌, length, replicate, refl, arith}
+use Rattle.std.specs.Prelude.{flat_map, sum_by}
+use Rattle.std.proofs.lemmas.List.{length-append, length-replicate}
+use Rattle.std.proofs.lemmas.List.Concat.{flat_map-cons}
+use Rattle.std.proofs.lemmas.List.Sums.{sum_by-cons}
+use Rattle.walter_base.specs.Sizes.{size_of, size_of_update}
+use Rattle.walter_base.specs.declared.names.ObjId.{ObjId}
+use Rattle.walter_base.specs.declared.names.Tid.{Tid}
+use Rattle.walter_base.specs.declared.transaction.Tx.{Tx}
+use Rattle.walter_base.specs.declared.update.Update.{Update}
+use Rattle.walter_base.specs.declared.update.Update.TheVariants.{Write, Add, Del}
+use Rattle.walter_fields.specs.Spellings.{number_spelled, block_spelled}
+use Rattle.walter_fields.proofs.Numbers.{length-number_spelled}
+use Rattle.walter_txcode.specs.Spelling.{object_spelled, tid_spelled, numbers_spelled, vector_spelled, value_spelled, member_spelled, update_spelled, updates_spelled, head_spelled, spelling}
+
+pub length-object_spelled : (oid : ObjId) → length (object_spelled oid) ≡ 12
+length-object_spelled oid = omega (arith, length-append (number_spelled 4 oid.container) (number_spelled 8 oid.local), length-number_spelled 4 oid.container, length-number_spelled 8 oid.local)
+
+pub length-tid_spelled : (tid : Tid) → length (tid_spelled tid) ≡ 13
+length-tid_spelled tid =
+    omega (
+      arith,
+      length-append (number_spelled 1 tid.site.0 ++ number_spelled 4 tid.epoch) (number_spelled 8 tid.number),
+      length-append (number_spelled 1 tid.site.0) (number_spelled 4 tid.epoch),
+      length-number_spelled 1 tid.site.0,
+      length-number_spelled 4 tid.epoch,
+      length-number_spelled 8 tid.number,
+    )
+
+pub length-numbers_spelled : (numbers : List ℕ) → length (numbers_spelled numbers) ≡ 8 * length numbers
+length-numbers_spelled [] = refl
+length-numbers_spelled (n ∷ numbers) =
+    let others = length-numbers_spelled numbers in
+    rw flat_map-cons (omega (arith, length-append (number_spelled 8 n) (numbers_spelled numbers), length-number_spelled 8 n))
+
+pub length-vector_spelled : (vector : List ℕ) → length vector ≤ 8 → length (vector_spelled vector) ≡ 64
+length-vector_spelled vector few =
+    omega (arith, length-numbers_spelled (vector ++ replicate (8 - length vector) 0), length-append vector (replicate (8 - length vector) 0), length-replicate {A = ℕ} (8 - length vector) 0)
+
+pub length-block_spelled : (bytes : List ℕ) → length (block_spelled bytes) ≡ 4 + length bytes
+length-block_spelled bytes = omega (arith, length-append (number_spelled 4 (length bytes)) bytes, length-number_spelled 4 (length bytes))
+
+pub length-value_spelled : (oid : ObjId) (bytes : List ℕ) → length (value_spelled oid bytes) ≡ 16 + length bytes
+length-value_spelled oid bytes = omega (arith, length-append (object_spelled oid) (block_spelled bytes), length-object_spelled oid, length-block_spelled bytes)
+
+pub length-member_spelled : (oid : ObjId) (id : ℕ) → length (member_spelled oid id) ≡ 20
+length-member_spelled oid id = omega (arith, length-append (object_spelled oid) (number_spelled 8 id), length-object_spelled oid, length-number_spelled 8 id)
+
+pub length-update_spelled : (u : Update) → length (update_spelled u) ≡ size_of_update u
+length-update_spelled (Write oid bytes) = omega (arith, length-append (number_spelled 1 1) (value_spelled oid bytes), length-number_spelled 1 1, length-value_spelled oid bytes)
+length-update_spelled (Add oid id) = omega (arith, length-append (number_spelled 1 2) (member_spelled oid id), length-number_spelled 1 2, length-member_spelled oid id)
+length-update_spelled (Del oid id) = omega (arith, length-append (number_spelled 1 3) (member_spelled oid id), length-number_spelled 1 3, length-member_spelled oid id)
+
+length-each : (us : List Update) → length (flat_map update_spelled us) ≡ sum_by size_of_update us
+length-each [] = refl
+length-each (u ∷ us) =
+    let others = length-each us in
+    let sums : sum_by size_of_update (u ∷ us) ≡ size_of_update u + sum_by size_of_update us = sum_by-cons size_of_update u us in
+    rw flat_map-cons (omega (arith, length-append (update_spelled u) (flat_map update_spelled us), length-update_spelled u, sums))
+
+pub length-updates_spelled : (us : List Update) → length (updates_spelled us) ≡ 2 + sum_by size_of_update us
+length-updates_spelled us = omega (arith, length-append (number_spelled 2 (length us)) (flat_map update_spelled us), length-number_spelled 2 (length us), length-each us)
+
+pub length-head_spelled : (tid : Tid) (slow : ℕ) (start : List ℕ) → length start ≤ 8 → length (head_spelled tid slow start) ≡ 85
+length-head_spelled tid slow start few =
+    omega (
+      arith,
+      length-append (tid_spelled tid ++ number_spelled 8 slow) (vector_spelled start),
+      length-append (tid_spelled tid) (number_spelled 8 slow),
+      length-tid_spelled tid,
+      length-number_spelled 8 slow,
+      length-vector_spelled start few,
+    )
+
+-- the spelling has the size of the transaction
+pub length-spelling : (tx : Tx) → length tx.start ≤ 8 → length (spelling tx) ≡ size_of tx
+length-spelling tx few =
+    omega (arith, length-append (head_spelled tx.tid tx.slow tx.start) (updates_spelled tx.updates), length-head_spelled tx.tid tx.slow tx.start few, length-updates_spelled tx.updates)

@@ -1,0 +1,89 @@
+-- How a transaction is spelled, and which transactions have a spelling (docs/FORMATS.md, "Transaction").
+use Rattle.std.specs.Prelude.{◌≡◌, ◌-◌, ◌<◌, ◌≤◌, ◌^◌, ℕ, List, ◌++◌, length, replicate, All, flat_map}
+use Rattle.walter_base.specs.Sizes.{size_of}
+use Rattle.walter_base.specs.declared.names.ObjId.{ObjId}
+use Rattle.walter_base.specs.declared.names.Tid.{Tid}
+use Rattle.walter_base.specs.declared.transaction.Tx.{Tx}
+use Rattle.walter_base.specs.declared.update.Update.{Update}
+use Rattle.walter_base.specs.declared.update.Update.TheVariants.{Write, Add, Del}
+use Rattle.walter_fields.specs.Spellings.{number_spelled, block_spelled}
+
+abbrev pub object_spelled : ObjId → List ℕ
+object_spelled oid = number_spelled 4 oid.container ++ number_spelled 8 oid.local
+
+abbrev pub tid_spelled : Tid → List ℕ
+tid_spelled tid = number_spelled 1 tid.site.0 ++ number_spelled 4 tid.epoch ++ number_spelled 8 tid.number
+
+-- eight bytes for each number
+abbrev pub numbers_spelled : List ℕ → List ℕ
+numbers_spelled numbers = flat_map (number_spelled 8) numbers
+
+-- eight numbers: those of the sites, and then 0
+abbrev pub vector_spelled : List ℕ → List ℕ
+vector_spelled vector = numbers_spelled (vector ++ replicate (8 - length vector) 0)
+
+-- the object and the value of a write
+abbrev pub value_spelled : ObjId → List ℕ → List ℕ
+value_spelled oid bytes = object_spelled oid ++ block_spelled bytes
+
+-- the set and the id of an addition to it, or of what is taken away
+abbrev pub member_spelled : ObjId → ℕ → List ℕ
+member_spelled oid id = object_spelled oid ++ number_spelled 8 id
+
+abbrev pub update_spelled : Update → List ℕ
+update_spelled (Write oid bytes) = number_spelled 1 1 ++ value_spelled oid bytes
+update_spelled (Add oid id) = number_spelled 1 2 ++ member_spelled oid id
+update_spelled (Del oid id) = number_spelled 1 3 ++ member_spelled oid id
+
+-- their count, and each of them
+abbrev pub updates_spelled : List Update → List ℕ
+updates_spelled updates = number_spelled 2 (length updates) ++ flat_map update_spelled updates
+
+-- what stands before the updates
+abbrev pub head_spelled : Tid → ℕ → List ℕ → List ℕ
+head_spelled tid slow start = tid_spelled tid ++ number_spelled 8 slow ++ vector_spelled start
+
+abbrev pub spelling : Tx → List ℕ
+spelling tx = head_spelled tx.tid tx.slow tx.start ++ updates_spelled tx.updates
+
+-- a value of at most 4,096 bytes
+abbrev pub HasShortValue : Update → Type 0
+HasShortValue (Write oid bytes) = length bytes ≤ 4096
+HasShortValue (Add oid id) = Unit {0}
+HasShortValue (Del oid id) = Unit {0}
+
+-- from 1 to 256 updates
+pub record AreFew (updates : List Update) : Type 0 where
+  pub some : 1 ≤ length updates
+  pub few : length updates ≤ 256
+  pub values : All HasShortValue updates
+
+-- the sizes of a transaction that has a spelling
+pub record CanBeSpelled (tx : Tx) : Type 0 where
+  pub sites : length tx.start ≤ 8
+  pub updates : AreFew tx.updates
+  pub size : size_of tx ≤ 60000
+
+-- the numbers are in the ranges of their fields
+abbrev pub IsObject : ObjId → Type 0
+IsObject oid = (oid.container < 2 ^ 32) × (oid.local < 2 ^ 64)
+
+abbrev pub IsTid : Tid → Type 0
+IsTid tid = (tid.site.0 < 2 ^ 8) × (tid.epoch < 2 ^ 32) × (tid.number < 2 ^ 64)
+
+abbrev pub IsUpdate : Update → Type 0
+IsUpdate (Write oid bytes) = IsObject oid
+IsUpdate (Add oid id) = IsObject oid × (id < 2 ^ 64)
+IsUpdate (Del oid id) = IsObject oid × (id < 2 ^ 64)
+
+pub record IsInRange (tx : Tx) : Type 0 where
+  pub tid : IsTid tx.tid
+  pub slow : tx.slow < 2 ^ 64
+  pub start : All (λ number. number < 2 ^ 64) tx.start
+  pub updates : All IsUpdate tx.updates
+
+-- what has a spelling among n sites
+pub record HasSpelling (n : ℕ) (tx : Tx) : Type 0 where
+  pub sites : length tx.start ≡ n
+  pub sizes : CanBeSpelled tx
+  pub ranges : IsInRange tx

@@ -1,0 +1,141 @@
+ghost use Rattle.std.specs.Prelude.{◌≡◌, ◌≢◌, ◌↔◌, ◌+◌, ◌≤◌, ◌<◌, ◌^◌, ◌++◌, ℕ, List, length, flat_map, sum_by, All, IsErr, IfOk, IfErr};
+ghost use Rattle.walter_base.specs.Sizes.{size_of_update};
+ghost use Rattle.walter_base.specs.declared.names.ObjId.{ObjId};
+ghost use Rattle.walter_base.specs.declared.update.Update.{Update};
+ghost use Rattle.walter_fields.specs.Cursors.{Takes};
+ghost use Rattle.walter_txcode.specs.Faults.{IfUnspelled};
+ghost use Rattle.walter_txcode.specs.Spelling.{value_spelled, member_spelled, update_spelled, updates_spelled, HasShortValue, AreFew, IsObject, IsUpdate};
+
+use crate::fault::Fault;
+use crate::names::{read_object, write_object};
+use std::alloc::Global;
+use walter_base::{Bytes, ObjId, Update, Updates};
+use walter_fields::{Appender, Cursor, Short};
+
+/// The most bytes that a value may have.
+const LONGEST_VALUE: usize = 4_096;
+
+/// The fewest and the most updates that a transaction may have.
+const FEWEST_UPDATES: u16 = 1;
+
+const MOST_UPDATES: u16 = 256;
+
+/// The object and the value of a write.
+fn read_value<'a>(cursor: &mut Cursor<'a>) -> Result<(ObjId, &'a [u8]), Fault>
+    ensures taken { IfOk result (λ v. Takes cursor.old cursor.new (value_spelled v.0 v.1.now)) }
+    ensures range { IfOk result (λ v. IsObject v.0) }
+    ensures short { IfOk result (λ v. length v.1.now ≤ 4096) }
+    ensures fault { IfErr result (λ fault. IfUnspelled fault ((oid : ObjId) (bytes rest : List ℕ)
+        → IsObject oid → length bytes ≤ 4096 → cursor.old.left ≢ value_spelled oid bytes ++ rest)) }
+{
+    let oid = read_object(cursor)?;
+    let bytes = cursor.block()?;
+    if bytes.len() > LONGEST_VALUE {
+        return Err(Fault::Unspelled);
+    }
+    Ok((oid, bytes))
+}
+
+/// The set and the id of what is added to it, or taken away.
+#[tactic(auto, unfolding(walter_fields::specs::Spellings::number_spelled))]
+fn read_member(cursor: &mut Cursor) -> Result<(ObjId, u64), Short>
+    ensures taken { IfOk result (λ m. Takes cursor.old cursor.new (member_spelled m.0 m.1)) }
+    ensures object { IfOk result (λ m. IsObject m.0) }
+    ensures id { IfOk result (λ m. m.1 < 2 ^ 64) }
+    ensures short { IsErr result ↔ (length cursor.old.left < 20) }
+{
+    Ok((read_object(cursor)?, cursor.u64()?))
+}
+
+fn read_update(alloc: Global, cursor: &mut Cursor) -> Result<Update, Fault>
+    ensures taken { IfOk result (λ u. Takes cursor.old cursor.new (update_spelled u)) }
+    ensures range { IfOk result IsUpdate }
+    ensures short { IfOk result HasShortValue }
+    ensures fault { IfErr result (λ fault. IfUnspelled fault ((u : Update) (rest : List ℕ)
+        → IsUpdate u → HasShortValue u → cursor.old.left ≢ update_spelled u ++ rest)) }
+{
+    match cursor.u8()? {
+        1 => {
+            let (oid, bytes) = read_value(cursor)?;
+            Ok(Update::Write(oid, Bytes::from_slice(alloc, bytes)?))
+        }
+        2 => {
+            let (oid, id) = read_member(cursor)?;
+            Ok(Update::Add(oid, id))
+        }
+        3 => {
+            let (oid, id) = read_member(cursor)?;
+            Ok(Update::Del(oid, id))
+        }
+        _ => Err(Fault::Unspelled),
+    }
+}
+
+/// So many updates, one behind the other.
+fn read_each(alloc: Global, cursor: &mut Cursor, count: u16) -> Result<Vec<Update>, Fault>
+    ensures taken { IfOk result
+        (λ us. Takes cursor.old cursor.new (flat_map update_spelled us.items)) }
+    ensures counted { IfOk result (λ us. length us.items ≡ count) }
+    ensures range { IfOk result (λ us. All IsUpdate us.items) }
+    ensures short { IfOk result (λ us. All HasShortValue us.items) }
+    ensures fault { IfErr result (λ fault. IfUnspelled fault ((us : List Update) (rest : List ℕ)
+        → length us ≡ count → All IsUpdate us → All HasShortValue us
+        → cursor.old.left ≢ flat_map update_spelled us ++ rest)) }
+{
+    let mut updates = Vec::new(alloc);
+    for _ in 0..count {
+        updates.push(read_update(alloc, cursor)?)?;
+    }
+    Ok(updates)
+}
+
+pub(crate) fn read_updates(alloc: Global, cursor: &mut Cursor) -> Result<Updates, Fault>
+    ensures taken { IfOk result (λ us. Takes cursor.old cursor.new (updates_spelled us)) }
+    ensures range { IfOk result (All IsUpdate) }
+    ensures few { IfOk result AreFew }
+    ensures fault { IfErr result (λ fault. IfUnspelled fault ((us : List Update) (rest : List ℕ)
+        → All IsUpdate us → AreFew us → cursor.old.left ≢ updates_spelled us ++ rest)) }
+{
+    let count = cursor.u16()?;
+    if count < FEWEST_UPDATES || count > MOST_UPDATES {
+        return Err(Fault::Unspelled);
+    }
+    Ok(Updates::from(read_each(alloc, cursor, count)?))
+}
+
+fn write_update(out: &mut Appender, update: &Update)
+    requires short { HasShortValue update.now }
+    requires room { size_of_update update.now ≤ out.old.room }
+    ensures bytes { out.new.bytes ≡ out.old.bytes ++ update_spelled update.now }
+    ensures room { out.new.room + size_of_update update.now ≡ out.old.room }
+{
+    match update {
+        Update::Write(oid, bytes) => {
+            out.u8(1);
+            write_object(out, *oid);
+            out.block(bytes.as_slice());
+        }
+        Update::Add(oid, id) => {
+            out.u8(2);
+            write_object(out, *oid);
+            out.u64(*id);
+        }
+        Update::Del(oid, id) => {
+            out.u8(3);
+            write_object(out, *oid);
+            out.u64(*id);
+        }
+    }
+}
+
+pub(crate) fn write_updates(out: &mut Appender, updates: &[Update])
+    requires few { AreFew updates.now }
+    requires room { 2 + sum_by size_of_update updates.now ≤ out.old.room }
+    ensures bytes { out.new.bytes ≡ out.old.bytes ++ updates_spelled updates.now }
+    ensures room { out.new.room + (2 + sum_by size_of_update updates.now) ≡ out.old.room }
+{
+    out.u16(updates.len() as u16);
+    for update in updates {
+        write_update(out, update);
+    }
+}

@@ -1,0 +1,62 @@
+ghost use Rattle.std.specs.Prelude.{◌≡◌, ◌≢◌, ◌↔◌, ◌+◌, ◌*◌, ◌≤◌, ◌<◌, ◌^◌, ◌++◌, ℕ, List, length, replicate, All, IsErr, IfOk, IfErr};
+ghost use Rattle.walter_fields.specs.Cursors.{Takes};
+ghost use Rattle.walter_txcode.specs.Faults.{IfUnspelled};
+ghost use Rattle.walter_txcode.specs.Spelling.{numbers_spelled, vector_spelled};
+
+use crate::fault::Fault;
+use walter_base::{SiteId, Vts};
+use walter_fields::{Appender, Cursor, Short};
+
+/// A vector of so many numbers.
+fn read_numbers(cursor: &mut Cursor, count: u8) -> Result<Vts, Short>
+    requires { count ≤ 8 }
+    ensures taken { IfOk result (λ v. Takes cursor.old cursor.new (numbers_spelled v)) }
+    ensures counted { IfOk result (λ v. length v ≡ count) }
+    ensures range { IfOk result (All (λ number. number < 2 ^ 64)) }
+    ensures short { IsErr result ↔ (length cursor.old.left < 8 * count) }
+{
+    let mut vector = Vts::zero(count);
+    for site in 0..count {
+        vector.raise(SiteId(site), cursor.u64()?);
+    }
+    Ok(vector)
+}
+
+/// So many times the number 0.
+fn read_zeros(cursor: &mut Cursor, count: u8) -> Result<(), Fault>
+    ensures ok { IfOk result (λ _. Takes cursor.old cursor.new (numbers_spelled (replicate count 0))) }
+    ensures fault { IfErr result (λ fault. IfUnspelled fault
+        ((rest : List ℕ) → cursor.old.left ≢ numbers_spelled (replicate count 0) ++ rest)) }
+{
+    for _ in 0..count {
+        if cursor.u64()? != 0 {
+            return Err(Fault::Unspelled);
+        }
+    }
+    Ok(())
+}
+
+/// A vector of so many sites.
+pub(crate) fn read_vector(cursor: &mut Cursor, sites: u8) -> Result<Vts, Fault>
+    requires { sites ≤ 8 }
+    ensures taken { IfOk result (λ v. Takes cursor.old cursor.new (vector_spelled v)) }
+    ensures counted { IfOk result (λ v. length v ≡ sites) }
+    ensures range { IfOk result (All (λ number. number < 2 ^ 64)) }
+    ensures fault { IfErr result (λ fault. IfUnspelled fault ((v rest : List ℕ)
+        → length v ≡ sites → All (λ number. number < 2 ^ 64) v → cursor.old.left ≢ vector_spelled v ++ rest)) }
+{
+    let vector = read_numbers(cursor, sites)?;
+    read_zeros(cursor, 8 - sites)?;
+    Ok(vector)
+}
+
+pub(crate) fn write_vector(out: &mut Appender, vector: &Vts)
+    requires sites { length vector.now ≤ 8 }
+    requires room { 64 ≤ out.old.room }
+    ensures bytes { out.new.bytes ≡ out.old.bytes ++ vector_spelled vector.now }
+    ensures room { out.new.room + 64 ≡ out.old.room }
+{
+    for site in 0..8 {
+        out.u64(vector.get(SiteId(site)));
+    }
+}
