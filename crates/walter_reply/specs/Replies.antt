@@ -4,15 +4,8 @@ use Rattle.walter_base.specs.declared.message.Refusal.{Refusal}
 use Rattle.walter_base.specs.declared.message.Refusal.TheVariants.{NoTx, TxOpen, Memory}
 use Rattle.walter_base.specs.declared.message.Reply.{Reply}
 use Rattle.walter_base.specs.declared.message.Reply.TheVariants.{Started, Value, Done, Committed, Ended, Refused}
-use Rattle.walter_base.specs.declared.names.Version.{Version}
 use Rattle.walter_fields.specs.Spellings.{number_spelled, block_spelled}
-use Rattle.walter_txcode.specs.Spelling.{tid_spelled, IsTid}
-
-abbrev pub version_spelled : Version → List ℕ
-version_spelled version = number_spelled 1 version.site.0 ++ number_spelled 8 version.seq
-
-abbrev pub IsVersion : Version → Type 0
-IsVersion version = (version.site.0 < 2 ^ 8) × (version.seq < 2 ^ 64)
+use Rattle.walter_names.specs.Names.{tid_spelled, version_spelled, IsTid, IsVersion}
 
 -- the number of a refusal
 abbrev pub refusal_number : Refusal → ℕ
