@@ -1,5 +1,5 @@
 -- How requests are spelled, and what is wrong with bytes that spell none (docs/FORMATS.md, "Frames of a client").
-use Rattle.std.specs.Prelude.{◌≡◌, ◌≢◌, ◌⊎◌, ◌<◌, ◌^◌, ℕ, List, [], ◌∷◌, ◌++◌, length}
+use Rattle.std.specs.Prelude.{◌≡◌, ◌≢◌, ◌⊎◌, ◌<◌, ◌≤◌, ◌^◌, ℕ, List, [], ◌∷◌, ◌++◌, length}
 use Rattle.walter_base.specs.declared.message.Request.{Request}
 use Rattle.walter_base.specs.declared.message.Request.TheVariants.{Start, Read, Write, Commit}
 use Rattle.walter_fields.specs.Spellings.{number_spelled, block_spelled}
@@ -24,6 +24,10 @@ IsRequest Commit = Unit {0}
 pub record Spells (body : List ℕ) (request : Request) : Type 0 where
   pub ranges : IsRequest request
   pub is : body ≡ request_spelled request
+
+-- the body of a frame has at most 65,536 bytes
+abbrev pub FitsFrame : Request → Type 0
+FitsFrame request = length (request_spelled request) ≤ 65536
 
 -- the first byte of a request says what is asked
 abbrev pub IsOperation : ℕ → Type 0

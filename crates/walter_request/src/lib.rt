@@ -2,7 +2,14 @@
 #![tactic(auto)]
 
 mod decoding;
+mod encoding;
 mod fault;
+mod laws;
 
 pub use decoding::decode;
+pub use encoding::encode;
 pub use fault::RequestFault;
+pub use laws::one_reading;
+
+#[cfg(test)]
+mod tests;
