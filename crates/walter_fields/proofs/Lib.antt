@@ -1,2 +1,4 @@
 pub mod Numbers
 pub mod Readings
+pub mod Exits
+pub mod Longest

@@ -40,6 +40,11 @@ pub length-number_spelled : (k n : ℕ) → length (number_spelled k n) ≡ k
 unfolding number_spelled
 length-number_spelled k n = length-bytes_high_first k n
 
+-- a byte is its own spelling
+pub number_spelled-byte : (n : ℕ) → n < 256 → number_spelled 1 n ≡ n ∷ []
+unfolding number_spelled
+number_spelled-byte n low = ap (λ (m : ℕ). m ∷ []) (omega (arith, low))
+
 pub number_spelled-are_bytes : (k n : ℕ) → IsBytes (number_spelled k n)
 unfolding number_spelled
 number_spelled-are_bytes k n = are_bytes k n

@@ -10,7 +10,7 @@ use Rattle.walter_fields.specs.Cursors.{Unread, Takes, LacksBlock}
 use Rattle.walter_fields.specs.Spellings.{IsBytes, number_spelled, number_read, signed_spelled, block_spelled}
 use Rattle.walter_fields.proofs.Numbers.{length-number_spelled, number_spelled-read, number_read-spelled, number_read-append, same_number}
 
-IsBytes-take : (n : ℕ) (bytes : List ℕ) → IsBytes bytes → IsBytes (take n bytes)
+pub IsBytes-take : (n : ℕ) (bytes : List ℕ) → IsBytes bytes → IsBytes (take n bytes)
 IsBytes-take n bytes fits i = elim (cases_lt i n) [
   | inl lt ↦ rw (get_or-take n bytes i 0 lt) (fits i)
   | inr le ↦ rw (get_or_past (take n bytes) i 0 (omega (arith, length-take n bytes))) (omega arith)

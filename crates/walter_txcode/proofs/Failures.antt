@@ -15,9 +15,12 @@ use Rattle.walter_fields.proofs.Readings.{LacksBlock-no_block, same_block}
 use Rattle.walter_txcode.specs.declared.fault.Fault.{Fault}
 use Rattle.walter_txcode.specs.declared.fault.Fault.TheVariants.{Unspelled, NoMemory}
 use Rattle.walter_txcode.specs.Faults.{IfUnspelled}
-use Rattle.walter_txcode.specs.Spelling.{object_spelled, tid_spelled, numbers_spelled, vector_spelled, value_spelled, member_spelled, update_spelled, updates_spelled, head_spelled, spelling, HasShortValue, AreFew, IsObject, IsTid, IsUpdate, HasSpelling}
-use Rattle.walter_txcode.proofs.Lengths.{length-tid_spelled, length-numbers_spelled, length-value_spelled, length-member_spelled, length-update_spelled, length-updates_spelled, length-head_spelled, length-spelling, length-vector_spelled}
-use Rattle.walter_txcode.proofs.Prefixes.{same_object, same_tid, same_numbers, vector_parts, kind_of, fields_spelled, behind_kind, same_update, AreSpellable, AreSpellable-from_both, each_spelled, each_parts, HasHead, same_head, same_updates, first_two}
+use Rattle.walter_names.specs.Names.{object_spelled, tid_spelled, IsObject, IsTid}
+use Rattle.walter_txcode.specs.Spelling.{numbers_spelled, vector_spelled, value_spelled, member_spelled, update_spelled, updates_spelled, head_spelled, spelling, HasShortValue, AreFew, IsUpdate, HasSpelling}
+use Rattle.walter_names.proofs.Lengths.{length-tid_spelled}
+use Rattle.walter_txcode.proofs.Lengths.{length-numbers_spelled, length-value_spelled, length-member_spelled, length-update_spelled, length-updates_spelled, length-head_spelled, length-spelling, length-vector_spelled}
+use Rattle.walter_names.proofs.Prefixes.{same_object, same_tid}
+use Rattle.walter_txcode.proofs.Prefixes.{same_numbers, vector_parts, kind_of, fields_spelled, behind_kind, same_update, AreSpellable, AreSpellable-from_both, each_spelled, each_parts, HasHead, same_head, same_updates, first_two}
 
 pub IfUnspelled-weaker : (fault : Fault) {P Q : Type 0} → (P → Q) → IfUnspelled fault P → IfUnspelled fault Q
 IfUnspelled-weaker Unspelled f h = f h

@@ -12,21 +12,9 @@ use Rattle.walter_base.specs.declared.update.Update.{Update}
 use Rattle.walter_base.specs.declared.update.Update.TheVariants.{Write, Add, Del}
 use Rattle.walter_fields.specs.Spellings.{number_spelled, block_spelled}
 use Rattle.walter_fields.proofs.Numbers.{length-number_spelled}
-use Rattle.walter_txcode.specs.Spelling.{object_spelled, tid_spelled, numbers_spelled, vector_spelled, value_spelled, member_spelled, update_spelled, updates_spelled, head_spelled, spelling}
-
-pub length-object_spelled : (oid : ObjId) → length (object_spelled oid) ≡ 12
-length-object_spelled oid = omega (arith, length-append (number_spelled 4 oid.container) (number_spelled 8 oid.local), length-number_spelled 4 oid.container, length-number_spelled 8 oid.local)
-
-pub length-tid_spelled : (tid : Tid) → length (tid_spelled tid) ≡ 13
-length-tid_spelled tid =
-    omega (
-      arith,
-      length-append (number_spelled 1 tid.site.0 ++ number_spelled 4 tid.epoch) (number_spelled 8 tid.number),
-      length-append (number_spelled 1 tid.site.0) (number_spelled 4 tid.epoch),
-      length-number_spelled 1 tid.site.0,
-      length-number_spelled 4 tid.epoch,
-      length-number_spelled 8 tid.number,
-    )
+use Rattle.walter_names.proofs.Lengths.{length-object_spelled, length-tid_spelled, length-block_spelled}
+use Rattle.walter_names.specs.Names.{object_spelled, tid_spelled}
+use Rattle.walter_txcode.specs.Spelling.{numbers_spelled, vector_spelled, value_spelled, member_spelled, update_spelled, updates_spelled, head_spelled, spelling}
 
 pub length-numbers_spelled : (numbers : List ℕ) → length (numbers_spelled numbers) ≡ 8 * length numbers
 length-numbers_spelled [] = refl
@@ -37,9 +25,6 @@ length-numbers_spelled (n ∷ numbers) =
 pub length-vector_spelled : (vector : List ℕ) → length vector ≤ 8 → length (vector_spelled vector) ≡ 64
 length-vector_spelled vector few =
     omega (arith, length-numbers_spelled (vector ++ replicate (8 - length vector) 0), length-append vector (replicate (8 - length vector) 0), length-replicate {A = ℕ} (8 - length vector) 0)
-
-pub length-block_spelled : (bytes : List ℕ) → length (block_spelled bytes) ≡ 4 + length bytes
-length-block_spelled bytes = omega (arith, length-append (number_spelled 4 (length bytes)) bytes, length-number_spelled 4 (length bytes))
 
 pub length-value_spelled : (oid : ObjId) (bytes : List ℕ) → length (value_spelled oid bytes) ≡ 16 + length bytes
 length-value_spelled oid bytes = omega (arith, length-append (object_spelled oid) (block_spelled bytes), length-object_spelled oid, length-block_spelled bytes)

@@ -13,27 +13,9 @@ use Rattle.walter_base.specs.declared.update.Update.TheVariants.{Write, Add, Del
 use Rattle.walter_fields.specs.Spellings.{number_spelled, block_spelled}
 use Rattle.walter_fields.proofs.Numbers.{same_number}
 use Rattle.walter_fields.proofs.Readings.{same_block}
-use Rattle.walter_txcode.specs.Spelling.{object_spelled, tid_spelled, numbers_spelled, vector_spelled, value_spelled, member_spelled, update_spelled, updates_spelled, head_spelled, spelling, HasShortValue, AreFew, IsObject, IsTid, IsUpdate, HasSpelling}
-
--- two spellings that are regrouped round what follows
-regrouped : (a b x c d y : List ℕ) → (a ++ b) ++ x ≡ (c ++ d) ++ y → a ++ (b ++ x) ≡ c ++ (d ++ y)
-regrouped a b x c d y e = sym (append_assoc a b x) ∙ e ∙ append_assoc c d y
-
-pub same_object : (a b : ObjId) (x y : List ℕ) → IsObject a → IsObject b → object_spelled a ++ x ≡ object_spelled b ++ y → (a ≡ b) × (x ≡ y)
-same_object a b x y fits_a fits_b e =
-    let one = same_number 4 a.container b.container (number_spelled 8 a.local ++ x) (number_spelled 8 b.local ++ y) (omega arith) (omega arith)
-    (regrouped (number_spelled 4 a.container) (number_spelled 8 a.local) x (number_spelled 4 b.container) (number_spelled 8 b.local) y e) in
-    let two = same_number 8 a.local b.local x y (omega arith) (omega arith) one.1 in
-    ((λ i. record { container = one.0 i; local = two.0 i }), two.1)
-
-pub same_tid : (a b : Tid) (x y : List ℕ) → IsTid a → IsTid b → tid_spelled a ++ x ≡ tid_spelled b ++ y → (a ≡ b) × (x ≡ y)
-same_tid a b x y fits_a fits_b e =
-    let inner = regrouped (number_spelled 1 a.site.0 ++ number_spelled 4 a.epoch) (number_spelled 8 a.number) x (number_spelled 1 b.site.0 ++ number_spelled 4 b.epoch) (number_spelled 8 b.number) y e in
-    let one = same_number 1 a.site.0 b.site.0 (number_spelled 4 a.epoch ++ (number_spelled 8 a.number ++ x)) (number_spelled 4 b.epoch ++ (number_spelled 8 b.number ++ y)) (omega arith) (omega arith)
-    (regrouped (number_spelled 1 a.site.0) (number_spelled 4 a.epoch) (number_spelled 8 a.number ++ x) (number_spelled 1 b.site.0) (number_spelled 4 b.epoch) (number_spelled 8 b.number ++ y) inner) in
-    let two = same_number 4 a.epoch b.epoch (number_spelled 8 a.number ++ x) (number_spelled 8 b.number ++ y) (omega arith) (omega arith) one.1 in
-    let three = same_number 8 a.number b.number x y (omega arith) (omega arith) two.1 in
-    ((λ i. record { site = record { 0 = one.0 i }; epoch = two.0 i; number = three.0 i }), three.1)
+use Rattle.walter_names.proofs.Prefixes.{regrouped, same_object, same_tid}
+use Rattle.walter_names.specs.Names.{object_spelled, tid_spelled, IsObject, IsTid}
+use Rattle.walter_txcode.specs.Spelling.{numbers_spelled, vector_spelled, value_spelled, member_spelled, update_spelled, updates_spelled, head_spelled, spelling, HasShortValue, AreFew, IsUpdate, HasSpelling}
 
 each_number : (xs ys x y : List ℕ) → length xs ≡ length ys → AllByRecursion (λ n. n < 2 ^ 64) xs → AllByRecursion (λ n. n < 2 ^ 64) ys
     → numbers_spelled xs ++ x ≡ numbers_spelled ys ++ y → (xs ≡ ys) × (x ≡ y)

@@ -7,12 +7,7 @@ use Rattle.walter_base.specs.declared.transaction.Tx.{Tx}
 use Rattle.walter_base.specs.declared.update.Update.{Update}
 use Rattle.walter_base.specs.declared.update.Update.TheVariants.{Write, Add, Del}
 use Rattle.walter_fields.specs.Spellings.{number_spelled, block_spelled}
-
-abbrev pub object_spelled : ObjId → List ℕ
-object_spelled oid = number_spelled 4 oid.container ++ number_spelled 8 oid.local
-
-abbrev pub tid_spelled : Tid → List ℕ
-tid_spelled tid = number_spelled 1 tid.site.0 ++ number_spelled 4 tid.epoch ++ number_spelled 8 tid.number
+use Rattle.walter_names.specs.Names.{object_spelled, tid_spelled, IsObject, IsTid}
 
 -- eight bytes for each number
 abbrev pub numbers_spelled : List ℕ → List ℕ
@@ -65,12 +60,6 @@ pub record CanBeSpelled (tx : Tx) : Type 0 where
   pub size : size_of tx ≤ 60000
 
 -- the numbers are in the ranges of their fields
-abbrev pub IsObject : ObjId → Type 0
-IsObject oid = (oid.container < 2 ^ 32) × (oid.local < 2 ^ 64)
-
-abbrev pub IsTid : Tid → Type 0
-IsTid tid = (tid.site.0 < 2 ^ 8) × (tid.epoch < 2 ^ 32) × (tid.number < 2 ^ 64)
-
 abbrev pub IsUpdate : Update → Type 0
 IsUpdate (Write oid bytes) = IsObject oid
 IsUpdate (Add oid id) = IsObject oid × (id < 2 ^ 64)

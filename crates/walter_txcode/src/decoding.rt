@@ -3,15 +3,16 @@ ghost use Rattle.walter_base.specs.declared.names.Tid.{Tid};
 ghost use Rattle.walter_base.specs.declared.transaction.Tx.{Tx};
 ghost use Rattle.walter_fields.specs.Cursors.{Takes};
 ghost use Rattle.walter_txcode.specs.Faults.{IfUnspelled};
-ghost use Rattle.walter_txcode.specs.Spelling.{head_spelled, spelling, IsTid, HasSpelling};
+ghost use Rattle.walter_names.specs.Names.{IsTid};
+ghost use Rattle.walter_txcode.specs.Spelling.{head_spelled, spelling, HasSpelling};
 
 use crate::fault::Fault;
-use crate::names::read_tid;
 use crate::updates::read_updates;
 use crate::vectors::read_vector;
 use std::alloc::Global;
 use walter_base::{Mem, NoMemory, Tid, Tx, Vts};
 use walter_fields::Cursor;
+use walter_names::read_tid;
 
 /// The most bytes that a spelling may have.
 const LONGEST: usize = 60_000;

@@ -2,12 +2,12 @@ ghost use Rattle.std.specs.Prelude.{◌≡◌, ◌+◌, ◌≤◌, ◌++◌, IfO
 ghost use Rattle.walter_base.specs.Sizes.{size_of};
 ghost use Rattle.walter_txcode.specs.Spelling.{spelling, CanBeSpelled};
 
-use crate::names::write_tid;
 use crate::updates::write_updates;
 use crate::vectors::write_vector;
 use std::alloc::Global;
 use walter_base::{Bytes, Mem, NoMemory, Tx};
 use walter_fields::Appender;
+use walter_names::write_tid;
 
 /// Writes the transaction's spelling behind what was written.
 pub fn append(out: &mut Appender, tx: &Tx)

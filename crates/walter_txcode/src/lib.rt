@@ -5,7 +5,6 @@ mod decoding;
 mod encoding;
 mod fault;
 mod laws;
-mod names;
 mod updates;
 mod vectors;
 

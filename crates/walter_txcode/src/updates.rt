@@ -4,13 +4,14 @@ ghost use Rattle.walter_base.specs.declared.names.ObjId.{ObjId};
 ghost use Rattle.walter_base.specs.declared.update.Update.{Update};
 ghost use Rattle.walter_fields.specs.Cursors.{Takes};
 ghost use Rattle.walter_txcode.specs.Faults.{IfUnspelled};
-ghost use Rattle.walter_txcode.specs.Spelling.{value_spelled, member_spelled, update_spelled, updates_spelled, HasShortValue, AreFew, IsObject, IsUpdate};
+ghost use Rattle.walter_names.specs.Names.{IsObject};
+ghost use Rattle.walter_txcode.specs.Spelling.{value_spelled, member_spelled, update_spelled, updates_spelled, HasShortValue, AreFew, IsUpdate};
 
 use crate::fault::Fault;
-use crate::names::{read_object, write_object};
 use std::alloc::Global;
 use walter_base::{Bytes, ObjId, Update, Updates};
 use walter_fields::{Appender, Cursor, Short};
+use walter_names::{read_object, write_object};
 
 /// The most bytes that a value may have.
 const LONGEST_VALUE: usize = 4_096;

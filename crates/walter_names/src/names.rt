@@ -1,12 +1,12 @@
 ghost use Rattle.std.specs.Prelude.{◌≡◌, ◌↔◌, ◌+◌, ◌≤◌, ◌<◌, ◌^◌, ◌++◌, length, IsErr, IfOk};
 ghost use Rattle.walter_fields.specs.Cursors.{Takes};
-ghost use Rattle.walter_txcode.specs.Spelling.{object_spelled, tid_spelled, IsObject, IsTid};
+ghost use Rattle.walter_names.specs.Names.{object_spelled, tid_spelled, version_spelled, IsObject, IsTid, IsVersion};
 
-use walter_base::{ObjId, SiteId, Tid};
+use walter_base::{ObjId, SiteId, Tid, Version};
 use walter_fields::{Appender, Cursor, Short};
 
 #[tactic(auto, unfolding(walter_fields::specs::Spellings::number_spelled))]
-pub(crate) fn read_object(cursor: &mut Cursor) -> Result<ObjId, Short>
+pub fn read_object(cursor: &mut Cursor) -> Result<ObjId, Short>
     ensures taken { IfOk result (λ oid. Takes cursor.old cursor.new (object_spelled oid)) }
     ensures range { IfOk result IsObject }
     ensures short { IsErr result ↔ (length cursor.old.left < 12) }
@@ -17,7 +17,7 @@ pub(crate) fn read_object(cursor: &mut Cursor) -> Result<ObjId, Short>
     })
 }
 
-pub(crate) fn write_object(out: &mut Appender, oid: ObjId)
+pub fn write_object(out: &mut Appender, oid: ObjId)
     requires { 12 ≤ out.old.room }
     ensures bytes { out.new.bytes ≡ out.old.bytes ++ object_spelled oid }
     ensures room { out.new.room + 12 ≡ out.old.room }
@@ -27,7 +27,7 @@ pub(crate) fn write_object(out: &mut Appender, oid: ObjId)
 }
 
 #[tactic(auto, unfolding(walter_fields::specs::Spellings::number_spelled))]
-pub(crate) fn read_tid(cursor: &mut Cursor) -> Result<Tid, Short>
+pub fn read_tid(cursor: &mut Cursor) -> Result<Tid, Short>
     ensures taken { IfOk result (λ tid. Takes cursor.old cursor.new (tid_spelled tid)) }
     ensures range { IfOk result IsTid }
     ensures short { IsErr result ↔ (length cursor.old.left < 13) }
@@ -39,7 +39,7 @@ pub(crate) fn read_tid(cursor: &mut Cursor) -> Result<Tid, Short>
     })
 }
 
-pub(crate) fn write_tid(out: &mut Appender, tid: Tid)
+pub fn write_tid(out: &mut Appender, tid: Tid)
     requires { 13 ≤ out.old.room }
     ensures bytes { out.new.bytes ≡ out.old.bytes ++ tid_spelled tid }
     ensures room { out.new.room + 13 ≡ out.old.room }
@@ -47,4 +47,25 @@ pub(crate) fn write_tid(out: &mut Appender, tid: Tid)
     out.u8(tid.site.0);
     out.u32(tid.epoch);
     out.u64(tid.number);
+}
+
+#[tactic(auto, unfolding(walter_fields::specs::Spellings::number_spelled))]
+pub fn read_version(cursor: &mut Cursor) -> Result<Version, Short>
+    ensures taken { IfOk result (λ version. Takes cursor.old cursor.new (version_spelled version)) }
+    ensures range { IfOk result IsVersion }
+    ensures short { IsErr result ↔ (length cursor.old.left < 9) }
+{
+    Ok(Version {
+        site: SiteId(cursor.u8()?),
+        seq: cursor.u64()?,
+    })
+}
+
+pub fn write_version(out: &mut Appender, version: Version)
+    requires { 9 ≤ out.old.room }
+    ensures bytes { out.new.bytes ≡ out.old.bytes ++ version_spelled version }
+    ensures room { out.new.room + 9 ≡ out.old.room }
+{
+    out.u8(version.site.0);
+    out.u64(version.seq);
 }

@@ -1,0 +1,21 @@
+use Rattle.walter_names.proofs.Lengths.{length-object_spelled, length-tid_spelled, length-version_spelled}
+use Rattle.walter_names.proofs.Prefixes.{same_object, same_tid, same_version}
+use Rattle.walter_names.proofs.laws.one_spelling.Goals as goal
+
+pub returns-clause-objects : goal.returns-clause-objects
+returns-clause-objects c = same_object
+
+pub returns-clause-tids : goal.returns-clause-tids
+returns-clause-tids c = same_tid
+
+pub returns-clause-versions : goal.returns-clause-versions
+returns-clause-versions c = same_version
+
+pub returns-clause-object_bytes : goal.returns-clause-object_bytes
+returns-clause-object_bytes c = length-object_spelled
+
+pub returns-clause-tid_bytes : goal.returns-clause-tid_bytes
+returns-clause-tid_bytes c = length-tid_spelled
+
+pub returns-clause-version_bytes : goal.returns-clause-version_bytes
+returns-clause-version_bytes c = length-version_spelled

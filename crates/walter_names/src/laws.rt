@@ -1,0 +1,18 @@
+ghost use Rattle.std.specs.Prelude.{◌≡◌, ◌++◌, ℕ, List, length};
+ghost use Rattle.walter_base.specs.declared.names.ObjId.{ObjId};
+ghost use Rattle.walter_base.specs.declared.names.Tid.{Tid};
+ghost use Rattle.walter_base.specs.declared.names.Version.{Version};
+ghost use Rattle.walter_names.specs.Names.{object_spelled, tid_spelled, version_spelled, IsObject, IsTid, IsVersion};
+
+/// Spellings that are equal, whatever follows them, are of equal names. And each has as many bytes as any other.
+pub fn one_spelling()
+    ensures objects { (a b : ObjId) (x y : List ℕ) → IsObject a → IsObject b
+        → object_spelled a ++ x ≡ object_spelled b ++ y → (a ≡ b) × (x ≡ y) }
+    ensures tids { (a b : Tid) (x y : List ℕ) → IsTid a → IsTid b
+        → tid_spelled a ++ x ≡ tid_spelled b ++ y → (a ≡ b) × (x ≡ y) }
+    ensures versions { (a b : Version) (x y : List ℕ) → IsVersion a → IsVersion b
+        → version_spelled a ++ x ≡ version_spelled b ++ y → (a ≡ b) × (x ≡ y) }
+    ensures object_bytes { (oid : ObjId) → length (object_spelled oid) ≡ 12 }
+    ensures tid_bytes { (tid : Tid) → length (tid_spelled tid) ≡ 13 }
+    ensures version_bytes { (version : Version) → length (version_spelled version) ≡ 9 }
+{}

@@ -1,0 +1,11 @@
+//! Objects, the names of transactions, and versions as bytes.
+#![tactic(auto)]
+
+mod laws;
+mod names;
+
+pub use laws::one_spelling;
+pub use names::{read_object, read_tid, read_version, write_object, write_tid, write_version};
+
+#[cfg(test)]
+mod tests;

@@ -1,0 +1,4 @@
+pub mod Lengths
+pub mod Prefixes
+pub mod Fronts
+pub mod Places

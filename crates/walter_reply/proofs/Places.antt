@@ -1,0 +1,144 @@
+-- A bad frame is wrong at one place, that to which a spelling reaches, and spells no reply.
+use Rattle.std.proofs.Common.{◌≡◌, ◌≢◌, ℕ, ◌+◌, ◌<◌, List, [], ◌∷◌, ◌++◌, length, refl, sym, ap, subst, ◌∙◌, inl, inr, append_assoc, append-nil, arith}
+use Rattle.std.specs.Prelude.{Some, None}
+use Rattle.std.proofs.lemmas.List.{length-append}
+use Rattle.walter_base.specs.declared.message.Refusal.{Refusal}
+use Rattle.walter_base.specs.declared.message.Reply.{Reply}
+use Rattle.walter_base.specs.declared.message.Reply.TheVariants.{Started, Value, Done, Committed, Ended, Refused}
+use Rattle.walter_fields.specs.Cursors.{Unread, Takes, whole_of}
+use Rattle.walter_fields.specs.Spellings.{IsBytes, number_spelled, block_spelled}
+use Rattle.walter_fields.proofs.Longest.{IsLongest, one_longest}
+use Rattle.walter_fields.proofs.Numbers.{number_spelled-byte}
+use Rattle.walter_reply.specs.Replies.{reply_spelled, refusal_number, IsReply, Spells, IsKind, StandsForNothing, IsUnknown, IsBadFrame, kind, flag, refusal, empty, unknown, short, behind}
+use Rattle.walter_reply.specs.Stops.{IsFront}
+use Rattle.walter_reply.proofs.Fronts.{cut_kind, cut_flag, cut_refusal}
+use Rattle.walter_reply.proofs.Prefixes.{kind_of, fields_spelled, refusal_number-lt, first_byte, not_empty, nothing_behind}
+
+-- ---- a decoder's places are those of bad frames
+
+bad_front : (body : List ℕ) → IsFront body → IsBadFrame body (length body)
+bad_front [] cut = empty refl refl
+bad_front (byte ∷ body) cut = short cut.more cut.reply (λ e. cc) cut.some cut.spells refl
+
+left_of_whole : (cursor : Unread) (body : List ℕ) → cursor ≡ whole_of body → cursor.left ≡ body
+left_of_whole cursor body whole = ap (λ (c : Unread). c.left) whole
+
+pub bad_cut : (cursor : Unread) (body : List ℕ) → cursor ≡ whole_of body → IsBytes body → (IsBytes cursor.left → IsFront cursor.left) → IsBadFrame body (length body)
+bad_cut cursor body whole bytes stop = let is = left_of_whole cursor body whole in bad_front body (subst IsFront is (stop (subst IsBytes (sym is) bytes)))
+
+pub bad_byte : (cursor : Unread) (body : List ℕ) (at : ℕ) → cursor ≡ whole_of body → IsUnknown cursor.left at → IsBadFrame body at
+bad_byte cursor body at whole is = unknown (subst (λ t. IsUnknown t at) (left_of_whole cursor body whole) is)
+
+pub bad_rest : (cursor after : Unread) (body : List ℕ) (reply : Reply) (at : ℕ) → cursor ≡ whole_of body → IsReply reply → Takes cursor after (reply_spelled reply) → after.left ≢ []
+    → at + length after.left ≡ after.end → IsBadFrame body at
+bad_rest cursor after body reply at whole fits taken some place =
+    let is : body ≡ reply_spelled reply ++ after.left = sym (left_of_whole cursor body whole) ∙ taken.front in
+    let end : after.end ≡ length body = taken.same ∙ ap (λ (c : Unread). c.end) whole in
+    behind (reply_spelled reply) after.left reply is some (record { ranges = fits; is = refl }) (omega (arith, place, end, ap length is, length-append (reply_spelled reply) after.left))
+
+-- ---- no two readings
+
+known_kind : (reply : Reply) (byte : ℕ) → byte ≡ kind_of reply → IsKind byte
+known_kind (Started tid) byte e = inl e
+known_kind (Value value) byte e = inr (inl e)
+known_kind Done byte e = inr (inr (inl e))
+known_kind (Committed version) byte e = inr (inr (inr (inl e)))
+known_kind Ended byte e = inr (inr (inr (inr (inl e))))
+known_kind (Refused why) byte e = inr (inr (inr (inr (inr e))))
+
+-- what stands behind a value's first byte, and behind that of a refusal
+known_flag : (reply : Reply) (byte : ℕ) (rest y : List ℕ) → 0x81 ≡ kind_of reply → byte ∷ rest ≡ fields_spelled reply ++ y → byte ≢ 0 → byte ≢ 1 → ⊥
+known_flag (Value None) byte rest y same e not_0 not_1 =
+    let begins : byte ∷ rest ≡ 0 ∷ y = e ∙ ap (λ t. t ++ y) (number_spelled-byte 0 (omega arith)) in
+    not_0 (cc)
+known_flag (Value (Some v)) byte rest y same e not_0 not_1 =
+    let begins : byte ∷ rest ≡ 1 ∷ (block_spelled v ++ y) = e ∙ append_assoc (number_spelled 1 1) (block_spelled v) y ∙ ap (λ t. t ++ (block_spelled v ++ y)) (number_spelled-byte 1 (omega arith)) in
+    not_1 (cc)
+known_flag _ byte rest y same e not_0 not_1 = omega (arith, same)
+
+known_refusal : (reply : Reply) (byte : ℕ) (rest y : List ℕ) → 0xE0 ≡ kind_of reply → byte ∷ rest ≡ fields_spelled reply ++ y → ((why : Refusal) → byte ≢ refusal_number why) → ⊥
+known_refusal (Refused why) byte rest y same e none =
+    let begins : byte ∷ rest ≡ refusal_number why ∷ y = e ∙ ap (λ t. t ++ y) (number_spelled-byte (refusal_number why) (refusal_number-lt why)) in
+    none why (cc)
+known_refusal _ byte rest y same e none = omega (arith, same)
+
+whole_spelling : (body : List ℕ) (reply : Reply) → Spells body reply → body ≡ kind_of reply ∷ (fields_spelled reply ++ [])
+whole_spelling body reply spells = spells.is ∙ sym (append-nil (reply_spelled reply)) ∙ first_byte reply []
+
+-- in no spelling does a byte stand for nothing
+no_unknown : (front rest : List ℕ) (byte : ℕ) (reply : Reply) → Spells (front ++ (byte ∷ rest)) reply → ¬ StandsForNothing front byte
+no_unknown front rest byte reply spells (kind is not) =
+    let begins : byte ∷ rest ≡ kind_of reply ∷ (fields_spelled reply ++ []) = ap (λ t. t ++ (byte ∷ rest)) (sym is) ∙ whole_spelling (front ++ (byte ∷ rest)) reply spells in
+    not (known_kind reply byte (cc))
+no_unknown front rest byte reply spells (flag is not_0 not_1) =
+    let begins : 0x81 ∷ (byte ∷ rest) ≡ kind_of reply ∷ (fields_spelled reply ++ []) = ap (λ t. t ++ (byte ∷ rest)) (sym is) ∙ whole_spelling (front ++ (byte ∷ rest)) reply spells in
+    known_flag reply byte rest [] (cc) (cc) not_0 not_1
+no_unknown front rest byte reply spells (refusal is none) =
+    let begins : 0xE0 ∷ (byte ∷ rest) ≡ kind_of reply ∷ (fields_spelled reply ++ []) = ap (λ t. t ++ (byte ∷ rest)) (sym is) ∙ whole_spelling (front ++ (byte ∷ rest)) reply spells in
+    known_refusal reply byte rest [] (cc) (cc) none
+
+pub no_bad_frame : (body : List ℕ) (reply : Reply) (at : ℕ) → Spells body reply → ¬ IsBadFrame body at
+no_bad_frame body reply at spells (empty is place) = not_empty body reply spells is
+no_bad_frame body reply at spells (unknown found) = no_unknown found.front found.rest found.byte reply (subst (λ t. Spells t reply) found.is spells) found.nothing
+no_bad_frame body reply at spells (short more other full some cut place) = some (nothing_behind body more (body ++ more) reply other spells cut refl)
+no_bad_frame body reply at spells (behind front rest other is some whole place) = some (nothing_behind front rest body other reply whole spells (sym is))
+
+-- ---- how far spellings reach
+
+alone : (k : ℕ) → k < 256 → number_spelled 1 k ++ [] ≡ k ∷ []
+alone k low = append-nil (number_spelled 1 k) ∙ number_spelled-byte k low
+
+-- some spelling has what stands before a byte that stands for nothing
+reaches : (front : List ℕ) (byte : ℕ) → StandsForNothing front byte → IsFront front
+reaches front byte (kind is not) = rw is (cut_kind [] (omega arith))
+reaches front byte (flag is not_0 not_1) = subst IsFront (alone 0x81 (omega arith) ∙ sym is) (cut_flag [] (omega arith))
+reaches front byte (refusal is none) = subst IsFront (alone 0xE0 (omega arith) ∙ sym is) (cut_refusal [] (omega arith))
+
+longest : (body : List ℕ) (at : ℕ) → IsBadFrame body at → IsLongest Spells body at
+longest body at (empty is place) =
+    let front = cut_kind [] (omega arith) in
+    record {
+      front = [];
+      rest = [];
+      more = front.more;
+      value = front.reply;
+      is = is;
+      place = place;
+      spells = front.spells;
+      last = λ byte others behind other e spells. cc;
+    }
+longest body at (unknown found) =
+    let front = reaches found.front found.byte found.nothing in
+    record {
+      front = found.front;
+      rest = found.byte ∷ found.rest;
+      more = front.more;
+      value = front.reply;
+      is = found.is;
+      place = found.place;
+      spells = front.spells;
+      last = λ byte others behind other e spells. no_unknown found.front behind found.byte other (subst (λ b. Spells (found.front ++ (b ∷ behind)) other) (cc) spells) found.nothing;
+    }
+longest body at (short more reply full some spells place) = record {
+  front = body;
+  rest = [];
+  more = more;
+  value = reply;
+  is = sym (append-nil body);
+  place = place;
+  spells = spells;
+  last = λ byte others behind other e spells. cc;
+}
+longest body at (behind front rest reply is some spells place) = record {
+  front = front;
+  rest = rest;
+  more = [];
+  value = reply;
+  is = is;
+  place = place;
+  spells = subst (λ t. Spells t reply) (sym (append-nil front)) spells;
+  last = λ byte others behind other e longer. let nothing : byte ∷ behind ≡ [] = nothing_behind front (byte ∷ behind) (front ++ (byte ∷ behind)) reply other spells longer refl in cc;
+}
+
+pub one_place : (body : List ℕ) (m n : ℕ) → IsBadFrame body m → IsBadFrame body n → m ≡ n
+one_place body m n bad_m bad_n = one_longest Spells body m n (longest body m bad_m) (longest body n bad_n)

@@ -1,0 +1,106 @@
+-- No spelling of a reply begins that of another.
+use Rattle.std.proofs.Common.{◌≡◌, ◌≢◌, ℕ, ◌<◌, List, [], ◌∷◌, ◌++◌, length, refl, sym, ap, ◌∙◌, append_assoc, append-nil, arith}
+use Rattle.std.specs.Prelude.{Some, None}
+use Rattle.walter_base.specs.declared.message.Refusal.{Refusal}
+use Rattle.walter_base.specs.declared.message.Refusal.TheVariants.{NoTx, TxOpen, Memory}
+use Rattle.walter_base.specs.declared.message.Reply.{Reply}
+use Rattle.walter_base.specs.declared.message.Reply.TheVariants.{Started, Value, Done, Committed, Ended, Refused}
+use Rattle.walter_fields.specs.Spellings.{number_spelled, block_spelled}
+use Rattle.walter_fields.proofs.Numbers.{number_spelled-byte, same_number}
+use Rattle.walter_fields.proofs.Readings.{same_block}
+use Rattle.walter_names.specs.Names.{tid_spelled, version_spelled}
+use Rattle.walter_names.proofs.Prefixes.{same_tid, same_version}
+use Rattle.walter_reply.specs.Replies.{refusal_number, reply_spelled, IsReply, Spells}
+
+-- a reply is its first byte, and its fields
+abbrev pub kind_of : Reply → ℕ
+kind_of (Started tid) = 0x80
+kind_of (Value value) = 0x81
+kind_of Done = 0x82
+kind_of (Committed version) = 0x85
+kind_of Ended = 0x89
+kind_of (Refused why) = 0xE0
+
+abbrev pub fields_spelled : Reply → List ℕ
+fields_spelled (Started tid) = tid_spelled tid
+fields_spelled (Value None) = number_spelled 1 0
+fields_spelled (Value (Some bytes)) = number_spelled 1 1 ++ block_spelled bytes
+fields_spelled Done = []
+fields_spelled (Committed version) = version_spelled version
+fields_spelled Ended = []
+fields_spelled (Refused why) = number_spelled 1 (refusal_number why)
+
+pub reply_parts : (a : Reply) (x : List ℕ) → reply_spelled a ++ x ≡ number_spelled 1 (kind_of a) ++ (fields_spelled a ++ x)
+reply_parts (Started tid) x = append_assoc (number_spelled 1 0x80) (tid_spelled tid) x
+reply_parts (Value None) x = append_assoc (number_spelled 1 0x81) (number_spelled 1 0) x
+reply_parts (Value (Some bytes)) x = append_assoc (number_spelled 1 0x81) (number_spelled 1 1 ++ block_spelled bytes) x
+reply_parts Done x = refl
+reply_parts (Committed version) x = append_assoc (number_spelled 1 0x85) (version_spelled version) x
+reply_parts Ended x = refl
+reply_parts (Refused why) x = append_assoc (number_spelled 1 0xE0) (number_spelled 1 (refusal_number why)) x
+
+pub kind_of-lt : (a : Reply) → kind_of a < 256
+kind_of-lt (Started tid) = omega arith
+kind_of-lt (Value value) = omega arith
+kind_of-lt Done = omega arith
+kind_of-lt (Committed version) = omega arith
+kind_of-lt Ended = omega arith
+kind_of-lt (Refused why) = omega arith
+
+pub refusal_number-lt : (why : Refusal) → refusal_number why < 256
+refusal_number-lt NoTx = omega arith
+refusal_number-lt TxOpen = omega arith
+refusal_number-lt Memory = omega arith
+
+same_refusal : (a b : Refusal) → refusal_number a ≡ refusal_number b → a ≡ b
+same_refusal NoTx NoTx same = refl
+same_refusal TxOpen TxOpen same = refl
+same_refusal Memory Memory same = refl
+same_refusal _ _ same = absurd (omega (arith, same))
+
+-- a value that is there, behind its flag
+flagged : (v x y : List ℕ) (n : ℕ) → n < 256 → number_spelled 1 n ++ x ≡ (number_spelled 1 1 ++ block_spelled v) ++ y → (n ≡ 1) × (x ≡ block_spelled v ++ y)
+flagged v x y n low e = same_number 1 n 1 x (block_spelled v ++ y) (omega (arith, low)) (omega arith) (e ∙ append_assoc (number_spelled 1 1) (block_spelled v) y)
+
+same_fields : (a b : Reply) (x y : List ℕ) → kind_of a ≡ kind_of b → IsReply a → IsReply b → fields_spelled a ++ x ≡ fields_spelled b ++ y → (a ≡ b) × (x ≡ y)
+same_fields (Started a) (Started b) x y same fits_a fits_b e = let parts = same_tid a b x y fits_a fits_b e in ((λ i. Started (parts.0 i)), parts.1)
+same_fields (Value None) (Value None) x y same fits_a fits_b e = (refl, (same_number 1 0 0 x y (omega arith) (omega arith) e).1)
+same_fields (Value None) (Value (Some w)) x y same fits_a fits_b e = absurd (omega (arith, (flagged w x y 0 (omega arith) e).0))
+same_fields (Value (Some v)) (Value None) x y same fits_a fits_b e = absurd (omega (arith, (flagged v y x 0 (omega arith) (sym e)).0))
+same_fields (Value (Some v)) (Value (Some w)) x y same fits_a fits_b e =
+    let blocks = (flagged w (block_spelled v ++ x) y 1 (omega arith) (sym (append_assoc (number_spelled 1 1) (block_spelled v) x) ∙ e)).1 in
+    let parts = same_block v w x y fits_a fits_b blocks in
+    ((λ i. Value (Some (parts.0 i))), parts.1)
+same_fields Done Done x y same fits_a fits_b e = (refl, e)
+same_fields (Committed a) (Committed b) x y same fits_a fits_b e = let parts = same_version a b x y fits_a fits_b e in ((λ i. Committed (parts.0 i)), parts.1)
+same_fields Ended Ended x y same fits_a fits_b e = (refl, e)
+same_fields (Refused a) (Refused b) x y same fits_a fits_b e =
+    let parts = same_number 1 (refusal_number a) (refusal_number b) x y (omega (arith, refusal_number-lt a)) (omega (arith, refusal_number-lt b)) e in
+    let whys = same_refusal a b parts.0 in
+    ((λ i. Refused (whys i)), parts.1)
+same_fields _ _ x y same fits_a fits_b e = absurd (omega (arith, same))
+
+pub same_reply : (a b : Reply) (x y : List ℕ) → IsReply a → IsReply b → reply_spelled a ++ x ≡ reply_spelled b ++ y → (a ≡ b) × (x ≡ y)
+same_reply a b x y fits_a fits_b e =
+    let kinds = same_number 1 (kind_of a) (kind_of b) (fields_spelled a ++ x) (fields_spelled b ++ y) (omega (arith, kind_of-lt a)) (omega (arith, kind_of-lt b)) (sym (reply_parts a x) ∙ e ∙ reply_parts b y) in
+    same_fields a b x y kinds.0 fits_a fits_b kinds.1
+
+-- ---- of bodies
+
+-- the first byte, and the fields
+pub first_byte : (a : Reply) (x : List ℕ) → reply_spelled a ++ x ≡ kind_of a ∷ (fields_spelled a ++ x)
+first_byte a x = reply_parts a x ∙ ap (λ t. t ++ (fields_spelled a ++ x)) (number_spelled-byte (kind_of a) (kind_of-lt a))
+
+pub not_empty : (body : List ℕ) (reply : Reply) → Spells body reply → body ≢ []
+not_empty body reply spells e =
+    let begins : [] ≡ kind_of reply ∷ (fields_spelled reply ++ []) = sym e ∙ spells.is ∙ sym (append-nil (reply_spelled reply)) ∙ first_byte reply [] in
+    absurd (omega (arith, ap length begins))
+
+-- a spelling begins no other
+pub nothing_behind : (front rest body : List ℕ) (a b : Reply) → Spells front a → Spells body b → front ++ rest ≡ body → rest ≡ []
+nothing_behind front rest body a b spells_a spells_b e =
+    (same_reply a b rest [] spells_a.ranges spells_b.ranges (ap (λ t. t ++ rest) (sym spells_a.is) ∙ e ∙ spells_b.is ∙ sym (append-nil (reply_spelled b)))).1
+
+pub one_reply : (body : List ℕ) (a b : Reply) → Spells body a → Spells body b → a ≡ b
+one_reply body a b spells_a spells_b =
+    (same_reply a b [] [] spells_a.ranges spells_b.ranges (append-nil (reply_spelled a) ∙ sym spells_a.is ∙ spells_b.is ∙ sym (append-nil (reply_spelled b)))).0

@@ -1,0 +1,24 @@
+use Rattle.std.proofs.Common.{◌≡◌, ◌++◌, refl, subst, arith}
+use Rattle.walter_fields.specs.Spellings.{number_spelled}
+use Rattle.walter_fields.proofs.Exits.{exits_with}
+use Rattle.walter_reply.specs.declared.fault.Stop.TheVariants.{Cut}
+use Rattle.walter_reply.specs.Stops.{StopsBehind}
+use Rattle.walter_reply.proofs.Fronts.{cut_flag, cut_value, unknown_flag}
+use Rattle.walter_reply.proofs.decoding.read_value.Goals as goal
+
+pub returns-in_err-u8-clause-stop : goal.returns-in_err-u8-clause-stop
+returns-in_err-u8-clause-stop c =
+    let left = c.args.cursor.now.left in
+    exits_with (StopsBehind 0x81 left) Cut c.from_residual.result c.from_residual.ensures.1 (λ bytes. cut_flag left (c.in_err-u8.ensures.short.0 refl))
+
+pub returns-in_err-bytes-in-1-clause-stop : goal.returns-in_err-bytes-in-1-clause-stop
+returns-in_err-bytes-in-1-clause-stop c =
+    let left = c.args.cursor.now.left in
+    let mid = c.u8.new.self.left in
+    let exit = c.from_residual-in_err-bytes-in-1 in
+    exits_with (StopsBehind 0x81 left) Cut exit.result exit.ensures.1
+    (cut_value left mid (subst (λ k. left ≡ number_spelled 1 k ++ mid) c.in-1.is c.in_ok-u8.ensures.taken.front) (c.in_err-bytes-in-1.ensures.short.0 refl))
+
+pub returns-in_default-clause-stop : goal.returns-in_default-clause-stop
+returns-in_default-clause-stop c =
+    unknown_flag c.in_ok-u8.field-0 c.args.cursor.now.left c.u8.new.self.left (omega arith) (λ e. omega (arith, e)) (λ e. omega (arith, e)) c.in_ok-u8.ensures.taken.front

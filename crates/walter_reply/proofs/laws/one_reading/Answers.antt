@@ -1,0 +1,12 @@
+use Rattle.walter_reply.proofs.Places.{no_bad_frame, one_place}
+use Rattle.walter_reply.proofs.Prefixes.{one_reply}
+use Rattle.walter_reply.proofs.laws.one_reading.Goals as goal
+
+pub returns-clause-one : goal.returns-clause-one
+returns-clause-one c = one_reply
+
+pub returns-clause-apart : goal.returns-clause-apart
+returns-clause-apart c = no_bad_frame
+
+pub returns-clause-place : goal.returns-clause-place
+returns-clause-place c = one_place

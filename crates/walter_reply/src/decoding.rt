@@ -1,0 +1,103 @@
+ghost use Rattle.std.specs.Prelude.{◌≤◌, length, IfOk, IfErr};
+ghost use Rattle.walter_fields.specs.Cursors.{Takes};
+ghost use Rattle.walter_reply.specs.Replies.{reply_spelled, IsReply, Spells, IsFaultOf};
+ghost use Rattle.walter_reply.specs.Stops.{EndsWith, StopsBehind, StopsAt};
+
+use crate::fault::{ReplyFault, Stop};
+use std::alloc::Global;
+use walter_base::{Bytes, Refusal, Reply};
+use walter_fields::Cursor;
+use walter_names::{read_tid, read_version};
+
+/// What stands behind the first byte of Started.
+fn read_started(cursor: &mut Cursor) -> Result<Reply, Stop>
+    ensures ends { IfOk result (EndsWith 0x80 cursor.old cursor.new) }
+    ensures stop { IfErr result (StopsBehind 0x80 cursor.old.left) }
+{
+    Ok(Reply::Started(read_tid(cursor)?))
+}
+
+/// What stands behind the first byte of Value.
+fn read_value(alloc: Global, cursor: &mut Cursor) -> Result<Reply, Stop>
+    ensures ends { IfOk result (EndsWith 0x81 cursor.old cursor.new) }
+    ensures stop { IfErr result (StopsBehind 0x81 cursor.old.left) }
+{
+    match cursor.u8()? {
+        0 => Ok(Reply::Value(None)),
+        1 => {
+            let bytes = cursor.block()?;
+            Ok(Reply::Value(Some(Bytes::from_slice(alloc, bytes)?)))
+        }
+        _ => Err(Stop::Unknown(1)),
+    }
+}
+
+/// What stands behind the first byte of Committed.
+fn read_committed(cursor: &mut Cursor) -> Result<Reply, Stop>
+    ensures ends { IfOk result (EndsWith 0x85 cursor.old cursor.new) }
+    ensures stop { IfErr result (StopsBehind 0x85 cursor.old.left) }
+{
+    Ok(Reply::Committed(read_version(cursor)?))
+}
+
+/// What stands behind the first byte of Refused.
+fn read_refused(cursor: &mut Cursor) -> Result<Reply, Stop>
+    ensures ends { IfOk result (EndsWith 0xE0 cursor.old cursor.new) }
+    ensures stop { IfErr result (StopsBehind 0xE0 cursor.old.left) }
+{
+    match cursor.u8()? {
+        5 => Ok(Reply::Refused(Refusal::NoTx)),
+        6 => Ok(Reply::Refused(Refusal::TxOpen)),
+        13 => Ok(Reply::Refused(Refusal::Memory)),
+        _ => Err(Stop::Unknown(1)),
+    }
+}
+
+/// What stands behind the first byte.
+fn read_fields(alloc: Global, cursor: &mut Cursor, kind: u8) -> Result<Reply, Stop>
+    ensures ends { IfOk result (EndsWith kind cursor.old cursor.new) }
+    ensures stop { IfErr result (StopsBehind kind cursor.old.left) }
+{
+    match kind {
+        0x80 => read_started(cursor),
+        0x81 => read_value(alloc, cursor),
+        0x82 => Ok(Reply::Done),
+        0x85 => read_committed(cursor),
+        0x89 => Ok(Reply::Ended),
+        0xE0 => read_refused(cursor),
+        _ => Err(Stop::Unknown(0)),
+    }
+}
+
+fn read_reply(alloc: Global, cursor: &mut Cursor) -> Result<Reply, Stop>
+    ensures taken { IfOk result (λ reply. Takes cursor.old cursor.new (reply_spelled reply)) }
+    ensures range { IfOk result IsReply }
+    ensures stop { IfErr result (StopsAt cursor.old.left) }
+{
+    let kind = cursor.u8()?;
+    read_fields(alloc, cursor, kind)
+}
+
+/// The reply that the body of a frame spells.
+pub fn decode(alloc: Global, body: &[u8]) -> Result<Reply, ReplyFault>
+    requires { length body.now ≤ 65536 }
+    ensures spelled { IfOk result (λ reply. Spells body.now reply) }
+    ensures fault { IfErr result (λ fault. IsFaultOf body.now fault) }
+{
+    let mut cursor = Cursor::new(body);
+    match read_reply(alloc, &mut cursor) {
+        Ok(reply) => {
+            if !cursor.is_at_end() {
+                return Err(ReplyFault::BadFrame {
+                    at: cursor.place() as u32,
+                });
+            }
+            Ok(reply)
+        }
+        Err(Stop::Cut) => Err(ReplyFault::BadFrame {
+            at: body.len() as u32,
+        }),
+        Err(Stop::Unknown(at)) => Err(ReplyFault::BadFrame { at }),
+        Err(Stop::NoMemory) => Err(ReplyFault::NoMemory),
+    }
+}

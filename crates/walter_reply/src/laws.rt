@@ -1,0 +1,16 @@
+ghost use Rattle.std.specs.Prelude.{◌≡◌, ℕ, List, length};
+ghost use Rattle.walter_base.specs.declared.message.Reply.{Reply};
+ghost use Rattle.walter_reply.specs.Replies.{reply_spelled, size_of, Spells, IsBadFrame};
+
+/// A body spells one reply at most; one that spells a reply is no bad frame; and a bad frame is wrong at one place.
+/// So `decode` answers a reply, or the bad frame's place, exactly where it should, unless memory runs out.
+pub fn one_reading()
+    ensures one { (body : List ℕ) (a b : Reply) → Spells body a → Spells body b → a ≡ b }
+    ensures apart { (body : List ℕ) (reply : Reply) (at : ℕ) → Spells body reply → ¬ IsBadFrame body at }
+    ensures place { (body : List ℕ) (m n : ℕ) → IsBadFrame body m → IsBadFrame body n → m ≡ n }
+{}
+
+/// The spelling of a reply has its size.
+pub fn size_of_spelling()
+    ensures { (reply : Reply) → length (reply_spelled reply) ≡ size_of reply }
+{}

@@ -1,0 +1,15 @@
+//! What a client is answered, as bytes: one spelling for each reply, and a decoder that takes exactly the spellings.
+#![tactic(auto)]
+
+mod decoding;
+mod encoding;
+mod fault;
+mod laws;
+
+pub use decoding::decode;
+pub use encoding::{append, encode};
+pub use fault::ReplyFault;
+pub use laws::{one_reading, size_of_spelling};
+
+#[cfg(test)]
+mod tests;

@@ -1,0 +1,11 @@
+use Rattle.walter_request.proofs.Places.{one_request, no_bad_frame, one_place}
+use Rattle.walter_request.proofs.laws.one_reading.Goals as goal
+
+pub returns-clause-one : goal.returns-clause-one
+returns-clause-one c = one_request
+
+pub returns-clause-apart : goal.returns-clause-apart
+returns-clause-apart c = no_bad_frame
+
+pub returns-clause-place : goal.returns-clause-place
+returns-clause-place c = one_place

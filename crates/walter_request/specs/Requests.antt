@@ -1,0 +1,47 @@
+-- How requests are spelled, and what is wrong with bytes that spell none (docs/FORMATS.md, "Frames of a client").
+use Rattle.std.specs.Prelude.{◌≡◌, ◌≢◌, ◌⊎◌, ◌<◌, ◌≤◌, ◌^◌, ℕ, List, [], ◌∷◌, ◌++◌, length}
+use Rattle.walter_base.specs.declared.message.Request.{Request}
+use Rattle.walter_base.specs.declared.message.Request.TheVariants.{Start, Read, Write, Commit}
+use Rattle.walter_fields.specs.Spellings.{number_spelled, block_spelled}
+use Rattle.walter_names.specs.Names.{object_spelled, IsObject}
+use Rattle.walter_request.specs.declared.fault.RequestFault.{RequestFault}
+use Rattle.walter_request.specs.declared.fault.RequestFault.TheVariants.{BadFrame, NoMemory}
+
+abbrev pub request_spelled : Request → List ℕ
+request_spelled Start = number_spelled 1 1
+request_spelled (Read oid) = number_spelled 1 2 ++ object_spelled oid
+request_spelled (Write oid bytes) = number_spelled 1 3 ++ (object_spelled oid ++ block_spelled bytes)
+request_spelled Commit = number_spelled 1 8
+
+-- the numbers of a request are in the ranges of their fields
+abbrev pub IsRequest : Request → Type 0
+IsRequest Start = Unit {0}
+IsRequest (Read oid) = IsObject oid
+IsRequest (Write oid bytes) = IsObject oid × (length bytes < 2 ^ 32)
+IsRequest Commit = Unit {0}
+
+-- the body is the spelling of the request, all of it
+pub record Spells (body : List ℕ) (request : Request) : Type 0 where
+  pub ranges : IsRequest request
+  pub is : body ≡ request_spelled request
+
+-- the body of a frame has at most 65,536 bytes
+abbrev pub FitsFrame : Request → Type 0
+FitsFrame request = length (request_spelled request) ≤ 65536
+
+-- the first byte of a request says what is asked
+abbrev pub IsOperation : ℕ → Type 0
+IsOperation byte = (byte ≡ 1) ⊎ (byte ≡ 2) ⊎ (byte ≡ 3) ⊎ (byte ≡ 8)
+
+-- the body spells no request, and this is the place of what is wrong: 0 where it is empty or its first byte says nothing;
+-- its length where a field runs past its end; the place of the first byte behind the last field
+pub data IsBadFrame (body : List ℕ) (at : ℕ) : Type 0 where
+  empty : body ≡ [] → at ≡ 0 → IsBadFrame body at
+  unknown : (byte : ℕ) (rest : List ℕ) → body ≡ byte ∷ rest → ¬ IsOperation byte → at ≡ 0 → IsBadFrame body at
+  short : (more : List ℕ) (request : Request) → body ≢ [] → more ≢ [] → Spells (body ++ more) request → at ≡ length body → IsBadFrame body at
+  behind : (front rest : List ℕ) (request : Request) → body ≡ front ++ rest → rest ≢ [] → Spells front request → at ≡ length front → IsBadFrame body at
+
+-- what a fault says of the body
+abbrev pub IsFaultOf : List ℕ → RequestFault → Type 0
+IsFaultOf body (BadFrame at) = IsBadFrame body at
+IsFaultOf body NoMemory = Unit {0}

@@ -1,0 +1,75 @@
+ghost use Rattle.std.specs.Prelude.{◌≤◌, length, IfOk, IfErr};
+ghost use Rattle.walter_fields.specs.Cursors.{Takes};
+ghost use Rattle.walter_request.specs.Requests.{request_spelled, IsRequest, Spells, IsFaultOf};
+ghost use Rattle.walter_request.specs.Stops.{EndsWith, StopsBehind, StopsAt};
+
+use crate::fault::{RequestFault, Stop};
+use std::alloc::Global;
+use walter_base::{Bytes, Request};
+use walter_fields::Cursor;
+use walter_names::read_object;
+
+/// What stands behind the operation Read.
+fn read_read(cursor: &mut Cursor) -> Result<Request, Stop>
+    ensures ends { IfOk result (EndsWith 2 cursor.old cursor.new) }
+    ensures stop { IfErr result (StopsBehind 2 cursor.old.left) }
+{
+    Ok(Request::Read(read_object(cursor)?))
+}
+
+/// What stands behind the operation Write.
+fn read_write(alloc: Global, cursor: &mut Cursor) -> Result<Request, Stop>
+    ensures ends { IfOk result (EndsWith 3 cursor.old cursor.new) }
+    ensures stop { IfErr result (StopsBehind 3 cursor.old.left) }
+{
+    let oid = read_object(cursor)?;
+    let bytes = cursor.block()?;
+    Ok(Request::Write(oid, Bytes::from_slice(alloc, bytes)?))
+}
+
+/// What stands behind the operation.
+fn read_fields(alloc: Global, cursor: &mut Cursor, operation: u8) -> Result<Request, Stop>
+    ensures ends { IfOk result (EndsWith operation cursor.old cursor.new) }
+    ensures stop { IfErr result (StopsBehind operation cursor.old.left) }
+{
+    match operation {
+        1 => Ok(Request::Start),
+        2 => read_read(cursor),
+        3 => read_write(alloc, cursor),
+        8 => Ok(Request::Commit),
+        _ => Err(Stop::Unknown),
+    }
+}
+
+fn read_request(alloc: Global, cursor: &mut Cursor) -> Result<Request, Stop>
+    ensures taken { IfOk result (λ request. Takes cursor.old cursor.new (request_spelled request)) }
+    ensures range { IfOk result IsRequest }
+    ensures stop { IfErr result (StopsAt cursor.old.left) }
+{
+    let operation = cursor.u8()?;
+    read_fields(alloc, cursor, operation)
+}
+
+/// The request that the body of a frame spells.
+pub fn decode(alloc: Global, body: &[u8]) -> Result<Request, RequestFault>
+    requires { length body.now ≤ 65536 }
+    ensures spelled { IfOk result (λ request. Spells body.now request) }
+    ensures fault { IfErr result (λ fault. IsFaultOf body.now fault) }
+{
+    let mut cursor = Cursor::new(body);
+    match read_request(alloc, &mut cursor) {
+        Ok(request) => {
+            if !cursor.is_at_end() {
+                return Err(RequestFault::BadFrame {
+                    at: cursor.place() as u32,
+                });
+            }
+            Ok(request)
+        }
+        Err(Stop::Cut) => Err(RequestFault::BadFrame {
+            at: body.len() as u32,
+        }),
+        Err(Stop::Unknown) => Err(RequestFault::BadFrame { at: 0 }),
+        Err(Stop::NoMemory) => Err(RequestFault::NoMemory),
+    }
+}

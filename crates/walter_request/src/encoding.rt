@@ -1,0 +1,54 @@
+ghost use Rattle.std.specs.Prelude.{◌≡◌, ◌+◌, ◌≤◌, ◌++◌, length, IfOk};
+ghost use Rattle.walter_request.specs.Requests.{request_spelled, FitsFrame};
+
+use std::alloc::Global;
+use walter_base::{Bytes, Mem, NoMemory, Request};
+use walter_fields::Appender;
+use walter_names::write_object;
+
+/// How many bytes the spelling has.
+#[tactic(auto, using(crate::proofs::Lengths::lengths))]
+fn size_of(request: &Request) -> usize
+    requires { FitsFrame request.now }
+    ensures { result ≡ length (request_spelled request.now) }
+{
+    match request {
+        Request::Start | Request::Commit => 1,
+        Request::Read(_) => 13,
+        Request::Write(_, bytes) => 17 + bytes.len(),
+    }
+}
+
+/// Writes the request's spelling behind what was written.
+#[tactic(auto, using(crate::proofs::Lengths::lengths))]
+fn append(out: &mut Appender, request: &Request)
+    requires short { FitsFrame request.now }
+    requires room { length (request_spelled request.now) ≤ out.old.room }
+    ensures bytes { out.new.bytes ≡ out.old.bytes ++ request_spelled request.now }
+{
+    match request {
+        Request::Start => out.u8(1),
+        Request::Read(oid) => {
+            out.u8(2);
+            write_object(out, *oid);
+        }
+        Request::Write(oid, bytes) => {
+            out.u8(3);
+            write_object(out, *oid);
+            out.block(bytes.as_slice());
+        }
+        Request::Commit => out.u8(8),
+    }
+}
+
+/// The one spelling of the request.
+pub fn encode(alloc: Global, request: &Request) -> Mem<Bytes>
+    requires { FitsFrame request.now }
+    ensures { IfOk result (λ bytes. bytes ≡ request_spelled request.now) }
+{
+    let Ok(mut out) = Appender::with_room(alloc, size_of(request)) else {
+        return Err(NoMemory);
+    };
+    append(&mut out, request);
+    Ok(Bytes::from(out.into_bytes()))
+}

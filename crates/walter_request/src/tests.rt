@@ -1,0 +1,85 @@
+use crate::{RequestFault, decode, encode};
+use std::test::Fail;
+use walter_base::{Bytes, ObjId, Request};
+
+/// A Write of `hello` to the object 1, 5.
+const WRITE: [u8; 22] = [
+    3, 0, 0, 0, 1, 0, 0, 0, 0, 0, 0, 0, 5, 0, 0, 0, 5, 104, 101, 108, 108, 111,
+];
+
+/// A Read of the same object.
+const READ: [u8; 13] = [2, 0, 0, 0, 1, 0, 0, 0, 0, 0, 0, 0, 5];
+
+const OBJECT: ObjId = ObjId {
+    container: 1,
+    local: 5,
+};
+
+#[test]
+fn each_request_has_its_spelling(rt: HostRuntime) -> Result<(), Fail> {
+    let hello = Bytes::from_slice(rt.alloc(), b"hello")?;
+    let none = Bytes::from_slice(rt.alloc(), b"")?;
+    let table: [(Request, &[u8]); 5] = [
+        (Request::Start, &[1]),
+        (Request::Read(OBJECT), &READ),
+        (Request::Write(OBJECT, hello), &WRITE),
+        (
+            Request::Write(OBJECT, none),
+            &[3, 0, 0, 0, 1, 0, 0, 0, 0, 0, 0, 0, 5, 0, 0, 0, 0],
+        ),
+        (Request::Commit, &[8]),
+    ];
+    for (request, spelling) in &table {
+        let Ok(again) = decode(rt.alloc(), spelling) else {
+            return Err("the bytes spell a request".into());
+        };
+        assert_eq!(rt; encode(rt.alloc(), &again)?.as_slice(), *spelling);
+        match (request, &again) {
+            (Request::Start, Request::Start) | (Request::Commit, Request::Commit) => {}
+            (Request::Read(a), Request::Read(b)) => assert_eq!(rt; a, b),
+            (Request::Write(a, v), Request::Write(b, w)) => {
+                assert_eq!(rt; a, b);
+                assert_eq!(rt; v.as_slice(), w.as_slice());
+            }
+            _ => return Err("it is this request".into()),
+        }
+    }
+    Ok(())
+}
+
+#[test]
+fn a_bad_frame_has_its_place(rt: HostRuntime) -> Result<(), Fail> {
+    let table: [(&[u8], u32); 9] = [
+        (&[], 0),
+        (&[0], 0),
+        (&[4], 0),
+        (&[4, 2, 0], 0),
+        (&[1, 0], 1),
+        (&[8, 8, 8], 1),
+        (&[2, 0, 0, 0, 1, 0], 6),
+        (&[2, 0, 0, 0, 1, 0, 0, 0, 0, 0, 0, 0, 5, 9], 13),
+        (&WRITE[..21], 21),
+    ];
+    for (body, at) in table {
+        match decode(rt.alloc(), body) {
+            Err(fault) => assert_eq!(rt; fault, RequestFault::BadFrame { at }),
+            Ok(_) => return Err("the frame spells no request".into()),
+        }
+    }
+    Ok(())
+}
+
+#[test]
+fn faults_have_texts(rt: HostRuntime) -> Result<(), Fail> {
+    let bad = RequestFault::BadFrame { at: 7 };
+    assert_eq!(rt;
+        format!(in rt.alloc(); "{bad}")?.as_str(),
+        "the frame has no reading at 7"
+    );
+    let memory = RequestFault::NoMemory;
+    assert_eq!(rt;
+        format!(in rt.alloc(); "{memory}")?.as_str(),
+        "out of memory"
+    );
+    Ok(())
+}
