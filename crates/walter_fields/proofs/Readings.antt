@@ -1,12 +1,12 @@
 -- What is cut from the front of the bytes that are left, as a number and as a block.
-use Rattle.std.proofs.Common.{◌≡◌, ◌≢◌, ℕ, ℤ, ◌+◌, ◌^◌, ◌<◌, List, ◌++◌, length, take, drop, refl, sym, ap, ◌∙◌, inl, inr, append_assoc, arith}
+use Rattle.std.proofs.Common.{◌≡◌, ◌≢◌, ℕ, ℤ, ◌+◌, ◌^◌, ◌<◌, List, ◌++◌, length, take, drop, refl, sym, ap, subst, ◌∙◌, inl, inr, append_assoc, arith}
 use Rattle.std.proofs.lemmas.Bool.{cases_lt}
 use Rattle.std.proofs.lemmas.List.{length-append, length-take, take-append-drop, get_or-take, get_or-drop, get_or_past, take_at, drop_at}
 use Rattle.std.specs.List.{IsSplitAt}
 use Rattle.std.specs.Prelude.{FitsSigned}
 use Rattle.std.specs.Int.{w64, cast_signed, cast_unsigned}
 use Rattle.std.proofs.lemmas.Int.{ints, to_z-of_z}
-use Rattle.walter_fields.specs.Cursors.{Unread, Takes, LacksBlock}
+use Rattle.walter_fields.specs.Cursors.{Unread, Takes, LacksBlock, whole_of}
 use Rattle.walter_fields.specs.Spellings.{IsBytes, number_spelled, number_read, signed_spelled, block_spelled}
 use Rattle.walter_fields.proofs.Numbers.{length-number_spelled, number_spelled-read, number_read-spelled, number_read-append, same_number}
 
@@ -18,6 +18,9 @@ IsBytes-take n bytes fits i = elim (cases_lt i n) [
 
 pub IsBytes-drop : (n : ℕ) (bytes : List ℕ) → IsBytes bytes → IsBytes (drop n bytes)
 IsBytes-drop n bytes fits i = rw get_or-drop (fits (n + i))
+
+pub IsBytes-behind : (front left : List ℕ) → IsBytes (front ++ left) → IsBytes left
+IsBytes-behind front left bytes = subst IsBytes (drop_at front left (length front) refl) (IsBytes-drop (length front) (front ++ left) bytes)
 
 -- the front that is cut off is the spelling of its number
 pub number_in_front : (k end : ℕ) (left front rest : List ℕ) → IsBytes left → IsSplitAt left k front rest
@@ -73,3 +76,7 @@ same_signed a b x y fits_a fits_b e =
 -- one spelling is read, and then another
 pub Takes-then : (a b c : Unread) (x y : List ℕ) → Takes a b x → Takes b c y → Takes a c (x ++ y)
 Takes-then a b c x y first second = record { front = first.front ∙ ap (λ t. x ++ t) second.front ∙ sym (append_assoc x y c.left); same = second.same ∙ first.same }
+
+-- at the start all is left
+pub left_of_whole : (cursor : Unread) (body : List ℕ) → cursor ≡ whole_of body → cursor.left ≡ body
+left_of_whole cursor body whole = ap (λ (c : Unread). c.left) whole

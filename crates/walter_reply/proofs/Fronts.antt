@@ -1,7 +1,7 @@
 -- Bytes that end within a reply are the front of a spelling.
 use Rattle.std.proofs.Common.{◌≡◌, ◌≢◌, ℕ, ◌<◌, List, [], ◌∷◌, ◌++◌, length, refl, sym, ap, subst, ◌∙◌, inl, inr, append_assoc, arith}
 use Rattle.std.specs.Prelude.{Some, None}
-use Rattle.std.proofs.lemmas.List.{drop_at, nil_from_length}
+use Rattle.std.proofs.lemmas.List.{nil_from_length}
 use Rattle.walter_base.specs.declared.message.Refusal.{Refusal}
 use Rattle.walter_base.specs.declared.message.Refusal.TheVariants.{NoTx, TxOpen, Memory}
 use Rattle.walter_base.specs.declared.message.Reply.{Reply}
@@ -9,7 +9,7 @@ use Rattle.walter_base.specs.declared.message.Reply.TheVariants.{Started, Value,
 use Rattle.walter_fields.specs.Cursors.{LacksBlock}
 use Rattle.walter_fields.specs.Spellings.{IsBytes, number_spelled, block_spelled}
 use Rattle.walter_fields.proofs.Numbers.{length-number_spelled, number_spelled-byte}
-use Rattle.walter_fields.proofs.Readings.{IsBytes-drop}
+use Rattle.walter_fields.proofs.Readings.{IsBytes-behind}
 use Rattle.walter_names.specs.Names.{tid_spelled, version_spelled}
 use Rattle.walter_names.proofs.Cuts.{cut_tid, cut_version, cut_block}
 use Rattle.walter_reply.specs.Replies.{reply_spelled, IsReply, IsKind, IsUnknown, kind, flag, refusal, refusal_number}
@@ -27,9 +27,6 @@ front_of k left more fields reply fits some is spelled = record {
   spells = record { ranges = fits; is = append_assoc (number_spelled 1 k) left more ∙ ap (λ t. number_spelled 1 k ++ t) is ∙ sym spelled };
 }
 
-pub IsBytes-behind : (k : ℕ) (left : List ℕ) → IsBytes (number_spelled 1 k ++ left) → IsBytes left
-IsBytes-behind k left bytes = subst IsBytes (drop_at (number_spelled 1 k) left 1 (length-number_spelled 1 k)) (IsBytes-drop 1 (number_spelled 1 k ++ left) bytes)
-
 pub cut_kind : (left : List ℕ) → length left < 1 → IsFront left
 cut_kind left few = rw (nil_from_length left (omega (arith, few))) nothing
   where
@@ -37,11 +34,11 @@ cut_kind left few = rw (nil_from_length left (omega (arith, few))) nothing
     nothing = record { more = number_spelled 1 0x89; reply = Ended; some = some_of 1 0x89 (omega arith); spells = record { ranges = tt; is = refl } }
 
 pub cut_started : (left : List ℕ) → length left < 13 → IsBytes (number_spelled 1 0x80 ++ left) → IsFront (number_spelled 1 0x80 ++ left)
-cut_started left few bytes = let cut = cut_tid left (IsBytes-behind 0x80 left bytes) few in front_of 0x80 left cut.more (tid_spelled cut.value) (Started cut.value) cut.ranges cut.some cut.spells refl
+cut_started left few bytes = let cut = cut_tid left (IsBytes-behind (number_spelled 1 0x80) left bytes) few in front_of 0x80 left cut.more (tid_spelled cut.value) (Started cut.value) cut.ranges cut.some cut.spells refl
 
 pub cut_committed : (left : List ℕ) → length left < 9 → IsBytes (number_spelled 1 0x85 ++ left) → IsFront (number_spelled 1 0x85 ++ left)
 cut_committed left few bytes =
-    let cut = cut_version left (IsBytes-behind 0x85 left bytes) few in front_of 0x85 left cut.more (version_spelled cut.value) (Committed cut.value) cut.ranges cut.some cut.spells refl
+    let cut = cut_version left (IsBytes-behind (number_spelled 1 0x85) left bytes) few in front_of 0x85 left cut.more (version_spelled cut.value) (Committed cut.value) cut.ranges cut.some cut.spells refl
 
 pub cut_flag : (left : List ℕ) → length left < 1 → IsFront (number_spelled 1 0x81 ++ left)
 cut_flag left few = front_of 0x81 left (number_spelled 1 0) (number_spelled 1 0) (Value None) tt (some_of 1 0 (omega arith)) (ap (λ t. t ++ number_spelled 1 0) (nil_from_length left (omega (arith, few)))) refl
@@ -51,7 +48,7 @@ cut_refusal left few = front_of 0xE0 left (number_spelled 1 5) (number_spelled 1
 
 pub cut_value : (left mid : List ℕ) → left ≡ number_spelled 1 1 ++ mid → LacksBlock mid → IsBytes (number_spelled 1 0x81 ++ left) → IsFront (number_spelled 1 0x81 ++ left)
 cut_value left mid is lacks bytes =
-    let mid_bytes = IsBytes-behind 1 mid (subst IsBytes is (IsBytes-behind 0x81 left bytes)) in
+    let mid_bytes = IsBytes-behind (number_spelled 1 1) mid (subst IsBytes is (IsBytes-behind (number_spelled 1 0x81) left bytes)) in
     let cut = cut_block mid mid_bytes lacks in
     front_of 0x81 left cut.more (number_spelled 1 1 ++ block_spelled cut.value) (Value (Some cut.value)) cut.ranges cut.some
     (ap (λ t. t ++ cut.more) is ∙ append_assoc (number_spelled 1 1) mid cut.more ∙ ap (λ t. number_spelled 1 1 ++ t) cut.spells) refl

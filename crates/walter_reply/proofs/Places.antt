@@ -9,19 +9,17 @@ use Rattle.walter_fields.specs.Cursors.{Unread, Takes, whole_of}
 use Rattle.walter_fields.specs.Spellings.{IsBytes, number_spelled, block_spelled}
 use Rattle.walter_fields.proofs.Longest.{IsLongest, one_longest}
 use Rattle.walter_fields.proofs.Numbers.{number_spelled-byte}
+use Rattle.walter_fields.proofs.Readings.{left_of_whole}
 use Rattle.walter_reply.specs.Replies.{reply_spelled, refusal_number, IsReply, Spells, IsKind, StandsForNothing, IsUnknown, IsBadFrame, kind, flag, refusal, empty, unknown, short, behind}
 use Rattle.walter_reply.specs.Stops.{IsFront}
 use Rattle.walter_reply.proofs.Fronts.{cut_kind, cut_flag, cut_refusal}
-use Rattle.walter_reply.proofs.Prefixes.{kind_of, fields_spelled, refusal_number-lt, first_byte, not_empty, nothing_behind}
+use Rattle.walter_reply.proofs.Prefixes.{kind_of, fields_spelled, refusal_number-lt, whole_spelling, not_empty, nothing_behind}
 
 -- ---- a decoder's places are those of bad frames
 
 bad_front : (body : List ℕ) → IsFront body → IsBadFrame body (length body)
 bad_front [] cut = empty refl refl
 bad_front (byte ∷ body) cut = short cut.more cut.reply (λ e. cc) cut.some cut.spells refl
-
-left_of_whole : (cursor : Unread) (body : List ℕ) → cursor ≡ whole_of body → cursor.left ≡ body
-left_of_whole cursor body whole = ap (λ (c : Unread). c.left) whole
 
 pub bad_cut : (cursor : Unread) (body : List ℕ) → cursor ≡ whole_of body → IsBytes body → (IsBytes cursor.left → IsFront cursor.left) → IsBadFrame body (length body)
 bad_cut cursor body whole bytes stop = let is = left_of_whole cursor body whole in bad_front body (subst IsFront is (stop (subst IsBytes (sym is) bytes)))
@@ -61,9 +59,6 @@ known_refusal (Refused why) byte rest y same e none =
     let begins : byte ∷ rest ≡ refusal_number why ∷ y = e ∙ ap (λ t. t ++ y) (number_spelled-byte (refusal_number why) (refusal_number-lt why)) in
     none why (cc)
 known_refusal _ byte rest y same e none = omega (arith, same)
-
-whole_spelling : (body : List ℕ) (reply : Reply) → Spells body reply → body ≡ kind_of reply ∷ (fields_spelled reply ++ [])
-whole_spelling body reply spells = spells.is ∙ sym (append-nil (reply_spelled reply)) ∙ first_byte reply []
 
 -- in no spelling does a byte stand for nothing
 no_unknown : (front rest : List ℕ) (byte : ℕ) (reply : Reply) → Spells (front ++ (byte ∷ rest)) reply → ¬ StandsForNothing front byte

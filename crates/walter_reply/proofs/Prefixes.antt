@@ -1,5 +1,5 @@
 -- No spelling of a reply begins that of another.
-use Rattle.std.proofs.Common.{◌≡◌, ◌≢◌, ℕ, ◌<◌, List, [], ◌∷◌, ◌++◌, length, refl, sym, ap, ◌∙◌, append_assoc, append-nil, arith}
+use Rattle.std.proofs.Common.{◌≡◌, ◌≢◌, ℕ, ◌<◌, List, [], ◌∷◌, ◌++◌, refl, sym, ap, ◌∙◌, append_assoc, append-nil, arith}
 use Rattle.std.specs.Prelude.{Some, None}
 use Rattle.walter_base.specs.declared.message.Refusal.{Refusal}
 use Rattle.walter_base.specs.declared.message.Refusal.TheVariants.{NoTx, TxOpen, Memory}
@@ -91,10 +91,11 @@ same_reply a b x y fits_a fits_b e =
 pub first_byte : (a : Reply) (x : List ℕ) → reply_spelled a ++ x ≡ kind_of a ∷ (fields_spelled a ++ x)
 first_byte a x = reply_parts a x ∙ ap (λ t. t ++ (fields_spelled a ++ x)) (number_spelled-byte (kind_of a) (kind_of-lt a))
 
+pub whole_spelling : (body : List ℕ) (reply : Reply) → Spells body reply → body ≡ kind_of reply ∷ (fields_spelled reply ++ [])
+whole_spelling body reply spells = spells.is ∙ sym (append-nil (reply_spelled reply)) ∙ first_byte reply []
+
 pub not_empty : (body : List ℕ) (reply : Reply) → Spells body reply → body ≢ []
-not_empty body reply spells e =
-    let begins : [] ≡ kind_of reply ∷ (fields_spelled reply ++ []) = sym e ∙ spells.is ∙ sym (append-nil (reply_spelled reply)) ∙ first_byte reply [] in
-    absurd (omega (arith, ap length begins))
+not_empty body reply spells e = let begins : [] ≡ kind_of reply ∷ (fields_spelled reply ++ []) = sym e ∙ whole_spelling body reply spells in cc
 
 -- a spelling begins no other
 pub nothing_behind : (front rest body : List ℕ) (a b : Reply) → Spells front a → Spells body b → front ++ rest ≡ body → rest ≡ []

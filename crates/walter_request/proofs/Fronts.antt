@@ -1,23 +1,19 @@
 -- Bytes that end within a request are the front of a spelling.
-use Rattle.std.proofs.Common.{Result, Ok, Err, ◌≡◌, ◌≢◌, ℕ, ◌<◌, List, [], ◌++◌, length, drop, refl, sym, ap, subst, ◌∙◌, append_assoc, arith}
-use Rattle.std.specs.Prelude.{IfErr, IsErrAnd}
-use Rattle.std.proofs.lemmas.List.{length-append, drop_at, nil_from_length}
+use Rattle.std.proofs.Common.{◌≡◌, ◌≢◌, ℕ, ◌<◌, List, [], ◌++◌, length, refl, sym, ap, subst, ◌∙◌, inl, inr, append_assoc, arith}
+use Rattle.std.proofs.lemmas.List.{length-append, nil_from_length}
 use Rattle.walter_base.specs.declared.message.Request.{Request}
 use Rattle.walter_base.specs.declared.message.Request.TheVariants.{Start, Read, Write}
 use Rattle.walter_base.specs.declared.names.ObjId.{ObjId}
 use Rattle.walter_fields.specs.Cursors.{LacksBlock}
 use Rattle.walter_fields.specs.Spellings.{IsBytes, number_spelled, block_spelled}
 use Rattle.walter_fields.proofs.Numbers.{length-number_spelled, number_spelled-byte}
-use Rattle.walter_fields.proofs.Readings.{IsBytes-drop}
+use Rattle.walter_fields.proofs.Readings.{IsBytes-behind}
 use Rattle.walter_names.specs.Names.{object_spelled, IsObject}
-use Rattle.walter_names.proofs.Lengths.{length-object_spelled}
 use Rattle.walter_names.proofs.Cuts.{cut_object, cut_block}
-use Rattle.walter_request.specs.Requests.{request_spelled, IsRequest}
-use Rattle.walter_request.specs.declared.fault.Stop.{Stop}
-use Rattle.walter_request.specs.declared.fault.Stop.TheVariants.{Cut, Unknown, NoMemory}
-use Rattle.walter_request.specs.Stops.{IsFront, StopsAt, StopsBehind}
+use Rattle.walter_request.specs.Requests.{request_spelled, IsRequest, IsOperation}
+use Rattle.walter_request.specs.Stops.{IsFront, StartsUnknown}
 
-pub empty_is_front : IsFront []
+empty_is_front : IsFront []
 empty_is_front = record { more = number_spelled 1 1; request = Start; some = λ e. omega (arith, ap length e, length-number_spelled 1 1); spells = record { ranges = tt; is = refl } }
 
 -- the operation, and fields of which some bytes are wanting
@@ -30,21 +26,21 @@ front_of operation left more fields request fits some is spelled = record {
   spells = record { ranges = fits; is = append_assoc (number_spelled 1 operation) left more ∙ ap (λ t. number_spelled 1 operation ++ t) is ∙ sym spelled };
 }
 
-pub cut_read : (left : List ℕ) → length left < 12 → IsBytes left → IsFront (number_spelled 1 2 ++ left)
-cut_read left few bytes = let cut = cut_object left bytes few in front_of 2 left cut.more (object_spelled cut.value) (Read cut.value) cut.ranges cut.some cut.spells refl
+pub cut_read : (left : List ℕ) → length left < 12 → IsBytes (number_spelled 1 2 ++ left) → IsFront (number_spelled 1 2 ++ left)
+cut_read left few bytes = let cut = cut_object left (IsBytes-behind (number_spelled 1 2) left bytes) few in front_of 2 left cut.more (object_spelled cut.value) (Read cut.value) cut.ranges cut.some cut.spells refl
 
-pub cut_write_object : (left : List ℕ) → length left < 12 → IsBytes left → IsFront (number_spelled 1 3 ++ left)
+pub cut_write_object : (left : List ℕ) → length left < 12 → IsBytes (number_spelled 1 3 ++ left) → IsFront (number_spelled 1 3 ++ left)
 cut_write_object left few bytes =
-    let cut = cut_object left bytes few in
+    let cut = cut_object left (IsBytes-behind (number_spelled 1 3) left bytes) few in
     front_of 3 left (cut.more ++ block_spelled []) (object_spelled cut.value ++ block_spelled []) (Write cut.value []) (cut.ranges, omega arith)
     (λ e. cut.some (empty_front cut.more (block_spelled []) e)) (sym (append_assoc left cut.more (block_spelled [])) ∙ ap (λ t. t ++ block_spelled []) cut.spells) refl
   where
     empty_front : (a b : List ℕ) → a ++ b ≡ [] → a ≡ []
     empty_front a b e = nil_from_length a (omega (arith, ap length e, length-append a b))
 
-pub cut_write_block : (left mid : List ℕ) (oid : ObjId) → IsObject oid → left ≡ object_spelled oid ++ mid → LacksBlock mid → IsBytes left → IsFront (number_spelled 1 3 ++ left)
+pub cut_write_block : (left mid : List ℕ) (oid : ObjId) → IsObject oid → left ≡ object_spelled oid ++ mid → LacksBlock mid → IsBytes (number_spelled 1 3 ++ left) → IsFront (number_spelled 1 3 ++ left)
 cut_write_block left mid oid fits is lacks bytes =
-    let mid_bytes : IsBytes mid = subst IsBytes (ap (drop 12) is ∙ drop_at (object_spelled oid) mid 12 (length-object_spelled oid)) (IsBytes-drop 12 left bytes) in
+    let mid_bytes = IsBytes-behind (object_spelled oid) mid (subst IsBytes is (IsBytes-behind (number_spelled 1 3) left bytes)) in
     let cut = cut_block mid mid_bytes lacks in
     front_of 3 left cut.more (object_spelled oid ++ block_spelled cut.value) (Write oid cut.value) (fits, cut.ranges) cut.some
     (ap (λ t. t ++ cut.more) is ∙ append_assoc (object_spelled oid) mid cut.more ∙ ap (λ t. object_spelled oid ++ t) cut.spells) refl
@@ -52,18 +48,13 @@ cut_write_block left mid oid fits is lacks bytes =
 pub cut_operation : (left : List ℕ) → length left < 1 → IsFront left
 cut_operation left few = rw (nil_from_length left (omega (arith, few))) empty_is_front
 
--- behind the operation that was read
-pub behind_operation : (operation : ℕ) (left mid : List ℕ) (stop : Stop) → operation < 256 → left ≡ number_spelled 1 operation ++ mid → StopsBehind operation mid stop → StopsAt left stop
-behind_operation operation left mid Cut low is cut =
-    λ bytes. subst IsFront (sym is) (cut (subst IsBytes (ap (drop 1) is ∙ drop_at (number_spelled 1 operation) mid 1 (length-number_spelled 1 operation)) (IsBytes-drop 1 left bytes)))
-behind_operation operation left mid Unknown low is not = record { byte = operation; rest = mid; is = is ∙ ap (λ t. t ++ mid) (number_spelled-byte operation low); unknown = not }
-behind_operation operation left mid NoMemory low is none = tt
+-- ---- a byte that is no operation
 
--- the exit of a `?` on a field that is cut off, and what is passed on
-pub exits_cut : {T : Type 0} (P : Stop → Type 0) (r : Result T Stop) → IsErrAnd r (λ stop. stop ≡ Cut) → P Cut → IfErr r P
-exits_cut P (Ok x) is p = tt
-exits_cut P (Err stop) is p = subst P (sym is) p
+pub unknown_operation : (operation : ℕ) (left : List ℕ) → operation < 256 → ¬ IsOperation operation → StartsUnknown (number_spelled 1 operation ++ left)
+unknown_operation operation left low not = record { byte = operation; rest = left; is = ap (λ t. t ++ left) (number_spelled-byte operation low); unknown = not }
 
-pub passed_on : {T : Type 0} (P Q : Stop → Type 0) (r : Result T Stop) → ((stop : Stop) → P stop → Q stop) → IfErr r P → IfErr r Q
-passed_on P Q (Ok x) f p = tt
-passed_on P Q (Err stop) f p = f stop p
+pub not_operation : (k : ℕ) → k ≢ 1 → k ≢ 2 → k ≢ 3 → k ≢ 8 → ¬ IsOperation k
+not_operation k a b c d (inl is) = a is
+not_operation k a b c d (inr (inl is)) = b is
+not_operation k a b c d (inr (inr (inl is))) = c is
+not_operation k a b c d (inr (inr (inr is))) = d is

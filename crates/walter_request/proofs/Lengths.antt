@@ -7,16 +7,10 @@ use Rattle.walter_fields.specs.Spellings.{number_spelled, block_spelled}
 use Rattle.walter_fields.proofs.Numbers.{length-number_spelled}
 use Rattle.walter_names.specs.Names.{object_spelled}
 use Rattle.walter_names.proofs.Lengths.{length-object_spelled, length-block_spelled}
-use Rattle.walter_request.specs.Requests.{request_spelled}
+use Rattle.walter_request.specs.Requests.{request_spelled, size_of}
 
-abbrev pub size : Request → ℕ
-size Start = 1
-size (Read oid) = 13
-size (Write oid bytes) = 17 + length bytes
-size Commit = 1
-
-pub length-request_spelled : (request : Request) → length (request_spelled request) ≡ size request
-length-request_spelled Start = length-number_spelled 1 1
+pub length-request_spelled : (request : Request) → length (request_spelled request) ≡ size_of request
+length-request_spelled Start = length-number_spelled 1 _
 length-request_spelled (Read oid) = omega (arith, length-append (number_spelled 1 2) (object_spelled oid), length-number_spelled 1 2, length-object_spelled oid)
 length-request_spelled (Write oid bytes) =
     omega (
@@ -27,7 +21,7 @@ length-request_spelled (Write oid bytes) =
       length-object_spelled oid,
       length-block_spelled bytes,
     )
-length-request_spelled Commit = length-number_spelled 1 8
+length-request_spelled Commit = length-number_spelled 1 _
 
 -- for what is written of a request
 pub ruleset lengths = (length-append, length-number_spelled, length-object_spelled, length-block_spelled)

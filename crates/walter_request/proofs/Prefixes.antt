@@ -1,13 +1,13 @@
 -- No spelling of a request begins that of another.
-use Rattle.std.proofs.Common.{◌≡◌, ℕ, ◌<◌, List, [], ◌++◌, refl, sym, ◌∙◌, append_assoc, arith}
+use Rattle.std.proofs.Common.{◌≡◌, ◌≢◌, ◌∷◌, ap, append-nil, ℕ, ◌<◌, List, [], ◌++◌, refl, sym, ◌∙◌, append_assoc, arith}
 use Rattle.walter_base.specs.declared.message.Request.{Request}
 use Rattle.walter_base.specs.declared.message.Request.TheVariants.{Start, Read, Write, Commit}
 use Rattle.walter_fields.specs.Spellings.{number_spelled, block_spelled}
-use Rattle.walter_fields.proofs.Numbers.{same_number}
+use Rattle.walter_fields.proofs.Numbers.{number_spelled-byte, same_number}
 use Rattle.walter_fields.proofs.Readings.{same_block}
 use Rattle.walter_names.specs.Names.{object_spelled}
 use Rattle.walter_names.proofs.Prefixes.{regrouped, same_object}
-use Rattle.walter_request.specs.Requests.{request_spelled, IsRequest}
+use Rattle.walter_request.specs.Requests.{request_spelled, IsRequest, Spells}
 
 -- a request is its operation, and its fields
 abbrev pub operation_of : Request → ℕ
@@ -49,3 +49,24 @@ same_request a b x y fits_a fits_b e =
     let operations = same_number 1 (operation_of a) (operation_of b) (fields_spelled a ++ x) (fields_spelled b ++ y) (omega (arith, operation_of-lt a)) (omega (arith, operation_of-lt b))
     (sym (request_parts a x) ∙ e ∙ request_parts b y) in
     same_fields a b x y operations.0 fits_a fits_b operations.1
+
+-- ---- of bodies
+
+-- the first byte, and the fields
+pub first_byte : (a : Request) (x : List ℕ) → request_spelled a ++ x ≡ operation_of a ∷ (fields_spelled a ++ x)
+first_byte a x = request_parts a x ∙ ap (λ t. t ++ (fields_spelled a ++ x)) (number_spelled-byte (operation_of a) (operation_of-lt a))
+
+pub whole_spelling : (body : List ℕ) (request : Request) → Spells body request → body ≡ operation_of request ∷ (fields_spelled request ++ [])
+whole_spelling body request spells = spells.is ∙ sym (append-nil (request_spelled request)) ∙ first_byte request []
+
+pub not_empty : (body : List ℕ) (request : Request) → Spells body request → body ≢ []
+not_empty body request spells e = let begins : [] ≡ operation_of request ∷ (fields_spelled request ++ []) = sym e ∙ whole_spelling body request spells in cc
+
+-- a spelling begins no other
+pub nothing_behind : (front rest body : List ℕ) (a b : Request) → Spells front a → Spells body b → front ++ rest ≡ body → rest ≡ []
+nothing_behind front rest body a b spells_a spells_b e =
+    (same_request a b rest [] spells_a.ranges spells_b.ranges (ap (λ t. t ++ rest) (sym spells_a.is) ∙ e ∙ spells_b.is ∙ sym (append-nil (request_spelled b)))).1
+
+pub one_request : (body : List ℕ) (a b : Request) → Spells body a → Spells body b → a ≡ b
+one_request body a b spells_a spells_b =
+    (same_request a b [] [] spells_a.ranges spells_b.ranges (append-nil (request_spelled a) ∙ sym spells_a.is ∙ spells_b.is ∙ sym (append-nil (request_spelled b)))).0

@@ -1,5 +1,5 @@
 -- How requests are spelled, and what is wrong with bytes that spell none (docs/FORMATS.md, "Frames of a client").
-use Rattle.std.specs.Prelude.{◌≡◌, ◌≢◌, ◌⊎◌, ◌<◌, ◌≤◌, ◌^◌, ℕ, List, [], ◌∷◌, ◌++◌, length}
+use Rattle.std.specs.Prelude.{◌≡◌, ◌≢◌, ◌⊎◌, ◌<◌, ◌≤◌, ◌^◌, ◌+◌, ℕ, List, [], ◌∷◌, ◌++◌, length}
 use Rattle.walter_base.specs.declared.message.Request.{Request}
 use Rattle.walter_base.specs.declared.message.Request.TheVariants.{Start, Read, Write, Commit}
 use Rattle.walter_fields.specs.Spellings.{number_spelled, block_spelled}
@@ -12,6 +12,13 @@ request_spelled Start = number_spelled 1 1
 request_spelled (Read oid) = number_spelled 1 2 ++ object_spelled oid
 request_spelled (Write oid bytes) = number_spelled 1 3 ++ (object_spelled oid ++ block_spelled bytes)
 request_spelled Commit = number_spelled 1 8
+
+-- how many bytes that are
+abbrev pub size_of : Request → ℕ
+size_of Start = 1
+size_of (Read oid) = 13
+size_of (Write oid bytes) = 17 + length bytes
+size_of Commit = 1
 
 -- the numbers of a request are in the ranges of their fields
 abbrev pub IsRequest : Request → Type 0

@@ -34,6 +34,4 @@ StopsAt left NoMemory = Unit {0}
 
 -- why nothing that ends a request is read of what is left behind its operation
 abbrev pub StopsBehind : ℕ → List ℕ → Stop → Type 0
-StopsBehind operation left Cut = IsBytes left → IsFront (number_spelled 1 operation ++ left)
-StopsBehind operation left Unknown = ¬ IsOperation operation
-StopsBehind operation left NoMemory = Unit {0}
+StopsBehind operation left stop = StopsAt (number_spelled 1 operation ++ left) stop

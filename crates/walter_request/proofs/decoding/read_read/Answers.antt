@@ -1,9 +1,11 @@
 use Rattle.std.proofs.Common.{refl}
+use Rattle.walter_fields.proofs.Exits.{exits_with}
+use Rattle.walter_request.specs.declared.fault.Stop.TheVariants.{Cut}
 use Rattle.walter_request.specs.Stops.{StopsBehind}
-use Rattle.walter_request.proofs.Fronts.{cut_read, exits_cut}
+use Rattle.walter_request.proofs.Fronts.{cut_read}
 use Rattle.walter_request.proofs.decoding.read_read.Goals as goal
 
 pub returns-in_err-read_object-clause-stop : goal.returns-in_err-read_object-clause-stop
 returns-in_err-read_object-clause-stop c =
     let left = c.args.cursor.now.left in
-    exits_cut (StopsBehind 2 left) c.from_residual.result c.from_residual.ensures.1 (cut_read left (c.in_err-read_object.ensures.short.0 refl))
+    exits_with (StopsBehind 2 left) Cut c.from_residual.result c.from_residual.ensures.1 (cut_read left (c.in_err-read_object.ensures.short.0 refl))

@@ -1,4 +1,5 @@
-use Rattle.walter_request.proofs.Places.{one_request, no_bad_frame, one_place}
+use Rattle.walter_request.proofs.Places.{no_bad_frame, one_place}
+use Rattle.walter_request.proofs.Prefixes.{one_request}
 use Rattle.walter_request.proofs.laws.one_reading.Goals as goal
 
 pub returns-clause-one : goal.returns-clause-one
