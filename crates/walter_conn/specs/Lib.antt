@@ -1,0 +1,4 @@
+pub mod Frames
+pub mod Inputs
+pub mod Calls
+pub mod Connections

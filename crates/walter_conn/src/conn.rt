@@ -1,0 +1,114 @@
+ghost use Rattle.std.specs.Prelude.{◌≡◌, ◌≤◌, vec_len, true, false, Result, Ok, IfOk, IfErr, OnErr};
+ghost use Rattle.walter_base.specs.declared.message.Request.{Request};
+ghost use Rattle.walter_conn.specs.Calls.{opened, Answers};
+ghost use Rattle.walter_conn.specs.Frames.{frame};
+ghost use Rattle.walter_conn.specs.Inputs.{held_by, body_of};
+ghost use Rattle.walter_conn.specs.declared.next.BadFrame.{BadFrame};
+ghost use Rattle.walter_conn.specs.declared.state.State.TheVariants.{Open};
+
+use crate::input::{Arrival, Input, LONGEST};
+use crate::next::{BadFrame, Next};
+use crate::reading::read_call;
+use crate::state::State;
+use std::alloc::Global;
+use walter_fields::{Mem, NoMemory};
+use walter_stream::{Sink, Source};
+
+/// A connection with a client, over where its bytes come from and where they go.
+#[derive(Drop)]
+pub struct Conn<S: Source + Drop, K: Sink + Drop> {
+    input: Input<S>,
+    sink: K,
+    state: State,
+    // A whole frame is held, since there was no memory for its request.
+    whole: bool,
+    ghost room: { vec_len input.buffer ≡ 65540 },
+    ghost begun: { whole ≡ true → 4 ≤ input.held },
+    ghost within: { whole ≡ true → input.held ≤ 65540 },
+    ghost held: { whole ≡ true → held_by input ≡ frame (body_of input) },
+    ghost none: { state ≡ Open → whole ≡ false → input.held ≡ 0 },
+}
+
+// The number of bytes is an argument, so that no proof counts them.
+fn zeros(alloc: Global, count: usize) -> Mem<Vec<u8>>
+    ensures { IfOk result (λ bytes. vec_len bytes ≡ count) }
+{
+    Ok(vec![in alloc; 0; count]?)
+}
+
+impl<S: Source + Drop, K: Sink + Drop> Conn<S, K> {
+    ghost use Rattle.walter_conn.specs.Connections.{source_of, sink_of, incoming, holds_frame};
+
+    /// Takes the memory for a frame. Where there is none, the source and the sink come back.
+    pub fn new(alloc: Global, source: S, sink: K) -> Result<Conn<S, K>, (S, K)>
+        ensures incoming { IfOk result (λ conn.
+            incoming conn ≡ opened (S.left source) (S.faults source)) }
+        ensures source { IfOk result (λ conn. source_of conn ≡ source) }
+        ensures sink { IfOk result (λ conn. sink_of conn ≡ sink) }
+        ensures back { IfErr result (λ parts. (parts.0 ≡ source) × (parts.1 ≡ sink)) }
+    {
+        let Ok(buffer) = zeros(alloc, LONGEST + 4) else {
+            return Err((source, sink));
+        };
+        Ok(Conn {
+            input: Input::new(source, buffer),
+            sink,
+            state: State::Open,
+            whole: false,
+        })
+    }
+
+    /// The source and the sink. A frame that is held is lost.
+    pub fn into_parts(self) -> (S, K)
+        ensures source { result.0 ≡ source_of self }
+        ensures sink { result.1 ≡ sink_of self }
+    {
+        let Conn { input, sink, .. } = self;
+        let Input { source, .. } = input;
+        (source, sink)
+    }
+
+    #[tactic(auto, using(crate::proofs::InputLemmas::unread_none))]
+    /// What the client sent next. Only a request's own bytes take memory: where there is none for them the frame is
+    /// held, and the next call reads it anew.
+    pub fn next(&mut self, alloc: Global) -> Mem<Next>
+        ensures answer { IfOk result (λ next.
+            Answers (incoming self.old) (incoming self.new) next) }
+        ensures open { OnErr result ((incoming self.old).state ≡ Open) }
+        ensures held { OnErr result (incoming self.new ≡ incoming self.old) }
+        ensures sink { sink_of self.new ≡ sink_of self.old }
+
+        // Behind a frame nothing was taken from the source, and a frame that is held is read without it.
+        ensures exact { (call : Result Request BadFrame) → result ≡ Ok (Next.Frame call)
+            → S.left (source_of self.new) ≡ (incoming self.new).unread }
+        ensures whole { OnErr result (holds_frame self.new ≡ true) }
+        ensures anew { holds_frame self.old ≡ true → source_of self.new ≡ source_of self.old }
+    {
+        match self.state {
+            State::Open => {}
+            State::Closed => return Ok(Next::Ended),
+            State::Broken => return Ok(Next::Broken),
+        }
+        if !self.whole {
+            match self.input.arrive() {
+                Ok(Arrival::Frame) => self.whole = true,
+                Ok(Arrival::TooLong) => {
+                    self.input.held = 0;
+                    self.state = State::Closed;
+                    return Ok(Next::Frame(Err(BadFrame { at: 0 })));
+                }
+                Ok(Arrival::Ended) => return Ok(Next::Ended),
+                Ok(Arrival::Cut) | Err(_) => {
+                    self.state = State::Broken;
+                    return Ok(Next::Broken);
+                }
+            }
+        }
+        let Ok(call) = read_call(alloc, self.input.body()) else {
+            return Err(NoMemory);
+        };
+        self.input.held = 0;
+        self.whole = false;
+        Ok(Next::Frame(call))
+    }
+}
