@@ -1,6 +1,6 @@
-ghost use Rattle.std.specs.Prelude.{◌≡◌, ◌+◌, ◌-◌, ◌%◌, ◌<◌, ◌≤◌, [], length, take, drop, max, replicate, vec_len, vec_capacity, IfOk, OnOk, OnErr};
+ghost use Rattle.std.specs.Prelude.{◌≡◌, ◌+◌, ◌<◌, ◌≤◌, [], length, max, replicate, vec_len, vec_capacity, IfOk, OnOk, OnErr};
 ghost use Rattle.walter_disk_memory.specs.Contents.{Write, FailedWrite, Sync, Settle, put, filled, at_rest, after};
-ghost use Rattle.walter_disk_memory.specs.Rooms.{Held, reach};
+ghost use Rattle.walter_disk_memory.specs.Rooms.{reach};
 
 use crate::place::Place;
 use std::alloc::{AllocError, Global};

@@ -149,7 +149,7 @@ impl MemoryDisk {
 }
 
 impl Disk for MemoryDisk {
-    ghost use Rattle.std.specs.Prelude.{◌++◌, ◌∷◌, Some, refl, false, is_some, option_map, IfSome};
+    ghost use Rattle.std.specs.Prelude.{◌++◌, ◌∷◌, refl, false, is_some, option_map};
     ghost use Rattle.walter_disk.specs.Disks.{written, Breaks, MakesRoom, TakesRoom};
     ghost use Rattle.walter_disk.specs.Images.{Torn, Follows, Narrows, IsDurable, IsImage};
     ghost use Rattle.walter_disk_memory.specs.ImageLaws.{always_sound, left_now, left_only_now};

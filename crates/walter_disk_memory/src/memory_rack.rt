@@ -79,7 +79,7 @@ impl MemoryRack {
 impl Rack for MemoryRack {
     type D = MemoryDisk;
 
-    ghost use Rattle.std.specs.Prelude.{Some, IfSome, option_map};
+    ghost use Rattle.std.specs.Prelude.{Some};
     ghost use Rattle.walter_disk.specs.Racks.{IsFresh};
     ghost use Rattle.walter_disk_memory.specs.MemoryDisks.{known_of, may_leave_of};
 

@@ -1,6 +1,5 @@
-ghost use Rattle.std.specs.Prelude.{◌≡◌, ◌+◌, ◌<◌, ◌≤◌, [], ◌∷◌, ◌++◌, length, OnOk, OnErr};
+ghost use Rattle.std.specs.Prelude.{◌≡◌, ◌+◌, ◌<◌, ◌≤◌, [], ◌∷◌, ◌++◌, length, OnOk};
 ghost use Rattle.walter_disk_memory.specs.Contents.{Write, FailedWrite, Sync, Settle};
-ghost use Rattle.walter_disk_memory.specs.Records.{Recorded};
 
 use crate::entry::Entry;
 use crate::place::Place;
