@@ -68,9 +68,9 @@ impl<S: Source + Drop, K: Sink + Drop> Conn<S, K> {
         (source, sink)
     }
 
-    #[tactic(auto, using(crate::proofs::InputLemmas::unread_none))]
     /// What the client sent next. Only a request's own bytes take memory: where there is none for them the frame is
     /// held, and the next call reads it anew.
+    #[tactic(auto, using(crate::proofs::InputLemmas::unread_none))]
     pub fn next(&mut self, alloc: Global) -> Mem<Next>
         ensures answer { IfOk result (λ next.
             Answers (incoming self.old) (incoming self.new) next) }
