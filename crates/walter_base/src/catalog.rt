@@ -4,7 +4,7 @@ ghost use Rattle.walter_base.specs.Catalogs.{containers_of, AreRight, IsBuildFau
 
 use crate::containers::{Container, Containers};
 use crate::names::{Kind, ObjId, SiteId};
-use std::alloc::Global;
+use std::alloc::{AllocError, Global};
 use thiserror::Error;
 
 /// How many containers there may be.
@@ -79,5 +79,17 @@ impl Catalog {
         self.containers
             .get(oid.container)
             .map(|container| container.preferred)
+    }
+}
+
+impl Clone for Catalog {
+    ghost is_clone = { λ a b. b ≡ a };
+
+    fn clone(&self) -> Result<Catalog, AllocError> {
+        Ok(Catalog {
+            sites: self.sites,
+            faults: self.faults,
+            containers: self.containers.clone()?,
+        })
     }
 }

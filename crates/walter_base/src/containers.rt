@@ -57,3 +57,13 @@ impl Containers {
         Ok(())
     }
 }
+
+impl Clone for Containers {
+    ghost is_clone = { λ a b. b ≡ a };
+
+    fn clone(&self) -> Result<Containers, AllocError> {
+        Ok(Containers {
+            entries: self.entries.clone()?,
+        })
+    }
+}

@@ -2,8 +2,9 @@ ghost use Rattle.std.specs.Prelude.{◌≡◌};
 
 use crate::bytes::Bytes;
 use crate::names::{ObjId, Tid, Version};
-use crate::transaction::Tx;
+use crate::transaction::{Cause, Tx};
 use std::alloc::AllocError;
+use thiserror::Error;
 
 /// What a client asks.
 #[derive(Debug, Drop)]
@@ -16,7 +17,20 @@ pub enum Request {
     Write(ObjId, Bytes),
     /// The end of the transaction, with its updates committed.
     Commit,
+    /// The end of the transaction, without its updates.
+    Abort,
 }
+
+/// A client's frame that spells no request.
+#[derive(Clone, Copy, Debug, PartialEq, Eq, Error)]
+#[error("the frame has no reading at {at}")]
+pub struct BadFrame {
+    /// The place in the body of what is wrong.
+    pub at: u32,
+}
+
+/// What a client's frame calls for.
+pub type Call = Result<Request, BadFrame>;
 
 impl Clone for Request {
     ghost is_clone = { λ a b. b ≡ a };
@@ -27,6 +41,7 @@ impl Clone for Request {
             Request::Read(oid) => Ok(Request::Read(*oid)),
             Request::Write(oid, bytes) => Ok(Request::Write(*oid, bytes.clone()?)),
             Request::Commit => Ok(Request::Commit),
+            Request::Abort => Ok(Request::Abort),
         }
     }
 }
@@ -42,6 +57,8 @@ pub enum Reply {
     Done,
     /// The transaction is committed, as this version.
     Committed(Version),
+    /// The transaction is aborted, for this cause.
+    Aborted(Cause),
     /// The transaction had no updates, and is over.
     Ended,
     /// The request is refused, and the site is as before.
@@ -58,6 +75,7 @@ impl Clone for Reply {
             Reply::Value(None) => Ok(Reply::Value(None)),
             Reply::Done => Ok(Reply::Done),
             Reply::Committed(version) => Ok(Reply::Committed(*version)),
+            Reply::Aborted(cause) => Ok(Reply::Aborted(*cause)),
             Reply::Ended => Ok(Reply::Ended),
             Reply::Refused(refusal) => Ok(Reply::Refused(*refusal)),
         }
@@ -67,10 +85,14 @@ impl Clone for Reply {
 /// Why a request is refused.
 #[derive(Clone, Copy, Debug, PartialEq, Eq)]
 pub enum Refusal {
+    /// The catalog lacks the object's container.
+    UnknownContainer,
     /// No transaction is open.
     NoTx,
     /// A transaction is open.
     TxOpen,
+    /// The frame spells no request; what is wrong is at this place of its body.
+    BadFrame { at: u32 },
     /// Memory ran out.
     Memory,
 }

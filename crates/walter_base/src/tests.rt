@@ -1,6 +1,6 @@
 use crate::{
-    Bytes, Catalog, CatalogFault, Container, Containers, Counts, Kind, NoMemory, ObjId, Record,
-    Refusal, Reply, Request, SiteId, Tid, Tx, Update, Updates, Version, Vts,
+    BadFrame, Bytes, Catalog, CatalogFault, Cause, Container, Containers, Counts, Kind, NoMemory,
+    ObjId, Record, Refusal, Reply, Request, SiteId, Tid, Tx, Update, Updates, Version, Vts,
 };
 use std::test::Fail;
 
@@ -55,6 +55,9 @@ fn a_catalog_tells_kinds_and_preferred_sites(rt: HostRuntime) -> Result<(), Fail
     };
     assert_eq!(rt; catalog.kind(other), None);
     assert_eq!(rt; (catalog.sites, catalog.faults), (2, 0));
+    let copy = catalog.clone()?;
+    assert_eq!(rt; copy.kind(OBJECT), Some(Kind::Regular));
+    assert_eq!(rt; copy.kind(other), None);
     Ok(())
 }
 
@@ -138,12 +141,19 @@ fn requests_and_replies_are_copied(rt: HostRuntime) -> Result<(), Fail> {
     assert!(rt; matches!(Request::Start.clone()?, Request::Start));
     assert!(rt; matches!(Request::Read(OBJECT).clone()?, Request::Read(OBJECT)));
     assert!(rt; matches!(Request::Commit.clone()?, Request::Commit));
+    assert!(rt; matches!(Request::Abort.clone()?, Request::Abort));
     let reply = Reply::Value(Some(Bytes::from_slice(rt.alloc(), b"x")?));
     assert!(rt; matches!(reply.clone()?, Reply::Value(Some(_))));
     assert!(rt;
         matches!(
             Reply::Refused(Refusal::NoTx).clone()?,
             Reply::Refused(Refusal::NoTx)
+        )
+    );
+    assert!(rt;
+        matches!(
+            Reply::Aborted(Cause::Asked).clone()?,
+            Reply::Aborted(Cause::Asked)
         )
     );
     Ok(())
@@ -157,7 +167,11 @@ fn counts_keep_their_order(rt: HostRuntime) -> Result<(), Fail> {
 }
 
 #[test]
-fn want_of_memory_has_a_text(rt: HostRuntime) -> Result<(), Fail> {
+fn faults_have_texts(rt: HostRuntime) -> Result<(), Fail> {
+    assert_eq!(rt;
+        format!(in rt.alloc(); "{}", BadFrame { at: 3 })?.as_str(),
+        "the frame has no reading at 3"
+    );
     assert_eq!(rt;
         format!(in rt.alloc(); "{NoMemory}")?.as_str(),
         "out of memory"
