@@ -1,20 +1,21 @@
 -- What a site knows, and what an event leaves of it. Each part goes by the record first, and by the reply.
-use Rattle.std.specs.Prelude.{ℕ, ◌+◌, nat_eq, nat_le, Bool, List, [], ◌∷◌, ◌++◌, filter, flat_map, replicate, slice_set, Option, Some, None, option_map, if◌then◌else◌}
+use Rattle.std.specs.Prelude.{ℕ, ◌+◌, nat_eq, nat_le, Bool, List, [], ◌∷◌, ◌++◌, filter, flat_map, replicate, slice_set, Option, Some, None, option_map, Result, Ok, Err, if◌then◌else◌}
 use Rattle.walter_base.specs.declared.message.Record.{Record}
 use Rattle.walter_base.specs.declared.message.Record.TheVariants.{Boot, Own}
-use Rattle.walter_base.specs.declared.message.Reply.TheVariants.{Started, Value, Done, Committed, Ended, Refused}
+use Rattle.walter_base.specs.declared.message.BadFrame.{BadFrame}
+use Rattle.walter_base.specs.declared.message.Reply.TheVariants.{Started, Value, Done, Committed, Aborted, Ended, Refused}
 use Rattle.walter_base.specs.declared.message.Request.{Request}
-use Rattle.walter_base.specs.declared.message.Request.TheVariants.{Start, Read, Write, Commit}
+use Rattle.walter_base.specs.declared.message.Request.TheVariants.{Start, Read, Write, Commit, Abort}
 use Rattle.walter_base.specs.declared.names.SiteId.{SiteId}
 use Rattle.walter_base.specs.declared.names.Tid.{Tid}
 use Rattle.walter_base.specs.declared.update.Update.{Update}
 use Rattle.walter_base.specs.declared.update.Update.TheVariants.{Write as WriteOf}
 use Rattle.walter_base.specs.Vectors.{entry_at}
-use Rattle.walter_site.specs.declared.held.Held.{Held}
-use Rattle.walter_site.specs.declared.trail.Outcome.{Outcome}
-use Rattle.walter_site.specs.declared.trail.Outcome.TheVariants.{Replied, Taken, Passed}
-use Rattle.walter_site.specs.declared.trail.TrailEvent.{TrailEvent}
-use Rattle.walter_site.specs.declared.trail.TrailEvent.TheVariants.{Call, Restart}
+use Rattle.walter_trail.specs.declared.held.Held.{Held}
+use Rattle.walter_trail.specs.declared.trail.Outcome.{Outcome}
+use Rattle.walter_trail.specs.declared.trail.Outcome.TheVariants.{Replied, Taken, Passed}
+use Rattle.walter_trail.specs.declared.trail.TrailEvent.{TrailEvent}
+use Rattle.walter_trail.specs.declared.trail.TrailEvent.TheVariants.{Call, Restart}
 
 -- an open transaction of a client: its name, its snapshot as a vector, its updates in order
 pub record Session : Type 0 where
@@ -58,6 +59,7 @@ starts_replied (Replied (Started tid)) starts = starts + 1
 starts_replied (Replied (Value value)) starts = starts
 starts_replied (Replied Done) starts = starts
 starts_replied (Replied (Committed version)) starts = starts
+starts_replied (Replied (Aborted cause)) starts = starts
 starts_replied (Replied Ended) starts = starts
 starts_replied (Replied (Refused refusal)) starts = starts
 starts_replied Taken starts = starts
@@ -75,27 +77,30 @@ held_after (Some (Own seq tx)) held = held ++ record { seq = seq; tx = tx } ∷ 
 
 -- the sessions, where the event's client gets this one
 abbrev pub with_session : TrailEvent → Option Session → (ℕ → Option Session) → ℕ → Option Session
-with_session (Call client request) new session c = if nat_eq c client then new else session c
+with_session (Call client call) new session c = if nat_eq c client then new else session c
 with_session Restart new session c = session c
 
 abbrev pub with_update : Update → Session → Session
 with_update update s = record s { updates = s.updates ++ update ∷ [] }
 
 -- the session with the update that was asked for
-abbrev pub updated : Request → Option Session → Option Session
-updated (Write oid bytes) session = option_map (with_update (WriteOf oid bytes)) session
-updated Start session = session
-updated (Read oid) session = session
-updated Commit session = session
+abbrev pub updated : Result Request BadFrame → Option Session → Option Session
+updated (Ok (Write oid bytes)) session = option_map (with_update (WriteOf oid bytes)) session
+updated (Ok Start) session = session
+updated (Ok (Read oid)) session = session
+updated (Ok Commit) session = session
+updated (Ok Abort) session = session
+updated (Err bad) session = session
 
 abbrev pub session_done : TrailEvent → (ℕ → Option Session) → ℕ → Option Session
-session_done (Call client request) session c = if nat_eq c client then updated request (session c) else session c
+session_done (Call client call) session c = if nat_eq c client then updated call (session c) else session c
 session_done Restart session c = session c
 
 abbrev pub session_after : TrailEvent → Outcome → List ℕ → (ℕ → Option Session) → ℕ → Option Session
 session_after event (Replied (Started tid)) committed session = with_session event (Some (record { tid = tid; snapshot = committed; updates = [] })) session
 session_after event (Replied Done) committed session = session_done event session
 session_after event (Replied (Committed version)) committed session = with_session event None session
+session_after event (Replied (Aborted cause)) committed session = with_session event None session
 session_after event (Replied Ended) committed session = with_session event None session
 session_after event (Replied (Value value)) committed session = session
 session_after event (Replied (Refused refusal)) committed session = session

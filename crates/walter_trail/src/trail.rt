@@ -1,14 +1,13 @@
-ghost use Rattle.std.specs.Prelude.{◌≡◌, ◌==◌, [], ◌∷◌, ◌++◌, length, OnOk, OnErr};
+ghost use Rattle.std.specs.Prelude.{◌≡◌, ◌==◌, length};
 
-use std::alloc::Global;
 use std::marker::Model;
-use walter_base::{Mem, NoMemory, Record, Reply, Request};
+use walter_base::{Call, Record, Reply};
 
 /// What comes to a site.
 #[derive(Debug, Drop)]
 pub enum TrailEvent {
-    /// A client, by its number in the scenario, asks.
-    Call { client: u32, request: Request },
+    /// A client, by its number in the scenario, sends a frame.
+    Call { client: u32, call: Call },
     /// The site is to come up.
     Restart,
 }
@@ -41,22 +40,22 @@ pub struct Trail {
 
 impl Model for Trail {
     ghost use Rattle.std.specs.Prelude.{List};
-    ghost use Rattle.walter_site.specs.declared.trail.Entry.{Entry};
+    ghost use Rattle.walter_trail.specs.declared.trail.Entry.{Entry};
 
     ghost Value = { List Entry };
 
     ghost view = { λ t. t.entries.items };
 }
 
-impl Trail {
-    pub fn new(alloc: Global) -> Trail
-        ensures { result ≡ [] }
-    {
-        Trail {
-            entries: Vec::new(alloc),
-        }
-    }
+impl From<Vec<Entry>> for Trail {
+    ghost from_gives = { λ v t. t ≡ v.items };
 
+    fn from(entries: Vec<Entry>) -> Trail {
+        Trail { entries }
+    }
+}
+
+impl Trail {
     pub fn as_slice(&self) -> &[Entry]
         ensures { result.now ≡ self.now }
     {
@@ -73,14 +72,5 @@ impl Trail {
         ensures { result ≡ (length self.now == 0) }
     {
         self.entries.is_empty()
-    }
-
-    /// Puts an entry at the end.
-    pub fn push(&mut self, entry: Entry) -> Mem<()>
-        ensures ok { OnOk result (self.new ≡ self.old ++ entry ∷ []) }
-        ensures err { OnErr result (self.new ≡ self.old) }
-    {
-        self.entries.push(entry)?;
-        Ok(())
     }
 }

@@ -1,0 +1,5 @@
+pub mod Knowledge
+pub mod Conflicts
+pub mod Rule
+pub mod Trails
+pub mod Merges

@@ -1,0 +1,11 @@
+//! The trail of a site: what happened there, what it knows by it, and the rules that a right trail follows.
+#![tactic(auto)]
+
+mod held;
+mod trail;
+
+pub use held::Held;
+pub use trail::{Entry, Outcome, Trail, TrailEvent};
+
+#[cfg(test)]
+mod tests;
