@@ -3,7 +3,7 @@ use Rattle.std.proofs.Common.{◌≡◌, ◌≢◌, ℕ, zero, suc, ◌+◌, ◌
 use Rattle.std.proofs.lemmas.Bool.{eqb-true, eq-eqb, cases_lt}
 use Rattle.std.proofs.lemmas.Bool.Decides.{nat_tests}
 use Rattle.walter_site.specs.declared.transaction.Transaction.{Transaction}
-use Rattle.walter_site.specs.Knowledge.{Session}
+use Rattle.walter_trail.specs.Knowledge.{Session}
 use Rattle.walter_site.specs.Sites.{first_of, session_of, session_among, IsPlaceOf}
 
 -- none of the first transactions is the client's

@@ -9,9 +9,9 @@ use Rattle.walter_base.specs.declared.message.Request.TheVariants.{Start, Read, 
 use Rattle.walter_base.specs.declared.names.SiteId.{SiteId}
 use Rattle.walter_base.specs.declared.update.Update.{Update}
 use Rattle.walter_base.specs.Values.{value_of}
-use Rattle.walter_site.specs.declared.trail.Outcome.TheVariants.{Replied}
-use Rattle.walter_site.specs.Knowledge.{Knowledge, Session, read_updates}
-use Rattle.walter_site.specs.Rule.{Expected, commits, call_rule, next_seq}
+use Rattle.walter_trail.specs.declared.trail.Outcome.TheVariants.{Replied}
+use Rattle.walter_trail.specs.Knowledge.{Knowledge, Session, read_updates}
+use Rattle.walter_trail.specs.Rule.{Expected, commits, call_rule, next_seq}
 use Rattle.walter_site.specs.Sites.{expected, IsNext, IsFresh}
 
 reply_is : (rec : Option Record) (reply : Reply) (x : Expected) (r : Reply) → expected (rec, reply) ≡ x → x.outcome ≡ Replied r → r ≡ reply

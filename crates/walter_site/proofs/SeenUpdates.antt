@@ -10,9 +10,9 @@ use Rattle.walter_base.specs.declared.message.Request.TheVariants.{Read}
 use Rattle.walter_base.specs.declared.names.SiteId.{SiteId}
 use Rattle.walter_base.specs.Values.{value_of, value_from}
 use Rattle.walter_base.proofs.ValuesFrom.{value_from-append}
-use Rattle.walter_site.specs.declared.held.Held.{Held}
-use Rattle.walter_site.specs.Knowledge.{Knowledge, Session, sees}
-use Rattle.walter_site.specs.Rule.{answers, call_rule}
+use Rattle.walter_trail.specs.declared.held.Held.{Held}
+use Rattle.walter_trail.specs.Knowledge.{Knowledge, Session, sees}
+use Rattle.walter_trail.specs.Rule.{answers, call_rule}
 
 -- the updates of what a vector sees
 abbrev pub seen_updates : List ℕ → List Held → List Update

@@ -1,4 +1,1 @@
-pub mod Knowledge
-pub mod Rule
-pub mod Trails
 pub mod Sites

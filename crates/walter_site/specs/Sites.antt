@@ -1,9 +1,10 @@
 -- What the fields of a site amount to, and what a plan asks of them.
 use Rattle.std.specs.Prelude.{◌≡◌, ◌+◌, ◌<◌, ◌^◌, ◌≢◌, ℕ, zero, suc, nat_eq, List, [], ◌∷◌, Option, Some, None, IfSome, option_map, vec_len, vec_capacity, if◌then◌else◌}
+use Rattle.walter_base.specs.declared.catalog.Catalog.{Catalog}
 use Rattle.walter_base.specs.declared.message.Record.{Record}
 use Rattle.walter_base.specs.declared.message.Record.TheVariants.{Boot, Own}
 use Rattle.walter_base.specs.declared.message.Reply.{Reply}
-use Rattle.walter_base.specs.declared.message.Reply.TheVariants.{Started, Value, Done, Committed, Ended, Refused}
+use Rattle.walter_base.specs.declared.message.Reply.TheVariants.{Started, Value, Done, Committed, Aborted, Ended, Refused}
 use Rattle.walter_base.specs.declared.names.SiteId.{SiteId}
 use Rattle.walter_base.specs.Vectors.{entry_at}
 use Rattle.walter_site.specs.declared.plan.Input.{Input}
@@ -11,12 +12,12 @@ use Rattle.walter_site.specs.declared.plan.Input.TheVariants.{Call}
 use Rattle.walter_site.specs.declared.plan.Plan.{Plan}
 use Rattle.walter_site.specs.declared.site.Site.{Site}
 use Rattle.walter_site.specs.declared.transaction.Transaction.{Transaction}
-use Rattle.walter_site.specs.declared.trail.Outcome.{Outcome}
-use Rattle.walter_site.specs.declared.trail.Outcome.TheVariants.{Replied}
-use Rattle.walter_site.specs.declared.trail.TrailEvent.{TrailEvent}
-use Rattle.walter_site.specs.declared.trail.TrailEvent.TheVariants.{Call as CallEvent}
-use Rattle.walter_site.specs.Knowledge.{Knowledge, Session, epoch_after, starts_booted, starts_replied, committed_after, held_after, session_after}
-use Rattle.walter_site.specs.Rule.{Expected, next_seq, rule}
+use Rattle.walter_trail.specs.declared.trail.Outcome.{Outcome}
+use Rattle.walter_trail.specs.declared.trail.Outcome.TheVariants.{Replied}
+use Rattle.walter_trail.specs.declared.trail.TrailEvent.{TrailEvent}
+use Rattle.walter_trail.specs.declared.trail.TrailEvent.TheVariants.{Call as CallEvent}
+use Rattle.walter_trail.specs.Knowledge.{Knowledge, Session, epoch_after, starts_booted, starts_replied, committed_after, held_after, session_after}
+use Rattle.walter_trail.specs.Rule.{Expected, next_seq, rule}
 
 abbrev pub session_of : Transaction → Session
 session_of t = record { tid = t.tid; snapshot = t.snapshot; updates = t.updates.items }
@@ -43,24 +44,28 @@ known s = record { epoch = s.epoch; starts = s.starts; committed = s.committed; 
 unfoldable pub site_of : Site → SiteId
 site_of s = s.site
 
+-- its catalog
+unfoldable pub catalog_of : Site → Catalog
+catalog_of s = s.catalog
+
 -- one more start and one more commit have a number
 abbrev pub CanCount : SiteId → Knowledge → Type 0
 CanCount i K = (K.starts + 1 < 2 ^ 64) × (entry_at K.committed i + 1 < 2 ^ 64)
 
 abbrev pub event_of : Input → TrailEvent
-event_of (Call client request) = CallEvent client request
+event_of (Call client call) = CallEvent client call
 
 -- a record and a reply, as what is expected
 abbrev pub expected : Option Record × Reply → Expected
 expected p = record { wrote = p.0; outcome = Replied p.1 }
 
 -- the plan is for this input, and is the rule
-pub record IsPlan (i : SiteId) (K : Knowledge) (input : Input) (plan : Plan) : Type 0 where
+pub record IsPlan (catalog : Catalog) (i : SiteId) (K : Knowledge) (input : Input) (plan : Plan) : Type 0 where
   pub input_is : plan.input ≡ input
-  pub rule_is : expected (plan.rec, plan.reply) ≡ rule i K (event_of input)
+  pub rule_is : expected (plan.rec, plan.reply) ≡ rule catalog i K (event_of input)
 
 abbrev pub client_of : Input → ℕ
-client_of (Call client request) = client
+client_of (Call client call) = client
 
 -- the transaction can take an update without memory
 abbrev pub CanTake : Transaction → Type 0
@@ -77,6 +82,7 @@ abbrev pub CanAnswer : Site → ℕ → Reply → Type 0
 CanAnswer s client (Started tid) = vec_len s.transactions < vec_capacity s.transactions
 CanAnswer s client Done = IfSome (first_of client s.transactions.items) CanTake
 CanAnswer s client (Committed version) = Unit {0}
+CanAnswer s client (Aborted cause) = Unit {0}
 CanAnswer s client (Value value) = Unit {0}
 CanAnswer s client Ended = Unit {0}
 CanAnswer s client (Refused refusal) = Unit {0}
@@ -105,5 +111,6 @@ IsFresh session (Started tid) = session ≡ None
 IsFresh session (Value value) = Unit {0}
 IsFresh session Done = Unit {0}
 IsFresh session (Committed version) = Unit {0}
+IsFresh session (Aborted cause) = Unit {0}
 IsFresh session Ended = Unit {0}
 IsFresh session (Refused refusal) = Unit {0}

@@ -1,11 +1,14 @@
-use std::alloc::AllocError;
-use walter_base::{Record, Reply, Request};
+ghost use Rattle.std.specs.Prelude.{◌≡◌, IfOk, OnErr};
+ghost use Rattle.walter_site.specs.Sites.{event_of};
+ghost use Rattle.walter_trail.specs.Rule.{TakesMemory};
+
+use walter_base::{Call, Mem, Record, Reply, Request};
 
 /// What a site is to plan for.
 #[derive(Debug, Drop)]
 pub enum Input {
-    /// A client asks.
-    Call { client: u32, request: Request },
+    /// A client sends a frame.
+    Call { client: u32, call: Call },
 }
 
 /// The answer of a site to an input: at most one record, and a reply. It holds a copy of the input.
@@ -16,16 +19,21 @@ pub struct Plan {
     pub reply: Reply,
 }
 
-impl Clone for Input {
-    ghost use Rattle.std.specs.Prelude.{◌≡◌};
-
-    ghost is_clone = { λ a b. b ≡ a };
-
-    fn clone(&self) -> Result<Input, AllocError> {
-        let Input::Call { client, request } = self;
+impl Input {
+    /// A copy. A bad frame and an Abort are copied without memory.
+    pub fn copy(&self) -> Mem<Input>
+        ensures ok { IfOk result (λ copy. copy ≡ self.now) }
+        ensures free { OnErr result (TakesMemory (event_of self.now)) }
+    {
+        let Input::Call { client, call } = self;
+        let call = match call {
+            Err(bad) => Err(*bad),
+            Ok(Request::Abort) => Ok(Request::Abort),
+            Ok(request) => Ok(request.clone()?),
+        };
         Ok(Input::Call {
             client: *client,
-            request: request.clone()?,
+            call,
         })
     }
 }

@@ -1,10 +1,10 @@
 ghost use Rattle.std.specs.Prelude.{◌≡◌, filter, flat_map};
 ghost use Rattle.std.specs.Option.{option_copied};
 ghost use Rattle.walter_base.specs.Values.{value_from, value_of};
-ghost use Rattle.walter_site.specs.Knowledge.{sees};
+ghost use Rattle.walter_trail.specs.Knowledge.{sees};
 
-use crate::held::Held;
 use walter_base::{Bytes, ObjId, Update, Version, Vts};
+use walter_trail::Held;
 
 /// What a regular object that held `base` holds after these updates.
 pub fn value_after<'a>(

@@ -1,7 +1,7 @@
 ghost use Rattle.std.specs.Prelude.{◌≡◌, ◌<◌, ℕ, ◌∷◌, [], ◌++◌, nat_eq, Some, None, IfSome, IfNone, OnOk, length, option_map, if◌then◌else◌};
 ghost use Rattle.std.specs.Option.{option_copied};
 ghost use Rattle.walter_site.specs.Sites.{first_of, session_among, session_of, IsPlaceOf, CanTake};
-ghost use Rattle.walter_site.specs.Knowledge.{with_update};
+ghost use Rattle.walter_trail.specs.Knowledge.{with_update};
 
 use crate::transaction::Transaction;
 use walter_base::{Mem, Update};
