@@ -1,0 +1,72 @@
+-- The parts of a scenario: what the items of its lists spell (docs/FORMATS.md, "Scenarios").
+use Rattle.std.specs.Prelude.{◌≡◌, ◌≢◌, ◌⊎◌, ◌+◌, ◌≤◌, ◌<◌, ◌^◌, ℕ, nat_eq, List, [], ◌∷◌, length, map, take, codes, count_by, Ok, All}
+use Rattle.hex.specs.Hex.{decode_of}
+use Rattle.serde_json.specs.Data.{Data, number, string, array, unsigned}
+use Rattle.serde_json.specs.View.{items_of}
+use Rattle.walter_base.specs.declared.names.Kind.TheVariants.{Regular}
+use Rattle.walter_base.specs.Catalogs.{Item, AreRight}
+use Rattle.walter_scenario.specs.declared.scenario.Client.{Client}
+use Rattle.walter_scenario.specs.declared.scenario.Step.{Step}
+use Rattle.walter_scenario.specs.declared.scenario.Step.TheVariants.{Call}
+
+-- a whole number
+abbrev pub whole : ℕ → Data
+whole n = number (unsigned n)
+
+-- a list of values
+abbrev pub list : List Data → Data
+list values = array (items_of values)
+
+-- a container: its number, "regular", and its preferred site
+abbrev pub container_spelled : Item → Data
+container_spelled c = list (whole c.0 ∷ string (codes "regular") ∷ whole c.2.0 ∷ [])
+
+-- the values spell these containers, which make a catalog
+pub record AreContainers (sites : ℕ) (values : List Data) (declared : List Item) : Type 0 where
+  pub spelled : values ≡ map container_spelled declared
+  pub regular : All (λ c. (c.0 < 2 ^ 32) × (c.1 ≡ Regular)) declared
+  pub right : AreRight sites declared
+
+-- a client: its site, and its bytes in hex of either case
+pub record SpellsClient (value : Data) (client : Client) : Type 0 where
+  pub hex : List ℕ
+  pub spelled : value ≡ list (whole client.site.0 ∷ string hex ∷ [])
+  pub bytes : decode_of hex ≡ Ok client.bytes
+
+-- each value spells the client at its place
+abbrev pub SpellClients : List Data → List Client → Type 0
+SpellClients [] [] = Unit {0}
+SpellClients [] (client ∷ clients) = ⊥
+SpellClients (value ∷ values) [] = ⊥
+SpellClients (value ∷ values) (client ∷ clients) = SpellsClient value client × SpellClients values clients
+
+-- the values spell these clients, whose sites are there, at most 1,024 of each site
+pub record AreClients (sites : ℕ) (values : List Data) (clients : List Client) : Type 0 where
+  pub spelled : SpellClients values clients
+  pub within : All (λ client. client.site.0 < sites) clients
+  pub few : (site : ℕ) → count_by (λ client. nat_eq client.site.0 site) clients ≤ 1024
+
+-- a step: "call" and a client's number
+abbrev pub step_spelled : Step → Data
+step_spelled (Call client) = list (string (codes "call") ∷ whole client ∷ [])
+
+-- the client of a step is there
+abbrev pub IsStep : ℕ → Step → Type 0
+IsStep clients (Call client) = client < clients
+
+-- the values spell these steps, over so many clients
+pub record AreSteps (clients : ℕ) (values : List Data) (steps : List Step) : Type 0 where
+  pub spelled : values ≡ map step_spelled steps
+  pub within : All (IsStep clients) steps
+
+-- the item at the place is the first wrong one: the items before it are right, and with it they aren't
+pub record IsFirstWrong (Right : List Data → Type 0) (value : Data) (place : ℕ) : Type 0 where
+  pub values : List Data
+  pub spelled : value ≡ list values
+  pub within : place < length values
+  pub before : Right (take place values)
+  pub wrong : ¬ Right (take (place + 1) values)
+
+-- the place of what is wrong with a list: 0 where the value is none
+abbrev pub IsWrongAt : (Right : List Data → Type 0) → Data → ℕ → Type 0
+IsWrongAt Right value place = (((values : List Data) → value ≢ list values) × (place ≡ 0)) ⊎ IsFirstWrong Right value place

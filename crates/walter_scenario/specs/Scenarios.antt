@@ -1,0 +1,99 @@
+-- The scenario that bytes spell, and the place of what is wrong with them: JSON as serde_json reads it, whose outermost value
+-- is an object with five keys (docs/FORMATS.md, "Scenarios").
+use Rattle.std.specs.Prelude.{◌≡◌, ◌≢◌, ◌≤◌, ◌<◌, ℕ, List, [], ◌∷◌, length, codes, Some, IsUtf8}
+use Rattle.serde_json.specs.Data.{Data, Members, no_members, member, object}
+use Rattle.serde_json.specs.Find.{get_member}
+use Rattle.serde_json.specs.Read.{read}
+use Rattle.walter_base.specs.Catalogs.{Item, containers_of}
+use Rattle.walter_scenario.specs.declared.place.Place.{Place}
+use Rattle.walter_scenario.specs.declared.place.Place.TheVariants.{TooLong, Json, Key, Sites, F, Containers, Clients, Steps}
+use Rattle.walter_scenario.specs.declared.place.ReadFault.{ReadFault}
+use Rattle.walter_scenario.specs.declared.place.ReadFault.TheVariants.{Refused, NoMemory}
+use Rattle.walter_scenario.specs.declared.scenario.Client.{Client}
+use Rattle.walter_scenario.specs.declared.scenario.Scenario.{Scenario}
+use Rattle.walter_scenario.specs.declared.scenario.Step.{Step}
+use Rattle.walter_scenario.specs.Parts.{whole, list, AreContainers, AreClients, AreSteps, IsWrongAt}
+
+-- the keys of an object, by rising text
+abbrev pub keys_of : Members → List (List ℕ)
+keys_of no_members = []
+keys_of (member key value members) = key ∷ keys_of members
+
+abbrev pub the_keys : List (List ℕ)
+the_keys = codes "clients" ∷ codes "containers" ∷ codes "f" ∷ codes "sites" ∷ codes "steps" ∷ []
+
+-- the value of a key
+abbrev pub HasMember : Members → List ℕ → Data → Type 0
+HasMember members key value = get_member key members ≡ Some value
+
+-- the bytes are not too long
+abbrev pub IsShort : List ℕ → Type 0
+IsShort bytes = length bytes ≤ 16777216
+
+-- they are JSON, whose outermost value is an object
+pub record IsObject (bytes : List ℕ) (members : Members) : Type 0 where
+  pub text : IsUtf8 bytes
+  pub json : read bytes ≡ Some (object members)
+
+-- its keys are those of a scenario
+pub record HasKeys (bytes : List ℕ) (members : Members) : Type 0 where
+  pub short : IsShort bytes
+  pub is_object : IsObject bytes members
+  pub keys : keys_of members ≡ the_keys
+
+-- there is one site
+pub record HasSites (bytes : List ℕ) (members : Members) : Type 0 where
+  pub has_keys : HasKeys bytes members
+  pub one : HasMember members (codes "sites") (whole 1)
+
+-- of which none may be lost
+pub record HasFaults (bytes : List ℕ) (members : Members) : Type 0 where
+  pub has_sites : HasSites bytes members
+  pub none : HasMember members (codes "f") (whole 0)
+
+-- with these containers
+pub record HasContainers (bytes : List ℕ) (members : Members) (declared : List Item) : Type 0 where
+  pub has_faults : HasFaults bytes members
+  pub values : List Data
+  pub spelled : HasMember members (codes "containers") (list values)
+  pub are : AreContainers 1 values declared
+
+-- and these clients
+pub record HasClients (bytes : List ℕ) (members : Members) (declared : List Item) (clients : List Client) : Type 0 where
+  pub has_containers : HasContainers bytes members declared
+  pub values : List Data
+  pub spelled : HasMember members (codes "clients") (list values)
+  pub are : AreClients 1 values clients
+
+-- the scenario is what the bytes spell
+pub record IsReading (bytes : List ℕ) (s : Scenario) : Type 0 where
+  pub members : Members
+  pub declared : List Item
+  pub has_clients : HasClients bytes members declared s.clients
+  pub sites : s.catalog.sites ≡ 1
+  pub faults : s.catalog.faults ≡ 0
+  pub containers : s.catalog.containers ≡ containers_of declared
+  pub values : List Data
+  pub spelled : HasMember members (codes "steps") (list values)
+  pub are : AreSteps (length s.clients) values s.steps
+
+-- the place is the first that is wrong: what comes before it is right, and it isn't
+abbrev pub IsRefusedAt : List ℕ → Place → Type 0
+IsRefusedAt bytes TooLong = 16777216 < length bytes
+IsRefusedAt bytes Json = IsShort bytes × ((members : Members) → ¬ IsObject bytes members)
+IsRefusedAt bytes Key = IsShort bytes × ((members : Members) × IsObject bytes members × (keys_of members ≢ the_keys))
+IsRefusedAt bytes Sites = (members : Members) × HasKeys bytes members × ¬ HasMember members (codes "sites") (whole 1)
+IsRefusedAt bytes F = (members : Members) × HasSites bytes members × ¬ HasMember members (codes "f") (whole 0)
+IsRefusedAt bytes (Containers place) =
+    (members : Members) × (value : Data) × HasFaults bytes members × HasMember members (codes "containers") value
+    × IsWrongAt (λ values. (declared : List Item) × AreContainers 1 values declared) value place
+IsRefusedAt bytes (Clients place) =
+    (members : Members) × (declared : List Item) × (value : Data) × HasContainers bytes members declared × HasMember members (codes "clients") value
+    × IsWrongAt (λ values. (clients : List Client) × AreClients 1 values clients) value place
+IsRefusedAt bytes (Steps place) =
+    (members : Members) × (declared : List Item) × (clients : List Client) × (value : Data) × HasClients bytes members declared clients
+    × HasMember members (codes "steps") value × IsWrongAt (λ values. (steps : List Step) × AreSteps (length clients) values steps) value place
+
+abbrev pub IsReadFault : List ℕ → ReadFault → Type 0
+IsReadFault bytes (Refused place) = IsRefusedAt bytes place
+IsReadFault bytes NoMemory = Unit {0}

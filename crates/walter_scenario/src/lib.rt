@@ -1,0 +1,12 @@
+//! A scenario: what is to be played, read from JSON.
+#![tactic(auto)]
+
+mod lists;
+mod place;
+mod reading;
+mod scenario;
+
+pub use lists::{Clients, Steps};
+pub use place::{Place, ReadFault};
+pub use reading::read;
+pub use scenario::{Client, LONGEST_TEXT, MOST_CLIENTS, Scenario, Step};
