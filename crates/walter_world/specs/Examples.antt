@@ -1,6 +1,6 @@
 -- A run written out, with the history that it spells: two transactions, of which the first writes an object and reads it
 -- back, and the second reads what the first committed.
-use Rattle.std.specs.Prelude.{ℕ, List, [], ◌∷◌, Some}
+use Rattle.std.specs.Prelude.{ℕ, List, [], ◌∷◌, Some, Ok}
 use Rattle.walter_base.specs.declared.message.Record.TheVariants.{Own}
 use Rattle.walter_base.specs.declared.message.Reply.TheVariants.{Started, Value, Done, Committed, Ended}
 use Rattle.walter_base.specs.declared.message.Request.{Request}
@@ -14,12 +14,12 @@ use Rattle.walter_psi.specs.declared.step.Answer.TheVariants.{Value as ValueIs}
 use Rattle.walter_psi.specs.declared.step.Step.{Step}
 use Rattle.walter_psi.specs.declared.step.Step.TheVariants.{Start, Op, Read, Commit, Told}
 use Rattle.walter_psi.specs.declared.step.Told.TheVariants.{Version as OfVersion}
-use Rattle.walter_site.specs.declared.trail.Entry.{Entry}
-use Rattle.walter_site.specs.declared.trail.Outcome.TheVariants.{Replied}
-use Rattle.walter_site.specs.declared.trail.TrailEvent.TheVariants.{Call}
-use Rattle.walter_site.specs.Rule.{Expected, answers}
-use Rattle.walter_site.specs.Trails.{entry_of, opening}
-use Rattle.walter_cli.specs.Plays.{the_site}
+use Rattle.walter_trail.specs.declared.trail.Entry.{Entry}
+use Rattle.walter_trail.specs.declared.trail.Outcome.TheVariants.{Replied}
+use Rattle.walter_trail.specs.declared.trail.TrailEvent.TheVariants.{Call}
+use Rattle.walter_trail.specs.Rule.{Expected, answers}
+use Rattle.walter_trail.specs.Trails.{entry_of, opening}
+use Rattle.walter_world.specs.Spelled.{the_site}
 
 abbrev pub first : Tid
 first = record { site = the_site; epoch = 1; number = 1 }
@@ -38,7 +38,7 @@ abbrev pub recorded_first : List ℕ → Tx
 recorded_first value = record { tid = first; slow = 0; start = 0 ∷ []; updates = WriteOf object value ∷ [] }
 
 abbrev pub asked : ℕ → Request → Expected → Entry
-asked stamp request expected = entry_of stamp (Call 0 request) expected
+asked stamp request expected = entry_of stamp (Call 0 (Ok request)) expected
 
 -- its trail
 abbrev pub example_trail : List ℕ → List Entry

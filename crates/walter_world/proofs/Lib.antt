@@ -1,0 +1,4 @@
+pub mod OneTrail
+pub mod Rows
+pub mod SpelledSteps
+pub mod SpelledRun

@@ -1,0 +1,6 @@
+//! The history that the trails of the sites spell, and the laws that it keeps.
+#![tactic(auto)]
+
+mod laws;
+
+pub use laws::{example_spells, one_site_spells_legal};
