@@ -1,9 +1,9 @@
 use Rattle.std.proofs.Common.{◌≡◌, ℕ, List, ◌∷◌, [], ◌++◌, ◌∙◌, ap, get_or, arith, rules}
 use Rattle.std.specs.String.{string_bytes}
-use Rattle.walter_cli.specs.Reports.{comma, logged}
-use Rattle.walter_cli.proofs.Joined.{joined_first, joined_more}
-use Rattle.walter_cli.proofs.report.log_of.Goals as goal
-use Rattle.walter_cli.proofs.report.log_of.Goals.{then-index-gt0+in_ok-push, else-index-gt0}
+use Rattle.walter_report.specs.Reports.{comma, logged}
+use Rattle.walter_report.proofs.Joined.{joined_first, joined_more}
+use Rattle.walter_report.proofs.text.log_of.Goals as goal
+use Rattle.walter_report.proofs.text.log_of.Goals.{then-index-gt0+in_ok-push, else-index-gt0}
 
 pub loop-index-preserved : goal.loop-index-preserved
 loop-index-preserved c =

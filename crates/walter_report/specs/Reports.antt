@@ -1,19 +1,21 @@
--- The text of a report. Each line ends with one line feed.
-use Rattle.std.specs.Prelude.{ℕ, ◌+◌, nat_eq, List, [], ◌∷◌, ◌++◌, length, map, flat_map, codes, Option, Some, None, if◌then◌else◌}
+-- The text of a report (docs/FORMATS.md, "Reports"). Each line ends with one line feed.
+use Rattle.std.specs.Prelude.{ℕ, ◌+◌, nat_eq, List, [], ◌∷◌, ◌++◌, length, map, flat_map, codes, Option, Some, None, All, if◌then◌else◌}
 use Rattle.std.specs.Fmt.{decimal}
 use Rattle.std.specs.List.{join_with_byte}
 use Rattle.hex.specs.Hex.{encode_lower}
 use Rattle.walter_base.specs.declared.message.Record.{Record}
 use Rattle.walter_base.specs.declared.message.Record.TheVariants.{Boot, Own}
 use Rattle.walter_base.specs.declared.message.Reply.{Reply}
-use Rattle.walter_site.specs.declared.trail.Entry.{Entry}
-use Rattle.walter_site.specs.declared.trail.Outcome.{Outcome}
-use Rattle.walter_site.specs.declared.trail.Outcome.TheVariants.{Replied, Taken, Passed}
-use Rattle.walter_site.specs.declared.trail.TrailEvent.{TrailEvent}
-use Rattle.walter_site.specs.declared.trail.TrailEvent.TheVariants.{Call, Restart}
-use Rattle.walter_site.specs.Knowledge.{epoch_after}
-use Rattle.walter_cli.specs.declared.scenario.Scenario.{Scenario}
-use Rattle.walter_cli.specs.Replies.{reply_frame}
+use Rattle.walter_trail.specs.declared.trail.Entry.{Entry}
+use Rattle.walter_trail.specs.declared.trail.Outcome.{Outcome}
+use Rattle.walter_trail.specs.declared.trail.Outcome.TheVariants.{Replied, Taken, Passed}
+use Rattle.walter_trail.specs.declared.trail.TrailEvent.{TrailEvent}
+use Rattle.walter_trail.specs.declared.trail.TrailEvent.TheVariants.{Call, Restart}
+use Rattle.walter_trail.specs.Knowledge.{epoch_after}
+use Rattle.walter_fields.specs.Spellings.{block_spelled}
+use Rattle.walter_reply.specs.Replies.{reply_spelled, FitsFrame}
+use Rattle.walter_scenario.specs.declared.scenario.Client.{Client}
+use Rattle.walter_scenario.specs.declared.scenario.Scenario.{Scenario}
 
 abbrev pub comma : ℕ
 comma = 44
@@ -33,12 +35,19 @@ reply_in Taken = []
 reply_in Passed = []
 
 abbrev pub reply_to : ℕ → TrailEvent → Outcome → List Reply
-reply_to client (Call c request) outcome = if nat_eq c client then reply_in outcome else []
+reply_to client (Call c call) outcome = if nat_eq c client then reply_in outcome else []
 reply_to client Restart outcome = []
 
 -- the replies to a client, in order
 abbrev pub replies_to : ℕ → List Entry → List Reply
 replies_to client trail = flat_map (λ e. reply_to client e.event e.outcome) trail
+
+-- each reply in the trails has a frame
+abbrev pub HaveFrames : List (List Entry) → Type 0
+HaveFrames trails = All (λ trail. All (λ e. All FitsFrame (reply_in e.outcome)) trail) trails
+
+abbrev pub reply_frame : Reply → List ℕ
+reply_frame reply = block_spelled (reply_spelled reply)
 
 -- "client <c> site <s> replies <k> <hex>": how many replies, and their frames
 abbrev pub client_line : ℕ → ℕ → List Reply → List ℕ
@@ -83,10 +92,17 @@ abbrev pub site_lines : ℕ → List (List Entry) → List ℕ
 site_lines site [] = []
 site_lines site (trail ∷ trails) = site_line site trail ++ site_lines (site + 1) trails
 
+-- a line for each client, from this one on
+abbrev pub client_lines : ℕ → List Client → List (List Entry) → List ℕ
+client_lines number [] trails = []
+client_lines number (client ∷ clients) trails =
+    client_line number client.site.0 (flat_map (replies_to number) trails) ++ client_lines (number + 1) clients trails
+
 -- "sites <n> f <f> clients <c>"
 abbrev pub first_line : Scenario → List ℕ
-first_line s = codes "sites " ++ decimal s.catalog.sites ++ codes " f " ++ decimal s.catalog.faults ++ codes " clients 1" ++ line_feed
+first_line s =
+    codes "sites " ++ decimal s.catalog.sites ++ codes " f " ++ decimal s.catalog.faults ++ codes " clients " ++ decimal (length s.clients) ++ line_feed
 
--- a line for the run, one for the client at site 0, one for each site
+-- a line for the run, one for each client, one for each site
 abbrev pub report_text : Scenario → List (List Entry) → List ℕ
-report_text s trails = first_line s ++ client_line 0 0 (flat_map (replies_to 0) trails) ++ site_lines 0 trails
+report_text s trails = first_line s ++ client_lines 0 s.clients trails ++ site_lines 0 trails

@@ -1,6 +1,6 @@
 use Rattle.std.proofs.Common.{◌≡◌, ◌≤◌, ◌+◌, length, drop}
-use Rattle.walter_cli.specs.Reports.{records}
-use Rattle.walter_cli.proofs.report.count_records.Given as goal
+use Rattle.walter_report.specs.Reports.{records}
+use Rattle.walter_report.proofs.text.count_records.Given as goal
 
 abbrev pub invariant-loop-entry : goal.invariant-loop-entry
 invariant-loop-entry l =

@@ -1,7 +1,7 @@
 use Rattle.std.proofs.Common.{◌≡◌, ◌++◌, drop}
 use Rattle.std.specs.String.{string_bytes}
-use Rattle.walter_cli.specs.Reports.{site_lines}
-use Rattle.walter_cli.proofs.report.push_site_lines.Given as goal
+use Rattle.walter_report.specs.Reports.{site_lines}
+use Rattle.walter_report.proofs.text.push_site_lines.Given as goal
 
 abbrev pub invariant-loop-site : goal.invariant-loop-site
 invariant-loop-site l =

@@ -1,28 +1,24 @@
-ghost use Rattle.std.specs.Prelude.{◌≡◌, ◌≤◌, [], ◌∷◌, ◌++◌, length, map, flat_map, vec_len, OnOk, IfOk};
+ghost use Rattle.std.specs.Prelude.{◌≡◌, ◌≤◌, [], ◌∷◌, ◌++◌, length, map, flat_map, vec_len, All, OnOk, IfOk};
 ghost use Rattle.std.specs.List.{join_with_byte};
 ghost use Rattle.std.specs.String.{string_bytes};
-ghost use Rattle.walter_cli.specs.Reports.{comma, or_dash, reply_to, replies_to, client_line, last_epoch, records, own_numbers, logged, site_line, site_lines, first_line, report_text};
-ghost use Rattle.walter_cli.specs.Lines.{events_part, commits_part};
+ghost use Rattle.walter_report.specs.Reports.{comma, or_dash, reply_in, reply_to, replies_to, reply_frame, HaveFrames, client_line, client_lines, last_epoch, records, own_numbers, logged, site_line, site_lines, first_line, report_text};
+ghost use Rattle.walter_reply.specs.Replies.{FitsFrame};
+ghost use Rattle.walter_report.specs.Lines.{events_part, commits_part};
 
-use crate::replies::push_reply;
-use crate::scenario::Scenario;
 use std::alloc::Global;
 use walter_base::{Mem, Record, Reply};
-use walter_site::{Entry, Outcome, Trail, TrailEvent};
-
-// The one client.
-const CLIENT: u32 = 0;
-
-// The site that it asks.
-const HOME: u8 = 0;
+use walter_reply::encode;
+use walter_scenario::{Client, Scenario};
+use walter_trail::{Entry, Outcome, Trail, TrailEvent};
 
 /// The report of a run: the text of its trails, one for each site.
-pub fn report_of(alloc: Global, scenario: &Scenario, trails: &[Trail]) -> Mem<Vec<u8>>
+pub fn report(alloc: Global, scenario: &Scenario, trails: &[Trail]) -> Mem<Vec<u8>>
+    requires { HaveFrames trails.now }
     ensures { IfOk result (λ text. text.items ≡ report_text scenario.now trails.now) }
 {
     let mut text = String::new(alloc);
     push_first_line(&mut text, scenario)?;
-    push_client_line(alloc, &mut text, trails)?;
+    push_client_lines(alloc, &mut text, scenario.clients.as_slice(), trails)?;
     push_site_lines(alloc, &mut text, trails)?;
     Ok(text.into_bytes())
 }
@@ -32,19 +28,42 @@ fn push_first_line(text: &mut String, scenario: &Scenario) -> Mem<()>
 {
     let sites = scenario.catalog.sites;
     let faults = scenario.catalog.faults;
-    writeln!(text, "sites {sites} f {faults} clients 1")?;
+    let clients = scenario.clients.as_slice().len();
+    writeln!(text, "sites {sites} f {faults} clients {clients}")?;
     Ok(())
 }
 
-fn push_client_line(alloc: Global, text: &mut String, trails: &[Trail]) -> Mem<()>
-    ensures { OnOk result (string_bytes text.new ≡ string_bytes text.old ++ client_line 0 0 (flat_map (replies_to 0) trails.now)) }
+fn push_client_lines(
+    alloc: Global,
+    text: &mut String,
+    clients: &[Client],
+    trails: &[Trail],
+) -> Mem<()>
+    requires { HaveFrames trails.now }
+    ensures { OnOk result (string_bytes text.new ≡ string_bytes text.old ++ client_lines 0 clients.now trails.now) }
+{
+    for (number, client) in clients.iter().enumerate() {
+        push_client_line(alloc, text, number, client.site.0, trails)?;
+    }
+    Ok(())
+}
+
+fn push_client_line(
+    alloc: Global,
+    text: &mut String,
+    number: usize,
+    site: u8,
+    trails: &[Trail],
+) -> Mem<()>
+    requires { HaveFrames trails.now }
+    ensures { OnOk result (string_bytes text.new ≡ string_bytes text.old ++ client_line number site (flat_map (replies_to number) trails.now)) }
 {
     let mut tally = Tally::new(alloc);
-    tally.add_trails(CLIENT, trails)?;
+    tally.add_trails(number, trails)?;
     let count = tally.count;
     let frames = hex::encode(alloc, tally.frames.as_slice())?;
     let frames = text_or_dash(&frames);
-    writeln!(text, "client {CLIENT} site {HOME} replies {count} {frames}")?;
+    writeln!(text, "client {number} site {site} replies {count} {frames}")?;
     Ok(())
 }
 
@@ -57,7 +76,7 @@ struct Tally {
 }
 
 impl Tally {
-    ghost use Rattle.walter_cli.specs.Tallies.{Adds};
+    ghost use Rattle.walter_report.specs.Tallies.{Adds};
 
     fn new(alloc: Global) -> Tally
         ensures count { result.count ≡ 0 }
@@ -69,7 +88,8 @@ impl Tally {
         }
     }
 
-    fn add_trails(&mut self, client: u32, trails: &[Trail]) -> Mem<()>
+    fn add_trails(&mut self, client: usize, trails: &[Trail]) -> Mem<()>
+        requires { HaveFrames trails.now }
         ensures { OnOk result (Adds self.old self.new (flat_map (replies_to client) trails.now)) }
     {
         for trail in trails {
@@ -78,7 +98,8 @@ impl Tally {
         Ok(())
     }
 
-    fn add_trail(&mut self, client: u32, trail: &[Entry]) -> Mem<()>
+    fn add_trail(&mut self, client: usize, trail: &[Entry]) -> Mem<()>
+        requires { All (λ e. All FitsFrame (reply_in e.outcome)) trail.now }
         ensures { OnOk result (Adds self.old self.new (replies_to client trail.now)) }
     {
         for entry in trail {
@@ -87,11 +108,12 @@ impl Tally {
         Ok(())
     }
 
-    fn add_entry(&mut self, client: u32, entry: &Entry) -> Mem<()>
+    fn add_entry(&mut self, client: usize, entry: &Entry) -> Mem<()>
+        requires { All FitsFrame (reply_in entry.now.outcome) }
         ensures { OnOk result (Adds self.old self.new (reply_to client entry.now.event entry.now.outcome)) }
     {
         if let TrailEvent::Call { client: asker, .. } = &entry.event
-            && *asker == client
+            && *asker as usize == client
             && let Outcome::Replied(reply) = &entry.outcome
         {
             self.add(reply)?;
@@ -100,12 +122,26 @@ impl Tally {
     }
 
     fn add(&mut self, reply: &Reply) -> Mem<()>
+        requires { FitsFrame reply.now }
         ensures { OnOk result (Adds self.old self.new (reply.now ∷ [])) }
     {
         push_reply(&mut self.frames, reply)?;
         self.count += 1;
         Ok(())
     }
+}
+
+// Puts the frame of a reply at the end of the bytes.
+#[tactic(auto, unfolding(walter_fields::specs::Spellings::number_spelled))]
+fn push_reply(out: &mut Vec<u8>, reply: &Reply) -> Mem<()>
+    requires { FitsFrame reply.now }
+    ensures { OnOk result (out.new.items ≡ out.old.items ++ reply_frame reply.now) }
+{
+    let body = encode(*out.allocator(), reply)?;
+    let body = body.as_slice();
+    out.extend_from_slice(&(body.len() as u32).to_be_bytes())?;
+    out.extend_from_slice(body)?;
+    Ok(())
 }
 
 fn push_site_lines(alloc: Global, text: &mut String, trails: &[Trail]) -> Mem<()>
@@ -208,114 +244,4 @@ fn text_or_dash(text: &str) -> &str
     ensures { result.now ≡ or_dash text.now }
 {
     if text.is_empty() { "-" } else { text }
-}
-
-#[cfg(test)]
-mod tests {
-    use super::*;
-    use crate::requests::Requests;
-    use std::test::Fail;
-    use walter_base::{
-        Bytes, Catalog, Kind, ObjId, Request, SiteId, Tid, Tx, Updates, Version, Vts,
-    };
-
-    fn scenario(alloc: Global) -> Result<Scenario, Fail> {
-        let catalog = Catalog::build(alloc, 1, 0, &[(1, Kind::Regular, SiteId(0))])?;
-        Ok(Scenario {
-            catalog,
-            requests: Requests::from(Vec::new(alloc)),
-            turns: 0,
-        })
-    }
-
-    fn opened(alloc: Global) -> Mem<Trail> {
-        let mut trail = Trail::new(alloc);
-        trail.push(Entry {
-            stamp: 1,
-            event: TrailEvent::Restart,
-            outcome: Outcome::Passed,
-            wrote: Some(Record::Boot(1)),
-        })?;
-        Ok(trail)
-    }
-
-    fn answer(
-        trail: &mut Trail,
-        stamp: u64,
-        request: Request,
-        reply: Reply,
-        wrote: Option<Record>,
-    ) -> Mem<()> {
-        trail.push(Entry {
-            stamp,
-            event: TrailEvent::Call { client: 0, request },
-            outcome: Outcome::Replied(reply),
-            wrote,
-        })
-    }
-
-    #[test]
-    fn reports_an_opening(rt: HostRuntime) -> Result<(), Fail> {
-        let alloc = rt.alloc();
-        let trails = vec![in alloc; opened(alloc)?]?;
-        let report = String::from_utf8(report_of(alloc, &scenario(alloc)?, &trails)?)?;
-        assert_eq!(rt;
-            report.as_str(),
-            "sites 1 f 0 clients 1\nclient 0 site 0 replies 0 -\nsite 0 up epoch 1 events 1 records 1 got 0 committed 0 log -\n"
-        );
-        Ok(())
-    }
-
-    #[test]
-    fn reports_a_commit(rt: HostRuntime) -> Result<(), Fail> {
-        let alloc = rt.alloc();
-        let site = SiteId(0);
-        let oid = ObjId {
-            container: 1,
-            local: 5,
-        };
-        let tid = Tid {
-            site,
-            epoch: 1,
-            number: 1,
-        };
-        let tx = Tx {
-            tid,
-            slow: 0,
-            start: Vts::zero(1),
-            updates: Updates::from(Vec::new(alloc)),
-        };
-        let mut trail = opened(alloc)?;
-        answer(&mut trail, 2, Request::Start, Reply::Started(tid), None)?;
-        answer(
-            &mut trail,
-            3,
-            Request::Write(oid, Bytes::from_slice(alloc, b"hello")?),
-            Reply::Done,
-            None,
-        )?;
-        answer(
-            &mut trail,
-            4,
-            Request::Read(oid),
-            Reply::Value(Some(Bytes::from_slice(alloc, b"hello")?)),
-            None,
-        )?;
-        answer(
-            &mut trail,
-            5,
-            Request::Commit,
-            Reply::Committed(Version { site, seq: 1 }),
-            Some(Record::Own(1, tx)),
-        )?;
-        let trails = vec![in alloc; trail]?;
-        let report = String::from_utf8(report_of(alloc, &scenario(alloc)?, &trails)?)?;
-        assert_eq!(rt;
-            report.as_str(),
-            "sites 1 f 0 clients 1\nclient 0 site 0 replies 4 0000000e80000000000100000000000000010000000182\
-            0000000b81010000000568656c6c6f0000000a85000000000000000001\n\
-            site 0 up epoch 1 events 5 records 2 got 1 committed 1 log 0:1\n"
-        );
-        Ok(())
-    }
 }

@@ -1,8 +1,8 @@
 -- How the replies to a client are counted.
 use Rattle.std.specs.Prelude.{◌≡◌, ◌+◌, List, ◌++◌, length, flat_map}
 use Rattle.walter_base.specs.declared.message.Reply.{Reply}
-use Rattle.walter_cli.specs.declared.report.Tally.{Tally}
-use Rattle.walter_cli.specs.Replies.{reply_frame}
+use Rattle.walter_report.specs.declared.text.Tally.{Tally}
+use Rattle.walter_report.specs.Reports.{reply_frame}
 
 -- the new tally has these replies after the old ones
 pub record Adds (old new : Tally) (replies : List Reply) : Type 0 where

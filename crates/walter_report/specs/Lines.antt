@@ -2,8 +2,8 @@
 use Rattle.std.specs.Prelude.{ℕ, List, ◌++◌, length, map, codes}
 use Rattle.std.specs.Fmt.{decimal}
 use Rattle.std.specs.List.{join_with_byte}
-use Rattle.walter_site.specs.declared.trail.Entry.{Entry}
-use Rattle.walter_cli.specs.Reports.{comma, line_feed, or_dash, last_epoch, records, own_numbers, logged}
+use Rattle.walter_trail.specs.declared.trail.Entry.{Entry}
+use Rattle.walter_report.specs.Reports.{comma, line_feed, or_dash, last_epoch, records, own_numbers, logged}
 
 -- "site <i> up epoch <e> events <n> records <r>"
 abbrev pub events_part : ℕ → List Entry → List ℕ

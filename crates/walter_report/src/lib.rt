@@ -1,0 +1,6 @@
+//! The report of a run, as text.
+#![tactic(auto)]
+
+mod text;
+
+pub use text::report;
