@@ -1,1 +1,4 @@
 pub mod InputLemmas
+pub mod Readings
+pub mod Orders
+pub mod Standings

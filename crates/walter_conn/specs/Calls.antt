@@ -1,9 +1,7 @@
 -- What is known of what a client sends, and what a connection makes of it (docs/FORMATS.md, "Frames of a client").
-use Rattle.std.specs.Prelude.{◌≡◌, ◌⊎◌, ◌<◌, ◌≤◌, ℕ, List, length, Option, Result, Err}
-use Rattle.walter_base.specs.declared.message.Request.{Request}
+use Rattle.std.specs.Prelude.{◌≡◌, ◌⊎◌, ◌<◌, ◌≤◌, ℕ, List, length, Option, Err}
 use Rattle.walter_stream.specs.Streams.{AtEnd, TakesFront}
-use Rattle.walter_conn.specs.Frames.{frame, IsCallOf, IsTooLong, EndsInFrame}
-use Rattle.walter_conn.specs.declared.next.BadFrame.{BadFrame}
+use Rattle.walter_conn.specs.Frames.{frame, Call, IsCallOf, IsTooLong, EndsInFrame}
 use Rattle.walter_conn.specs.declared.next.Next.{Next}
 use Rattle.walter_conn.specs.declared.next.Next.TheVariants.{Frame, Ended, Broken}
 use Rattle.walter_conn.specs.declared.state.State.{State}
@@ -19,7 +17,7 @@ abbrev pub opened : Option (List ℕ) → ℕ → Incoming
 opened unread faults = record { unread = unread; faults = faults; state = state.Open }
 
 -- a frame was taken from the front, and its body calls for this
-pub record TakesFrame (old new : Incoming) (call : Result Request BadFrame) : Type 0 where
+pub record TakesFrame (old new : Incoming) (call : Call) : Type 0 where
   pub body : List ℕ
   pub short : length body ≤ 65536
   pub is_call : IsCallOf body call
@@ -27,7 +25,7 @@ pub record TakesFrame (old new : Incoming) (call : Result Request BadFrame) : Ty
   pub still_open : new.state ≡ state.Open
 
 -- a length that no frame has was taken from the front, and nothing is read behind it
-pub record TakesTooLong (old new : Incoming) (call : Result Request BadFrame) : Type 0 where
+pub record TakesTooLong (old new : Incoming) (call : Call) : Type 0 where
   pub front : List ℕ
   pub too_long : IsTooLong front
   pub bad : call ≡ Err (record { at = 0 })
@@ -35,7 +33,7 @@ pub record TakesTooLong (old new : Incoming) (call : Result Request BadFrame) : 
   pub closed : new.state ≡ state.Closed
 
 -- a call was taken from what is read on, without a fault
-pub record TakesCall (old new : Incoming) (call : Result Request BadFrame) : Type 0 where
+pub record TakesCall (old new : Incoming) (call : Call) : Type 0 where
   pub was_open : old.state ≡ state.Open
   pub faultless : new.faults ≡ old.faults
   pub takes : TakesFrame old new call ⊎ TakesTooLong old new call

@@ -1,15 +1,19 @@
 -- A client's frames (docs/FORMATS.md, "Frames of a client").
 use Rattle.std.specs.Prelude.{◌≡◌, ◌≢◌, ◌⊎◌, ◌<◌, ◌≤◌, ◌^◌, ℕ, List, [], ◌++◌, length, Option, Some, None, Result, Ok, Err}
+use Rattle.walter_base.specs.declared.message.BadFrame.{BadFrame}
 use Rattle.walter_base.specs.declared.message.Request.{Request}
-use Rattle.walter_conn.specs.declared.next.BadFrame.{BadFrame}
 use Rattle.walter_fields.specs.Spellings.{number_spelled, block_spelled}
 use Rattle.walter_request.specs.Requests.{Spells, IsBadFrame}
+
+-- what a frame calls for
+abbrev pub Call : Type 0
+Call = Result Request BadFrame
 
 abbrev pub frame : List ℕ → List ℕ
 frame body = block_spelled body
 
 -- what a body calls for: the request that it spells, or the place of what is wrong with it
-abbrev pub IsCallOf : List ℕ → Result Request BadFrame → Type 0
+abbrev pub IsCallOf : List ℕ → Call → Type 0
 IsCallOf body (Ok request) = Spells body request
 IsCallOf body (Err bad) = IsBadFrame body bad.at
 

@@ -1,28 +1,34 @@
-ghost use Rattle.std.specs.Prelude.{◌≡◌, ◌≤◌, vec_len, true, false, Result, Ok, IfOk, IfErr, OnErr};
-ghost use Rattle.walter_base.specs.declared.message.Request.{Request};
+ghost use Rattle.std.specs.Prelude.{◌≡◌, ◌≢◌, ◌+◌, ◌≤◌, length, vec_len, true, false, Ok, IfOk, IfErr, OnOk, OnErr};
 ghost use Rattle.walter_conn.specs.Calls.{opened, Answers};
-ghost use Rattle.walter_conn.specs.Frames.{frame};
+ghost use Rattle.walter_conn.specs.Frames.{frame, Call};
 ghost use Rattle.walter_conn.specs.Inputs.{held_by, body_of};
-ghost use Rattle.walter_conn.specs.declared.next.BadFrame.{BadFrame};
+ghost use Rattle.walter_conn.specs.Outputs.{IsLost};
 ghost use Rattle.walter_conn.specs.declared.state.State.TheVariants.{Open};
+ghost use Rattle.walter_reply.specs.Replies.{reply_spelled, FitsFrame};
+ghost use Rattle.walter_stream.specs.Streams.{Appends};
 
 use crate::input::{Arrival, Input, LONGEST};
-use crate::next::{BadFrame, Next};
+use crate::next::{Broken, Next};
+use crate::output::write_frame;
 use crate::reading::read_call;
 use crate::state::State;
 use std::alloc::Global;
-use walter_fields::{Mem, NoMemory};
-use walter_stream::{Sink, Source};
+use walter_base::{BadFrame, Reply};
+use walter_fields::{Appender, Mem, NoMemory};
+use walter_stream::{Sink, Source, write_all};
 
 /// A connection with a client, over where its bytes come from and where they go.
 #[derive(Drop)]
 pub struct Conn<S: Source + Drop, K: Sink + Drop> {
     input: Input<S>,
     sink: K,
+    // The frame of a reply.
+    output: Appender,
     state: State,
     // A whole frame is held, since there was no memory for its request.
     whole: bool,
     ghost room: { vec_len input.buffer ≡ 65540 },
+    ghost output_room: { length output.bytes + output.room ≡ 65540 },
     ghost begun: { whole ≡ true → 4 ≤ input.held },
     ghost within: { whole ≡ true → input.held ≤ 65540 },
     ghost held: { whole ≡ true → held_by input ≡ frame (body_of input) },
@@ -39,7 +45,7 @@ fn zeros(alloc: Global, count: usize) -> Mem<Vec<u8>>
 impl<S: Source + Drop, K: Sink + Drop> Conn<S, K> {
     ghost use Rattle.walter_conn.specs.Connections.{source_of, sink_of, incoming, holds_frame};
 
-    /// Takes the memory for a frame. Where there is none, the source and the sink come back.
+    /// Takes the memory for a frame of the client, and for one to it. Where there is none, the source and the sink come back.
     pub fn new(alloc: Global, source: S, sink: K) -> Result<Conn<S, K>, (S, K)>
         ensures incoming { IfOk result (λ conn.
             incoming conn ≡ opened (S.left source) (S.faults source)) }
@@ -50,9 +56,13 @@ impl<S: Source + Drop, K: Sink + Drop> Conn<S, K> {
         let Ok(buffer) = zeros(alloc, LONGEST + 4) else {
             return Err((source, sink));
         };
+        let Ok(output) = Appender::with_room(alloc, LONGEST + 4) else {
+            return Err((source, sink));
+        };
         Ok(Conn {
             input: Input::new(source, buffer),
             sink,
+            output,
             state: State::Open,
             whole: false,
         })
@@ -79,7 +89,7 @@ impl<S: Source + Drop, K: Sink + Drop> Conn<S, K> {
         ensures sink { sink_of self.new ≡ sink_of self.old }
 
         // Behind a frame nothing was taken from the source, and a frame that is held is read without it.
-        ensures exact { (call : Result Request BadFrame) → result ≡ Ok (Next.Frame call)
+        ensures exact { (call : Call) → result ≡ Ok (Next.Frame call)
             → S.left (source_of self.new) ≡ (incoming self.new).unread }
         ensures whole { OnErr result (holds_frame self.new ≡ true) }
         ensures anew { holds_frame self.old ≡ true → source_of self.new ≡ source_of self.old }
@@ -110,5 +120,31 @@ impl<S: Source + Drop, K: Sink + Drop> Conn<S, K> {
         self.input.held = 0;
         self.whole = false;
         Ok(Next::Frame(call))
+    }
+
+    /// Writes the frame of a reply. It takes no memory. What the client sends stays as it was.
+    pub fn put(&mut self, reply: &Reply) -> Result<(), Broken>
+        requires { FitsFrame reply.now }
+        ensures whole { OnOk result (Appends (K.holds (sink_of self.old)) (K.holds (sink_of self.new))
+            (frame (reply_spelled reply.now))) }
+        ensures faultless { OnOk result (K.faults (sink_of self.new) ≡ K.faults (sink_of self.old)) }
+        ensures used { OnOk result ((incoming self.old).state ≢ State.Broken) }
+        ensures same { OnOk result (incoming self.new ≡ incoming self.old) }
+        ensures lost { OnErr result (IsLost K.holds K.faults (sink_of self.old) (sink_of self.new)
+            (frame (reply_spelled reply.now)) (incoming self.old).state) }
+        ensures broken { OnErr result
+            (incoming self.new ≡ record (incoming self.old) { state = State.Broken }) }
+        ensures source { source_of self.new ≡ source_of self.old }
+        ensures held { holds_frame self.new ≡ holds_frame self.old }
+    {
+        if let State::Broken = self.state {
+            return Err(Broken);
+        }
+        write_frame(&mut self.output, reply);
+        if write_all(&mut self.sink, self.output.as_slice()).is_err() {
+            self.state = State::Broken;
+            return Err(Broken);
+        }
+        Ok(())
     }
 }

@@ -3,12 +3,15 @@
 
 mod conn;
 mod input;
+mod laws;
 mod next;
+mod output;
 mod reading;
 mod state;
 
 pub use conn::Conn;
-pub use next::{BadFrame, Broken, Next};
+pub use laws::{calls_in_order, what_was_called};
+pub use next::{Broken, Next};
 
 #[cfg(test)]
 mod tests;

@@ -1,14 +1,13 @@
 ghost use Rattle.std.specs.Prelude.{◌≤◌, length, IfOk};
 ghost use Rattle.walter_conn.specs.Frames.{IsCallOf};
 
-use crate::next::BadFrame;
 use std::alloc::Global;
-use walter_base::Request;
+use walter_base::{BadFrame, Call};
 use walter_fields::{Mem, NoMemory};
 use walter_request::{RequestFault, decode};
 
 /// What the body of a frame calls for.
-pub(crate) fn read_call(alloc: Global, body: &[u8]) -> Mem<Result<Request, BadFrame>>
+pub(crate) fn read_call(alloc: Global, body: &[u8]) -> Mem<Call>
     requires { length body.now ≤ 65536 }
     ensures { IfOk result (λ call. IsCallOf body.now call) }
 {

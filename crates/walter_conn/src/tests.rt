@@ -1,7 +1,7 @@
-use crate::{BadFrame, Conn, Next};
+use crate::{Conn, Next};
 use std::alloc::Global;
 use std::test::Fail;
-use walter_base::Request;
+use walter_base::{BadFrame, Request};
 use walter_stream::{MemorySink, MemorySource};
 
 type MemoryConn = Conn<MemorySource, MemorySink>;

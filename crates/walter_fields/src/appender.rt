@@ -42,6 +42,22 @@ impl Appender {
         bytes
     }
 
+    /// The bytes that were written so far.
+    pub fn as_slice(&self) -> &[u8]
+        ensures { result.now ≡ self.now.bytes }
+    {
+        &self.bytes
+    }
+
+    /// Drops the bytes that were written: their memory is room again.
+    pub fn clear(&mut self)
+        ensures bytes { self.new.bytes ≡ [] }
+        ensures room { self.new.room ≡ self.old.room + length self.old.bytes }
+    {
+        self.room += self.bytes.len();
+        self.bytes.clear();
+    }
+
     fn put(&mut self, bytes: &[u8])
         requires { length bytes.now ≤ self.old.room }
         ensures bytes { self.new.bytes ≡ self.old.bytes ++ bytes.now }

@@ -33,6 +33,18 @@ fn what_is_written_is_read(rt: HostRuntime) -> Result<(), Fail> {
 }
 
 #[test]
+fn what_was_written_makes_room_again(rt: HostRuntime) -> Result<(), Fail> {
+    let mut out = Appender::with_room(rt.alloc(), 2)?;
+    out.u16(0x0102);
+    assert_eq!(rt; out.as_slice(), [1, 2].as_slice());
+    out.clear();
+    assert!(rt; out.as_slice().is_empty());
+    out.u16(0x0304);
+    assert_eq!(rt; out.as_slice(), [3, 4].as_slice());
+    Ok(())
+}
+
+#[test]
 fn too_few_bytes_are_short_and_change_nothing(rt: HostRuntime) -> Result<(), Fail> {
     let bytes = [0, 0, 0, 9, 0, 0, 0];
     let short = Short { at: 7 };

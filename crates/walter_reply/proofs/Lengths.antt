@@ -1,17 +1,23 @@
 -- How many bytes the spelling of a reply has.
-use Rattle.std.proofs.Common.{◌≡◌, ◌++◌, length, arith}
+use Rattle.std.proofs.Common.{◌≡◌, ◌↔◌, ℕ, ◌+◌, List, [], ◌++◌, length, arith}
 use Rattle.std.specs.Prelude.{Some, None}
 use Rattle.std.proofs.lemmas.List.{length-append}
 use Rattle.walter_base.specs.declared.message.Reply.{Reply}
-use Rattle.walter_base.specs.declared.message.Reply.TheVariants.{Started, Value, Done, Committed, Ended, Refused}
+use Rattle.walter_base.specs.declared.message.Reply.TheVariants.{Started, Value, Done, Committed, Aborted, Ended, Refused}
+use Rattle.walter_base.specs.declared.message.Refusal.TheVariants.{UnknownContainer, NoTx, TxOpen, BadFrame, Memory}
+use Rattle.walter_base.specs.declared.transaction.Cause.TheVariants.{Modified, Locked, Asked}
 use Rattle.walter_fields.specs.Spellings.{number_spelled, block_spelled}
 use Rattle.walter_fields.proofs.Numbers.{length-number_spelled}
-use Rattle.walter_names.specs.Names.{tid_spelled, version_spelled}
-use Rattle.walter_names.proofs.Lengths.{length-tid_spelled, length-version_spelled, length-block_spelled}
-use Rattle.walter_reply.specs.Replies.{refusal_number, reply_spelled, size_of}
+use Rattle.walter_names.specs.Names.{object_spelled, tid_spelled, version_spelled}
+use Rattle.walter_names.proofs.Lengths.{length-object_spelled, length-tid_spelled, length-version_spelled, length-block_spelled}
+use Rattle.walter_reply.specs.Replies.{reply_spelled, size_of, FitsFrame, HasShortValue}
 
 -- for what is written of a reply
-pub ruleset lengths = (length-append, length-number_spelled, length-tid_spelled, length-version_spelled, length-block_spelled)
+pub ruleset lengths = (length-append, length-number_spelled, length-object_spelled, length-tid_spelled, length-version_spelled, length-block_spelled)
+
+two_bytes : (k n : ℕ) (fields : List ℕ) → length (number_spelled 1 k ++ (number_spelled 1 n ++ fields)) ≡ 2 + length fields
+two_bytes k n fields =
+    omega (arith, length-append (number_spelled 1 k) (number_spelled 1 n ++ fields), length-append (number_spelled 1 n) fields, length-number_spelled 1 k, length-number_spelled 1 n)
 
 pub length-reply_spelled : (reply : Reply) → length (reply_spelled reply) ≡ size_of reply
 length-reply_spelled (Started tid) = omega (arith, length-append (number_spelled 1 0x80) (tid_spelled tid), length-number_spelled 1 0x80, length-tid_spelled tid)
@@ -27,6 +33,61 @@ length-reply_spelled (Value (Some bytes)) =
     )
 length-reply_spelled Done = length-number_spelled 1 _
 length-reply_spelled (Committed version) = omega (arith, length-append (number_spelled 1 0x85) (version_spelled version), length-number_spelled 1 0x85, length-version_spelled version)
+length-reply_spelled (Aborted (Modified oid version)) =
+    omega (
+      arith,
+      length-append (number_spelled 1 0x86) (number_spelled 1 1 ++ (object_spelled oid ++ version_spelled version)),
+      length-append (number_spelled 1 1) (object_spelled oid ++ version_spelled version),
+      length-append (object_spelled oid) (version_spelled version),
+      length-number_spelled 1 0x86,
+      length-number_spelled 1 1,
+      length-object_spelled oid,
+      length-version_spelled version,
+    )
+length-reply_spelled (Aborted (Locked oid owner)) =
+    omega (
+      arith,
+      length-append (number_spelled 1 0x86) (number_spelled 1 2 ++ (object_spelled oid ++ tid_spelled owner)),
+      length-append (number_spelled 1 2) (object_spelled oid ++ tid_spelled owner),
+      length-append (object_spelled oid) (tid_spelled owner),
+      length-number_spelled 1 0x86,
+      length-number_spelled 1 2,
+      length-object_spelled oid,
+      length-tid_spelled owner,
+    )
+length-reply_spelled (Aborted Asked) = two_bytes 0x86 3 []
 length-reply_spelled Ended = length-number_spelled 1 _
-length-reply_spelled (Refused why) =
-    omega (arith, length-append (number_spelled 1 0xE0) (number_spelled 1 (refusal_number why)), length-number_spelled 1 0xE0, length-number_spelled 1 (refusal_number why))
+length-reply_spelled (Refused UnknownContainer) = two_bytes 0xE0 1 []
+length-reply_spelled (Refused NoTx) = two_bytes 0xE0 5 []
+length-reply_spelled (Refused TxOpen) = two_bytes 0xE0 6 []
+length-reply_spelled (Refused (BadFrame at)) = omega (arith, two_bytes 0xE0 8 (number_spelled 4 at), length-number_spelled 4 at)
+length-reply_spelled (Refused Memory) = two_bytes 0xE0 13 []
+
+pub which_fit : (reply : Reply) → HasShortValue reply ↔ FitsFrame reply
+which_fit reply = (short reply, fits reply)
+  where
+    short : (reply : Reply) → HasShortValue reply → FitsFrame reply
+    short (Value (Some bytes)) few = omega (arith, few, length-reply_spelled (Value (Some bytes)))
+    short (Started tid) few = omega (arith, length-reply_spelled (Started tid))
+    short (Value None) few = omega (arith, length-reply_spelled (Value None))
+    short Done few = omega (arith, length-reply_spelled Done)
+    short (Committed version) few = omega (arith, length-reply_spelled (Committed version))
+    short (Aborted (Modified oid version)) few = omega (arith, length-reply_spelled (Aborted (Modified oid version)))
+    short (Aborted (Locked oid owner)) few = omega (arith, length-reply_spelled (Aborted (Locked oid owner)))
+    short (Aborted Asked) few = omega (arith, length-reply_spelled (Aborted Asked))
+    short Ended few = omega (arith, length-reply_spelled Ended)
+    short (Refused UnknownContainer) few = omega (arith, length-reply_spelled (Refused UnknownContainer))
+    short (Refused NoTx) few = omega (arith, length-reply_spelled (Refused NoTx))
+    short (Refused TxOpen) few = omega (arith, length-reply_spelled (Refused TxOpen))
+    short (Refused (BadFrame at)) few = omega (arith, length-reply_spelled (Refused (BadFrame at)))
+    short (Refused Memory) few = omega (arith, length-reply_spelled (Refused Memory))
+
+    fits : (reply : Reply) → FitsFrame reply → HasShortValue reply
+    fits (Value (Some bytes)) all = omega (arith, all, length-reply_spelled (Value (Some bytes)))
+    fits (Started tid) all = tt
+    fits (Value None) all = tt
+    fits Done all = tt
+    fits (Committed version) all = tt
+    fits (Aborted cause) all = tt
+    fits Ended all = tt
+    fits (Refused why) all = tt

@@ -2,15 +2,17 @@
 use Rattle.std.proofs.Common.{◌≡◌, ◌≢◌, ℕ, ◌<◌, List, [], ◌∷◌, ◌++◌, refl, sym, ap, ◌∙◌, append_assoc, append-nil, arith}
 use Rattle.std.specs.Prelude.{Some, None}
 use Rattle.walter_base.specs.declared.message.Refusal.{Refusal}
-use Rattle.walter_base.specs.declared.message.Refusal.TheVariants.{NoTx, TxOpen, Memory}
+use Rattle.walter_base.specs.declared.message.Refusal.TheVariants.{UnknownContainer, NoTx, TxOpen, BadFrame, Memory}
 use Rattle.walter_base.specs.declared.message.Reply.{Reply}
-use Rattle.walter_base.specs.declared.message.Reply.TheVariants.{Started, Value, Done, Committed, Ended, Refused}
+use Rattle.walter_base.specs.declared.message.Reply.TheVariants.{Started, Value, Done, Committed, Aborted, Ended, Refused}
+use Rattle.walter_base.specs.declared.transaction.Cause.{Cause}
+use Rattle.walter_base.specs.declared.transaction.Cause.TheVariants.{Modified, Locked, Asked}
 use Rattle.walter_fields.specs.Spellings.{number_spelled, block_spelled}
 use Rattle.walter_fields.proofs.Numbers.{number_spelled-byte, same_number}
 use Rattle.walter_fields.proofs.Readings.{same_block}
-use Rattle.walter_names.specs.Names.{tid_spelled, version_spelled}
-use Rattle.walter_names.proofs.Prefixes.{same_tid, same_version}
-use Rattle.walter_reply.specs.Replies.{refusal_number, reply_spelled, IsReply, Spells}
+use Rattle.walter_names.specs.Names.{object_spelled, tid_spelled, version_spelled}
+use Rattle.walter_names.proofs.Prefixes.{regrouped, same_object, same_tid, same_version}
+use Rattle.walter_reply.specs.Replies.{cause_number, cause_fields, refusal_number, refusal_fields, reply_spelled, IsCause, IsRefusal, IsReply, Spells}
 
 -- a reply is its first byte, and its fields
 abbrev pub kind_of : Reply → ℕ
@@ -18,6 +20,7 @@ kind_of (Started tid) = 0x80
 kind_of (Value value) = 0x81
 kind_of Done = 0x82
 kind_of (Committed version) = 0x85
+kind_of (Aborted cause) = 0x86
 kind_of Ended = 0x89
 kind_of (Refused why) = 0xE0
 
@@ -27,8 +30,9 @@ fields_spelled (Value None) = number_spelled 1 0
 fields_spelled (Value (Some bytes)) = number_spelled 1 1 ++ block_spelled bytes
 fields_spelled Done = []
 fields_spelled (Committed version) = version_spelled version
+fields_spelled (Aborted cause) = number_spelled 1 (cause_number cause) ++ cause_fields cause
 fields_spelled Ended = []
-fields_spelled (Refused why) = number_spelled 1 (refusal_number why)
+fields_spelled (Refused why) = number_spelled 1 (refusal_number why) ++ refusal_fields why
 
 pub reply_parts : (a : Reply) (x : List ℕ) → reply_spelled a ++ x ≡ number_spelled 1 (kind_of a) ++ (fields_spelled a ++ x)
 reply_parts (Started tid) x = append_assoc (number_spelled 1 0x80) (tid_spelled tid) x
@@ -36,27 +40,50 @@ reply_parts (Value None) x = append_assoc (number_spelled 1 0x81) (number_spelle
 reply_parts (Value (Some bytes)) x = append_assoc (number_spelled 1 0x81) (number_spelled 1 1 ++ block_spelled bytes) x
 reply_parts Done x = refl
 reply_parts (Committed version) x = append_assoc (number_spelled 1 0x85) (version_spelled version) x
+reply_parts (Aborted cause) x = append_assoc (number_spelled 1 0x86) (number_spelled 1 (cause_number cause) ++ cause_fields cause) x
 reply_parts Ended x = refl
-reply_parts (Refused why) x = append_assoc (number_spelled 1 0xE0) (number_spelled 1 (refusal_number why)) x
+reply_parts (Refused why) x = append_assoc (number_spelled 1 0xE0) (number_spelled 1 (refusal_number why) ++ refusal_fields why) x
 
 pub kind_of-lt : (a : Reply) → kind_of a < 256
 kind_of-lt (Started tid) = omega arith
 kind_of-lt (Value value) = omega arith
 kind_of-lt Done = omega arith
 kind_of-lt (Committed version) = omega arith
+kind_of-lt (Aborted cause) = omega arith
 kind_of-lt Ended = omega arith
 kind_of-lt (Refused why) = omega arith
 
+pub cause_number-lt : (why : Cause) → cause_number why < 256
+cause_number-lt (Modified oid version) = omega arith
+cause_number-lt (Locked oid owner) = omega arith
+cause_number-lt Asked = omega arith
+
 pub refusal_number-lt : (why : Refusal) → refusal_number why < 256
+refusal_number-lt UnknownContainer = omega arith
 refusal_number-lt NoTx = omega arith
 refusal_number-lt TxOpen = omega arith
+refusal_number-lt (BadFrame at) = omega arith
 refusal_number-lt Memory = omega arith
 
-same_refusal : (a b : Refusal) → refusal_number a ≡ refusal_number b → a ≡ b
-same_refusal NoTx NoTx same = refl
-same_refusal TxOpen TxOpen same = refl
-same_refusal Memory Memory same = refl
-same_refusal _ _ same = absurd (omega (arith, same))
+same_cause : (a b : Cause) (x y : List ℕ) → cause_number a ≡ cause_number b → IsCause a → IsCause b → cause_fields a ++ x ≡ cause_fields b ++ y → (a ≡ b) × (x ≡ y)
+same_cause (Modified a v) (Modified b w) x y same fits_a fits_b e =
+    let one = same_object a b (version_spelled v ++ x) (version_spelled w ++ y) fits_a.0 fits_b.0 (regrouped (object_spelled a) (version_spelled v) x (object_spelled b) (version_spelled w) y e) in
+    let two = same_version v w x y fits_a.1 fits_b.1 one.1 in
+    ((λ i. Modified (one.0 i) (two.0 i)), two.1)
+same_cause (Locked a v) (Locked b w) x y same fits_a fits_b e =
+    let one = same_object a b (tid_spelled v ++ x) (tid_spelled w ++ y) fits_a.0 fits_b.0 (regrouped (object_spelled a) (tid_spelled v) x (object_spelled b) (tid_spelled w) y e) in
+    let two = same_tid v w x y fits_a.1 fits_b.1 one.1 in
+    ((λ i. Locked (one.0 i) (two.0 i)), two.1)
+same_cause Asked Asked x y same fits_a fits_b e = (refl, e)
+same_cause _ _ x y same fits_a fits_b e = absurd (omega (arith, same))
+
+same_refusal : (a b : Refusal) (x y : List ℕ) → refusal_number a ≡ refusal_number b → IsRefusal a → IsRefusal b → refusal_fields a ++ x ≡ refusal_fields b ++ y → (a ≡ b) × (x ≡ y)
+same_refusal UnknownContainer UnknownContainer x y same fits_a fits_b e = (refl, e)
+same_refusal NoTx NoTx x y same fits_a fits_b e = (refl, e)
+same_refusal TxOpen TxOpen x y same fits_a fits_b e = (refl, e)
+same_refusal (BadFrame a) (BadFrame b) x y same fits_a fits_b e = let parts = same_number 4 a b x y (omega (arith, fits_a)) (omega (arith, fits_b)) e in ((λ i. BadFrame (parts.0 i)), parts.1)
+same_refusal Memory Memory x y same fits_a fits_b e = (refl, e)
+same_refusal _ _ x y same fits_a fits_b e = absurd (omega (arith, same))
 
 -- a value that is there, behind its flag
 flagged : (v x y : List ℕ) (n : ℕ) → n < 256 → number_spelled 1 n ++ x ≡ (number_spelled 1 1 ++ block_spelled v) ++ y → (n ≡ 1) × (x ≡ block_spelled v ++ y)
@@ -73,11 +100,17 @@ same_fields (Value (Some v)) (Value (Some w)) x y same fits_a fits_b e =
     ((λ i. Value (Some (parts.0 i))), parts.1)
 same_fields Done Done x y same fits_a fits_b e = (refl, e)
 same_fields (Committed a) (Committed b) x y same fits_a fits_b e = let parts = same_version a b x y fits_a fits_b e in ((λ i. Committed (parts.0 i)), parts.1)
+same_fields (Aborted a) (Aborted b) x y same fits_a fits_b e =
+    let numbers = same_number 1 (cause_number a) (cause_number b) (cause_fields a ++ x) (cause_fields b ++ y) (omega (arith, cause_number-lt a)) (omega (arith, cause_number-lt b))
+    (regrouped (number_spelled 1 (cause_number a)) (cause_fields a) x (number_spelled 1 (cause_number b)) (cause_fields b) y e) in
+    let parts = same_cause a b x y numbers.0 fits_a fits_b numbers.1 in
+    ((λ i. Aborted (parts.0 i)), parts.1)
 same_fields Ended Ended x y same fits_a fits_b e = (refl, e)
 same_fields (Refused a) (Refused b) x y same fits_a fits_b e =
-    let parts = same_number 1 (refusal_number a) (refusal_number b) x y (omega (arith, refusal_number-lt a)) (omega (arith, refusal_number-lt b)) e in
-    let whys = same_refusal a b parts.0 in
-    ((λ i. Refused (whys i)), parts.1)
+    let numbers = same_number 1 (refusal_number a) (refusal_number b) (refusal_fields a ++ x) (refusal_fields b ++ y) (omega (arith, refusal_number-lt a)) (omega (arith, refusal_number-lt b))
+    (regrouped (number_spelled 1 (refusal_number a)) (refusal_fields a) x (number_spelled 1 (refusal_number b)) (refusal_fields b) y e) in
+    let parts = same_refusal a b x y numbers.0 fits_a fits_b numbers.1 in
+    ((λ i. Refused (parts.0 i)), parts.1)
 same_fields _ _ x y same fits_a fits_b e = absurd (omega (arith, same))
 
 pub same_reply : (a b : Reply) (x y : List ℕ) → IsReply a → IsReply b → reply_spelled a ++ x ≡ reply_spelled b ++ y → (a ≡ b) × (x ≡ y)

@@ -1,19 +1,41 @@
 -- How replies are spelled, and what is wrong with bytes that spell none (docs/FORMATS.md, "Frames of a client").
 use Rattle.std.specs.Prelude.{◌≡◌, ◌≢◌, ◌⊎◌, ◌<◌, ◌≤◌, ◌^◌, ◌+◌, ℕ, List, [], ◌∷◌, ◌++◌, length, Some, None}
 use Rattle.walter_base.specs.declared.message.Refusal.{Refusal}
-use Rattle.walter_base.specs.declared.message.Refusal.TheVariants.{NoTx, TxOpen, Memory}
+use Rattle.walter_base.specs.declared.message.Refusal.TheVariants.{UnknownContainer, NoTx, TxOpen, BadFrame, Memory}
 use Rattle.walter_base.specs.declared.message.Reply.{Reply}
-use Rattle.walter_base.specs.declared.message.Reply.TheVariants.{Started, Value, Done, Committed, Ended, Refused}
+use Rattle.walter_base.specs.declared.message.Reply.TheVariants.{Started, Value, Done, Committed, Aborted, Ended, Refused}
+use Rattle.walter_base.specs.declared.transaction.Cause.{Cause}
+use Rattle.walter_base.specs.declared.transaction.Cause.TheVariants.{Modified, Locked, Asked}
 use Rattle.walter_fields.specs.Spellings.{number_spelled, block_spelled}
-use Rattle.walter_names.specs.Names.{tid_spelled, version_spelled, IsTid, IsVersion}
+use Rattle.walter_names.specs.Names.{object_spelled, tid_spelled, version_spelled, IsObject, IsTid, IsVersion}
 use Rattle.walter_reply.specs.declared.fault.ReplyFault.{ReplyFault}
-use Rattle.walter_reply.specs.declared.fault.ReplyFault.TheVariants.{BadFrame, NoMemory}
+use Rattle.walter_reply.specs.declared.fault.ReplyFault.TheVariants as fault
 
--- the number of a refusal
+-- the number of a cause, and what stands behind it
+abbrev pub cause_number : Cause → ℕ
+cause_number (Modified oid version) = 1
+cause_number (Locked oid owner) = 2
+cause_number Asked = 3
+
+abbrev pub cause_fields : Cause → List ℕ
+cause_fields (Modified oid version) = object_spelled oid ++ version_spelled version
+cause_fields (Locked oid owner) = object_spelled oid ++ tid_spelled owner
+cause_fields Asked = []
+
+-- the number of a refusal, and what stands behind it
 abbrev pub refusal_number : Refusal → ℕ
+refusal_number UnknownContainer = 1
 refusal_number NoTx = 5
 refusal_number TxOpen = 6
+refusal_number (BadFrame at) = 8
 refusal_number Memory = 13
+
+abbrev pub refusal_fields : Refusal → List ℕ
+refusal_fields UnknownContainer = []
+refusal_fields NoTx = []
+refusal_fields TxOpen = []
+refusal_fields (BadFrame at) = number_spelled 4 at
+refusal_fields Memory = []
 
 abbrev pub reply_spelled : Reply → List ℕ
 reply_spelled (Started tid) = number_spelled 1 0x80 ++ tid_spelled tid
@@ -21,8 +43,9 @@ reply_spelled (Value None) = number_spelled 1 0x81 ++ number_spelled 1 0
 reply_spelled (Value (Some bytes)) = number_spelled 1 0x81 ++ (number_spelled 1 1 ++ block_spelled bytes)
 reply_spelled Done = number_spelled 1 0x82
 reply_spelled (Committed version) = number_spelled 1 0x85 ++ version_spelled version
+reply_spelled (Aborted cause) = number_spelled 1 0x86 ++ (number_spelled 1 (cause_number cause) ++ cause_fields cause)
 reply_spelled Ended = number_spelled 1 0x89
-reply_spelled (Refused refusal) = number_spelled 1 0xE0 ++ number_spelled 1 (refusal_number refusal)
+reply_spelled (Refused refusal) = number_spelled 1 0xE0 ++ (number_spelled 1 (refusal_number refusal) ++ refusal_fields refusal)
 
 -- how many bytes that are
 abbrev pub size_of : Reply → ℕ
@@ -31,18 +54,35 @@ size_of (Value None) = 2
 size_of (Value (Some bytes)) = 6 + length bytes
 size_of Done = 1
 size_of (Committed version) = 10
+size_of (Aborted (Modified oid version)) = 23
+size_of (Aborted (Locked oid owner)) = 27
+size_of (Aborted Asked) = 2
 size_of Ended = 1
+size_of (Refused (BadFrame at)) = 6
 size_of (Refused refusal) = 2
 
 -- the numbers of a reply are in the ranges of their fields
+abbrev pub IsCause : Cause → Type 0
+IsCause (Modified oid version) = IsObject oid × IsVersion version
+IsCause (Locked oid owner) = IsObject oid × IsTid owner
+IsCause Asked = Unit {0}
+
+abbrev pub IsRefusal : Refusal → Type 0
+IsRefusal UnknownContainer = Unit {0}
+IsRefusal NoTx = Unit {0}
+IsRefusal TxOpen = Unit {0}
+IsRefusal (BadFrame at) = at < 2 ^ 32
+IsRefusal Memory = Unit {0}
+
 abbrev pub IsReply : Reply → Type 0
 IsReply (Started tid) = IsTid tid
 IsReply (Value None) = Unit {0}
 IsReply (Value (Some bytes)) = length bytes < 2 ^ 32
 IsReply Done = Unit {0}
 IsReply (Committed version) = IsVersion version
+IsReply (Aborted cause) = IsCause cause
 IsReply Ended = Unit {0}
-IsReply (Refused refusal) = Unit {0}
+IsReply (Refused refusal) = IsRefusal refusal
 
 -- the body is the spelling of the reply, all of it
 pub record Spells (body : List ℕ) (reply : Reply) : Type 0 where
@@ -53,14 +93,21 @@ pub record Spells (body : List ℕ) (reply : Reply) : Type 0 where
 abbrev pub FitsFrame : Reply → Type 0
 FitsFrame reply = length (reply_spelled reply) ≤ 65536
 
+-- where the reply is a value, this has at most 65,530 bytes
+abbrev pub HasShortValue : Reply → Type 0
+HasShortValue (Value (Some bytes)) = length bytes ≤ 65530
+HasShortValue reply = Unit {0}
+
 -- the first byte of a reply
 abbrev pub IsKind : ℕ → Type 0
-IsKind byte = (byte ≡ 0x80) ⊎ (byte ≡ 0x81) ⊎ (byte ≡ 0x82) ⊎ (byte ≡ 0x85) ⊎ (byte ≡ 0x89) ⊎ (byte ≡ 0xE0)
+IsKind byte = (byte ≡ 0x80) ⊎ (byte ≡ 0x81) ⊎ (byte ≡ 0x82) ⊎ (byte ≡ 0x85) ⊎ (byte ≡ 0x86) ⊎ (byte ≡ 0x89) ⊎ (byte ≡ 0xE0)
 
--- behind this front the byte stands for nothing: it is no reply's first byte, no flag of a value, no refusal's number
+-- behind this front the byte stands for nothing: it is no reply's first byte, no flag of a value, no
+-- number of a cause or of a refusal
 pub data StandsForNothing (front : List ℕ) (byte : ℕ) : Type 0 where
   kind : front ≡ [] → ¬ IsKind byte → StandsForNothing front byte
   flag : front ≡ 0x81 ∷ [] → byte ≢ 0 → byte ≢ 1 → StandsForNothing front byte
+  cause : front ≡ 0x86 ∷ [] → ((why : Cause) → byte ≢ cause_number why) → StandsForNothing front byte
   refusal : front ≡ 0xE0 ∷ [] → ((why : Refusal) → byte ≢ refusal_number why) → StandsForNothing front byte
 
 -- the byte at this place stands for nothing
@@ -82,5 +129,5 @@ pub data IsBadFrame (body : List ℕ) (at : ℕ) : Type 0 where
 
 -- what a fault says of the body
 abbrev pub IsFaultOf : List ℕ → ReplyFault → Type 0
-IsFaultOf body (BadFrame at) = IsBadFrame body at
-IsFaultOf body NoMemory = Unit {0}
+IsFaultOf body (fault.BadFrame at) = IsBadFrame body at
+IsFaultOf body fault.NoMemory = Unit {0}

@@ -5,9 +5,9 @@ ghost use Rattle.walter_reply.specs.Stops.{EndsWith, StopsBehind, StopsAt};
 
 use crate::fault::{ReplyFault, Stop};
 use std::alloc::Global;
-use walter_base::{Bytes, Refusal, Reply};
+use walter_base::{Bytes, Cause, Refusal, Reply};
 use walter_fields::Cursor;
-use walter_names::{read_tid, read_version};
+use walter_names::{read_object, read_tid, read_version};
 
 /// What stands behind the first byte of Started.
 fn read_started(cursor: &mut Cursor) -> Result<Reply, Stop>
@@ -40,14 +40,40 @@ fn read_committed(cursor: &mut Cursor) -> Result<Reply, Stop>
     Ok(Reply::Committed(read_version(cursor)?))
 }
 
+/// What stands behind the first byte of Aborted.
+fn read_aborted(cursor: &mut Cursor) -> Result<Reply, Stop>
+    ensures ends { IfOk result (EndsWith 0x86 cursor.old cursor.new) }
+    ensures stop { IfErr result (StopsBehind 0x86 cursor.old.left) }
+{
+    match cursor.u8()? {
+        1 => {
+            let oid = read_object(cursor)?;
+            let version = read_version(cursor)?;
+            Ok(Reply::Aborted(Cause::Modified { oid, version }))
+        }
+        2 => {
+            let oid = read_object(cursor)?;
+            let owner = read_tid(cursor)?;
+            Ok(Reply::Aborted(Cause::Locked { oid, owner }))
+        }
+        3 => Ok(Reply::Aborted(Cause::Asked)),
+        _ => Err(Stop::Unknown(1)),
+    }
+}
+
 /// What stands behind the first byte of Refused.
 fn read_refused(cursor: &mut Cursor) -> Result<Reply, Stop>
     ensures ends { IfOk result (EndsWith 0xE0 cursor.old cursor.new) }
     ensures stop { IfErr result (StopsBehind 0xE0 cursor.old.left) }
 {
     match cursor.u8()? {
+        1 => Ok(Reply::Refused(Refusal::UnknownContainer)),
         5 => Ok(Reply::Refused(Refusal::NoTx)),
         6 => Ok(Reply::Refused(Refusal::TxOpen)),
+        8 => {
+            let at = cursor.u32()?;
+            Ok(Reply::Refused(Refusal::BadFrame { at }))
+        }
         13 => Ok(Reply::Refused(Refusal::Memory)),
         _ => Err(Stop::Unknown(1)),
     }
@@ -63,6 +89,7 @@ fn read_fields(alloc: Global, cursor: &mut Cursor, kind: u8) -> Result<Reply, St
         0x81 => read_value(alloc, cursor),
         0x82 => Ok(Reply::Done),
         0x85 => read_committed(cursor),
+        0x86 => read_aborted(cursor),
         0x89 => Ok(Reply::Ended),
         0xE0 => read_refused(cursor),
         _ => Err(Stop::Unknown(0)),

@@ -1,33 +1,84 @@
-ghost use Rattle.std.specs.Prelude.{◌≡◌, ◌+◌, ◌≤◌, ◌++◌, length, IfOk};
-ghost use Rattle.walter_reply.specs.Replies.{refusal_number, reply_spelled, FitsFrame};
+ghost use Rattle.std.specs.Prelude.{◌≡◌, ◌+◌, ◌<◌, ◌≤◌, ◌^◌, ◌++◌, length, IfOk};
+ghost use Rattle.walter_fields.specs.Spellings.{number_spelled};
+ghost use Rattle.walter_reply.specs.Replies.{cause_number, cause_fields, refusal_number, refusal_fields, reply_spelled, FitsFrame};
 
 use std::alloc::Global;
-use walter_base::{Bytes, Mem, NoMemory, Refusal, Reply};
+use walter_base::{Bytes, Cause, Mem, NoMemory, Refusal, Reply};
 use walter_fields::Appender;
-use walter_names::{write_tid, write_version};
+use walter_names::{write_object, write_tid, write_version};
 
-fn number_of(refusal: Refusal) -> u8
+fn number_of_cause(cause: Cause) -> u8
+    ensures { result ≡ cause_number cause }
+{
+    match cause {
+        Cause::Modified { oid: _, version: _ } => 1,
+        Cause::Locked { oid: _, owner: _ } => 2,
+        Cause::Asked => 3,
+    }
+}
+
+fn number_of_refusal(refusal: Refusal) -> u8
     ensures { result ≡ refusal_number refusal }
 {
     match refusal {
+        Refusal::UnknownContainer => 1,
         Refusal::NoTx => 5,
         Refusal::TxOpen => 6,
+        Refusal::BadFrame { at: _ } => 8,
         Refusal::Memory => 13,
+    }
+}
+
+// The number of the cause, and what stands behind it.
+#[tactic(auto, using(crate::proofs::Lengths::lengths))]
+fn append_cause(out: &mut Appender, cause: Cause)
+    requires { length (cause_fields cause) < out.old.room }
+    ensures bytes { out.new.bytes ≡ out.old.bytes ++ (number_spelled 1 (cause_number cause) ++ cause_fields cause) }
+    ensures room { out.new.room + (1 + length (cause_fields cause)) ≡ out.old.room }
+{
+    out.u8(number_of_cause(cause));
+    match cause {
+        Cause::Modified { oid, version } => {
+            write_object(out, oid);
+            write_version(out, version);
+        }
+        Cause::Locked { oid, owner } => {
+            write_object(out, oid);
+            write_tid(out, owner);
+        }
+        Cause::Asked => {}
+    }
+}
+
+// The number of the refusal, and what stands behind it.
+#[tactic(auto, using(crate::proofs::Lengths::lengths))]
+fn append_refusal(out: &mut Appender, refusal: Refusal)
+    requires { length (refusal_fields refusal) < out.old.room }
+    ensures bytes { out.new.bytes ≡ out.old.bytes ++ (number_spelled 1 (refusal_number refusal) ++ refusal_fields refusal) }
+    ensures room { out.new.room + (1 + length (refusal_fields refusal)) ≡ out.old.room }
+{
+    out.u8(number_of_refusal(refusal));
+    if let Refusal::BadFrame { at } = refusal {
+        out.u32(at);
     }
 }
 
 /// How many bytes the spelling has.
 #[tactic(auto, using(crate::proofs::Lengths::lengths))]
-fn size_of(reply: &Reply) -> usize
-    requires { FitsFrame reply.now }
+pub fn size_of(reply: &Reply) -> usize
+    requires { length (reply_spelled reply.now) < 2 ^ 64 }
     ensures { result ≡ length (reply_spelled reply.now) }
 {
     match reply {
         Reply::Started(_) => 14,
-        Reply::Value(None) | Reply::Refused(_) => 2,
+        Reply::Value(None) | Reply::Aborted(Cause::Asked) => 2,
         Reply::Value(Some(bytes)) => 6 + bytes.len(),
         Reply::Done | Reply::Ended => 1,
         Reply::Committed(_) => 10,
+        Reply::Aborted(Cause::Modified { oid: _, version: _ }) => 23,
+        Reply::Aborted(Cause::Locked { oid: _, owner: _ }) => 27,
+        Reply::Refused(Refusal::BadFrame { at: _ }) => 6,
+        Reply::Refused(_) => 2,
     }
 }
 
@@ -58,10 +109,14 @@ pub fn append(out: &mut Appender, reply: &Reply)
             out.u8(0x85);
             write_version(out, *version);
         }
+        Reply::Aborted(cause) => {
+            out.u8(0x86);
+            append_cause(out, *cause);
+        }
         Reply::Ended => out.u8(0x89),
         Reply::Refused(refusal) => {
             out.u8(0xE0);
-            out.u8(number_of(*refusal));
+            append_refusal(out, *refusal);
         }
     }
 }

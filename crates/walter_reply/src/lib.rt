@@ -7,9 +7,9 @@ mod fault;
 mod laws;
 
 pub use decoding::decode;
-pub use encoding::{append, encode};
+pub use encoding::{append, encode, size_of};
 pub use fault::ReplyFault;
-pub use laws::{one_reading, size_of_spelling};
+pub use laws::{one_reading, size_of_spelling, which_fit};
 
 #[cfg(test)]
 mod tests;

@@ -1,6 +1,6 @@
-use crate::{ReplyFault, append, decode, encode};
+use crate::{ReplyFault, append, decode, encode, size_of};
 use std::test::Fail;
-use walter_base::{Bytes, Refusal, Reply, SiteId, Tid, Version};
+use walter_base::{Bytes, Cause, ObjId, Refusal, Reply, SiteId, Tid, Version};
 use walter_fields::Appender;
 
 const TID: Tid = Tid {
@@ -14,13 +14,37 @@ const VERSION: Version = Version {
     seq: 2,
 };
 
+const OBJECT: ObjId = ObjId {
+    container: 1,
+    local: 5,
+};
+
+/// The first version of the site 0 stands in the way.
+const MODIFIED: Cause = Cause::Modified {
+    oid: OBJECT,
+    version: Version {
+        site: SiteId(0),
+        seq: 1,
+    },
+};
+
+/// The first transaction of the site 1 stands in the way.
+const LOCKED: Cause = Cause::Locked {
+    oid: OBJECT,
+    owner: Tid {
+        site: SiteId(1),
+        epoch: 1,
+        number: 1,
+    },
+};
+
 /// The value `hello`.
 const HELLO: [u8; 11] = [0x81, 1, 0, 0, 0, 5, 104, 101, 108, 108, 111];
 
 #[test]
 fn each_reply_has_its_spelling(rt: HostRuntime) -> Result<(), Fail> {
     let hello = Bytes::from_slice(rt.alloc(), b"hello")?;
-    let table: [(Reply, &[u8]); 9] = [
+    let table: [(Reply, &[u8]); 14] = [
         (
             Reply::Started(TID),
             &[0x80, 1, 0, 0, 0, 2, 0, 0, 0, 0, 0, 0, 0, 3],
@@ -32,9 +56,27 @@ fn each_reply_has_its_spelling(rt: HostRuntime) -> Result<(), Fail> {
             Reply::Committed(VERSION),
             &[0x85, 1, 0, 0, 0, 0, 0, 0, 0, 2],
         ),
+        (
+            Reply::Aborted(MODIFIED),
+            &[
+                0x86, 1, 0, 0, 0, 1, 0, 0, 0, 0, 0, 0, 0, 5, 0, 0, 0, 0, 0, 0, 0, 0, 1,
+            ],
+        ),
+        (
+            Reply::Aborted(LOCKED),
+            &[
+                0x86, 2, 0, 0, 0, 1, 0, 0, 0, 0, 0, 0, 0, 5, 1, 0, 0, 0, 1, 0, 0, 0, 0, 0, 0, 0, 1,
+            ],
+        ),
+        (Reply::Aborted(Cause::Asked), &[0x86, 3]),
         (Reply::Ended, &[0x89]),
+        (Reply::Refused(Refusal::UnknownContainer), &[0xE0, 1]),
         (Reply::Refused(Refusal::NoTx), &[0xE0, 5]),
         (Reply::Refused(Refusal::TxOpen), &[0xE0, 6]),
+        (
+            Reply::Refused(Refusal::BadFrame { at: 1 }),
+            &[0xE0, 8, 0, 0, 0, 1],
+        ),
         (Reply::Refused(Refusal::Memory), &[0xE0, 13]),
     ];
     for (reply, spelling) in &table {
@@ -42,12 +84,14 @@ fn each_reply_has_its_spelling(rt: HostRuntime) -> Result<(), Fail> {
             return Err("the bytes spell a reply".into());
         };
         assert_eq!(rt; encode(rt.alloc(), &again)?.as_slice(), *spelling);
+        assert_eq!(rt; size_of(&again), spelling.len());
         match (reply, &again) {
             (Reply::Started(a), Reply::Started(b)) => assert_eq!(rt; a, b),
             (Reply::Value(Some(v)), Reply::Value(Some(w))) => {
                 assert_eq!(rt; v.as_slice(), w.as_slice());
             }
             (Reply::Committed(a), Reply::Committed(b)) => assert_eq!(rt; a, b),
+            (Reply::Aborted(a), Reply::Aborted(b)) => assert_eq!(rt; a, b),
             (Reply::Refused(a), Reply::Refused(b)) => assert_eq!(rt; a, b),
             (Reply::Value(None), Reply::Value(None))
             | (Reply::Done, Reply::Done)
@@ -70,13 +114,17 @@ fn replies_are_written_one_behind_another(rt: HostRuntime) -> Result<(), Fail> {
 
 #[test]
 fn a_bad_frame_has_its_place(rt: HostRuntime) -> Result<(), Fail> {
-    let table: [(&[u8], u32); 10] = [
+    let table: [(&[u8], u32); 14] = [
         (&[], 0),
         (&[1], 0),
         (&[0x83, 0x82], 0),
         (&[0x81], 1),
         (&[0x81, 2, 0], 1),
         (&[0xE0, 4], 1),
+        (&[0x86, 4], 1),
+        (&[0x86, 1, 0, 0, 0, 1], 6),
+        (&[0x86, 3, 0], 2),
+        (&[0xE0, 8, 0, 0], 4),
         (&[0x82, 0], 1),
         (&[0x81, 0, 7], 2),
         (&[0x85, 1, 0], 3),

@@ -53,8 +53,9 @@ cut_operation left few = rw (nil_from_length left (omega (arith, few))) empty_is
 pub unknown_operation : (operation : ℕ) (left : List ℕ) → operation < 256 → ¬ IsOperation operation → StartsUnknown (number_spelled 1 operation ++ left)
 unknown_operation operation left low not = record { byte = operation; rest = left; is = ap (λ t. t ++ left) (number_spelled-byte operation low); unknown = not }
 
-pub not_operation : (k : ℕ) → k ≢ 1 → k ≢ 2 → k ≢ 3 → k ≢ 8 → ¬ IsOperation k
-not_operation k a b c d (inl is) = a is
-not_operation k a b c d (inr (inl is)) = b is
-not_operation k a b c d (inr (inr (inl is))) = c is
-not_operation k a b c d (inr (inr (inr is))) = d is
+pub not_operation : (k : ℕ) → k ≢ 1 → k ≢ 2 → k ≢ 3 → k ≢ 8 → k ≢ 9 → ¬ IsOperation k
+not_operation k a b c d e (inl is) = a is
+not_operation k a b c d e (inr (inl is)) = b is
+not_operation k a b c d e (inr (inr (inl is))) = c is
+not_operation k a b c d e (inr (inr (inr (inl is)))) = d is
+not_operation k a b c d e (inr (inr (inr (inr is)))) = e is

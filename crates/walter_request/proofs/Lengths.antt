@@ -2,7 +2,7 @@
 use Rattle.std.proofs.Common.{◌≡◌, ℕ, ◌+◌, List, ◌++◌, length, arith}
 use Rattle.std.proofs.lemmas.List.{length-append}
 use Rattle.walter_base.specs.declared.message.Request.{Request}
-use Rattle.walter_base.specs.declared.message.Request.TheVariants.{Start, Read, Write, Commit}
+use Rattle.walter_base.specs.declared.message.Request.TheVariants.{Start, Read, Write, Commit, Abort}
 use Rattle.walter_fields.specs.Spellings.{number_spelled, block_spelled}
 use Rattle.walter_fields.proofs.Numbers.{length-number_spelled}
 use Rattle.walter_names.specs.Names.{object_spelled}
@@ -22,6 +22,7 @@ length-request_spelled (Write oid bytes) =
       length-block_spelled bytes,
     )
 length-request_spelled Commit = length-number_spelled 1 _
+length-request_spelled Abort = length-number_spelled 1 _
 
 -- for what is written of a request
 pub ruleset lengths = (length-append, length-number_spelled, length-object_spelled, length-block_spelled)

@@ -1,7 +1,7 @@
 -- No spelling of a request begins that of another.
 use Rattle.std.proofs.Common.{◌≡◌, ◌≢◌, ◌∷◌, ap, append-nil, ℕ, ◌<◌, List, [], ◌++◌, refl, sym, ◌∙◌, append_assoc, arith}
 use Rattle.walter_base.specs.declared.message.Request.{Request}
-use Rattle.walter_base.specs.declared.message.Request.TheVariants.{Start, Read, Write, Commit}
+use Rattle.walter_base.specs.declared.message.Request.TheVariants.{Start, Read, Write, Commit, Abort}
 use Rattle.walter_fields.specs.Spellings.{number_spelled, block_spelled}
 use Rattle.walter_fields.proofs.Numbers.{number_spelled-byte, same_number}
 use Rattle.walter_fields.proofs.Readings.{same_block}
@@ -15,24 +15,28 @@ operation_of Start = 1
 operation_of (Read oid) = 2
 operation_of (Write oid bytes) = 3
 operation_of Commit = 8
+operation_of Abort = 9
 
 abbrev pub fields_spelled : Request → List ℕ
 fields_spelled Start = []
 fields_spelled (Read oid) = object_spelled oid
 fields_spelled (Write oid bytes) = object_spelled oid ++ block_spelled bytes
 fields_spelled Commit = []
+fields_spelled Abort = []
 
 pub request_parts : (a : Request) (x : List ℕ) → request_spelled a ++ x ≡ number_spelled 1 (operation_of a) ++ (fields_spelled a ++ x)
 request_parts Start x = refl
 request_parts (Read oid) x = append_assoc (number_spelled 1 2) (object_spelled oid) x
 request_parts (Write oid bytes) x = append_assoc (number_spelled 1 3) (object_spelled oid ++ block_spelled bytes) x
 request_parts Commit x = refl
+request_parts Abort x = refl
 
 pub operation_of-lt : (a : Request) → operation_of a < 256
 operation_of-lt Start = omega arith
 operation_of-lt (Read oid) = omega arith
 operation_of-lt (Write oid bytes) = omega arith
 operation_of-lt Commit = omega arith
+operation_of-lt Abort = omega arith
 
 same_fields : (a b : Request) (x y : List ℕ) → operation_of a ≡ operation_of b → IsRequest a → IsRequest b → fields_spelled a ++ x ≡ fields_spelled b ++ y → (a ≡ b) × (x ≡ y)
 same_fields Start Start x y same fits_a fits_b e = (refl, e)
@@ -42,6 +46,7 @@ same_fields (Write a v) (Write b w) x y same fits_a fits_b e =
     let two = same_block v w x y fits_a.1 fits_b.1 one.1 in
     ((λ i. Write (one.0 i) (two.0 i)), two.1)
 same_fields Commit Commit x y same fits_a fits_b e = (refl, e)
+same_fields Abort Abort x y same fits_a fits_b e = (refl, e)
 same_fields _ _ x y same fits_a fits_b e = absurd (omega (arith, same))
 
 pub same_request : (a b : Request) (x y : List ℕ) → IsRequest a → IsRequest b → request_spelled a ++ x ≡ request_spelled b ++ y → (a ≡ b) × (x ≡ y)

@@ -37,6 +37,7 @@ fn read_fields(alloc: Global, cursor: &mut Cursor, operation: u8) -> Result<Requ
         2 => read_read(cursor),
         3 => read_write(alloc, cursor),
         8 => Ok(Request::Commit),
+        9 => Ok(Request::Abort),
         _ => Err(Stop::Unknown),
     }
 }

@@ -13,7 +13,7 @@ fn size_of(request: &Request) -> usize
     ensures { result ≡ length (request_spelled request.now) }
 {
     match request {
-        Request::Start | Request::Commit => 1,
+        Request::Start | Request::Commit | Request::Abort => 1,
         Request::Read(_) => 13,
         Request::Write(_, bytes) => 17 + bytes.len(),
     }
@@ -38,6 +38,7 @@ fn append(out: &mut Appender, request: &Request)
             out.block(bytes.as_slice());
         }
         Request::Commit => out.u8(8),
+        Request::Abort => out.u8(9),
     }
 }
 

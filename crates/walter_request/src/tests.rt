@@ -19,7 +19,7 @@ const OBJECT: ObjId = ObjId {
 fn each_request_has_its_spelling(rt: HostRuntime) -> Result<(), Fail> {
     let hello = Bytes::from_slice(rt.alloc(), b"hello")?;
     let none = Bytes::from_slice(rt.alloc(), b"")?;
-    let table: [(Request, &[u8]); 5] = [
+    let table: [(Request, &[u8]); 6] = [
         (Request::Start, &[1]),
         (Request::Read(OBJECT), &READ),
         (Request::Write(OBJECT, hello), &WRITE),
@@ -28,6 +28,7 @@ fn each_request_has_its_spelling(rt: HostRuntime) -> Result<(), Fail> {
             &[3, 0, 0, 0, 1, 0, 0, 0, 0, 0, 0, 0, 5, 0, 0, 0, 0],
         ),
         (Request::Commit, &[8]),
+        (Request::Abort, &[9]),
     ];
     for (request, spelling) in &table {
         let Ok(again) = decode(rt.alloc(), spelling) else {
@@ -35,7 +36,9 @@ fn each_request_has_its_spelling(rt: HostRuntime) -> Result<(), Fail> {
         };
         assert_eq!(rt; encode(rt.alloc(), &again)?.as_slice(), *spelling);
         match (request, &again) {
-            (Request::Start, Request::Start) | (Request::Commit, Request::Commit) => {}
+            (Request::Start, Request::Start)
+            | (Request::Commit, Request::Commit)
+            | (Request::Abort, Request::Abort) => {}
             (Request::Read(a), Request::Read(b)) => assert_eq!(rt; a, b),
             (Request::Write(a, v), Request::Write(b, w)) => {
                 assert_eq!(rt; a, b);
@@ -49,13 +52,16 @@ fn each_request_has_its_spelling(rt: HostRuntime) -> Result<(), Fail> {
 
 #[test]
 fn a_bad_frame_has_its_place(rt: HostRuntime) -> Result<(), Fail> {
-    let table: [(&[u8], u32); 9] = [
+    let table: [(&[u8], u32); 12] = [
         (&[], 0),
         (&[0], 0),
         (&[4], 0),
+        (&[7], 0),
+        (&[10], 0),
         (&[4, 2, 0], 0),
         (&[1, 0], 1),
         (&[8, 8, 8], 1),
+        (&[9, 9], 1),
         (&[2, 0, 0, 0, 1, 0], 6),
         (&[2, 0, 0, 0, 1, 0, 0, 0, 0, 0, 0, 0, 5, 9], 13),
         (&WRITE[..21], 21),

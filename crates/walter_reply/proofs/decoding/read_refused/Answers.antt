@@ -1,8 +1,9 @@
-use Rattle.std.proofs.Common.{refl, arith}
+use Rattle.std.proofs.Common.{◌≡◌, ◌++◌, refl, subst, arith}
+use Rattle.walter_fields.specs.Spellings.{number_spelled}
 use Rattle.walter_fields.proofs.Exits.{exits_with}
 use Rattle.walter_reply.specs.declared.fault.Stop.TheVariants.{Cut}
 use Rattle.walter_reply.specs.Stops.{StopsBehind}
-use Rattle.walter_reply.proofs.Fronts.{cut_refusal, unknown_refusal}
+use Rattle.walter_reply.proofs.Fronts.{cut_refusal, cut_place, unknown_refusal}
 use Rattle.walter_reply.proofs.decoding.read_refused.Goals as goal
 
 pub returns-in_err-u8-clause-stop : goal.returns-in_err-u8-clause-stop
@@ -10,6 +11,13 @@ returns-in_err-u8-clause-stop c =
     let left = c.args.cursor.now.left in
     exits_with (StopsBehind 0xE0 left) Cut c.from_residual.result c.from_residual.ensures.1 (λ bytes. cut_refusal left (c.in_err-u8.ensures.short.0 refl))
 
+pub returns-in_err-at-in-8-clause-stop : goal.returns-in_err-at-in-8-clause-stop
+returns-in_err-at-in-8-clause-stop c =
+    let left = c.args.cursor.now.left in
+    let mid = c.u8.new.self.left in
+    let exit = c.from_residual-in_err-at-in-8 in
+    exits_with (StopsBehind 0xE0 left) Cut exit.result exit.ensures.1 (cut_place left mid (subst (λ k. left ≡ number_spelled 1 k ++ mid) c.in-8.is c.in_ok-u8.ensures.taken.front) (c.in_err-at-in-8.ensures.short.0 refl))
+
 pub returns-in_default-clause-stop : goal.returns-in_default-clause-stop
 returns-in_default-clause-stop c =
-    unknown_refusal c.in_ok-u8.field-0 c.args.cursor.now.left c.u8.new.self.left (omega arith) (λ e. omega (arith, e)) (λ e. omega (arith, e)) (λ e. omega (arith, e)) c.in_ok-u8.ensures.taken.front
+    unknown_refusal c.in_ok-u8.field-0 c.args.cursor.now.left c.u8.new.self.left (omega arith) (λ e. omega (arith, e)) (λ e. omega (arith, e)) (λ e. omega (arith, e)) (λ e. omega (arith, e)) (λ e. omega (arith, e)) c.in_ok-u8.ensures.taken.front
