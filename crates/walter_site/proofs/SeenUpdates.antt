@@ -1,18 +1,14 @@
 -- What a read of the transactions that are held comes to, one after another.
-use Rattle.std.proofs.Common.{◌≡◌, ◌∙◌, ◌+◌, ◌<◌, ℕ, List, ◌∷◌, true, false, drop, filter, flat_map, get_or, length, Option, Some, None, suc, add-one, nat_le, ◌≤◌, ◌↔◌, IsTrue, Bool, arith, ap, sym, refl}
+use Rattle.std.proofs.Common.{◌≡◌, ◌∙◌, ◌+◌, ◌<◌, ℕ, List, ◌∷◌, true, false, drop, filter, flat_map, get_or, length, Option, suc, add-one, nat_le, ◌≤◌, ◌↔◌, IsTrue, Bool, arith, ap, sym, refl}
 use Rattle.std.proofs.Math.Seq.{drop-cons}
 use Rattle.std.proofs.lemmas.Bool.{le-leb}
 use Rattle.std.proofs.lemmas.Bool.Decides.{nat_tests}
 use Rattle.walter_base.specs.declared.names.ObjId.{ObjId}
 use Rattle.walter_base.specs.declared.update.Update.{Update}
-use Rattle.walter_base.specs.declared.message.Reply.TheVariants.{Value}
-use Rattle.walter_base.specs.declared.message.Request.TheVariants.{Read}
-use Rattle.walter_base.specs.declared.names.SiteId.{SiteId}
-use Rattle.walter_base.specs.Values.{value_of, value_from}
+use Rattle.walter_base.specs.Values.{value_from}
 use Rattle.walter_base.proofs.ValuesFrom.{value_from-append}
 use Rattle.walter_trail.specs.declared.held.Held.{Held}
-use Rattle.walter_trail.specs.Knowledge.{Knowledge, Session, sees}
-use Rattle.walter_trail.specs.Rule.{answers, call_rule}
+use Rattle.walter_trail.specs.Knowledge.{sees}
 
 -- the updates of what a vector sees
 abbrev pub seen_updates : List ℕ → List Held → List Update
@@ -34,10 +30,3 @@ test_is false m n is = grind (arith, nat_tests, is.1)
 -- the transaction at a place, and those behind it
 pub drop_here : (hs : List Held) (i : ℕ) (h : Held) → i < length hs → h ≡ get_or hs i h → drop i hs ≡ h ∷ drop (i + 1) hs
 drop_here hs i h within is = drop-cons hs i h within ∙ ap (λ x. x ∷ drop (suc i) hs) (sym is) ∙ ap (λ n. h ∷ drop n hs) (sym (add-one i))
-
--- the answer to a read: what the seen transactions leave, with the session's own updates behind them
-pub read_answer : (i : SiteId) (K : Knowledge) (oid : ObjId) (s : Session) (session : Option Session) (seen value : Option (List ℕ))
-    → session ≡ Some s → seen ≡ value_of oid (seen_updates s.snapshot K.held) → value ≡ value_from seen oid s.updates
-    → answers (Value value) ≡ call_rule i K (Read oid) session
-read_answer i K oid s session seen value has from is =
-    rw has (ap (λ v. answers (Value v)) (is ∙ ap (λ o. value_from o oid s.updates) from ∙ sym (value_from-append None oid (seen_updates s.snapshot K.held) s.updates)))

@@ -9,11 +9,14 @@ use walter_trail::Held;
 fn has_written(held: &Held, oid: ObjId) -> bool
     ensures { result ≡ wrote oid held.now }
 {
-    held.tx
-        .updates
-        .as_slice()
-        .iter()
-        .any(|update| matches!(update, Update::Write(at, _) if *at == oid))
+    for update in held.tx.updates.as_slice() {
+        if let Update::Write(at, _) = update
+            && oid == *at
+        {
+            return true;
+        }
+    }
+    false
 }
 
 /// The first version of the object that the snapshot doesn't see.

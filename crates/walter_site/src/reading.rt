@@ -1,4 +1,4 @@
-ghost use Rattle.std.specs.Prelude.{◌≡◌, filter, flat_map};
+ghost use Rattle.std.specs.Prelude.{◌≡◌, ◌++◌, filter, flat_map};
 ghost use Rattle.std.specs.Option.{option_copied};
 ghost use Rattle.walter_base.specs.Values.{value_from, value_of};
 ghost use Rattle.walter_trail.specs.Knowledge.{sees};
@@ -40,4 +40,16 @@ pub fn value_seen<'a>(held: &'a [Held], snapshot: &Vts, oid: ObjId) -> Option<&'
         }
     }
     value
+}
+
+/// What a transaction of this snapshot and these updates reads: its own updates stand behind those that it sees.
+pub fn value_read<'a>(
+    held: &'a [Held],
+    snapshot: &Vts,
+    updates: &'a [Update],
+    oid: ObjId,
+) -> Option<&'a Bytes>
+    ensures { option_copied result ≡ value_of oid (flat_map (λ h. h.tx.updates) (filter (sees snapshot.now) held.entry.now) ++ updates.entry.now) }
+{
+    value_after(value_seen(held, snapshot, oid), updates, oid)
 }

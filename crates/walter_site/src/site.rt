@@ -2,7 +2,7 @@ ghost use Rattle.std.specs.Prelude.{◌≡◌, ◌<◌, ◌≤◌, ◌+◌, ◌^
 
 use crate::conflicts::conflict;
 use crate::plan::{Input, Plan};
-use crate::reading::{value_after, value_seen};
+use crate::reading::value_read;
 use crate::transaction::Transaction;
 use crate::transactions::{add_update, end_all, find, reserve_update};
 use std::alloc::Global;
@@ -92,11 +92,26 @@ impl Site {
     {
         match call {
             Err(BadFrame { at }) => Ok((None, Reply::Refused(Refusal::BadFrame { at: *at }))),
-            Ok(Request::Start) => Ok((None, self.plan_start(client)?)),
-            Ok(Request::Read(oid)) => Ok((None, self.plan_read(client, *oid)?)),
-            Ok(Request::Write(oid, _)) => Ok((None, self.plan_write(client, *oid)?)),
-            Ok(Request::Commit) => self.plan_commit(client),
-            Ok(Request::Abort) => Ok((None, self.plan_abort(client))),
+            Ok(request) => self.plan_request(client, request),
+        }
+    }
+
+    fn plan_request(&mut self, client: u32, request: &Request) -> Mem<(Option<Record>, Reply)>
+        requires { CanCount (site_of self.old) (known self.old) }
+        ensures rule { IfOk result (λ p. expected p ≡ call_rule (catalog_of self.old) (site_of self.old) (known self.old) (Ok request.now) ((known self.old).session client)) }
+        ensures keeps { IfOk result (λ p. CanKeep self.new p.0) }
+        ensures answers { IfOk result (λ p. CanAnswer self.new client p.1) }
+        ensures free { OnErr result (TakesMemory (TrailEvent.Call client (Ok request.now))) }
+        ensures same { known self.new ≡ known self.old }
+        ensures site { site_of self.new ≡ site_of self.old }
+        ensures catalog { catalog_of self.new ≡ catalog_of self.old }
+    {
+        match request {
+            Request::Start => Ok((None, self.plan_start(client)?)),
+            Request::Read(oid) => Ok((None, self.plan_read(client, *oid)?)),
+            Request::Write(oid, _) => Ok((None, self.plan_write(client, *oid)?)),
+            Request::Commit => self.plan_commit(client),
+            Request::Abort => Ok((None, self.plan_abort(client))),
         }
     }
 
@@ -129,11 +144,9 @@ impl Site {
         if self.catalog.kind(oid).is_none() {
             return Ok(Reply::Refused(Refusal::UnknownContainer));
         }
-        let seen = value_seen(&self.held, &transaction.snapshot, oid);
-        match value_after(seen, &transaction.updates, oid) {
-            Some(value) => Ok(Reply::Value(Some(value.clone()?))),
-            None => Ok(Reply::Value(None)),
-        }
+        let snapshot = &transaction.snapshot;
+        let value = value_read(&self.held, snapshot, &transaction.updates, oid).cloned()?;
+        Ok(Reply::Value(value))
     }
 
     fn plan_write(&mut self, client: u32, oid: ObjId) -> Mem<Reply>

@@ -1,36 +1,74 @@
-use crate::{Entry, Input, Outcome, Plan, Site, Trail, TrailEvent};
+use crate::{Input, Plan, Site};
 use std::alloc::Global;
 use std::process::Abort;
 use std::test::Fail;
-use walter_base::{Bytes, Mem, ObjId, Record, Refusal, Reply, Request, SiteId};
+use walter_base::{
+    BadFrame, Bytes, Call, Catalog, Cause, Kind, Mem, ObjId, Refusal, Reply, Request, SiteId,
+    Version,
+};
 
 const OBJECT: ObjId = ObjId {
     container: 1,
     local: 5,
 };
 
-fn write(alloc: Global, bytes: &[u8]) -> Mem<Request> {
-    Ok(Request::Write(OBJECT, Bytes::from_slice(alloc, bytes)?))
+const LATER: ObjId = ObjId {
+    container: 1,
+    local: 9,
+};
+
+const STRANGE: ObjId = ObjId {
+    container: 2,
+    local: 5,
+};
+
+// The site 0, alone, with the container 1.
+fn alone(alloc: Global) -> Result<Site, Fail> {
+    let catalog = Catalog::build(alloc, 1, 0, &[(1, Kind::Regular, SiteId(0))])?;
+    Ok(Site::booted(alloc, catalog, SiteId(0)))
 }
 
-// What the site answers to a request, which it then applies.
-fn served(rt: &impl Abort, site: &mut Site, client: u32, request: Request) -> Mem<Reply> {
+fn write(alloc: Global, oid: ObjId, bytes: &[u8]) -> Mem<Request> {
+    Ok(Request::Write(oid, Bytes::from_slice(alloc, bytes)?))
+}
+
+// What the site answers to a call, which it then applies.
+fn served(rt: &impl Abort, site: &mut Site, client: u32, call: Call) -> Mem<Reply> {
     assert!(rt; site.can_count());
-    let plan = site.plan(&Input::Call { client, request })?;
+    let plan = site.plan(&Input::Call { client, call })?;
     let reply = plan.reply.clone()?;
     site.apply(plan);
     Ok(reply)
 }
 
+// What the site answers to a request.
+fn asked(rt: &impl Abort, site: &mut Site, client: u32, request: Request) -> Mem<Reply> {
+    served(rt, site, client, Ok(request))
+}
+
+// A transaction that writes the object and commits.
+fn written(rt: &impl Abort, alloc: Global, site: &mut Site, client: u32, oid: ObjId) -> Mem<Reply> {
+    asked(rt, site, client, Request::Start)?;
+    asked(rt, site, client, write(alloc, oid, b"x")?)?;
+    asked(rt, site, client, Request::Commit)
+}
+
+fn version(seq: u64) -> Version {
+    Version {
+        site: SiteId(0),
+        seq,
+    }
+}
+
 #[test]
 fn a_transaction_reads_its_own_write_and_commits(rt: HostRuntime) -> Result<(), Fail> {
     let alloc = rt.alloc();
-    let mut site = Site::booted(alloc, SiteId(0), 1);
+    let mut site = alone(alloc)?;
     let requests = [
         Request::Read(OBJECT),
         Request::Start,
         Request::Start,
-        write(alloc, b"hello")?,
+        write(alloc, OBJECT, b"hello")?,
         Request::Read(OBJECT),
         Request::Commit,
         Request::Start,
@@ -39,7 +77,7 @@ fn a_transaction_reads_its_own_write_and_commits(rt: HostRuntime) -> Result<(), 
     ];
     let mut replies = Vec::new(alloc);
     for request in requests {
-        replies.push(served(&rt, &mut site, 0, request)?)?;
+        replies.push(asked(&rt, &mut site, 0, request)?)?;
     }
     assert_eq!(rt; replies.len(), 9);
     assert!(rt; matches!(&replies[0], Reply::Refused(Refusal::NoTx)));
@@ -60,28 +98,112 @@ fn a_transaction_reads_its_own_write_and_commits(rt: HostRuntime) -> Result<(), 
 #[test]
 fn a_snapshot_leaves_out_what_commits_later(rt: HostRuntime) -> Result<(), Fail> {
     let alloc = rt.alloc();
-    let mut site = Site::booted(alloc, SiteId(0), 1);
-    let calls = [
-        (1, Request::Start),
-        (0, Request::Start),
-        (0, write(alloc, b"new")?),
-        (0, Request::Commit),
-        (1, Request::Read(OBJECT)),
-    ];
-    let mut last = None;
-    for (client, request) in calls {
-        last = Some(served(&rt, &mut site, client, request)?);
+    let mut site = alone(alloc)?;
+    asked(&rt, &mut site, 1, Request::Start)?;
+    written(&rt, alloc, &mut site, 0, OBJECT)?;
+    let read = asked(&rt, &mut site, 1, Request::Read(OBJECT))?;
+    assert!(rt; matches!(read, Reply::Value(None)));
+    Ok(())
+}
+
+#[test]
+fn the_first_of_two_writers_commits(rt: HostRuntime) -> Result<(), Fail> {
+    let alloc = rt.alloc();
+    let mut site = alone(alloc)?;
+    for client in 0..2 {
+        asked(&rt, &mut site, client, Request::Start)?;
+        asked(&rt, &mut site, client, write(alloc, OBJECT, b"x")?)?;
     }
-    assert!(rt; matches!(last, Some(Reply::Value(None))));
+    let Reply::Committed(first) = asked(&rt, &mut site, 0, Request::Commit)? else {
+        panic!(rt; "the first commits");
+    };
+    assert_eq!(rt; first, version(1));
+    let Reply::Aborted(cause) = asked(&rt, &mut site, 1, Request::Commit)? else {
+        panic!(rt; "the second is aborted");
+    };
+    let modified = Cause::Modified {
+        oid: OBJECT,
+        version: first,
+    };
+    assert_eq!(rt; cause, modified);
+    let again = asked(&rt, &mut site, 1, Request::Commit)?;
+    assert!(rt; matches!(again, Reply::Refused(Refusal::NoTx)));
+    Ok(())
+}
+
+#[test]
+fn a_conflict_names_the_first_object_and_its_first_version(rt: HostRuntime) -> Result<(), Fail> {
+    let alloc = rt.alloc();
+    let mut site = alone(alloc)?;
+    asked(&rt, &mut site, 0, Request::Start)?;
+    for oid in [LATER, OBJECT, OBJECT] {
+        written(&rt, alloc, &mut site, 1, oid)?;
+    }
+    for oid in [LATER, OBJECT] {
+        asked(&rt, &mut site, 0, write(alloc, oid, b"y")?)?;
+    }
+    let Reply::Aborted(cause) = asked(&rt, &mut site, 0, Request::Commit)? else {
+        panic!(rt; "both objects have later versions");
+    };
+    let modified = Cause::Modified {
+        oid: OBJECT,
+        version: version(2),
+    };
+    assert_eq!(rt; cause, modified);
+    Ok(())
+}
+
+#[test]
+fn an_abort_ends_the_transaction_and_changes_nothing(rt: HostRuntime) -> Result<(), Fail> {
+    let alloc = rt.alloc();
+    let mut site = alone(alloc)?;
+    let none = asked(&rt, &mut site, 0, Request::Abort)?;
+    assert!(rt; matches!(none, Reply::Refused(Refusal::NoTx)));
+    asked(&rt, &mut site, 0, Request::Start)?;
+    asked(&rt, &mut site, 0, write(alloc, OBJECT, b"x")?)?;
+    let aborted = asked(&rt, &mut site, 0, Request::Abort)?;
+    assert!(rt; matches!(aborted, Reply::Aborted(Cause::Asked)));
+    asked(&rt, &mut site, 0, Request::Start)?;
+    let read = asked(&rt, &mut site, 0, Request::Read(OBJECT))?;
+    assert!(rt; matches!(read, Reply::Value(None)));
+    Ok(())
+}
+
+#[test]
+fn a_bad_frame_is_refused_in_any_state(rt: HostRuntime) -> Result<(), Fail> {
+    let mut site = alone(rt.alloc())?;
+    for _ in 0..2 {
+        let reply = served(&rt, &mut site, 0, Err(BadFrame { at: 3 }))?;
+        assert!(rt; matches!(reply, Reply::Refused(Refusal::BadFrame { at: 3 })));
+        asked(&rt, &mut site, 0, Request::Start)?;
+    }
+    Ok(())
+}
+
+#[test]
+fn an_unknown_container_is_refused_after_the_want_of_a_transaction(
+    rt: HostRuntime,
+) -> Result<(), Fail> {
+    let alloc = rt.alloc();
+    let mut site = alone(alloc)?;
+    let first = asked(&rt, &mut site, 0, Request::Read(STRANGE))?;
+    assert!(rt; matches!(first, Reply::Refused(Refusal::NoTx)));
+    asked(&rt, &mut site, 0, Request::Start)?;
+    for request in [Request::Read(STRANGE), write(alloc, STRANGE, b"x")?] {
+        let reply = asked(&rt, &mut site, 0, request)?;
+        assert!(rt; matches!(reply, Reply::Refused(Refusal::UnknownContainer)));
+    }
+    let open = asked(&rt, &mut site, 0, Request::Commit)?;
+    assert!(rt; matches!(open, Reply::Ended));
     Ok(())
 }
 
 #[test]
 fn an_unapplied_plan_changes_nothing(rt: HostRuntime) -> Result<(), Fail> {
-    let mut site = Site::booted(rt.alloc(), SiteId(0), 1);
+    let mut site = alone(rt.alloc())?;
     let start = Input::Call {
         client: 0,
-        request: Request::Start,
+        call: Ok(Request::Start),
     };
     for _ in 0..2 {
         assert!(rt; site.can_count());
@@ -91,23 +213,5 @@ fn an_unapplied_plan_changes_nothing(rt: HostRuntime) -> Result<(), Fail> {
         };
         assert_eq!(rt; tid.number, 1);
     }
-    Ok(())
-}
-
-#[test]
-fn a_trail_keeps_its_entries_in_order(rt: HostRuntime) -> Result<(), Fail> {
-    let mut trail = Trail::new(rt.alloc());
-    assert!(rt; trail.is_empty());
-    for stamp in 1..3 {
-        trail.push(Entry {
-            stamp,
-            event: TrailEvent::Restart,
-            outcome: Outcome::Taken,
-            wrote: Some(Record::Boot(1)),
-        })?;
-    }
-    assert_eq!(rt; trail.len(), 2);
-    let stamps = [trail.as_slice()[0].stamp, trail.as_slice()[1].stamp];
-    assert_eq!(rt; stamps, [1, 2]);
     Ok(())
 }

@@ -2,9 +2,11 @@
 #![tactic(auto)]
 
 mod held;
+mod laws;
 mod trail;
 
 pub use held::Held;
+pub use laws::conflicts_are_named;
 pub use trail::{Entry, Outcome, Trail, TrailEvent};
 
 #[cfg(test)]

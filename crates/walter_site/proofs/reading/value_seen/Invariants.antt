@@ -1,7 +1,7 @@
 use Rattle.std.proofs.Common.{◌≡◌, drop, filter, flat_map}
 use Rattle.std.specs.Option.{option_copied}
 use Rattle.walter_base.specs.Values.{value_from, value_of}
-use Rattle.walter_site.specs.Knowledge.{sees}
+use Rattle.walter_trail.specs.Knowledge.{sees}
 use Rattle.walter_site.proofs.reading.value_seen.Given as goal
 
 abbrev pub invariant-loop-one : goal.invariant-loop-one

@@ -1,6 +1,6 @@
 use Rattle.std.proofs.Common.{get_or, ap, subst}
 use Rattle.std.specs.Prelude.{IfSome}
-use Rattle.walter_site.specs.Knowledge.{with_update}
+use Rattle.walter_trail.specs.Knowledge.{with_update}
 use Rattle.walter_site.specs.Sites.{CanTake}
 use Rattle.walter_site.proofs.Places.{first_is, client_at, session_among-set}
 use Rattle.walter_site.proofs.transactions.add_update.Goals as goal

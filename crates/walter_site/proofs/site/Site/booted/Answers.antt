@@ -6,7 +6,7 @@ unfolding known
 returns-clause-known c = λ i. record {
   epoch = 1;
   starts = 0;
-  committed = c.zero.ensures i;
+  committed = c.zero-committed.ensures i;
   held = c.new.ensures.items i;
   session = λ client. session_among client (c.new-2.ensures.items i);
 }
