@@ -4,3 +4,6 @@
 mod text;
 
 pub use text::report;
+
+#[cfg(test)]
+mod tests;

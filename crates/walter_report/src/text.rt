@@ -1,4 +1,4 @@
-ghost use Rattle.std.specs.Prelude.{◌≡◌, ◌≤◌, [], ◌∷◌, ◌++◌, length, map, flat_map, vec_len, All, OnOk, IfOk};
+ghost use Rattle.std.specs.Prelude.{◌≡◌, ◌≤◌, ◌<◌, [], ◌∷◌, ◌++◌, length, map, flat_map, vec_len, All, OnOk, IfOk};
 ghost use Rattle.std.specs.List.{join_with_byte};
 ghost use Rattle.std.specs.String.{string_bytes};
 ghost use Rattle.walter_report.specs.Reports.{comma, or_dash, reply_in, reply_to, replies_to, reply_frame, HaveFrames, client_line, client_lines, last_epoch, records, own_numbers, logged, site_line, site_lines, first_line, report_text};
@@ -6,21 +6,21 @@ ghost use Rattle.walter_reply.specs.Replies.{FitsFrame};
 ghost use Rattle.walter_report.specs.Lines.{events_part, commits_part};
 
 use std::alloc::Global;
-use walter_base::{Mem, Record, Reply};
+use walter_base::{Bytes, Mem, Record, Reply};
 use walter_reply::encode;
 use walter_scenario::{Client, Scenario};
 use walter_trail::{Entry, Outcome, Trail, TrailEvent};
 
 /// The report of a run: the text of its trails, one for each site.
-pub fn report(alloc: Global, scenario: &Scenario, trails: &[Trail]) -> Mem<Vec<u8>>
+pub fn report(alloc: Global, scenario: &Scenario, trails: &[Trail]) -> Mem<Bytes>
     requires { HaveFrames trails.now }
-    ensures { IfOk result (λ text. text.items ≡ report_text scenario.now trails.now) }
+    ensures { IfOk result (λ text. text ≡ report_text scenario.now trails.now) }
 {
     let mut text = String::new(alloc);
     push_first_line(&mut text, scenario)?;
     push_client_lines(alloc, &mut text, scenario.clients.as_slice(), trails)?;
     push_site_lines(alloc, &mut text, trails)?;
-    Ok(text.into_bytes())
+    Ok(Bytes::from(text.into_bytes()))
 }
 
 fn push_first_line(text: &mut String, scenario: &Scenario) -> Mem<()>
@@ -135,7 +135,9 @@ impl Tally {
 #[tactic(auto, unfolding(walter_fields::specs::Spellings::number_spelled))]
 fn push_reply(out: &mut Vec<u8>, reply: &Reply) -> Mem<()>
     requires { FitsFrame reply.now }
-    ensures { OnOk result (out.new.items ≡ out.old.items ++ reply_frame reply.now) }
+    ensures frame { OnOk result (out.new.items ≡ out.old.items ++ reply_frame reply.now) }
+    ensures longer { OnOk result (vec_len out.old < vec_len out.new) }
+    ensures kept { vec_len out.old ≤ vec_len out.new }
 {
     let body = encode(*out.allocator(), reply)?;
     let body = body.as_slice();
