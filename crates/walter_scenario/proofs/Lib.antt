@@ -1,0 +1,7 @@
+pub mod Arrays
+pub mod Spelling
+pub mod Wrong
+pub mod Declared
+pub mod Sent
+pub mod Scripts
+pub mod Readings

@@ -1,2 +1,5 @@
 pub mod Parts
 pub mod Scenarios
+pub mod Members
+pub mod Fronts
+pub mod Faults

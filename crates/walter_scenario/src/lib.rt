@@ -1,10 +1,17 @@
 //! A scenario: what is to be played, read from JSON.
 #![tactic(auto)]
 
+mod clients;
+mod containers;
+mod faults;
 mod lists;
+mod members;
 mod place;
 mod reading;
 mod scenario;
+mod steps;
+mod text;
+mod values;
 
 pub use lists::{Clients, Steps};
 pub use place::{Place, ReadFault};

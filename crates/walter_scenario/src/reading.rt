@@ -1,14 +1,50 @@
 ghost use Rattle.std.specs.Prelude.{IfOk, IfErr};
+ghost use Rattle.walter_scenario.specs.Members.{five_of, IsReadingOf, IsFaultOf};
 ghost use Rattle.walter_scenario.specs.Scenarios.{IsReading, IsReadFault};
 
-use crate::place::ReadFault;
-use crate::scenario::Scenario;
+use crate::clients::clients_of;
+use crate::containers::catalog_of;
+use crate::lists::{Clients, Steps};
+use crate::members::{Parts, parts_of};
+use crate::place::{Place, ReadFault};
+use crate::scenario::{LONGEST_TEXT, Scenario};
+use crate::steps::steps_of;
+use crate::text::{members_of, value_of};
+use crate::values::is_whole;
 use std::alloc::Global;
+
+/// The scenario that the parts spell.
+fn scenario_of(alloc: Global, parts: Parts<'_>) -> Result<Scenario, ReadFault>
+    ensures ok { IfOk result (IsReadingOf (five_of parts.entry)) }
+    ensures fault { IfErr result (IsFaultOf (five_of parts.entry)) }
+{
+    if !is_whole(parts.sites, 1) {
+        return Err(ReadFault::from(Place::Sites));
+    }
+    if !is_whole(parts.faults, 0) {
+        return Err(ReadFault::from(Place::F));
+    }
+    let catalog = catalog_of(alloc, 1, parts.containers)?;
+    let clients = clients_of(alloc, 1, parts.clients)?;
+    let steps = steps_of(alloc, clients.len(), parts.steps)?;
+    Ok(Scenario {
+        catalog,
+        clients: Clients::from(clients),
+        steps: Steps::from(steps),
+    })
+}
 
 /// The scenario that the bytes spell.
 pub fn read(alloc: Global, bytes: &[u8]) -> Result<Scenario, ReadFault>
     ensures ok { IfOk result (IsReading bytes.now) }
     ensures fault { IfErr result (IsReadFault bytes.now) }
 {
-    Err(ReadFault::NoMemory)
+    if bytes.len() > LONGEST_TEXT {
+        return Err(ReadFault::from(Place::TooLong));
+    }
+    let value = value_of(alloc, bytes)?;
+    let members = members_of(&value).ok_or(Place::Json)?;
+    let parts = parts_of(members).ok_or(Place::Key)?;
+    let scenario = scenario_of(alloc, parts)?;
+    Ok(scenario)
 }

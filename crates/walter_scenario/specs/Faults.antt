@@ -1,0 +1,40 @@
+-- What a fault says of the value of a key.
+use Rattle.std.specs.Prelude.{◌≡◌, ℕ, List}
+use Rattle.serde_json.specs.Data.{Data}
+use Rattle.walter_base.specs.Catalogs.{Item}
+use Rattle.walter_scenario.specs.declared.place.Place.{Place}
+use Rattle.walter_scenario.specs.declared.place.Place.TheVariants.{Containers, Clients, Steps}
+use Rattle.walter_scenario.specs.declared.place.ReadFault.{ReadFault}
+use Rattle.walter_scenario.specs.declared.place.ReadFault.TheVariants.{Refused, NoMemory}
+use Rattle.walter_scenario.specs.declared.scenario.Client.{Client}
+use Rattle.walter_scenario.specs.declared.scenario.Step.{Step}
+use Rattle.walter_scenario.specs.Parts.{AreContainers, AreClients, AreSteps, IsWrongAt}
+
+-- the place that is named is so
+abbrev pub IfRefused : (Place → Type 0) → ReadFault → Type 0
+IfRefused P (Refused place) = P place
+IfRefused P NoMemory = Unit {0}
+
+-- the place is that of the first wrong item
+pub record IsItem (name : ℕ → Place) (Right : List Data → Type 0) (value : Data) (place : Place) : Type 0 where
+  pub index : ℕ
+  pub named : place ≡ name index
+  pub wrong : IsWrongAt Right value index
+
+abbrev pub HaveContainers : ℕ → List Data → Type 0
+HaveContainers sites values = (declared : List Item) × AreContainers sites values declared
+
+abbrev pub HaveClients : ℕ → List Data → Type 0
+HaveClients sites values = (clients : List Client) × AreClients sites values clients
+
+abbrev pub HaveSteps : ℕ → List Data → Type 0
+HaveSteps clients values = (steps : List Step) × AreSteps clients values steps
+
+abbrev pub IsContainersFault : ℕ → Data → ReadFault → Type 0
+IsContainersFault sites value = IfRefused (IsItem Containers (HaveContainers sites) value)
+
+abbrev pub IsClientsFault : ℕ → Data → ReadFault → Type 0
+IsClientsFault sites value = IfRefused (IsItem Clients (HaveClients sites) value)
+
+abbrev pub IsStepsFault : ℕ → Data → ReadFault → Type 0
+IsStepsFault clients value = IfRefused (IsItem Steps (HaveSteps clients) value)

@@ -1,0 +1,39 @@
+-- What was read of a list so far.
+use Rattle.std.specs.Prelude.{◌≡◌, ◌≢◌, ◌≤◌, ◌<◌, ◌^◌, ℕ, List, map, take, length, count_by, nat_eq, All}
+use Rattle.std.specs.List.{HoldsAt}
+use Rattle.serde_json.specs.Data.{Data}
+use Rattle.walter_base.specs.declared.catalog.Catalog.{Catalog}
+use Rattle.walter_base.specs.declared.names.Kind.TheVariants.{Regular}
+use Rattle.walter_base.specs.Catalogs.{Item, containers_of}
+use Rattle.walter_scenario.specs.declared.scenario.Client.{Client}
+use Rattle.walter_scenario.specs.Parts.{list, container_spelled, AreContainers}
+
+-- a regular container whose number fits
+abbrev pub IsDeclared : Item → Type 0
+IsDeclared c = (c.0 < 2 ^ 32) × (c.1 ≡ Regular)
+
+-- no container of a site that fits is spelled so
+abbrev pub SpellsNone : Data → Type 0
+SpellsNone value = (c : Item) → IsDeclared c → c.2.0 < 256 → value ≢ container_spelled c
+
+-- the values in front spell these containers, and then there is no value, or one that spells none
+pub record IsFront (values : List Data) (front : List Item) : Type 0 where
+  pub within : length front ≤ length values
+  pub spelled : take (length front) values ≡ map container_spelled front
+  pub declared : All IsDeclared front
+  pub ends : length front < length values → HoldsAt SpellsNone values (length front)
+
+-- the catalog of the containers that the value spells
+pub record IsCatalog (sites : ℕ) (value : Data) (catalog : Catalog) : Type 0 where
+  pub values : List Data
+  pub declared : List Item
+  pub spelled : value ≡ list values
+  pub are : AreContainers sites values declared
+  pub of_sites : catalog.sites ≡ sites
+  pub no_faults : catalog.faults ≡ 0
+  pub containers : catalog.containers ≡ containers_of declared
+
+-- the client may stand behind these: its site is there, and has room
+pub record MayFollow (sites : ℕ) (clients : List Client) (client : Client) : Type 0 where
+  pub there : client.site.0 < sites
+  pub room : count_by (λ other. nat_eq other.site.0 client.site.0) clients < 1024

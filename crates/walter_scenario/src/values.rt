@@ -1,0 +1,73 @@
+ghost use Rattle.std.specs.Prelude.{◌≡◌, ◌≢◌, ◌↔◌, ◌∷◌, [], ℕ, List, map, IsTrue, IfSome, IfNone};
+ghost use Rattle.serde_json.specs.Data.{Data, string};
+ghost use Rattle.serde_json.specs.View.{view};
+ghost use Rattle.walter_scenario.specs.Parts.{list, whole};
+
+use serde_json::Value;
+
+/// The items of an array.
+pub fn items_of(value: &Value) -> Option<&[Value]>
+    ensures some { IfSome result (λ items. view value.now ≡ list (map view items.now)) }
+    ensures none { IfNone result ((values : List Data) → view value.now ≢ list values) }
+{
+    Some(value.as_array()?.as_slice())
+}
+
+/// The two items of an array.
+#[tactic(auto, using(crate::proofs::Arrays::same_length))]
+pub fn pair_of(value: &Value) -> Option<(&Value, &Value)>
+    ensures some { IfSome result
+        (λ found. view value.now ≡ list (view found.0.now ∷ view found.1.now ∷ [])) }
+    ensures none { IfNone result
+        ((first second : Data) → view value.now ≢ list (first ∷ second ∷ [])) }
+{
+    let [first, second] = items_of(value)? else {
+        return None;
+    };
+    Some((first, second))
+}
+
+/// The three items of an array.
+#[tactic(auto, using(crate::proofs::Arrays::same_length))]
+pub fn triple_of(value: &Value) -> Option<(&Value, &Value, &Value)>
+    ensures some { IfSome result
+        (λ found. view value.now
+        ≡ list (view found.0.now ∷ view found.1.now ∷ view found.2.now ∷ [])) }
+    ensures none { IfNone result
+        ((first second third : Data) → view value.now ≢ list (first ∷ second ∷ third ∷ [])) }
+{
+    let [first, second, third] = items_of(value)? else {
+        return None;
+    };
+    Some((first, second, third))
+}
+
+/// The whole number that the value is.
+pub fn whole_of(value: &Value) -> Option<u64>
+    ensures some { IfSome result (λ n. view value.now ≡ whole n) }
+    ensures none { IfNone result ((n : ℕ) → view value.now ≢ whole n) }
+{
+    value.as_u64()
+}
+
+/// The text that the value is.
+pub fn string_of(value: &Value) -> Option<&str>
+    ensures some { IfSome result (λ text. view value.now ≡ string text.now) }
+    ensures none { IfNone result ((text : List ℕ) → view value.now ≢ string text) }
+{
+    value.as_str()
+}
+
+/// Whether the value is this whole number.
+pub fn is_whole(value: &Value, n: u64) -> bool
+    ensures { IsTrue result ↔ (view value.now ≡ whole n) }
+{
+    whole_of(value) == Some(n)
+}
+
+/// Whether the value is this text.
+pub fn is_string(value: &Value, text: &str) -> bool
+    ensures { IsTrue result ↔ (view value.now ≡ string text.now) }
+{
+    string_of(value).is_some_and(|found| found == text)
+}
