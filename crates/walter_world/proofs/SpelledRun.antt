@@ -20,16 +20,16 @@ use Rattle.walter_psi.specs.declared.step.Step.TheVariants.{Commit as CommitStep
 use Rattle.walter_psi.specs.declared.step.Told.TheVariants.{Version as OfVersion}
 use Rattle.walter_psi.specs.Legal.{IsLegal}
 use Rattle.walter_psi.proofs.Lists.{Contains-nil}
-use Rattle.walter_trail.specs.declared.held.Held.{Held}
 use Rattle.walter_trail.specs.declared.trail.Entry.{Entry}
 use Rattle.walter_trail.specs.declared.trail.Outcome.TheVariants.{Replied}
 use Rattle.walter_trail.specs.declared.trail.TrailEvent.{TrailEvent}
 use Rattle.walter_trail.specs.declared.trail.TrailEvent.TheVariants.{Call, Restart}
-use Rattle.walter_trail.specs.Conflicts.{conflict_of, IsConflict, IsSeenWhole}
+use Rattle.walter_trail.specs.Conflicts.{conflict_of}
 use Rattle.walter_trail.specs.Knowledge.{Knowledge, Session, fresh, after, read_updates, with_update}
 use Rattle.walter_trail.specs.Merges.{merge}
 use Rattle.walter_trail.specs.Rule.{Expected, answers, refuses, call_rule, if_known, commits, decides, restart_rule, rule, next_tid, next_seq, TakesMemory, no_memory}
 use Rattle.walter_trail.specs.Trails.{knowledge, IsRightEntry, AreRight, IsRightTrail}
+use Rattle.walter_trail.proofs.ConflictNamed.{conflict_named, no_conflict_named}
 use Rattle.walter_world.specs.Spelled.{the_site, recorded, answered, steps_of, of_session, did, saw, told, aborted, history, psi_of}
 use Rattle.walter_world.proofs.OneTrail.{named, history-named, psi_of-one}
 use Rattle.walter_world.proofs.SpelledSteps.{IsTold, AreOpen, with_one, same_sessions, without_step, start_step, read_step, op_step, told_step, abort_step, conflict_cause, commit_step, commit_version, boot}
@@ -43,14 +43,6 @@ pub record Holds (K : Knowledge) (h : List Step) : Type 0 where
 abbrev pub HoldsAfter : Knowledge → List Step → TrailEvent → Expected → Type 0
 HoldsAfter K h event expected =
     Holds (after the_site K event expected.outcome expected.wrote) (h ++ (recorded expected.wrote ++ answered the_site K expected.outcome event))
-
--- TEMPORARY
-no_conflict : (held : List Held) (snapshot : List ℕ) (updates : List Update) → conflict_of held snapshot updates ≡ None → IsSeenWhole held snapshot updates
-no_conflict held snapshot updates none = ?
-
-one_conflict : (held : List Held) (snapshot : List ℕ) (updates : List Update) (oid : ObjId) (version : Version) → conflict_of held snapshot updates ≡ Some (oid, version)
-    → IsConflict held snapshot updates oid version
-one_conflict held snapshot updates oid version some = ?
 
 get_or-replicate_zero : (n : ℕ) → slice_index (replicate n 0) 0 ≡ 0
 get_or-replicate_zero zero = refl
@@ -102,7 +94,7 @@ module _ (catalog : Catalog) (K : Knowledge) (h : List Step) (is : Holds K h) wh
   decided client s None has some found =
       let version : Version = record { site = the_site; seq = next_seq the_site K } in
       let next : Knowledge = after the_site K (Call client (Ok Commit)) (decides the_site K s None).outcome (decides the_site K s None).wrote in
-      let committed_ = commit_step K.epoch K.starts K.committed K.held h is.is_told K.session client s is.are_open has some (no_conflict K.held s.snapshot s.updates found) in
+      let committed_ = commit_step K.epoch K.starts K.committed K.held h is.is_told K.session client s is.are_open has some ((no_conflict_named K.held s.snapshot s.updates).0 found) in
       let names = commit_version K.epoch K.starts K.committed K.held h is.is_told s (is.are_open.open_ client s has) in
       let told_ = told_step K.epoch K.starts next.committed next.held (h ++ CommitStep s.tid s.updates ∷ []) committed_.0 next.session s.tid version committed_.1 names in
       let now : Holds next ((h ++ CommitStep s.tid s.updates ∷ []) ++ Told s.tid (OfVersion version) ∷ []) = record { is_told = told_.0; are_open = told_.1 } in
@@ -110,7 +102,7 @@ module _ (catalog : Catalog) (K : Knowledge) (h : List Step) (is : Holds K h) wh
       (subst (λ steps. Holds next steps) (append_assoc h (CommitStep s.tid s.updates ∷ []) (Told s.tid (OfVersion version) ∷ [])) now)
   decided client s (Some conflict) has some found =
       let next : Knowledge = after the_site K (Call client (Ok Commit)) (Replied (Aborted (Modified conflict.0 conflict.1))) None in
-      let cause = conflict_cause K.epoch K.starts K.committed K.held h is.is_told s conflict.0 conflict.1 (is.are_open.open_ client s has) (one_conflict K.held s.snapshot s.updates conflict.0 conflict.1 found) in
+      let cause = conflict_cause K.epoch K.starts K.committed K.held h is.is_told s conflict.0 conflict.1 (is.are_open.open_ client s has) ((conflict_named K.held s.snapshot s.updates conflict.0 conflict.1).0 found) in
       let step = abort_step K.epoch K.starts K.committed K.held h is.is_told K.session client s (Modified conflict.0 conflict.1) is.are_open has cause in
       let now : Holds next (h ++ aborted (Modified conflict.0 conflict.1) s) = record { is_told = step.0; are_open = step.1 } in
       subst (λ o. Holds next (h ++ of_session (aborted (Modified conflict.0 conflict.1)) o)) (sym has) now

@@ -3,4 +3,4 @@
 
 mod laws;
 
-pub use laws::{example_spells, one_site_spells_legal};
+pub use laws::{example_spells, one_site_spells_legal, right_trails_promise};
