@@ -1,6 +1,7 @@
 //! Where bytes come from and where they go: traits over the outside, in memory and over the real thing.
 #![tactic(auto)]
 
+mod bytes_source;
 mod fault_count;
 mod memory_sink;
 mod memory_source;
@@ -15,6 +16,7 @@ mod std_source;
 mod tests;
 mod writing;
 
+pub use bytes_source::BytesSource;
 pub use memory_sink::MemorySink;
 pub use memory_source::MemorySource;
 pub use null_sink::NullSink;

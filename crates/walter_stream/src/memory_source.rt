@@ -2,6 +2,7 @@ ghost use Rattle.std.specs.Prelude.{◌≡◌, ◌↔◌, ◌+◌, ◌<◌, ◌�
 ghost use Rattle.walter_stream.specs.Calls.{planned, NextFails, AddsCall};
 ghost use Rattle.walter_stream.specs.Streams.{AtEnd, TakesFront};
 
+use crate::bytes_source::BytesSource;
 use crate::schedule::Schedule;
 use crate::source::{Failed, Source};
 use std::marker::Model;
@@ -9,20 +10,16 @@ use std::marker::Model;
 /// A source over bytes in memory, some of whose calls fail.
 #[derive(Drop)]
 pub struct MemorySource {
-    bytes: Vec<u8>,
-    taken: usize,
+    source: BytesSource,
     schedule: Schedule,
 }
 
 impl Model for MemorySource {
-    ghost use Rattle.std.specs.Prelude.{◌≤◌, drop, vec_len};
     ghost use Rattle.walter_stream.specs.Memory.{Input};
 
     ghost Value = { Input };
 
-    ghost view = { λ s. record { left = drop s.taken s.bytes.items; calls = s.schedule } };
-
-    ghost invariant = { λ s. s.taken ≤ vec_len s.bytes };
+    ghost view = { λ s. record { left = s.source; calls = s.schedule } };
 }
 
 impl MemorySource {
@@ -32,8 +29,7 @@ impl MemorySource {
         ensures calls { result.calls ≡ planned failing.items }
     {
         MemorySource {
-            bytes,
-            taken: 0,
+            source: BytesSource::from(bytes),
             schedule: Schedule::new(failing),
         }
     }
@@ -61,18 +57,6 @@ impl Source for MemorySource {
         ensures most { IfOk result (λ n. n ≡ min (length self.old.left) (length into.old)) }
     {
         self.schedule.call()?;
-        let count = copy_front(&self.bytes[self.taken..], into);
-        self.taken += count;
-        Ok(count)
+        self.source.read(into)
     }
-}
-
-// Copies as many bytes as both have, and answers how many.
-fn copy_front(from: &[u8], into: &mut [u8]) -> usize
-    ensures count { result ≡ min (length from.now) (length into.old) }
-    ensures copied { take result into.new ≡ take result from.now }
-{
-    let count = from.len().min(into.len());
-    into[..count].copy_from_slice(&from[..count]);
-    count
 }

@@ -49,6 +49,17 @@ impl Write for FullWriter {
 }
 
 #[test]
+fn a_source_of_bytes_gives_them_all(rt: HostRuntime) -> Result<(), Fail> {
+    let mut source = BytesSource::from(b"walter".to_vec(rt.alloc())?);
+    let mut piece = [0; 4];
+    assert_eq!(rt; source.read(&mut piece), Ok(4));
+    assert_eq!(rt; piece.as_slice(), b"walt".as_slice());
+    assert_eq!(rt; source.read(&mut piece), Ok(2));
+    assert_eq!(rt; source.read(&mut piece), Ok(0));
+    Ok(())
+}
+
+#[test]
 fn a_source_fails_where_it_is_planned(rt: HostRuntime) -> Result<(), Fail> {
     let mut source = source_over(rt.alloc(), "walter", &[2])?;
     let mut piece = [0; 4];
