@@ -63,25 +63,25 @@ length-reply_spelled (Refused TxOpen) = two_bytes 0xE0 6 []
 length-reply_spelled (Refused (BadFrame at)) = omega (arith, two_bytes 0xE0 8 (number_spelled 4 at), length-number_spelled 4 at)
 length-reply_spelled (Refused Memory) = two_bytes 0xE0 13 []
 
-pub which_fit : (reply : Reply) → HasShortValue reply ↔ FitsFrame reply
-which_fit reply = (short reply, fits reply)
-  where
-    short : (reply : Reply) → HasShortValue reply → FitsFrame reply
-    short (Value (Some bytes)) few = omega (arith, few, length-reply_spelled (Value (Some bytes)))
-    short (Started tid) few = omega (arith, length-reply_spelled (Started tid))
-    short (Value None) few = omega (arith, length-reply_spelled (Value None))
-    short Done few = omega (arith, length-reply_spelled Done)
-    short (Committed version) few = omega (arith, length-reply_spelled (Committed version))
-    short (Aborted (Modified oid version)) few = omega (arith, length-reply_spelled (Aborted (Modified oid version)))
-    short (Aborted (Locked oid owner)) few = omega (arith, length-reply_spelled (Aborted (Locked oid owner)))
-    short (Aborted Asked) few = omega (arith, length-reply_spelled (Aborted Asked))
-    short Ended few = omega (arith, length-reply_spelled Ended)
-    short (Refused UnknownContainer) few = omega (arith, length-reply_spelled (Refused UnknownContainer))
-    short (Refused NoTx) few = omega (arith, length-reply_spelled (Refused NoTx))
-    short (Refused TxOpen) few = omega (arith, length-reply_spelled (Refused TxOpen))
-    short (Refused (BadFrame at)) few = omega (arith, length-reply_spelled (Refused (BadFrame at)))
-    short (Refused Memory) few = omega (arith, length-reply_spelled (Refused Memory))
+pub short_reply_fits : (reply : Reply) → HasShortValue reply → FitsFrame reply
+short_reply_fits (Value (Some bytes)) few = omega (arith, few, length-reply_spelled (Value (Some bytes)))
+short_reply_fits (Started tid) few = omega (arith, length-reply_spelled (Started tid))
+short_reply_fits (Value None) few = omega (arith, length-reply_spelled (Value None))
+short_reply_fits Done few = omega (arith, length-reply_spelled Done)
+short_reply_fits (Committed version) few = omega (arith, length-reply_spelled (Committed version))
+short_reply_fits (Aborted (Modified oid version)) few = omega (arith, length-reply_spelled (Aborted (Modified oid version)))
+short_reply_fits (Aborted (Locked oid owner)) few = omega (arith, length-reply_spelled (Aborted (Locked oid owner)))
+short_reply_fits (Aborted Asked) few = omega (arith, length-reply_spelled (Aborted Asked))
+short_reply_fits Ended few = omega (arith, length-reply_spelled Ended)
+short_reply_fits (Refused UnknownContainer) few = omega (arith, length-reply_spelled (Refused UnknownContainer))
+short_reply_fits (Refused NoTx) few = omega (arith, length-reply_spelled (Refused NoTx))
+short_reply_fits (Refused TxOpen) few = omega (arith, length-reply_spelled (Refused TxOpen))
+short_reply_fits (Refused (BadFrame at)) few = omega (arith, length-reply_spelled (Refused (BadFrame at)))
+short_reply_fits (Refused Memory) few = omega (arith, length-reply_spelled (Refused Memory))
 
+pub which_fit : (reply : Reply) → HasShortValue reply ↔ FitsFrame reply
+which_fit reply = (short_reply_fits reply, fits reply)
+  where
     fits : (reply : Reply) → FitsFrame reply → HasShortValue reply
     fits (Value (Some bytes)) all = omega (arith, all, length-reply_spelled (Value (Some bytes)))
     fits (Started tid) all = tt

@@ -12,7 +12,7 @@ use Rattle.walter_fields.proofs.Numbers.{number_spelled-byte, same_number}
 use Rattle.walter_fields.proofs.Readings.{same_block}
 use Rattle.walter_names.specs.Names.{object_spelled, tid_spelled, version_spelled}
 use Rattle.walter_names.proofs.Prefixes.{regrouped, same_object, same_tid, same_version}
-use Rattle.walter_reply.specs.Replies.{cause_number, cause_fields, refusal_number, refusal_fields, reply_spelled, IsCause, IsRefusal, IsReply, Spells}
+use Rattle.walter_reply.specs.Replies.{cause_number, cause_fields, cause_spelled, refusal_number, refusal_fields, refusal_spelled, reply_spelled, IsCause, IsRefusal, IsReply, Spells}
 
 -- a reply is its first byte, and its fields
 abbrev pub kind_of : Reply → ℕ
@@ -30,9 +30,9 @@ fields_spelled (Value None) = number_spelled 1 0
 fields_spelled (Value (Some bytes)) = number_spelled 1 1 ++ block_spelled bytes
 fields_spelled Done = []
 fields_spelled (Committed version) = version_spelled version
-fields_spelled (Aborted cause) = number_spelled 1 (cause_number cause) ++ cause_fields cause
+fields_spelled (Aborted cause) = cause_spelled cause
 fields_spelled Ended = []
-fields_spelled (Refused why) = number_spelled 1 (refusal_number why) ++ refusal_fields why
+fields_spelled (Refused why) = refusal_spelled why
 
 pub reply_parts : (a : Reply) (x : List ℕ) → reply_spelled a ++ x ≡ number_spelled 1 (kind_of a) ++ (fields_spelled a ++ x)
 reply_parts (Started tid) x = append_assoc (number_spelled 1 0x80) (tid_spelled tid) x
@@ -40,9 +40,9 @@ reply_parts (Value None) x = append_assoc (number_spelled 1 0x81) (number_spelle
 reply_parts (Value (Some bytes)) x = append_assoc (number_spelled 1 0x81) (number_spelled 1 1 ++ block_spelled bytes) x
 reply_parts Done x = refl
 reply_parts (Committed version) x = append_assoc (number_spelled 1 0x85) (version_spelled version) x
-reply_parts (Aborted cause) x = append_assoc (number_spelled 1 0x86) (number_spelled 1 (cause_number cause) ++ cause_fields cause) x
+reply_parts (Aborted cause) x = append_assoc (number_spelled 1 0x86) (cause_spelled cause) x
 reply_parts Ended x = refl
-reply_parts (Refused why) x = append_assoc (number_spelled 1 0xE0) (number_spelled 1 (refusal_number why) ++ refusal_fields why) x
+reply_parts (Refused why) x = append_assoc (number_spelled 1 0xE0) (refusal_spelled why) x
 
 pub kind_of-lt : (a : Reply) → kind_of a < 256
 kind_of-lt (Started tid) = omega arith

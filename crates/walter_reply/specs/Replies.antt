@@ -22,6 +22,9 @@ cause_fields (Modified oid version) = object_spelled oid ++ version_spelled vers
 cause_fields (Locked oid owner) = object_spelled oid ++ tid_spelled owner
 cause_fields Asked = []
 
+abbrev pub cause_spelled : Cause → List ℕ
+cause_spelled cause = number_spelled 1 (cause_number cause) ++ cause_fields cause
+
 -- the number of a refusal, and what stands behind it
 abbrev pub refusal_number : Refusal → ℕ
 refusal_number UnknownContainer = 1
@@ -37,15 +40,18 @@ refusal_fields TxOpen = []
 refusal_fields (BadFrame at) = number_spelled 4 at
 refusal_fields Memory = []
 
+abbrev pub refusal_spelled : Refusal → List ℕ
+refusal_spelled refusal = number_spelled 1 (refusal_number refusal) ++ refusal_fields refusal
+
 abbrev pub reply_spelled : Reply → List ℕ
 reply_spelled (Started tid) = number_spelled 1 0x80 ++ tid_spelled tid
 reply_spelled (Value None) = number_spelled 1 0x81 ++ number_spelled 1 0
 reply_spelled (Value (Some bytes)) = number_spelled 1 0x81 ++ (number_spelled 1 1 ++ block_spelled bytes)
 reply_spelled Done = number_spelled 1 0x82
 reply_spelled (Committed version) = number_spelled 1 0x85 ++ version_spelled version
-reply_spelled (Aborted cause) = number_spelled 1 0x86 ++ (number_spelled 1 (cause_number cause) ++ cause_fields cause)
+reply_spelled (Aborted cause) = number_spelled 1 0x86 ++ cause_spelled cause
 reply_spelled Ended = number_spelled 1 0x89
-reply_spelled (Refused refusal) = number_spelled 1 0xE0 ++ (number_spelled 1 (refusal_number refusal) ++ refusal_fields refusal)
+reply_spelled (Refused refusal) = number_spelled 1 0xE0 ++ refusal_spelled refusal
 
 -- how many bytes that are
 abbrev pub size_of : Reply → ℕ

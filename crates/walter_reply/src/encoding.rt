@@ -1,6 +1,5 @@
 ghost use Rattle.std.specs.Prelude.{◌≡◌, ◌+◌, ◌<◌, ◌≤◌, ◌^◌, ◌++◌, length, IfOk};
-ghost use Rattle.walter_fields.specs.Spellings.{number_spelled};
-ghost use Rattle.walter_reply.specs.Replies.{cause_number, cause_fields, refusal_number, refusal_fields, reply_spelled, FitsFrame};
+ghost use Rattle.walter_reply.specs.Replies.{cause_number, cause_spelled, refusal_number, refusal_fields, refusal_spelled, reply_spelled, FitsFrame};
 
 use std::alloc::Global;
 use walter_base::{Bytes, Cause, Mem, NoMemory, Refusal, Reply};
@@ -32,9 +31,9 @@ fn number_of_refusal(refusal: Refusal) -> u8
 // The number of the cause, and what stands behind it.
 #[tactic(auto, using(crate::proofs::Lengths::lengths))]
 fn append_cause(out: &mut Appender, cause: Cause)
-    requires { length (cause_fields cause) < out.old.room }
-    ensures bytes { out.new.bytes ≡ out.old.bytes ++ (number_spelled 1 (cause_number cause) ++ cause_fields cause) }
-    ensures room { out.new.room + (1 + length (cause_fields cause)) ≡ out.old.room }
+    requires { length (cause_spelled cause) ≤ out.old.room }
+    ensures bytes { out.new.bytes ≡ out.old.bytes ++ cause_spelled cause }
+    ensures room { out.new.room + length (cause_spelled cause) ≡ out.old.room }
 {
     out.u8(number_of_cause(cause));
     match cause {
@@ -53,8 +52,8 @@ fn append_cause(out: &mut Appender, cause: Cause)
 // The number of the refusal, and what stands behind it.
 #[tactic(auto, using(crate::proofs::Lengths::lengths))]
 fn append_refusal(out: &mut Appender, refusal: Refusal)
-    requires { length (refusal_fields refusal) < out.old.room }
-    ensures bytes { out.new.bytes ≡ out.old.bytes ++ (number_spelled 1 (refusal_number refusal) ++ refusal_fields refusal) }
+    requires { 1 + length (refusal_fields refusal) ≤ out.old.room }
+    ensures bytes { out.new.bytes ≡ out.old.bytes ++ refusal_spelled refusal }
     ensures room { out.new.room + (1 + length (refusal_fields refusal)) ≡ out.old.room }
 {
     out.u8(number_of_refusal(refusal));
