@@ -1,5 +1,5 @@
 -- The conflict that is found is the one that is meant, and the only one.
-use Rattle.std.proofs.Common.{◌≡◌, ◌⊎◌, ℕ, Bool, true, false, nat_eq, nat_lt, ◌&&◌, ◌||◌, List, [], ◌∷◌, ◌++◌, Option, Some, None, Contains, IsTrue, option_map, ◌↔◌, append-nil, append_assoc, if◌then◌else◌, refl, ap, sym, ◌∙◌, subst, inl, inr, arith}
+use Rattle.std.proofs.Common.{◌≡◌, ℕ, true, false, List, [], ◌∷◌, ◌++◌, Option, Some, None, Contains, option_map, ◌↔◌, append-nil, append_assoc, if◌then◌else◌, refl, sym, subst, inl, inr, arith}
 use Rattle.std.proofs.lemmas.Bool.Decides.{nat_tests}
 use Rattle.std.proofs.lemmas.List.Elements.{Contains-push, Contains-push_cases, Contains-append_left}
 use Rattle.walter_base.specs.declared.names.ObjId.{ObjId}
@@ -61,21 +61,21 @@ found_new held snapshot oids None oid version is new = record {
 found_new held snapshot oids (Some found) oid version is new =
     elim (precedes oid found.0) as (λ b. precedes oid found.0 ≡ b → IsFound held snapshot (oids ++ oid ∷ []) (if b then Some (oid, version) else Some found)) [
       | true ↦ λ below. record {
-          among = Contains-push oids oid;
-          first = new;
-          least = λ other there before. elim (Contains-push_cases oids oid other there) [
-            | inl old ↦ is.least other old (precedes_transitive other oid found.0 before below)
-            | inr same ↦ absurd (precedes_irreflexive oid (subst (λ o. precedes o oid ≡ true) (sym same) before))
-          ];
-        }
+        among = Contains-push oids oid;
+        first = new;
+        least = λ other there before. elim (Contains-push_cases oids oid other there) [
+          | inl old ↦ is.least other old (precedes_transitive other oid found.0 before below)
+          | inr same ↦ absurd (precedes_irreflexive oid (subst (λ o. precedes o oid ≡ true) (sym same) before))
+        ];
+      }
       | false ↦ λ above. record {
-          among = Contains-append_left oids (oid ∷ []) found.0 is.among;
-          first = is.first;
-          least = λ other there before. elim (Contains-push_cases oids oid other there) [
-            | inl old ↦ is.least other old before
-            | inr same ↦ let below : precedes oid found.0 ≡ true = subst (λ o. precedes o found.0 ≡ true) (sym same) before in absurd cc
-          ];
-        }
+        among = Contains-append_left oids (oid ∷ []) found.0 is.among;
+        first = is.first;
+        least = λ other there before. elim (Contains-push_cases oids oid other there) [
+          | inl old ↦ is.least other old before
+          | inr same ↦ let below : precedes oid found.0 ≡ true = subst (λ o. precedes o found.0 ≡ true) (sym same) before in absurd cc
+        ];
+      }
     ] refl
 
 -- what is found with one object more
@@ -110,14 +110,14 @@ first_unique held snapshot oids a b v w one other =
     elim (precedes a b) as (λ t. precedes a b ≡ t → (a ≡ b) × (v ≡ w)) [
       | true ↦ λ before. let none = other.least a one.among before in let some = one.first in absurd cc
       | false ↦ λ not_before. elim (precedes b a) as (λ t. precedes b a ≡ t → (a ≡ b) × (v ≡ w)) [
-          | true ↦ λ before. let none = one.least b other.among before in let some = other.first in absurd cc
-          | false ↦ λ not_after.
-              let same : a ≡ b = precedes_total a b not_before not_after in
-              let here : first_outside snapshot b held ≡ Some v = subst (λ o. first_outside snapshot o held ≡ Some v) same one.first in
-              let there = other.first in
-              let version : v ≡ w = cc in
-              (same, version)
-        ] refl
+        | true ↦ λ before. let none = one.least b other.among before in let some = other.first in absurd cc
+        | false ↦ λ not_after.
+            let same : a ≡ b = precedes_total a b not_before not_after in
+            let here : first_outside snapshot b held ≡ Some v = subst (λ o. first_outside snapshot o held ≡ Some v) same one.first in
+            let there = other.first in
+            let version : v ≡ w = cc in
+            (same, version)
+      ] refl
     ] refl
 
 first_of_conflict : (held : List Held) (snapshot : List ℕ) (updates : List Update) (oid : ObjId) (version : Version)
@@ -133,7 +133,7 @@ pub conflict_named : (held : List Held) (snapshot : List ℕ) (updates : List Up
     → (conflict_of held snapshot updates ≡ Some (oid, version)) ↔ IsConflict held snapshot updates oid version
 conflict_named held snapshot updates oid version = (
   λ named. conflict_of_first held snapshot updates oid version (subst (IsFound held snapshot (write_set updates)) named (conflict_found held snapshot updates)),
-  λ is. only (conflict_of held snapshot updates) (conflict_found held snapshot updates) (first_of_conflict held snapshot updates oid version is)
+  λ is. only (conflict_of held snapshot updates) (conflict_found held snapshot updates) (first_of_conflict held snapshot updates oid version is),
 )
   where
     only : (found : Option (ObjId × Version)) → IsFound held snapshot (write_set updates) found
@@ -146,7 +146,7 @@ pub no_conflict_named : (held : List Held) (snapshot : List ℕ) (updates : List
     → (conflict_of held snapshot updates ≡ None) ↔ IsSeenWhole held snapshot updates
 no_conflict_named held snapshot updates = (
   λ none. subst (IsFound held snapshot (write_set updates)) none (conflict_found held snapshot updates),
-  λ whole. no_one (conflict_of held snapshot updates) (conflict_found held snapshot updates) whole
+  λ whole. no_one (conflict_of held snapshot updates) (conflict_found held snapshot updates) whole,
 )
   where
     no_one : (found : Option (ObjId × Version)) → IsFound held snapshot (write_set updates) found → IsSeenWhole held snapshot updates → found ≡ None

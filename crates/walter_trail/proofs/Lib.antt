@@ -1,1 +1,3 @@
 pub mod ConflictNamed
+pub mod MergeOrder
+pub mod NamedEntries

@@ -1,5 +1,5 @@
 -- The conflict of a commit with what its snapshot doesn't see (Sovran et al., SOSP 2011, section 5.3: fast commit).
-use Rattle.std.specs.Prelude.{◌≡◌, ℕ, nat_eq, nat_lt, Bool, not, ◌&&◌, ◌||◌, IsTrue, List, [], ◌∷◌, map, filter, slice_get, Option, Some, None, option_map, IsSome, Contains, if◌then◌else◌}
+use Rattle.std.specs.Prelude.{◌≡◌, ℕ, nat_eq, nat_lt, Bool, not, ◌&&◌, ◌||◌, IsTrue, List, [], ◌∷◌, filter, slice_get, Option, Some, None, option_map, Contains, if◌then◌else◌}
 use Rattle.std.specs.List.{list_any}
 use Rattle.walter_base.specs.declared.names.ObjId.{ObjId}
 use Rattle.walter_base.specs.declared.names.Version.{Version}

@@ -3,10 +3,12 @@
 
 mod held;
 mod laws;
+mod merging;
 mod trail;
 
 pub use held::Held;
 pub use laws::conflicts_are_named;
+pub use merging::{Merged, merge};
 pub use trail::{Entry, Outcome, Trail, TrailEvent};
 
 #[cfg(test)]

@@ -1,5 +1,6 @@
 ghost use Rattle.std.specs.Prelude.{◌≡◌, ◌==◌, length};
 
+use std::alloc::AllocError;
 use std::marker::Model;
 use walter_base::{Call, Record, Reply};
 
@@ -10,6 +11,26 @@ pub enum TrailEvent {
     Call { client: u32, call: Call },
     /// The site is to come up.
     Restart,
+}
+
+impl Clone for TrailEvent {
+    ghost is_clone = { λ a b. b ≡ a };
+
+    fn clone(&self) -> Result<TrailEvent, AllocError> {
+        match self {
+            TrailEvent::Call { client, call } => {
+                let call = match call {
+                    Ok(request) => Ok(request.clone()?),
+                    Err(bad) => Err(*bad),
+                };
+                Ok(TrailEvent::Call {
+                    client: *client,
+                    call,
+                })
+            }
+            TrailEvent::Restart => Ok(TrailEvent::Restart),
+        }
+    }
 }
 
 /// What an event came to.
@@ -23,6 +44,18 @@ pub enum Outcome {
     Passed,
 }
 
+impl Clone for Outcome {
+    ghost is_clone = { λ a b. b ≡ a };
+
+    fn clone(&self) -> Result<Outcome, AllocError> {
+        match self {
+            Outcome::Replied(reply) => Ok(Outcome::Replied(reply.clone()?)),
+            Outcome::Taken => Ok(Outcome::Taken),
+            Outcome::Passed => Ok(Outcome::Passed),
+        }
+    }
+}
+
 /// One thing that happened at a site: its stamp, the event, what it came to, and the record that it made stable.
 #[derive(Debug, Drop)]
 pub struct Entry {
@@ -30,6 +63,19 @@ pub struct Entry {
     pub event: TrailEvent,
     pub outcome: Outcome,
     pub wrote: Option<Record>,
+}
+
+impl Clone for Entry {
+    ghost is_clone = { λ a b. b ≡ a };
+
+    fn clone(&self) -> Result<Entry, AllocError> {
+        Ok(Entry {
+            stamp: self.stamp,
+            event: self.event.clone()?,
+            outcome: self.outcome.clone()?,
+            wrote: self.wrote.clone()?,
+        })
+    }
 }
 
 /// The entries of a site, the oldest first. Contracts see the list of them.
