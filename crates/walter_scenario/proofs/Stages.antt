@@ -1,5 +1,5 @@
 -- How far bytes are right, stage by stage, and that they are first wrong at one place.
-use Rattle.std.proofs.Common.{◌≡◌, ◌≢◌, ℕ, zero, suc, ◌<◌, ◌≤◌, List, length, codes, inl, inr, refl, sym, ap, ◌∙◌, subst, arith}
+use Rattle.std.proofs.Common.{◌≡◌, ℕ, zero, suc, ◌<◌, ◌≤◌, List, length, codes, inl, inr, refl, ap, subst, arith}
 use Rattle.std.proofs.lemmas.Bool.{cases_lt}
 use Rattle.serde_json.specs.Data.{Data, Members}
 use Rattle.walter_base.specs.Catalogs.{Item}

@@ -1,11 +1,11 @@
 -- What bytes spell is one thing, part by part.
-use Rattle.std.proofs.Common.{◌≡◌, ℕ, List, length, codes, Some, refl, sym, ap, ◌∙◌, subst}
+use Rattle.std.proofs.Common.{◌≡◌, ℕ, List, length, codes, refl, sym, ap, ◌∙◌, subst}
+use Rattle.std.proofs.lemmas.Option.{same_Some}
 use Rattle.serde_json.specs.Data.{Data, Members}
 use Rattle.serde_json.specs.Find.{get_member}
 use Rattle.walter_base.specs.Catalogs.{Item, containers_of}
 use Rattle.walter_scenario.specs.declared.scenario.Client.{Client}
 use Rattle.walter_scenario.specs.declared.scenario.Scenario.{Scenario}
-use Rattle.walter_scenario.specs.declared.scenario.Step.{Step}
 use Rattle.walter_scenario.specs.Parts.{list, SpellClients, AreSteps}
 use Rattle.walter_scenario.specs.Scenarios.{HasMember, IsObject, HasContainers, HasClients, IsReading}
 use Rattle.walter_scenario.proofs.Declared.{same_declared}
@@ -16,11 +16,8 @@ use Rattle.walter_scenario.proofs.Wrong.{list_of}
 pub one_object : (bytes : List ℕ) (m n : Members) → IsObject bytes m → IsObject bytes n → m ≡ n
 one_object bytes m n a b = cc
 
-some : (a b : Data) → Some a ≡ Some b → a ≡ b
-some a b e = cc
-
 pub one_value : (key : List ℕ) (m n : Members) (a b : Data) → m ≡ n → HasMember m key a → HasMember n key b → a ≡ b
-one_value key m n a b same is other = some a b (sym is ∙ ap (λ ms. get_member key ms) same ∙ other)
+one_value key m n a b same is other = same_Some a b (sym is ∙ ap (λ ms. get_member key ms) same ∙ other)
 
 pub one_list : (key : List ℕ) (m n : Members) (a b : List Data) → m ≡ n → HasMember m key (list a) → HasMember n key (list b) → a ≡ b
 one_list key m n a b same is other = list_of (list a) a b refl (one_value key m n (list a) (list b) same is other)
