@@ -1,19 +1,18 @@
 -- The containers that are declared, and the catalog that they make.
-use Rattle.std.proofs.Common.{◌≡◌, ◌≢◌, ℕ, zero, suc, ◌+◌, ◌<◌, ◌≤◌, List, [], ◌∷◌, ◌++◌, length, map, take, get_or, All, inl, inr, refl, sym, ap, ◌∙◌, subst, arith}
+use Rattle.std.proofs.Common.{◌≡◌, ◌≢◌, ℕ, zero, suc, ◌+◌, ◌<◌, ◌≤◌, List, [], ◌∷◌, length, map, take, get_or, All, inl, inr, refl, sym, ap, ◌∙◌, subst, arith}
 use Rattle.std.specs.Prelude.{slice_get}
-use Rattle.std.specs.List.{HoldsAt}
 use Rattle.std.proofs.lemmas.Bool.{cases_lt}
 use Rattle.std.proofs.lemmas.List.{take-map, take_all, length-take}
-use Rattle.std.proofs.lemmas.List.Elements.{All-push, All-take}
+use Rattle.std.proofs.lemmas.List.Elements.{All-take}
 use Rattle.std.proofs.lemmas.Option.{slice_get-get_or}
 use Rattle.serde_json.specs.Data.{Data}
 use Rattle.walter_base.specs.declared.catalog.Catalog.{Catalog}
 use Rattle.walter_base.specs.Catalogs.{Item, IsWrong, too_many, falls, nowhere, AreRight, AreRightBelow, containers_of}
 use Rattle.walter_scenario.specs.declared.place.Place.TheVariants.{Containers}
 use Rattle.walter_scenario.specs.Faults.{IsItem, HaveContainers}
-use Rattle.walter_scenario.specs.Fronts.{IsDeclared, SpellsNone, IsFront, IsCatalog}
-use Rattle.walter_scenario.specs.Parts.{list, container_spelled, AreContainers}
-use Rattle.walter_scenario.proofs.Spelling.{one_more, no_more, same_items, spelled_front}
+use Rattle.walter_scenario.specs.Fronts.{IsDeclared, IsFront, IsCatalog}
+use Rattle.walter_scenario.specs.Parts.{list, container_spelled}
+use Rattle.walter_scenario.proofs.Spelling.{no_more, same_items, spelled_front}
 use Rattle.walter_scenario.proofs.Wrong.{first_wrong}
 
 get_front : (n : ℕ) (items : List Item) (j : ℕ) → j < n → slice_get (take n items) j ≡ slice_get items j
@@ -64,30 +63,6 @@ same_container c d a b e =
 -- values spell one list of containers
 pub same_declared : (cs ds : List Item) → All IsDeclared cs → All IsDeclared ds → map container_spelled cs ≡ map container_spelled ds → cs ≡ ds
 same_declared cs ds a b e = same_items container_spelled IsDeclared same_container cs ds a b e
-
--- the front, where the next value spells no container
-pub front_ends : (values : List Data) (i : ℕ) (front : List Item) → i < length values → length front ≡ i → take i values ≡ map container_spelled front
-    → All IsDeclared front → HoldsAt SpellsNone values i → IsFront values front
-front_ends values i front h n e declared none =
-    let at : take (length front) values ≡ map container_spelled front = subst (λ k. take k values ≡ map container_spelled front) (sym n) e in
-    record {
-      within = omega (arith, n);
-      spelled = at;
-      declared = declared;
-      ends = λ less. subst (λ k. HoldsAt SpellsNone values k) (sym n) none;
-    }
-
--- the front, where there is no next value
-pub front_all : (values : List Data) (front : List Item) → length front ≡ length values → take (length values) values ≡ map container_spelled front
-    → All IsDeclared front → IsFront values front
-front_all values front n e declared =
-    let at : take (length front) values ≡ map container_spelled front = subst (λ k. take k values ≡ map container_spelled front) (sym n) e in
-    record {
-      within = omega (arith, n);
-      spelled = at;
-      declared = declared;
-      ends = λ less. absurd (omega (arith, n));
-    }
 
 -- the catalog of all values
 pub is_catalog : (sites : ℕ) (value : Data) (values : List Data) (front : List Item) (catalog : Catalog) → value ≡ list values → IsFront values front

@@ -5,3 +5,5 @@ pub mod Declared
 pub mod Sent
 pub mod Scripts
 pub mod Readings
+pub mod Uniqueness
+pub mod Stages

@@ -1,36 +1,19 @@
 -- From the values of the five keys to the scenario of the bytes, or to what is wrong with them.
-use Rattle.std.proofs.Common.{◌≡◌, ◌≢◌, ℕ, ◌≤◌, List, [], ◌∷◌, length, codes, Some, refl, sym, ap, ◌∙◌, subst}
+use Rattle.std.proofs.Common.{◌≡◌, ℕ, List, length, Some, refl, sym, ap, subst}
 use Rattle.serde_json.specs.Data.{Data}
 use Rattle.walter_base.specs.declared.catalog.Catalog.{Catalog}
-use Rattle.walter_scenario.specs.declared.place.Place.{Place}
-use Rattle.walter_scenario.specs.declared.place.Place.TheVariants.{Sites, F, Containers, Clients, Steps}
 use Rattle.walter_scenario.specs.declared.place.ReadFault.{ReadFault}
 use Rattle.walter_scenario.specs.declared.place.ReadFault.TheVariants.{Refused, NoMemory}
 use Rattle.walter_scenario.specs.declared.scenario.Client.{Client}
-use Rattle.walter_scenario.specs.declared.scenario.Scenario.{Scenario}
-use Rattle.walter_scenario.specs.declared.scenario.Step.{Step}
 use Rattle.walter_scenario.specs.Faults.{IsContainersFault, IsClientsFault, IsStepsFault}
 use Rattle.walter_scenario.specs.Fronts.{IsCatalog}
-use Rattle.walter_scenario.specs.Members.{five, five_of, IsReadingOf, IsFaultOf}
-use Rattle.walter_scenario.specs.Parts.{whole, list, AreClients, AreSteps}
-use Rattle.walter_scenario.specs.Scenarios.{HasKeys, HasSites, HasFaults, HasContainers, HasClients, IsReading, IsReadFault, IsRefusedAt}
-
-some : (a b : Data) → Some a ≡ Some b → a ≡ b
-some a b e = cc
-
--- another number of sites
-pub sites_refused : (clients containers faults sites steps : Data) → sites ≢ whole 1 → IsFaultOf (five clients containers faults sites steps) (Refused Sites)
-sites_refused clients containers faults sites steps other bytes has = (five clients containers faults sites steps, has, λ e. other (some _ _ e))
+use Rattle.walter_scenario.specs.Members.{five, IsFaultOf}
+use Rattle.walter_scenario.specs.Parts.{whole, list, AreClients}
+use Rattle.walter_scenario.specs.Scenarios.{HasKeys, HasSites, HasFaults, HasContainers, HasClients, IsRefusedAt}
 
 has_sites : (clients containers faults sites steps : Data) (bytes : List ℕ) → sites ≡ whole 1 → HasKeys bytes (five clients containers faults sites steps)
     → HasSites bytes (five clients containers faults sites steps)
 has_sites clients containers faults sites steps bytes one has = record { has_keys = has; one = ap Some one }
-
--- another number of sites that may be lost
-pub faults_refused : (clients containers faults sites steps : Data) → sites ≡ whole 1 → faults ≢ whole 0
-    → IsFaultOf (five clients containers faults sites steps) (Refused F)
-faults_refused clients containers faults sites steps one other bytes has =
-    (five clients containers faults sites steps, has_sites clients containers faults sites steps bytes one has, λ e. other (some _ _ e))
 
 has_faults : (clients containers faults sites steps : Data) (bytes : List ℕ) → sites ≡ whole 1 → faults ≡ whole 0
     → HasKeys bytes (five clients containers faults sites steps) → HasFaults bytes (five clients containers faults sites steps)
@@ -98,19 +81,3 @@ steps_fault clients containers faults sites steps catalog cs (Refused place) one
       refl,
       wrong.wrong,
     )
-
--- the scenario of the five values
-pub is_reading : (clients containers faults sites steps : Data) (s : Scenario) → sites ≡ whole 1 → faults ≡ whole 0 → IsCatalog 1 containers s.catalog
-    → HasClientsOf clients s.clients → ((values : List Data) × (steps ≡ list values) × AreSteps (length s.clients) values s.steps)
-    → IsReadingOf (five clients containers faults sites steps) s
-is_reading clients containers faults sites steps s one none is are script bytes has = record {
-  members = five clients containers faults sites steps;
-  declared = is.declared;
-  has_clients = has_clients clients containers faults sites steps s.catalog s.clients bytes one none is are has;
-  sites = is.of_sites;
-  faults = is.no_faults;
-  containers = is.containers;
-  values = script.0;
-  spelled = ap Some script.1;
-  are = script.2;
-}

@@ -1,8 +1,8 @@
 -- The steps of a script.
-use Rattle.std.proofs.Common.{◌≡◌, ◌≢◌, ℕ, ◌+◌, ◌<◌, List, [], ◌∷◌, ◌++◌, length, map, take, All, refl, sym, ap, ◌∙◌}
+use Rattle.std.proofs.Common.{◌≡◌, ◌≢◌, ℕ, ◌+◌, ◌<◌, List, [], ◌∷◌, ◌++◌, length, take, refl, sym, ap, ◌∙◌}
 use Rattle.std.specs.List.{HoldsAt}
 use Rattle.std.proofs.lemmas.List.{take-map}
-use Rattle.std.proofs.lemmas.List.Elements.{All-push, All-take, All-weaker}
+use Rattle.std.proofs.lemmas.List.Elements.{All-push, All-take}
 use Rattle.serde_json.specs.Data.{Data}
 use Rattle.walter_scenario.specs.declared.place.Place.TheVariants.{Steps}
 use Rattle.walter_scenario.specs.declared.scenario.Step.{Step}

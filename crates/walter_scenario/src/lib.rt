@@ -4,6 +4,7 @@
 mod clients;
 mod containers;
 mod faults;
+mod laws;
 mod lists;
 mod members;
 mod place;
@@ -13,6 +14,7 @@ mod steps;
 mod text;
 mod values;
 
+pub use laws::one_reading;
 pub use lists::{Clients, Steps};
 pub use place::{Place, ReadFault};
 pub use reading::read;

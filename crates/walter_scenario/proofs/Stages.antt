@@ -1,0 +1,151 @@
+-- How far bytes are right, stage by stage, and that they are first wrong at one place.
+use Rattle.std.proofs.Common.{◌≡◌, ℕ, zero, suc, ◌<◌, ◌≤◌, List, length, codes, inl, inr, refl, ap, subst, arith}
+use Rattle.std.proofs.lemmas.Bool.{cases_lt}
+use Rattle.serde_json.specs.Data.{Data, Members}
+use Rattle.walter_base.specs.Catalogs.{Item}
+use Rattle.walter_scenario.specs.declared.place.Place.{Place}
+use Rattle.walter_scenario.specs.declared.place.Place.TheVariants.{TooLong, Json, Key, Sites, F, Containers, Clients, Steps}
+use Rattle.walter_scenario.specs.declared.scenario.Client.{Client}
+use Rattle.walter_scenario.specs.declared.scenario.Scenario.{Scenario}
+use Rattle.walter_scenario.specs.Faults.{HaveContainers, HaveClients, HaveSteps}
+use Rattle.walter_scenario.specs.Parts.{whole, list, IsWrongAt}
+use Rattle.walter_scenario.specs.Scenarios.{keys_of, the_keys, HasMember, IsShort, IsObject, HasKeys, HasSites, HasFaults, HasContainers, HasClients, IsReading, IsRefusedAt}
+use Rattle.walter_scenario.proofs.Declared.{containers_closed}
+use Rattle.walter_scenario.proofs.Scripts.{steps_closed}
+use Rattle.walter_scenario.proofs.Sent.{clients_closed}
+use Rattle.walter_scenario.proofs.Uniqueness.{one_object, one_value, containers_object, one_of_clients}
+use Rattle.walter_scenario.proofs.Wrong.{right_nowhere, one_place}
+
+-- the bytes are right in so many stages
+abbrev Passed : ℕ → List ℕ → Type 0
+Passed zero bytes = Unit {0}
+Passed (suc zero) bytes = IsShort bytes
+Passed (suc (suc zero)) bytes = IsShort bytes × ((members : Members) × IsObject bytes members)
+Passed (suc (suc (suc zero))) bytes = (members : Members) × HasKeys bytes members
+Passed (suc (suc (suc (suc zero)))) bytes = (members : Members) × HasSites bytes members
+Passed (suc (suc (suc (suc (suc zero))))) bytes = (members : Members) × HasFaults bytes members
+Passed (suc (suc (suc (suc (suc (suc zero)))))) bytes = (members : Members) × (declared : List Item) × HasContainers bytes members declared
+Passed (suc (suc (suc (suc (suc (suc (suc zero))))))) bytes =
+    (members : Members) × (declared : List Item) × (clients : List Client) × HasClients bytes members declared clients
+Passed (suc (suc (suc (suc (suc (suc (suc (suc n)))))))) bytes =
+    (members : Members) × (declared : List Item) × (clients : List Client) × (values : List Data) × HasClients bytes members declared clients
+    × HasMember members (codes "steps") (list values) × HaveSteps (length clients) values
+
+-- the number of stages before the place's
+abbrev stage : Place → ℕ
+stage TooLong = 0
+stage Json = 1
+stage Key = 2
+stage Sites = 3
+stage F = 4
+stage (Containers place) = 5
+stage (Clients place) = 6
+stage (Steps place) = 7
+
+one_less : (bytes : List ℕ) (n : ℕ) → Passed (suc n) bytes → Passed n bytes
+one_less bytes zero p = tt
+one_less bytes (suc zero) p = p.0
+one_less bytes (suc (suc zero)) p = (p.1.short, (p.0, p.1.is_object))
+one_less bytes (suc (suc (suc zero))) p = (p.0, p.1.has_keys)
+one_less bytes (suc (suc (suc (suc zero)))) p = (p.0, p.1.has_sites)
+one_less bytes (suc (suc (suc (suc (suc zero))))) p = (p.0, p.2.has_faults)
+one_less bytes (suc (suc (suc (suc (suc (suc zero)))))) p = (p.0, p.1, p.3.has_containers)
+one_less bytes (suc (suc (suc (suc (suc (suc (suc zero))))))) p = (p.0, p.1, p.2, p.4)
+one_less bytes (suc (suc (suc (suc (suc (suc (suc (suc n)))))))) p = p
+
+fewer : (bytes : List ℕ) (m n : ℕ) → m ≤ n → Passed n bytes → Passed m bytes
+fewer bytes m zero h p = let same : 0 ≡ m = omega arith in subst (λ k. Passed k bytes) same p
+fewer bytes m (suc n) h p =
+    elim (cases_lt m (suc n)) [
+      | inl less ↦ fewer bytes m n (omega arith) (one_less bytes n p)
+      | inr all ↦ let same : suc n ≡ m = omega arith in subst (λ k. Passed k bytes) same p
+    ]
+
+-- what comes before a place that is refused is right
+reached : (bytes : List ℕ) (place : Place) → IsRefusedAt bytes place → Passed (stage place) bytes
+reached bytes TooLong is = tt
+reached bytes Json is = is.0
+reached bytes Key is = (is.0, (is.1.0, is.1.1))
+reached bytes Sites is = (is.0, is.1)
+reached bytes F is = (is.0, is.1)
+reached bytes (Containers place) is = (is.0, is.2)
+reached bytes (Clients place) is = (is.0, is.1, is.3)
+reached bytes (Steps place) is = (is.0, is.1, is.2, is.4)
+
+-- and it isn't
+stopped : (bytes : List ℕ) (place : Place) → IsRefusedAt bytes place → ¬ Passed (suc (stage place)) bytes
+stopped bytes TooLong is p = omega (arith, is, p)
+stopped bytes Json is p = is.1 p.1.0 p.1.1
+stopped bytes Key is p =
+    let same = one_object bytes p.0 is.1.0 p.1.is_object is.1.1 in
+    is.1.2 (subst (λ ms. keys_of ms ≡ the_keys) same p.1.keys)
+stopped bytes Sites is p =
+    let same = one_object bytes p.0 is.0 p.1.has_keys.is_object is.1.is_object in
+    is.2 (subst (λ ms. HasMember ms (codes "sites") (whole 1)) same p.1.one)
+stopped bytes F is p =
+    let same = one_object bytes p.0 is.0 p.1.has_sites.has_keys.is_object is.1.has_keys.is_object in
+    is.2 (subst (λ ms. HasMember ms (codes "f") (whole 0)) same p.1.none)
+stopped bytes (Containers place) is p =
+    let same = one_object bytes is.0 p.0 is.2.has_sites.has_keys.is_object (containers_object bytes p.0 p.1 p.2) in
+    let value = one_value (codes "containers") is.0 p.0 is.1 (list p.2.values) same is.3 p.2.spelled in
+    right_nowhere (HaveContainers 1) (containers_closed 1) is.1 p.2.values place value (p.1, p.2.are) is.4
+stopped bytes (Clients place) is p =
+    let same = one_object bytes is.0 p.0 (containers_object bytes is.0 is.1 is.3) (containers_object bytes p.0 p.1 p.3.has_containers) in
+    let value = one_value (codes "clients") is.0 p.0 is.2 (list p.3.values) same is.4 p.3.spelled in
+    right_nowhere (HaveClients 1) (clients_closed 1) is.2 p.3.values place value (p.2, p.3.are) is.5
+stopped bytes (Steps place) is p =
+    let same = one_object bytes is.0 p.0 (containers_object bytes is.0 is.1 is.4.has_containers) (containers_object bytes p.0 p.1 p.4.has_containers) in
+    let value = one_value (codes "steps") is.0 p.0 is.3 (list p.3) same is.5 p.5 in
+    let clients = one_of_clients bytes p.0 is.0 p.1 is.1 p.2 is.2 p.4 is.4 in
+    right_nowhere (HaveSteps (length is.2)) (steps_closed (length is.2)) is.3 p.3 place value
+    (subst (λ cs. HaveSteps (length cs) p.3) clients p.6) is.6
+
+few : (place : Place) → stage place < 8
+few TooLong = omega arith
+few Json = omega arith
+few Key = omega arith
+few Sites = omega arith
+few F = omega arith
+few (Containers place) = omega arith
+few (Clients place) = omega arith
+few (Steps place) = omega arith
+
+-- bytes that spell a scenario are refused nowhere
+pub read_nowhere_refused : (bytes : List ℕ) (s : Scenario) (place : Place) → IsReading bytes s → ¬ IsRefusedAt bytes place
+read_nowhere_refused bytes s place is refused =
+    let all : Passed 8 bytes = (is.members, is.declared, s.clients, is.values, is.has_clients, is.spelled, (s.steps, is.are)) in
+    stopped bytes place refused (fewer bytes (suc (stage place)) 8 (omega (arith, few place)) all)
+
+not_before : (bytes : List ℕ) (place other : Place) → IsRefusedAt bytes place → IsRefusedAt bytes other → ¬ (stage place < stage other)
+not_before bytes place other a b h = stopped bytes place a (fewer bytes (suc (stage place)) (stage other) (omega arith) (reached bytes other b))
+
+same_place : (bytes : List ℕ) (place other : Place) → stage place ≡ stage other → IsRefusedAt bytes place → IsRefusedAt bytes other → place ≡ other
+same_place bytes TooLong TooLong e a b = refl
+same_place bytes Json Json e a b = refl
+same_place bytes Key Key e a b = refl
+same_place bytes Sites Sites e a b = refl
+same_place bytes F F e a b = refl
+same_place bytes (Containers m) (Containers n) e a b =
+    let same = one_object bytes a.0 b.0 a.2.has_sites.has_keys.is_object b.2.has_sites.has_keys.is_object in
+    let value = one_value (codes "containers") a.0 b.0 a.1 b.1 same a.3 b.3 in
+    ap Containers (one_place (HaveContainers 1) (containers_closed 1) b.1 m n (subst (λ v. IsWrongAt (HaveContainers 1) v m) value a.4) b.4)
+same_place bytes (Clients m) (Clients n) e a b =
+    let same = one_object bytes a.0 b.0 (containers_object bytes a.0 a.1 a.3) (containers_object bytes b.0 b.1 b.3) in
+    let value = one_value (codes "clients") a.0 b.0 a.2 b.2 same a.4 b.4 in
+    ap Clients (one_place (HaveClients 1) (clients_closed 1) b.2 m n (subst (λ v. IsWrongAt (HaveClients 1) v m) value a.5) b.5)
+same_place bytes (Steps m) (Steps n) e a b =
+    let same = one_object bytes a.0 b.0 (containers_object bytes a.0 a.1 a.4.has_containers) (containers_object bytes b.0 b.1 b.4.has_containers) in
+    let value = one_value (codes "steps") a.0 b.0 a.3 b.3 same a.5 b.5 in
+    let clients = one_of_clients bytes a.0 b.0 a.1 b.1 a.2 b.2 a.4 b.4 in
+    let wrong = subst (λ v. IsWrongAt (HaveSteps (length a.2)) v m) value a.6 in
+    ap Steps (one_place (HaveSteps (length b.2)) (steps_closed (length b.2)) b.3 m n
+    (subst (λ cs. IsWrongAt (HaveSteps (length cs)) b.3 m) clients wrong) b.6)
+same_place bytes place other e a b = absurd (omega (arith, e))
+
+-- bytes are refused at one place
+pub one_refused : (bytes : List ℕ) (place other : Place) → IsRefusedAt bytes place → IsRefusedAt bytes other → place ≡ other
+one_refused bytes place other a b =
+    let below = not_before bytes place other a b in
+    let above = not_before bytes other place b a in
+    let same : stage place ≡ stage other = omega (arith, below, above) in
+    same_place bytes place other same a b
