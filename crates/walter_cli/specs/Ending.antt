@@ -1,13 +1,13 @@
 -- What the parts of a call of the program come to.
 use Rattle.std.specs.Prelude.{◌≡◌, ◌<◌, ◌⊎◌, ℕ, List, [], Option, Some, None}
-use Rattle.walter_site.specs.declared.trail.Entry.{Entry}
+use Rattle.walter_report.specs.Reports.{report_text}
+use Rattle.walter_scenario.specs.declared.scenario.Scenario.{Scenario}
+use Rattle.walter_scenario.specs.Scenarios.{IsReading}
 use Rattle.walter_stream.specs.Streams.{Appends, AppendsFront}
+use Rattle.walter_trail.specs.declared.trail.Entry.{Entry}
 use Rattle.walter_cli.specs.declared.ended.Fault.{Fault}
 use Rattle.walter_cli.specs.declared.ended.Fault.TheVariants.{Usage, Scenario as ScenarioFault, Read, Write, Memory}
-use Rattle.walter_cli.specs.declared.scenario.Scenario.{Scenario}
 use Rattle.walter_cli.specs.Headline.{IsSource, HasNoReading, IsRun, IsWholeRun}
-use Rattle.walter_cli.specs.Reports.{report_text}
-use Rattle.walter_cli.specs.Scenarios.{IsReading}
 
 -- the scenario is a reading of the bytes of the source
 pub record IsTaken (before after : Option (List ℕ)) (s : Scenario) : Type 0 where
@@ -18,7 +18,7 @@ pub record IsTaken (before after : Option (List ℕ)) (s : Scenario) : Type 0 wh
 -- why no scenario was taken from a source that had failed so often, and has now
 abbrev pub IsTakeFault : Option (List ℕ) → Option (List ℕ) → ℕ → ℕ → Fault → Type 0
 IsTakeFault before after faults faults' Usage = ⊥
-IsTakeFault before after faults faults' (ScenarioFault place) = HasNoReading before after
+IsTakeFault before after faults faults' (ScenarioFault place) = HasNoReading before after place
 IsTakeFault before after faults faults' Read = faults < faults'
 IsTakeFault before after faults faults' Write = ⊥
 IsTakeFault before after faults faults' Memory = Unit {0}

@@ -1,48 +1,48 @@
 -- How a run is driven: by the steps of the scenario, in order.
-use Rattle.std.specs.Prelude.{◌≡◌, ℕ, zero, suc, List, [], ◌∷◌, ◌++◌, flat_map, All}
-use Rattle.walter_base.specs.declared.message.Request.{Request}
+use Rattle.std.specs.Prelude.{◌≡◌, ◌<◌, ◌≤◌, ℕ, List, [], ◌∷◌, ◌++◌, length, slice_get, Some, All}
 use Rattle.walter_base.specs.declared.names.SiteId.{SiteId}
-use Rattle.walter_site.specs.declared.trail.Entry.{Entry}
-use Rattle.walter_site.specs.declared.trail.TrailEvent.{TrailEvent}
-use Rattle.walter_site.specs.declared.trail.TrailEvent.TheVariants.{Call, Restart}
-use Rattle.walter_site.specs.Trails.{opening}
+use Rattle.walter_conn.specs.Frames.{Call}
+use Rattle.walter_conn.specs.Sequences.{AreCalls, AreAllCalls}
+use Rattle.walter_scenario.specs.declared.scenario.Client.{Client}
+use Rattle.walter_scenario.specs.declared.scenario.Scenario.{Scenario}
+use Rattle.walter_scenario.specs.declared.scenario.Step.{Step}
+use Rattle.walter_scenario.specs.declared.scenario.Step.TheVariants as step
+use Rattle.walter_trail.specs.declared.trail.Entry.{Entry}
+use Rattle.walter_trail.specs.declared.trail.TrailEvent.{TrailEvent}
+use Rattle.walter_trail.specs.declared.trail.TrailEvent.TheVariants as event
+use Rattle.walter_trail.specs.Trails.{opening, calls_of}
 
--- the one site
-abbrev pub the_site : SiteId
-the_site = record { 0 = 0 }
+-- a trail has no place for another entry
+abbrev pub IsSpent : List Entry → Type 0
+IsSpent trail = 100000 ≤ length trail
 
--- the entry is of this request
-abbrev pub IsEntryOf : Request → Entry → Type 0
-IsEntryOf request e = e.event ≡ Call 0 request
+-- the turn of a client that sends these bytes: its next call comes to the trail; nothing does where it has made all its
+-- calls, or where the trail is spent
+pub data IsTurn (client : ℕ) (bytes : List ℕ) (old new : List Entry) : Type 0 where
+  spent : IsSpent old → new ≡ old → IsTurn client bytes old new
+  over : length old < 100000 → AreAllCalls bytes (calls_of client old) → new ≡ old → IsTurn client bytes old new
+  served : length old < 100000 → (e : Entry) (call : Call) (rest : List ℕ) → new ≡ old ++ e ∷ [] → e.event ≡ event.Call client call
+      → AreCalls bytes (calls_of client new) rest → IsTurn client bytes old new
 
--- each turn adds one entry, of the client's next request; it adds none once the client has asked all
-abbrev pub Turns : ℕ → List Request → List Entry → Type 0
-Turns zero requests entries = entries ≡ []
-Turns (suc turns) [] entries = Turns turns [] entries
-Turns (suc turns) (request ∷ requests) [] = ⊥
-Turns (suc turns) (request ∷ requests) (e ∷ entries) = IsEntryOf request e × Turns turns requests entries
+-- a step is the turn of its client
+abbrev pub Takes : List Client → Step → (old new : List Entry) → Type 0
+Takes clients (step.Call number) old new = (client : Client) × (slice_get clients number ≡ Some client) × IsTurn number client.bytes old new
 
--- the trail of a run: the opening, then the turns
-pub record IsPlayed (turns : ℕ) (requests : List Request) (trail : List Entry) : Type 0 where
-  pub entries : List Entry
-  pub begins : trail ≡ opening ∷ entries
-  pub driven : Turns turns requests entries
+-- the steps are taken in order
+abbrev pub Plays : List Client → List Step → (old new : List Entry) → Type 0
+Plays clients [] old new = new ≡ old
+Plays clients (step ∷ steps) old new = (next : List Entry) × Takes clients step old next × Plays clients steps next new
 
--- the requests of the calls in a trail, in order
-abbrev pub asked_by : TrailEvent → List Request
-asked_by (Call client request) = request ∷ []
-asked_by Restart = []
+-- so the trail of a run comes of the opening
+abbrev pub IsPlayed : Scenario → List Entry → Type 0
+IsPlayed s trail = Plays s.clients s.steps (opening ∷ []) trail
 
-abbrev pub asked : List Entry → List Request
-asked trail = flat_map (λ e. asked_by e.event) trail
+-- a call is of one of so many clients
+abbrev pub IsOfClients : ℕ → TrailEvent → Type 0
+IsOfClients clients (event.Call client call) = client < clients
+IsOfClients clients event.Restart = Unit {0}
 
--- the calls of a trail are the client's
-abbrev pub IsOfClient : TrailEvent → Type 0
-IsOfClient (Call client request) = client ≡ 0
-IsOfClient Restart = Unit {0}
-
--- each call is of the one client, and what was asked is the front of what the client has to ask
-pub record AreCallsOf (requests : List Request) (trail : List Entry) : Type 0 where
-  pub client : All (λ e. IsOfClient e.event) trail
-  pub later : List Request
-  pub front : asked trail ++ later ≡ requests
+-- each call in the trail is of a client of the scenario, and the calls of each client are the first ones of its bytes
+pub record AreCallsOf (clients : List Client) (trail : List Entry) : Type 0 where
+  pub within : All (λ e. IsOfClients (length clients) e.event) trail
+  pub front : (number : ℕ) (client : Client) → slice_get clients number ≡ Some client → (rest : List ℕ) × AreCalls client.bytes (calls_of number trail) rest

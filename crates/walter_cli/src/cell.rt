@@ -1,107 +1,83 @@
-ghost use Rattle.std.specs.Prelude.{◌≡◌, ◌<◌, ◌+◌, [], ◌∷◌, ◌++◌, length, OnOk, OnErr, IfOk};
+ghost use Rattle.std.specs.Prelude.{◌≡◌, ◌≢◌, ◌<◌, ℕ, List, slice_get, length, OnErr, IfOk};
 
+use crate::handling::handle;
+use crate::line::{Line, next_call, put_reply};
 use std::alloc::Global;
-use walter_base::{Mem, NoMemory, Record, Refusal, Reply, Request, SiteId};
-use walter_site::{Entry, Input, Outcome, Plan, Site, Trail, TrailEvent};
+use walter_base::Mem;
+use walter_conn::Next;
+use walter_site::Site;
+use walter_trail::{Entry, Trail};
 
-/// The one site with its trail.
-#[derive(Debug, Drop)]
-pub struct Cell {
-    pub site: Site,
-    pub trail: Trail,
+/// The most entries that a trail may have.
+const MOST_ENTRIES: usize = 100_000;
+
+/// What a client's turn came to.
+#[derive(Clone, Copy, Debug, PartialEq, Eq)]
+pub enum Serve {
+    /// One call was read, and answered.
+    Served,
+    /// No call follows.
+    Ended,
+    /// The client's bytes end inside a frame.
+    Broken,
+    /// The trail has no place for another entry.
+    Spent,
 }
 
-// What an entry takes from a plan, beside the plan itself.
+/// A site with its trail, and the connections of its clients by their numbers.
 #[derive(Drop)]
-struct Planned {
-    plan: Plan,
-    wrote: Option<Record>,
-    reply: Reply,
+pub struct Cell {
+    pub site: Site,
+    pub entries: Vec<Entry>,
+    pub lines: Vec<Line>,
 }
 
 impl Cell {
-    ghost use Rattle.walter_base.specs.declared.message.Request.{Request};
-    ghost use Rattle.walter_site.specs.declared.trail.Entry.{Entry};
-    ghost use Rattle.walter_site.specs.Sites.{known, site_of, event_of, expected, IsPlan, HasRoom, CanCount};
-    ghost use Rattle.walter_site.specs.Trails.{entry_of, opening};
-    ghost use Rattle.walter_cli.specs.Cells.{IsCell};
-    ghost use Rattle.walter_cli.specs.Plays.{IsEntryOf};
-
-    /// The site as its first restart leaves it.
-    pub fn build(alloc: Global) -> Mem<Cell>
-        ensures cell { IfOk result IsCell }
-        ensures trail { IfOk result (λ cell. cell.trail ≡ opening ∷ []) }
-    {
-        let mut trail = Trail::new(alloc);
-        trail.push(Entry {
-            stamp: 1,
-            event: TrailEvent::Restart,
-            outcome: Outcome::Taken,
-            wrote: Some(Record::Boot(1)),
-        })?;
-        let site = Site::booted(alloc, SiteId(0), 1);
-        Ok(Cell { site, trail })
-    }
+    ghost use Rattle.walter_site.specs.Sites.{catalog_of};
+    ghost use Rattle.walter_trail.specs.Trails.{calls_of};
+    ghost use Rattle.walter_cli.specs.Cells.{IsKnown, IsLineAt, Grows, TurnsTo};
 
     /// The trail so far.
     pub fn into_trail(self) -> Trail
-        ensures { result ≡ self.trail }
+        ensures { result ≡ self.entries.items }
     {
-        self.trail
+        Trail::from(self.entries)
     }
 
-    /// Serves a request of the client: one entry comes to the trail, or none where memory runs out.
-    pub fn serve(&mut self, request: Request) -> Mem<()>
-        requires cell { IsCell self.old }
-        requires room { length self.old.trail < 100000 }
-        ensures cell { IsCell self.new }
-        ensures ok { OnOk result ((e : Entry) × (self.new.trail ≡ self.old.trail ++ e ∷ []) × IsEntryOf request e) }
-        ensures err { OnErr result (self.new.trail ≡ self.old.trail) }
+    /// Gives the client its turn: one entry comes to the trail, or none where no call follows, where the trail is spent,
+    /// or where memory runs out before the call is read.
+    pub fn serve(&mut self, alloc: Global, number: u32) -> Mem<Serve>
+        requires known { IsKnown self.old.site self.old.entries.items }
+        requires within { number < length self.old.lines.items }
+        ensures known { IsKnown self.new.site self.new.entries.items }
+        ensures catalog { catalog_of self.new.site ≡ catalog_of self.old.site }
+        ensures grows { Grows number self.old.entries.items self.new.entries.items }
+        ensures kept { OnErr result (self.new.entries.items ≡ self.old.entries.items) }
+        ensures turn { (bytes : List ℕ) → IsLineAt bytes (calls_of number self.old.entries.items) self.old.lines.items number
+            → IfOk result (TurnsTo number bytes self.old.entries.items self.new.entries.items) }
+        ensures line { (bytes : List ℕ) → IsLineAt bytes (calls_of number self.old.entries.items) self.old.lines.items number
+            → IsLineAt bytes (calls_of number self.new.entries.items) self.new.lines.items number }
+        ensures others { (other : ℕ) → other ≢ number → slice_get self.new.lines.items other ≡ slice_get self.old.lines.items other }
+        ensures long { length self.new.lines.items ≡ length self.old.lines.items }
     {
-        let input = Input::Call { client: 0, request };
-        match self.planned(&input) {
-            Ok(Planned { plan, wrote, reply }) => {
-                self.enter(input, wrote, reply)?;
-                self.site.apply(plan);
-                Ok(())
-            }
-            Err(NoMemory) => self.enter(input, None, Reply::Refused(Refusal::Memory)),
+        if self.entries.len() >= MOST_ENTRIES {
+            return Ok(Serve::Spent);
         }
-    }
-
-    // The plan for an input, with copies of its record and its reply for the trail.
-    fn planned(&mut self, input: &Input) -> Mem<Planned>
-        requires { CanCount (site_of self.old.site) (known self.old.site) }
-        ensures plan { IfOk result (λ p. IsPlan (site_of self.old.site) (known self.old.site) input.now p.plan) }
-        ensures room { IfOk result (λ p. HasRoom self.new.site p.plan) }
-        ensures wrote { IfOk result (λ p. p.wrote ≡ p.plan.rec) }
-        ensures reply { IfOk result (λ p. p.reply ≡ p.plan.reply) }
-        ensures same { known self.new.site ≡ known self.old.site }
-        ensures site { site_of self.new.site ≡ site_of self.old.site }
-        ensures trail { self.new.trail ≡ self.old.trail }
-    {
-        let plan = self.site.plan(input)?;
-        let wrote = match &plan.rec {
-            Some(rec) => Some(rec.clone()?),
-            None => None,
+        self.entries.reserve(1)?;
+        let line = &mut self.lines[number as usize];
+        let call = match next_call(line, alloc)? {
+            Next::Ended => return Ok(Serve::Ended),
+            Next::Broken => return Ok(Serve::Broken),
+            Next::Frame(call) => call,
         };
-        let reply = plan.reply.clone()?;
-        Ok(Planned { plan, wrote, reply })
-    }
-
-    // Puts the entry of an input with the next stamp at the end of the trail.
-    fn enter(&mut self, input: Input, wrote: Option<Record>, reply: Reply) -> Mem<()>
-        requires { length self.old.trail < 100000 }
-        ensures ok { OnOk result (self.new.trail ≡ self.old.trail ++ entry_of (length self.old.trail + 1) (event_of input) (expected (wrote, reply)) ∷ []) }
-        ensures err { OnErr result (self.new.trail ≡ self.old.trail) }
-        ensures site { self.new.site ≡ self.old.site }
-    {
-        let Input::Call { client, request } = input;
-        self.trail.push(Entry {
-            stamp: self.trail.len() as u64 + 1,
-            event: TrailEvent::Call { client, request },
-            outcome: Outcome::Replied(reply),
-            wrote,
+        let stamp = self.entries.len() as u64 + 1;
+        let entry = handle(&mut self.site, stamp, number, call);
+        let written = put_reply(line, &entry.outcome);
+        self.entries.push_reserved(entry);
+        Ok(if written.is_ok() {
+            Serve::Served
+        } else {
+            Serve::Broken
         })
     }
 }

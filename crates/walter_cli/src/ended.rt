@@ -2,15 +2,8 @@ ghost use Rattle.std.specs.Prelude.{◌≡◌, [], Some};
 
 use std::alloc::Global;
 use thiserror::Error;
-use walter_site::Trail;
-
-/// The place of a scenario at which it has no reading.
-#[derive(Clone, Copy, Debug, PartialEq, Eq, Error)]
-pub enum Place {
-    /// The bytes aren't of the one form that can be played.
-    #[error("the bytes aren't of the one form that can be played")]
-    Unbuilt,
-}
+use walter_scenario::Place;
+use walter_trail::Trail;
 
 /// Why a run wrote no whole report.
 #[derive(Clone, Copy, Debug, PartialEq, Eq, Error)]

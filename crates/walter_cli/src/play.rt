@@ -1,39 +1,36 @@
-ghost use Rattle.std.specs.Prelude.{◌≡◌, ◌≤◌, ◌<◌, ◌+◌, [], ◌∷◌, OnOk, OnErr};
-ghost use Rattle.walter_site.specs.Trails.{opening};
+ghost use Rattle.std.specs.Prelude.{◌≡◌, [], ◌∷◌, length, All, OnOk};
+ghost use Rattle.walter_scenario.specs.Parts.{IsStep};
+ghost use Rattle.walter_trail.specs.Trails.{opening};
 ghost use Rattle.walter_cli.specs.Cells.{IsCell};
-ghost use Rattle.walter_cli.specs.Plays.{AreCallsOf, IsPlayed};
+ghost use Rattle.walter_cli.specs.Plays.{Takes, IsPlayed};
 
 use crate::cell::Cell;
-use crate::scenario::Scenario;
-use walter_base::{Mem, Request};
+use std::alloc::Global;
+use walter_base::Mem;
+use walter_scenario::{Scenario, Step};
 
-/// Takes the turns of the scenario in order. Where memory runs out, the turns so far stand.
-#[tactic(auto, using(crate::proofs::Turning::played_calls, crate::proofs::Turning::played_none))]
-pub fn play(cell: &mut Cell, scenario: &Scenario) -> Mem<()>
-    requires cell { IsCell cell.old }
-    requires opening { cell.old.trail ≡ opening ∷ [] }
-    requires few { scenario.now.turns ≤ 1000 }
-    ensures cell { IsCell cell.new }
-    ensures calls { AreCallsOf scenario.now.requests cell.new.trail }
-    ensures played { OnOk result (IsPlayed scenario.now.turns scenario.now.requests cell.new.trail) }
+/// Takes the steps of the scenario in order. Where memory runs out, the steps so far stand.
+pub fn play(alloc: Global, cell: &mut Cell, scenario: &Scenario) -> Mem<()>
+    requires cell { IsCell scenario.now cell.old }
+    requires opening { cell.old.entries.items ≡ opening ∷ [] }
+    requires steps { All (IsStep (length scenario.now.clients)) scenario.now.steps }
+    ensures cell { IsCell scenario.now cell.new }
+    ensures played { OnOk result (IsPlayed scenario.now cell.new.entries.items) }
 {
-    for turn in 0..scenario.turns {
-        take_turn(cell, scenario.requests.as_slice(), turn)?;
+    for step in scenario.steps.as_slice() {
+        take_step(alloc, cell, scenario, *step)?;
     }
     Ok(())
 }
 
-// The turn behind so many others: the client's next request, if there is one.
-fn take_turn(cell: &mut Cell, requests: &[Request], turn: usize) -> Mem<()>
-    requires cell { IsCell cell.old }
-    requires so_far { IsPlayed turn requests.now cell.old.trail }
-    requires few { turn < 1000 }
-    ensures cell { IsCell cell.new }
-    ensures ok { OnOk result (IsPlayed (turn + 1) requests.now cell.new.trail) }
-    ensures err { OnErr result (IsPlayed turn requests.now cell.new.trail) }
+// Takes a step.
+fn take_step(alloc: Global, cell: &mut Cell, scenario: &Scenario, step: Step) -> Mem<()>
+    requires cell { IsCell scenario.now cell.old }
+    requires there { IsStep (length scenario.now.clients) step }
+    ensures cell { IsCell scenario.now cell.new }
+    ensures took { OnOk result (Takes scenario.now.clients step cell.old.entries.items cell.new.entries.items) }
 {
-    if let Some(request) = requests.get(turn) {
-        cell.serve(request.clone()?)?;
-    }
+    let Step::Call(client) = step;
+    cell.serve(alloc, client)?;
     Ok(())
 }

@@ -1,9 +1,9 @@
 ghost use Rattle.std.specs.Prelude.{◌≡◌, IfOk, IfErr};
 ghost use Rattle.walter_cli.specs.Ending.{IsTaken, IsTakeFault};
 
-use crate::ended::{Fault, Place};
-use crate::scenario::{LONGEST_TEXT, ReadFault, Scenario, read};
+use crate::ended::Fault;
 use std::alloc::Global;
+use walter_scenario::{LONGEST_TEXT, Place, ReadFault, Scenario, read};
 use walter_stream::{ReadError, Source, read_to_end};
 
 /// The scenario that the bytes of the source spell, read to their end.
@@ -13,17 +13,17 @@ pub fn take_scenario<S: Source>(alloc: Global, source: &mut S) -> Result<Scenari
 {
     let bytes = match read_to_end(alloc, source, LONGEST_TEXT) {
         Ok(bytes) => bytes,
-        Err(ReadError::TooLong) => return Err(Fault::Scenario {
-            place: Place::Unbuilt,
-        }),
+        Err(ReadError::TooLong) => {
+            return Err(Fault::Scenario {
+                place: Place::TooLong,
+            });
+        }
         Err(ReadError::Failed) => return Err(Fault::Read),
         Err(ReadError::NoMemory) => return Err(Fault::Memory),
     };
     match read(alloc, &bytes) {
         Ok(scenario) => Ok(scenario),
-        Err(ReadFault::Unbuilt) => Err(Fault::Scenario {
-            place: Place::Unbuilt,
-        }),
+        Err(ReadFault::Refused { place }) => Err(Fault::Scenario { place }),
         Err(ReadFault::NoMemory) => Err(Fault::Memory),
     }
 }
