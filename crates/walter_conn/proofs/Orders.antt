@@ -1,4 +1,4 @@
--- Bytes call for one list of calls, in one order.
+-- Bytes call for one list of calls at most, in one order.
 use Rattle.std.proofs.Common.{◌≡◌, ◌⊎◌, ℕ, List, [], ◌∷◌, ◌++◌, refl, sym, ap, subst, ◌∙◌, inl, inr, append_assoc, append-nil}
 use Rattle.walter_conn.specs.Frames.{Call}
 use Rattle.walter_conn.specs.Sequences.{BeginsWith, BeginsTooLong, AreFrames, EndTooLong, AreCalls, AreAllCalls, IsFrontOf, ended, cut, too_long}

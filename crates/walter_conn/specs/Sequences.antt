@@ -1,5 +1,5 @@
 -- What a client's bytes call for, in order, and how far they were read (docs/FORMATS.md, "Frames of a client").
-use Rattle.std.specs.Prelude.{◌≡◌, ◌⊎◌, ◌≤◌, ℕ, List, [], ◌∷◌, ◌++◌, length, Option, Some, Err}
+use Rattle.std.specs.Prelude.{◌≡◌, ◌⊎◌, ◌≤◌, ℕ, List, [], ◌∷◌, ◌++◌, length, Some, Err}
 use Rattle.walter_conn.specs.Calls.{Incoming}
 use Rattle.walter_conn.specs.Frames.{frame, Call, IsCallOf, IsTooLong, IsBegun}
 use Rattle.walter_conn.specs.declared.state.State.{State}

@@ -4,7 +4,7 @@ ghost use Rattle.walter_conn.specs.Frames.{Call};
 ghost use Rattle.walter_conn.specs.Sequences.{AreCalls, AreAllCalls, IsFrontOf, Stands};
 ghost use Rattle.walter_conn.specs.declared.state.State.TheVariants.{Broken};
 
-/// Bytes call for one list of calls, in one order.
+/// Bytes call for one list of calls at most, in one order.
 pub fn calls_in_order()
     ensures one { (bytes : List ℕ) (some others : List Call) (rest left : List ℕ)
         → AreCalls bytes some rest → AreCalls bytes others left
