@@ -1,6 +1,5 @@
 -- From what is wrong with the values of the five keys to what is wrong with the bytes.
 use Rattle.std.proofs.Common.{◌≡◌, ℕ, List, length, Some, refl, sym, ap, subst}
-use Rattle.serde_json.specs.Data.{Data}
 use Rattle.serde_json.specs.View.{view}
 use Rattle.walter_base.specs.declared.catalog.Catalog.{Catalog}
 use Rattle.walter_scenario.specs.declared.members.Parts.{Parts}
@@ -8,9 +7,9 @@ use Rattle.walter_scenario.specs.declared.place.ReadFault.{ReadFault}
 use Rattle.walter_scenario.specs.declared.place.ReadFault.TheVariants.{Refused, NoMemory}
 use Rattle.walter_scenario.specs.declared.scenario.Client.{Client}
 use Rattle.walter_scenario.specs.Faults.{IsContainersFault, IsClientsFault, IsStepsFault}
-use Rattle.walter_scenario.specs.Fronts.{IsCatalog}
+use Rattle.walter_scenario.specs.Fronts.{IsCatalog, ListsClients}
 use Rattle.walter_scenario.specs.Members.{five_of, IsFaultOf}
-use Rattle.walter_scenario.specs.Parts.{whole, list, AreClients}
+use Rattle.walter_scenario.specs.Parts.{whole}
 use Rattle.walter_scenario.specs.Scenarios.{HasKeys, HasFaults, HasContainers, HasClients, IsRefusedAt}
 
 -- one site, of which none may be lost
@@ -46,12 +45,8 @@ clients_fault parts catalog (Refused place) numbers is wrong bytes keys =
     subst (IsRefusedAt bytes) (sym wrong.named)
     (five_of parts, is.declared, view parts.clients.now, has_containers parts catalog bytes numbers is keys, refl, wrong.wrong)
 
--- the clients that the value spells
-abbrev pub HasClientsOf : Data → List Client → Type 0
-HasClientsOf value clients = (values : List Data) × (value ≡ list values) × AreClients 1 values clients
-
 has_clients : (parts : Parts) (catalog : Catalog) (clients : List Client) (bytes : List ℕ) → HasNumbers parts
-    → (is : IsCatalog 1 (view parts.containers.now) catalog) → HasClientsOf (view parts.clients.now) clients → HasKeys bytes (five_of parts)
+    → (is : IsCatalog 1 (view parts.containers.now) catalog) → ListsClients 1 (view parts.clients.now) clients → HasKeys bytes (five_of parts)
     → HasClients bytes (five_of parts) is.declared clients
 has_clients parts catalog clients bytes numbers is are keys = record {
   has_containers = has_containers parts catalog bytes numbers is keys;
@@ -62,7 +57,7 @@ has_clients parts catalog clients bytes numbers is are keys = record {
 
 -- a fault of the steps
 pub steps_fault : (parts : Parts) (catalog : Catalog) (clients : List Client) (fault : ReadFault) → HasNumbers parts
-    → IsCatalog 1 (view parts.containers.now) catalog → HasClientsOf (view parts.clients.now) clients
+    → IsCatalog 1 (view parts.containers.now) catalog → ListsClients 1 (view parts.clients.now) clients
     → IsStepsFault (length clients) (view parts.steps.now) fault → IsFaultOf (five_of parts) fault
 steps_fault parts catalog clients NoMemory numbers is are wrong bytes keys = tt
 steps_fault parts catalog clients (Refused place) numbers is are wrong bytes keys =
