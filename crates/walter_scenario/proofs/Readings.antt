@@ -1,83 +1,65 @@
--- From the values of the five keys to the scenario of the bytes, or to what is wrong with them.
+-- From what is wrong with the values of the five keys to what is wrong with the bytes.
 use Rattle.std.proofs.Common.{◌≡◌, ℕ, List, length, Some, refl, sym, ap, subst}
-use Rattle.serde_json.specs.Data.{Data}
+use Rattle.serde_json.specs.View.{view}
 use Rattle.walter_base.specs.declared.catalog.Catalog.{Catalog}
+use Rattle.walter_scenario.specs.declared.members.Parts.{Parts}
 use Rattle.walter_scenario.specs.declared.place.ReadFault.{ReadFault}
 use Rattle.walter_scenario.specs.declared.place.ReadFault.TheVariants.{Refused, NoMemory}
 use Rattle.walter_scenario.specs.declared.scenario.Client.{Client}
 use Rattle.walter_scenario.specs.Faults.{IsContainersFault, IsClientsFault, IsStepsFault}
-use Rattle.walter_scenario.specs.Fronts.{IsCatalog}
-use Rattle.walter_scenario.specs.Members.{five, IsFaultOf}
-use Rattle.walter_scenario.specs.Parts.{whole, list, AreClients}
-use Rattle.walter_scenario.specs.Scenarios.{HasKeys, HasSites, HasFaults, HasContainers, HasClients, IsRefusedAt}
+use Rattle.walter_scenario.specs.Fronts.{IsCatalog, ListsClients}
+use Rattle.walter_scenario.specs.Members.{five_of, IsFaultOf}
+use Rattle.walter_scenario.specs.Parts.{whole}
+use Rattle.walter_scenario.specs.Scenarios.{HasKeys, HasFaults, HasContainers, HasClients, IsRefusedAt}
 
-has_sites : (clients containers faults sites steps : Data) (bytes : List ℕ) → sites ≡ whole 1 → HasKeys bytes (five clients containers faults sites steps)
-    → HasSites bytes (five clients containers faults sites steps)
-has_sites clients containers faults sites steps bytes one has = record { has_keys = has; one = ap Some one }
+-- one site, of which none may be lost
+pub record HasNumbers (parts : Parts) : Type 0 where
+  pub one : view parts.sites.now ≡ whole 1
+  pub none : view parts.faults.now ≡ whole 0
 
-has_faults : (clients containers faults sites steps : Data) (bytes : List ℕ) → sites ≡ whole 1 → faults ≡ whole 0
-    → HasKeys bytes (five clients containers faults sites steps) → HasFaults bytes (five clients containers faults sites steps)
-has_faults clients containers faults sites steps bytes one none has =
-    record { has_sites = has_sites clients containers faults sites steps bytes one has; none = ap Some none }
+has_faults : (parts : Parts) (bytes : List ℕ) → HasNumbers parts → HasKeys bytes (five_of parts) → HasFaults bytes (five_of parts)
+has_faults parts bytes numbers keys = record { has_sites = record { has_keys = keys; one = ap Some numbers.one }; none = ap Some numbers.none }
 
 -- a fault of the containers
-pub containers_fault : (clients containers faults sites steps : Data) (fault : ReadFault) → sites ≡ whole 1 → faults ≡ whole 0
-    → IsContainersFault 1 containers fault → IsFaultOf (five clients containers faults sites steps) fault
-containers_fault clients containers faults sites steps NoMemory one none wrong bytes has = tt
-containers_fault clients containers faults sites steps (Refused place) one none wrong bytes has =
+pub containers_fault : (parts : Parts) (fault : ReadFault) → HasNumbers parts → IsContainersFault 1 (view parts.containers.now) fault
+    → IsFaultOf (five_of parts) fault
+containers_fault parts NoMemory numbers wrong bytes keys = tt
+containers_fault parts (Refused place) numbers wrong bytes keys =
     subst (IsRefusedAt bytes) (sym wrong.named)
-    (five clients containers faults sites steps, containers, has_faults clients containers faults sites steps bytes one none has, refl, wrong.wrong)
+    (five_of parts, view parts.containers.now, has_faults parts bytes numbers keys, refl, wrong.wrong)
 
-has_containers : (clients containers faults sites steps : Data) (catalog : Catalog) (bytes : List ℕ) → sites ≡ whole 1 → faults ≡ whole 0
-    → (is : IsCatalog 1 containers catalog) → HasKeys bytes (five clients containers faults sites steps)
-    → HasContainers bytes (five clients containers faults sites steps) is.declared
-has_containers clients containers faults sites steps catalog bytes one none is has = record {
-  has_faults = has_faults clients containers faults sites steps bytes one none has;
+has_containers : (parts : Parts) (catalog : Catalog) (bytes : List ℕ) → HasNumbers parts → (is : IsCatalog 1 (view parts.containers.now) catalog)
+    → HasKeys bytes (five_of parts) → HasContainers bytes (five_of parts) is.declared
+has_containers parts catalog bytes numbers is keys = record {
+  has_faults = has_faults parts bytes numbers keys;
   values = is.values;
   spelled = ap Some is.spelled;
   are = is.are;
 }
 
 -- a fault of the clients
-pub clients_fault : (clients containers faults sites steps : Data) (catalog : Catalog) (fault : ReadFault) → sites ≡ whole 1 → faults ≡ whole 0
-    → IsCatalog 1 containers catalog → IsClientsFault 1 clients fault → IsFaultOf (five clients containers faults sites steps) fault
-clients_fault clients containers faults sites steps catalog NoMemory one none is wrong bytes has = tt
-clients_fault clients containers faults sites steps catalog (Refused place) one none is wrong bytes has =
-    subst (IsRefusedAt bytes) (sym wrong.named) (
-      five clients containers faults sites steps,
-      is.declared,
-      clients,
-      has_containers clients containers faults sites steps catalog bytes one none is has,
-      refl,
-      wrong.wrong,
-    )
+pub clients_fault : (parts : Parts) (catalog : Catalog) (fault : ReadFault) → HasNumbers parts → IsCatalog 1 (view parts.containers.now) catalog
+    → IsClientsFault 1 (view parts.clients.now) fault → IsFaultOf (five_of parts) fault
+clients_fault parts catalog NoMemory numbers is wrong bytes keys = tt
+clients_fault parts catalog (Refused place) numbers is wrong bytes keys =
+    subst (IsRefusedAt bytes) (sym wrong.named)
+    (five_of parts, is.declared, view parts.clients.now, has_containers parts catalog bytes numbers is keys, refl, wrong.wrong)
 
--- the clients that the value spells
-abbrev pub HasClientsOf : Data → List Client → Type 0
-HasClientsOf value clients = (values : List Data) × (value ≡ list values) × AreClients 1 values clients
-
-has_clients : (clients containers faults sites steps : Data) (catalog : Catalog) (cs : List Client) (bytes : List ℕ) → sites ≡ whole 1 → faults ≡ whole 0
-    → (is : IsCatalog 1 containers catalog) → HasClientsOf clients cs → HasKeys bytes (five clients containers faults sites steps)
-    → HasClients bytes (five clients containers faults sites steps) is.declared cs
-has_clients clients containers faults sites steps catalog cs bytes one none is are has = record {
-  has_containers = has_containers clients containers faults sites steps catalog bytes one none is has;
+has_clients : (parts : Parts) (catalog : Catalog) (clients : List Client) (bytes : List ℕ) → HasNumbers parts
+    → (is : IsCatalog 1 (view parts.containers.now) catalog) → ListsClients 1 (view parts.clients.now) clients → HasKeys bytes (five_of parts)
+    → HasClients bytes (five_of parts) is.declared clients
+has_clients parts catalog clients bytes numbers is are keys = record {
+  has_containers = has_containers parts catalog bytes numbers is keys;
   values = are.0;
   spelled = ap Some are.1;
   are = are.2;
 }
 
 -- a fault of the steps
-pub steps_fault : (clients containers faults sites steps : Data) (catalog : Catalog) (cs : List Client) (fault : ReadFault) → sites ≡ whole 1
-    → faults ≡ whole 0 → IsCatalog 1 containers catalog → HasClientsOf clients cs → IsStepsFault (length cs) steps fault
-    → IsFaultOf (five clients containers faults sites steps) fault
-steps_fault clients containers faults sites steps catalog cs NoMemory one none is are wrong bytes has = tt
-steps_fault clients containers faults sites steps catalog cs (Refused place) one none is are wrong bytes has =
-    subst (IsRefusedAt bytes) (sym wrong.named) (
-      five clients containers faults sites steps,
-      is.declared,
-      cs,
-      steps,
-      has_clients clients containers faults sites steps catalog cs bytes one none is are has,
-      refl,
-      wrong.wrong,
-    )
+pub steps_fault : (parts : Parts) (catalog : Catalog) (clients : List Client) (fault : ReadFault) → HasNumbers parts
+    → IsCatalog 1 (view parts.containers.now) catalog → ListsClients 1 (view parts.clients.now) clients
+    → IsStepsFault (length clients) (view parts.steps.now) fault → IsFaultOf (five_of parts) fault
+steps_fault parts catalog clients NoMemory numbers is are wrong bytes keys = tt
+steps_fault parts catalog clients (Refused place) numbers is are wrong bytes keys =
+    subst (IsRefusedAt bytes) (sym wrong.named)
+    (five_of parts, is.declared, clients, view parts.steps.now, has_clients parts catalog clients bytes numbers is are keys, refl, wrong.wrong)

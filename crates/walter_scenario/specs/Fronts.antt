@@ -6,7 +6,8 @@ use Rattle.walter_base.specs.declared.catalog.Catalog.{Catalog}
 use Rattle.walter_base.specs.declared.names.Kind.TheVariants.{Regular}
 use Rattle.walter_base.specs.Catalogs.{Item, containers_of}
 use Rattle.walter_scenario.specs.declared.scenario.Client.{Client}
-use Rattle.walter_scenario.specs.Parts.{list, container_spelled, AreContainers}
+use Rattle.walter_scenario.specs.declared.scenario.Step.{Step}
+use Rattle.walter_scenario.specs.Parts.{list, container_spelled, AreContainers, AreClients, AreSteps}
 
 -- a regular container whose number fits
 abbrev pub IsDeclared : Item → Type 0
@@ -37,3 +38,11 @@ pub record IsCatalog (sites : ℕ) (value : Data) (catalog : Catalog) : Type 0 w
 pub record MayFollow (sites : ℕ) (clients : List Client) (client : Client) : Type 0 where
   pub there : client.site.0 < sites
   pub room : count_by (λ other. nat_eq other.site.0 client.site.0) clients < 1024
+
+-- the value is a list that spells these clients
+abbrev pub ListsClients : ℕ → Data → List Client → Type 0
+ListsClients sites value clients = (values : List Data) × (value ≡ list values) × AreClients sites values clients
+
+-- the value is a list that spells these steps
+abbrev pub ListsSteps : ℕ → Data → List Step → Type 0
+ListsSteps clients value steps = (values : List Data) × (value ≡ list values) × AreSteps clients values steps

@@ -1,6 +1,6 @@
 -- The five members of a scenario's object, and what its bytes spell by them.
 use Rattle.std.specs.Prelude.{List, ℕ, codes}
-use Rattle.serde_json.specs.Data.{Data, Members, no_members, member}
+use Rattle.serde_json.specs.Data.{Members, no_members, member}
 use Rattle.serde_json.specs.View.{view}
 use Rattle.walter_scenario.specs.declared.members.Parts.{Parts}
 use Rattle.walter_scenario.specs.declared.place.ReadFault.{ReadFault}
@@ -8,13 +8,11 @@ use Rattle.walter_scenario.specs.declared.scenario.Scenario.{Scenario}
 use Rattle.walter_scenario.specs.Scenarios.{HasKeys, IsReading, IsReadFault}
 
 -- the members of an object with the five keys
-abbrev pub five : Data → Data → Data → Data → Data → Members
-five clients containers faults sites steps =
-    member (codes "clients") clients
-    (member (codes "containers") containers (member (codes "f") faults (member (codes "sites") sites (member (codes "steps") steps no_members))))
-
 abbrev pub five_of : Parts → Members
-five_of parts = five (view parts.clients.now) (view parts.containers.now) (view parts.faults.now) (view parts.sites.now) (view parts.steps.now)
+five_of parts =
+    member (codes "clients") (view parts.clients.now)
+    (member (codes "containers") (view parts.containers.now)
+    (member (codes "f") (view parts.faults.now) (member (codes "sites") (view parts.sites.now) (member (codes "steps") (view parts.steps.now) no_members))))
 
 -- the scenario of all bytes whose object has these members
 abbrev pub IsReadingOf : Members → Scenario → Type 0

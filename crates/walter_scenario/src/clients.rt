@@ -1,19 +1,18 @@
-ghost use Rattle.std.specs.Prelude.{◌≡◌, ◌≢◌, ◌<◌, ◌≤◌, ◌↔◌, ◌∷◌, [], ℕ, List, map, count_by, nat_eq, IsTrue, MatchOption, IfSome, IfNone, IfOk, IfErr};
+ghost use Rattle.std.specs.Prelude.{◌≡◌, ◌≢◌, ◌<◌, ◌↔◌, ◌∷◌, [], ℕ, List, count_by, nat_eq, IsTrue, MatchOption, IfSome, IfNone, IfOk, IfErr};
 ghost use Rattle.hex.specs.Hex.{decode_of};
-ghost use Rattle.serde_json.specs.Data.{Data, string};
+ghost use Rattle.serde_json.specs.Data.{string};
 ghost use Rattle.serde_json.specs.View.{view};
-ghost use Rattle.walter_base.specs.declared.names.SiteId.{SiteId};
 ghost use Rattle.walter_scenario.specs.declared.scenario.Client.{Client};
 ghost use Rattle.walter_scenario.specs.Faults.{IsClientsFault};
-ghost use Rattle.walter_scenario.specs.Fronts.{MayFollow};
-ghost use Rattle.walter_scenario.specs.Parts.{list, whole, SpellsClient, AreClients};
+ghost use Rattle.walter_scenario.specs.Fronts.{MayFollow, ListsClients};
+ghost use Rattle.walter_scenario.specs.Parts.{list, whole, SpellsClient};
 
 use crate::place::{Place, ReadFault};
 use crate::scenario::{Client, MOST_CLIENTS};
 use crate::values::{items_of, pair_of, string_of, whole_of};
 use hex::FromHexError;
 use serde_json::Value;
-use std::alloc::{AllocError, Global};
+use std::alloc::Global;
 use walter_base::{Bytes, Mem, NoMemory, SiteId};
 
 /// The site and the hex text of a client.
@@ -70,8 +69,7 @@ fn next_client(alloc: Global, sites: u8, clients: &[Client], value: &Value) -> M
 
 /// The clients that the value spells, of so many sites.
 pub fn clients_of(alloc: Global, sites: u8, value: &Value) -> Result<Vec<Client>, ReadFault>
-    ensures ok { IfOk result (λ clients. (values : List Data) × (view value.now ≡ list values)
-        × AreClients sites values clients.items) }
+    ensures ok { IfOk result (λ clients. ListsClients sites (view value.now) clients.items) }
     ensures fault { IfErr result (IsClientsFault sites (view value.now)) }
 {
     let values = items_of(value).ok_or(Place::Clients(0))?;

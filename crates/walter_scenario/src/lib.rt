@@ -19,3 +19,6 @@ pub use lists::{Clients, Steps};
 pub use place::{Place, ReadFault};
 pub use reading::read;
 pub use scenario::{Client, LONGEST_TEXT, MOST_CLIENTS, Scenario, Step};
+
+#[cfg(test)]
+mod tests;

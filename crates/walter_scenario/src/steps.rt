@@ -1,9 +1,9 @@
-ghost use Rattle.std.specs.Prelude.{◌≡◌, ◌≢◌, ◌<◌, ◌≤◌, ◌^◌, List, IfSome, IfNone, IfOk, IfErr};
-ghost use Rattle.serde_json.specs.Data.{Data};
+ghost use Rattle.std.specs.Prelude.{◌≡◌, ◌≢◌, ◌≤◌, ◌^◌, IfSome, IfNone, IfOk, IfErr};
 ghost use Rattle.serde_json.specs.View.{view};
 ghost use Rattle.walter_scenario.specs.declared.scenario.Step.{Step};
 ghost use Rattle.walter_scenario.specs.Faults.{IsStepsFault};
-ghost use Rattle.walter_scenario.specs.Parts.{list, step_spelled, IsStep, AreSteps};
+ghost use Rattle.walter_scenario.specs.Fronts.{ListsSteps};
+ghost use Rattle.walter_scenario.specs.Parts.{step_spelled, IsStep};
 
 use crate::place::{Place, ReadFault};
 use crate::scenario::Step;
@@ -27,8 +27,7 @@ fn step_of(clients: usize, value: &Value) -> Option<Step>
 /// The steps that the value spells, over so many clients.
 pub fn steps_of(alloc: Global, clients: usize, value: &Value) -> Result<Vec<Step>, ReadFault>
     requires { clients ≤ 2 ^ 32 }
-    ensures ok { IfOk result (λ steps. (values : List Data) × (view value.now ≡ list values)
-        × AreSteps clients values steps.items) }
+    ensures ok { IfOk result (λ steps. ListsSteps clients (view value.now) steps.items) }
     ensures fault { IfErr result (IsStepsFault clients (view value.now)) }
 {
     let values = items_of(value).ok_or(Place::Steps(0))?;

@@ -1,0 +1,209 @@
+use crate::{LONGEST_TEXT, MOST_CLIENTS, Place, ReadFault, Step, one_reading, read};
+use std::alloc::Global;
+use std::test::Fail;
+use walter_base::{Kind, ObjId, SiteId};
+
+/// Two containers, two clients with hex of either case, and three steps.
+const GOOD: &str =
+    r#"{"sites":1,"f":0,"containers":[[1,"regular",0],[4294967295,"regular",0]],"clients":[[0,"0000000101"],[0,"00fFAb"]],"steps":[["call",1],["call",0],["call",1]]}"#;
+
+const CONTAINERS: &str = r#"[[1,"regular",0],[4294967295,"regular",0]]"#;
+
+const CLIENTS: &str = r#"[[0,"0000000101"],[0,"00fFAb"]]"#;
+
+const STEPS: &str = r#"[["call",1],["call",0],["call",1]]"#;
+
+/// The good scenario with one text in place of another.
+fn changed(alloc: Global, old: &str, new: &str) -> Result<String, Fail> {
+    let (before, after) = GOOD.split_once(old).ok_or("not in the scenario")?;
+    Ok(format!(in alloc; "{before}{new}{after}")?)
+}
+
+/// The place at which the bytes are refused, if they are.
+fn place_of(alloc: Global, bytes: &[u8]) -> Result<Option<Place>, Fail> {
+    match read(alloc, bytes) {
+        Ok(_) => Ok(None),
+        Err(ReadFault::Refused { place }) => Ok(Some(place)),
+        Err(ReadFault::NoMemory) => Err("memory ran out".into()),
+    }
+}
+
+/// So many spaces.
+fn spaces(alloc: Global, count: usize) -> Result<Vec<u8>, Fail> {
+    let mut bytes = Vec::with_capacity(alloc, count)?;
+    for _ in 0..count {
+        bytes.push(b' ')?;
+    }
+    Ok(bytes)
+}
+
+/// A list of so many containers, with numbers from 0.
+fn containers(alloc: Global, count: usize) -> Result<String, Fail> {
+    let mut list = format!(in alloc; "[[0,\"regular\",0]")?;
+    for number in 1..count {
+        list.push_str(&format!(in alloc; ",[{number},\"regular\",0]")?)?;
+    }
+    list.push(']')?;
+    Ok(list)
+}
+
+/// A list of so many clients that send nothing.
+fn clients(alloc: Global, count: usize) -> Result<String, Fail> {
+    let mut list = format!(in alloc; "[[0,\"\"]")?;
+    for _ in 1..count {
+        list.push_str(",[0,\"\"]")?;
+    }
+    list.push(']')?;
+    Ok(list)
+}
+
+#[test]
+fn a_good_scenario_is_read(rt: HostRuntime) -> Result<(), Fail> {
+    one_reading();
+    let scenario = read(rt.alloc(), GOOD.as_bytes())?;
+    assert_eq!(rt; (scenario.catalog.sites, scenario.catalog.faults), (1, 0));
+    for (container, kind) in [
+        (0, None),
+        (1, Some(Kind::Regular)),
+        (4_294_967_295, Some(Kind::Regular)),
+    ] {
+        let oid = ObjId {
+            container,
+            local: 0,
+        };
+        assert_eq!(rt; scenario.catalog.kind(oid), kind);
+        assert_eq!(rt; scenario.catalog.preferred(oid), kind.map(|_| SiteId(0)));
+    }
+    let sent: [&[u8]; 2] = [&[0, 0, 0, 1, 1], &[0x00, 0xff, 0xab]];
+    assert_eq!(rt; scenario.clients.as_slice().len(), sent.len());
+    for (client, bytes) in scenario.clients.as_slice().iter().zip(sent) {
+        assert_eq!(rt; client.site, SiteId(0));
+        assert_eq!(rt; client.bytes.as_slice(), bytes);
+    }
+    let steps = [Step::Call(1), Step::Call(0), Step::Call(1)];
+    assert_eq!(rt; scenario.steps.as_slice(), steps.as_slice());
+    Ok(())
+}
+
+#[test]
+fn each_wrong_place_is_named(rt: HostRuntime) -> Result<(), Fail> {
+    let alloc = rt.alloc();
+    let table = [
+        (GOOD, "[", Place::Json),
+        (GOOD, "[]", Place::Json),
+        (GOOD, "", Place::Json),
+        ("\"f\":0,", "", Place::Key),
+        ("\"f\":0,", "\"f\":0,\"g\":0,", Place::Key),
+        ("\"f\":0,", "\"F\":0,", Place::Key),
+        ("\"sites\":1", "\"sites\":9", Place::Sites),
+        ("\"sites\":1", "\"sites\":2", Place::Sites),
+        ("\"sites\":1", "\"sites\":\"1\"", Place::Sites),
+        ("\"sites\":1", "\"sites\":1.0", Place::Sites),
+        ("\"sites\":1", "\"sites\":-0", Place::Sites),
+        ("\"f\":0", "\"f\":1", Place::F),
+        ("\"f\":0", "\"f\":-0", Place::F),
+        (CONTAINERS, "{}", Place::Containers(0)),
+        ("4294967295", "1", Place::Containers(1)),
+        ("4294967295", "4294967296", Place::Containers(1)),
+        (
+            "[4294967295,\"regular\",0]",
+            "[2,\"cset\",0]",
+            Place::Containers(1),
+        ),
+        (
+            "[4294967295,\"regular\",0]",
+            "[2,\"regular\",1]",
+            Place::Containers(1),
+        ),
+        (
+            "[4294967295,\"regular\",0]",
+            "[2,\"regular\",256]",
+            Place::Containers(1),
+        ),
+        (
+            "[4294967295,\"regular\",0]",
+            "[2,\"regular\"]",
+            Place::Containers(1),
+        ),
+        (CLIENTS, "null", Place::Clients(0)),
+        ("\"00fFAb\"", "\"00fFAb0\"", Place::Clients(1)),
+        ("\"00fFAb\"", "\"00fFAg\"", Place::Clients(1)),
+        ("\"00fFAb\"", "0", Place::Clients(1)),
+        ("[0,\"00fFAb\"]", "[1,\"00fFAb\"]", Place::Clients(1)),
+        (STEPS, "0", Place::Steps(0)),
+        ("[\"call\",0]", "[\"call\",2]", Place::Steps(1)),
+        ("[\"call\",0]", "[\"deliver\",0,1,1]", Place::Steps(1)),
+        ("[\"call\",0]", "[\"call\"]", Place::Steps(1)),
+        ("[\"call\",0]", "[\"call\",0,0]", Place::Steps(1)),
+    ];
+    for (old, new, place) in &table {
+        let text = changed(alloc, old, new)?;
+        assert_eq!(rt; place_of(alloc, text.as_bytes())?, Some(*place), "{new}");
+    }
+    assert_eq!(rt; place_of(alloc, &[b'"', 0xff, b'"'])?, Some(Place::Json));
+    Ok(())
+}
+
+#[test]
+fn limits_are_taken_and_one_more_is_refused(rt: HostRuntime) -> Result<(), Fail> {
+    let alloc = rt.alloc();
+    let mut long = spaces(alloc, LONGEST_TEXT + 1)?;
+    assert_eq!(rt; place_of(alloc, &long)?, Some(Place::TooLong));
+    long.pop();
+    assert_eq!(rt; place_of(alloc, &long)?, Some(Place::Json));
+    for (old, new, place) in [
+        (CONTAINERS, containers(alloc, 256)?, None),
+        (
+            CONTAINERS,
+            containers(alloc, 257)?,
+            Some(Place::Containers(256)),
+        ),
+        (CLIENTS, clients(alloc, MOST_CLIENTS)?, None),
+        (
+            CLIENTS,
+            clients(alloc, MOST_CLIENTS + 1)?,
+            Some(Place::Clients(1024)),
+        ),
+    ] {
+        let text = changed(alloc, old, &new)?;
+        assert_eq!(rt; place_of(alloc, text.as_bytes())?, place);
+    }
+    Ok(())
+}
+
+#[test]
+fn the_first_of_two_wrong_places_is_named(rt: HostRuntime) -> Result<(), Fail> {
+    let text = changed(rt.alloc(), STEPS, "0")?;
+    let (before, after) = text.split_once("\"f\":0").ok_or("not in the scenario")?;
+    let text = format!(in rt.alloc(); "{before}\"f\":1{after}")?;
+    assert_eq!(rt; place_of(rt.alloc(), text.as_bytes())?, Some(Place::F));
+    Ok(())
+}
+
+#[test]
+fn of_equal_keys_the_last_stands(rt: HostRuntime) -> Result<(), Fail> {
+    for (new, place) in [
+        ("\"f\":1,\"f\":0", None),
+        ("\"f\":0,\"f\":1", Some(Place::F)),
+    ] {
+        let text = changed(rt.alloc(), "\"f\":0", new)?;
+        assert_eq!(rt; place_of(rt.alloc(), text.as_bytes())?, place);
+    }
+    Ok(())
+}
+
+#[test]
+fn faults_have_texts(rt: HostRuntime) -> Result<(), Fail> {
+    for (fault, text) in [
+        (
+            ReadFault::Refused {
+                place: Place::Steps(3),
+            },
+            "the scenario has no reading: step 3",
+        ),
+        (ReadFault::NoMemory, "out of memory"),
+    ] {
+        assert_eq!(rt; format!(in rt.alloc(); "{fault}")?.as_str(), text);
+    }
+    Ok(())
+}
