@@ -62,10 +62,10 @@ module _ (site new : Site) (entries : List Entry) (client : ℕ) (call : Call) (
     (allowed : IsEntryOf site (length entries + 1) (CallEvent client call) e)
     (left : known new ≡ after (site_of site) (known site) e.event e.outcome e.wrote)
     (here : site_of new ≡ site_of site) (same : catalog_of new ≡ catalog_of site) where
-  event : TrailEvent
+  abbrev event : TrailEvent
   event = CallEvent client call
 
-  is_event : e.event ≡ event
+  pub is_event : e.event ≡ CallEvent client call
   is_event = elim allowed [
     | inl by_rule ↦ ap (λ (z : Entry). z.event) by_rule
     | inr unable ↦ ap (λ (z : Entry). z.event) unable.1

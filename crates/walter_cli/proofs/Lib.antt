@@ -3,3 +3,5 @@ pub mod Short
 pub mod Lines
 pub mod Growing
 pub mod Entries
+pub mod Turns
+pub mod Runs

@@ -46,9 +46,15 @@ abbrev pub AreLines : {S K : Type 0} {s : SourceGhosts S} {k : SinkGhosts K} →
 AreLines clients entries lines =
     (number : ℕ) (client : Client) → slice_get clients number ≡ Some client → IsLineAt client.bytes (calls_of number entries) lines number
 
+-- behind a call the connection isn't broken, and what the call brings is short
+abbrev pub IsReady : Incoming → Next → Type 0
+IsReady now (Frame call) = (now.state ≢ state.Broken) × IsShortCall call
+IsReady now Ended = Unit {0}
+IsReady now Broken = Unit {0}
+
 -- what the next answer of a connection leaves
 abbrev pub Leaves : List ℕ → List Call → Incoming → Next → Type 0
-Leaves bytes calls now (Frame call) = IsLine bytes (calls ++ call ∷ []) now × (now.state ≢ state.Broken) × IsShortCall call
+Leaves bytes calls now (Frame call) = IsLine bytes (calls ++ call ∷ []) now
 Leaves bytes calls now Ended = IsLine bytes calls now × AreAllCalls bytes calls
 Leaves bytes calls now Broken = IsLine bytes calls now × AreAllCalls bytes calls
 

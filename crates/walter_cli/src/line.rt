@@ -2,7 +2,7 @@ ghost use Rattle.std.specs.Prelude.{◌≡◌, ◌≢◌, ℕ, List, [], Ok, OnE
 ghost use Rattle.walter_conn.specs.Connections.{incoming};
 ghost use Rattle.walter_conn.specs.Frames.{Call};
 ghost use Rattle.walter_conn.specs.declared.state.State.TheVariants as state;
-ghost use Rattle.walter_cli.specs.Cells.{IsLine, Leaves};
+ghost use Rattle.walter_cli.specs.Cells.{IsLine, IsReady, Leaves};
 ghost use Rattle.walter_cli.specs.Shortness.{Fits};
 
 use std::alloc::Global;
@@ -29,6 +29,7 @@ pub fn open_line(alloc: Global, bytes: &Bytes) -> Mem<Line>
 /// What the client sent next.
 pub fn next_call(line: &mut Line, alloc: Global) -> Mem<Next>
     ensures next { (bytes : List ℕ) (calls : List Call) → IsLine bytes calls (incoming line.old) → IfOk result (Leaves bytes calls (incoming line.new)) }
+    ensures ready { IfOk result (IsReady (incoming line.new)) }
     ensures same { OnErr result (incoming line.new ≡ incoming line.old) }
 {
     match line.next(alloc) {

@@ -30,7 +30,14 @@ fn take_step(alloc: Global, cell: &mut Cell, scenario: &Scenario, step: Step) ->
     ensures cell { IsCell scenario.now cell.new }
     ensures took { OnOk result (Takes scenario.now.clients step cell.old.entries.items cell.new.entries.items) }
 {
-    let Step::Call(client) = step;
-    cell.serve(alloc, client)?;
+    cell.serve(alloc, client_of(step))?;
     Ok(())
+}
+
+// The client whose turn the step is.
+fn client_of(step: Step) -> u32
+    ensures { step ≡ Step.Call result }
+{
+    let Step::Call(client) = step;
+    client
 }
