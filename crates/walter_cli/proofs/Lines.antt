@@ -139,11 +139,11 @@ module _ {S K : Type 0} {s : SourceGhosts S} {k : SinkGhosts K} where
             let found = are number other within.1 in
             (found.0, slice_get-append_left lines (line ∷ []) found.0 number found.1, found.2)
         | inr here ↦ (
-            line,
-            ap (λ n. slice_get (lines ++ line ∷ []) n) (here.0 ∙ sym long) ∙ slice_get-push lines line,
-            subst (λ (c : Client). IsLine c.bytes (calls_of number entries) (incoming line)) here.1
-            (subst (λ n. IsLine client.bytes (calls_of n entries) (incoming line)) (sym here.0) is),
-          )
+          line,
+          ap (λ n. slice_get (lines ++ line ∷ []) n) (here.0 ∙ sym long) ∙ slice_get-push lines line,
+          subst (λ (c : Client). IsLine c.bytes (calls_of number entries) (incoming line)) here.1
+              (subst (λ n. IsLine client.bytes (calls_of n entries) (incoming line)) (sym here.0) is),
+        )
       ]
 
   -- the same, told of equal lists

@@ -14,3 +14,6 @@ mod words;
 
 pub use ended::{Ended, Fault};
 pub use program::top;
+
+#[cfg(test)]
+mod tests;
