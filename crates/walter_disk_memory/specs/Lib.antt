@@ -4,5 +4,4 @@ pub mod MemoryDisks
 pub mod MemoryRacks
 pub mod Records
 pub mod Rooms
-pub mod Schedules
 pub mod Stops

@@ -3,12 +3,10 @@
 
 mod content;
 mod entry;
-mod fault_count;
 mod memory_disk;
 mod memory_rack;
 mod place;
 mod record;
-mod schedule;
 mod stops;
 #[cfg(test)]
 mod tests;

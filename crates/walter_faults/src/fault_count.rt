@@ -5,7 +5,7 @@ use std::marker::Model;
 
 /// How many calls have failed. The count exists in proofs alone: it takes no memory, so it cannot overflow.
 #[derive(Drop)]
-pub(crate) struct FaultCount {
+pub struct FaultCount {
     pub ghost count: { ℕ },
 }
 
@@ -17,13 +17,15 @@ impl Model for FaultCount {
 unsafe impl Send for FaultCount {}
 
 impl FaultCount {
-    pub(crate) fn zero() -> FaultCount
+    /// No call has failed yet.
+    pub fn zero() -> FaultCount
         ensures { result.count ≡ 0 }
     {
         FaultCount {}
     }
 
-    pub(crate) fn next(&self) -> FaultCount
+    /// One more call has failed. What keeps a count puts this in its place, so that it never falls.
+    pub fn next(&self) -> FaultCount
         ensures { result.count ≡ self.now.count + 1 }
     {
         FaultCount {}
