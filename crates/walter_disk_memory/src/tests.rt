@@ -122,7 +122,7 @@ fn a_big_disk_has_room_for_many_small_writes(rt: HostRuntime) -> Result<(), Fail
     let alloc = rt.alloc();
     let big = 1_000_000;
     let mut disk = MemoryDisk::holding(alloc, vec![in alloc; b'o'; big]?)?;
-    // No machine has the product of the two.
+    // A copy of the disk for each call would be two terabytes.
     disk.reserve(2_000_000, 1_000_000)?;
     for _ in 0..2000 {
         assert!(rt; append(&mut disk, b"1234")?);

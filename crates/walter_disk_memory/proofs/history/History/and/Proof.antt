@@ -1,4 +1,4 @@
--- `and` adds one call.
+-- `and` makes a value of no bytes, with one call more.
 use Rattle.std.proofs.Common.{List, [], ◌∷◌, ◌++◌, refl}
 use seplogic.Ra.Ura.{Ura}
 use mir.Syntax.{Fn}

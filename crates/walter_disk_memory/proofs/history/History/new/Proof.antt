@@ -1,4 +1,4 @@
--- `new` begins with no calls.
+-- `new` makes a value of no bytes, with no calls.
 use Rattle.std.proofs.Common.{[], ◌∷◌, refl}
 use seplogic.Ra.Ura.{Ura}
 use mir.Syntax.{Fn}
