@@ -1,5 +1,5 @@
 pub mod Reaches
-pub mod Recording
 pub mod Moments
-pub mod RoomLeft
 pub mod Called
+pub mod Patching
+pub mod Walks

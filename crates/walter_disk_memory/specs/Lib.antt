@@ -1,8 +1,9 @@
+pub mod Changes
+pub mod Codes
 pub mod Contents
 pub mod ImageLaws
 pub mod MemoryDisks
 pub mod MemoryRacks
-pub mod Records
+pub mod Patches
 pub mod Rooms
-pub mod Schedules
 pub mod Stops

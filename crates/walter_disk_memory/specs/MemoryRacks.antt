@@ -2,7 +2,7 @@
 use Rattle.std.specs.Prelude.{ℕ, List, [], map, slice_index_or, Vec}
 use Rattle.std.specs.declared.alloc.Global.{Global}
 use Rattle.walter_disk_memory.specs.MemoryDisks.{MemoryState, holding}
-use Rattle.walter_disk_memory.specs.Schedules.{Schedule}
+use Rattle.walter_faults.specs.Schedules.{Schedule}
 
 pub record RackState : Type 0 where
   -- what the disks of the sites hold, from site 0 on

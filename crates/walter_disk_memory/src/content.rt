@@ -1,5 +1,7 @@
 ghost use Rattle.std.specs.Prelude.{◌≡◌, ◌+◌, ◌<◌, ◌≤◌, [], length, max, replicate, vec_len, vec_capacity, IfOk, OnOk, OnErr};
-ghost use Rattle.walter_disk_memory.specs.Contents.{Write, FailedWrite, Sync, Settle, put, filled, at_rest, after};
+ghost use Rattle.walter_disk_memory.specs.Contents.{Write, FailedWrite, Sync, Settle, put, filled, at_rest, settled, after};
+ghost use Rattle.walter_disk_memory.specs.ImageLaws.{IsSound};
+ghost use Rattle.walter_disk_memory.specs.Patches.{AgreeOutside, levelled, patched};
 ghost use Rattle.walter_disk_memory.specs.Rooms.{reach};
 
 use crate::place::Place;
@@ -126,39 +128,79 @@ impl Content {
     }
 
     pub(crate) fn sync(&mut self)
+        requires sound { IsSound self.old.content }
         ensures content { self.new.content ≡ after Sync self.old.content }
         ensures end { self.new.end ≡ self.old.end }
         ensures slots { self.old.slots ≤ self.new.slots }
     {
-        copy_over(&mut self.whole, &self.reads);
-        copy_over(&mut self.synced, &self.reads);
+        copy_places(&mut self.whole, &self.reads, &self.pending);
+        copy_places(&mut self.synced, &self.reads, &self.pending);
         self.pending.clear();
     }
 
     pub(crate) fn settle(&mut self, choice: u64)
+        requires sound { IsSound self.old.content }
         ensures content { self.new.content ≡ after (Settle choice) self.old.content }
         ensures end { self.new.end ≡ self.old.end }
         ensures slots { self.old.slots ≤ self.new.slots }
     {
+        self.choose(choice);
+        self.sync();
+    }
+
+    // What reads is what the choice finds. It still pends.
+    fn choose(&mut self, choice: u64)
+        requires sound { IsSound self.old.content }
+        ensures content { self.new.content ≡ record self.old.content { reads = settled choice self.old.content } }
+        ensures end { self.new.end ≡ self.old.end }
+        ensures slots { self.new.slots ≡ self.old.slots }
+    {
         match choice {
-            0 => copy_over(&mut self.reads, &self.synced),
-            1 => copy_over(&mut self.reads, &self.whole),
+            0 => copy_places(&mut self.reads, &self.synced, &self.pending),
+            1 => copy_places(&mut self.reads, &self.whole, &self.pending),
             _ => {
-                copy_over(&mut self.reads, &self.synced);
+                copy_places(&mut self.reads, &self.synced, &self.pending);
                 fill_places(&mut self.reads, &self.pending, (choice % 256) as u8);
             }
         }
-        self.sync();
     }
 }
 
-fn copy_over(bytes: &mut Vec<u8>, from: &[u8])
-    requires { length from.now ≤ vec_capacity bytes.old }
+// Makes the bytes the same as others, from which they differ at these places alone. It costs what these hold.
+fn copy_places(bytes: &mut Vec<u8>, from: &[u8], places: &[Place])
+    requires room { length from.now ≤ vec_capacity bytes.old }
+    requires agree { AgreeOutside places.now bytes.old.items from.now }
     ensures items { bytes.new.items ≡ from.now }
     ensures capacity { vec_capacity bytes.old ≤ vec_capacity bytes.new }
 {
-    bytes.clear();
-    bytes.extend_from_slice(from).unwrap();
+    level(bytes, from);
+    for place in places {
+        patch(bytes, from, *place);
+    }
+}
+
+// Takes no memory.
+fn level(bytes: &mut Vec<u8>, from: &[u8])
+    requires { length from.now ≤ vec_capacity bytes.old }
+    ensures items { bytes.new.items ≡ levelled from.now bytes.old.items }
+    ensures capacity { vec_capacity bytes.old ≤ vec_capacity bytes.new }
+{
+    bytes.truncate(from.len());
+    let front = bytes.len();
+    bytes.extend_from_slice(&from[front..]).unwrap();
+}
+
+fn patch(bytes: &mut Vec<u8>, from: &[u8], place: Place)
+    requires { length from.now ≡ vec_len bytes.old }
+    ensures items { bytes.new.items ≡ patched from.now place bytes.old.items }
+    ensures len { vec_len bytes.new ≡ vec_len bytes.old }
+    ensures capacity { vec_capacity bytes.old ≤ vec_capacity bytes.new }
+{
+    if place.at > bytes.len() {
+        return;
+    }
+    let end = place.at + place.count.min(bytes.len() - place.at);
+    bytes[place.at..end].copy_from_slice(&from[place.at..end]);
 }
 
 // Takes no memory.

@@ -1,14 +1,12 @@
 //! Disks in memory, and a rack of them. A disk keeps its calls, and fails where it is told to.
 #![tactic(auto)]
 
+mod change;
 mod content;
-mod entry;
-mod fault_count;
+mod history;
 mod memory_disk;
 mod memory_rack;
 mod place;
-mod record;
-mod schedule;
 mod stops;
 #[cfg(test)]
 mod tests;

@@ -3,25 +3,26 @@ ghost use Rattle.walter_disk_memory.specs.Contents.{Write, FailedWrite, Sync, Se
 ghost use Rattle.walter_disk_memory.specs.MemoryDisks.{holding, content_of, called, after_pass, after_fault, after_mend, with_room};
 ghost use Rattle.walter_disk_memory.specs.Stops.{fails, armed, choice_made};
 
+use crate::change::Change;
 use crate::content::Content;
-use crate::record::Record;
+use crate::history::History;
 use crate::stops::Stops;
 use std::alloc::Global;
 use std::marker::Model;
-use walter_disk::{Disk, Failed, Mem, NoMemory};
+use walter_disk::{Disk, Failed, Mem};
 
 /// A disk in memory. It fails where it is armed to, and then a settle finds what the arm's choice says.
 #[derive(Drop)]
 pub struct MemoryDisk {
     first: Vec<u8>,
     content: Content,
-    history: Record,
+    history: History,
     stops: Stops,
     room_calls: usize,
 }
 
 impl Model for MemoryDisk {
-    ghost use Rattle.std.specs.Prelude.{◌≡◌, ◌≤◌, ◌*◌};
+    ghost use Rattle.std.specs.Prelude.{◌≡◌, ◌≤◌};
     ghost use Rattle.walter_disk_memory.specs.Contents.{at_rest, replayed};
     ghost use Rattle.walter_disk_memory.specs.MemoryDisks.{MemoryState};
 
@@ -37,9 +38,7 @@ impl Model for MemoryDisk {
 
     ghost invariant = { λ s.
         (s.content.content ≡ replayed s.history.calls (at_rest s.first.items))
-        × (s.room_calls ≤ s.content.slots)
-        × (s.room_calls ≤ s.history.slots)
-        × (s.room_calls * s.content.end ≤ s.history.space) };
+        × (s.room_calls ≤ s.content.slots) };
 }
 
 impl MemoryDisk {
@@ -50,7 +49,7 @@ impl MemoryDisk {
         MemoryDisk {
             first: Vec::new(alloc),
             content: Content::new(alloc),
-            history: Record::new(alloc),
+            history: History::new(),
             stops: Stops::new(alloc),
             room_calls: 0,
         }
@@ -63,7 +62,7 @@ impl MemoryDisk {
         Ok(MemoryDisk {
             first: bytes.to_vec(alloc)?,
             content: Content::holding(alloc, bytes)?,
-            history: Record::new(alloc),
+            history: History::new(),
             stops: Stops::new(alloc),
             room_calls: 0,
         })
@@ -80,10 +79,7 @@ impl MemoryDisk {
         ensures ok { OnOk result (self.new ≡ with_room end calls self.old) }
         ensures err { OnErr result (self.new ≡ self.old) }
     {
-        let end = self.content.end().max(end);
         let calls = self.room_calls.max(calls);
-        let space = calls.checked_mul(end).ok_or(NoMemory)?;
-        self.history.reserve(calls, space)?;
         self.content.reserve(end, calls)?;
         self.room_calls = calls;
         Ok(())
@@ -114,11 +110,11 @@ impl MemoryDisk {
         match outcome {
             Ok(()) => {
                 self.content.write(at, from);
-                self.history.write(at, from);
+                self.history = self.history.and(&Change::Write(at, from));
             }
             Err(Failed) => {
                 self.content.miss(at, from);
-                self.history.miss(at, from);
+                self.history = self.history.and(&Change::FailedWrite(at, from));
             }
         }
         outcome
@@ -133,7 +129,7 @@ impl MemoryDisk {
         self.stops.call()?;
         self.room_calls -= 1;
         self.content.sync();
-        self.history.sync();
+        self.history = self.history.and(&Change::Sync);
         Ok(())
     }
 
@@ -144,7 +140,7 @@ impl MemoryDisk {
         let choice = self.stops.mend();
         self.room_calls -= 1;
         self.content.settle(choice);
-        self.history.settle(choice);
+        self.history = self.history.and(&Change::Settle(choice));
     }
 }
 

@@ -1,12 +1,12 @@
 ghost use Rattle.std.specs.Prelude.{◌≡◌, ◌<◌, ◌++◌, ◌∷◌, [], IsErr, IfOk, OnOk, OnErr};
 ghost use Rattle.walter_disk_memory.specs.MemoryRacks.{contents_of, disk_of};
-ghost use Rattle.walter_disk_memory.specs.Schedules.{planned, NextFails, AddsCall};
+ghost use Rattle.walter_faults.specs.Schedules.{planned, NextFails, AddsCall};
 
 use crate::memory_disk::MemoryDisk;
-use crate::schedule::Schedule;
 use std::alloc::Global;
 use std::marker::Model;
 use walter_disk::{Failed, Mem, Rack};
+use walter_faults::Schedule;
 
 /// A rack of disks in memory, some of whose calls fail. It hands out the same disks for every folder, as often as
 /// they are asked for, and keeps those that are given back.
@@ -101,10 +101,15 @@ impl Rack for MemoryRack {
         ensures calls { AddsCall self.old.schedule self.new.schedule }
         ensures same { self.new ≡ record self.old { schedule = self.new.schedule } }
     {
-        self.schedule.call()?;
+        if self.schedule.fails() {
+            return Err(Failed);
+        }
         match self.disk_of(site) {
             Ok(disk) => Ok(disk),
-            Err(_) => Err(self.schedule.fault()),
+            Err(_) => {
+                self.schedule.add_fault();
+                Err(Failed)
+            }
         }
     }
 
@@ -120,10 +125,15 @@ impl Rack for MemoryRack {
         ensures fails { NextFails self.old.schedule → IsErr result }
         ensures calls { AddsCall self.old.schedule self.new.schedule }
     {
-        self.schedule.call()?;
+        if self.schedule.fails() {
+            return Err(Failed);
+        }
         match self.given.push((site, disk)) {
             Ok(()) => Ok(()),
-            Err(_) => Err(self.schedule.fault()),
+            Err(_) => {
+                self.schedule.add_fault();
+                Err(Failed)
+            }
         }
     }
 }

@@ -1,10 +1,10 @@
 ghost use Rattle.std.specs.Prelude.{◌≡◌, ◌<◌, is_err, OnOk, OnErr};
 ghost use Rattle.walter_disk_memory.specs.Stops.{unarmed, fails, passed, failed, armed, choice_made, mended};
 
-use crate::fault_count::FaultCount;
 use std::alloc::Global;
 use std::marker::Model;
 use walter_disk::{Failed, Mem};
+use walter_faults::FaultCount;
 
 /// Which calls fail.
 #[derive(Drop)]

@@ -107,6 +107,35 @@ fn without_an_arm_no_call_fails_and_a_settle_drops_what_pends(rt: HostRuntime) -
     Ok(())
 }
 
+// Writes four bytes behind the others and makes them safe.
+fn append<D: Disk>(disk: &mut D, bytes: &[u8; 4]) -> Result<bool, NoMemory> {
+    let at = disk.size();
+    let Some(end) = at.checked_add(4) else {
+        return Ok(false);
+    };
+    disk.reserve(end, 1)?;
+    Ok(disk.write_at(at, bytes).is_ok() && sync(disk)?)
+}
+
+#[test]
+fn a_big_disk_has_room_for_many_small_writes(rt: HostRuntime) -> Result<(), Fail> {
+    let alloc = rt.alloc();
+    let big = 1_000_000;
+    let mut disk = MemoryDisk::holding(alloc, vec![in alloc; b'o'; big]?)?;
+    // A copy of the disk for each call would be two terabytes.
+    disk.reserve(2_000_000, 1_000_000)?;
+    for _ in 0..2000 {
+        assert!(rt; append(&mut disk, b"1234")?);
+    }
+    assert!(rt; write(&mut disk, 0, b"gone")?);
+    assert!(rt; settle(&mut disk)?);
+    assert_eq!(rt; disk.bytes().len(), big + 8000);
+    assert!(rt; disk.bytes().starts_with(b"oooo"));
+    assert_eq!(rt; disk.bytes()[big - 1], b'o');
+    assert!(rt; disk.bytes().ends_with(b"12341234"));
+    Ok(())
+}
+
 #[test]
 fn a_broken_disk_fails_until_it_has_settled(rt: HostRuntime) -> Result<(), Fail> {
     let mut disk = disk_of(rt.alloc(), OLD)?;

@@ -1,4 +1,3 @@
-pub mod Calls
 pub mod Memory
 pub mod ReadError
 pub mod StdSink

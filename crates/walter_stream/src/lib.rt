@@ -2,12 +2,10 @@
 #![tactic(auto)]
 
 mod bytes_source;
-mod fault_count;
 mod memory_sink;
 mod memory_source;
 mod null_sink;
 mod reading;
-mod schedule;
 mod sink;
 mod source;
 mod std_sink;

@@ -1,13 +1,13 @@
 ghost use Rattle.std.specs.Prelude.{◌≡◌, ◌↔◌, ◌-◌, ◌<◌, ◌≤◌, [], length, take, min, Some, IsErr, IfOk, OnOk, OnErr};
-ghost use Rattle.walter_stream.specs.Calls.{planned, AddsCall};
+ghost use Rattle.walter_faults.specs.Schedules.{planned, AddsCall};
 ghost use Rattle.walter_stream.specs.Memory.{NextWriteFails};
 ghost use Rattle.walter_stream.specs.Streams.{Appends};
 
-use crate::schedule::Schedule;
 use crate::sink::Sink;
 use crate::source::Failed;
 use std::alloc::{AllocError, Global};
 use std::marker::Model;
+use walter_faults::Schedule;
 
 /// A sink that keeps a limited number of bytes in memory, some of whose calls fail.
 #[derive(Drop)]
@@ -77,10 +77,13 @@ impl Sink for MemorySink {
             n ≡ min (length from.now) (self.old.room - length self.old.held)) }
         ensures room { self.new.room ≡ self.old.room }
     {
-        self.schedule.call()?;
+        if self.schedule.fails() {
+            return Err(Failed);
+        }
         let count = from.len().min(self.room - self.held.len());
         if count == 0 && !from.is_empty() {
-            return Err(self.schedule.fault());
+            self.schedule.add_fault();
+            return Err(Failed);
         }
         self.held.extend_from_slice(&from[..count]).unwrap();
         Ok(count)

@@ -1,11 +1,11 @@
 ghost use Rattle.std.specs.Prelude.{◌≡◌, ◌↔◌, ◌+◌, ◌<◌, ◌≤◌, length, take, min, Some, IsErr, IfOk, OnOk, OnErr};
-ghost use Rattle.walter_stream.specs.Calls.{planned, NextFails, AddsCall};
+ghost use Rattle.walter_faults.specs.Schedules.{planned, NextFails, AddsCall};
 ghost use Rattle.walter_stream.specs.Streams.{AtEnd, TakesFront};
 
 use crate::bytes_source::BytesSource;
-use crate::schedule::Schedule;
 use crate::source::{Failed, Source};
 use std::marker::Model;
+use walter_faults::Schedule;
 
 /// A source over bytes in memory, some of whose calls fail.
 #[derive(Drop)]
@@ -56,7 +56,9 @@ impl Source for MemorySource {
         ensures calls { AddsCall self.old.calls self.new.calls }
         ensures most { IfOk result (λ n. n ≡ min (length self.old.left) (length into.old)) }
     {
-        self.schedule.call()?;
+        if self.schedule.fails() {
+            return Err(Failed);
+        }
         self.source.read(into)
     }
 }

@@ -2,10 +2,10 @@ ghost use Rattle.std.specs.Prelude.{◌≡◌, ◌<◌, ◌≤◌, ◌+◌, leng
 ghost use Rattle.std.specs.Io.KnownBytes.{WriteAppends};
 ghost use Rattle.walter_stream.specs.StdSink.{writer_of, faults_of};
 
-use crate::fault_count::FaultCount;
 use crate::sink::Sink;
 use crate::source::Failed;
 use std::io::Write;
+use walter_faults::FaultCount;
 
 /// A sink over a writer of std. It tells no bytes, since no one can know what a file or a socket holds.
 #[derive(Drop)]

@@ -2,9 +2,9 @@ ghost use Rattle.std.specs.Prelude.{◌≡◌, ◌<◌, ◌≤◌, length, take,
 ghost use Rattle.std.specs.Io.KnownBytes.{ReadConsumes};
 ghost use Rattle.walter_stream.specs.StdSource.{reader_of, faults_of};
 
-use crate::fault_count::FaultCount;
 use crate::source::{Failed, Source};
 use std::io::Read;
+use walter_faults::FaultCount;
 
 /// A source over a reader of std. It tells no bytes, since no one can know what a file or a socket holds.
 #[derive(Drop)]
