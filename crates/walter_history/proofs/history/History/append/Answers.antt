@@ -22,41 +22,23 @@ invariant_of-self-2 c =
     let own = subst (AreOf oid) (rows_at old oid _ here) (c.self.invariant oid) in
     own_set old _ oid _ sets c.self.invariant (subst (AreOf oid) (sym {A = List Row} c.push_reserved.ensures.items) (own_more oid _ c.args.row own c.requires.own))
 
-pub returns-clause-still : goal.returns-clause-still
-returns-clause-still c =
-    let v = c.push_reserved.new.self in
-    let sets = sets_lent c.self.inside.lines _ c.args.oid c.in-Some.rows.now v c.in-Some.ensures.value (c.get_mut.follows.holds v) in
-    still _ _ c.args.oid _ (from_view _ _ _ c.self.view_is sets)
-
-pub returns-clause-rows : goal.returns-clause-rows
-returns-clause-rows c other =
+pub returns : goal.returns
+returns c =
     let old = c.args.self.now in
     let oid = c.args.oid in
     let v = c.push_reserved.new.self in
-    let sets = sets_lent c.self.inside.lines _ oid c.in-Some.rows.now v c.in-Some.ensures.value (c.get_mut.follows.holds v) in
+    let sets = from_view _ old _ c.self.view_is (sets_lent c.self.inside.lines _ oid c.in-Some.rows.now v c.in-Some.ensures.value (c.get_mut.follows.holds v)) in
     let here = subst (λ lines. line_of lines oid ≡ Some (line_in c.in-Some.rows.now)) c.self.view_is (line_is c.self.inside.lines.entries oid c.in-Some.rows.now c.in-Some.ensures.value) in
-    rows_set old _ oid _ (from_view _ _ _ c.self.view_is sets) other
-    ∙ ap (λ rows. if same_object oid other then rows else rows_of old other) (c.push_reserved.ensures.items ∙ ap (λ rows. rows ++ c.args.row ∷ []) (sym (rows_at old oid _ here)))
-
-pub returns-clause-room : goal.returns-clause-room
-returns-clause-room c other =
-    let old = c.args.self.now in
-    let oid = c.args.oid in
-    let v = c.push_reserved.new.self in
-    let sets = sets_lent c.self.inside.lines _ oid c.in-Some.rows.now v c.in-Some.ensures.value (c.get_mut.follows.holds v) in
-    let here = subst (λ lines. line_of lines oid ≡ Some (line_in c.in-Some.rows.now)) c.self.view_is (line_is c.self.inside.lines.entries oid c.in-Some.rows.now c.in-Some.ensures.value) in
+    let more = c.push_reserved.ensures.items ∙ ap (λ rows. rows ++ c.args.row ∷ []) (sym {A = List Row} (rows_at old oid _ here)) in
     let less : vec_capacity v - vec_len v ≡ room_of old oid - 1 = omega (arith, c.push_reserved.ensures.len, c.push_reserved.ensures.capacity, room_at old oid _ here) in
-    room_set old _ oid _ (from_view _ _ _ c.self.view_is sets) other
-    ∙ ap (λ n. if same_object oid other then n else room_of old other) less
+    record {
+      still = still old _ oid _ sets;
+      rows = λ other. rows_set old _ oid _ sets other ∙ ap (λ rows. if same_object oid other then rows else rows_of old other) more;
+      room = λ other. room_set old _ oid _ sets other ∙ ap (λ n. if same_object oid other then n else room_of old other) less;
+    }
 
-pub returns-in_default-clause-rows : goal.returns-in_default-clause-rows
-returns-in_default-clause-rows c =
-    let none = no_line c.self.inside.lines.entries c.args.oid c.in_default.ensures.value in
-    let room = subst (λ lines. 0 < room_of lines c.args.oid) (sym c.self.view_is) c.requires.room in
-    absurd (omega (arith, no_room _ c.args.oid none, room))
-
-pub returns-in_default-clause-room : goal.returns-in_default-clause-room
-returns-in_default-clause-room c =
+pub returns-in_default : goal.returns-in_default
+returns-in_default c =
     let none = no_line c.self.inside.lines.entries c.args.oid c.in_default.ensures.value in
     let room = subst (λ lines. 0 < room_of lines c.args.oid) (sym c.self.view_is) c.requires.room in
     absurd (omega (arith, no_room _ c.args.oid none, room))
