@@ -1,0 +1,2 @@
+pub mod LinesSet
+pub mod LastSeen

@@ -1,0 +1,141 @@
+-- What follows where one object gets a line, and each other keeps its own.
+use Rattle.std.proofs.Common.{◌≡◌, ◌≤◌, Bool, true, false, List, [], ◌∷◌, ◌++◌, Option, Some, None, IsSome, is_some, cond, refl, ap, sym, ◌∙◌, subst, option_map, if◌then◌else◌, arith}
+use Rattle.std.specs.Option.{option_map_or}
+use Rattle.std.specs.Global.{Vec}
+use Rattle.std.specs.Map.{lookup}
+use Rattle.std.proofs.lemmas.Map.Made.{lookup-map_values}
+use Rattle.std.proofs.lemmas.List.Elements.{All-push}
+use Rattle.indexmap.specs.IndexMap.{IndexMap, WritesThrough}
+use Rattle.walter_base.specs.declared.names.ObjId.{ObjId}
+use Rattle.walter_base.specs.declared.update.Row.{Row}
+use Rattle.walter_base.specs.Names.{same_object}
+use Rattle.walter_base.proofs.NameTests.{same_object-true, same_object_refl}
+use Rattle.walter_history.specs.Lines.{Line, line_of, line_in, lines_in, rows_of, room_of, IsOpen}
+use Rattle.walter_history.specs.Rows.{object_of, AreOf}
+
+-- what a look-up finds, as a line
+pub line_found : (entries : List (ObjId × Vec Row)) (oid : ObjId) → line_of (lines_in entries) oid ≡ option_map line_in (lookup (same_object oid) entries)
+line_found entries oid = lookup-map_values line_in (same_object oid) entries
+
+-- the row that a look-up finds, and that none is found
+pub line_is : (entries : List (ObjId × Vec Row)) (oid : ObjId) (v : Vec Row) → Some v ≡ lookup (same_object oid) entries → line_of (lines_in entries) oid ≡ Some (line_in v)
+line_is entries oid v is = line_found entries oid ∙ ap (option_map line_in) (sym is)
+
+pub no_line : (entries : List (ObjId × Vec Row)) (oid : ObjId) → None ≡ lookup (same_object oid) entries → line_of (lines_in entries) oid ≡ None
+no_line entries oid is = line_found entries oid ∙ ap (option_map line_in) (sym is)
+
+-- the same by whether a key is there
+pub found_some : (entries : List (ObjId × Vec Row)) (oid : ObjId) → is_some (lookup (same_object oid) entries) ≡ true → IsOpen (lines_in entries) oid
+found_some entries oid is = subst (λ o. IsSome o) (sym (line_found entries oid)) (by (lookup (same_object oid) entries) is)
+  where
+    by : (o : Option (Vec Row)) → is_some o ≡ true → IsSome (option_map line_in o)
+    by None h = absurd cc
+    by (Some v) h = refl
+
+pub none_found : (entries : List (ObjId × Vec Row)) (oid : ObjId) → is_some (lookup (same_object oid) entries) ≡ false → line_of (lines_in entries) oid ≡ None
+none_found entries oid is = line_found entries oid ∙ by (lookup (same_object oid) entries) is
+  where
+    by : (o : Option (Vec Row)) → is_some o ≡ false → option_map line_in o ≡ None
+    by None h = refl
+    by (Some v) h = absurd cc
+
+pub closed : (lines : List (ObjId × Line)) (oid : ObjId) → line_of lines oid ≡ None → IsOpen lines oid → ⊥
+closed lines oid none is = let there : is_some (line_of lines oid) ≡ true = is in absurd (cc (ap is_some none))
+
+-- what is known of an object's rows and room by its line
+pub rows_at : (lines : List (ObjId × Line)) (oid : ObjId) (line : Line) → line_of lines oid ≡ Some line → rows_of lines oid ≡ line.rows
+rows_at lines oid line is = ap (λ o. option_map_or (λ l. l.rows) o []) is
+
+pub room_at : (lines : List (ObjId × Line)) (oid : ObjId) (line : Line) → line_of lines oid ≡ Some line → room_of lines oid ≡ line.room
+room_at lines oid line is = ap (λ o. option_map_or (λ l. l.room) o 0) is
+
+pub no_rows : (lines : List (ObjId × Line)) (oid : ObjId) → line_of lines oid ≡ None → rows_of lines oid ≡ []
+no_rows lines oid none = ap (λ o. option_map_or (λ l. l.rows) o []) none
+
+pub no_room : (lines : List (ObjId × Line)) (oid : ObjId) → line_of lines oid ≡ None → room_of lines oid ≡ 0
+no_room lines oid none = ap (λ o. option_map_or (λ l. l.room) o 0) none
+
+pub record Sets (old new : List (ObjId × Line)) (oid : ObjId) (line : Line) : Type 0 where
+  pub at : (other : ObjId) → line_of new other ≡ (if same_object oid other then Some line else line_of old other)
+
+-- the same of lines that are equal
+pub from_view : (lines old new : List (ObjId × Line)) {oid : ObjId} {line : Line} → lines ≡ old → Sets lines new oid line → Sets old new oid line
+from_view lines old new {oid} {line} is sets = subst (λ l. Sets l new oid line) is sets
+
+chosen : (b : Bool) (v : Vec Row) (o : Option (Vec Row)) → option_map line_in (cond b (Some v) o) ≡ (if b then Some (line_in v) else option_map line_in o)
+chosen true v o = refl
+chosen false v o = refl
+
+-- a value under a key of the map sets a line
+pub sets_line : (before after : List (ObjId × Vec Row)) (oid : ObjId) (v : Vec Row)
+    → ((q : ObjId) → lookup (same_object q) after ≡ cond (same_object oid q) (Some v) (lookup (same_object q) before))
+    → Sets (lines_in before) (lines_in after) oid (line_in v)
+sets_line before after oid v given = record {
+  at = λ other.
+      line_found after other ∙ ap (option_map line_in) (given other)
+      ∙ chosen (same_object oid other) v (lookup (same_object other) before)
+      ∙ ap (λ o. if same_object oid other then Some (line_in v) else o) (sym (line_found before other));
+}
+
+-- and so does a write through the row that a look-up lends
+pub sets_lent : {S : Type 0} (before after : IndexMap ObjId (Vec Row) S) (oid : ObjId) (was v : Vec Row)
+    → Some was ≡ lookup (same_object oid) before.entries → WritesThrough same_object (same_object oid) before v after
+    → Sets (lines_in before.entries) (lines_in after.entries) oid (line_in v)
+sets_lent before after oid was v is writes = sets_line before.entries after.entries oid v (writes.3 (ap is_some (sym is))).0
+
+module _ (old new : List (ObjId × Line)) (oid : ObjId) (line : Line) (sets : Sets old new oid line) where
+  pub line_now : line_of new oid ≡ Some line
+  line_now = sets.at oid ∙ rw (same_object_refl oid) refl
+
+  pub opened : IsOpen new oid
+  opened = subst (λ o. IsSome o) (sym line_now) refl
+
+  pub still : (other : ObjId) → IsOpen old other → IsOpen new other
+  still other was = subst (λ o. IsSome o) (sym (sets.at other)) (by (same_object oid other))
+    where
+      by : (b : Bool) → IsSome (if b then Some line else line_of old other)
+      by true = refl
+      by false = was
+
+  -- a part of the line, with the value of no line
+  part : {X : Type 0} (f : Line → X) (none : X) (other : ObjId)
+      → option_map_or f (line_of new other) none ≡ (if same_object oid other then f line else option_map_or f (line_of old other) none)
+  part f none other = ap (λ o. option_map_or f o none) (sets.at other) ∙ by (same_object oid other)
+    where
+      by : (b : Bool) → option_map_or f (if b then Some line else line_of old other) none ≡ (if b then f line else option_map_or f (line_of old other) none)
+      by true = refl
+      by false = refl
+
+  pub rows_set : (other : ObjId) → rows_of new other ≡ (if same_object oid other then line.rows else rows_of old other)
+  rows_set other = part (λ l. l.rows) [] other
+
+  pub room_set : (other : ObjId) → room_of new other ≡ (if same_object oid other then line.room else room_of old other)
+  room_set other = part (λ l. l.room) 0 other
+
+  pub rows_kept : line.rows ≡ rows_of old oid → (other : ObjId) → rows_of new other ≡ rows_of old other
+  rows_kept same other = rows_set other ∙ (elim (same_object oid other) as (λ b. same_object oid other ≡ b → (if b then line.rows else rows_of old other) ≡ rows_of old other) [
+    | true ↦ λ is. same ∙ ap (rows_of old) (same_object-true oid other is)
+    | false ↦ λ is. refl
+  ] refl)
+
+  pub room_kept : line.room ≡ room_of old oid → (other : ObjId) → room_of new other ≡ room_of old other
+  room_kept same other = room_set other ∙ (elim (same_object oid other) as (λ b. same_object oid other ≡ b → (if b then line.room else room_of old other) ≡ room_of old other) [
+    | true ↦ λ is. same ∙ ap (room_of old) (same_object-true oid other is)
+    | false ↦ λ is. refl
+  ] refl)
+
+  pub room_more : room_of old oid ≤ line.room → (other : ObjId) → room_of old other ≤ room_of new other
+  room_more more other = subst (λ n. room_of old other ≤ n) (sym (room_set other)) (elim (same_object oid other) as (λ b. same_object oid other ≡ b → room_of old other ≤ (if b then line.room else room_of old other)) [
+    | true ↦ λ is. subst (λ o. room_of old o ≤ line.room) (same_object-true oid other is) more
+    | false ↦ λ is. omega arith
+  ] refl)
+
+  pub own_set : ((o : ObjId) → AreOf o (rows_of old o)) → AreOf oid line.rows → (o : ObjId) → AreOf o (rows_of new o)
+  own_set own here o = subst (AreOf o) (sym (rows_set o)) (elim (same_object oid o) as (λ b. same_object oid o ≡ b → AreOf o (if b then line.rows else rows_of old o)) [
+    | true ↦ λ is. subst (λ p. AreOf p line.rows) (same_object-true oid o is) here
+    | false ↦ λ is. own o
+  ] refl)
+
+-- one more row of the object
+pub own_more : (oid : ObjId) (rows : List Row) (row : Row) → AreOf oid rows → object_of row.update ≡ oid → AreOf oid (rows ++ row ∷ [])
+own_more oid rows row own here = All-push (λ r. object_of r.update ≡ oid) rows row own here

@@ -1,0 +1,10 @@
+//! The rows of versions of each object, and what a vector sees of them.
+#![tactic(auto)]
+
+mod history;
+mod rows;
+
+pub use history::History;
+
+#[cfg(test)]
+mod tests;

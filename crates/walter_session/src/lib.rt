@@ -1,0 +1,12 @@
+//! The sessions of clients: at most one each, and at most 256.
+#![tactic(auto)]
+
+mod session;
+mod sessions;
+mod slot;
+
+pub use session::{Session, Stage, StartFault};
+pub use sessions::{MOST_SESSIONS, Sessions};
+
+#[cfg(test)]
+mod tests;

@@ -1,0 +1,195 @@
+ghost use Rattle.std.specs.Prelude.{◌≡◌, ◌<◌, ◌≤◌, ◌+◌, ℕ, nat_eq, None, Some, IsSome, IsOk, OnOk, OnErr, IfErr, is_some, option_map, if◌then◌else◌};
+ghost use Rattle.std.specs.Option.{option_copied};
+ghost use Rattle.walter_session.specs.Sessions.{seen, session_of, room_of, count_of, CanStart, started, with_update, with_stage, Becomes, AreSame, IsStartFault};
+
+use crate::session::{Session, Stage, StartFault};
+use crate::slot::Slot;
+use indexmap::IndexMap;
+use slab::Slab;
+use std::alloc::Global;
+use std::marker::Model;
+use walter_base::{Mem, Tid, Update, Vts};
+
+/// How many sessions there may be.
+pub const MOST_SESSIONS: usize = 256;
+
+/// The sessions of clients. Contracts see what is kept of each client, and read it by `session_of`, `room_of` and
+/// `count_of`.
+#[derive(Drop)]
+pub struct Sessions {
+    alloc: Global,
+    keys: IndexMap<u32, usize>,
+    slots: Slab<Slot>,
+}
+
+impl Model for Sessions {
+    ghost use Rattle.std.specs.Prelude.{ℕ};
+    ghost use Rattle.indexmap.specs.IndexMap.{spare};
+    ghost use Rattle.walter_session.specs.Sessions.{Table, clients_in, starts_in, AreLinked};
+
+    ghost Value = { Table };
+
+    ghost view = { λ s. record { clients = clients_in s.slots s.keys.entries; starts = starts_in s.slots (spare s.keys) } };
+
+    ghost invariant = { λ s. AreLinked s.keys.entries s.slots };
+}
+
+impl Sessions {
+    /// No client has a session.
+    pub fn new(alloc: Global) -> Sessions
+        ensures sessions { (client : ℕ) → session_of result client ≡ None }
+        ensures count { count_of result ≡ 0 }
+    {
+        Sessions {
+            alloc,
+            keys: IndexMap::new(alloc),
+            slots: Slab::new(alloc),
+        }
+    }
+
+    /// Makes room for one more session.
+    pub fn reserve_start(&mut self) -> Mem<()>
+        ensures enough { OnOk result (CanStart self.new) }
+        ensures had { CanStart self.old → IsOk result }
+        ensures sessions { AreSame self.old self.new }
+        ensures count { count_of self.new ≡ count_of self.old }
+        ensures room { (client : ℕ) → room_of self.new client ≡ room_of self.old client }
+        ensures starts { CanStart self.old → CanStart self.new }
+    {
+        self.keys.reserve(1)?;
+        self.slots.reserve(1)?;
+        Ok(())
+    }
+
+    /// Starts a session of stage Open for a client, without updates.
+    pub fn start(&mut self, client: u32, tid: Tid, snapshot: Vts) -> Result<(), StartFault>
+        ensures started { OnOk result (Becomes self.old self.new client (Some (started tid snapshot))) }
+        ensures count { OnOk result (count_of self.new ≡ count_of self.old + 1) }
+        ensures free { OnOk result ((session_of self.old client ≡ None) × (count_of self.old < 256)) }
+        ensures fault { IfErr result (IsStartFault self.old client) }
+        ensures same { OnErr result (AreSame self.old self.new) }
+        ensures same_count { OnErr result (count_of self.new ≡ count_of self.old) }
+        ensures room { (other : ℕ) → room_of self.new other ≡ room_of self.old other }
+    {
+        if self.keys.contains_key(&client) {
+            return Err(StartFault::TxOpen);
+        }
+        if self.keys.len() >= MOST_SESSIONS {
+            return Err(StartFault::SessionsFull);
+        }
+        let Ok(()) = self.reserve_start() else {
+            return Err(StartFault::NoMemory);
+        };
+        self.put(client, tid, snapshot);
+        Ok(())
+    }
+
+    /// Starts a session without taking memory.
+    fn put(&mut self, client: u32, tid: Tid, snapshot: Vts)
+        requires none { session_of self.old client ≡ None }
+        requires room { CanStart self.old }
+        ensures started { Becomes self.old self.new client (Some (started tid snapshot)) }
+        ensures count { count_of self.new ≡ count_of self.old + 1 }
+        ensures room { (other : ℕ) → room_of self.new other ≡ room_of self.old other }
+    {
+        let session = Session {
+            tid,
+            snapshot,
+            updates: Vec::new(self.alloc),
+            stage: Stage::Open,
+        };
+        let key = self.slots.insert_reserved(Slot { client, session });
+        self.keys.insert(client, key).unwrap();
+    }
+
+    /// Makes room for one more update of the client's session, where it has one.
+    pub fn reserve_update(&mut self, client: u32) -> Mem<()>
+        ensures enough { OnOk result (IsSome (session_of self.old client) → 0 < room_of self.new client) }
+        ensures had { 0 < room_of self.old client → IsOk result }
+        ensures sessions { AreSame self.old self.new }
+        ensures count { count_of self.new ≡ count_of self.old }
+        ensures room { (other : ℕ) → room_of self.old other ≤ room_of self.new other }
+        ensures starts { CanStart self.old → CanStart self.new }
+    {
+        let Some(key) = self.keys.get(&client).copied() else {
+            return Ok(());
+        };
+        let Some(slot) = self.slots.get_mut(key) else {
+            return Ok(());
+        };
+        slot.make_room()
+    }
+
+    /// Puts an update behind the others of the client's session.
+    pub fn add(&mut self, client: u32, update: Update) -> Mem<()>
+        requires { IsSome (session_of self.old client) }
+        ensures added { OnOk result (Becomes self.old self.new client (option_map (with_update update) (session_of self.old client))) }
+        ensures same { OnErr result (AreSame self.old self.new) }
+        ensures had { 0 < room_of self.old client → IsOk result }
+        ensures count { count_of self.new ≡ count_of self.old }
+        ensures room { (other : ℕ) → room_of self.old other ≤ room_of self.new other + (if nat_eq client other then 1 else 0) }
+        ensures starts { CanStart self.old → CanStart self.new }
+    {
+        self.reserve_update(client)?;
+        self.push(client, update);
+        Ok(())
+    }
+
+    /// Puts an update behind the others of the client's session, without taking memory.
+    fn push(&mut self, client: u32, update: Update)
+        requires { 0 < room_of self.old client }
+        ensures added { Becomes self.old self.new client (option_map (with_update update) (session_of self.old client)) }
+        ensures count { count_of self.new ≡ count_of self.old }
+        ensures room { (other : ℕ) → room_of self.new other + (if nat_eq client other then 1 else 0) ≡ room_of self.old other }
+        ensures starts { CanStart self.old → CanStart self.new }
+    {
+        let Some(key) = self.keys.get(&client).copied() else {
+            return;
+        };
+        let Some(slot) = self.slots.get_mut(key) else {
+            return;
+        };
+        slot.push(update);
+    }
+
+    /// The stage of the client's session becomes this one.
+    pub fn set_stage(&mut self, client: u32, stage: Stage)
+        requires { IsSome (session_of self.old client) }
+        ensures stage { Becomes self.old self.new client (option_map (with_stage stage) (session_of self.old client)) }
+        ensures count { count_of self.new ≡ count_of self.old }
+        ensures room { (other : ℕ) → room_of self.new other ≡ room_of self.old other }
+        ensures starts { CanStart self.old → CanStart self.new }
+    {
+        let Some(key) = self.keys.get(&client).copied() else {
+            return;
+        };
+        let Some(slot) = self.slots.get_mut(key) else {
+            return;
+        };
+        slot.set_stage(stage);
+    }
+
+    /// The session of a client.
+    pub fn get(&self, client: u32) -> Option<&Session>
+        ensures { option_map seen (option_copied result) ≡ session_of self.entry.now client }
+    {
+        let Some(key) = self.keys.get(&client).copied() else {
+            return None;
+        };
+        let slot = self.slots.get(key)?;
+        Some(&slot.session)
+    }
+
+    /// Ends the session of a client, where it has one.
+    pub fn end(&mut self, client: u32)
+        ensures sessions { Becomes self.old self.new client None }
+        ensures count { count_of self.new + (if is_some (session_of self.old client) then 1 else 0) ≡ count_of self.old }
+        ensures room { (other : ℕ) → room_of self.new other ≡ (if nat_eq client other then 0 else room_of self.old other) }
+        ensures starts { CanStart self.old → CanStart self.new }
+    {
+        let Some(key) = self.keys.swap_remove(&client) else {
+            return;
+        };
+        self.slots.try_remove(key);
+    }
+}

@@ -1,0 +1,44 @@
+ghost use Rattle.std.specs.Prelude.{◌≡◌, ◌<◌, ◌≤◌, ◌+◌, OnOk, OnErr, IsOk};
+ghost use Rattle.walter_session.specs.Sessions.{kept_in, with_update, with_stage};
+
+use crate::session::{Session, Stage};
+use walter_base::{Mem, Update};
+
+/// A session with its client.
+#[derive(Debug, Drop)]
+pub struct Slot {
+    pub client: u32,
+    pub session: Session,
+}
+
+impl Slot {
+    /// Makes room for one more update.
+    pub fn make_room(&mut self) -> Mem<()>
+        ensures client { self.new.client ≡ self.old.client }
+        ensures session { (kept_in self.new).session ≡ (kept_in self.old).session }
+        ensures enough { OnOk result (0 < (kept_in self.new).room) }
+        ensures more { (kept_in self.old).room ≤ (kept_in self.new).room }
+        ensures had { 0 < (kept_in self.old).room → IsOk result }
+    {
+        self.session.updates.reserve(1)?;
+        Ok(())
+    }
+
+    /// Puts an update behind the others, without taking memory.
+    pub fn push(&mut self, update: Update)
+        requires { 0 < (kept_in self.old).room }
+        ensures client { self.new.client ≡ self.old.client }
+        ensures session { (kept_in self.new).session ≡ with_update update (kept_in self.old).session }
+        ensures room { (kept_in self.new).room + 1 ≡ (kept_in self.old).room }
+    {
+        self.session.updates.push_reserved(update);
+    }
+
+    pub fn set_stage(&mut self, stage: Stage)
+        ensures client { self.new.client ≡ self.old.client }
+        ensures session { (kept_in self.new).session ≡ with_stage stage (kept_in self.old).session }
+        ensures room { (kept_in self.new).room ≡ (kept_in self.old).room }
+    {
+        self.session.stage = stage;
+    }
+}
