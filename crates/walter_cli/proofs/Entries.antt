@@ -1,11 +1,9 @@
 -- What takes no memory, and a trail with the entry of a call more.
-use Rattle.std.proofs.Common.{◌≡◌, ◌≢◌, ◌<◌, ◌+◌, ℕ, List, [], ◌∷◌, ◌++◌, length, reverse, refl, ap, sym, ◌∙◌, subst, arith, inl, inr, ◌⊎◌, Option, Some, None, Result, Ok, Err}
-use Rattle.std.specs.Prelude.{All}
+use Rattle.std.proofs.Common.{◌≡◌, ◌<◌, ◌+◌, ℕ, List, [], ◌∷◌, ◌++◌, length, reverse, refl, ap, sym, ◌∙◌, subst, arith, inl, inr, ◌⊎◌, Option, Some, None, Ok, Err}
 use Rattle.std.proofs.lemmas.List.{length-reverse}
 use Rattle.std.proofs.lemmas.List.Elements.{All-push}
 use Rattle.walter_base.specs.declared.catalog.Catalog.{Catalog}
 use Rattle.walter_base.specs.declared.message.Record.{Record}
-use Rattle.walter_base.specs.declared.message.Refusal.{Refusal}
 use Rattle.walter_base.specs.declared.message.Refusal.TheVariants.{NoTx, BadFrame as IsBad}
 use Rattle.walter_base.specs.declared.message.Reply.{Reply}
 use Rattle.walter_base.specs.declared.message.Reply.TheVariants.{Aborted, Refused}
@@ -21,7 +19,7 @@ use Rattle.walter_trail.specs.declared.trail.Outcome.TheVariants.{Replied}
 use Rattle.walter_trail.specs.declared.trail.TrailEvent.{TrailEvent}
 use Rattle.walter_trail.specs.declared.trail.TrailEvent.TheVariants.{Call as CallEvent}
 use Rattle.walter_trail.specs.Knowledge.{Knowledge, Session, after}
-use Rattle.walter_trail.specs.Rule.{Expected, rule, call_rule, answers, refuses, TakesMemory, no_memory}
+use Rattle.walter_trail.specs.Rule.{Expected, rule, call_rule, answers, TakesMemory, no_memory}
 use Rattle.walter_trail.specs.Trails.{knowledge, clock, entry_of, IsRightEntry, IsRightTrail}
 use Rattle.walter_world.specs.Spelled.{the_site}
 use Rattle.walter_cli.specs.Cells.{IsEntryOf, IsKnown, TakesCopy, IsThere}

@@ -1,5 +1,5 @@
 -- What the answers of a client's connection leave of what was read.
-use Rattle.std.proofs.Common.{◌≡◌, ◌≢◌, ◌≤◌, ◌<◌, ◌+◌, ℕ, List, [], ◌∷◌, ◌++◌, length, refl, ap, sym, ◌∙◌, subst, arith, inl, inr, Option, Some, Result, Ok, Err, get_or, slice_get, slice_set, nat_eq, if◌then◌else◌}
+use Rattle.std.proofs.Common.{◌≡◌, ◌≢◌, ◌≤◌, ◌<◌, ℕ, List, [], ◌∷◌, ◌++◌, length, refl, ap, sym, ◌∙◌, subst, arith, inl, inr, Some, Result, Ok, Err, get_or, slice_get, slice_set, nat_eq, if◌then◌else◌}
 use Rattle.std.proofs.lemmas.Bool.{cases_lt, eq-eqb, ne_eqb}
 use Rattle.std.proofs.lemmas.List.{append-nil, length-set, get_or-set_same, get_or-set_other}
 use Rattle.std.proofs.lemmas.List.Concat.{flat_map-append}
@@ -7,7 +7,7 @@ use Rattle.std.proofs.lemmas.Option.{slice_get-get_or, slice_get_past, get_or_fr
 use Rattle.walter_base.specs.declared.message.BadFrame.{BadFrame}
 use Rattle.walter_base.specs.declared.message.Request.{Request}
 use Rattle.walter_base.specs.declared.message.Request.TheVariants.{Start, Read, Write, Commit, Abort}
-use Rattle.walter_conn.specs.Calls.{Incoming, Answers, TakesCall, TakesFrame, before, fault, cut}
+use Rattle.walter_conn.specs.Calls.{Incoming, Answers, TakesCall, before, fault, cut}
 use Rattle.walter_conn.specs.Connections.{incoming}
 use Rattle.walter_conn.specs.Frames.{Call, IsCallOf}
 use Rattle.walter_conn.specs.Sequences.{AreCalls, AreAllCalls}
@@ -17,7 +17,6 @@ use Rattle.walter_conn.specs.declared.next.Next.TheVariants.{Frame, Ended, Broke
 use Rattle.walter_conn.specs.declared.state.State.TheVariants as state
 use Rattle.walter_conn.proofs.Standings.{one_more_call, over_keeps, over_all, breaks_keeps, breaks_all, calls_of as calls_told}
 use Rattle.walter_psi.proofs.Lists.{slice_get-push_cases, slice_get-append_left, slice_get-push}
-use Rattle.walter_request.specs.Requests.{Spells}
 use Rattle.walter_request.proofs.Lengths.{length-request_spelled}
 use Rattle.walter_scenario.specs.declared.scenario.Client.{Client}
 use Rattle.walter_stream.specs.declared.sink.Sink.{Ghosts as SinkGhosts}

@@ -1,12 +1,11 @@
 -- What a cell's trail is a run of, and what the parts of a call of the program promise together.
-use Rattle.std.proofs.Common.{◌≡◌, ◌≢◌, ℕ, ◌<◌, List, [], ◌∷◌, ◌++◌, length, reverse, Option, Some, None, option_map, refl, ap, sym, ◌∙◌, subst, arith, inl, inr, ◌⊎◌}
+use Rattle.std.proofs.Common.{◌≡◌, ℕ, ◌<◌, List, [], ◌∷◌, ◌++◌, length, reverse, Option, Some, None, option_map, ap, sym, ◌∙◌, subst, arith, inl, inr, ◌⊎◌}
 use Rattle.std.specs.Prelude.{All, String, OnOk, Result, Ok, Err, false}
 use Rattle.std.specs.Result.{is_err}
 use Rattle.std.specs.Global.{Global}
 use Rattle.std.proofs.lemmas.List.{append-nil, length-append}
 use Rattle.std.proofs.lemmas.List.Elements.{All-push, All-weaker}
 use Rattle.walter_base.specs.declared.catalog.Catalog.{Catalog}
-use Rattle.walter_base.specs.declared.message.Reply.{Reply}
 use Rattle.walter_conn.proofs.Standings.{calls_of as calls_told}
 use Rattle.walter_psi.specs.Legal.{IsLegal}
 use Rattle.walter_reply.specs.Replies.{FitsFrame}
@@ -14,18 +13,15 @@ use Rattle.walter_reply.proofs.Lengths.{short_reply_fits}
 use Rattle.walter_report.specs.Reports.{report_text, reply_in, HaveFrames}
 use Rattle.walter_scenario.specs.declared.place.Place.{Place}
 use Rattle.walter_scenario.specs.declared.place.Place.TheVariants.{TooLong}
-use Rattle.walter_scenario.specs.declared.scenario.Client.{Client}
 use Rattle.walter_scenario.specs.declared.scenario.Scenario.{Scenario}
-use Rattle.walter_scenario.specs.Scenarios.{IsReading, IsRefusedAt, IsShort}
+use Rattle.walter_scenario.specs.Scenarios.{IsReading, IsRefusedAt}
 use Rattle.walter_scenario.proofs.Stages.{read_nowhere_refused, one_refused}
 use Rattle.walter_stream.specs.Streams.{AtEnd}
-use Rattle.walter_site.specs.Sites.{catalog_of}
 use Rattle.walter_trail.specs.declared.trail.Entry.{Entry}
 use Rattle.walter_trail.specs.declared.trail.Outcome.{Outcome}
 use Rattle.walter_trail.specs.declared.trail.Outcome.TheVariants.{Replied, Taken, Passed}
 use Rattle.walter_trail.specs.Merges.{merge}
 use Rattle.walter_trail.specs.Trails.{calls_of, IsRightTrail}
-use Rattle.walter_world.specs.Promises.{AreNamed, AnswersCommits}
 use Rattle.walter_world.specs.Spelled.{the_site, psi_of}
 use Rattle.walter_world.proofs.RulePromises.{right_named, right_answers}
 use Rattle.walter_world.proofs.SpelledRun.{one_site_legal}

@@ -1,5 +1,5 @@
 -- Values that are short when they come in are short when they go out.
-use Rattle.std.proofs.Common.{◌≡◌, ◌≢◌, ◌≤◌, ◌+◌, ℕ, List, [], ◌∷◌, ◌++◌, length, filter, flat_map, refl, ap, sym, ◌∙◌, subst, arith, Option, Some, None, option_map, inl, inr, nat_eq, Bool, true, false, if◌then◌else◌, Result, Ok, Err}
+use Rattle.std.proofs.Common.{◌≡◌, ℕ, List, [], ◌∷◌, ◌++◌, filter, flat_map, refl, subst, arith, Option, Some, None, option_map, nat_eq, true, false, if◌then◌else◌, Ok, Err}
 use Rattle.std.specs.FinMap.{get}
 use Rattle.std.specs.Prelude.{IfSome}
 use Rattle.walter_base.specs.declared.catalog.Catalog.{Catalog}
@@ -17,7 +17,6 @@ use Rattle.walter_base.specs.Values.{held_after, value_from, value_of}
 use Rattle.walter_conn.specs.Frames.{Call}
 use Rattle.walter_reply.specs.Replies.{HasShortValue}
 use Rattle.walter_trail.specs.declared.held.Held.{Held}
-use Rattle.walter_trail.specs.declared.trail.Outcome.TheVariants.{Replied}
 use Rattle.walter_trail.specs.declared.trail.TrailEvent.TheVariants.{Call as CallEvent}
 use Rattle.walter_trail.specs.Conflicts.{conflict_of}
 use Rattle.walter_trail.specs.Knowledge.{Knowledge, Session, sees, read_updates, with_update, after}

@@ -1,25 +1,22 @@
 -- A cell before its first turn, and after one more.
-use Rattle.std.proofs.Common.{◌≡◌, ◌≢◌, ◌<◌, ◌+◌, ℕ, zero, suc, List, [], ◌∷◌, ◌++◌, length, reverse, refl, ap, sym, ◌∙◌, subst, arith, inl, inr, Option, Some, None, slice_get}
+use Rattle.std.proofs.Common.{◌≡◌, ◌≢◌, ◌<◌, ℕ, zero, suc, List, [], ◌∷◌, ◌++◌, length, refl, ap, sym, ◌∙◌, subst, arith, inl, inr, Some, slice_get}
 use Rattle.std.specs.Prelude.{All}
 use Rattle.std.proofs.lemmas.Bool.{cases_eq}
 use Rattle.std.proofs.lemmas.List.Elements.{All-push}
-use Rattle.std.proofs.lemmas.Option.{slice_get_within}
 use Rattle.walter_base.specs.declared.catalog.Catalog.{Catalog}
 use Rattle.walter_scenario.specs.declared.scenario.Client.{Client}
 use Rattle.walter_scenario.specs.declared.scenario.Scenario.{Scenario}
 use Rattle.walter_scenario.specs.declared.scenario.Step.{Step}
-use Rattle.walter_scenario.specs.declared.scenario.Step.TheVariants as step
 use Rattle.walter_site.specs.declared.site.Site.{Site}
 use Rattle.walter_site.specs.Sites.{known, site_of, catalog_of}
 use Rattle.walter_trail.specs.declared.trail.Entry.{Entry}
 use Rattle.walter_trail.specs.declared.trail.TrailEvent.{TrailEvent}
-use Rattle.walter_trail.specs.Knowledge.{Knowledge}
-use Rattle.walter_trail.specs.Trails.{knowledge, calls_of, opening, IsRightTrail}
+use Rattle.walter_trail.specs.Trails.{knowledge, calls_of, opening}
 use Rattle.walter_world.specs.Spelled.{the_site}
 use Rattle.walter_cli.specs.declared.cell.Cell.{Cell}
 use Rattle.walter_cli.specs.declared.cell.Serve.{Serve}
 use Rattle.walter_cli.specs.declared.cell.Serve.TheVariants as serve
-use Rattle.walter_cli.specs.Cells.{IsKnown, IsCell, IsLineAt, AreLines, Grows, TurnsTo}
+use Rattle.walter_cli.specs.Cells.{IsKnown, IsCell, IsLineAt, Grows, TurnsTo}
 use Rattle.walter_cli.specs.Plays.{IsTurn, Takes, Plays, IsOfClients, spent, over, served}
 use Rattle.walter_cli.specs.Shortness.{AreShort, Fits}
 use Rattle.walter_cli.proofs.Lines.{calls_same}

@@ -1,6 +1,5 @@
 -- What holds of a site with its trail and its clients' connections between two events.
 use Rattle.std.specs.Prelude.{◌≡◌, ◌≢◌, ◌<◌, ◌⊎◌, ℕ, List, [], ◌∷◌, ◌++◌, length, reverse, slice_get, Option, Some, None, All}
-use Rattle.walter_base.specs.declared.catalog.Catalog.{Catalog}
 use Rattle.walter_base.specs.declared.message.Record.{Record}
 use Rattle.walter_base.specs.declared.message.Reply.{Reply}
 use Rattle.walter_base.specs.declared.message.Reply.TheVariants.{Started, Value, Done, Committed, Aborted, Ended as EndedIs, Refused}
@@ -15,14 +14,13 @@ use Rattle.walter_conn.specs.declared.state.State.TheVariants as state
 use Rattle.walter_scenario.specs.declared.scenario.Client.{Client}
 use Rattle.walter_scenario.specs.declared.scenario.Scenario.{Scenario}
 use Rattle.walter_site.specs.declared.site.Site.{Site}
-use Rattle.walter_site.specs.Sites.{known, site_of, catalog_of, expected}
+use Rattle.walter_site.specs.Sites.{known, site_of, catalog_of}
 use Rattle.walter_stream.specs.declared.sink.Sink.{Ghosts as SinkGhosts}
 use Rattle.walter_stream.specs.declared.source.Source.{Ghosts as SourceGhosts}
 use Rattle.walter_trail.specs.declared.trail.Entry.{Entry}
 use Rattle.walter_trail.specs.declared.trail.TrailEvent.{TrailEvent}
 use Rattle.walter_trail.specs.declared.trail.TrailEvent.TheVariants as event
-use Rattle.walter_trail.specs.Knowledge.{Knowledge}
-use Rattle.walter_trail.specs.Rule.{Expected, rule, TakesMemory, no_memory}
+use Rattle.walter_trail.specs.Rule.{rule, TakesMemory, no_memory}
 use Rattle.walter_trail.specs.Trails.{knowledge, clock, entry_of, calls_of, IsRightTrail}
 use Rattle.walter_world.specs.Spelled.{the_site}
 use Rattle.walter_cli.specs.declared.cell.Cell.{Cell}

@@ -1,6 +1,5 @@
 -- How a run is driven: by the steps of the scenario, in order.
 use Rattle.std.specs.Prelude.{◌≡◌, ◌<◌, ◌≤◌, ℕ, List, [], ◌∷◌, ◌++◌, length, slice_get, Some, All}
-use Rattle.walter_base.specs.declared.names.SiteId.{SiteId}
 use Rattle.walter_conn.specs.Frames.{Call}
 use Rattle.walter_conn.specs.Sequences.{AreCalls, AreAllCalls}
 use Rattle.walter_scenario.specs.declared.scenario.Client.{Client}

@@ -1,13 +1,11 @@
 -- What fits a frame: a value that came in a frame goes out in one.
 use Rattle.std.specs.Prelude.{◌≡◌, ◌≤◌, ℕ, List, [], ◌∷◌, length, Some, Ok, Err}
-use Rattle.walter_base.specs.declared.message.Reply.{Reply}
 use Rattle.walter_base.specs.declared.message.Request.TheVariants.{Start, Read, Write as WriteAsked, Commit, Abort}
 use Rattle.walter_base.specs.declared.update.Update.{Update}
 use Rattle.walter_base.specs.declared.update.Update.TheVariants.{Write, Add, Del}
 use Rattle.walter_conn.specs.Frames.{Call}
 use Rattle.walter_reply.specs.Replies.{HasShortValue}
 use Rattle.walter_trail.specs.declared.held.Held.{Held}
-use Rattle.walter_trail.specs.declared.trail.Entry.{Entry}
 use Rattle.walter_trail.specs.declared.trail.Outcome.{Outcome}
 use Rattle.walter_trail.specs.declared.trail.Outcome.TheVariants.{Replied, Taken, Passed}
 use Rattle.walter_trail.specs.Knowledge.{Knowledge, Session}

@@ -1,8 +1,7 @@
-use Rattle.std.proofs.Common.{◌≡◌, ◌∷◌, [], List, length, refl, ap, sym, ◌∙◌, subst}
+use Rattle.std.proofs.Common.{◌∷◌, [], List, length, ap, sym, ◌∙◌, subst}
 use Rattle.std.specs.Prelude.{All}
 use Rattle.walter_base.specs.declared.catalog.Catalog.{Catalog}
 use Rattle.walter_trail.specs.declared.trail.Entry.{Entry}
-use Rattle.walter_trail.specs.Knowledge.{Knowledge}
 use Rattle.walter_trail.specs.Trails.{opening, knowledge}
 use Rattle.walter_world.specs.Spelled.{the_site}
 use Rattle.walter_cli.specs.Cells.{IsKnown}

@@ -1,4 +1,4 @@
-use Rattle.std.proofs.Common.{◌≡◌, ◌+◌, ◌∷◌, [], length, take, ap, arith}
+use Rattle.std.proofs.Common.{◌+◌, ◌∷◌, [], length, take, ap, arith}
 use Rattle.std.proofs.lemmas.List.{length-take, length_push}
 use Rattle.walter_psi.proofs.CheckerLists.{take_one}
 use Rattle.walter_trail.specs.Trails.{opening}

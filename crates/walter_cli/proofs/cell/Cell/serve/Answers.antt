@@ -1,4 +1,4 @@
-use Rattle.std.proofs.Common.{◌≡◌, ℕ, ◌<◌, ◌+◌, ◌++◌, ◌∷◌, [], List, length, refl, ap, sym, ◌∙◌, subst, arith, inr}
+use Rattle.std.proofs.Common.{◌≡◌, ◌+◌, ◌++◌, ◌∷◌, [], List, length, ap, sym, ◌∙◌, subst, arith}
 use Rattle.walter_conn.specs.Connections.{incoming}
 use Rattle.walter_conn.specs.Frames.{Call}
 use Rattle.walter_conn.specs.Calls.{Incoming}
