@@ -91,7 +91,7 @@ TurnsTo client bytes old new serve.Served =
     (length old < 100000)
     × ((e : Entry) × (call : Call) × (rest : List ℕ) × (new ≡ old ++ e ∷ []) × (e.event ≡ event.Call client call) × AreCalls bytes (calls_of client new) rest)
 
--- a reply whose copy takes memory
+-- a reply whose copy may take memory
 abbrev pub TakesCopy : Reply → Type 0
 TakesCopy (Started tid) = Unit {0}
 TakesCopy (Value value) = Unit {0}
@@ -101,7 +101,7 @@ TakesCopy (Aborted cause) = ⊥
 TakesCopy EndedIs = Unit {0}
 TakesCopy (Refused refusal) = ⊥
 
--- a record whose copy takes memory
+-- a record, whose copy may take memory
 abbrev pub IsThere : Option Record → Type 0
 IsThere None = ⊥
 IsThere (Some rec) = Unit {0}
