@@ -1,7 +1,6 @@
 -- What a snapshot sees of the transactions that the one site holds, which are its own commits, in order.
-use Rattle.std.proofs.Common.{◌≡◌, ◌≢◌, ℕ, zero, suc, ◌+◌, ◌-◌, ◌<◌, ◌≤◌, List, [], ◌∷◌, ◌++◌, length, map, take, filter, refl, ap, sym, ◌∙◌, subst, arith, slice_get, Option, Some, None, inl, inr, if◌then◌else◌, option_map, true, false, not, nat_le, Bool}
+use Rattle.std.proofs.Common.{◌≡◌, ◌≢◌, ℕ, zero, suc, ◌+◌, ◌-◌, ◌<◌, ◌≤◌, List, [], ◌∷◌, ◌++◌, length, map, take, filter, refl, ap, sym, ◌∙◌, subst, arith, slice_get, Some, None, inl, inr, if◌then◌else◌, option_map, true, false, not, nat_le, Bool}
 use Rattle.std.specs.Prelude.{Contains, AllPairs}
-use Rattle.std.specs.List.{list_any}
 use Rattle.std.proofs.lemmas.Bool.{le-leb, lt-leb, leb-true, leb-false, cases_lt, true_from_ne_false, not-true, not_from_false}
 use Rattle.std.proofs.lemmas.List.Elements.{Contains-append_cases, Contains-append_right}
 use Rattle.std.proofs.Math.Seq.{take-nil}
@@ -112,9 +111,9 @@ filter_stood p [] x stands = absurd (Contains-nil x stands)
 filter_stood p (y ∷ ys) x stands =
     (elim (p y) as (λ b. p y ≡ b → Contains (if b then y ∷ filter p ys else filter p ys) x → Contains (y ∷ ys) x × (p x ≡ true)) [
       | true ↦ λ passes. λ stands_. elim (Contains-append_cases (y ∷ []) (filter p ys) x stands_) [
-          | inl here ↦ let same : y ≡ x = Contains-one y x here in (contains_at (y ∷ ys) x 0 (ap (λ z. Some z) same), ap p (sym same) ∙ passes)
-          | inr there ↦ let is = filter_stood p ys x there in (Contains-append_right (y ∷ []) ys x is.0, is.1)
-        ]
+        | inl here ↦ let same : y ≡ x = Contains-one y x here in (contains_at (y ∷ ys) x 0 (ap (λ z. Some z) same), ap p (sym same) ∙ passes)
+        | inr there ↦ let is = filter_stood p ys x there in (Contains-append_right (y ∷ []) ys x is.0, is.1)
+      ]
       | false ↦ λ fails. λ stands_. let is = filter_stood p ys x stands_ in (Contains-append_right (y ∷ []) ys x is.0, is.1)
     ]) refl stands
 
@@ -154,8 +153,8 @@ pub none_outside : (snapshot : List ℕ) (oid : ObjId) (held : List Held) (x : H
     → Contains (write_set x.tx.updates) oid → sees snapshot x ≡ true
 none_outside snapshot oid held x none stands written =
     true_from_ne_false (sees snapshot x) (λ fails.
-      no_first version_of (outside snapshot oid held) x none
-      (filter_stands (λ h. not (sees snapshot h)) (row oid held) x (filter_stands (wrote oid) held x stands (written_wrote oid x written)) (not_from_false (sees snapshot x) fails)))
+    no_first version_of (outside snapshot oid held) x none
+    (filter_stands (λ h. not (sees snapshot h)) (row oid held) x (filter_stands (wrote oid) held x stands (written_wrote oid x written)) (not_from_false (sees snapshot x) fails)))
 
 -- the first version of an object outside the snapshot is that of a transaction that wrote it and isn't seen
 pub some_outside : (snapshot : List ℕ) (oid : ObjId) (held : List Held) (version : Version) → first_outside snapshot oid held ≡ Some version

@@ -20,7 +20,7 @@ use Rattle.walter_trail.specs.declared.trail.TrailEvent.{TrailEvent}
 use Rattle.walter_trail.specs.declared.trail.TrailEvent.TheVariants.{Call, Restart}
 use Rattle.walter_trail.specs.Conflicts.{conflict_of, IsSeenWhole}
 use Rattle.walter_trail.specs.Knowledge.{Knowledge, Session, read_updates}
-use Rattle.walter_trail.specs.Rule.{Expected, answers, call_rule, if_known, commits, decides, restart_rule, rule, TakesMemory, no_memory}
+use Rattle.walter_trail.specs.Rule.{answers, call_rule, if_known, commits, decides, restart_rule, rule}
 use Rattle.walter_trail.specs.Trails.{knowledge, IsRightEntry, AreRight}
 use Rattle.walter_trail.proofs.ConflictNamed.{conflict_named, no_conflict_named}
 use Rattle.walter_world.specs.Promises.{IsNamed, AreNamed, IsCommitAnswer, AnswersCommits}

@@ -1,5 +1,5 @@
 -- Each right entry keeps what the history has to do with what the site knows, so it holds of each right trail.
-use Rattle.std.proofs.Common.{◌≡◌, ◌≢◌, ℕ, zero, suc, List, [], ◌∷◌, ◌++◌, map, reverse, refl, ap, sym, ◌∙◌, subst, arith, Option, Some, None, option_map, inl, inr, nat_eq, if◌then◌else◌, Result, Ok, Err, replicate, slice_index, ◌<◌}
+use Rattle.std.proofs.Common.{◌≡◌, ◌≢◌, ℕ, zero, suc, List, [], ◌∷◌, ◌++◌, map, reverse, refl, ap, sym, ◌∙◌, subst, arith, Option, Some, None, option_map, inl, inr, Result, Ok, Err, replicate, slice_index, ◌<◌}
 use Rattle.std.specs.FinMap.{get}
 use Rattle.std.proofs.lemmas.Bool.{cases_eq, eq-eqb, ne_eqb}
 use Rattle.std.proofs.lemmas.List.{append-nil, append_assoc, length-replicate}
@@ -27,7 +27,7 @@ use Rattle.walter_trail.specs.declared.trail.TrailEvent.TheVariants.{Call, Resta
 use Rattle.walter_trail.specs.Conflicts.{conflict_of}
 use Rattle.walter_trail.specs.Knowledge.{Knowledge, Session, fresh, after, read_updates, with_update}
 use Rattle.walter_trail.specs.Merges.{merge}
-use Rattle.walter_trail.specs.Rule.{Expected, answers, refuses, call_rule, if_known, commits, decides, restart_rule, rule, next_tid, next_seq, TakesMemory, no_memory}
+use Rattle.walter_trail.specs.Rule.{Expected, answers, call_rule, if_known, commits, decides, restart_rule, rule, next_tid, next_seq, TakesMemory, no_memory}
 use Rattle.walter_trail.specs.Trails.{knowledge, IsRightEntry, AreRight, IsRightTrail}
 use Rattle.walter_trail.proofs.ConflictNamed.{conflict_named, no_conflict_named}
 use Rattle.walter_world.specs.Spelled.{the_site, recorded, answered, steps_of, of_session, did, saw, told, aborted, history, psi_of}

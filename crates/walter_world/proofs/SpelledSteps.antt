@@ -157,13 +157,13 @@ others_stay held new h session step client now are leaves goes differs = record 
   ];
   apart = λ c d s t has gets same. elim (with_cases client now session c s has) [
     | inl here ↦ elim (with_cases client now session d t gets) [
-        | inl both ↦ here.0 ∙ sym both.0
-        | inr there ↦ absurd (differs s d t here.1 there.0 there.1 same)
-      ]
+      | inl both ↦ here.0 ∙ sym both.0
+      | inr there ↦ absurd (differs s d t here.1 there.0 there.1 same)
+    ]
     | inr there ↦ elim (with_cases client now session d t gets) [
-        | inl here ↦ absurd (differs t c s here.1 there.0 there.1 (sym same))
-        | inr both ↦ are.apart c d s t there.1 both.1 same
-      ]
+      | inl here ↦ absurd (differs t c s here.1 there.0 there.1 (sym same))
+      | inr both ↦ are.apart c d s t there.1 both.1 same
+    ]
   ];
 }
 
@@ -177,7 +177,7 @@ pub all_stay : (held : List Held) (h : List Step) (session : ℕ → Option Sess
 all_stay held h session step client now are leaves goes differs =
     subst (λ xs. AreOpen xs (h ++ step ∷ []) (with_one client now session)) (append-nil held)
     (others_stay held [] h session step client now are leaves
-      (λ s has. subst (λ xs. IsOpen xs (h ++ step ∷ []) s) (sym (append-nil held)) (goes s has)) differs)
+    (λ s has. subst (λ xs. IsOpen xs (h ++ step ∷ []) s) (sym (append-nil held)) (goes s has)) differs)
 
 -- a step that leaves all transactions alone leaves all sessions as they are
 pub all_left : (held : List Held) (h : List Step) (session : ℕ → Option Session) (step : Step) → AreOpen held h session
@@ -207,9 +207,9 @@ without_step held h session client are = record {
   apart = λ c d s t has gets same. elim (with_cases client None session c s has) [
     | inl here ↦ absurd (let e = here.1 in cc)
     | inr there ↦ elim (with_cases client None session d t gets) [
-        | inl here ↦ absurd (let e = here.1 in cc)
-        | inr both ↦ are.apart c d s t there.1 both.1 same
-      ]
+      | inl here ↦ absurd (let e = here.1 in cc)
+      | inr both ↦ are.apart c d s t there.1 both.1 same
+    ]
   ];
 }
 
@@ -260,11 +260,11 @@ module _ (epoch starts : ℕ) (committed : List ℕ) (held : List Held) (h : Lis
         snapshot = snapshot_here x the_site h [] fresh ∙ (ap (λ (site : SiteId). log site h) home ∙ (is.log ∙ ap (λ xs. map name_of xs) (sym (take_all (entry_at s.snapshot the_site) held (omega (arith, all))))));
       } in (
         quiet_step step (starts + 1) (home, fresh) (record { none_logged = refl; none_committed = refl; no_notice = λ y e. absurd cc }) (omega arith)
-        (λ y site e. let same : x ≡ y = cc in subst (λ z. IsIssued epoch (starts + 1) z) same issued_here),
+            (λ y site e. let same : x ≡ y = cc in subst (λ z. IsIssued epoch (starts + 1) z) same issued_here),
         all_stay held h session step client (Some s) are
-        (λ c t other has. record { no_commit = λ us e. absurd cc; no_abort = λ cause e. absurd cc; no_update = λ u e. absurd cc })
-        (λ t has. let same : s ≡ t = cc in subst (λ z. IsOpen held (h ++ step ∷ []) z) same goes)
-        (λ t c u has other gets same. let e : s ≡ t = cc in
+            (λ c t other has. record { no_commit = λ us e. absurd cc; no_abort = λ cause e. absurd cc; no_update = λ u e. absurd cc })
+            (λ t has. let same : s ≡ t = cc in subst (λ z. IsOpen held (h ++ step ∷ []) z) same goes)
+            (λ t c u has other gets same. let e : s ≡ t = cc in
             fresh (subst (λ y. IsStarted y h) (sym (ap (λ (z : Session). z.tid) e ∙ same)) (are.open_ c u gets).running.0)),
       )
 
@@ -286,8 +286,8 @@ module _ (epoch starts : ℕ) (committed : List ℕ) (held : List Held) (h : Lis
       → IsTold epoch starts committed held (h ++ Read s.tid oid (ValueIs value) ∷ []) × AreOpen held (h ++ Read s.tid oid (ValueIs value) ∷ []) session
   read_step session s oid value are opened answer = (
     quiet_step (Read s.tid oid (ValueIs value)) starts (opened.running, answer ∙ ap (λ us. value_of oid us) (read_same s opened))
-    (record { none_logged = refl; none_committed = refl; no_notice = λ y e. absurd cc }) (omega arith)
-    (λ y site e. absurd cc),
+        (record { none_logged = refl; none_committed = refl; no_notice = λ y e. absurd cc }) (omega arith)
+        (λ y site e. absurd cc),
     all_left held h session (Read s.tid oid (ValueIs value)) are (λ x. record { no_commit = λ us e. absurd cc; no_abort = λ cause e. absurd cc; no_update = λ u e. absurd cc }),
   )
 
@@ -308,9 +308,9 @@ module _ (epoch starts : ℕ) (committed : List ℕ) (held : List Held) (h : Lis
       goes_on held h s step (s.updates ++ update ∷ []) opened (λ us e. absurd cc) (λ cause e. absurd cc) (ap (λ us. s.updates ++ us) (sym (done_op s.tid update))) in (
         quiet_step step starts opened.running (record { none_logged = refl; none_committed = refl; no_notice = λ y e. absurd cc }) (omega arith) (λ y site e. absurd cc),
         all_stay held h session step client (Some next) are
-        (λ c t other gets. record { no_commit = λ us e. absurd cc; no_abort = λ cause e. absurd cc; no_update = λ u e. others_differ session client s are has c t other gets cc })
-        (λ t e. let same : next ≡ t = cc in subst (λ z. IsOpen held (h ++ step ∷ []) z) same goes)
-        (λ t c u e other gets same. let is_ : next ≡ t = cc in others_differ session client s are has c u other gets (ap (λ (z : Session). z.tid) is_ ∙ same)),
+            (λ c t other gets. record { no_commit = λ us e. absurd cc; no_abort = λ cause e. absurd cc; no_update = λ u e. others_differ session client s are has c t other gets cc })
+            (λ t e. let same : next ≡ t = cc in subst (λ z. IsOpen held (h ++ step ∷ []) z) same goes)
+            (λ t c u e other gets same. let is_ : next ≡ t = cc in others_differ session client s are has c u other gets (ap (λ (z : Session). z.tid) is_ ∙ same)),
       )
 
   -- the client is told of a version
@@ -318,8 +318,8 @@ module _ (epoch starts : ℕ) (committed : List ℕ) (held : List Held) (h : Lis
       → IsTold epoch starts committed held (h ++ Told x (OfVersion version) ∷ []) × AreOpen held (h ++ Told x (OfVersion version) ∷ []) session
   told_step session x version are names = (
     quiet_step (Told x (OfVersion version)) starts names
-    (record { none_logged = refl; none_committed = refl; no_notice = λ y e. absurd (let same : OfVersion version ≡ OfLevel NotCommitted = cc in cc) }) (omega arith)
-    (λ y site e. absurd cc),
+        (record { none_logged = refl; none_committed = refl; no_notice = λ y e. absurd (let same : OfVersion version ≡ OfLevel NotCommitted = cc in cc) }) (omega arith)
+        (λ y site e. absurd cc),
     all_left held h session (Told x (OfVersion version)) are (λ y. record { no_commit = λ us e. absurd cc; no_abort = λ cause e. absurd cc; no_update = λ u e. absurd cc }),
   )
 
@@ -331,9 +331,9 @@ module _ (epoch starts : ℕ) (committed : List ℕ) (held : List Held) (h : Lis
       let step : Step = Abort s.tid cause in (
         quiet_step step starts ((are.open_ client s has).running, there) (record { none_logged = refl; none_committed = refl; no_notice = λ y e. absurd cc }) (omega arith) (λ y site e. absurd cc),
         all_stay held h session step client None are
-        (λ c t other gets. record { no_commit = λ us e. absurd cc; no_abort = λ cause_ e. others_differ session client s are has c t other gets cc; no_update = λ u e. absurd cc })
-        (λ t e. absurd cc)
-        (λ t c u e other gets same. absurd (let none : None ≡ Some t = e in cc)),
+            (λ c t other gets. record { no_commit = λ us e. absurd cc; no_abort = λ cause_ e. others_differ session client s are has c t other gets cc; no_update = λ u e. absurd cc })
+            (λ t e. absurd cc)
+            (λ t c u e other gets same. absurd (let none : None ≡ Some t = e in cc)),
       )
 
   -- no two that are held have the same name
@@ -358,12 +358,11 @@ module _ (epoch starts : ℕ) (committed : List ℕ) (held : List Held) (h : Lis
       let stands : slice_get (commits the_site h) k ≡ Some (name_of y) = ap (λ xs. slice_get xs k) is.commits ∙ (slice_get-map name_of held k ∙ ap (λ o. option_map name_of o) at.1) in
       let names : IsVersionOf h version (name_of y) = (k, seq, ap (λ (site : SiteId). slice_get (commits site h) k) home ∙ stands) in
       let outside_ : ¬ Contains (snapshot s.tid h) (name_of y) = λ within.
-          let z = map_stood name_of (take (entry_at s.snapshot the_site) held) (name_of y) (subst (λ xs. Contains xs (name_of y)) opened.snapshot within) in
-          let front = place_of (take (entry_at s.snapshot the_site) held) z.0 z.1 in
-          let before : front.0 < entry_at s.snapshot the_site = slice_get-take_within held (entry_at s.snapshot the_site) front.0 z.0 front.1 in
-          let there : slice_get held front.0 ≡ Some z.0 = sym (slice_get-take held (entry_at s.snapshot the_site) front.0 before) ∙ front.1 in
-          names_apart front.0 k z.0 y there at.1 (omega (arith, before, behind)) z.2 in
-      (
+      let z = map_stood name_of (take (entry_at s.snapshot the_site) held) (name_of y) (subst (λ xs. Contains xs (name_of y)) opened.snapshot within) in
+      let front = place_of (take (entry_at s.snapshot the_site) held) z.0 z.1 in
+      let before : front.0 < entry_at s.snapshot the_site = slice_get-take_within held (entry_at s.snapshot the_site) front.0 z.0 front.1 in
+      let there : slice_get held front.0 ≡ Some z.0 = sym (slice_get-take held (entry_at s.snapshot the_site) front.0 before) ∙ front.1 in
+      names_apart front.0 k z.0 y there at.1 (omega (arith, before, behind)) z.2 in (
         subst (λ us. Contains (write_set us) oid) (sym opened.updates) conflict.written,
         (name_of y, names, subst (λ us. Contains (write_set us) oid) (sym (is.updates y found.1)) found.2, outside_),
       )
@@ -417,8 +416,7 @@ module _ (epoch starts : ℕ) (committed : List ℕ) (held : List Held) (h : Lis
       let one = commits_one s opened in
       let gives : committed_updates (h ++ step ∷ []) x ≡ s.updates =
       committed_updates_snoc x h step ∙ (ap (λ us. us ++ given x step) (none_committed x h uncommitted) ∙ given_commit x s.updates) in
-      let long = length_push held new in
-      (
+      let long = length_push held new in (
         record {
           legal = legal_snoc h step is.legal next;
           vector = let same = length-set committed 0 (entry_at committed the_site + 1) in let some_ = is.vector in omega (arith, same, some_);
@@ -440,9 +438,9 @@ module _ (epoch starts : ℕ) (committed : List ℕ) (held : List Held) (h : Lis
           ];
         },
         others_stay held (new ∷ []) h session step client None are
-        (λ c t other gets. record { no_commit = λ us e. others_differ session client s are has c t other gets cc; no_abort = λ cause e. absurd cc; no_update = λ u e. absurd cc })
-        (λ t e. absurd cc)
-        (λ t c u e other gets same. absurd (let none : None ≡ Some t = e in cc)),
+            (λ c t other gets. record { no_commit = λ us e. others_differ session client s are has c t other gets cc; no_abort = λ cause e. absurd cc; no_update = λ u e. absurd cc })
+            (λ t e. absurd cc)
+            (λ t c u e other gets same. absurd (let none : None ≡ Some t = e in cc)),
       )
 
   -- the version of the transaction that commits

@@ -1,7 +1,6 @@
 -- What each trail of a site promises of its aborts and its commits, by what the site knew before each entry.
 use Rattle.std.specs.Prelude.{◌≡◌, ◌≢◌, ℕ, List, [], ◌∷◌, Some, Ok}
 use Rattle.walter_base.specs.declared.catalog.Catalog.{Catalog}
-use Rattle.walter_base.specs.declared.message.Refusal.{Refusal}
 use Rattle.walter_base.specs.declared.message.Refusal.TheVariants.{UnknownContainer, NoTx, TxOpen, BadFrame, Memory}
 use Rattle.walter_base.specs.declared.message.Reply.{Reply}
 use Rattle.walter_base.specs.declared.message.Reply.TheVariants.{Started, Value, Done, Committed, Aborted, Ended, Refused}
