@@ -1,6 +1,6 @@
--- A count after one more update, and how far from 0 it can be.
-use Rattle.std.proofs.Common.{◌≡◌, ℕ, ◌+◌, ◌-◌, ◌^◌, ◌≤◌, ◌<◌, Bool, true, false, cond, List, [], ◌∷◌, ◌++◌, length, take, get_or, map, filter, refl, ap, sym, ◌∙◌, arith, if◌then◌else◌}
-use Rattle.std.specs.Prelude.{pos, negsuc, ◌+ℤ◌, ◌-ℤ◌, ◌≤ℤ◌, ◌<ℤ◌, count_by}
+-- Counts after more updates, and how far from 0 they can be.
+use Rattle.std.proofs.Common.{◌≡◌, ℕ, ◌+◌, ◌-◌, ◌^◌, ◌≤◌, ◌<◌, Bool, true, false, cond, List, [], ◌∷◌, ◌++◌, length, take, get_or, map, filter, ap, sym, ◌∙◌, arith}
+use Rattle.std.specs.Prelude.{pos, ◌+ℤ◌, ◌-ℤ◌, ◌≤ℤ◌, ◌<ℤ◌, count_by}
 use Rattle.std.proofs.lemmas.Bool.{le-leb, leb-true, false_from_ne_true}
 use Rattle.std.proofs.lemmas.Int.{ints}
 use Rattle.std.proofs.lemmas.List.{map-append, append-nil, length-append, length-map, length-take-le}
@@ -9,62 +9,39 @@ use Rattle.std.proofs.lemmas.List.Sums.{count_by-le-length, length-filter}
 use Rattle.walter_base.specs.declared.names.ObjId.{ObjId}
 use Rattle.walter_base.specs.declared.update.Row.{Row}
 use Rattle.walter_base.specs.declared.update.Update.{Update}
-use Rattle.walter_base.specs.declared.update.Update.TheVariants.{Write, Add, Del}
 use Rattle.walter_base.specs.Values.{count_of, adds, takes}
 use Rattle.walter_base.specs.Vectors.{IsSeenBy}
 use Rattle.walter_cset.specs.Seen.{sees_row, seen_updates}
-use Rattle.walter_cset.specs.Tallies.{one_step}
 
--- one more element, that passes or doesn't
-counted : {X : Type 0} (p : X → Bool) (xs : List X) (y : X) → count_by p (xs ++ y ∷ []) ≡ count_by p xs + (if p y then 1 else 0)
-counted p xs y =
+counted : {X : Type 0} (p : X → Bool) (xs ys : List X) → count_by p (xs ++ ys) ≡ count_by p xs + count_by p ys
+counted p xs ys =
     let front = length-filter p xs in
-    let whole = length-filter p (xs ++ y ∷ []) in
-    let parts = ap length (filter-append p xs (y ∷ [])) ∙ length-append (filter p xs) (filter p (y ∷ [])) in
-    let last : length (filter p (y ∷ [])) ≡ (if p y then 1 else 0) =
-    elim (p y) as (λ b. length (cond b (y ∷ []) []) ≡ (if b then 1 else 0)) [ true ↦ refl | false ↦ refl ] in
-    omega (arith, front, whole, parts, last)
+    let back = length-filter p ys in
+    let whole = length-filter p (xs ++ ys) in
+    let parts = ap length (filter-append p xs ys) ∙ length-append (filter p xs) (filter p ys) in
+    omega (arith, front, back, whole, parts)
 
-added : (a b : ℕ) (test : Bool) → pos (a + (if test then 1 else 0)) -ℤ pos (b + 0) ≡ (pos a -ℤ pos b) +ℤ (if test then pos 1 else pos 0)
-added a b true = omega (arith, ints)
-added a b false = omega (arith, ints)
-
-taken : (a b : ℕ) (test : Bool) → pos (a + 0) -ℤ pos (b + (if test then 1 else 0)) ≡ (pos a -ℤ pos b) +ℤ (if test then negsuc 0 else pos 0)
-taken a b true = omega (arith, ints)
-taken a b false = omega (arith, ints)
-
-stepped : (oid : ObjId) (id a b : ℕ) (update : Update)
-    → pos (a + (if adds oid id update then 1 else 0)) -ℤ pos (b + (if takes oid id update then 1 else 0)) ≡ (pos a -ℤ pos b) +ℤ one_step oid id update
-stepped oid id a b (Write at bytes) = omega (arith, ints)
-stepped oid id a b (Add at name) = added a b (adds oid id (Add at name))
-stepped oid id a b (Del at name) = taken a b (takes oid id (Del at name))
-
-small : (a t : Bool) → ((pos 0 -ℤ pos 1) ≤ℤ (if a then pos 1 else if t then negsuc 0 else pos 0)) × ((if a then pos 1 else if t then negsuc 0 else pos 0) ≤ℤ pos 1)
-small true t = (omega (arith, ints), omega (arith, ints))
-small false true = (omega (arith, ints), omega (arith, ints))
-small false false = (omega (arith, ints), omega (arith, ints))
-
--- an update raises a count by one at most, and lowers it by one at most
-pub small_step : (oid : ObjId) (id : ℕ) (update : Update) → ((pos 0 -ℤ pos 1) ≤ℤ one_step oid id update) × (one_step oid id update ≤ℤ pos 1)
-small_step oid id update = small (adds oid id update) (takes oid id update)
-
--- the count after one more update
-pub count_more : (oid : ObjId) (id : ℕ) (updates : List Update) (update : Update)
-    → count_of oid id (updates ++ update ∷ []) ≡ count_of oid id updates +ℤ one_step oid id update
-count_more oid id updates update =
-    rw (counted (adds oid id) updates update, counted (takes oid id) updates update)
-    (stepped oid id (count_by (adds oid id) updates) (count_by (takes oid id) updates) update)
+-- the count after updates in two parts
+pub count-append : (oid : ObjId) (id : ℕ) (us vs : List Update) → count_of oid id (us ++ vs) ≡ count_of oid id us +ℤ count_of oid id vs
+count-append oid id us vs =
+    let more = counted (adds oid id) us vs in
+    let less = counted (takes oid id) us vs in
+    omega (arith, ints, more, less)
 
 -- a count is no further from 0 than there are updates
-pub low_count : (oid : ObjId) (id : ℕ) (updates : List Update) → (pos 0 -ℤ pos (length updates)) ≤ℤ count_of oid id updates
+low_count : (oid : ObjId) (id : ℕ) (updates : List Update) → (pos 0 -ℤ pos (length updates)) ≤ℤ count_of oid id updates
 low_count oid id updates =
     let fewer = count_by-le-length (takes oid id) updates in
     omega (arith, ints, fewer)
 
-pub high_count : (oid : ObjId) (id : ℕ) (updates : List Update) → count_of oid id updates ≤ℤ pos (length updates)
+high_count : (oid : ObjId) (id : ℕ) (updates : List Update) → count_of oid id updates ≤ℤ pos (length updates)
 high_count oid id updates =
     let fewer = count_by-le-length (adds oid id) updates in
     omega (arith, ints, fewer)
+
+-- an update raises a count by one at most, and lowers it by one at most
+pub small_step : (oid : ObjId) (id : ℕ) (update : Update) → ((pos 0 -ℤ pos 1) ≤ℤ count_of oid id (update ∷ [])) × (count_of oid id (update ∷ []) ≤ℤ pos 1)
+small_step oid id update = (low_count oid id (update ∷ []), high_count oid id (update ∷ []))
 
 -- what is seen of one row more
 seen_more : (vector : List ℕ) (rows : List Row) (i : ℕ) (row : Row) → i < length rows → row ≡ get_or rows i row
@@ -76,11 +53,11 @@ seen_more vector rows i row within is =
 
 -- the count after one row more, that is seen or isn't
 pub count_seen : (oid : ObjId) (id : ℕ) (vector : List ℕ) (rows : List Row) (i : ℕ) (row : Row) → i < length rows → row ≡ get_or rows i row → IsSeenBy vector row.version
-    → count_of oid id (seen_updates vector (take (i + 1) rows)) ≡ count_of oid id (seen_updates vector (take i rows)) +ℤ one_step oid id row.update
+    → count_of oid id (seen_updates vector (take (i + 1) rows)) ≡ count_of oid id (seen_updates vector (take i rows)) +ℤ count_of oid id (row.update ∷ [])
 count_seen oid id vector rows i row within is sees =
     let passes : sees_row vector row ≡ true = le-leb _ _ sees in
     ap (count_of oid id) (seen_more vector rows i row within is ∙ ap (λ b. seen_updates vector (take i rows) ++ map (λ (r : Row). r.update) (cond b (row ∷ []) [])) passes)
-    ∙ count_more oid id (seen_updates vector (take i rows)) row.update
+    ∙ count-append oid id (seen_updates vector (take i rows)) (row.update ∷ [])
 
 pub count_unseen : (oid : ObjId) (id : ℕ) (vector : List ℕ) (rows : List Row) (i : ℕ) (row : Row) → i < length rows → row ≡ get_or rows i row → ¬ IsSeenBy vector row.version
     → count_of oid id (seen_updates vector (take (i + 1) rows)) ≡ count_of oid id (seen_updates vector (take i rows))

@@ -1,11 +1,8 @@
 -- A number for each id, of which almost all are 0.
-use Rattle.std.specs.Prelude.{◌≡◌, ◌≢◌, ◌<◌, ◌^◌, ◌↔◌, ◌<ℤ◌, ◌-ℤ◌, ◌-◌, ℕ, ℤ, pos, negsuc, List, AllPairs, Contains, if◌then◌else◌}
+use Rattle.std.specs.Prelude.{◌≡◌, ◌≢◌, ◌<◌, ◌^◌, ◌↔◌, ◌<ℤ◌, ◌-ℤ◌, ◌-◌, ℕ, ℤ, pos, List, AllPairs, Contains}
 use Rattle.std.specs.Option.{unwrap_or}
 use Rattle.std.specs.Ordering.{nat_cmp}
 use Rattle.std.specs.BTreeMap.{BTreeMap, get}
-use Rattle.walter_base.specs.declared.names.ObjId.{ObjId}
-use Rattle.walter_base.specs.declared.update.Update.{Update}
-use Rattle.walter_base.specs.Values.{adds, takes}
 
 -- the number of an id, 0 where the tally has none
 abbrev pub number_at : BTreeMap ℕ ℤ → ℕ → ℤ
@@ -14,10 +11,6 @@ number_at tally id = unwrap_or (get nat_cmp tally id) (pos 0)
 -- each number can rise or fall by one
 abbrev pub HasRoom : BTreeMap ℕ ℤ → Type 0
 HasRoom tally = (id : ℕ) → ((pos 0 -ℤ pos (2 ^ 63)) <ℤ number_at tally id) × (number_at tally id <ℤ pos (2 ^ 63 - 1))
-
--- how much an update raises the count of an id
-abbrev pub one_step : ObjId → ℕ → Update → ℤ
-one_step oid id update = if adds oid id update then pos 1 else if takes oid id update then negsuc 0 else pos 0
 
 -- the ids with a number other than 0, by rising id
 pub record AreNumbers (number : ℕ → ℤ) (counts : List (ℕ × ℤ)) : Type 0 where

@@ -1,7 +1,8 @@
 //! A count for each id that was named so far.
-ghost use Rattle.std.specs.Prelude.{◌≡◌, ◌^◌, ◌≤ℤ◌, ◌<ℤ◌, ◌-ℤ◌, ◌+ℤ◌, pos, ℕ, nat_eq, if◌then◌else◌, OnOk, IfOk};
+ghost use Rattle.std.specs.Prelude.{◌≡◌, ◌^◌, ◌≤ℤ◌, ◌<ℤ◌, ◌-ℤ◌, ◌+ℤ◌, pos, ℕ, nat_eq, [], ◌∷◌, if◌then◌else◌, OnOk, IfOk};
 ghost use Rattle.std.specs.Ordering.{nat_cmp};
-ghost use Rattle.walter_cset.specs.Tallies.{number_at, HasRoom, one_step, AreNumbers};
+ghost use Rattle.walter_base.specs.Values.{count_of};
+ghost use Rattle.walter_cset.specs.Tallies.{number_at, HasRoom, AreNumbers};
 
 use std::alloc::Global;
 use std::collections::BTreeMap;
@@ -9,7 +10,7 @@ use walter_base::{Counts, Mem, ObjId, Update};
 
 /// How much the update raises the count of the id: by 1, by -1 or not at all.
 pub fn step(update: &Update, oid: ObjId, id: u64) -> i64
-    ensures { result ≡ one_step oid id update.now }
+    ensures { result ≡ count_of oid id (update.now ∷ []) }
 {
     match update {
         Update::Add(at, name) if *at == oid && *name == id => 1,
@@ -32,7 +33,7 @@ fn raise(tally: &mut BTreeMap<u64, i64>, id: u64, by: i64) -> Mem<()>
 /// Takes the update into the count of its id, and leaves each other one.
 pub fn take_in(tally: &mut BTreeMap<u64, i64>, update: &Update, oid: ObjId) -> Mem<()>
     requires { HasRoom tally.old }
-    ensures { OnOk result ((id : ℕ) → number_at tally.new id ≡ number_at tally.old id +ℤ one_step oid id update.now) }
+    ensures { OnOk result ((id : ℕ) → number_at tally.new id ≡ number_at tally.old id +ℤ count_of oid id (update.now ∷ [])) }
 {
     match update {
         Update::Add(at, id) if *at == oid => raise(tally, *id, 1),
