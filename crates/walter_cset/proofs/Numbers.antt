@@ -78,13 +78,19 @@ are_numbers tally ordered = record {
   );
 }
 
--- numbers that are the counts of a set
-pub are_counts : (number : ℕ → ℤ) (oid : ObjId) (updates : List Update) (counts : List (ℕ × ℤ)) → ((id : ℕ) → number id ≡ count_of oid id updates)
-    → AreNumbers number counts → AreCounts oid updates counts
-are_counts number oid updates counts same are = record {
+-- the same of numbers that are equal
+pub same_numbers : (number other : ℕ → ℤ) (counts : List (ℕ × ℤ)) → ((id : ℕ) → number id ≡ other id) → AreNumbers number counts → AreNumbers other counts
+same_numbers number other counts same are = record {
   rising = are.rising;
   held = λ id n. (
     λ stands. let is = (are.held id n).0 stands in (sym (same id) ∙ is.0, is.1),
     λ is. (are.held id n).1 (same id ∙ is.0, is.1),
   );
 }
+
+-- numbers that are the counts of a set
+pub are_counts : (number : ℕ → ℤ) (oid : ObjId) (updates : List Update) (counts : List (ℕ × ℤ)) → ((id : ℕ) → number id ≡ count_of oid id updates)
+    → AreNumbers number counts → AreCounts oid updates counts
+are_counts number oid updates counts same are =
+    let all = same_numbers number (λ id. count_of oid id updates) counts same are in
+    record { rising = all.rising; held = all.held }

@@ -3,7 +3,7 @@ use Rattle.std.proofs.Common.{◌≡◌, ℕ, ◌+◌, ◌-◌, ◌^◌, ◌≤�
 use Rattle.std.specs.Prelude.{pos, ◌+ℤ◌, ◌-ℤ◌, ◌≤ℤ◌, ◌<ℤ◌, count_by}
 use Rattle.std.proofs.lemmas.Bool.{le-leb, leb-true, false_from_ne_true}
 use Rattle.std.proofs.lemmas.Int.{ints}
-use Rattle.std.proofs.lemmas.List.{map-append, append-nil, length-append, length-map, length-take-le}
+use Rattle.std.proofs.lemmas.List.{map-append, append-nil, length-append, length-map, length-take-le, take_more}
 use Rattle.std.proofs.lemmas.List.Elements.{filter-append, filter_more}
 use Rattle.std.proofs.lemmas.List.Sums.{count_by-le-length, length-filter}
 use Rattle.walter_base.specs.declared.names.ObjId.{ObjId}
@@ -29,12 +29,12 @@ count-append oid id us vs =
     omega (arith, ints, more, less)
 
 -- a count is no further from 0 than there are updates
-low_count : (oid : ObjId) (id : ℕ) (updates : List Update) → (pos 0 -ℤ pos (length updates)) ≤ℤ count_of oid id updates
+pub low_count : (oid : ObjId) (id : ℕ) (updates : List Update) → (pos 0 -ℤ pos (length updates)) ≤ℤ count_of oid id updates
 low_count oid id updates =
     let fewer = count_by-le-length (takes oid id) updates in
     omega (arith, ints, fewer)
 
-high_count : (oid : ObjId) (id : ℕ) (updates : List Update) → count_of oid id updates ≤ℤ pos (length updates)
+pub high_count : (oid : ObjId) (id : ℕ) (updates : List Update) → count_of oid id updates ≤ℤ pos (length updates)
 high_count oid id updates =
     let fewer = count_by-le-length (adds oid id) updates in
     omega (arith, ints, fewer)
@@ -42,6 +42,13 @@ high_count oid id updates =
 -- an update raises a count by one at most, and lowers it by one at most
 pub small_step : (oid : ObjId) (id : ℕ) (update : Update) → ((pos 0 -ℤ pos 1) ≤ℤ count_of oid id (update ∷ [])) × (count_of oid id (update ∷ []) ≤ℤ pos 1)
 small_step oid id update = (low_count oid id (update ∷ []), high_count oid id (update ∷ []))
+
+-- the count after one update more
+pub count_next : (oid : ObjId) (id : ℕ) (updates : List Update) (i : ℕ) (update : Update) → i < length updates → update ≡ get_or updates i update
+    → count_of oid id (take (i + 1) updates) ≡ count_of oid id (take i updates) +ℤ count_of oid id (update ∷ [])
+count_next oid id updates i update within is =
+    ap (count_of oid id) (take_more updates i update within ∙ ap (λ (u : Update). take i updates ++ u ∷ []) (sym is))
+    ∙ count-append oid id (take i updates) (update ∷ [])
 
 -- what is seen of one row more
 seen_more : (vector : List ℕ) (rows : List Row) (i : ℕ) (row : Row) → i < length rows → row ≡ get_or rows i row

@@ -5,6 +5,7 @@ mod counting;
 mod tally;
 
 pub use counting::{count, counts};
+pub use tally::{shown, step, take_in};
 
 #[cfg(test)]
 mod tests;

@@ -1,4 +1,4 @@
-//! A count for each id that was named so far.
+//! A count for each id that was named so far: a tally.
 ghost use Rattle.std.specs.Prelude.{◌≡◌, ◌^◌, ◌≤ℤ◌, ◌<ℤ◌, ◌-ℤ◌, ◌+ℤ◌, pos, ℕ, nat_eq, [], ◌∷◌, if◌then◌else◌, OnOk, IfOk};
 ghost use Rattle.std.specs.Ordering.{nat_cmp};
 ghost use Rattle.walter_base.specs.Values.{count_of};
@@ -30,7 +30,7 @@ fn raise(tally: &mut BTreeMap<u64, i64>, id: u64, by: i64) -> Mem<()>
     Ok(())
 }
 
-/// Takes the update into the count of its id, and leaves each other one.
+/// Takes the update into the count of its id, and leaves each other one. After want of memory nothing is known of the tally.
 pub fn take_in(tally: &mut BTreeMap<u64, i64>, update: &Update, oid: ObjId) -> Mem<()>
     requires { HasRoom tally.old }
     ensures { OnOk result ((id : ℕ) → number_at tally.new id ≡ number_at tally.old id +ℤ count_of oid id (update.now ∷ [])) }
@@ -42,7 +42,7 @@ pub fn take_in(tally: &mut BTreeMap<u64, i64>, update: &Update, oid: ObjId) -> M
     }
 }
 
-/// The counts other than 0.
+/// The counts other than 0. It goes over each id of the tally, those that came back to 0 too.
 pub fn shown(alloc: Global, tally: &BTreeMap<u64, i64>) -> Mem<Counts>
     ensures { IfOk result (AreNumbers (number_at tally.now)) }
 {

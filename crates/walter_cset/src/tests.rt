@@ -1,4 +1,5 @@
-use crate::{count, counts};
+use crate::{count, counts, shown, step, take_in};
+use std::collections::BTreeMap;
 use std::test::Fail;
 use walter_base::{ObjId, Row, SiteId, Update, Version, Vts};
 
@@ -63,5 +64,16 @@ fn rows_that_are_not_seen_count_for_nothing(rt: HostRuntime) -> Result<(), Fail>
     assert_eq!(rt; some.as_slice(), [(9, 1)].as_slice());
     assert_eq!(rt; count(&rows, &by, SET, 9), 1);
     assert_eq!(rt; count(&rows, &by, SET, 7), 0);
+    Ok(())
+}
+
+#[test]
+fn a_tally_takes_updates_in_and_shows_them(rt: HostRuntime) -> Result<(), Fail> {
+    let update = Update::Del(SET, 9);
+    assert_eq!(rt; step(&update, SET, 9), -1);
+    let mut tally = BTreeMap::new(rt.alloc());
+    take_in(&mut tally, &update, SET)?;
+    let all = shown(rt.alloc(), &tally)?;
+    assert_eq!(rt; all.as_slice(), [(9, -1)].as_slice());
     Ok(())
 }

@@ -15,10 +15,10 @@ use Rattle.std.proofs.lemmas.Map.Views.{Contains-from_lookup}
 use Rattle.walter_base.specs.declared.names.ObjId.{ObjId}
 use Rattle.walter_base.specs.declared.update.Update.{Update}
 use Rattle.walter_base.specs.Values.{count_of, AreCounts}
-use Rattle.walter_overlay.specs.Tallies.{number_at}
+use Rattle.walter_cset.specs.Tallies.{number_at}
+use Rattle.walter_cset.proofs.Steps.{count-append}
+use Rattle.walter_cset.proofs.Numbers.{are_counts}
 use Rattle.walter_overlay.specs.Overlays.{AreRising, IsModest, count_in, count_over, AreLaidOver}
-use Rattle.walter_overlay.proofs.Steps.{count-append}
-use Rattle.walter_overlay.proofs.Numbers.{same_numbers}
 
 -- an entry above all others comes last
 insert_last : (es : List (ℕ × ℤ)) (k : ℕ) (v : ℤ) → All (λ e. e.0 < k) es → insert_entry nat_cmp es k v ≡ es ++ (k, v) ∷ []
@@ -89,6 +89,5 @@ count_in_counts oid updates counts id are = by (lookup (nat_eq id) counts) refl
 pub counts_after_both : (oid : ObjId) (earlier own : List Update) (base counts : List (ℕ × ℤ)) → AreCounts oid earlier base → AreLaidOver base oid own counts
     → AreCounts oid (earlier ++ own) counts
 counts_after_both oid earlier own base counts are laid =
-    let all = same_numbers (count_over base oid own) (λ id. count_of oid id (earlier ++ own)) counts
-    (λ id. ap (λ n. n +ℤ count_of oid id own) (count_in_counts oid earlier base id are) ∙ sym (count-append oid id earlier own)) laid in
-    record { rising = all.rising; held = all.held }
+    are_counts (count_over base oid own) oid (earlier ++ own) counts
+    (λ id. ap (λ n. n +ℤ count_of oid id own) (count_in_counts oid earlier base id are) ∙ sym (count-append oid id earlier own)) laid

@@ -1,3 +1,2 @@
-pub mod Steps
-pub mod Numbers
+pub mod Room
 pub mod Bases

@@ -5,7 +5,7 @@ use Rattle.std.specs.Map.{lookup}
 use Rattle.walter_base.specs.declared.names.ObjId.{ObjId}
 use Rattle.walter_base.specs.declared.update.Update.{Update}
 use Rattle.walter_base.specs.Values.{count_of}
-use Rattle.walter_overlay.specs.Tallies.{AreNumbers}
+use Rattle.walter_cset.specs.Tallies.{AreNumbers}
 
 -- the ids rise
 abbrev pub AreRising : List (ℕ × ℤ) → Type 0

@@ -2,9 +2,10 @@ ghost use Rattle.std.specs.Prelude.{◌≡◌, ◌<◌, ◌^◌, ◌+ℤ◌, len
 ghost use Rattle.walter_base.specs.Values.{count_of};
 ghost use Rattle.walter_overlay.specs.Overlays.{AreRising, AreLaidOver, IsModest};
 
-use crate::tally::{laid, shown, step, take_in};
 use std::alloc::Global;
+use std::collections::BTreeMap;
 use walter_base::{Counts, Mem, ObjId, Update};
+use walter_cset::{shown, step, take_in};
 
 /// The counts of a set that had the counts `base`, after the updates.
 pub fn counts(alloc: Global, base: &Counts, updates: &[Update], oid: ObjId) -> Mem<Counts>
@@ -19,6 +20,18 @@ pub fn counts(alloc: Global, base: &Counts, updates: &[Update], oid: ObjId) -> M
     }
     let counts = shown(alloc, &tally)?;
     Ok(counts)
+}
+
+/// The counts, by id.
+fn laid(alloc: Global, base: &[(u64, i64)]) -> Mem<BTreeMap<u64, i64>>
+    requires { AreRising base.now }
+    ensures { IfOk result (λ tally. tally.entries ≡ base.now) }
+{
+    let mut tally = BTreeMap::new(alloc);
+    for (id, number) in base {
+        tally.insert(*id, *number)?;
+    }
+    Ok(tally)
 }
 
 /// The count of an id that had the count `base`, after the updates.

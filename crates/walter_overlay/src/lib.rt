@@ -4,7 +4,6 @@
 mod counting;
 mod laws;
 mod reading;
-mod tally;
 
 pub use counting::{count, counts};
 pub use laws::earlier_and_own;

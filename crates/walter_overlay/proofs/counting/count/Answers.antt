@@ -1,6 +1,7 @@
 use Rattle.std.proofs.Common.{arith}
 use Rattle.std.proofs.lemmas.Int.{ints}
-use Rattle.walter_overlay.proofs.Steps.{room_left, small_step, count_next}
+use Rattle.walter_cset.proofs.Steps.{small_step, count_next}
+use Rattle.walter_overlay.proofs.Room.{room_left}
 use Rattle.walter_overlay.proofs.counting.count.Goals as goal
 
 pub overflow_add-count : goal.overflow_add-count

@@ -1,11 +1,12 @@
 use Rattle.std.proofs.Common.{◌∙◌, ap, arith}
 use Rattle.std.proofs.lemmas.Int.{ints}
 use Rattle.std.proofs.lemmas.List.{take_all}
+use Rattle.walter_cset.specs.Tallies.{number_at}
+use Rattle.walter_cset.proofs.Steps.{count_next}
+use Rattle.walter_cset.proofs.Numbers.{same_numbers}
 use Rattle.walter_overlay.specs.Overlays.{count_in, count_over}
-use Rattle.walter_overlay.specs.Tallies.{number_at}
-use Rattle.walter_overlay.proofs.Steps.{room_left, count_next}
+use Rattle.walter_overlay.proofs.Room.{room_left}
 use Rattle.walter_overlay.proofs.Bases.{number_in, modest_in}
-use Rattle.walter_overlay.proofs.Numbers.{same_numbers}
 use Rattle.walter_overlay.proofs.counting.counts.Goals as goal
 
 pub take_in-requires : goal.take_in-requires

@@ -1,5 +1,5 @@
 use Rattle.std.proofs.Common.{◌≡◌, ℕ, take}
-use Rattle.walter_overlay.specs.Tallies.{number_at}
+use Rattle.walter_cset.specs.Tallies.{number_at}
 use Rattle.walter_overlay.specs.Overlays.{count_over}
 use Rattle.walter_overlay.proofs.counting.counts.Given as goal
 

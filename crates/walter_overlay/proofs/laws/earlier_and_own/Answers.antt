@@ -1,7 +1,7 @@
 use Rattle.std.proofs.Common.{sym}
 use Rattle.std.specs.Prelude.{None}
 use Rattle.walter_base.proofs.ValuesFrom.{value_from-append}
-use Rattle.walter_overlay.proofs.Steps.{count-append}
+use Rattle.walter_cset.proofs.Steps.{count-append}
 use Rattle.walter_overlay.proofs.Bases.{counts_after_both}
 use Rattle.walter_overlay.proofs.laws.earlier_and_own.Goals as goal
 

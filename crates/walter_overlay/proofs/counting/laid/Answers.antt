@@ -4,7 +4,7 @@ use Rattle.std.proofs.lemmas.Int.{ints}
 use Rattle.std.specs.Ordering.{nat_cmp}
 use Rattle.std.specs.BTreeMap.{insert_entry}
 use Rattle.walter_overlay.proofs.Bases.{next_entry}
-use Rattle.walter_overlay.proofs.tally.laid.Goals as goal
+use Rattle.walter_overlay.proofs.counting.laid.Goals as goal
 
 pub loop-id-preserved : goal.loop-id-preserved
 loop-id-preserved c =

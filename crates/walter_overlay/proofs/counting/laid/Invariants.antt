@@ -1,5 +1,5 @@
 use Rattle.std.proofs.Common.{◌≡◌, take}
-use Rattle.walter_overlay.proofs.tally.laid.Given as goal
+use Rattle.walter_overlay.proofs.counting.laid.Given as goal
 
 -- the counts so far
 abbrev pub invariant-loop-id : goal.invariant-loop-id
