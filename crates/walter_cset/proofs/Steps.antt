@@ -1,0 +1,91 @@
+-- Counts after more updates, and how far from 0 they can be.
+use Rattle.std.proofs.Common.{◌≡◌, ℕ, ◌+◌, ◌-◌, ◌^◌, ◌≤◌, ◌<◌, Bool, true, false, cond, List, [], ◌∷◌, ◌++◌, length, take, get_or, map, filter, ap, sym, ◌∙◌, arith}
+use Rattle.std.specs.Prelude.{pos, ◌+ℤ◌, ◌-ℤ◌, ◌≤ℤ◌, ◌<ℤ◌, count_by}
+use Rattle.std.proofs.lemmas.Bool.{le-leb, leb-true, false_from_ne_true}
+use Rattle.std.proofs.lemmas.Int.{ints}
+use Rattle.std.proofs.lemmas.List.{map-append, append-nil, length-append, length-map, length-take-le, take_more}
+use Rattle.std.proofs.lemmas.List.Elements.{filter-append, filter_more}
+use Rattle.std.proofs.lemmas.List.Sums.{count_by-le-length, length-filter}
+use Rattle.walter_base.specs.declared.names.ObjId.{ObjId}
+use Rattle.walter_base.specs.declared.update.Row.{Row}
+use Rattle.walter_base.specs.declared.update.Update.{Update}
+use Rattle.walter_base.specs.Values.{count_of, adds, takes}
+use Rattle.walter_base.specs.Vectors.{IsSeenBy}
+use Rattle.walter_cset.specs.Seen.{sees_row, seen_updates}
+
+counted : {X : Type 0} (p : X → Bool) (xs ys : List X) → count_by p (xs ++ ys) ≡ count_by p xs + count_by p ys
+counted p xs ys =
+    let front = length-filter p xs in
+    let back = length-filter p ys in
+    let whole = length-filter p (xs ++ ys) in
+    let parts = ap length (filter-append p xs ys) ∙ length-append (filter p xs) (filter p ys) in
+    omega (arith, front, back, whole, parts)
+
+-- the count after updates in two parts
+pub count-append : (oid : ObjId) (id : ℕ) (us vs : List Update) → count_of oid id (us ++ vs) ≡ count_of oid id us +ℤ count_of oid id vs
+count-append oid id us vs =
+    let more = counted (adds oid id) us vs in
+    let less = counted (takes oid id) us vs in
+    omega (arith, ints, more, less)
+
+-- a count is no further from 0 than there are updates
+pub low_count : (oid : ObjId) (id : ℕ) (updates : List Update) → (pos 0 -ℤ pos (length updates)) ≤ℤ count_of oid id updates
+low_count oid id updates =
+    let fewer = count_by-le-length (takes oid id) updates in
+    omega (arith, ints, fewer)
+
+pub high_count : (oid : ObjId) (id : ℕ) (updates : List Update) → count_of oid id updates ≤ℤ pos (length updates)
+high_count oid id updates =
+    let fewer = count_by-le-length (adds oid id) updates in
+    omega (arith, ints, fewer)
+
+-- an update raises a count by one at most, and lowers it by one at most
+pub small_step : (oid : ObjId) (id : ℕ) (update : Update) → ((pos 0 -ℤ pos 1) ≤ℤ count_of oid id (update ∷ [])) × (count_of oid id (update ∷ []) ≤ℤ pos 1)
+small_step oid id update = (low_count oid id (update ∷ []), high_count oid id (update ∷ []))
+
+-- the count after one update more
+pub count_next : (oid : ObjId) (id : ℕ) (updates : List Update) (i : ℕ) (update : Update) → i < length updates → update ≡ get_or updates i update
+    → count_of oid id (take (i + 1) updates) ≡ count_of oid id (take i updates) +ℤ count_of oid id (update ∷ [])
+count_next oid id updates i update within is =
+    ap (count_of oid id) (take_more updates i update within ∙ ap (λ (u : Update). take i updates ++ u ∷ []) (sym is))
+    ∙ count-append oid id (take i updates) (update ∷ [])
+
+-- what is seen of one row more
+seen_more : (vector : List ℕ) (rows : List Row) (i : ℕ) (row : Row) → i < length rows → row ≡ get_or rows i row
+    → seen_updates vector (take (i + 1) rows) ≡ seen_updates vector (take i rows) ++ map (λ (r : Row). r.update) (cond (sees_row vector row) (row ∷ []) [])
+seen_more vector rows i row within is =
+    ap (λ kept. map (λ (r : Row). r.update) kept) (filter_more (sees_row vector) rows i row within)
+    ∙ ap (λ (r : Row). map (λ (q : Row). q.update) (filter (sees_row vector) (take i rows) ++ cond (sees_row vector r) (r ∷ []) [])) (sym is)
+    ∙ map-append (λ (r : Row). r.update) (filter (sees_row vector) (take i rows)) (cond (sees_row vector row) (row ∷ []) [])
+
+-- the count after one row more, that is seen or isn't
+pub count_seen : (oid : ObjId) (id : ℕ) (vector : List ℕ) (rows : List Row) (i : ℕ) (row : Row) → i < length rows → row ≡ get_or rows i row → IsSeenBy vector row.version
+    → count_of oid id (seen_updates vector (take (i + 1) rows)) ≡ count_of oid id (seen_updates vector (take i rows)) +ℤ count_of oid id (row.update ∷ [])
+count_seen oid id vector rows i row within is sees =
+    let passes : sees_row vector row ≡ true = le-leb _ _ sees in
+    ap (count_of oid id) (seen_more vector rows i row within is ∙ ap (λ b. seen_updates vector (take i rows) ++ map (λ (r : Row). r.update) (cond b (row ∷ []) [])) passes)
+    ∙ count-append oid id (seen_updates vector (take i rows)) (row.update ∷ [])
+
+pub count_unseen : (oid : ObjId) (id : ℕ) (vector : List ℕ) (rows : List Row) (i : ℕ) (row : Row) → i < length rows → row ≡ get_or rows i row → ¬ IsSeenBy vector row.version
+    → count_of oid id (seen_updates vector (take (i + 1) rows)) ≡ count_of oid id (seen_updates vector (take i rows))
+count_unseen oid id vector rows i row within is unseen =
+    let fails : sees_row vector row ≡ false = false_from_ne_true (sees_row vector row) (λ passes. unseen (leb-true _ _ passes)) in
+    ap (count_of oid id) (seen_more vector rows i row within is ∙ ap (λ b. seen_updates vector (take i rows) ++ map (λ (r : Row). r.update) (cond b (row ∷ []) [])) fails
+    ∙ append-nil (seen_updates vector (take i rows)))
+
+few_seen : (vector : List ℕ) (rows : List Row) → length (seen_updates vector rows) ≤ length rows
+few_seen vector rows =
+    let all = length-map (filter (sees_row vector) rows) (λ (r : Row). r.update) in
+    let some = length-filter (sees_row vector) rows in
+    let most = count_by-le-length (sees_row vector) rows in
+    omega (arith, all, some, most)
+
+-- before the last row each count can rise and fall by one
+pub room_left : (oid : ObjId) (id : ℕ) (vector : List ℕ) (rows : List Row) (i : ℕ) → length rows < 2 ^ 63 → i < length rows
+    → ((pos 0 -ℤ pos (2 ^ 63)) <ℤ count_of oid id (seen_updates vector (take i rows))) × (count_of oid id (seen_updates vector (take i rows)) <ℤ pos (2 ^ 63 - 1))
+room_left oid id vector rows i few within =
+    let low = low_count oid id (seen_updates vector (take i rows)) in
+    let high = high_count oid id (seen_updates vector (take i rows)) in
+    let seen = few_seen vector (take i rows) in
+    let front = length-take-le i rows (omega (arith, within)) in
+    (omega (arith, ints, low, seen, front, few, within), omega (arith, ints, high, seen, front, few, within))

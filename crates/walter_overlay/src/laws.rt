@@ -1,0 +1,12 @@
+ghost use Rattle.std.specs.Prelude.{◌≡◌, ◌+ℤ◌, ◌++◌, ℕ, ℤ, List};
+ghost use Rattle.walter_base.specs.declared.names.ObjId.{ObjId};
+ghost use Rattle.walter_base.specs.declared.update.Update.{Update};
+ghost use Rattle.walter_base.specs.Values.{value_from, value_of, count_of, AreCounts};
+ghost use Rattle.walter_overlay.specs.Overlays.{AreLaidOver};
+
+/// Own updates laid over what earlier ones left are what all of them leave, the own ones last.
+pub fn earlier_and_own()
+    ensures value { (oid : ObjId) (earlier own : List Update) → value_from (value_of oid earlier) oid own ≡ value_of oid (earlier ++ own) }
+    ensures count { (oid : ObjId) (id : ℕ) (earlier own : List Update) → count_of oid id earlier +ℤ count_of oid id own ≡ count_of oid id (earlier ++ own) }
+    ensures counts { (oid : ObjId) (earlier own : List Update) (base counts : List (ℕ × ℤ)) → AreCounts oid earlier base → AreLaidOver base oid own counts → AreCounts oid (earlier ++ own) counts }
+{}
