@@ -11,7 +11,7 @@ use Rattle.walter_base.specs.declared.update.Row.{Row}
 use Rattle.walter_base.specs.declared.update.Update.{Update}
 use Rattle.walter_base.specs.Values.{count_of, adds, takes}
 use Rattle.walter_base.specs.Vectors.{IsSeenBy}
-use Rattle.walter_cset.specs.Seen.{sees_row, seen_updates}
+use Rattle.walter_history.specs.Rows.{sees_row, seen_updates}
 
 counted : {X : Type 0} (p : X → Bool) (xs ys : List X) → count_by p (xs ++ ys) ≡ count_by p xs + count_by p ys
 counted p xs ys =

@@ -1,6 +1,6 @@
 ghost use Rattle.std.specs.Prelude.{◌≡◌, ◌<◌, ◌^◌, length, IfOk};
 ghost use Rattle.walter_base.specs.Values.{count_of, AreCounts};
-ghost use Rattle.walter_cset.specs.Seen.{seen_updates};
+ghost use Rattle.walter_history.specs.Rows.{seen_updates};
 
 use crate::tally::{shown, step, take_in};
 use std::alloc::Global;

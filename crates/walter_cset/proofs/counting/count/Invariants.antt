@@ -1,6 +1,6 @@
 use Rattle.std.proofs.Common.{◌≡◌, take}
 use Rattle.walter_base.specs.Values.{count_of}
-use Rattle.walter_cset.specs.Seen.{seen_updates}
+use Rattle.walter_history.specs.Rows.{seen_updates}
 use Rattle.walter_cset.proofs.counting.count.Given as goal
 
 -- the count after the rows so far

@@ -2,7 +2,7 @@ use Rattle.std.proofs.Common.{◌∙◌, ap, sym, arith}
 use Rattle.std.proofs.lemmas.Int.{ints}
 use Rattle.std.proofs.lemmas.List.{take_all}
 use Rattle.walter_base.specs.Values.{count_of}
-use Rattle.walter_cset.specs.Seen.{seen_updates}
+use Rattle.walter_history.specs.Rows.{seen_updates}
 use Rattle.walter_cset.specs.Tallies.{number_at}
 use Rattle.walter_cset.proofs.Steps.{room_left, count_seen, count_unseen}
 use Rattle.walter_cset.proofs.Numbers.{are_counts}

@@ -1,6 +1,6 @@
 use Rattle.std.proofs.Common.{◌≡◌, ℕ, take}
 use Rattle.walter_base.specs.Values.{count_of}
-use Rattle.walter_cset.specs.Seen.{seen_updates}
+use Rattle.walter_history.specs.Rows.{seen_updates}
 use Rattle.walter_cset.specs.Tallies.{number_at}
 use Rattle.walter_cset.proofs.counting.counts.Given as goal
 
