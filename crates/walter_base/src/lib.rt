@@ -18,7 +18,7 @@ pub use catalog::{Catalog, CatalogFault};
 pub use containers::{Container, Containers};
 pub use counts::Counts;
 pub use memory::{Mem, NoMemory};
-pub use message::{BadFrame, Call, Record, Refusal, Reply, Request};
+pub use message::{BadFrame, Call, Level, Record, Refusal, Reply, Request};
 pub use names::{Kind, ObjId, SiteId, Tid, Version};
 pub use transaction::{Cause, Conflict, Tx};
 pub use update::{Row, Update, Updates};

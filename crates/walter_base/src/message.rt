@@ -19,6 +19,8 @@ pub enum Request {
     Commit,
     /// The end of the transaction, without its updates.
     Abort,
+    /// How far a transaction has come.
+    Level(Tid),
 }
 
 /// A client's frame that spells no request.
@@ -42,6 +44,7 @@ impl Clone for Request {
             Request::Write(oid, bytes) => Ok(Request::Write(*oid, bytes.clone()?)),
             Request::Commit => Ok(Request::Commit),
             Request::Abort => Ok(Request::Abort),
+            Request::Level(tid) => Ok(Request::Level(*tid)),
         }
     }
 }
@@ -59,8 +62,12 @@ pub enum Reply {
     Committed(Version),
     /// The transaction is aborted, for this cause.
     Aborted(Cause),
+    /// The transaction has come this far.
+    Level(Level),
     /// The transaction had no updates, and is over.
     Ended,
+    /// The disk failed while the transaction was journaled: it is committed or not, and `Level` tells later which.
+    Unsure(Tid),
     /// The request is refused, and the site is as before.
     Refused(Refusal),
 }
@@ -76,10 +83,27 @@ impl Clone for Reply {
             Reply::Done => Ok(Reply::Done),
             Reply::Committed(version) => Ok(Reply::Committed(*version)),
             Reply::Aborted(cause) => Ok(Reply::Aborted(*cause)),
+            Reply::Level(level) => Ok(Reply::Level(*level)),
             Reply::Ended => Ok(Reply::Ended),
+            Reply::Unsure(tid) => Ok(Reply::Unsure(*tid)),
             Reply::Refused(refusal) => Ok(Reply::Refused(*refusal)),
         }
     }
+}
+
+/// How far a transaction has come.
+#[derive(Clone, Copy, Debug, PartialEq, Eq)]
+pub enum Level {
+    /// It is not committed. If it isn't open any more, it never will be.
+    NotCommitted,
+    /// It is open.
+    Running,
+    /// It is committed at its own site.
+    Committed,
+    /// It is held by so many sites that it outlives the loss of those that may be lost.
+    Durable,
+    /// It is committed at each site.
+    Visible,
 }
 
 /// Why a request is refused.
@@ -87,14 +111,32 @@ impl Clone for Reply {
 pub enum Refusal {
     /// The catalog lacks the object's container.
     UnknownContainer,
+    /// The objects of the container are of the other kind.
+    WrongKind,
+    /// The transaction has no place for the update.
+    TxFull,
+    /// The value has more bytes than one may have.
+    TooLong,
     /// No transaction is open.
     NoTx,
     /// A transaction is open.
     TxOpen,
+    /// The transaction of the connection was lost in a stop of the site.
+    Gone { tid: Tid },
     /// The frame spells no request; what is wrong is at this place of its body.
     BadFrame { at: u32 },
+    /// The site is down.
+    Down,
+    /// The journal has no place for the record: so many bytes are needed, and so many left.
+    JournalFull { need: u64, left: u64 },
+    /// The site has as many transactions open as it may.
+    SessionsFull,
     /// Memory ran out.
     Memory,
+    /// The transaction is another site's.
+    WrongSite,
+    /// No transaction of this name was started.
+    NotIssued,
 }
 
 /// What a site journals.

@@ -1,6 +1,7 @@
 use crate::{
-    BadFrame, Bytes, Catalog, CatalogFault, Cause, Container, Containers, Counts, Kind, NoMemory,
-    ObjId, Record, Refusal, Reply, Request, SiteId, Tid, Tx, Update, Updates, Version, Vts,
+    BadFrame, Bytes, Catalog, CatalogFault, Cause, Container, Containers, Counts, Kind, Level,
+    NoMemory, ObjId, Record, Refusal, Reply, Request, SiteId, Tid, Tx, Update, Updates, Version,
+    Vts,
 };
 use std::test::Fail;
 
@@ -142,6 +143,7 @@ fn requests_and_replies_are_copied(rt: HostRuntime) -> Result<(), Fail> {
     assert!(rt; matches!(Request::Read(OBJECT).clone()?, Request::Read(OBJECT)));
     assert!(rt; matches!(Request::Commit.clone()?, Request::Commit));
     assert!(rt; matches!(Request::Abort.clone()?, Request::Abort));
+    assert!(rt; matches!(Request::Level(TID).clone()?, Request::Level(TID)));
     let reply = Reply::Value(Some(Bytes::from_slice(rt.alloc(), b"x")?));
     assert!(rt; matches!(reply.clone()?, Reply::Value(Some(_))));
     assert!(rt;
@@ -154,6 +156,13 @@ fn requests_and_replies_are_copied(rt: HostRuntime) -> Result<(), Fail> {
         matches!(
             Reply::Aborted(Cause::Asked).clone()?,
             Reply::Aborted(Cause::Asked)
+        )
+    );
+    assert!(rt; matches!(Reply::Unsure(TID).clone()?, Reply::Unsure(TID)));
+    assert!(rt;
+        matches!(
+            Reply::Level(Level::Visible).clone()?,
+            Reply::Level(Level::Visible)
         )
     );
     Ok(())

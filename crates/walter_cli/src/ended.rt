@@ -5,10 +5,21 @@ use thiserror::Error;
 use walter_scenario::Place;
 use walter_trail::Trail;
 
+/// Why no site can begin with what a disk has.
+#[derive(Clone, Copy, Debug, PartialEq, Eq, Error)]
+pub enum JournalCause {
+    #[error("it has no journal")]
+    Foreign,
+    #[error("its journal is damaged: behind the gate at {at} stands the length {length}")]
+    Damaged { at: u64, length: u32 },
+    #[error("its journal has records")]
+    Used,
+}
+
 /// Why a run wrote no whole report.
 #[derive(Clone, Copy, Debug, PartialEq, Eq, Error)]
 pub enum Fault {
-    #[error("usage: walter play, with a scenario on standard input; the report comes on standard output")]
+    #[error("usage: walter play [--trace], with a scenario on standard input; the report comes on standard output")]
     Usage,
     #[error("the scenario has no reading: {place}")]
     Scenario { place: Place },
@@ -18,6 +29,10 @@ pub enum Fault {
     Write,
     #[error("out of memory")]
     Memory,
+    #[error("the disk of site {site} failed, or could not be taken or given back")]
+    Rack { site: u8 },
+    #[error("site {site} cannot begin with its disk: {cause}")]
+    Journal { site: u8, cause: JournalCause },
 }
 
 /// How a call of the program ended: its status, the fault if the status isn't 0, and the trails of its run. There are
@@ -54,6 +69,8 @@ impl Ended {
             Some(Fault::Read) => 3,
             Some(Fault::Write) => 4,
             Some(Fault::Memory) => 5,
+            Some(Fault::Rack { .. }) => 6,
+            Some(Fault::Journal { .. }) => 7,
         };
         Ended {
             status,

@@ -1,22 +1,30 @@
-ghost use Rattle.std.specs.Prelude.{◌≡◌, [], ◌∷◌, length, All, OnOk};
-ghost use Rattle.walter_scenario.specs.Parts.{IsStep};
+ghost use Rattle.std.specs.Prelude.{◌≡◌, ◌++◌, [], ◌∷◌, ℕ, List, length, take, map, All, OnOk};
+ghost use Rattle.walter_scenario.specs.Parts.{IsArm, IsStep};
 ghost use Rattle.walter_trail.specs.Trails.{opening};
-ghost use Rattle.walter_cli.specs.Cells.{IsCell};
-ghost use Rattle.walter_cli.specs.Plays.{Takes, IsPlayed};
+ghost use Rattle.walter_cli.specs.Cells.{IsCell, IsKnown};
+ghost use Rattle.walter_cli.specs.Plays.{Takes, IsPlayed, Arms, AreArmed, ArmsMore, armed_by, arms_of};
 
 use crate::cell::Cell;
 use std::alloc::Global;
 use walter_base::Mem;
-use walter_scenario::{Scenario, Step};
+use walter_disk::Disk;
+use walter_scenario::{Arm, Scenario, Step};
 
-/// Takes the steps of the scenario in order. Where memory runs out, the steps so far stand.
-pub fn play(alloc: Global, cell: &mut Cell, scenario: &Scenario) -> Mem<()>
+/// Arms the disk as the scenario says, and takes its steps in order. Where memory runs out, what was done so far stands.
+pub fn play<D: Disk>(alloc: Global, cell: &mut Cell<D>, scenario: &Scenario) -> Mem<()>
     requires cell { IsCell scenario.now cell.old }
     requires opening { cell.old.entries.items ≡ opening ∷ [] }
-    requires steps { All (IsStep (length scenario.now.clients)) scenario.now.steps }
+    requires arms { All (IsArm 1) scenario.now.arms }
+    requires steps { All (IsStep 1 (length scenario.now.clients)) scenario.now.steps }
     ensures cell { IsCell scenario.now cell.new }
+    ensures known { IsKnown scenario.now cell.old → IsKnown scenario.now cell.new }
     ensures played { OnOk result (IsPlayed scenario.now cell.new.entries.items) }
+    ensures arms { ArmsMore cell.old cell.new (scenario.now.arms ++ arms_of scenario.now.steps) }
+    ensures armed { OnOk result (AreArmed cell.old cell.new (scenario.now.arms ++ arms_of scenario.now.steps)) }
 {
+    for arm in scenario.arms.as_slice() {
+        cell.arm(arm.nth, arm.choice)?;
+    }
     for step in scenario.steps.as_slice() {
         take_step(alloc, cell, scenario, *step)?;
     }
@@ -24,20 +32,31 @@ pub fn play(alloc: Global, cell: &mut Cell, scenario: &Scenario) -> Mem<()>
 }
 
 // Takes a step.
-fn take_step(alloc: Global, cell: &mut Cell, scenario: &Scenario, step: Step) -> Mem<()>
+fn take_step<D: Disk>(
+    alloc: Global,
+    cell: &mut Cell<D>,
+    scenario: &Scenario,
+    step: Step,
+) -> Mem<()>
     requires cell { IsCell scenario.now cell.old }
-    requires there { IsStep (length scenario.now.clients) step }
+    requires there { IsStep 1 (length scenario.now.clients) step }
     ensures cell { IsCell scenario.now cell.new }
+    ensures known { IsKnown scenario.now cell.old → IsKnown scenario.now cell.new }
     ensures took { OnOk result (Takes scenario.now.clients step cell.old.entries.items cell.new.entries.items) }
+    ensures armed { OnOk result (AreArmed cell.old cell.new (arms_of (step ∷ []))) }
+    ensures arms { ArmsMore cell.old cell.new (arms_of (step ∷ [])) }
 {
-    cell.serve(alloc, client_of(step))?;
+    match step {
+        Step::Call(client) => {
+            cell.serve(alloc, client)?;
+        }
+        Step::Stop(_) => {
+            cell.stop()?;
+        }
+        Step::Restart(_) => {
+            cell.restart()?;
+        }
+        Step::Arm(Arm { nth, choice, .. }) => cell.arm(nth, choice)?,
+    }
     Ok(())
-}
-
-// The client whose turn the step is.
-fn client_of(step: Step) -> u32
-    ensures { step ≡ Step.Call result }
-{
-    let Step::Call(client) = step;
-    client
 }

@@ -1,18 +1,23 @@
-ghost use Rattle.std.specs.Prelude.{◌≡◌, ◌↔◌, IsTrue, codes};
-ghost use Rattle.walter_cli.specs.Words.{IsPlayLine};
+ghost use Rattle.std.specs.Prelude.{◌≡◌, ◌↔◌, IsTrue, IfSome, IfNone, codes};
+ghost use Rattle.walter_cli.specs.Words.{IsPlayLine, IsLine};
 
-/// Whether the words are the one word `play`.
-pub fn is_play_line(words: &[String]) -> bool
-    ensures { IsTrue result ↔ IsPlayLine words.now }
-{
-    match words {
-        [word] => is_play(word.as_str()),
-        _ => false,
-    }
+/// What the words ask for.
+#[derive(Clone, Copy, Debug, PartialEq, Eq)]
+pub struct Command {
+    /// Whether the report ends with a line for each event.
+    pub trace: bool,
 }
 
-fn is_play(word: &str) -> bool
-    ensures { IsTrue result ↔ (word.now ≡ codes "play") }
+/// The command that the words are: `play`, or `play --trace`.
+pub fn command(words: &[String]) -> Option<Command>
+    ensures some { IfSome result (λ command. IsPlayLine command.trace words.now) }
+    ensures none { IfNone result (¬ IsLine words.now) }
 {
-    word == "play"
+    match words {
+        [play] if play.as_str() == "play" => Some(Command { trace: false }),
+        [play, trace] if play.as_str() == "play" && trace.as_str() == "--trace" => {
+            Some(Command { trace: true })
+        }
+        _ => None,
+    }
 }

@@ -1,7 +1,7 @@
 -- What the steps of a load and of an append leave of the disk (docs/FORMATS.md, "Journal").
-use Rattle.std.specs.Prelude.{◌≡◌, ◌<◌, ◌≤◌, ℕ, true, false, List, is_some, IfSome}
+use Rattle.std.specs.Prelude.{◌≡◌, ◌⊎◌, ◌<◌, ◌≤◌, ℕ, true, false, List, is_some, IfSome}
 use Rattle.walter_disk.specs.Disks.{DiskState}
-use Rattle.walter_disk.specs.Images.{IsDurable}
+use Rattle.walter_disk.specs.Images.{IsDurable, IsImage}
 use Rattle.walter_journal.specs.Layout.{HasContent, end_behind}
 
 -- one of several calls failed
@@ -19,3 +19,7 @@ pub record IsReady (bodies : List (List ℕ)) (end : ℕ) (images : List ℕ →
   pub whole : disk.broken ≡ false
   pub behind : end ≡ end_behind bodies
   pub within : end ≤ disk.size
+
+-- the disk has the size that it had, or reads what a crash might have left
+abbrev pub IsLeft : (images : List ℕ → Type 0) (old new : DiskState) → Type 0
+IsLeft images old new = (new.size ≡ old.size) ⊎ IsImage new.reads images

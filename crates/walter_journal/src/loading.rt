@@ -2,7 +2,7 @@ ghost use Rattle.std.specs.Prelude.{◌≡◌, ◌<◌, [], length, is_some, fal
 ghost use Rattle.walter_disk.specs.Images.{IsDurable, IsImage, LeavesOnly};
 ghost use Rattle.walter_journal.specs.Faults.{HasCause, IsDiskFault};
 ghost use Rattle.walter_journal.specs.Journals.{disk_of, capacity_of, disk_behind, StandsFor};
-ghost use Rattle.walter_journal.specs.Steps.{IsReady};
+ghost use Rattle.walter_journal.specs.Steps.{IsReady, IsLeft};
 
 use crate::bodies::Bodies;
 use crate::fault::JournalFault;
@@ -28,6 +28,10 @@ pub fn load<D: Disk>(
     ensures image { 0 < (D.known disk).size
         → OnOk result (IsImage (D.known (disk_behind result)).reads (D.may_leave disk)) }
     ensures capacity { IfOk result (λ it. capacity_of it.0 ≡ capacity) }
+
+    // Whatever it answers, the disk was not settled, or reads what a crash might have left.
+    ensures settled { 0 < (D.known disk).size
+        → IsLeft (D.may_leave disk) (D.known disk) (D.known (disk_behind result)) }
     ensures whole { OnOk result ((D.known (disk_behind result)).broken ≡ false) }
     ensures faultless { OnOk result ((D.known (disk_behind result)).faults ≡ (D.known disk).faults) }
 
@@ -75,6 +79,7 @@ fn resume<D: Disk>(alloc: Global, disk: &mut D) -> Result<(Bodies, u64), Journal
     requires { 0 < (D.known disk.old).size }
     ensures ok { IfOk result (λ found.
         IsReady found.0 found.1 (D.may_leave disk.new) (D.known disk.new)) }
+    ensures settled { IsLeft (D.may_leave disk.old) (D.known disk.old) (D.known disk.new) }
     ensures image { OnOk result (IsImage (D.known disk.new).reads (D.may_leave disk.old)) }
     ensures faultless { OnOk result ((D.known disk.new).faults ≡ (D.known disk.old).faults) }
     ensures cause { IfErr result (λ fault.
@@ -93,6 +98,7 @@ fn settle_and_read<D: Disk>(alloc: Global, disk: &mut D) -> Result<Vec<u8>, Jour
     requires { 0 < (D.known disk.old).size }
     ensures told { IfOk result (λ bytes. IfSome (D.known disk.new).reads (λ told. bytes.items ≡ told)) }
     ensures size { IfOk result (λ bytes. length bytes.items ≡ (D.known disk.new).size) }
+    ensures settled { IsLeft (D.may_leave disk.old) (D.known disk.old) (D.known disk.new) }
     ensures image { OnOk result (IsImage (D.known disk.new).reads (D.may_leave disk.old)) }
     ensures durable { OnOk result (IsDurable (D.known disk.new).reads (D.may_leave disk.new)) }
     ensures whole { OnOk result ((D.known disk.new).broken ≡ false) }

@@ -1,26 +1,27 @@
 -- Bytes that end within a reply are the front of a spelling.
-use Rattle.std.proofs.Common.{◌≡◌, ◌≢◌, ℕ, ◌+◌, ◌-◌, ◌^◌, ◌<◌, List, [], ◌∷◌, ◌++◌, length, take, refl, sym, ap, subst, ◌∙◌, inl, inr, append_assoc, append-nil, arith}
+use Rattle.std.proofs.Common.{◌≡◌, ◌≢◌, ℕ, ◌-◌, ◌^◌, ◌<◌, List, [], ◌∷◌, ◌++◌, length, refl, sym, ap, subst, ◌∙◌, inl, inr, append_assoc, append-nil, arith}
 use Rattle.std.specs.Prelude.{Some, None}
-use Rattle.std.proofs.lemmas.List.{nil_from_length, length-append, length-take-le, take_at, drop_at}
-use Rattle.std.proofs.Math.Seq.{take-add}
-use Rattle.walter_base.specs.declared.message.Refusal.{Refusal}
-use Rattle.walter_base.specs.declared.message.Refusal.TheVariants.{UnknownContainer, NoTx, TxOpen, BadFrame, Memory}
+use Rattle.std.proofs.lemmas.Bool.{cases_lt}
+use Rattle.std.proofs.lemmas.List.{nil_from_length, length-append, get_or_append_left, get_or-append_right}
+use Rattle.walter_base.specs.declared.message.Level.{Level as HowFar}
+use Rattle.walter_base.specs.declared.message.Level.TheVariants as reached
+use Rattle.walter_base.specs.declared.message.Refusal.TheVariants.{NoTx, Gone, BadFrame, JournalFull}
 use Rattle.walter_base.specs.declared.message.Reply.{Reply}
-use Rattle.walter_base.specs.declared.message.Reply.TheVariants.{Started, Value, Ended, Committed, Aborted, Refused}
+use Rattle.walter_base.specs.declared.message.Reply.TheVariants.{Started, Value, Committed, Aborted, Level, Ended, Unsure, Refused}
 use Rattle.walter_base.specs.declared.names.ObjId.{ObjId}
 use Rattle.walter_base.specs.declared.names.Tid.{Tid}
 use Rattle.walter_base.specs.declared.names.Version.{Version}
 use Rattle.walter_base.specs.declared.transaction.Cause.{Cause}
 use Rattle.walter_base.specs.declared.transaction.Cause.TheVariants.{Modified, Locked, Asked}
 use Rattle.walter_fields.specs.Cursors.{LacksBlock}
-use Rattle.walter_fields.specs.Spellings.{IsBytes, number_spelled, block_spelled}
-use Rattle.walter_fields.proofs.Numbers.{length-number_spelled, number_spelled-byte}
+use Rattle.walter_fields.specs.Spellings.{IsBytes, number_spelled, number_read, block_spelled}
+use Rattle.walter_fields.proofs.Numbers.{length-number_spelled, number_spelled-byte, number_spelled-are_bytes, number_spelled-read, number_read-lt}
 use Rattle.walter_fields.proofs.Readings.{IsBytes-behind}
 use Rattle.walter_names.specs.Names.{object_spelled, tid_spelled, version_spelled, IsObject}
 use Rattle.walter_names.proofs.Cuts.{IsCut, cut_object, cut_tid, cut_version, cut_block}
-use Rattle.walter_names.proofs.Lengths.{length-block_spelled}
-use Rattle.walter_reply.specs.Replies.{reply_spelled, IsReply, IsKind, IsUnknown, kind, flag, cause, refusal, cause_number, refusal_number}
+use Rattle.walter_reply.specs.Replies.{reply_spelled, IsReply, IsKind, IsUnknown, kind, flag, cause, level, refusal, cause_number, level_number}
 use Rattle.walter_reply.specs.Stops.{IsFront}
+use Rattle.walter_reply.proofs.Prefixes.{IsRefusalNumber, refusal_number-known}
 
 some_of : (k n : ℕ) → 0 < k → number_spelled k n ≢ []
 some_of k n some e = omega (arith, some, ap length e, length-number_spelled k n)
@@ -46,6 +47,13 @@ cut_started left few bytes = let cut = cut_tid left (IsBytes-behind (number_spel
 pub cut_committed : (left : List ℕ) → length left < 9 → IsBytes (number_spelled 1 0x85 ++ left) → IsFront (number_spelled 1 0x85 ++ left)
 cut_committed left few bytes =
     let cut = cut_version left (IsBytes-behind (number_spelled 1 0x85) left bytes) few in front_of 0x85 left cut.more (version_spelled cut.value) (Committed cut.value) cut.ranges cut.some cut.spells refl
+
+pub cut_unsure : (left : List ℕ) → length left < 13 → IsBytes (number_spelled 1 0x8A ++ left) → IsFront (number_spelled 1 0x8A ++ left)
+cut_unsure left few bytes = let cut = cut_tid left (IsBytes-behind (number_spelled 1 0x8A) left bytes) few in front_of 0x8A left cut.more (tid_spelled cut.value) (Unsure cut.value) cut.ranges cut.some cut.spells refl
+
+pub cut_level : (left : List ℕ) → length left < 1 → IsFront (number_spelled 1 0x88 ++ left)
+cut_level left few =
+    front_of 0x88 left (number_spelled 1 0) (number_spelled 1 0) (Level reached.NotCommitted) tt (some_of 1 0 (omega arith)) (ap (λ t. t ++ number_spelled 1 0) (nil_from_length left (omega (arith, few)))) refl
 
 pub cut_flag : (left : List ℕ) → length left < 1 → IsFront (number_spelled 1 0x81 ++ left)
 cut_flag left few = front_of 0x81 left (number_spelled 1 0) (number_spelled 1 0) (Value None) tt (some_of 1 0 (omega arith)) (ap (λ t. t ++ number_spelled 1 0) (nil_from_length left (omega (arith, few)))) refl
@@ -118,33 +126,54 @@ cut_locked_owner left mid rest oid fits is behind few bytes =
     front_of_two 0x86 2 left mid cut.more (object_spelled oid ++ tid_spelled cut.value) (Aborted (Locked oid cut.value)) (fits, cut.ranges) cut.some is
     (second_cut mid rest cut.more (object_spelled oid) (tid_spelled cut.value) behind cut.spells) refl
 
-abbrev pub IsPlace : ℕ → Type 0
-IsPlace at = at < 2 ^ 32
+-- a number of k bytes
+abbrev pub IsNumber : ℕ → ℕ → Type 0
+IsNumber k n = n < 256 ^ k
 
--- fewer than four bytes begin the length of some block
-cut_place_bytes : (left : List ℕ) → IsBytes left → length left < 4 → IsCut IsPlace (number_spelled 4) left
-cut_place_bytes left bytes few =
-    let cut = cut_block left bytes (omega (arith, few)) in
-    let wanting = 4 - length left in
-    let front = number_spelled 4 (length cut.value) in
-    let count : length left + length cut.more ≡ 4 + length cut.value = omega (arith, ap length cut.spells, length-append left cut.more, length-block_spelled cut.value) in
+IsBytes-append : (front back : List ℕ) → IsBytes front → IsBytes back → IsBytes (front ++ back)
+IsBytes-append front back one other i = elim (cases_lt i (length front)) [
+  | inl within ↦ rw (get_or_append_left front back 0 i within) (one i)
+  | inr behind ↦ rw (get_or-append_right front back (length front) i 0 refl behind) (other (i - length front))
+]
+
+-- fewer than k bytes begin a number of k bytes
+cut_number : (k : ℕ) (left : List ℕ) → IsBytes left → length left < k → IsCut (IsNumber k) (number_spelled k) left
+cut_number k left bytes few =
+    let more = number_spelled (k - length left) 0 in
+    let count : length (left ++ more) ≡ k = omega (arith, few, length-append left more, length-number_spelled (k - length left) 0) in
+    let whole = IsBytes-append left more bytes (number_spelled-are_bytes (k - length left) 0) in
     record {
-      value = length cut.value;
-      more = take wanting cut.more;
-      ranges = cut.ranges;
-      some = λ e. omega (arith, few, ap length e, length-take-le wanting cut.more (omega (arith, count)));
-      spells = sym (take_behind left cut.more few) ∙ ap (take 4) cut.spells ∙ take_at front cut.value 4 (length-number_spelled 4 (length cut.value));
+      value = number_read k (left ++ more);
+      more = more;
+      ranges = number_read-lt k (left ++ more) whole;
+      some = some_of (k - length left) 0 (omega (arith, few));
+      spells = sym (number_spelled-read k (left ++ more) count whole);
     }
-  where
-    take_behind : (xs ys : List ℕ) → length xs < 4 → take 4 (xs ++ ys) ≡ xs ++ take (4 - length xs) ys
-    take_behind xs ys less =
-        let count : 4 ≡ length xs + (4 - length xs) = omega (arith, less) in
-        ap (λ (n : ℕ). take n (xs ++ ys)) count ∙ take-add (length xs) (4 - length xs) (xs ++ ys) ∙ rw (take_at xs ys (length xs) refl, drop_at xs ys (length xs) refl) refl
 
 pub cut_place : (left mid : List ℕ) → left ≡ number_spelled 1 8 ++ mid → length mid < 4 → IsBytes (number_spelled 1 0xE0 ++ left) → IsFront (number_spelled 1 0xE0 ++ left)
 cut_place left mid is few bytes =
-    let cut = cut_place_bytes mid (bytes_behind_two 0xE0 8 left mid is bytes) few in
-    front_of_two 0xE0 8 left mid cut.more (number_spelled 4 cut.value) (Refused (BadFrame cut.value)) cut.ranges cut.some is cut.spells refl
+    let cut = cut_number 4 mid (bytes_behind_two 0xE0 8 left mid is bytes) few in
+    front_of_two 0xE0 8 left mid cut.more (number_spelled 4 cut.value) (Refused (BadFrame cut.value)) (omega (arith, cut.ranges)) cut.some is cut.spells refl
+
+pub cut_gone : (left mid : List ℕ) → left ≡ number_spelled 1 7 ++ mid → length mid < 13 → IsBytes (number_spelled 1 0xE0 ++ left) → IsFront (number_spelled 1 0xE0 ++ left)
+cut_gone left mid is few bytes =
+    let cut = cut_tid mid (bytes_behind_two 0xE0 7 left mid is bytes) few in
+    front_of_two 0xE0 7 left mid cut.more (tid_spelled cut.value) (Refused (Gone cut.value)) cut.ranges cut.some is cut.spells refl
+
+pub cut_need : (left mid : List ℕ) → left ≡ number_spelled 1 10 ++ mid → length mid < 8 → IsBytes (number_spelled 1 0xE0 ++ left) → IsFront (number_spelled 1 0xE0 ++ left)
+cut_need left mid is few bytes =
+    let cut = cut_number 8 mid (bytes_behind_two 0xE0 10 left mid is bytes) few in
+    let none = number_spelled 8 0 in
+    front_of_two 0xE0 10 left mid (cut.more ++ none) (number_spelled 8 cut.value ++ none) (Refused (JournalFull cut.value 0)) (omega (arith, cut.ranges), omega arith) (some_front cut.more none cut.some) is
+    (first_cut mid cut.more (number_spelled 8 cut.value) none cut.spells) refl
+
+pub cut_left : (left mid rest : List ℕ) (need : ℕ) → need < 2 ^ 64 → left ≡ number_spelled 1 10 ++ mid → mid ≡ number_spelled 8 need ++ rest → length rest < 8 → IsBytes (number_spelled 1 0xE0 ++ left)
+    → IsFront (number_spelled 1 0xE0 ++ left)
+cut_left left mid rest need fits is behind few bytes =
+    let rest_bytes = IsBytes-behind (number_spelled 8 need) rest (subst IsBytes behind (bytes_behind_two 0xE0 10 left mid is bytes)) in
+    let cut = cut_number 8 rest rest_bytes few in
+    front_of_two 0xE0 10 left mid cut.more (number_spelled 8 need ++ number_spelled 8 cut.value) (Refused (JournalFull need cut.value)) (fits, omega (arith, cut.ranges)) cut.some is
+    (second_cut mid rest cut.more (number_spelled 8 need) (number_spelled 8 cut.value) behind cut.spells) refl
 
 -- ---- bytes that stand for nothing
 
@@ -166,21 +195,33 @@ unknown_cause n left mid low not_1 not_2 not_3 is = record { front = 0x86 ∷ []
     none (Locked oid owner) = not_2
     none Asked = not_3
 
-pub unknown_refusal : (n : ℕ) (left mid : List ℕ) → n < 256 → n ≢ 1 → n ≢ 5 → n ≢ 6 → n ≢ 8 → n ≢ 13 → left ≡ number_spelled 1 n ++ mid → IsUnknown (number_spelled 1 0xE0 ++ left) 1
-unknown_refusal n left mid low not_1 not_5 not_6 not_8 not_13 is = record { front = 0xE0 ∷ []; byte = n; rest = mid; is = second_byte 0xE0 n left mid (omega arith) low is; place = refl; nothing = refusal refl none }
+pub unknown_level : (n : ℕ) (left mid : List ℕ) → n < 256 → n ≢ 0 → n ≢ 1 → n ≢ 3 → n ≢ 4 → n ≢ 5 → left ≡ number_spelled 1 n ++ mid → IsUnknown (number_spelled 1 0x88 ++ left) 1
+unknown_level n left mid low not_0 not_1 not_3 not_4 not_5 is = record { front = 0x88 ∷ []; byte = n; rest = mid; is = second_byte 0x88 n left mid (omega arith) low is; place = refl; nothing = level refl none }
   where
-    none : (why : Refusal) → n ≢ refusal_number why
-    none UnknownContainer = not_1
-    none NoTx = not_5
-    none TxOpen = not_6
-    none (BadFrame at) = not_8
-    none Memory = not_13
+    none : (how_far : HowFar) → n ≢ level_number how_far
+    none reached.NotCommitted = not_0
+    none reached.Running = not_1
+    none reached.Committed = not_3
+    none reached.Durable = not_4
+    none reached.Visible = not_5
 
-pub not_kind : (k : ℕ) → k ≢ 0x80 → k ≢ 0x81 → k ≢ 0x82 → k ≢ 0x85 → k ≢ 0x86 → k ≢ 0x89 → k ≢ 0xE0 → ¬ IsKind k
-not_kind k a b c d e f g (inl is) = a is
-not_kind k a b c d e f g (inr (inl is)) = b is
-not_kind k a b c d e f g (inr (inr (inl is))) = c is
-not_kind k a b c d e f g (inr (inr (inr (inl is)))) = d is
-not_kind k a b c d e f g (inr (inr (inr (inr (inl is))))) = e is
-not_kind k a b c d e f g (inr (inr (inr (inr (inr (inl is)))))) = f is
-not_kind k a b c d e f g (inr (inr (inr (inr (inr (inr is)))))) = g is
+pub unknown_refusal : (n : ℕ) (left mid : List ℕ) → n < 256 → ¬ IsRefusalNumber n → left ≡ number_spelled 1 n ++ mid → IsUnknown (number_spelled 1 0xE0 ++ left) 1
+unknown_refusal n left mid low not is = record {
+  front = 0xE0 ∷ [];
+  byte = n;
+  rest = mid;
+  is = second_byte 0xE0 n left mid (omega arith) low is;
+  place = refl;
+  nothing = refusal refl (λ why e. not (subst IsRefusalNumber (sym e) (refusal_number-known why)));
+}
+
+pub not_kind : (k : ℕ) → k ≢ 0x80 → k ≢ 0x81 → k ≢ 0x82 → k ≢ 0x85 → k ≢ 0x86 → k ≢ 0x88 → k ≢ 0x89 → k ≢ 0x8A → k ≢ 0xE0 → ¬ IsKind k
+not_kind k a b c d e f g h i (inl is) = a is
+not_kind k a b c d e f g h i (inr (inl is)) = b is
+not_kind k a b c d e f g h i (inr (inr (inl is))) = c is
+not_kind k a b c d e f g h i (inr (inr (inr (inl is)))) = d is
+not_kind k a b c d e f g h i (inr (inr (inr (inr (inl is))))) = e is
+not_kind k a b c d e f g h i (inr (inr (inr (inr (inr (inl is)))))) = f is
+not_kind k a b c d e f g h i (inr (inr (inr (inr (inr (inr (inl is))))))) = g is
+not_kind k a b c d e f g h i (inr (inr (inr (inr (inr (inr (inr (inl is)))))))) = h is
+not_kind k a b c d e f g h i (inr (inr (inr (inr (inr (inr (inr (inr is)))))))) = i is

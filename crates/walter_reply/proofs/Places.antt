@@ -2,19 +2,20 @@
 use Rattle.std.proofs.Common.{◌≡◌, ◌≢◌, ℕ, ◌+◌, ◌<◌, List, [], ◌∷◌, ◌++◌, length, refl, sym, ap, subst, ◌∙◌, inl, inr, append_assoc, append-nil, arith}
 use Rattle.std.specs.Prelude.{Some, None}
 use Rattle.std.proofs.lemmas.List.{length-append}
+use Rattle.walter_base.specs.declared.message.Level.{Level as HowFar}
 use Rattle.walter_base.specs.declared.message.Refusal.{Refusal}
 use Rattle.walter_base.specs.declared.message.Reply.{Reply}
-use Rattle.walter_base.specs.declared.message.Reply.TheVariants.{Started, Value, Done, Committed, Aborted, Ended, Refused}
+use Rattle.walter_base.specs.declared.message.Reply.TheVariants.{Started, Value, Done, Committed, Aborted, Level, Ended, Unsure, Refused}
 use Rattle.walter_base.specs.declared.transaction.Cause.{Cause}
 use Rattle.walter_fields.specs.Cursors.{Unread, Takes, whole_of}
 use Rattle.walter_fields.specs.Spellings.{IsBytes, number_spelled, block_spelled}
 use Rattle.walter_fields.proofs.Longest.{IsLongest, one_longest}
 use Rattle.walter_fields.proofs.Numbers.{number_spelled-byte}
 use Rattle.walter_fields.proofs.Readings.{left_of_whole}
-use Rattle.walter_reply.specs.Replies.{reply_spelled, cause_number, cause_fields, refusal_number, refusal_fields, IsReply, Spells, IsKind, StandsForNothing, IsUnknown, IsBadFrame, kind, flag, cause, refusal, empty, unknown, short, behind}
+use Rattle.walter_reply.specs.Replies.{reply_spelled, cause_number, cause_fields, level_number, refusal_number, refusal_fields, IsReply, Spells, IsKind, StandsForNothing, IsUnknown, IsBadFrame, kind, flag, cause, level, refusal, empty, unknown, short, behind}
 use Rattle.walter_reply.specs.Stops.{IsFront}
-use Rattle.walter_reply.proofs.Fronts.{cut_kind, cut_flag, cut_cause, cut_refusal}
-use Rattle.walter_reply.proofs.Prefixes.{kind_of, fields_spelled, cause_number-lt, refusal_number-lt, whole_spelling, not_empty, nothing_behind}
+use Rattle.walter_reply.proofs.Fronts.{cut_kind, cut_flag, cut_cause, cut_level, cut_refusal}
+use Rattle.walter_reply.proofs.Prefixes.{kind_of, fields_spelled, cause_number-lt, level_number-lt, refusal_number-lt, whole_spelling, not_empty, nothing_behind}
 
 -- ---- a decoder's places are those of bad frames
 
@@ -43,10 +44,12 @@ known_kind (Value value) byte e = inr (inl e)
 known_kind Done byte e = inr (inr (inl e))
 known_kind (Committed version) byte e = inr (inr (inr (inl e)))
 known_kind (Aborted why) byte e = inr (inr (inr (inr (inl e))))
-known_kind Ended byte e = inr (inr (inr (inr (inr (inl e)))))
-known_kind (Refused why) byte e = inr (inr (inr (inr (inr (inr e)))))
+known_kind (Level how_far) byte e = inr (inr (inr (inr (inr (inl e)))))
+known_kind Ended byte e = inr (inr (inr (inr (inr (inr (inl e))))))
+known_kind (Unsure tid) byte e = inr (inr (inr (inr (inr (inr (inr (inl e)))))))
+known_kind (Refused why) byte e = inr (inr (inr (inr (inr (inr (inr (inr e)))))))
 
--- what stands behind the first byte of a value, of an abort and of a refusal
+-- what stands behind the first byte of a value, of an abort, of a level and of a refusal
 known_flag : (reply : Reply) (byte : ℕ) (rest y : List ℕ) → 0x81 ≡ kind_of reply → byte ∷ rest ≡ fields_spelled reply ++ y → byte ≢ 0 → byte ≢ 1 → ⊥
 known_flag (Value None) byte rest y same e not_0 not_1 =
     let begins : byte ∷ rest ≡ 0 ∷ y = e ∙ ap (λ t. t ++ y) (number_spelled-byte 0 (omega arith)) in
@@ -65,6 +68,12 @@ known_cause : (reply : Reply) (byte : ℕ) (rest y : List ℕ) → 0x86 ≡ kind
 known_cause (Aborted why) byte rest y same e none = none why (begins_with (cause_number why) byte (cause_fields why) rest y (cause_number-lt why) e)
 known_cause _ byte rest y same e none = omega (arith, same)
 
+known_level : (reply : Reply) (byte : ℕ) (rest y : List ℕ) → 0x88 ≡ kind_of reply → byte ∷ rest ≡ fields_spelled reply ++ y → ((how_far : HowFar) → byte ≢ level_number how_far) → ⊥
+known_level (Level how_far) byte rest y same e none =
+    let begins : byte ∷ rest ≡ level_number how_far ∷ y = e ∙ ap (λ t. t ++ y) (number_spelled-byte (level_number how_far) (level_number-lt how_far)) in
+    none how_far (cc)
+known_level _ byte rest y same e none = omega (arith, same)
+
 known_refusal : (reply : Reply) (byte : ℕ) (rest y : List ℕ) → 0xE0 ≡ kind_of reply → byte ∷ rest ≡ fields_spelled reply ++ y → ((why : Refusal) → byte ≢ refusal_number why) → ⊥
 known_refusal (Refused why) byte rest y same e none = none why (begins_with (refusal_number why) byte (refusal_fields why) rest y (refusal_number-lt why) e)
 known_refusal _ byte rest y same e none = omega (arith, same)
@@ -80,6 +89,9 @@ no_unknown front rest byte reply spells (flag is not_0 not_1) =
 no_unknown front rest byte reply spells (cause is none) =
     let begins : 0x86 ∷ (byte ∷ rest) ≡ kind_of reply ∷ (fields_spelled reply ++ []) = ap (λ t. t ++ (byte ∷ rest)) (sym is) ∙ whole_spelling (front ++ (byte ∷ rest)) reply spells in
     known_cause reply byte rest [] (cc) (cc) none
+no_unknown front rest byte reply spells (level is none) =
+    let begins : 0x88 ∷ (byte ∷ rest) ≡ kind_of reply ∷ (fields_spelled reply ++ []) = ap (λ t. t ++ (byte ∷ rest)) (sym is) ∙ whole_spelling (front ++ (byte ∷ rest)) reply spells in
+    known_level reply byte rest [] (cc) (cc) none
 no_unknown front rest byte reply spells (refusal is none) =
     let begins : 0xE0 ∷ (byte ∷ rest) ≡ kind_of reply ∷ (fields_spelled reply ++ []) = ap (λ t. t ++ (byte ∷ rest)) (sym is) ∙ whole_spelling (front ++ (byte ∷ rest)) reply spells in
     known_refusal reply byte rest [] (cc) (cc) none
@@ -100,6 +112,7 @@ reaches : (front : List ℕ) (byte : ℕ) → StandsForNothing front byte → Is
 reaches front byte (kind is not) = rw is (cut_kind [] (omega arith))
 reaches front byte (flag is not_0 not_1) = subst IsFront (alone 0x81 (omega arith) ∙ sym is) (cut_flag [] (omega arith))
 reaches front byte (cause is none) = subst IsFront (alone 0x86 (omega arith) ∙ sym is) (cut_cause [] (omega arith))
+reaches front byte (level is none) = subst IsFront (alone 0x88 (omega arith) ∙ sym is) (cut_level [] (omega arith))
 reaches front byte (refusal is none) = subst IsFront (alone 0xE0 (omega arith) ∙ sym is) (cut_refusal [] (omega arith))
 
 longest : (body : List ℕ) (at : ℕ) → IsBadFrame body at → IsLongest Spells body at

@@ -1,10 +1,12 @@
 -- No spelling of a reply begins that of another.
-use Rattle.std.proofs.Common.{◌≡◌, ◌≢◌, ℕ, ◌<◌, List, [], ◌∷◌, ◌++◌, refl, sym, ap, ◌∙◌, append_assoc, append-nil, arith}
+use Rattle.std.proofs.Common.{◌≡◌, ◌≢◌, ℕ, ◌<◌, ◌≤◌, List, [], ◌∷◌, ◌++◌, refl, sym, ap, ◌∙◌, append_assoc, append-nil, arith}
 use Rattle.std.specs.Prelude.{Some, None}
+use Rattle.walter_base.specs.declared.message.Level.{Level as HowFar}
+use Rattle.walter_base.specs.declared.message.Level.TheVariants as reached
 use Rattle.walter_base.specs.declared.message.Refusal.{Refusal}
-use Rattle.walter_base.specs.declared.message.Refusal.TheVariants.{UnknownContainer, NoTx, TxOpen, BadFrame, Memory}
+use Rattle.walter_base.specs.declared.message.Refusal.TheVariants.{UnknownContainer, WrongKind, TxFull, TooLong, NoTx, TxOpen, Gone, BadFrame, Down, JournalFull, SessionsFull, Memory, WrongSite, NotIssued}
 use Rattle.walter_base.specs.declared.message.Reply.{Reply}
-use Rattle.walter_base.specs.declared.message.Reply.TheVariants.{Started, Value, Done, Committed, Aborted, Ended, Refused}
+use Rattle.walter_base.specs.declared.message.Reply.TheVariants.{Started, Value, Done, Committed, Aborted, Level, Ended, Unsure, Refused}
 use Rattle.walter_base.specs.declared.transaction.Cause.{Cause}
 use Rattle.walter_base.specs.declared.transaction.Cause.TheVariants.{Modified, Locked, Asked}
 use Rattle.walter_fields.specs.Spellings.{number_spelled, block_spelled}
@@ -12,7 +14,7 @@ use Rattle.walter_fields.proofs.Numbers.{number_spelled-byte, same_number}
 use Rattle.walter_fields.proofs.Readings.{same_block}
 use Rattle.walter_names.specs.Names.{object_spelled, tid_spelled, version_spelled}
 use Rattle.walter_names.proofs.Prefixes.{regrouped, same_object, same_tid, same_version}
-use Rattle.walter_reply.specs.Replies.{cause_number, cause_fields, cause_spelled, refusal_number, refusal_fields, refusal_spelled, reply_spelled, IsCause, IsRefusal, IsReply, Spells}
+use Rattle.walter_reply.specs.Replies.{cause_number, cause_fields, cause_spelled, level_number, refusal_number, refusal_fields, refusal_spelled, reply_spelled, IsCause, IsRefusal, IsReply, Spells}
 
 -- a reply is its first byte, and its fields
 abbrev pub kind_of : Reply → ℕ
@@ -21,7 +23,9 @@ kind_of (Value value) = 0x81
 kind_of Done = 0x82
 kind_of (Committed version) = 0x85
 kind_of (Aborted cause) = 0x86
+kind_of (Level level) = 0x88
 kind_of Ended = 0x89
+kind_of (Unsure tid) = 0x8A
 kind_of (Refused why) = 0xE0
 
 abbrev pub fields_spelled : Reply → List ℕ
@@ -31,7 +35,9 @@ fields_spelled (Value (Some bytes)) = number_spelled 1 1 ++ block_spelled bytes
 fields_spelled Done = []
 fields_spelled (Committed version) = version_spelled version
 fields_spelled (Aborted cause) = cause_spelled cause
+fields_spelled (Level level) = number_spelled 1 (level_number level)
 fields_spelled Ended = []
+fields_spelled (Unsure tid) = tid_spelled tid
 fields_spelled (Refused why) = refusal_spelled why
 
 pub reply_parts : (a : Reply) (x : List ℕ) → reply_spelled a ++ x ≡ number_spelled 1 (kind_of a) ++ (fields_spelled a ++ x)
@@ -41,7 +47,9 @@ reply_parts (Value (Some bytes)) x = append_assoc (number_spelled 1 0x81) (numbe
 reply_parts Done x = refl
 reply_parts (Committed version) x = append_assoc (number_spelled 1 0x85) (version_spelled version) x
 reply_parts (Aborted cause) x = append_assoc (number_spelled 1 0x86) (cause_spelled cause) x
+reply_parts (Level level) x = append_assoc (number_spelled 1 0x88) (number_spelled 1 (level_number level)) x
 reply_parts Ended x = refl
+reply_parts (Unsure tid) x = append_assoc (number_spelled 1 0x8A) (tid_spelled tid) x
 reply_parts (Refused why) x = append_assoc (number_spelled 1 0xE0) (refusal_spelled why) x
 
 pub kind_of-lt : (a : Reply) → kind_of a < 256
@@ -50,7 +58,9 @@ kind_of-lt (Value value) = omega arith
 kind_of-lt Done = omega arith
 kind_of-lt (Committed version) = omega arith
 kind_of-lt (Aborted cause) = omega arith
+kind_of-lt (Level level) = omega arith
 kind_of-lt Ended = omega arith
+kind_of-lt (Unsure tid) = omega arith
 kind_of-lt (Refused why) = omega arith
 
 pub cause_number-lt : (why : Cause) → cause_number why < 256
@@ -58,12 +68,37 @@ cause_number-lt (Modified oid version) = omega arith
 cause_number-lt (Locked oid owner) = omega arith
 cause_number-lt Asked = omega arith
 
+pub level_number-lt : (level : HowFar) → level_number level < 256
+level_number-lt reached.NotCommitted = omega arith
+level_number-lt reached.Running = omega arith
+level_number-lt reached.Committed = omega arith
+level_number-lt reached.Durable = omega arith
+level_number-lt reached.Visible = omega arith
+
+-- the numbers of refusals are those from 1 to 15, but 11
+pub record IsRefusalNumber (n : ℕ) : Type 0 where
+  pub some : 1 ≤ n
+  pub most : n ≤ 15
+  pub not_11 : n ≢ 11
+
+pub refusal_number-known : (why : Refusal) → IsRefusalNumber (refusal_number why)
+refusal_number-known UnknownContainer = record { some = omega arith; most = omega arith; not_11 = λ e. omega (arith, e) }
+refusal_number-known WrongKind = record { some = omega arith; most = omega arith; not_11 = λ e. omega (arith, e) }
+refusal_number-known TxFull = record { some = omega arith; most = omega arith; not_11 = λ e. omega (arith, e) }
+refusal_number-known TooLong = record { some = omega arith; most = omega arith; not_11 = λ e. omega (arith, e) }
+refusal_number-known NoTx = record { some = omega arith; most = omega arith; not_11 = λ e. omega (arith, e) }
+refusal_number-known TxOpen = record { some = omega arith; most = omega arith; not_11 = λ e. omega (arith, e) }
+refusal_number-known (Gone tid) = record { some = omega arith; most = omega arith; not_11 = λ e. omega (arith, e) }
+refusal_number-known (BadFrame at) = record { some = omega arith; most = omega arith; not_11 = λ e. omega (arith, e) }
+refusal_number-known Down = record { some = omega arith; most = omega arith; not_11 = λ e. omega (arith, e) }
+refusal_number-known (JournalFull need left) = record { some = omega arith; most = omega arith; not_11 = λ e. omega (arith, e) }
+refusal_number-known SessionsFull = record { some = omega arith; most = omega arith; not_11 = λ e. omega (arith, e) }
+refusal_number-known Memory = record { some = omega arith; most = omega arith; not_11 = λ e. omega (arith, e) }
+refusal_number-known WrongSite = record { some = omega arith; most = omega arith; not_11 = λ e. omega (arith, e) }
+refusal_number-known NotIssued = record { some = omega arith; most = omega arith; not_11 = λ e. omega (arith, e) }
+
 pub refusal_number-lt : (why : Refusal) → refusal_number why < 256
-refusal_number-lt UnknownContainer = omega arith
-refusal_number-lt NoTx = omega arith
-refusal_number-lt TxOpen = omega arith
-refusal_number-lt (BadFrame at) = omega arith
-refusal_number-lt Memory = omega arith
+refusal_number-lt why = omega (arith, (refusal_number-known why).most)
 
 same_cause : (a b : Cause) (x y : List ℕ) → cause_number a ≡ cause_number b → IsCause a → IsCause b → cause_fields a ++ x ≡ cause_fields b ++ y → (a ≡ b) × (x ≡ y)
 same_cause (Modified a v) (Modified b w) x y same fits_a fits_b e =
@@ -77,12 +112,32 @@ same_cause (Locked a v) (Locked b w) x y same fits_a fits_b e =
 same_cause Asked Asked x y same fits_a fits_b e = (refl, e)
 same_cause _ _ x y same fits_a fits_b e = absurd (omega (arith, same))
 
+same_level : (a b : HowFar) → level_number a ≡ level_number b → a ≡ b
+same_level reached.NotCommitted reached.NotCommitted same = refl
+same_level reached.Running reached.Running same = refl
+same_level reached.Committed reached.Committed same = refl
+same_level reached.Durable reached.Durable same = refl
+same_level reached.Visible reached.Visible same = refl
+same_level _ _ same = absurd (omega (arith, same))
+
 same_refusal : (a b : Refusal) (x y : List ℕ) → refusal_number a ≡ refusal_number b → IsRefusal a → IsRefusal b → refusal_fields a ++ x ≡ refusal_fields b ++ y → (a ≡ b) × (x ≡ y)
 same_refusal UnknownContainer UnknownContainer x y same fits_a fits_b e = (refl, e)
+same_refusal WrongKind WrongKind x y same fits_a fits_b e = (refl, e)
+same_refusal TxFull TxFull x y same fits_a fits_b e = (refl, e)
+same_refusal TooLong TooLong x y same fits_a fits_b e = (refl, e)
 same_refusal NoTx NoTx x y same fits_a fits_b e = (refl, e)
 same_refusal TxOpen TxOpen x y same fits_a fits_b e = (refl, e)
+same_refusal (Gone a) (Gone b) x y same fits_a fits_b e = let parts = same_tid a b x y fits_a fits_b e in ((λ i. Gone (parts.0 i)), parts.1)
 same_refusal (BadFrame a) (BadFrame b) x y same fits_a fits_b e = let parts = same_number 4 a b x y (omega (arith, fits_a)) (omega (arith, fits_b)) e in ((λ i. BadFrame (parts.0 i)), parts.1)
+same_refusal Down Down x y same fits_a fits_b e = (refl, e)
+same_refusal (JournalFull a m) (JournalFull b n) x y same fits_a fits_b e =
+    let one = same_number 8 a b (number_spelled 8 m ++ x) (number_spelled 8 n ++ y) (omega (arith, fits_a.0)) (omega (arith, fits_b.0)) (regrouped (number_spelled 8 a) (number_spelled 8 m) x (number_spelled 8 b) (number_spelled 8 n) y e) in
+    let two = same_number 8 m n x y (omega (arith, fits_a.1)) (omega (arith, fits_b.1)) one.1 in
+    ((λ i. JournalFull (one.0 i) (two.0 i)), two.1)
+same_refusal SessionsFull SessionsFull x y same fits_a fits_b e = (refl, e)
 same_refusal Memory Memory x y same fits_a fits_b e = (refl, e)
+same_refusal WrongSite WrongSite x y same fits_a fits_b e = (refl, e)
+same_refusal NotIssued NotIssued x y same fits_a fits_b e = (refl, e)
 same_refusal _ _ x y same fits_a fits_b e = absurd (omega (arith, same))
 
 -- a value that is there, behind its flag
@@ -105,7 +160,12 @@ same_fields (Aborted a) (Aborted b) x y same fits_a fits_b e =
     (regrouped (number_spelled 1 (cause_number a)) (cause_fields a) x (number_spelled 1 (cause_number b)) (cause_fields b) y e) in
     let parts = same_cause a b x y numbers.0 fits_a fits_b numbers.1 in
     ((λ i. Aborted (parts.0 i)), parts.1)
+same_fields (Level a) (Level b) x y same fits_a fits_b e =
+    let numbers = same_number 1 (level_number a) (level_number b) x y (omega (arith, level_number-lt a)) (omega (arith, level_number-lt b)) e in
+    let level = same_level a b numbers.0 in
+    ((λ i. Level (level i)), numbers.1)
 same_fields Ended Ended x y same fits_a fits_b e = (refl, e)
+same_fields (Unsure a) (Unsure b) x y same fits_a fits_b e = let parts = same_tid a b x y fits_a fits_b e in ((λ i. Unsure (parts.0 i)), parts.1)
 same_fields (Refused a) (Refused b) x y same fits_a fits_b e =
     let numbers = same_number 1 (refusal_number a) (refusal_number b) (refusal_fields a ++ x) (refusal_fields b ++ y) (omega (arith, refusal_number-lt a)) (omega (arith, refusal_number-lt b))
     (regrouped (number_spelled 1 (refusal_number a)) (refusal_fields a) x (number_spelled 1 (refusal_number b)) (refusal_fields b) y e) in

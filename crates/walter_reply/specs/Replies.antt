@@ -1,9 +1,11 @@
 -- How replies are spelled, and what is wrong with bytes that spell none (docs/FORMATS.md, "Frames of a client").
 use Rattle.std.specs.Prelude.{◌≡◌, ◌≢◌, ◌⊎◌, ◌<◌, ◌≤◌, ◌^◌, ◌+◌, ℕ, List, [], ◌∷◌, ◌++◌, length, Some, None}
+use Rattle.walter_base.specs.declared.message.Level.{Level as HowFar}
+use Rattle.walter_base.specs.declared.message.Level.TheVariants as reached
 use Rattle.walter_base.specs.declared.message.Refusal.{Refusal}
-use Rattle.walter_base.specs.declared.message.Refusal.TheVariants.{UnknownContainer, NoTx, TxOpen, BadFrame, Memory}
+use Rattle.walter_base.specs.declared.message.Refusal.TheVariants.{UnknownContainer, WrongKind, TxFull, TooLong, NoTx, TxOpen, Gone, BadFrame, Down, JournalFull, SessionsFull, Memory, WrongSite, NotIssued}
 use Rattle.walter_base.specs.declared.message.Reply.{Reply}
-use Rattle.walter_base.specs.declared.message.Reply.TheVariants.{Started, Value, Done, Committed, Aborted, Ended, Refused}
+use Rattle.walter_base.specs.declared.message.Reply.TheVariants.{Started, Value, Done, Committed, Aborted, Level, Ended, Unsure, Refused}
 use Rattle.walter_base.specs.declared.transaction.Cause.{Cause}
 use Rattle.walter_base.specs.declared.transaction.Cause.TheVariants.{Modified, Locked, Asked}
 use Rattle.walter_fields.specs.Spellings.{number_spelled, block_spelled}
@@ -25,20 +27,36 @@ cause_fields Asked = []
 abbrev pub cause_spelled : Cause → List ℕ
 cause_spelled cause = number_spelled 1 (cause_number cause) ++ cause_fields cause
 
+-- the number of a level
+abbrev pub level_number : HowFar → ℕ
+level_number reached.NotCommitted = 0
+level_number reached.Running = 1
+level_number reached.Committed = 3
+level_number reached.Durable = 4
+level_number reached.Visible = 5
+
 -- the number of a refusal, and what stands behind it
 abbrev pub refusal_number : Refusal → ℕ
 refusal_number UnknownContainer = 1
+refusal_number WrongKind = 2
+refusal_number TxFull = 3
+refusal_number TooLong = 4
 refusal_number NoTx = 5
 refusal_number TxOpen = 6
+refusal_number (Gone tid) = 7
 refusal_number (BadFrame at) = 8
+refusal_number Down = 9
+refusal_number (JournalFull need left) = 10
+refusal_number SessionsFull = 12
 refusal_number Memory = 13
+refusal_number WrongSite = 14
+refusal_number NotIssued = 15
 
 abbrev pub refusal_fields : Refusal → List ℕ
-refusal_fields UnknownContainer = []
-refusal_fields NoTx = []
-refusal_fields TxOpen = []
+refusal_fields (Gone tid) = tid_spelled tid
 refusal_fields (BadFrame at) = number_spelled 4 at
-refusal_fields Memory = []
+refusal_fields (JournalFull need left) = number_spelled 8 need ++ number_spelled 8 left
+refusal_fields refusal = []
 
 abbrev pub refusal_spelled : Refusal → List ℕ
 refusal_spelled refusal = number_spelled 1 (refusal_number refusal) ++ refusal_fields refusal
@@ -50,7 +68,9 @@ reply_spelled (Value (Some bytes)) = number_spelled 1 0x81 ++ (number_spelled 1 
 reply_spelled Done = number_spelled 1 0x82
 reply_spelled (Committed version) = number_spelled 1 0x85 ++ version_spelled version
 reply_spelled (Aborted cause) = number_spelled 1 0x86 ++ cause_spelled cause
+reply_spelled (Level level) = number_spelled 1 0x88 ++ number_spelled 1 (level_number level)
 reply_spelled Ended = number_spelled 1 0x89
+reply_spelled (Unsure tid) = number_spelled 1 0x8A ++ tid_spelled tid
 reply_spelled (Refused refusal) = number_spelled 1 0xE0 ++ refusal_spelled refusal
 
 -- how many bytes that are
@@ -63,8 +83,12 @@ size_of (Committed version) = 10
 size_of (Aborted (Modified oid version)) = 23
 size_of (Aborted (Locked oid owner)) = 27
 size_of (Aborted Asked) = 2
+size_of (Level level) = 2
 size_of Ended = 1
+size_of (Unsure tid) = 14
+size_of (Refused (Gone tid)) = 15
 size_of (Refused (BadFrame at)) = 6
+size_of (Refused (JournalFull need left)) = 18
 size_of (Refused refusal) = 2
 
 -- the numbers of a reply are in the ranges of their fields
@@ -74,11 +98,10 @@ IsCause (Locked oid owner) = IsObject oid × IsTid owner
 IsCause Asked = Unit {0}
 
 abbrev pub IsRefusal : Refusal → Type 0
-IsRefusal UnknownContainer = Unit {0}
-IsRefusal NoTx = Unit {0}
-IsRefusal TxOpen = Unit {0}
+IsRefusal (Gone tid) = IsTid tid
 IsRefusal (BadFrame at) = at < 2 ^ 32
-IsRefusal Memory = Unit {0}
+IsRefusal (JournalFull need left) = (need < 2 ^ 64) × (left < 2 ^ 64)
+IsRefusal refusal = Unit {0}
 
 abbrev pub IsReply : Reply → Type 0
 IsReply (Started tid) = IsTid tid
@@ -87,7 +110,9 @@ IsReply (Value (Some bytes)) = length bytes < 2 ^ 32
 IsReply Done = Unit {0}
 IsReply (Committed version) = IsVersion version
 IsReply (Aborted cause) = IsCause cause
+IsReply (Level level) = Unit {0}
 IsReply Ended = Unit {0}
+IsReply (Unsure tid) = IsTid tid
 IsReply (Refused refusal) = IsRefusal refusal
 
 -- the body is the spelling of the reply, all of it
@@ -106,14 +131,15 @@ HasShortValue reply = Unit {0}
 
 -- the first byte of a reply
 abbrev pub IsKind : ℕ → Type 0
-IsKind byte = (byte ≡ 0x80) ⊎ (byte ≡ 0x81) ⊎ (byte ≡ 0x82) ⊎ (byte ≡ 0x85) ⊎ (byte ≡ 0x86) ⊎ (byte ≡ 0x89) ⊎ (byte ≡ 0xE0)
+IsKind byte = (byte ≡ 0x80) ⊎ (byte ≡ 0x81) ⊎ (byte ≡ 0x82) ⊎ (byte ≡ 0x85) ⊎ (byte ≡ 0x86) ⊎ (byte ≡ 0x88) ⊎ (byte ≡ 0x89) ⊎ (byte ≡ 0x8A) ⊎ (byte ≡ 0xE0)
 
 -- behind this front the byte stands for nothing: it is no reply's first byte, no flag of a value, no
--- number of a cause or of a refusal
+-- number of a cause, of a level or of a refusal
 pub data StandsForNothing (front : List ℕ) (byte : ℕ) : Type 0 where
   kind : front ≡ [] → ¬ IsKind byte → StandsForNothing front byte
   flag : front ≡ 0x81 ∷ [] → byte ≢ 0 → byte ≢ 1 → StandsForNothing front byte
   cause : front ≡ 0x86 ∷ [] → ((why : Cause) → byte ≢ cause_number why) → StandsForNothing front byte
+  level : front ≡ 0x88 ∷ [] → ((how_far : HowFar) → byte ≢ level_number how_far) → StandsForNothing front byte
   refusal : front ≡ 0xE0 ∷ [] → ((why : Refusal) → byte ≢ refusal_number why) → StandsForNothing front byte
 
 -- the byte at this place stands for nothing

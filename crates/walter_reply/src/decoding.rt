@@ -5,7 +5,7 @@ ghost use Rattle.walter_reply.specs.Stops.{EndsWith, StopsBehind, StopsAt};
 
 use crate::fault::{ReplyFault, Stop};
 use std::alloc::Global;
-use walter_base::{Bytes, Cause, Refusal, Reply};
+use walter_base::{Bytes, Cause, Level, Refusal, Reply};
 use walter_fields::Cursor;
 use walter_names::{read_object, read_tid, read_version};
 
@@ -61,6 +61,29 @@ fn read_aborted(cursor: &mut Cursor) -> Result<Reply, Stop>
     }
 }
 
+/// What stands behind the first byte of Level.
+fn read_level(cursor: &mut Cursor) -> Result<Reply, Stop>
+    ensures ends { IfOk result (EndsWith 0x88 cursor.old cursor.new) }
+    ensures stop { IfErr result (StopsBehind 0x88 cursor.old.left) }
+{
+    match cursor.u8()? {
+        0 => Ok(Reply::Level(Level::NotCommitted)),
+        1 => Ok(Reply::Level(Level::Running)),
+        3 => Ok(Reply::Level(Level::Committed)),
+        4 => Ok(Reply::Level(Level::Durable)),
+        5 => Ok(Reply::Level(Level::Visible)),
+        _ => Err(Stop::Unknown(1)),
+    }
+}
+
+/// What stands behind the first byte of Unsure.
+fn read_unsure(cursor: &mut Cursor) -> Result<Reply, Stop>
+    ensures ends { IfOk result (EndsWith 0x8A cursor.old cursor.new) }
+    ensures stop { IfErr result (StopsBehind 0x8A cursor.old.left) }
+{
+    Ok(Reply::Unsure(read_tid(cursor)?))
+}
+
 /// What stands behind the first byte of Refused.
 fn read_refused(cursor: &mut Cursor) -> Result<Reply, Stop>
     ensures ends { IfOk result (EndsWith 0xE0 cursor.old cursor.new) }
@@ -68,13 +91,29 @@ fn read_refused(cursor: &mut Cursor) -> Result<Reply, Stop>
 {
     match cursor.u8()? {
         1 => Ok(Reply::Refused(Refusal::UnknownContainer)),
+        2 => Ok(Reply::Refused(Refusal::WrongKind)),
+        3 => Ok(Reply::Refused(Refusal::TxFull)),
+        4 => Ok(Reply::Refused(Refusal::TooLong)),
         5 => Ok(Reply::Refused(Refusal::NoTx)),
         6 => Ok(Reply::Refused(Refusal::TxOpen)),
+        7 => {
+            let tid = read_tid(cursor)?;
+            Ok(Reply::Refused(Refusal::Gone { tid }))
+        }
         8 => {
             let at = cursor.u32()?;
             Ok(Reply::Refused(Refusal::BadFrame { at }))
         }
+        9 => Ok(Reply::Refused(Refusal::Down)),
+        10 => {
+            let need = cursor.u64()?;
+            let left = cursor.u64()?;
+            Ok(Reply::Refused(Refusal::JournalFull { need, left }))
+        }
+        12 => Ok(Reply::Refused(Refusal::SessionsFull)),
         13 => Ok(Reply::Refused(Refusal::Memory)),
+        14 => Ok(Reply::Refused(Refusal::WrongSite)),
+        15 => Ok(Reply::Refused(Refusal::NotIssued)),
         _ => Err(Stop::Unknown(1)),
     }
 }
@@ -90,7 +129,9 @@ fn read_fields(alloc: Global, cursor: &mut Cursor, kind: u8) -> Result<Reply, St
         0x82 => Ok(Reply::Done),
         0x85 => read_committed(cursor),
         0x86 => read_aborted(cursor),
+        0x88 => read_level(cursor),
         0x89 => Ok(Reply::Ended),
+        0x8A => read_unsure(cursor),
         0xE0 => read_refused(cursor),
         _ => Err(Stop::Unknown(0)),
     }

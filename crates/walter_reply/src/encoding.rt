@@ -1,8 +1,8 @@
 ghost use Rattle.std.specs.Prelude.{◌≡◌, ◌+◌, ◌<◌, ◌≤◌, ◌^◌, ◌++◌, length, IfOk};
-ghost use Rattle.walter_reply.specs.Replies.{cause_number, cause_spelled, refusal_number, refusal_fields, refusal_spelled, reply_spelled, FitsFrame};
+ghost use Rattle.walter_reply.specs.Replies.{cause_number, cause_spelled, level_number, refusal_number, refusal_fields, refusal_spelled, reply_spelled, FitsFrame};
 
 use std::alloc::Global;
-use walter_base::{Bytes, Cause, Mem, NoMemory, Refusal, Reply};
+use walter_base::{Bytes, Cause, Level, Mem, NoMemory, Refusal, Reply};
 use walter_fields::Appender;
 use walter_names::{write_object, write_tid, write_version};
 
@@ -16,15 +16,36 @@ fn number_of_cause(cause: Cause) -> u8
     }
 }
 
+fn number_of_level(level: Level) -> u8
+    ensures { result ≡ level_number level }
+{
+    match level {
+        Level::NotCommitted => 0,
+        Level::Running => 1,
+        Level::Committed => 3,
+        Level::Durable => 4,
+        Level::Visible => 5,
+    }
+}
+
 fn number_of_refusal(refusal: Refusal) -> u8
     ensures { result ≡ refusal_number refusal }
 {
     match refusal {
         Refusal::UnknownContainer => 1,
+        Refusal::WrongKind => 2,
+        Refusal::TxFull => 3,
+        Refusal::TooLong => 4,
         Refusal::NoTx => 5,
         Refusal::TxOpen => 6,
+        Refusal::Gone { tid: _ } => 7,
         Refusal::BadFrame { at: _ } => 8,
+        Refusal::Down => 9,
+        Refusal::JournalFull { need: _, left: _ } => 10,
+        Refusal::SessionsFull => 12,
         Refusal::Memory => 13,
+        Refusal::WrongSite => 14,
+        Refusal::NotIssued => 15,
     }
 }
 
@@ -57,8 +78,14 @@ fn append_refusal(out: &mut Appender, refusal: Refusal)
     ensures room { out.new.room + (1 + length (refusal_fields refusal)) ≡ out.old.room }
 {
     out.u8(number_of_refusal(refusal));
-    if let Refusal::BadFrame { at } = refusal {
-        out.u32(at);
+    match refusal {
+        Refusal::Gone { tid } => write_tid(out, tid),
+        Refusal::BadFrame { at } => out.u32(at),
+        Refusal::JournalFull { need, left } => {
+            out.u64(need);
+            out.u64(left);
+        }
+        _ => {}
     }
 }
 
@@ -69,14 +96,16 @@ pub fn size_of(reply: &Reply) -> usize
     ensures { result ≡ length (reply_spelled reply.now) }
 {
     match reply {
-        Reply::Started(_) => 14,
-        Reply::Value(None) | Reply::Aborted(Cause::Asked) => 2,
+        Reply::Started(_) | Reply::Unsure(_) => 14,
+        Reply::Value(None) | Reply::Aborted(Cause::Asked) | Reply::Level(_) => 2,
         Reply::Value(Some(bytes)) => 6 + bytes.len(),
         Reply::Done | Reply::Ended => 1,
         Reply::Committed(_) => 10,
         Reply::Aborted(Cause::Modified { oid: _, version: _ }) => 23,
         Reply::Aborted(Cause::Locked { oid: _, owner: _ }) => 27,
+        Reply::Refused(Refusal::Gone { tid: _ }) => 15,
         Reply::Refused(Refusal::BadFrame { at: _ }) => 6,
+        Reply::Refused(Refusal::JournalFull { need: _, left: _ }) => 18,
         Reply::Refused(_) => 2,
     }
 }
@@ -112,7 +141,15 @@ pub fn append(out: &mut Appender, reply: &Reply)
             out.u8(0x86);
             append_cause(out, *cause);
         }
+        Reply::Level(level) => {
+            out.u8(0x88);
+            out.u8(number_of_level(*level));
+        }
         Reply::Ended => out.u8(0x89),
+        Reply::Unsure(tid) => {
+            out.u8(0x8A);
+            write_tid(out, *tid);
+        }
         Reply::Refused(refusal) => {
             out.u8(0xE0);
             append_refusal(out, *refusal);

@@ -1,6 +1,9 @@
+ghost use Rattle.std.specs.Prelude.{◌≤◌, length};
+
 use crate::{ReplyFault, append, decode, encode, size_of};
+use std::alloc::Global;
 use std::test::Fail;
-use walter_base::{Bytes, Cause, ObjId, Refusal, Reply, SiteId, Tid, Version};
+use walter_base::{Bytes, Cause, Level, ObjId, Refusal, Reply, SiteId, Tid, Version};
 use walter_fields::Appender;
 
 const TID: Tid = Tid {
@@ -41,10 +44,41 @@ const LOCKED: Cause = Cause::Locked {
 /// The value `hello`.
 const HELLO: [u8; 11] = [0x81, 1, 0, 0, 0, 5, 104, 101, 108, 108, 111];
 
+/// Whether the replies are one.
+fn are_same(one: &Reply, other: &Reply) -> bool {
+    match (one, other) {
+        (Reply::Started(a), Reply::Started(b)) | (Reply::Unsure(a), Reply::Unsure(b)) => a == b,
+        (Reply::Value(Some(v)), Reply::Value(Some(w))) => v.as_slice() == w.as_slice(),
+        (Reply::Committed(a), Reply::Committed(b)) => a == b,
+        (Reply::Aborted(a), Reply::Aborted(b)) => a == b,
+        (Reply::Level(a), Reply::Level(b)) => a == b,
+        (Reply::Refused(a), Reply::Refused(b)) => a == b,
+        (Reply::Value(None), Reply::Value(None))
+        | (Reply::Done, Reply::Done)
+        | (Reply::Ended, Reply::Ended) => true,
+        _ => false,
+    }
+}
+
+/// Whether the bytes spell the reply, and are what is written of it.
+fn is_spelling(alloc: Global, reply: &Reply, spelling: &[u8]) -> Result<bool, Fail>
+    requires { length spelling.now ≤ 65536 }
+{
+    let Ok(again) = decode(alloc, spelling) else {
+        return Err("the bytes spell a reply".into());
+    };
+    let written = encode(alloc, &again)?;
+    Ok(
+        are_same(reply, &again)
+            && written.as_slice() == spelling
+            && size_of(&again) == spelling.len(),
+    )
+}
+
 #[test]
 fn each_reply_has_its_spelling(rt: HostRuntime) -> Result<(), Fail> {
     let hello = Bytes::from_slice(rt.alloc(), b"hello")?;
-    let table: [(Reply, &[u8]); 14] = [
+    let table: [(Reply, &[u8]); 10] = [
         (
             Reply::Started(TID),
             &[0x80, 1, 0, 0, 0, 2, 0, 0, 0, 0, 0, 0, 0, 3],
@@ -70,34 +104,70 @@ fn each_reply_has_its_spelling(rt: HostRuntime) -> Result<(), Fail> {
         ),
         (Reply::Aborted(Cause::Asked), &[0x86, 3]),
         (Reply::Ended, &[0x89]),
-        (Reply::Refused(Refusal::UnknownContainer), &[0xE0, 1]),
-        (Reply::Refused(Refusal::NoTx), &[0xE0, 5]),
-        (Reply::Refused(Refusal::TxOpen), &[0xE0, 6]),
         (
-            Reply::Refused(Refusal::BadFrame { at: 1 }),
-            &[0xE0, 8, 0, 0, 0, 1],
+            Reply::Unsure(TID),
+            &[0x8A, 1, 0, 0, 0, 2, 0, 0, 0, 0, 0, 0, 0, 3],
         ),
-        (Reply::Refused(Refusal::Memory), &[0xE0, 13]),
     ];
     for (reply, spelling) in &table {
-        let Ok(again) = decode(rt.alloc(), spelling) else {
-            return Err("the bytes spell a reply".into());
-        };
-        assert_eq!(rt; encode(rt.alloc(), &again)?.as_slice(), *spelling);
-        assert_eq!(rt; size_of(&again), spelling.len());
-        match (reply, &again) {
-            (Reply::Started(a), Reply::Started(b)) => assert_eq!(rt; a, b),
-            (Reply::Value(Some(v)), Reply::Value(Some(w))) => {
-                assert_eq!(rt; v.as_slice(), w.as_slice());
-            }
-            (Reply::Committed(a), Reply::Committed(b)) => assert_eq!(rt; a, b),
-            (Reply::Aborted(a), Reply::Aborted(b)) => assert_eq!(rt; a, b),
-            (Reply::Refused(a), Reply::Refused(b)) => assert_eq!(rt; a, b),
-            (Reply::Value(None), Reply::Value(None))
-            | (Reply::Done, Reply::Done)
-            | (Reply::Ended, Reply::Ended) => {}
-            _ => return Err("it is this reply".into()),
-        }
+        assert!(rt; is_spelling(rt.alloc(), reply, spelling)?);
+    }
+    Ok(())
+}
+
+#[test]
+fn each_level_has_its_number(rt: HostRuntime) -> Result<(), Fail> {
+    for (level, number) in [
+        (Level::NotCommitted, 0),
+        (Level::Running, 1),
+        (Level::Committed, 3),
+        (Level::Durable, 4),
+        (Level::Visible, 5),
+    ] {
+        assert!(rt; is_spelling(rt.alloc(), &Reply::Level(level), &[0x88, number])?);
+    }
+    Ok(())
+}
+
+#[test]
+fn each_refusal_has_its_number(rt: HostRuntime) -> Result<(), Fail> {
+    for (refusal, number) in [
+        (Refusal::UnknownContainer, 1),
+        (Refusal::WrongKind, 2),
+        (Refusal::TxFull, 3),
+        (Refusal::TooLong, 4),
+        (Refusal::NoTx, 5),
+        (Refusal::TxOpen, 6),
+        (Refusal::Down, 9),
+        (Refusal::SessionsFull, 12),
+        (Refusal::Memory, 13),
+        (Refusal::WrongSite, 14),
+        (Refusal::NotIssued, 15),
+    ] {
+        assert!(rt; is_spelling(rt.alloc(), &Reply::Refused(refusal), &[0xE0, number])?);
+    }
+    Ok(())
+}
+
+#[test]
+fn refusals_have_fields(rt: HostRuntime) -> Result<(), Fail> {
+    let full = Refusal::JournalFull {
+        need: 123,
+        left: 122,
+    };
+    let table: [(Refusal, &[u8]); 3] = [
+        (
+            Refusal::Gone { tid: TID },
+            &[0xE0, 7, 1, 0, 0, 0, 2, 0, 0, 0, 0, 0, 0, 0, 3],
+        ),
+        (Refusal::BadFrame { at: 1 }, &[0xE0, 8, 0, 0, 0, 1]),
+        (
+            full,
+            &[0xE0, 10, 0, 0, 0, 0, 0, 0, 0, 123, 0, 0, 0, 0, 0, 0, 0, 122],
+        ),
+    ];
+    for (refusal, spelling) in &table {
+        assert!(rt; is_spelling(rt.alloc(), &Reply::Refused(*refusal), spelling)?);
     }
     Ok(())
 }
@@ -114,13 +184,23 @@ fn replies_are_written_one_behind_another(rt: HostRuntime) -> Result<(), Fail> {
 
 #[test]
 fn a_bad_frame_has_its_place(rt: HostRuntime) -> Result<(), Fail> {
-    let table: [(&[u8], u32); 14] = [
+    let table: [(&[u8], u32); 24] = [
         (&[], 0),
         (&[1], 0),
         (&[0x83, 0x82], 0),
         (&[0x81], 1),
         (&[0x81, 2, 0], 1),
-        (&[0xE0, 4], 1),
+        (&[0x88], 1),
+        (&[0x88, 2], 1),
+        (&[0x88, 6], 1),
+        (&[0x88, 0, 0], 2),
+        (&[0x8A, 1, 0], 3),
+        (&[0x8B], 0),
+        (&[0xE0, 0], 1),
+        (&[0xE0, 11], 1),
+        (&[0xE0, 16], 1),
+        (&[0xE0, 7, 1, 0], 4),
+        (&[0xE0, 10, 0, 0, 0, 0, 0, 0, 0, 123, 0], 11),
         (&[0x86, 4], 1),
         (&[0x86, 1, 0, 0, 0, 1], 6),
         (&[0x86, 3, 0], 2),

@@ -1,3 +1,5 @@
+pub mod Words
+pub mod Sites
 pub mod Reports
-pub mod Lines
 pub mod Tallies
+pub mod Traces

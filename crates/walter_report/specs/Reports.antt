@@ -1,41 +1,28 @@
 -- The text of a report (docs/FORMATS.md, "Reports"). Each line ends with one line feed.
-use Rattle.std.specs.Prelude.{ℕ, ◌+◌, nat_eq, List, [], ◌∷◌, ◌++◌, length, map, flat_map, codes, Option, Some, None, All, if◌then◌else◌}
+use Rattle.std.specs.Prelude.{ℕ, ◌+◌, nat_eq, List, [], ◌∷◌, ◌++◌, length, flat_map, codes, All, if◌then◌else◌}
 use Rattle.std.specs.Fmt.{decimal}
-use Rattle.std.specs.List.{join_with_byte}
 use Rattle.hex.specs.Hex.{encode_lower}
-use Rattle.walter_base.specs.declared.message.Record.{Record}
-use Rattle.walter_base.specs.declared.message.Record.TheVariants.{Boot, Own}
 use Rattle.walter_base.specs.declared.message.Reply.{Reply}
 use Rattle.walter_trail.specs.declared.trail.Entry.{Entry}
 use Rattle.walter_trail.specs.declared.trail.Outcome.{Outcome}
-use Rattle.walter_trail.specs.declared.trail.Outcome.TheVariants.{Replied, Taken, Passed}
+use Rattle.walter_trail.specs.declared.trail.Outcome.TheVariants.{Replied}
 use Rattle.walter_trail.specs.declared.trail.TrailEvent.{TrailEvent}
-use Rattle.walter_trail.specs.declared.trail.TrailEvent.TheVariants.{Call, Restart}
-use Rattle.walter_trail.specs.Knowledge.{epoch_after}
+use Rattle.walter_trail.specs.declared.trail.TrailEvent.TheVariants.{Call, Stop, Restart}
 use Rattle.walter_fields.specs.Spellings.{block_spelled}
 use Rattle.walter_reply.specs.Replies.{reply_spelled, FitsFrame}
 use Rattle.walter_scenario.specs.declared.scenario.Client.{Client}
 use Rattle.walter_scenario.specs.declared.scenario.Scenario.{Scenario}
-
-abbrev pub comma : ℕ
-comma = 44
-
-abbrev pub line_feed : List ℕ
-line_feed = 10 ∷ []
-
--- a dash in the place of nothing
-abbrev pub or_dash : List ℕ → List ℕ
-or_dash [] = codes "-"
-or_dash (byte ∷ bytes) = byte ∷ bytes
+use Rattle.walter_report.specs.Sites.{site_lines}
+use Rattle.walter_report.specs.Words.{line_feed, or_dash}
 
 -- the reply in an outcome, and that of an entry to a client
 abbrev pub reply_in : Outcome → List Reply
 reply_in (Replied reply) = reply ∷ []
-reply_in Taken = []
-reply_in Passed = []
+reply_in outcome = []
 
 abbrev pub reply_to : ℕ → TrailEvent → Outcome → List Reply
 reply_to client (Call c call) outcome = if nat_eq c client then reply_in outcome else []
+reply_to client Stop outcome = []
 reply_to client Restart outcome = []
 
 -- the replies to a client, in order
@@ -54,43 +41,6 @@ abbrev pub client_line : ℕ → ℕ → List Reply → List ℕ
 client_line client site replies =
     codes "client " ++ decimal client ++ codes " site " ++ decimal site ++ codes " replies " ++ decimal (length replies) ++ codes " "
     ++ or_dash (encode_lower (flat_map reply_frame replies)) ++ line_feed
-
--- the epoch of the last Boot
-abbrev pub last_epoch : ℕ → List Entry → ℕ
-last_epoch epoch [] = epoch
-last_epoch epoch (e ∷ es) = last_epoch (epoch_after e.wrote epoch) es
-
--- the records of a trail, in order
-abbrev pub record_in : Option Record → List Record
-record_in None = []
-record_in (Some rec) = rec ∷ []
-
-abbrev pub records : List Entry → List Record
-records trail = flat_map (λ e. record_in e.wrote) trail
-
--- the numbers of the site's own commits, in order
-abbrev pub own_number : Record → List ℕ
-own_number (Boot epoch) = []
-own_number (Own seq tx) = seq ∷ []
-
-abbrev pub own_numbers : List Entry → List ℕ
-own_numbers trail = flat_map own_number (records trail)
-
--- a commit in the log: "<site>:<number>"
-abbrev pub logged : ℕ → ℕ → List ℕ
-logged site seq = decimal site ++ codes ":" ++ decimal seq
-
--- "site <i> up epoch <e> events <n> records <r> got <list> committed <list> log <list>"
-abbrev pub site_line : ℕ → List Entry → List ℕ
-site_line site trail =
-    codes "site " ++ decimal site ++ codes " up epoch " ++ decimal (last_epoch 0 trail) ++ codes " events " ++ decimal (length trail)
-    ++ codes " records " ++ decimal (length (records trail)) ++ codes " got " ++ decimal (length (own_numbers trail))
-    ++ codes " committed " ++ decimal (length (own_numbers trail))
-    ++ codes " log " ++ or_dash (join_with_byte comma (map (logged site) (own_numbers trail))) ++ line_feed
-
-abbrev pub site_lines : ℕ → List (List Entry) → List ℕ
-site_lines site [] = []
-site_lines site (trail ∷ trails) = site_line site trail ++ site_lines (site + 1) trails
 
 -- a line for each client, from this one on
 abbrev pub client_lines : ℕ → List Client → List (List Entry) → List ℕ

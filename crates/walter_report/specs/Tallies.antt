@@ -1,7 +1,7 @@
 -- How the replies to a client are counted.
 use Rattle.std.specs.Prelude.{◌≡◌, ◌+◌, List, ◌++◌, length, flat_map}
 use Rattle.walter_base.specs.declared.message.Reply.{Reply}
-use Rattle.walter_report.specs.declared.text.Tally.{Tally}
+use Rattle.walter_report.specs.declared.clients.Tally.{Tally}
 use Rattle.walter_report.specs.Reports.{reply_frame}
 
 -- the new tally has these replies after the old ones

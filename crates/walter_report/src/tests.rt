@@ -1,15 +1,17 @@
-ghost use Rattle.std.specs.Prelude.{◌↔◌, IsTrue, All};
+ghost use Rattle.std.specs.Prelude.{◌↔◌, IsTrue, IfSome, All};
+ghost use Rattle.walter_base.specs.Sizes.{CanBeRecorded};
 ghost use Rattle.walter_reply.specs.Replies.{FitsFrame};
 ghost use Rattle.walter_report.specs.Reports.{reply_in, HaveFrames};
+ghost use Rattle.walter_report.specs.Traces.{HasSpellings, HaveSpellings};
 
-use crate::report;
+use crate::{report, trace};
 use std::alloc::Global;
 use std::test::Fail;
 use walter_base::{
     BadFrame, Bytes, Call, Catalog, Kind, Mem, Record, Refusal, Reply, Request, SiteId, Tid, Tx,
     Updates, Version, Vts,
 };
-use walter_scenario::{Client, Clients, Scenario, Steps};
+use walter_scenario::{Arms, COMMON_CAPACITY, Client, Clients, Scenario, Steps};
 use walter_trail::{Entry, Outcome, Trail, TrailEvent};
 
 const SITE: SiteId = SiteId(0);
@@ -25,6 +27,8 @@ fn scenario(alloc: Global, clients: usize) -> Result<Scenario, Fail> {
     Ok(Scenario {
         catalog: Catalog::build(alloc, 1, 0, &[(1, Kind::Regular, SITE)])?,
         clients: Clients::from(list),
+        capacity: COMMON_CAPACITY,
+        arms: Arms::from(Vec::new(alloc)),
         steps: Steps::from(Vec::new(alloc)),
     })
 }
@@ -35,9 +39,23 @@ fn opened(alloc: Global) -> Mem<Vec<Entry>> {
         stamp: 1,
         event: TrailEvent::Restart,
         outcome: Outcome::Taken,
+        kept: None,
         wrote: Some(Record::Boot(1)),
+        flight: None,
     })?;
     Ok(entries)
+}
+
+/// An entry that isn't a call.
+fn happened(stamp: u64, event: TrailEvent, outcome: Outcome) -> Entry {
+    Entry {
+        stamp,
+        event,
+        outcome,
+        kept: None,
+        wrote: None,
+        flight: None,
+    }
 }
 
 fn answered(client: u32, call: Call, reply: Reply, wrote: Option<Record>) -> Entry {
@@ -45,7 +63,9 @@ fn answered(client: u32, call: Call, reply: Reply, wrote: Option<Record>) -> Ent
         stamp: 2,
         event: TrailEvent::Call { client, call },
         outcome: Outcome::Replied(reply),
+        kept: None,
         wrote,
+        flight: None,
     }
 }
 
@@ -78,6 +98,33 @@ fn have_frames(trails: &[Trail]) -> bool
     ensures { IsTrue result ↔ HaveFrames trails.now }
 {
     trails.iter().all(has_frames)
+}
+
+// A boot has a spelling whatever its epoch is.
+fn is_at_most_a_boot(found: &Option<Record>) -> bool
+    ensures { IsTrue result → IfSome found.now CanBeRecorded }
+{
+    matches!(found, None | Some(Record::Boot(_)))
+}
+
+fn has_spellings(entry: &Entry) -> bool
+    ensures { IsTrue result → HasSpellings entry.now }
+{
+    is_at_most_a_boot(&entry.kept)
+        && is_at_most_a_boot(&entry.wrote)
+        && is_at_most_a_boot(&entry.flight)
+}
+
+fn all_have_spellings(trail: &Trail) -> bool
+    ensures { IsTrue result → All HasSpellings trail.now }
+{
+    trail.as_slice().iter().all(has_spellings)
+}
+
+fn have_spellings(trails: &[Trail]) -> bool
+    ensures { IsTrue result → HaveSpellings trails.now }
+{
+    trails.iter().all(all_have_spellings)
 }
 
 #[test]
@@ -129,6 +176,117 @@ fn each_client_has_a_line_with_the_frames_of_its_replies(rt: HostRuntime) -> Res
         10000000b81010000000568656c6c6f0000000a85000000000000000001\n\
         client 2 site 0 replies 0 -\n\
         site 0 up epoch 1 events 5 records 2 got 1 committed 1 log 0:1\n"
+    );
+    Ok(())
+}
+
+#[test]
+fn a_site_is_down_behind_a_stop_and_up_behind_a_restart(rt: HostRuntime) -> Result<(), Fail> {
+    let alloc = rt.alloc();
+    let mut entries = opened(alloc)?;
+    entries.push(happened(2, TrailEvent::Stop, Outcome::Taken))?;
+    entries.push(happened(3, TrailEvent::Restart, Outcome::Failed))?;
+    entries.push(happened(4, TrailEvent::Stop, Outcome::Down))?;
+    let trails = vec![in alloc; Trail::from(entries)]?;
+    assert!(rt; have_frames(&trails));
+    let text = report(alloc, &scenario(alloc, 0)?, &trails)?;
+    assert_eq!(rt;
+        str::from_utf8(text.as_slice())?,
+        "sites 1 f 0 clients 0\nsite 0 down epoch 1 events 4 records 1 got 0 committed 0 log -\n"
+    );
+    let mut entries = opened(alloc)?;
+    entries.push(happened(2, TrailEvent::Stop, Outcome::Taken))?;
+    entries.push(Entry {
+        stamp: 3,
+        event: TrailEvent::Restart,
+        outcome: Outcome::Taken,
+        kept: Some(Record::Boot(2)),
+        wrote: Some(Record::Boot(3)),
+        flight: None,
+    })?;
+    entries.push(happened(4, TrailEvent::Restart, Outcome::Passed))?;
+    let trails = vec![in alloc; Trail::from(entries)]?;
+    assert!(rt; have_frames(&trails));
+    let text = report(alloc, &scenario(alloc, 0)?, &trails)?;
+    assert_eq!(rt;
+        str::from_utf8(text.as_slice())?,
+        "sites 1 f 0 clients 0\nsite 0 up epoch 3 events 4 records 3 got 0 committed 0 log -\n"
+    );
+    Ok(())
+}
+
+#[test]
+fn a_site_whose_commit_met_a_fault_is_down(rt: HostRuntime) -> Result<(), Fail> {
+    let alloc = rt.alloc();
+    let tid = Tid {
+        site: SITE,
+        epoch: 1,
+        number: 1,
+    };
+    let mut entries = opened(alloc)?;
+    entries.push(answered(0, Ok(Request::Commit), Reply::Unsure(tid), None))?;
+    let trails = vec![in alloc; Trail::from(entries)]?;
+    assert!(rt; have_frames(&trails));
+    let text = report(alloc, &scenario(alloc, 0)?, &trails)?;
+    assert_eq!(rt;
+        str::from_utf8(text.as_slice())?,
+        "sites 1 f 0 clients 0\nsite 0 down epoch 1 events 2 records 1 got 0 committed 0 log -\n"
+    );
+    Ok(())
+}
+
+#[test]
+fn the_trace_of_an_opening_is_one_line(rt: HostRuntime) -> Result<(), Fail> {
+    let alloc = rt.alloc();
+    let trails = vec![in alloc; Trail::from(opened(alloc)?)]?;
+    assert!(rt; have_frames(&trails));
+    assert!(rt; have_spellings(&trails));
+    let text = trace(alloc, &trails)?;
+    assert_eq!(rt;
+        str::from_utf8(text.as_slice())?,
+        "e 1 0 restart taken - 0100000001 - - 0\n"
+    );
+    Ok(())
+}
+
+#[test]
+fn each_entry_has_a_line_in_the_trace(rt: HostRuntime) -> Result<(), Fail> {
+    let alloc = rt.alloc();
+    let bad = Reply::Refused(Refusal::BadFrame { at: 1 });
+    let full = Outcome::Full { need: 10, left: 9 };
+    let level = Reply::Refused(Refusal::NotIssued);
+    let tid = Tid {
+        site: SITE,
+        epoch: 1,
+        number: 1,
+    };
+    let mut entries = opened(alloc)?;
+    entries.push(answered(7, Err(BadFrame { at: 1 }), bad, None))?;
+    entries.push(answered(0, Ok(Request::Level(tid)), level, None))?;
+    entries.push(happened(4, TrailEvent::Stop, Outcome::Taken))?;
+    entries.push(happened(5, TrailEvent::Stop, Outcome::Down))?;
+    entries.push(happened(6, TrailEvent::Restart, full))?;
+    entries.push(Entry {
+        stamp: 7,
+        event: TrailEvent::Restart,
+        outcome: Outcome::Failed,
+        kept: Some(Record::Boot(2)),
+        wrote: None,
+        flight: Some(Record::Boot(3)),
+    })?;
+    let trails = vec![in alloc; Trail::from(entries)]?;
+    assert!(rt; have_frames(&trails));
+    assert!(rt; have_spellings(&trails));
+    let text = trace(alloc, &trails)?;
+    assert_eq!(rt;
+        str::from_utf8(text.as_slice())?,
+        "e 1 0 restart taken - 0100000001 - - 0\n\
+        e 2 0 call:7:bad reply:00000006e00800000001 - - - - 0\n\
+        e 2 0 call:0:level reply:00000002e00f - - - - 0\n\
+        e 4 0 stop taken - - - - 0\n\
+        e 5 0 stop down - - - - 0\n\
+        e 6 0 restart full:10:9 - - - - 0\n\
+        e 7 0 restart failed 0100000002 - 0100000003 - 0\n"
     );
     Ok(())
 }

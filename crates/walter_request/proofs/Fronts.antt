@@ -2,14 +2,14 @@
 use Rattle.std.proofs.Common.{◌≡◌, ◌≢◌, ℕ, ◌<◌, List, [], ◌++◌, length, refl, sym, ap, subst, ◌∙◌, inl, inr, append_assoc, arith}
 use Rattle.std.proofs.lemmas.List.{length-append, nil_from_length}
 use Rattle.walter_base.specs.declared.message.Request.{Request}
-use Rattle.walter_base.specs.declared.message.Request.TheVariants.{Start, Read, Write}
+use Rattle.walter_base.specs.declared.message.Request.TheVariants.{Start, Read, Write, Level}
 use Rattle.walter_base.specs.declared.names.ObjId.{ObjId}
 use Rattle.walter_fields.specs.Cursors.{LacksBlock}
 use Rattle.walter_fields.specs.Spellings.{IsBytes, number_spelled, block_spelled}
 use Rattle.walter_fields.proofs.Numbers.{length-number_spelled, number_spelled-byte}
 use Rattle.walter_fields.proofs.Readings.{IsBytes-behind}
-use Rattle.walter_names.specs.Names.{object_spelled, IsObject}
-use Rattle.walter_names.proofs.Cuts.{cut_object, cut_block}
+use Rattle.walter_names.specs.Names.{object_spelled, tid_spelled, IsObject}
+use Rattle.walter_names.proofs.Cuts.{cut_object, cut_tid, cut_block}
 use Rattle.walter_request.specs.Requests.{request_spelled, IsRequest, IsOperation}
 use Rattle.walter_request.specs.Stops.{IsFront, StartsUnknown}
 
@@ -45,6 +45,9 @@ cut_write_block left mid oid fits is lacks bytes =
     front_of 3 left cut.more (object_spelled oid ++ block_spelled cut.value) (Write oid cut.value) (fits, cut.ranges) cut.some
     (ap (λ t. t ++ cut.more) is ∙ append_assoc (object_spelled oid) mid cut.more ∙ ap (λ t. object_spelled oid ++ t) cut.spells) refl
 
+pub cut_level : (left : List ℕ) → length left < 13 → IsBytes (number_spelled 1 10 ++ left) → IsFront (number_spelled 1 10 ++ left)
+cut_level left few bytes = let cut = cut_tid left (IsBytes-behind (number_spelled 1 10) left bytes) few in front_of 10 left cut.more (tid_spelled cut.value) (Level cut.value) cut.ranges cut.some cut.spells refl
+
 pub cut_operation : (left : List ℕ) → length left < 1 → IsFront left
 cut_operation left few = rw (nil_from_length left (omega (arith, few))) empty_is_front
 
@@ -53,9 +56,10 @@ cut_operation left few = rw (nil_from_length left (omega (arith, few))) empty_is
 pub unknown_operation : (operation : ℕ) (left : List ℕ) → operation < 256 → ¬ IsOperation operation → StartsUnknown (number_spelled 1 operation ++ left)
 unknown_operation operation left low not = record { byte = operation; rest = left; is = ap (λ t. t ++ left) (number_spelled-byte operation low); unknown = not }
 
-pub not_operation : (k : ℕ) → k ≢ 1 → k ≢ 2 → k ≢ 3 → k ≢ 8 → k ≢ 9 → ¬ IsOperation k
-not_operation k a b c d e (inl is) = a is
-not_operation k a b c d e (inr (inl is)) = b is
-not_operation k a b c d e (inr (inr (inl is))) = c is
-not_operation k a b c d e (inr (inr (inr (inl is)))) = d is
-not_operation k a b c d e (inr (inr (inr (inr is)))) = e is
+pub not_operation : (k : ℕ) → k ≢ 1 → k ≢ 2 → k ≢ 3 → k ≢ 8 → k ≢ 9 → k ≢ 10 → ¬ IsOperation k
+not_operation k a b c d e f (inl is) = a is
+not_operation k a b c d e f (inr (inl is)) = b is
+not_operation k a b c d e f (inr (inr (inl is))) = c is
+not_operation k a b c d e f (inr (inr (inr (inl is)))) = d is
+not_operation k a b c d e f (inr (inr (inr (inr (inl is))))) = e is
+not_operation k a b c d e f (inr (inr (inr (inr (inr is))))) = f is

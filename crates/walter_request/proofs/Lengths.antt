@@ -2,11 +2,11 @@
 use Rattle.std.proofs.Common.{◌≡◌, ℕ, ◌+◌, List, ◌++◌, length, arith}
 use Rattle.std.proofs.lemmas.List.{length-append}
 use Rattle.walter_base.specs.declared.message.Request.{Request}
-use Rattle.walter_base.specs.declared.message.Request.TheVariants.{Start, Read, Write, Commit, Abort}
+use Rattle.walter_base.specs.declared.message.Request.TheVariants.{Start, Read, Write, Commit, Abort, Level}
 use Rattle.walter_fields.specs.Spellings.{number_spelled, block_spelled}
 use Rattle.walter_fields.proofs.Numbers.{length-number_spelled}
-use Rattle.walter_names.specs.Names.{object_spelled}
-use Rattle.walter_names.proofs.Lengths.{length-object_spelled, length-block_spelled}
+use Rattle.walter_names.specs.Names.{object_spelled, tid_spelled}
+use Rattle.walter_names.proofs.Lengths.{length-object_spelled, length-tid_spelled, length-block_spelled}
 use Rattle.walter_request.specs.Requests.{request_spelled, size_of}
 
 pub length-request_spelled : (request : Request) → length (request_spelled request) ≡ size_of request
@@ -23,6 +23,7 @@ length-request_spelled (Write oid bytes) =
     )
 length-request_spelled Commit = length-number_spelled 1 _
 length-request_spelled Abort = length-number_spelled 1 _
+length-request_spelled (Level tid) = omega (arith, length-append (number_spelled 1 10) (tid_spelled tid), length-number_spelled 1 10, length-tid_spelled tid)
 
 -- for what is written of a request
-pub ruleset lengths = (length-append, length-number_spelled, length-object_spelled, length-block_spelled)
+pub ruleset lengths = (length-append, length-number_spelled, length-object_spelled, length-tid_spelled, length-block_spelled)

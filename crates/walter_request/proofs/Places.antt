@@ -2,7 +2,7 @@
 use Rattle.std.proofs.Common.{◌≡◌, ◌≢◌, ℕ, ◌+◌, List, [], ◌∷◌, ◌++◌, length, refl, sym, ap, subst, ◌∙◌, inl, inr, arith}
 use Rattle.std.proofs.lemmas.List.{append-nil, length-append}
 use Rattle.walter_base.specs.declared.message.Request.{Request}
-use Rattle.walter_base.specs.declared.message.Request.TheVariants.{Start, Read, Write, Commit, Abort}
+use Rattle.walter_base.specs.declared.message.Request.TheVariants.{Start, Read, Write, Commit, Abort, Level}
 use Rattle.walter_fields.specs.Cursors.{Unread, Takes, whole_of}
 use Rattle.walter_fields.specs.Spellings.{IsBytes}
 use Rattle.walter_fields.proofs.Longest.{IsLongest, one_longest}
@@ -38,7 +38,8 @@ known_operation Start byte e = inl e
 known_operation (Read oid) byte e = inr (inl e)
 known_operation (Write oid bytes) byte e = inr (inr (inl e))
 known_operation Commit byte e = inr (inr (inr (inl e)))
-known_operation Abort byte e = inr (inr (inr (inr e)))
+known_operation Abort byte e = inr (inr (inr (inr (inl e))))
+known_operation (Level tid) byte e = inr (inr (inr (inr (inr e))))
 
 -- a spelling begins with an operation
 starts_known : (body rest : List ℕ) (byte : ℕ) (request : Request) → Spells body request → body ≡ byte ∷ rest → IsOperation byte

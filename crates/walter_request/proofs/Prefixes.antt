@@ -1,12 +1,12 @@
 -- No spelling of a request begins that of another.
 use Rattle.std.proofs.Common.{◌≡◌, ◌≢◌, ◌∷◌, ap, append-nil, ℕ, ◌<◌, List, [], ◌++◌, refl, sym, ◌∙◌, append_assoc, arith}
 use Rattle.walter_base.specs.declared.message.Request.{Request}
-use Rattle.walter_base.specs.declared.message.Request.TheVariants.{Start, Read, Write, Commit, Abort}
+use Rattle.walter_base.specs.declared.message.Request.TheVariants.{Start, Read, Write, Commit, Abort, Level}
 use Rattle.walter_fields.specs.Spellings.{number_spelled, block_spelled}
 use Rattle.walter_fields.proofs.Numbers.{number_spelled-byte, same_number}
 use Rattle.walter_fields.proofs.Readings.{same_block}
-use Rattle.walter_names.specs.Names.{object_spelled}
-use Rattle.walter_names.proofs.Prefixes.{regrouped, same_object}
+use Rattle.walter_names.specs.Names.{object_spelled, tid_spelled}
+use Rattle.walter_names.proofs.Prefixes.{regrouped, same_object, same_tid}
 use Rattle.walter_request.specs.Requests.{request_spelled, IsRequest, Spells}
 
 -- a request is its operation, and its fields
@@ -16,6 +16,7 @@ operation_of (Read oid) = 2
 operation_of (Write oid bytes) = 3
 operation_of Commit = 8
 operation_of Abort = 9
+operation_of (Level tid) = 10
 
 abbrev pub fields_spelled : Request → List ℕ
 fields_spelled Start = []
@@ -23,6 +24,7 @@ fields_spelled (Read oid) = object_spelled oid
 fields_spelled (Write oid bytes) = object_spelled oid ++ block_spelled bytes
 fields_spelled Commit = []
 fields_spelled Abort = []
+fields_spelled (Level tid) = tid_spelled tid
 
 pub request_parts : (a : Request) (x : List ℕ) → request_spelled a ++ x ≡ number_spelled 1 (operation_of a) ++ (fields_spelled a ++ x)
 request_parts Start x = refl
@@ -30,6 +32,7 @@ request_parts (Read oid) x = append_assoc (number_spelled 1 2) (object_spelled o
 request_parts (Write oid bytes) x = append_assoc (number_spelled 1 3) (object_spelled oid ++ block_spelled bytes) x
 request_parts Commit x = refl
 request_parts Abort x = refl
+request_parts (Level tid) x = append_assoc (number_spelled 1 10) (tid_spelled tid) x
 
 pub operation_of-lt : (a : Request) → operation_of a < 256
 operation_of-lt Start = omega arith
@@ -37,6 +40,7 @@ operation_of-lt (Read oid) = omega arith
 operation_of-lt (Write oid bytes) = omega arith
 operation_of-lt Commit = omega arith
 operation_of-lt Abort = omega arith
+operation_of-lt (Level tid) = omega arith
 
 same_fields : (a b : Request) (x y : List ℕ) → operation_of a ≡ operation_of b → IsRequest a → IsRequest b → fields_spelled a ++ x ≡ fields_spelled b ++ y → (a ≡ b) × (x ≡ y)
 same_fields Start Start x y same fits_a fits_b e = (refl, e)
@@ -47,6 +51,7 @@ same_fields (Write a v) (Write b w) x y same fits_a fits_b e =
     ((λ i. Write (one.0 i) (two.0 i)), two.1)
 same_fields Commit Commit x y same fits_a fits_b e = (refl, e)
 same_fields Abort Abort x y same fits_a fits_b e = (refl, e)
+same_fields (Level a) (Level b) x y same fits_a fits_b e = let parts = same_tid a b x y fits_a fits_b e in ((λ i. Level (parts.0 i)), parts.1)
 same_fields _ _ x y same fits_a fits_b e = absurd (omega (arith, same))
 
 pub same_request : (a b : Request) (x y : List ℕ) → IsRequest a → IsRequest b → request_spelled a ++ x ≡ request_spelled b ++ y → (a ≡ b) × (x ≡ y)

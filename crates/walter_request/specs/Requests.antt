@@ -1,9 +1,9 @@
 -- How requests are spelled, and what is wrong with bytes that spell none (docs/FORMATS.md, "Frames of a client").
 use Rattle.std.specs.Prelude.{◌≡◌, ◌≢◌, ◌⊎◌, ◌<◌, ◌≤◌, ◌^◌, ◌+◌, ℕ, List, [], ◌∷◌, ◌++◌, length}
 use Rattle.walter_base.specs.declared.message.Request.{Request}
-use Rattle.walter_base.specs.declared.message.Request.TheVariants.{Start, Read, Write, Commit, Abort}
+use Rattle.walter_base.specs.declared.message.Request.TheVariants.{Start, Read, Write, Commit, Abort, Level}
 use Rattle.walter_fields.specs.Spellings.{number_spelled, block_spelled}
-use Rattle.walter_names.specs.Names.{object_spelled, IsObject}
+use Rattle.walter_names.specs.Names.{object_spelled, tid_spelled, IsObject, IsTid}
 use Rattle.walter_request.specs.declared.fault.RequestFault.{RequestFault}
 use Rattle.walter_request.specs.declared.fault.RequestFault.TheVariants.{BadFrame, NoMemory}
 
@@ -13,6 +13,7 @@ request_spelled (Read oid) = number_spelled 1 2 ++ object_spelled oid
 request_spelled (Write oid bytes) = number_spelled 1 3 ++ (object_spelled oid ++ block_spelled bytes)
 request_spelled Commit = number_spelled 1 8
 request_spelled Abort = number_spelled 1 9
+request_spelled (Level tid) = number_spelled 1 10 ++ tid_spelled tid
 
 -- how many bytes that are
 abbrev pub size_of : Request → ℕ
@@ -21,6 +22,7 @@ size_of (Read oid) = 13
 size_of (Write oid bytes) = 17 + length bytes
 size_of Commit = 1
 size_of Abort = 1
+size_of (Level tid) = 14
 
 -- the numbers of a request are in the ranges of their fields
 abbrev pub IsRequest : Request → Type 0
@@ -29,6 +31,7 @@ IsRequest (Read oid) = IsObject oid
 IsRequest (Write oid bytes) = IsObject oid × (length bytes < 2 ^ 32)
 IsRequest Commit = Unit {0}
 IsRequest Abort = Unit {0}
+IsRequest (Level tid) = IsTid tid
 
 -- the body is the spelling of the request, all of it
 pub record Spells (body : List ℕ) (request : Request) : Type 0 where
@@ -41,7 +44,7 @@ FitsFrame request = length (request_spelled request) ≤ 65536
 
 -- the first byte of a request says what is asked
 abbrev pub IsOperation : ℕ → Type 0
-IsOperation byte = (byte ≡ 1) ⊎ (byte ≡ 2) ⊎ (byte ≡ 3) ⊎ (byte ≡ 8) ⊎ (byte ≡ 9)
+IsOperation byte = (byte ≡ 1) ⊎ (byte ≡ 2) ⊎ (byte ≡ 3) ⊎ (byte ≡ 8) ⊎ (byte ≡ 9) ⊎ (byte ≡ 10)
 
 -- the body spells no request, and this is the place of what is wrong: 0 where it is empty or its first byte says nothing;
 -- its length where a field runs past its end; the place of the first byte behind the last field

@@ -7,7 +7,7 @@ use crate::fault::{RequestFault, Stop};
 use std::alloc::Global;
 use walter_base::{Bytes, Request};
 use walter_fields::Cursor;
-use walter_names::read_object;
+use walter_names::{read_object, read_tid};
 
 /// What stands behind the operation Read.
 fn read_read(cursor: &mut Cursor) -> Result<Request, Stop>
@@ -27,6 +27,14 @@ fn read_write(alloc: Global, cursor: &mut Cursor) -> Result<Request, Stop>
     Ok(Request::Write(oid, Bytes::from_slice(alloc, bytes)?))
 }
 
+/// What stands behind the operation Level.
+fn read_level(cursor: &mut Cursor) -> Result<Request, Stop>
+    ensures ends { IfOk result (EndsWith 10 cursor.old cursor.new) }
+    ensures stop { IfErr result (StopsBehind 10 cursor.old.left) }
+{
+    Ok(Request::Level(read_tid(cursor)?))
+}
+
 /// What stands behind the operation.
 fn read_fields(alloc: Global, cursor: &mut Cursor, operation: u8) -> Result<Request, Stop>
     ensures ends { IfOk result (EndsWith operation cursor.old cursor.new) }
@@ -38,6 +46,7 @@ fn read_fields(alloc: Global, cursor: &mut Cursor, operation: u8) -> Result<Requ
         3 => read_write(alloc, cursor),
         8 => Ok(Request::Commit),
         9 => Ok(Request::Abort),
+        10 => read_level(cursor),
         _ => Err(Stop::Unknown),
     }
 }

@@ -4,7 +4,7 @@ ghost use Rattle.walter_request.specs.Requests.{request_spelled, FitsFrame};
 use std::alloc::Global;
 use walter_base::{Bytes, Mem, NoMemory, Request};
 use walter_fields::Appender;
-use walter_names::write_object;
+use walter_names::{write_object, write_tid};
 
 /// How many bytes the spelling has.
 #[tactic(auto, using(crate::proofs::Lengths::lengths))]
@@ -16,6 +16,7 @@ fn size_of(request: &Request) -> usize
         Request::Start | Request::Commit | Request::Abort => 1,
         Request::Read(_) => 13,
         Request::Write(_, bytes) => 17 + bytes.len(),
+        Request::Level(_) => 14,
     }
 }
 
@@ -39,6 +40,10 @@ fn append(out: &mut Appender, request: &Request)
         }
         Request::Commit => out.u8(8),
         Request::Abort => out.u8(9),
+        Request::Level(tid) => {
+            out.u8(10);
+            write_tid(out, *tid);
+        }
     }
 }
 

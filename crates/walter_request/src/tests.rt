@@ -1,6 +1,6 @@
 use crate::{RequestFault, decode, encode};
 use std::test::Fail;
-use walter_base::{Bytes, ObjId, Request};
+use walter_base::{Bytes, ObjId, Request, SiteId, Tid};
 
 /// A Write of `hello` to the object 1, 5.
 const WRITE: [u8; 22] = [
@@ -15,11 +15,27 @@ const OBJECT: ObjId = ObjId {
     local: 5,
 };
 
+const TID: Tid = Tid {
+    site: SiteId(1),
+    epoch: 2,
+    number: 3,
+};
+
+/// A Level of it.
+const LEVEL: [u8; 14] = [10, 1, 0, 0, 0, 2, 0, 0, 0, 0, 0, 0, 0, 3];
+
+/// A transaction whose site, epoch and number are the greatest that a field holds.
+const GREATEST: Tid = Tid {
+    site: SiteId(255),
+    epoch: 0xFFFF_FFFF,
+    number: 0xFFFF_FFFF_FFFF_FFFF,
+};
+
 #[test]
 fn each_request_has_its_spelling(rt: HostRuntime) -> Result<(), Fail> {
     let hello = Bytes::from_slice(rt.alloc(), b"hello")?;
     let none = Bytes::from_slice(rt.alloc(), b"")?;
-    let table: [(Request, &[u8]); 6] = [
+    let table: [(Request, &[u8]); 8] = [
         (Request::Start, &[1]),
         (Request::Read(OBJECT), &READ),
         (Request::Write(OBJECT, hello), &WRITE),
@@ -29,6 +45,13 @@ fn each_request_has_its_spelling(rt: HostRuntime) -> Result<(), Fail> {
         ),
         (Request::Commit, &[8]),
         (Request::Abort, &[9]),
+        (Request::Level(TID), &LEVEL),
+        (
+            Request::Level(GREATEST),
+            &[
+                10, 255, 255, 255, 255, 255, 255, 255, 255, 255, 255, 255, 255, 255,
+            ],
+        ),
     ];
     for (request, spelling) in &table {
         let Ok(again) = decode(rt.alloc(), spelling) else {
@@ -40,6 +63,7 @@ fn each_request_has_its_spelling(rt: HostRuntime) -> Result<(), Fail> {
             | (Request::Commit, Request::Commit)
             | (Request::Abort, Request::Abort) => {}
             (Request::Read(a), Request::Read(b)) => assert_eq!(rt; a, b),
+            (Request::Level(a), Request::Level(b)) => assert_eq!(rt; a, b),
             (Request::Write(a, v), Request::Write(b, w)) => {
                 assert_eq!(rt; a, b);
                 assert_eq!(rt; v.as_slice(), w.as_slice());
@@ -52,12 +76,13 @@ fn each_request_has_its_spelling(rt: HostRuntime) -> Result<(), Fail> {
 
 #[test]
 fn a_bad_frame_has_its_place(rt: HostRuntime) -> Result<(), Fail> {
-    let table: [(&[u8], u32); 12] = [
+    let table: [(&[u8], u32); 15] = [
         (&[], 0),
         (&[0], 0),
         (&[4], 0),
         (&[7], 0),
-        (&[10], 0),
+        (&[10], 1),
+        (&[11], 0),
         (&[4, 2, 0], 0),
         (&[1, 0], 1),
         (&[8, 8, 8], 1),
@@ -65,6 +90,8 @@ fn a_bad_frame_has_its_place(rt: HostRuntime) -> Result<(), Fail> {
         (&[2, 0, 0, 0, 1, 0], 6),
         (&[2, 0, 0, 0, 1, 0, 0, 0, 0, 0, 0, 0, 5, 9], 13),
         (&WRITE[..21], 21),
+        (&LEVEL[..13], 13),
+        (&[10, 1, 0, 0, 0, 2, 0, 0, 0, 0, 0, 0, 0, 3, 0], 14),
     ];
     for (body, at) in table {
         match decode(rt.alloc(), body) {

@@ -1,19 +1,21 @@
 -- How far bytes are right, stage by stage, and that they are first wrong at one place.
-use Rattle.std.proofs.Common.{◌≡◌, ℕ, zero, suc, ◌<◌, ◌≤◌, List, length, codes, inl, inr, refl, ap, subst, arith}
+use Rattle.std.proofs.Common.{◌≡◌, ℕ, zero, suc, ◌<◌, ◌≤◌, List, length, take, codes, ◌∙◌, inl, inr, refl, ap, subst, arith}
 use Rattle.std.proofs.lemmas.Bool.{cases_lt}
 use Rattle.serde_json.specs.Data.{Data, Members}
+use Rattle.serde_json.specs.Find.{get_member}
 use Rattle.walter_base.specs.Catalogs.{Item}
 use Rattle.walter_scenario.specs.declared.place.Place.{Place}
-use Rattle.walter_scenario.specs.declared.place.Place.TheVariants.{TooLong, Json, Key, Sites, F, Containers, Clients, Steps}
+use Rattle.walter_scenario.specs.declared.place.Place.TheVariants.{TooLong, Json, Key, Sites, F, Containers, Clients, Capacity, Arms, Steps}
+use Rattle.walter_scenario.specs.declared.scenario.Arm.{Arm}
 use Rattle.walter_scenario.specs.declared.scenario.Client.{Client}
 use Rattle.walter_scenario.specs.declared.scenario.Scenario.{Scenario}
-use Rattle.walter_scenario.specs.Faults.{HaveContainers, HaveClients, HaveSteps}
-use Rattle.walter_scenario.specs.Parts.{whole, list, IsWrongAt}
-use Rattle.walter_scenario.specs.Scenarios.{keys_of, the_keys, HasMember, IsShort, IsObject, HasKeys, HasSites, HasFaults, HasContainers, HasClients, IsReading, IsRefusedAt}
+use Rattle.walter_scenario.specs.Faults.{HaveContainers, HaveClients, HaveArms, HaveSteps}
+use Rattle.walter_scenario.specs.Parts.{whole, list, arm_spelled, step_spelled, IsArm, IsStep, IsWrongAt}
+use Rattle.walter_scenario.specs.Scenarios.{HasMember, AreKeys, GivesCapacity, GivesArms, IsShort, IsObject, HasKeys, HasSites, HasFaults, HasContainers, HasClients, HasCapacity, HasArms, IsReading, IsRefusedAt}
 use Rattle.walter_scenario.proofs.Declared.{containers_closed}
-use Rattle.walter_scenario.proofs.Scripts.{steps_closed}
+use Rattle.walter_scenario.proofs.Scripts.{items_closed}
 use Rattle.walter_scenario.proofs.Sent.{clients_closed}
-use Rattle.walter_scenario.proofs.Uniqueness.{one_object, one_value, containers_object, one_of_clients}
+use Rattle.walter_scenario.proofs.Uniqueness.{one_object, one_value, containers_object, clients_object, arms_object, one_of_clients}
 use Rattle.walter_scenario.proofs.Wrong.{right_nowhere, one_place}
 
 -- the bytes are right in so many stages
@@ -27,9 +29,13 @@ Passed (suc (suc (suc (suc (suc zero))))) bytes = (members : Members) × HasFaul
 Passed (suc (suc (suc (suc (suc (suc zero)))))) bytes = (members : Members) × (declared : List Item) × HasContainers bytes members declared
 Passed (suc (suc (suc (suc (suc (suc (suc zero))))))) bytes =
     (members : Members) × (declared : List Item) × (clients : List Client) × HasClients bytes members declared clients
-Passed (suc (suc (suc (suc (suc (suc (suc (suc n)))))))) bytes =
-    (members : Members) × (declared : List Item) × (clients : List Client) × (values : List Data) × HasClients bytes members declared clients
-    × HasMember members (codes "steps") (list values) × HaveSteps (length clients) values
+Passed (suc (suc (suc (suc (suc (suc (suc (suc zero)))))))) bytes =
+    (members : Members) × (declared : List Item) × (clients : List Client) × (capacity : ℕ) × HasCapacity bytes members declared clients capacity
+Passed (suc (suc (suc (suc (suc (suc (suc (suc (suc zero))))))))) bytes =
+    (members : Members) × (declared : List Item) × (clients : List Client) × (capacity : ℕ) × (arms : List Arm) × HasArms bytes members declared clients capacity arms
+Passed (suc (suc (suc (suc (suc (suc (suc (suc (suc (suc n)))))))))) bytes =
+    (members : Members) × (declared : List Item) × (clients : List Client) × (capacity : ℕ) × (arms : List Arm) × (values : List Data)
+    × HasArms bytes members declared clients capacity arms × HasMember members (codes "steps") (list values) × HaveSteps 1 (length clients) values
 
 -- the number of stages before the place's
 abbrev stage : Place → ℕ
@@ -40,7 +46,9 @@ stage Sites = 3
 stage F = 4
 stage (Containers place) = 5
 stage (Clients place) = 6
-stage (Steps place) = 7
+stage Capacity = 7
+stage (Arms place) = 8
+stage (Steps place) = 9
 
 one_less : (bytes : List ℕ) (n : ℕ) → Passed (suc n) bytes → Passed n bytes
 one_less bytes zero p = tt
@@ -50,8 +58,10 @@ one_less bytes (suc (suc (suc zero))) p = (p.0, p.1.has_keys)
 one_less bytes (suc (suc (suc (suc zero)))) p = (p.0, p.1.has_sites)
 one_less bytes (suc (suc (suc (suc (suc zero))))) p = (p.0, p.2.has_faults)
 one_less bytes (suc (suc (suc (suc (suc (suc zero)))))) p = (p.0, p.1, p.3.has_containers)
-one_less bytes (suc (suc (suc (suc (suc (suc (suc zero))))))) p = (p.0, p.1, p.2, p.4)
-one_less bytes (suc (suc (suc (suc (suc (suc (suc (suc n)))))))) p = p
+one_less bytes (suc (suc (suc (suc (suc (suc (suc zero))))))) p = (p.0, p.1, p.2, p.4.has_clients)
+one_less bytes (suc (suc (suc (suc (suc (suc (suc (suc zero)))))))) p = (p.0, p.1, p.2, p.3, p.5.has_capacity)
+one_less bytes (suc (suc (suc (suc (suc (suc (suc (suc (suc zero))))))))) p = (p.0, p.1, p.2, p.3, p.4, p.6)
+one_less bytes (suc (suc (suc (suc (suc (suc (suc (suc (suc (suc n)))))))))) p = p
 
 fewer : (bytes : List ℕ) (m n : ℕ) → m ≤ n → Passed n bytes → Passed m bytes
 fewer bytes m zero h p = let same : 0 ≡ m = omega arith in subst (λ k. Passed k bytes) same p
@@ -70,7 +80,15 @@ reached bytes Sites is = (is.0, is.1)
 reached bytes F is = (is.0, is.1)
 reached bytes (Containers place) is = (is.0, is.2)
 reached bytes (Clients place) is = (is.0, is.1, is.3)
-reached bytes (Steps place) is = (is.0, is.1, is.2, is.4)
+reached bytes Capacity is = (is.0, is.1, is.2, is.3)
+reached bytes (Arms place) is = (is.0, is.1, is.2, is.3, is.5)
+reached bytes (Steps place) is = (is.0, is.1, is.2, is.3, is.4, is.6)
+
+arms_closed : (sites n : ℕ) (values : List Data) → HaveArms sites values → HaveArms sites (take n values)
+arms_closed sites n values have = items_closed arm_spelled (IsArm sites) n values have
+
+steps_closed : (sites clients n : ℕ) (values : List Data) → HaveSteps sites clients values → HaveSteps sites clients (take n values)
+steps_closed sites clients n values have = items_closed step_spelled (IsStep sites clients) n values have
 
 -- and it isn't
 stopped : (bytes : List ℕ) (place : Place) → IsRefusedAt bytes place → ¬ Passed (suc (stage place)) bytes
@@ -78,7 +96,7 @@ stopped bytes TooLong is p = omega (arith, is, p)
 stopped bytes Json is p = is.1 p.1.0 p.1.1
 stopped bytes Key is p =
     let same = one_object bytes p.0 is.1.0 p.1.is_object is.1.1 in
-    is.1.2 (subst (λ ms. keys_of ms ≡ the_keys) same p.1.keys)
+    is.1.2 (subst AreKeys same p.1.keys)
 stopped bytes Sites is p =
     let same = one_object bytes p.0 is.0 p.1.has_keys.is_object is.1.is_object in
     is.2 (subst (λ ms. HasMember ms (codes "sites") (whole 1)) same p.1.one)
@@ -93,14 +111,21 @@ stopped bytes (Clients place) is p =
     let same = one_object bytes is.0 p.0 (containers_object bytes is.0 is.1 is.3) (containers_object bytes p.0 p.1 p.3.has_containers) in
     let value = one_value (codes "clients") is.0 p.0 is.2 (list p.3.values) same is.4 p.3.spelled in
     right_nowhere (HaveClients 1) (clients_closed 1) is.2 p.3.values place value (p.2, p.3.are) is.5
+stopped bytes Capacity is p =
+    let same = one_object bytes p.0 is.0 (clients_object bytes p.0 p.1 p.2 p.4.has_clients) (clients_object bytes is.0 is.1 is.2 is.3) in
+    is.4 p.3 (subst (λ ms. GivesCapacity (get_member (codes "capacity") ms) p.3) same p.4.given)
+stopped bytes (Arms place) is p =
+    let same = one_object bytes p.0 is.0 (arms_object bytes p.0 p.1 p.2 p.3 p.4 p.5) (clients_object bytes is.0 is.1 is.2 is.5.has_clients) in
+    let given = subst (λ g. GivesArms 1 g p.4) (ap (λ ms. get_member (codes "arms") ms) same ∙ is.6) p.5.given in
+    right_nowhere (HaveArms 1) (arms_closed 1) is.4 given.0 place given.1 (p.4, given.2) is.7
 stopped bytes (Steps place) is p =
-    let same = one_object bytes is.0 p.0 (containers_object bytes is.0 is.1 is.4.has_containers) (containers_object bytes p.0 p.1 p.4.has_containers) in
-    let value = one_value (codes "steps") is.0 p.0 is.3 (list p.3) same is.5 p.5 in
-    let clients = one_of_clients bytes p.0 is.0 p.1 is.1 p.2 is.2 p.4 is.4 in
-    right_nowhere (HaveSteps (length is.2)) (steps_closed (length is.2)) is.3 p.3 place value
-    (subst (λ cs. HaveSteps (length cs) p.3) clients p.6) is.6
+    let same = one_object bytes is.0 p.0 (arms_object bytes is.0 is.1 is.2 is.3 is.4 is.6) (arms_object bytes p.0 p.1 p.2 p.3 p.4 p.6) in
+    let value = one_value (codes "steps") is.0 p.0 is.5 (list p.5) same is.7 p.7 in
+    let clients = one_of_clients bytes p.0 is.0 p.1 is.1 p.2 is.2 p.6.has_capacity.has_clients is.6.has_capacity.has_clients in
+    right_nowhere (HaveSteps 1 (length is.2)) (steps_closed 1 (length is.2)) is.5 p.5 place value
+    (subst (λ cs. HaveSteps 1 (length cs) p.5) clients p.8) is.8
 
-few : (place : Place) → stage place < 8
+few : (place : Place) → stage place < 10
 few TooLong = omega arith
 few Json = omega arith
 few Key = omega arith
@@ -108,13 +133,15 @@ few Sites = omega arith
 few F = omega arith
 few (Containers place) = omega arith
 few (Clients place) = omega arith
+few Capacity = omega arith
+few (Arms place) = omega arith
 few (Steps place) = omega arith
 
 -- bytes that spell a scenario are refused nowhere
 pub read_nowhere_refused : (bytes : List ℕ) (s : Scenario) (place : Place) → IsReading bytes s → ¬ IsRefusedAt bytes place
 read_nowhere_refused bytes s place is refused =
-    let all : Passed 8 bytes = (is.members, is.declared, s.clients, is.values, is.has_clients, is.spelled, (s.steps, is.are)) in
-    stopped bytes place refused (fewer bytes (suc (stage place)) 8 (omega (arith, few place)) all)
+    let all : Passed 10 bytes = (is.members, is.declared, s.clients, s.capacity, s.arms, is.values, is.has_arms, is.spelled, (s.steps, is.are)) in
+    stopped bytes place refused (fewer bytes (suc (stage place)) 10 (omega (arith, few place)) all)
 
 not_before : (bytes : List ℕ) (place other : Place) → IsRefusedAt bytes place → IsRefusedAt bytes other → ¬ (stage place < stage other)
 not_before bytes place other a b h = stopped bytes place a (fewer bytes (suc (stage place)) (stage other) (omega arith) (reached bytes other b))
@@ -133,13 +160,18 @@ same_place bytes (Clients m) (Clients n) e a b =
     let same = one_object bytes a.0 b.0 (containers_object bytes a.0 a.1 a.3) (containers_object bytes b.0 b.1 b.3) in
     let value = one_value (codes "clients") a.0 b.0 a.2 b.2 same a.4 b.4 in
     ap Clients (one_place (HaveClients 1) (clients_closed 1) b.2 m n (subst (λ v. IsWrongAt (HaveClients 1) v m) value a.5) b.5)
+same_place bytes Capacity Capacity e a b = refl
+same_place bytes (Arms m) (Arms n) e a b =
+    let same = one_object bytes a.0 b.0 (clients_object bytes a.0 a.1 a.2 a.5.has_clients) (clients_object bytes b.0 b.1 b.2 b.5.has_clients) in
+    let value = one_value (codes "arms") a.0 b.0 a.4 b.4 same a.6 b.6 in
+    ap Arms (one_place (HaveArms 1) (arms_closed 1) b.4 m n (subst (λ v. IsWrongAt (HaveArms 1) v m) value a.7) b.7)
 same_place bytes (Steps m) (Steps n) e a b =
-    let same = one_object bytes a.0 b.0 (containers_object bytes a.0 a.1 a.4.has_containers) (containers_object bytes b.0 b.1 b.4.has_containers) in
-    let value = one_value (codes "steps") a.0 b.0 a.3 b.3 same a.5 b.5 in
-    let clients = one_of_clients bytes a.0 b.0 a.1 b.1 a.2 b.2 a.4 b.4 in
-    let wrong = subst (λ v. IsWrongAt (HaveSteps (length a.2)) v m) value a.6 in
-    ap Steps (one_place (HaveSteps (length b.2)) (steps_closed (length b.2)) b.3 m n
-    (subst (λ cs. IsWrongAt (HaveSteps (length cs)) b.3 m) clients wrong) b.6)
+    let same = one_object bytes a.0 b.0 (arms_object bytes a.0 a.1 a.2 a.3 a.4 a.6) (arms_object bytes b.0 b.1 b.2 b.3 b.4 b.6) in
+    let value = one_value (codes "steps") a.0 b.0 a.5 b.5 same a.7 b.7 in
+    let clients = one_of_clients bytes a.0 b.0 a.1 b.1 a.2 b.2 a.6.has_capacity.has_clients b.6.has_capacity.has_clients in
+    let wrong = subst (λ v. IsWrongAt (HaveSteps 1 (length a.2)) v m) value a.8 in
+    ap Steps (one_place (HaveSteps 1 (length b.2)) (steps_closed 1 (length b.2)) b.5 m n
+    (subst (λ cs. IsWrongAt (HaveSteps 1 (length cs)) b.5 m) clients wrong) b.8)
 same_place bytes place other e a b = absurd (omega (arith, e))
 
 -- bytes are refused at one place

@@ -1,15 +1,16 @@
 -- What bytes spell is one thing, part by part.
-use Rattle.std.proofs.Common.{◌≡◌, ℕ, List, length, codes, refl, sym, ap, ◌∙◌, subst}
+use Rattle.std.proofs.Common.{◌≡◌, ℕ, List, length, codes, Option, Some, None, refl, sym, ap, ◌∙◌, subst}
 use Rattle.std.proofs.lemmas.Option.{same_Some}
 use Rattle.serde_json.specs.Data.{Data, Members}
 use Rattle.serde_json.specs.Find.{get_member}
 use Rattle.walter_base.specs.Catalogs.{Item, containers_of}
+use Rattle.walter_scenario.specs.declared.scenario.Arm.{Arm}
 use Rattle.walter_scenario.specs.declared.scenario.Client.{Client}
 use Rattle.walter_scenario.specs.declared.scenario.Scenario.{Scenario}
-use Rattle.walter_scenario.specs.Parts.{list, SpellClients, AreSteps}
-use Rattle.walter_scenario.specs.Scenarios.{HasMember, IsObject, HasContainers, HasClients, IsReading}
+use Rattle.walter_scenario.specs.Parts.{whole, list, SpellClients, AreArms, AreSteps}
+use Rattle.walter_scenario.specs.Scenarios.{HasMember, IsObject, GivesCapacity, GivesArms, HasContainers, HasClients, HasArms, IsReading}
 use Rattle.walter_scenario.proofs.Declared.{same_declared}
-use Rattle.walter_scenario.proofs.Scripts.{same_steps}
+use Rattle.walter_scenario.proofs.Scripts.{same_arms, same_steps}
 use Rattle.walter_scenario.proofs.Sent.{same_clients}
 use Rattle.walter_scenario.proofs.Wrong.{list_of}
 
@@ -38,17 +39,39 @@ one_of_clients bytes m n ds es cs others a b =
     let values = one_list (codes "clients") m n a.values b.values same a.spelled b.spelled in
     same_clients b.values cs others (subst (λ vs. SpellClients vs cs) values a.are.spelled) b.are.spelled
 
+pub clients_object : (bytes : List ℕ) (m : Members) (ds : List Item) (cs : List Client) → HasClients bytes m ds cs → IsObject bytes m
+clients_object bytes m ds cs has = containers_object bytes m ds has.has_containers
+
+pub arms_object : (bytes : List ℕ) (m : Members) (ds : List Item) (cs : List Client) (capacity : ℕ) (arms : List Arm) → HasArms bytes m ds cs capacity arms → IsObject bytes m
+arms_object bytes m ds cs capacity arms has = clients_object bytes m ds cs has.has_capacity.has_clients
+
+pub one_capacity : (given : Option Data) (m n : ℕ) → GivesCapacity given m → GivesCapacity given n → m ≡ n
+one_capacity None m n a b = a ∙ sym b
+one_capacity (Some value) m n a b = let e : whole m ≡ whole n = sym a.0 ∙ b.0 in cc
+
+pub one_of_arms : (given : Option Data) (xs ys : List Arm) → GivesArms 1 given xs → GivesArms 1 given ys → xs ≡ ys
+one_of_arms None xs ys a b = a ∙ sym b
+one_of_arms (Some value) xs ys a b = same_arms 1 b.0 xs ys (subst (λ vs. AreArms 1 vs xs) (list_of value a.0 b.0 a.1 b.1) a.2) b.2
+
 pub one_scenario : (bytes : List ℕ) (s t : Scenario) → IsReading bytes s → IsReading bytes t → s ≡ t
 one_scenario bytes s t a b =
-    let in_s = a.has_clients.has_containers in
-    let in_t = b.has_clients.has_containers in
-    let same = one_object bytes a.members b.members (containers_object bytes a.members a.declared in_s) (containers_object bytes b.members b.declared in_t) in
+    let in_s = a.has_arms.has_capacity in
+    let in_t = b.has_arms.has_capacity in
+    let same = one_object bytes a.members b.members (clients_object bytes a.members a.declared s.clients in_s.has_clients) (clients_object bytes b.members b.declared t.clients in_t.has_clients) in
     let sites : s.catalog.sites ≡ t.catalog.sites = a.sites ∙ sym b.sites in
     let faults : s.catalog.faults ≡ t.catalog.faults = a.faults ∙ sym b.faults in
-    let declared = one_declared bytes a.members b.members a.declared b.declared in_s in_t in
+    let declared = one_declared bytes a.members b.members a.declared b.declared in_s.has_clients.has_containers in_t.has_clients.has_containers in
     let containers = a.containers ∙ ap (λ ds. containers_of ds) declared ∙ sym b.containers in
-    let clients = one_of_clients bytes a.members b.members a.declared b.declared s.clients t.clients a.has_clients b.has_clients in
+    let clients = one_of_clients bytes a.members b.members a.declared b.declared s.clients t.clients in_s.has_clients in_t.has_clients in
+    let capacity = one_capacity (get_member (codes "capacity") b.members) s.capacity t.capacity (subst (λ ms. GivesCapacity (get_member (codes "capacity") ms) s.capacity) same in_s.given) in_t.given in
+    let arms = one_of_arms (get_member (codes "arms") b.members) s.arms t.arms (subst (λ ms. GivesArms 1 (get_member (codes "arms") ms) s.arms) same a.has_arms.given) b.has_arms.given in
     let values = one_list (codes "steps") a.members b.members a.values b.values same a.spelled b.spelled in
-    let are = subst (λ vs. AreSteps (length s.clients) vs s.steps) values a.are in
-    let steps = same_steps (length t.clients) b.values s.steps t.steps (subst (λ cs. AreSteps (length cs) b.values s.steps) clients are) b.are in
-    λ i. record { catalog = record { sites = sites i; faults = faults i; containers = containers i }; clients = clients i; steps = steps i }
+    let are = subst (λ vs. AreSteps 1 (length s.clients) vs s.steps) values a.are in
+    let steps = same_steps 1 (length t.clients) b.values s.steps t.steps (subst (λ cs. AreSteps 1 (length cs) b.values s.steps) clients are) b.are in
+    λ i. record {
+      catalog = record { sites = sites i; faults = faults i; containers = containers i };
+      clients = clients i;
+      capacity = capacity i;
+      arms = arms i;
+      steps = steps i;
+    }

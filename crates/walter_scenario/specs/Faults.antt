@@ -1,14 +1,15 @@
 -- What a fault says of the value of a key.
-use Rattle.std.specs.Prelude.{◌≡◌, ℕ, List}
+use Rattle.std.specs.Prelude.{◌≡◌, ℕ, List, Option, Some}
 use Rattle.serde_json.specs.Data.{Data}
 use Rattle.walter_base.specs.Catalogs.{Item}
 use Rattle.walter_scenario.specs.declared.place.Place.{Place}
-use Rattle.walter_scenario.specs.declared.place.Place.TheVariants.{Containers, Clients, Steps}
+use Rattle.walter_scenario.specs.declared.place.Place.TheVariants.{Containers, Clients, Arms, Steps}
 use Rattle.walter_scenario.specs.declared.place.ReadFault.{ReadFault}
 use Rattle.walter_scenario.specs.declared.place.ReadFault.TheVariants.{Refused, NoMemory}
+use Rattle.walter_scenario.specs.declared.scenario.Arm.{Arm}
 use Rattle.walter_scenario.specs.declared.scenario.Client.{Client}
 use Rattle.walter_scenario.specs.declared.scenario.Step.{Step}
-use Rattle.walter_scenario.specs.Parts.{AreContainers, AreClients, AreSteps, IsWrongAt}
+use Rattle.walter_scenario.specs.Parts.{AreContainers, AreClients, AreArms, AreSteps, IsWrongAt}
 
 -- the place that is named is so
 abbrev pub IfRefused : (Place → Type 0) → ReadFault → Type 0
@@ -27,8 +28,11 @@ HaveContainers sites values = (declared : List Item) × AreContainers sites valu
 abbrev pub HaveClients : ℕ → List Data → Type 0
 HaveClients sites values = (clients : List Client) × AreClients sites values clients
 
-abbrev pub HaveSteps : ℕ → List Data → Type 0
-HaveSteps clients values = (steps : List Step) × AreSteps clients values steps
+abbrev pub HaveArms : ℕ → List Data → Type 0
+HaveArms sites values = (arms : List Arm) × AreArms sites values arms
+
+abbrev pub HaveSteps : ℕ → ℕ → List Data → Type 0
+HaveSteps sites clients values = (steps : List Step) × AreSteps sites clients values steps
 
 abbrev pub IsContainersFault : ℕ → Data → ReadFault → Type 0
 IsContainersFault sites value = IfRefused (IsItem Containers (HaveContainers sites) value)
@@ -36,5 +40,12 @@ IsContainersFault sites value = IfRefused (IsItem Containers (HaveContainers sit
 abbrev pub IsClientsFault : ℕ → Data → ReadFault → Type 0
 IsClientsFault sites value = IfRefused (IsItem Clients (HaveClients sites) value)
 
-abbrev pub IsStepsFault : ℕ → Data → ReadFault → Type 0
-IsStepsFault clients value = IfRefused (IsItem Steps (HaveSteps clients) value)
+abbrev pub IsArmsFault : ℕ → Data → ReadFault → Type 0
+IsArmsFault sites value = IfRefused (IsItem Arms (HaveArms sites) value)
+
+-- of a key that may be absent
+abbrev pub IsGivenArmsFault : ℕ → Option Data → ReadFault → Type 0
+IsGivenArmsFault sites given = IfRefused (λ place. (value : Data) × (given ≡ Some value) × IsItem Arms (HaveArms sites) value place)
+
+abbrev pub IsStepsFault : ℕ → ℕ → Data → ReadFault → Type 0
+IsStepsFault sites clients value = IfRefused (IsItem Steps (HaveSteps sites clients) value)

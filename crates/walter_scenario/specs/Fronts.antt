@@ -5,9 +5,10 @@ use Rattle.serde_json.specs.Data.{Data}
 use Rattle.walter_base.specs.declared.catalog.Catalog.{Catalog}
 use Rattle.walter_base.specs.declared.names.Kind.TheVariants.{Regular}
 use Rattle.walter_base.specs.Catalogs.{Item, containers_of}
+use Rattle.walter_scenario.specs.declared.scenario.Arm.{Arm}
 use Rattle.walter_scenario.specs.declared.scenario.Client.{Client}
 use Rattle.walter_scenario.specs.declared.scenario.Step.{Step}
-use Rattle.walter_scenario.specs.Parts.{list, container_spelled, AreContainers, AreClients, AreSteps}
+use Rattle.walter_scenario.specs.Parts.{list, container_spelled, AreContainers, AreClients, AreArms, AreSteps}
 
 -- a regular container whose number fits
 abbrev pub IsDeclared : Item → Type 0
@@ -43,6 +44,10 @@ pub record MayFollow (sites : ℕ) (clients : List Client) (client : Client) : T
 abbrev pub ListsClients : ℕ → Data → List Client → Type 0
 ListsClients sites value clients = (values : List Data) × (value ≡ list values) × AreClients sites values clients
 
+-- the value is a list that spells these arms
+abbrev pub ListsArms : ℕ → Data → List Arm → Type 0
+ListsArms sites value arms = (values : List Data) × (value ≡ list values) × AreArms sites values arms
+
 -- the value is a list that spells these steps
-abbrev pub ListsSteps : ℕ → Data → List Step → Type 0
-ListsSteps clients value steps = (values : List Data) × (value ≡ list values) × AreSteps clients values steps
+abbrev pub ListsSteps : ℕ → ℕ → Data → List Step → Type 0
+ListsSteps sites clients value steps = (values : List Data) × (value ≡ list values) × AreSteps sites clients values steps

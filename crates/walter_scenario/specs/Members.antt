@@ -1,23 +1,33 @@
--- The five members of a scenario's object, and what its bytes spell by them.
-use Rattle.std.specs.Prelude.{List, ℕ, codes}
-use Rattle.serde_json.specs.Data.{Members, no_members, member}
+-- The members of a scenario's object, and what its bytes spell by them.
+use Rattle.std.specs.Prelude.{◌≡◌, List, ℕ, codes, Option, option_map}
+use Rattle.std.specs.Borrow.{Bor}
+use Rattle.serde_json.specs.Data.{Data, Members}
+use Rattle.serde_json.specs.Find.{get_member}
 use Rattle.serde_json.specs.View.{view}
+use Rattle.serde_json.specs.declared.value.Value.{Value}
 use Rattle.walter_scenario.specs.declared.members.Parts.{Parts}
 use Rattle.walter_scenario.specs.declared.place.ReadFault.{ReadFault}
 use Rattle.walter_scenario.specs.declared.scenario.Scenario.{Scenario}
-use Rattle.walter_scenario.specs.Scenarios.{HasKeys, IsReading, IsReadFault}
+use Rattle.walter_scenario.specs.Scenarios.{HasMember, HasKeys, IsReading, IsReadFault}
 
--- the members of an object with the five keys
-abbrev pub five_of : Parts → Members
-five_of parts =
-    member (codes "clients") (view parts.clients.now)
-    (member (codes "containers") (view parts.containers.now)
-    (member (codes "f") (view parts.faults.now) (member (codes "sites") (view parts.sites.now) (member (codes "steps") (view parts.steps.now) no_members))))
+-- the data of a value that may be absent
+abbrev pub seen : Option (Bor Value) → Option Data
+seen found = option_map (λ value. view value.now) found
 
--- the scenario of all bytes whose object has these members
-abbrev pub IsReadingOf : Members → Scenario → Type 0
-IsReadingOf members s = (bytes : List ℕ) → HasKeys bytes members → IsReading bytes s
+-- the parts are the values of their keys
+pub record AreParts (members : Members) (parts : Parts) : Type 0 where
+  pub sites : HasMember members (codes "sites") (view parts.sites.now)
+  pub faults : HasMember members (codes "f") (view parts.faults.now)
+  pub containers : HasMember members (codes "containers") (view parts.containers.now)
+  pub clients : HasMember members (codes "clients") (view parts.clients.now)
+  pub capacity : get_member (codes "capacity") members ≡ seen parts.capacity
+  pub arms : get_member (codes "arms") members ≡ seen parts.arms
+  pub steps : HasMember members (codes "steps") (view parts.steps.now)
+
+-- the scenario of all bytes whose object has these parts
+abbrev pub IsReadingOf : Parts → Scenario → Type 0
+IsReadingOf parts s = (bytes : List ℕ) (members : Members) → HasKeys bytes members → AreParts members parts → IsReading bytes s
 
 -- what a fault says of all these bytes
-abbrev pub IsFaultOf : Members → ReadFault → Type 0
-IsFaultOf members fault = (bytes : List ℕ) → HasKeys bytes members → IsReadFault bytes fault
+abbrev pub IsFaultOf : Parts → ReadFault → Type 0
+IsFaultOf parts fault = (bytes : List ℕ) (members : Members) → HasKeys bytes members → AreParts members parts → IsReadFault bytes fault

@@ -5,9 +5,10 @@ use Rattle.serde_json.specs.Data.{Data, number, string, array, unsigned}
 use Rattle.serde_json.specs.View.{items_of}
 use Rattle.walter_base.specs.declared.names.Kind.TheVariants.{Regular}
 use Rattle.walter_base.specs.Catalogs.{Item, AreRight}
+use Rattle.walter_scenario.specs.declared.scenario.Arm.{Arm}
 use Rattle.walter_scenario.specs.declared.scenario.Client.{Client}
 use Rattle.walter_scenario.specs.declared.scenario.Step.{Step}
-use Rattle.walter_scenario.specs.declared.scenario.Step.TheVariants.{Call}
+use Rattle.walter_scenario.specs.declared.scenario.Step.TheVariants.{Call, Stop, Restart, Arm as Armed}
 
 -- a whole number
 abbrev pub whole : ℕ → Data
@@ -46,18 +47,50 @@ pub record AreClients (sites : ℕ) (values : List Data) (clients : List Client)
   pub within : All (λ client. client.site.0 < sites) clients
   pub few : (site : ℕ) → count_by (λ client. nat_eq client.site.0 site) clients ≤ 1024
 
--- a step: "call" and a client's number
+-- how many bytes a journal may have
+abbrev pub IsCapacity : ℕ → Type 0
+IsCapacity n = (19 ≤ n) × (n ≤ 1099511627776)
+
+-- an arm: its site, the number of the call, and the choice
+abbrev pub arm_items : Arm → List Data
+arm_items arm = whole arm.site.0 ∷ whole arm.nth ∷ whole arm.choice ∷ []
+
+abbrev pub arm_spelled : Arm → Data
+arm_spelled arm = list (arm_items arm)
+
+-- the site of an arm is there, and its numbers are in their ranges
+pub record IsArm (sites : ℕ) (arm : Arm) : Type 0 where
+  pub there : arm.site.0 < sites
+  pub first : 1 ≤ arm.nth
+  pub last : arm.nth ≤ 1000000
+  pub fits : arm.choice < 2 ^ 64
+
+-- a step: a word, and a client's number, or a site's, or an arm
 abbrev pub step_spelled : Step → Data
 step_spelled (Call client) = list (string (codes "call") ∷ whole client ∷ [])
+step_spelled (Stop site) = list (string (codes "stop") ∷ whole site.0 ∷ [])
+step_spelled (Restart site) = list (string (codes "restart") ∷ whole site.0 ∷ [])
+step_spelled (Armed arm) = list (string (codes "arm") ∷ arm_items arm)
 
--- the client of a step is there
-abbrev pub IsStep : ℕ → Step → Type 0
-IsStep clients (Call client) = client < clients
+-- the client or the site of a step is there
+abbrev pub IsStep : ℕ → ℕ → Step → Type 0
+IsStep sites clients (Call client) = client < clients
+IsStep sites clients (Stop site) = site.0 < sites
+IsStep sites clients (Restart site) = site.0 < sites
+IsStep sites clients (Armed arm) = IsArm sites arm
 
--- the values spell these steps, over so many clients
-pub record AreSteps (clients : ℕ) (values : List Data) (steps : List Step) : Type 0 where
-  pub spelled : values ≡ map step_spelled steps
-  pub within : All (IsStep clients) steps
+-- the values are the spellings of these items, each of which may be there
+pub record AreSpelled {A : Type 0} (spelling : A → Data) (May : A → Type 0) (values : List Data) (items : List A) : Type 0 where
+  pub spelled : values ≡ map spelling items
+  pub within : All May items
+
+-- the values spell these arms, over so many sites
+abbrev pub AreArms : ℕ → List Data → List Arm → Type 0
+AreArms sites values arms = AreSpelled arm_spelled (IsArm sites) values arms
+
+-- the values spell these steps, over so many sites and clients
+abbrev pub AreSteps : ℕ → ℕ → List Data → List Step → Type 0
+AreSteps sites clients values steps = AreSpelled step_spelled (IsStep sites clients) values steps
 
 -- the item at the place is the first wrong one: the items before it are right, and with it they aren't
 pub record IsFirstWrong (Right : List Data → Type 0) (value : Data) (place : ℕ) : Type 0 where

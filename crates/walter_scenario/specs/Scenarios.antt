@@ -1,30 +1,51 @@
 -- The scenario that bytes spell, and the place of what is wrong with them: JSON as serde_json reads it, whose outermost value
--- is an object with five keys (docs/FORMATS.md, "Scenarios").
-use Rattle.std.specs.Prelude.{◌≡◌, ◌≢◌, ◌≤◌, ◌<◌, ℕ, List, [], ◌∷◌, length, codes, Some, IsUtf8}
+-- is an object with seven keys, of which two may be absent (docs/FORMATS.md, "Scenarios").
+use Rattle.std.specs.Prelude.{◌≡◌, ◌⊎◌, ◌≤◌, ◌<◌, ℕ, List, [], length, codes, Option, Some, None, IsSome, IsUtf8}
 use Rattle.serde_json.specs.Data.{Data, Members, no_members, member, object}
 use Rattle.serde_json.specs.Find.{get_member}
 use Rattle.serde_json.specs.Read.{read}
 use Rattle.walter_base.specs.Catalogs.{Item, containers_of}
 use Rattle.walter_scenario.specs.declared.place.Place.{Place}
-use Rattle.walter_scenario.specs.declared.place.Place.TheVariants.{TooLong, Json, Key, Sites, F, Containers, Clients, Steps}
+use Rattle.walter_scenario.specs.declared.place.Place.TheVariants.{TooLong, Json, Key, Sites, F, Containers, Clients, Capacity, Arms, Steps}
 use Rattle.walter_scenario.specs.declared.place.ReadFault.{ReadFault}
 use Rattle.walter_scenario.specs.declared.place.ReadFault.TheVariants.{Refused, NoMemory}
+use Rattle.walter_scenario.specs.declared.scenario.Arm.{Arm}
 use Rattle.walter_scenario.specs.declared.scenario.Client.{Client}
 use Rattle.walter_scenario.specs.declared.scenario.Scenario.{Scenario}
 use Rattle.walter_scenario.specs.declared.scenario.Step.{Step}
-use Rattle.walter_scenario.specs.Parts.{whole, list, AreContainers, AreClients, AreSteps, IsWrongAt}
+use Rattle.walter_scenario.specs.Parts.{whole, list, AreContainers, AreClients, IsCapacity, AreArms, AreSteps, IsWrongAt}
 
--- the keys of an object, by rising text
-abbrev pub keys_of : Members → List (List ℕ)
-keys_of no_members = []
-keys_of (member key value members) = key ∷ keys_of members
+-- the keys that a scenario needs
+abbrev pub IsNeeded : List ℕ → Type 0
+IsNeeded key = (key ≡ codes "sites") ⊎ (key ≡ codes "f") ⊎ (key ≡ codes "containers") ⊎ (key ≡ codes "clients") ⊎ (key ≡ codes "steps")
 
-abbrev pub the_keys : List (List ℕ)
-the_keys = codes "clients" ∷ codes "containers" ∷ codes "f" ∷ codes "sites" ∷ codes "steps" ∷ []
+-- those, and two that may be absent
+abbrev pub IsKey : List ℕ → Type 0
+IsKey key = IsNeeded key ⊎ (key ≡ codes "capacity") ⊎ (key ≡ codes "arms")
+
+-- no other key is there
+abbrev pub AreKnown : Members → Type 0
+AreKnown no_members = Unit {0}
+AreKnown (member key value members) = IsKey key × AreKnown members
 
 -- the value of a key
 abbrev pub HasMember : Members → List ℕ → Data → Type 0
 HasMember members key value = get_member key members ≡ Some value
+
+-- the keys are those of a scenario: no other is there, and those that are needed are
+pub record AreKeys (members : Members) : Type 0 where
+  pub known : AreKnown members
+  pub needed : (key : List ℕ) → IsNeeded key → IsSome (get_member key members)
+
+-- the capacity that the value of its key gives, or the common one where the key is absent
+abbrev pub GivesCapacity : Option Data → ℕ → Type 0
+GivesCapacity None capacity = capacity ≡ 16777216
+GivesCapacity (Some value) capacity = (value ≡ whole capacity) × IsCapacity capacity
+
+-- the arms that the value of their key gives, of so many sites; none where the key is absent
+abbrev pub GivesArms : ℕ → Option Data → List Arm → Type 0
+GivesArms sites None arms = arms ≡ []
+GivesArms sites (Some value) arms = (values : List Data) × (value ≡ list values) × AreArms sites values arms
 
 -- the bytes are not too long
 abbrev pub IsShort : List ℕ → Type 0
@@ -39,7 +60,7 @@ pub record IsObject (bytes : List ℕ) (members : Members) : Type 0 where
 pub record HasKeys (bytes : List ℕ) (members : Members) : Type 0 where
   pub short : IsShort bytes
   pub is_object : IsObject bytes members
-  pub keys : keys_of members ≡ the_keys
+  pub keys : AreKeys members
 
 -- there is one site
 pub record HasSites (bytes : List ℕ) (members : Members) : Type 0 where
@@ -65,23 +86,33 @@ pub record HasClients (bytes : List ℕ) (members : Members) (declared : List It
   pub spelled : HasMember members (codes "clients") (list values)
   pub are : AreClients 1 values clients
 
+-- and this capacity
+pub record HasCapacity (bytes : List ℕ) (members : Members) (declared : List Item) (clients : List Client) (capacity : ℕ) : Type 0 where
+  pub has_clients : HasClients bytes members declared clients
+  pub given : GivesCapacity (get_member (codes "capacity") members) capacity
+
+-- and these arms
+pub record HasArms (bytes : List ℕ) (members : Members) (declared : List Item) (clients : List Client) (capacity : ℕ) (arms : List Arm) : Type 0 where
+  pub has_capacity : HasCapacity bytes members declared clients capacity
+  pub given : GivesArms 1 (get_member (codes "arms") members) arms
+
 -- the scenario is what the bytes spell
 pub record IsReading (bytes : List ℕ) (s : Scenario) : Type 0 where
   pub members : Members
   pub declared : List Item
-  pub has_clients : HasClients bytes members declared s.clients
+  pub has_arms : HasArms bytes members declared s.clients s.capacity s.arms
   pub sites : s.catalog.sites ≡ 1
   pub faults : s.catalog.faults ≡ 0
   pub containers : s.catalog.containers ≡ containers_of declared
   pub values : List Data
   pub spelled : HasMember members (codes "steps") (list values)
-  pub are : AreSteps (length s.clients) values s.steps
+  pub are : AreSteps 1 (length s.clients) values s.steps
 
 -- the place is the first that is wrong: what comes before it is right, and it isn't
 abbrev pub IsRefusedAt : List ℕ → Place → Type 0
 IsRefusedAt bytes TooLong = 16777216 < length bytes
 IsRefusedAt bytes Json = IsShort bytes × ((members : Members) → ¬ IsObject bytes members)
-IsRefusedAt bytes Key = IsShort bytes × ((members : Members) × IsObject bytes members × (keys_of members ≢ the_keys))
+IsRefusedAt bytes Key = IsShort bytes × ((members : Members) × IsObject bytes members × ¬ AreKeys members)
 IsRefusedAt bytes Sites = (members : Members) × HasKeys bytes members × ¬ HasMember members (codes "sites") (whole 1)
 IsRefusedAt bytes F = (members : Members) × HasSites bytes members × ¬ HasMember members (codes "f") (whole 0)
 IsRefusedAt bytes (Containers place) =
@@ -90,9 +121,16 @@ IsRefusedAt bytes (Containers place) =
 IsRefusedAt bytes (Clients place) =
     (members : Members) × (declared : List Item) × (value : Data) × HasContainers bytes members declared × HasMember members (codes "clients") value
     × IsWrongAt (λ values. (clients : List Client) × AreClients 1 values clients) value place
+IsRefusedAt bytes Capacity =
+    (members : Members) × (declared : List Item) × (clients : List Client) × HasClients bytes members declared clients
+    × ((capacity : ℕ) → ¬ GivesCapacity (get_member (codes "capacity") members) capacity)
+IsRefusedAt bytes (Arms place) =
+    (members : Members) × (declared : List Item) × (clients : List Client) × (capacity : ℕ) × (value : Data) × HasCapacity bytes members declared clients capacity
+    × HasMember members (codes "arms") value × IsWrongAt (λ values. (arms : List Arm) × AreArms 1 values arms) value place
 IsRefusedAt bytes (Steps place) =
-    (members : Members) × (declared : List Item) × (clients : List Client) × (value : Data) × HasClients bytes members declared clients
-    × HasMember members (codes "steps") value × IsWrongAt (λ values. (steps : List Step) × AreSteps (length clients) values steps) value place
+    (members : Members) × (declared : List Item) × (clients : List Client) × (capacity : ℕ) × (arms : List Arm) × (value : Data)
+    × HasArms bytes members declared clients capacity arms × HasMember members (codes "steps") value
+    × IsWrongAt (λ values. (steps : List Step) × AreSteps 1 (length clients) values steps) value place
 
 abbrev pub IsReadFault : List ℕ → ReadFault → Type 0
 IsReadFault bytes (Refused place) = IsRefusedAt bytes place

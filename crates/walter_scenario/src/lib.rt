@@ -1,6 +1,8 @@
 //! A scenario: what is to be played, read from JSON.
 #![tactic(auto)]
 
+mod arms;
+mod capacity;
 mod clients;
 mod containers;
 mod faults;
@@ -15,10 +17,13 @@ mod text;
 mod values;
 
 pub use laws::one_reading;
-pub use lists::{Clients, Steps};
+pub use lists::{Arms, Clients, Steps};
 pub use place::{Place, ReadFault};
 pub use reading::read;
-pub use scenario::{Client, LONGEST_TEXT, MOST_CLIENTS, Scenario, Step};
+pub use scenario::{
+    Arm, COMMON_CAPACITY, Client, GREATEST_CAPACITY, LAST_ARMED, LEAST_CAPACITY, LONGEST_TEXT,
+    MOST_CLIENTS, Scenario, Step,
+};
 
 #[cfg(test)]
 mod tests;

@@ -1,6 +1,6 @@
 ghost use Rattle.std.specs.Prelude.{◌≡◌};
 
-use crate::scenario::{Client, Step};
+use crate::scenario::{Arm, Client, Step};
 use std::marker::Model;
 
 /// The clients of a scenario, by their numbers. Contracts see the list of them.
@@ -31,6 +31,37 @@ impl From<Vec<Client>> for Clients {
 
     fn from(items: Vec<Client>) -> Clients {
         Clients { items }
+    }
+}
+
+/// The arms of a scenario, in order. Contracts see the list of them.
+#[derive(Debug, Drop)]
+pub struct Arms {
+    items: Vec<Arm>,
+}
+
+impl Model for Arms {
+    ghost use Rattle.std.specs.Prelude.{List};
+    ghost use Rattle.walter_scenario.specs.declared.scenario.Arm.{Arm};
+
+    ghost Value = { List Arm };
+
+    ghost view = { λ a. a.items.items };
+}
+
+impl Arms {
+    pub fn as_slice(&self) -> &[Arm]
+        ensures { result.now ≡ self.now }
+    {
+        &self.items
+    }
+}
+
+impl From<Vec<Arm>> for Arms {
+    ghost from_gives = { λ v a. a ≡ v.items };
+
+    fn from(items: Vec<Arm>) -> Arms {
+        Arms { items }
     }
 }
 

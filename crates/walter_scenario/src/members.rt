@@ -1,55 +1,67 @@
-ghost use Rattle.std.specs.Prelude.{◌≡◌, ◌≢◌, ◌∷◌, ℕ, List, IfSome, IfNone};
-ghost use Rattle.serde_json.specs.Data.{member};
-ghost use Rattle.serde_json.specs.View.{view, members_view};
-ghost use Rattle.walter_scenario.specs.Members.{five_of};
-ghost use Rattle.walter_scenario.specs.Scenarios.{keys_of, the_keys};
+ghost use Rattle.std.specs.Prelude.{◌≡◌, ◌↔◌, IsTrue, IfSome, IfNone};
+ghost use Rattle.serde_json.specs.Find.{get_member};
+ghost use Rattle.serde_json.specs.View.{members_view};
+ghost use Rattle.walter_scenario.specs.Members.{seen, AreParts};
+ghost use Rattle.walter_scenario.specs.Scenarios.{IsKey, AreKnown, AreKeys};
 
 use serde_json::{Map, Value};
-use std::collections::btree_map::Iter;
 
-/// The values of the five keys.
+/// The values of the keys. Two keys may be absent.
 #[derive(Clone, Copy)]
 pub struct Parts<'a> {
-    pub clients: &'a Value,
-    pub containers: &'a Value,
-    pub faults: &'a Value,
     pub sites: &'a Value,
+    pub faults: &'a Value,
+    pub containers: &'a Value,
+    pub clients: &'a Value,
+    pub capacity: Option<&'a Value>,
+    pub arms: Option<&'a Value>,
     pub steps: &'a Value,
 }
 
-/// The value of the next member, where it has this key.
-fn next_value<'a>(members: &mut Iter<'a, String, Value>, key: &str) -> Option<&'a Value>
-    ensures some { IfSome result
-        (λ value. members_view members.old
-        ≡ member key.now (view value.now) (members_view members.new)) }
-    ensures keys { IfSome result
-        (λ _. keys_of (members_view members.old) ≡ key.now ∷ keys_of (members_view members.new)) }
-    ensures none { IfNone result
-        ((keys : List (List ℕ)) → keys_of (members_view members.old) ≢ key.now ∷ keys) }
+fn is_key(name: &str) -> bool
+    ensures { IsTrue result ↔ IsKey name.now }
 {
-    let (name, value) = members.next()?;
-    (name.as_str() == key).then_some(value)
+    matches!(
+        name,
+        "sites" | "f" | "containers" | "clients" | "steps" | "capacity" | "arms"
+    )
 }
 
-/// The parts of an object that has the five keys and no other.
-pub fn parts_of(members: &Map<String, Value>) -> Option<Parts<'_>>
-    ensures some { IfSome result (λ parts. members_view members.now.entries ≡ five_of parts) }
-    ensures none { IfNone result (keys_of (members_view members.now.entries) ≢ the_keys) }
+/// Whether no key is there but those of a scenario.
+fn are_known(members: &Map<String, Value>) -> bool
+    ensures { IsTrue result ↔ AreKnown (members_view members.now.entries) }
 {
-    let mut members = members.iter();
-    let clients = next_value(&mut members, "clients")?;
-    let containers = next_value(&mut members, "containers")?;
-    let faults = next_value(&mut members, "f")?;
-    let sites = next_value(&mut members, "sites")?;
-    let steps = next_value(&mut members, "steps")?;
-    if members.next().is_some() {
+    for (name, _) in members {
+        if !is_key(name) {
+            return false;
+        }
+    }
+    true
+}
+
+/// The value of the key, where it is there.
+fn member<'a>(members: &'a Map<String, Value>, key: &str) -> Option<&'a Value>
+    ensures { get_member key.now (members_view members.now.entries) ≡ seen result }
+{
+    members.get(key)
+}
+
+/// The parts of an object that has the keys of a scenario and no other.
+pub fn parts_of(members: &Map<String, Value>) -> Option<Parts<'_>>
+    ensures keys { IfSome result (λ _. AreKeys (members_view members.now.entries)) }
+    ensures parts { IfSome result (AreParts (members_view members.now.entries)) }
+    ensures none { IfNone result (¬ AreKeys (members_view members.now.entries)) }
+{
+    if !are_known(members) {
         return None;
     }
     Some(Parts {
-        clients,
-        containers,
-        faults,
-        sites,
-        steps,
+        sites: member(members, "sites")?,
+        faults: member(members, "f")?,
+        containers: member(members, "containers")?,
+        clients: member(members, "clients")?,
+        capacity: member(members, "capacity"),
+        arms: member(members, "arms"),
+        steps: member(members, "steps")?,
     })
 }

@@ -22,6 +22,11 @@ pub enum Place {
     /// The first wrong client; 0 where the value is no list.
     #[error("client {0}")]
     Clients(usize),
+    #[error("the capacity")]
+    Capacity,
+    /// The first wrong arm; 0 where the value is no list.
+    #[error("arm {0}")]
+    Arms(usize),
     /// The first wrong step; 0 where the value is no list.
     #[error("step {0}")]
     Steps(usize),

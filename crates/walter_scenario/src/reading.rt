@@ -1,10 +1,12 @@
 ghost use Rattle.std.specs.Prelude.{IfOk, IfErr};
-ghost use Rattle.walter_scenario.specs.Members.{five_of, IsReadingOf, IsFaultOf};
+ghost use Rattle.walter_scenario.specs.Members.{IsReadingOf, IsFaultOf};
 ghost use Rattle.walter_scenario.specs.Scenarios.{IsReading, IsReadFault};
 
+use crate::arms::given_arms;
+use crate::capacity::capacity_of;
 use crate::clients::clients_of;
 use crate::containers::catalog_of;
-use crate::lists::{Clients, Steps};
+use crate::lists::{Arms, Clients, Steps};
 use crate::members::{Parts, parts_of};
 use crate::place::{Place, ReadFault};
 use crate::scenario::{LONGEST_TEXT, Scenario};
@@ -15,8 +17,8 @@ use std::alloc::Global;
 
 /// The scenario that the parts spell.
 fn scenario_of(alloc: Global, parts: Parts<'_>) -> Result<Scenario, ReadFault>
-    ensures ok { IfOk result (IsReadingOf (five_of parts.entry)) }
-    ensures fault { IfErr result (IsFaultOf (five_of parts.entry)) }
+    ensures ok { IfOk result (IsReadingOf parts.entry) }
+    ensures fault { IfErr result (IsFaultOf parts.entry) }
 {
     if !is_whole(parts.sites, 1) {
         return Err(ReadFault::from(Place::Sites));
@@ -26,10 +28,14 @@ fn scenario_of(alloc: Global, parts: Parts<'_>) -> Result<Scenario, ReadFault>
     }
     let catalog = catalog_of(alloc, 1, parts.containers)?;
     let clients = clients_of(alloc, 1, parts.clients)?;
-    let steps = steps_of(alloc, clients.len(), parts.steps)?;
+    let capacity = capacity_of(parts.capacity).ok_or(Place::Capacity)?;
+    let arms = given_arms(alloc, 1, parts.arms)?;
+    let steps = steps_of(alloc, 1, clients.len(), parts.steps)?;
     Ok(Scenario {
         catalog,
         clients: Clients::from(clients),
+        capacity,
+        arms: Arms::from(arms),
         steps: Steps::from(steps),
     })
 }

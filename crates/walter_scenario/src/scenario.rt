@@ -1,4 +1,4 @@
-use crate::lists::{Clients, Steps};
+use crate::lists::{Arms, Clients, Steps};
 use walter_base::{Bytes, Catalog, SiteId};
 
 /// The most bytes that a scenario may have.
@@ -7,6 +7,18 @@ pub const LONGEST_TEXT: usize = 16_777_216;
 /// The most clients that a site may have.
 pub const MOST_CLIENTS: usize = 1024;
 
+/// The least capacity of a journal: there is place for the first epoch.
+pub const LEAST_CAPACITY: u64 = 19;
+
+/// The greatest capacity of a journal.
+pub const GREATEST_CAPACITY: u64 = 1_099_511_627_776;
+
+/// The capacity of each journal, where a scenario names none.
+pub const COMMON_CAPACITY: u64 = 16_777_216;
+
+/// The last call on a disk that may be armed, counted from 1.
+pub const LAST_ARMED: u64 = 1_000_000;
+
 /// A client: its site, and all bytes that it sends.
 #[derive(Debug, Drop)]
 pub struct Client {
@@ -14,17 +26,34 @@ pub struct Client {
     pub bytes: Bytes,
 }
 
+/// A fault of a site's disk that is to come: at its `nth` call from when it is armed, with this choice.
+#[derive(Clone, Copy, Debug, PartialEq, Eq)]
+pub struct Arm {
+    pub site: SiteId,
+    pub nth: u64,
+    pub choice: u64,
+}
+
 /// One step of the script.
 #[derive(Clone, Copy, Debug, PartialEq, Eq)]
 pub enum Step {
     /// The client of this number has its turn.
     Call(u32),
+    /// The site loses its memory.
+    Stop(SiteId),
+    /// The site is to come up.
+    Restart(SiteId),
+    /// The site's disk is armed.
+    Arm(Arm),
 }
 
-/// What is to be played: the sites and their containers, the clients by their numbers from 0, and the script.
+/// What is to be played: the sites and their containers, the clients by their numbers from 0, the capacity of each site's
+/// journal, what is armed before the first step, and the script.
 #[derive(Debug, Drop)]
 pub struct Scenario {
     pub catalog: Catalog,
     pub clients: Clients,
+    pub capacity: u64,
+    pub arms: Arms,
     pub steps: Steps,
 }

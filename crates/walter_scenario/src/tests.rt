@@ -1,4 +1,6 @@
-use crate::{LONGEST_TEXT, MOST_CLIENTS, Place, ReadFault, Step, one_reading, read};
+use crate::{
+    Arm, COMMON_CAPACITY, LONGEST_TEXT, MOST_CLIENTS, Place, ReadFault, Step, one_reading, read,
+};
 use std::alloc::Global;
 use std::test::Fail;
 use walter_base::{Kind, ObjId, SiteId};
@@ -82,6 +84,117 @@ fn a_good_scenario_is_read(rt: HostRuntime) -> Result<(), Fail> {
     }
     let steps = [Step::Call(1), Step::Call(0), Step::Call(1)];
     assert_eq!(rt; scenario.steps.as_slice(), steps.as_slice());
+    assert_eq!(rt; scenario.capacity, COMMON_CAPACITY);
+    assert_eq!(rt; scenario.arms.as_slice().len(), 0);
+    Ok(())
+}
+
+#[test]
+fn each_kind_of_step_is_read(rt: HostRuntime) -> Result<(), Fail> {
+    let list =
+        "[[\"stop\",0],[\"arm\",0,1000000,18446744073709551615],[\"restart\",0],[\"call\",1]]";
+    let text = changed(rt.alloc(), STEPS, list)?;
+    let scenario = read(rt.alloc(), text.as_bytes())?;
+    let last = Arm {
+        site: SiteId(0),
+        nth: 1_000_000,
+        choice: 18_446_744_073_709_551_615,
+    };
+    let steps = [
+        Step::Stop(SiteId(0)),
+        Step::Arm(last),
+        Step::Restart(SiteId(0)),
+        Step::Call(1),
+    ];
+    assert_eq!(rt; scenario.steps.as_slice(), steps.as_slice());
+    Ok(())
+}
+
+#[test]
+fn keys_that_may_be_absent_are_read(rt: HostRuntime) -> Result<(), Fail> {
+    let keys = "\"f\":0,\"capacity\":142,\"arms\":[[0,1,0],[0,4,257]]";
+    let text = changed(rt.alloc(), "\"f\":0", keys)?;
+    let scenario = read(rt.alloc(), text.as_bytes())?;
+    let first = Arm {
+        site: SiteId(0),
+        nth: 1,
+        choice: 0,
+    };
+    let second = Arm {
+        site: SiteId(0),
+        nth: 4,
+        choice: 257,
+    };
+    assert_eq!(rt; scenario.capacity, 142);
+    assert_eq!(rt; scenario.arms.as_slice(), [first, second].as_slice());
+    Ok(())
+}
+
+/// The place of what is wrong with the good scenario with one key more.
+fn places_with(alloc: Global, key: &str) -> Result<Option<Place>, Fail> {
+    let keys = format!(in alloc; "\"f\":0,{key}")?;
+    let text = changed(alloc, "\"f\":0", &keys)?;
+    place_of(alloc, text.as_bytes())
+}
+
+#[test]
+fn a_wrong_capacity_is_named(rt: HostRuntime) -> Result<(), Fail> {
+    for (key, place) in [
+        ("\"capacity\":19", None),
+        ("\"capacity\":1099511627776", None),
+        ("\"capacity\":18", Some(Place::Capacity)),
+        ("\"capacity\":1099511627777", Some(Place::Capacity)),
+        ("\"capacity\":20.0", Some(Place::Capacity)),
+        ("\"capacity\":null", Some(Place::Capacity)),
+        ("\"capacity\":0,\"arms\":0", Some(Place::Capacity)),
+    ] {
+        assert_eq!(rt; places_with(rt.alloc(), key)?, place, "{key}");
+    }
+    Ok(())
+}
+
+#[test]
+fn the_first_wrong_arm_is_named(rt: HostRuntime) -> Result<(), Fail> {
+    for (key, place) in [
+        ("\"arms\":[]", None),
+        ("\"arms\":[[0,1000000,0]]", None),
+        ("\"arms\":null", Some(Place::Arms(0))),
+        ("\"arms\":[[0,1,0],[0,0,0]]", Some(Place::Arms(1))),
+        ("\"arms\":[[0,1,0],[0,1000001,0]]", Some(Place::Arms(1))),
+        ("\"arms\":[[0,1,0],[1,1,0]]", Some(Place::Arms(1))),
+        ("\"arms\":[[0,1],[0,0,0]]", Some(Place::Arms(0))),
+        ("\"arms\":[[0,1,0,0]]", Some(Place::Arms(0))),
+        (
+            "\"arms\":[[0,1,18446744073709551616]]",
+            Some(Place::Arms(0)),
+        ),
+        ("\"link\":{}", Some(Place::Key)),
+        ("\"ticks\":1", Some(Place::Key)),
+        ("\"threads\":1", Some(Place::Key)),
+    ] {
+        assert_eq!(rt; places_with(rt.alloc(), key)?, place, "{key}");
+    }
+    Ok(())
+}
+
+#[test]
+fn the_first_wrong_step_is_named(rt: HostRuntime) -> Result<(), Fail> {
+    for step in [
+        "[\"stop\",1]",
+        "[\"restart\",256]",
+        "[\"stop\"]",
+        "[\"stop\",0,0,0]",
+        "[\"arm\",0]",
+        "[\"arm\",0,0,0]",
+        "[\"arm\",1,1,0]",
+        "[\"tick\",0]",
+        "[0,0]",
+    ] {
+        let list = format!(in rt.alloc(); "[[\"stop\",0],{step},0]")?;
+        let text = changed(rt.alloc(), STEPS, &list)?;
+        let place = place_of(rt.alloc(), text.as_bytes())?;
+        assert_eq!(rt; place, Some(Place::Steps(1)), "{step}");
+    }
     Ok(())
 }
 

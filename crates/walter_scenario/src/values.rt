@@ -1,9 +1,10 @@
-ghost use Rattle.std.specs.Prelude.{◌≡◌, ◌≢◌, ◌↔◌, ◌∷◌, [], ℕ, List, map, IsTrue, IfSome, IfNone};
+ghost use Rattle.std.specs.Prelude.{◌≡◌, ◌≢◌, ◌<◌, ◌↔◌, ◌∷◌, [], ℕ, List, map, IsTrue, IfSome, IfNone};
 ghost use Rattle.serde_json.specs.Data.{Data, string};
 ghost use Rattle.serde_json.specs.View.{view};
 ghost use Rattle.walter_scenario.specs.Parts.{list, whole};
 
 use serde_json::Value;
+use walter_base::SiteId;
 
 /// The items of an array.
 pub fn items_of(value: &Value) -> Option<&[Value]>
@@ -42,6 +43,22 @@ pub fn triple_of(value: &Value) -> Option<(&Value, &Value, &Value)>
     Some((first, second, third))
 }
 
+/// The four items of an array.
+#[tactic(auto, using(crate::proofs::Arrays::same_length))]
+pub fn four_of(value: &Value) -> Option<(&Value, &Value, &Value, &Value)>
+    ensures some { IfSome result
+        (λ found. view value.now
+        ≡ list (view found.0.now ∷ view found.1.now ∷ view found.2.now ∷ view found.3.now ∷ [])) }
+    ensures none { IfNone result
+        ((first second third fourth : Data)
+        → view value.now ≢ list (first ∷ second ∷ third ∷ fourth ∷ [])) }
+{
+    let [first, second, third, fourth] = items_of(value)? else {
+        return None;
+    };
+    Some((first, second, third, fourth))
+}
+
 /// The whole number that the value is.
 pub fn whole_of(value: &Value) -> Option<u64>
     ensures some { IfSome result (λ n. view value.now ≡ whole n) }
@@ -56,6 +73,16 @@ pub fn string_of(value: &Value) -> Option<&str>
     ensures none { IfNone result ((text : List ℕ) → view value.now ≢ string text) }
 {
     value.as_str()
+}
+
+/// The site that the value names, of so many.
+pub fn site_of(sites: u8, value: &Value) -> Option<SiteId>
+    ensures there { IfSome result (λ site. site.0 < sites) }
+    ensures some { IfSome result (λ site. view value.now ≡ whole site.0) }
+    ensures none { IfNone result ((site : ℕ) → site < sites → view value.now ≢ whole site) }
+{
+    let site = u8::try_from(whole_of(value)?).ok()?;
+    (site < sites).then_some(SiteId(site))
 }
 
 /// Whether the value is this whole number.

@@ -1,2 +1,4 @@
+pub mod Changes
 pub mod Places
+pub mod Ruled
 pub mod SeenUpdates

@@ -1,10 +1,11 @@
--- Where the transaction of a client stands, and what edits leave.
-use Rattle.std.proofs.Common.{◌≡◌, ◌≢◌, ℕ, zero, suc, ◌+◌, ◌<◌, Bool, true, false, not, nat_eq, List, [], ◌∷◌, ◌++◌, length, filter, Option, Some, None, refl, ap, sym, ◌∙◌, subst, arith, slice_get, slice_set, get_or, option_map, if◌then◌else◌, inl, inr}
-use Rattle.std.proofs.lemmas.Bool.{eqb-true, eq-eqb, cases_lt}
+-- Where the transaction of a client stands, and what edits leave of the sessions.
+use Rattle.std.proofs.Common.{◌≡◌, ◌≢◌, ℕ, zero, suc, ◌+◌, ◌<◌, true, false, not, nat_eq, List, [], ◌∷◌, length, filter, map, Option, Some, None, is_some, refl, ap, sym, ◌∙◌, subst, arith, slice_get, slice_set, get_or, option_map, if◌then◌else◌, inl, inr}
+use Rattle.std.proofs.lemmas.Bool.{eq-eqb, cases_lt}
 use Rattle.std.proofs.lemmas.Bool.Decides.{nat_tests}
 use Rattle.walter_site.specs.declared.transaction.Transaction.{Transaction}
-use Rattle.walter_trail.specs.Knowledge.{Session}
-use Rattle.walter_site.specs.Sites.{first_of, session_of, session_among, IsPlaceOf}
+use Rattle.walter_site.specs.Open.{as_session, as_open, sessions_of, first_of, IsPlaceOf, AreApart}
+use Rattle.walter_site.proofs.Changes.{changed, untouched}
+use Rattle.walter_trail.specs.Knowledge.{Session, Open, session_in}
 
 -- none of the first transactions is the client's
 pub record NoneBefore (client : ℕ) (ts : List Transaction) (place : ℕ) : Type 0 where
@@ -41,62 +42,6 @@ none_at_all client (t ∷ ts) none =
     let d = differs t.client client (none.other 0 t (omega arith) refl) in
     rw d (none_at_all client ts (tail client t ts (length ts) none))
 
-pub within : (client : ℕ) (ts : List Transaction) (place : ℕ) → IsPlaceOf client ts place → place < length ts
-within client [] place is = absurd is
-within client (t ∷ ts) zero is = omega arith
-within client (t ∷ ts) (suc place) is = let l = within client ts place is.1 in omega arith
-
-chosen : {X : Type 0} (a b : Bool) (x y z : X) → (a ≡ true → b ≡ true → ⊥) → (if a then x else (if b then y else z)) ≡ (if b then y else (if a then x else z))
-chosen true true x y z apart = absurd (apart refl refl)
-chosen true false x y z apart = refl
-chosen false b x y z apart = refl
-
-shadowed : {X : Type 0} (a : Bool) (x y z : X) → (if a then x else z) ≡ (if a then x else (if a then y else z))
-shadowed true x y z = refl
-shadowed false x y z = refl
-
-same_or : {X : Type 0} (a : Bool) (x : X) → x ≡ (if a then x else x)
-same_or true x = refl
-same_or false x = refl
-
--- another transaction of the client in its place is the client's first, and nothing else changes
-pub first_of-set : (client : ℕ) (ts : List Transaction) (place : ℕ) (new : Transaction) → IsPlaceOf client ts place → new.client ≡ client
-    → (c : ℕ) → first_of c (slice_set ts place new) ≡ (if nat_eq c client then Some new else first_of c ts)
-first_of-set client [] place new is same c = absurd is
-first_of-set client (t ∷ ts) zero new is same c =
-    ap (λ k. if nat_eq c k then Some new else first_of c ts) same
-    ∙ shadowed (nat_eq c client) (Some new) (Some t) (first_of c ts)
-    ∙ ap (λ k. if nat_eq c client then Some new else (if nat_eq c k then Some t else first_of c ts)) (sym is)
-first_of-set client (t ∷ ts) (suc place) new is same c =
-    let next = first_of-set client ts place new is.1 same c in
-    rw next (chosen (nat_eq c t.client) (nat_eq c client) (Some t) (Some new) (first_of c ts) (λ a b. is.0 (sym (eqb-true c t.client a) ∙ eqb-true c client b)))
-
--- without the transactions of a client
-pub first_of-without : (client : ℕ) (ts : List Transaction) (c : ℕ) → first_of c (filter (λ t. not (nat_eq t.client client)) ts) ≡ (if nat_eq c client then None else first_of c ts)
-first_of-without client [] c = same_or (nat_eq c client) None
-first_of-without client (t ∷ ts) c =
-    let next = first_of-without client ts c in
-    elim (nat_eq t.client client) as (λ b. nat_eq t.client client ≡ b → first_of c (if not b then t ∷ filter (λ u. not (nat_eq u.client client)) ts else filter (λ u. not (nat_eq u.client client)) ts) ≡ (if nat_eq c client then None else (if nat_eq c t.client then Some t else first_of c ts))) [
-      | true ↦ λ is. next ∙ shadowed (nat_eq c client) None (Some t) (first_of c ts)
-          ∙ ap (λ k. if nat_eq c client then None else (if nat_eq c k then Some t else first_of c ts)) (sym (eqb-true t.client client is))
-      | false ↦ λ is. rw next (chosen (nat_eq c t.client) (nat_eq c client) (Some t) None (first_of c ts) (λ a b.
-          let same : t.client ≡ client = sym (eqb-true c t.client a) ∙ eqb-true c client b in
-          let yes : nat_eq t.client client ≡ true = eq-eqb t.client client same in
-          cc))
-    ] refl
-
--- one more at the end is the first of its client, if there is none
-pub first_of-push : (ts : List Transaction) (new : Transaction) → first_of new.client ts ≡ None → (c : ℕ)
-    → first_of c (ts ++ new ∷ []) ≡ (if nat_eq c new.client then Some new else first_of c ts)
-first_of-push [] new none c = refl
-first_of-push (t ∷ ts) new none c =
-    elim (nat_eq new.client t.client) as (λ b. nat_eq new.client t.client ≡ b → (if b then Some t else first_of new.client ts) ≡ None → (if nat_eq c t.client then Some t else first_of c (ts ++ new ∷ [])) ≡ (if nat_eq c new.client then Some new else (if nat_eq c t.client then Some t else first_of c ts))) [
-      | true ↦ λ is h. absurd cc
-      | false ↦ λ is h. rw (first_of-push ts new h c) (chosen (nat_eq c t.client) (nat_eq c new.client) (Some t) (Some new) (first_of c ts) (λ a b.
-          let yes : nat_eq new.client t.client ≡ true = eq-eqb new.client t.client (sym (eqb-true c new.client b) ∙ eqb-true c t.client a) in
-          cc))
-    ] refl none
-
 pub first_is : (client : ℕ) (ts : List Transaction) (place : ℕ) (d : Transaction) → IsPlaceOf client ts place → first_of client ts ≡ Some (get_or ts place d)
 first_is client [] place d is = absurd is
 first_is client (t ∷ ts) zero d is = rw (eq-eqb client t.client (sym is)) refl
@@ -107,49 +52,48 @@ client_at client [] place d is = absurd is
 client_at client (t ∷ ts) zero d is = is
 client_at client (t ∷ ts) (suc place) d is = client_at client ts place d is.1
 
+-- the session of a client is that of its first transaction
+pub session_in-first : (client : ℕ) (ts : List Transaction) → session_in client (sessions_of ts) ≡ option_map as_session (first_of client ts)
+session_in-first client [] = refl
+session_in-first client (t ∷ ts) =
+    elim (nat_eq client t.client) as (λ b. (if b then Some (as_session t) else session_in client (sessions_of ts)) ≡ option_map as_session (if b then Some t else first_of client ts)) [
+      | true ↦ refl
+      | false ↦ session_in-first client ts
+    ]
+
 -- the client's session changes as its transaction does, and no other
-pub session_among-set : (client : ℕ) (ts : List Transaction) (place : ℕ) (new d : Transaction) (f : Session → Session) → IsPlaceOf client ts place
-    → new.client ≡ client → session_of new ≡ f (session_of (get_or ts place d))
-    → (c : ℕ) → session_among c (slice_set ts place new) ≡ (if nat_eq c client then option_map f (session_among c ts) else session_among c ts)
-session_among-set client ts place new d f is same changed c =
-    ap (option_map session_of) (first_of-set client ts place new is same c) ∙ (elim (nat_eq c client) as (λ b. nat_eq c client ≡ b → option_map session_of (if b then Some new else first_of c ts) ≡ (if b then option_map f (session_among c ts) else session_among c ts)) [
-      | true ↦ λ b.
-          let e : c ≡ client = eqb-true c client b in
-          let here : first_of c ts ≡ Some (get_or ts place d) = ap (λ k. first_of k ts) e ∙ first_is client ts place d is in
-          rw here (ap (λ s. Some s) changed)
-      | false ↦ λ b. refl
-    ] refl)
+pub sessions-set : (client : ℕ) (ts : List Transaction) (place : ℕ) (new d : Transaction) (f : Session → Session) → IsPlaceOf client ts place → AreApart (sessions_of ts)
+    → new.client ≡ client → as_session new ≡ f (as_session (get_or ts place d))
+    → sessions_of (slice_set ts place new) ≡ map (changed client f) (sessions_of ts)
+sessions-set client [] place new d f is apart same change = absurd is
+sessions-set client (t ∷ ts) zero new d f is apart same change =
+    let none : is_some (session_in client (sessions_of ts)) ≡ false = subst (λ k. is_some (session_in k (sessions_of ts)) ≡ false) is apart.0 in
+    let others : map (changed client f) (sessions_of ts) ≡ sessions_of ts = untouched client f (sessions_of ts) none in
+    let one : new.client ≡ t.client = same ∙ sym is in
+    rw (eq-eqb client t.client (sym is)) (λ i. (one i, change i) ∷ sym others i)
+sessions-set client (t ∷ ts) (suc place) new d f is apart same change =
+    rw (differs t.client client is.0) (ap (λ ss. as_open t ∷ ss) (sessions-set client ts place new d f is.1 apart.1 same change))
 
 -- a change that no session shows
-pub session_among-kept : (client : ℕ) (ts : List Transaction) (place : ℕ) (new d : Transaction) → IsPlaceOf client ts place
-    → new.client ≡ client → session_of new ≡ session_of (get_or ts place d) → (c : ℕ) → session_among c (slice_set ts place new) ≡ session_among c ts
-session_among-kept client ts place new d is same kept c =
-    session_among-set client ts place new d (λ s. s) is same kept c ∙ unchanged (nat_eq c client) (session_among c ts)
-  where
-    unchanged : (b : Bool) (o : Option Session) → (if b then option_map (λ s. s) o else o) ≡ o
-    unchanged true None = refl
-    unchanged true (Some s) = refl
-    unchanged false o = refl
+pub sessions-kept : (client : ℕ) (ts : List Transaction) (place : ℕ) (new d : Transaction) → IsPlaceOf client ts place
+    → new.client ≡ client → as_session new ≡ as_session (get_or ts place d) → sessions_of (slice_set ts place new) ≡ sessions_of ts
+sessions-kept client [] place new d is same kept = absurd is
+sessions-kept client (t ∷ ts) zero new d is same kept = let one : new.client ≡ t.client = same ∙ sym is in (λ i. (one i, kept i) ∷ sessions_of ts)
+sessions-kept client (t ∷ ts) (suc place) new d is same kept = ap (λ ss. as_open t ∷ ss) (sessions-kept client ts place new d is.1 same kept)
 
-pub session_among-without : (client : ℕ) (ts : List Transaction) (c : ℕ)
-    → session_among c (filter (λ t. not (nat_eq t.client client)) ts) ≡ (if nat_eq c client then None else session_among c ts)
-session_among-without client ts c =
-    ap (option_map session_of) (first_of-without client ts c) ∙ inner (nat_eq c client) (first_of c ts)
-  where
-    inner : (b : Bool) (o : Option Transaction) → option_map session_of (if b then None else o) ≡ (if b then None else option_map session_of o)
-    inner true o = refl
-    inner false o = refl
+-- another transaction of the client in its place is the client's first
+pub first_of-set : (client : ℕ) (ts : List Transaction) (place : ℕ) (new : Transaction) → IsPlaceOf client ts place → new.client ≡ client
+    → first_of client (slice_set ts place new) ≡ Some new
+first_of-set client [] place new is same = absurd is
+first_of-set client (t ∷ ts) zero new is same = rw (eq-eqb client new.client (sym same)) refl
+first_of-set client (t ∷ ts) (suc place) new is same = rw (differs t.client client is.0) (first_of-set client ts place new is.1 same)
 
--- one more at the end is its client's session
-pub session_among-push : (ts : List Transaction) (new : Transaction) → session_among new.client ts ≡ None → (c : ℕ)
-    → session_among c (ts ++ new ∷ []) ≡ (if nat_eq c new.client then Some (session_of new) else session_among c ts)
-session_among-push ts new none c =
-    ap (option_map session_of) (first_of-push ts new (absent (first_of new.client ts) none) c) ∙ inner (nat_eq c new.client) (first_of c ts)
-  where
-    absent : (o : Option Transaction) → option_map session_of o ≡ None → o ≡ None
-    absent None e = refl
-    absent (Some t) e = absurd cc
-
-    inner : (b : Bool) (o : Option Transaction) → option_map session_of (if b then Some new else o) ≡ (if b then Some (session_of new) else option_map session_of o)
-    inner true o = refl
-    inner false o = refl
+pub sessions-without : (client : ℕ) (ts : List Transaction)
+    → sessions_of (filter (λ t. not (nat_eq client t.client)) ts) ≡ filter (λ s. not (nat_eq client s.0)) (sessions_of ts)
+sessions-without client [] = refl
+sessions-without client (t ∷ ts) =
+    let others = sessions-without client ts in
+    elim (nat_eq client t.client) as (λ b. sessions_of (if not b then t ∷ filter (λ u. not (nat_eq client u.client)) ts else filter (λ u. not (nat_eq client u.client)) ts) ≡ (if not b then as_open t ∷ filter (λ s. not (nat_eq client s.0)) (sessions_of ts) else filter (λ s. not (nat_eq client s.0)) (sessions_of ts))) [
+      | true ↦ others
+      | false ↦ ap (λ ss. as_open t ∷ ss) others
+    ]

@@ -1,1 +1,3 @@
+pub mod Open
+pub mod Props
 pub mod Sites

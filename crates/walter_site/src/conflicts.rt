@@ -28,7 +28,7 @@ fn first_unseen(held: &[Held], snapshot: &Vts, oid: ObjId) -> Option<Version>
             site: one.tx.tid.site,
             seq: one.seq,
         };
-        if has_written(one, oid) && !snapshot.sees(version) {
+        if !snapshot.sees(version) && has_written(one, oid) {
             return Some(version);
         }
     }

@@ -1,14 +1,18 @@
-//! A site: the rules of its trail as a state that is planned for, and changed by plans.
+//! A site: the rules of its trail as a state that is planned for, changed by plans, and made anew from records.
 #![tactic(auto)]
 
 mod conflicts;
+mod levels;
 mod plan;
 mod reading;
+mod replay;
 mod site;
+mod sizes;
 mod transaction;
 mod transactions;
 
 pub use plan::{Input, Plan};
+pub use replay::ReplayFault;
 pub use site::Site;
 
 #[cfg(test)]

@@ -1,6 +1,6 @@
 ghost use Rattle.std.specs.Prelude.{◌≡◌, IfOk, OnErr};
-ghost use Rattle.walter_site.specs.Sites.{event_of};
-ghost use Rattle.walter_trail.specs.Rule.{TakesMemory};
+ghost use Rattle.walter_site.specs.Sites.{call_of};
+ghost use Rattle.walter_trail.specs.Rule.{MayWant};
 
 use walter_base::{Call, Mem, Record, Reply, Request};
 
@@ -20,15 +20,16 @@ pub struct Plan {
 }
 
 impl Input {
-    /// A copy. A bad frame and an Abort are copied without memory.
+    /// A copy. A bad frame, an Abort and a Level are copied without memory.
     pub fn copy(&self) -> Mem<Input>
         ensures ok { IfOk result (λ copy. copy ≡ self.now) }
-        ensures free { OnErr result (TakesMemory (event_of self.now)) }
+        ensures free { OnErr result (MayWant (call_of self.now)) }
     {
         let Input::Call { client, call } = self;
         let call = match call {
             Err(bad) => Err(*bad),
             Ok(Request::Abort) => Ok(Request::Abort),
+            Ok(Request::Level(tid)) => Ok(Request::Level(*tid)),
             Ok(request) => Ok(request.clone()?),
         };
         Ok(Input::Call {

@@ -1,16 +1,24 @@
-ghost use Rattle.std.specs.Prelude.{◌≡◌, ◌<◌, ◌≤◌, ◌+◌, ◌^◌, ◌↔◌, IsTrue, ℕ, List, [], ◌∷◌, length, vec_len, vec_capacity, Result, Ok, OnOk, OnErr, IfOk, IfSome, None};
+ghost use Rattle.std.specs.Prelude.{◌≡◌, ◌<◌, ◌≤◌, ◌+◌, ◌↔◌, IsTrue, ℕ, length, vec_len, vec_capacity, Ok, Some, OnOk, OnErr, IfOk, IfErr, IfSome, None, All};
+ghost use Rattle.walter_site.specs.Open.{sessions_of, first_of, AreOpenAt, IsOpenAt, HasShortValues, CanTake};
+ghost use Rattle.walter_site.specs.Props.{props};
 
 use crate::conflicts::conflict;
+use crate::levels::{has_open, holds};
 use crate::plan::{Input, Plan};
 use crate::reading::value_read;
+use crate::replay::{ReplayFault, are_declared};
+use crate::sizes::{MOST_BYTES, has_place};
 use crate::transaction::Transaction;
-use crate::transactions::{add_update, end_all, find, reserve_update};
+use crate::transactions::{add_update, end, find, reserve_update, update_of};
 use std::alloc::Global;
 use walter_base::{
-    BadFrame, Call, Catalog, Cause, Mem, ObjId, Record, Refusal, Reply, Request, SiteId, Tid, Tx,
-    Update, Updates, Version, Vts,
+    BadFrame, Bytes, Call, Catalog, Cause, Kind, Level, Mem, NoMemory, ObjId, Record, Refusal,
+    Reply, Request, SiteId, Tid, Tx, Updates, Version, Vts,
 };
 use walter_trail::{Held, Outcome, TrailEvent};
+
+/// How many transactions may be open.
+const MOST_OPEN: usize = 256;
 
 /// One site of the store: what it knows, ready to be read and to be changed by plans.
 #[derive(Debug, Drop)]
@@ -23,21 +31,26 @@ pub struct Site {
     held: Vec<Held>,
     transactions: Vec<Transaction>,
     ghost here: { site.0 < length committed },
+    ghost sites: { length committed ≡ catalog.sites },
+    ghost most: { catalog.sites ≤ 8 },
+    ghost sessions: { AreOpenAt catalog site (sessions_of transactions.items) } by { Prim.hlevel props },
+    ghost short: { All HasShortValues held.items } by { Prim.hlevel props },
 }
 
 #[tactic(auto, unfolding(crate::specs::Sites::known, crate::specs::Sites::site_of, crate::specs::Sites::catalog_of))]
 impl Site {
-    ghost use Rattle.walter_site.specs.Sites.{known, site_of, catalog_of, CanCount, IsPlan, HasRoom, CanKeep, CanAnswer, CanTake, IsFresh, IsNext, answered, recorded, event_of, expected, first_of, session_among};
-    ghost use Rattle.walter_trail.specs.Knowledge.{after};
-    ghost use Rattle.walter_trail.specs.Rule.{answers, call_rule, Expected, TakesMemory};
-    ghost use Rattle.walter_base.specs.declared.names.ObjId.{ObjId};
-    ghost use Rattle.walter_trail.specs.Trails.{knowledge, opening};
+    ghost use Rattle.std.specs.FinMap as map;
+    ghost use Rattle.walter_base.specs.Sizes.{HasShortValue, CanBeSpelled, CanBeRecorded, IsShortReply};
+    ghost use Rattle.walter_site.specs.Sites.{known, site_of, catalog_of, IsPlan, HasRoom, CanKeep, CanAnswer, IsNext, IsReplayFault, expected, event_of, call_of, refused_or};
+    ghost use Rattle.walter_trail.specs.Knowledge.{after, answered, recorded, fresh, session_in, session_of, updated};
+    ghost use Rattle.walter_trail.specs.Records.{CanFollow, IsNextOwn, IsRecordAmong};
+    ghost use Rattle.walter_trail.specs.Rule.{Expected, answers, call_rule, if_regular, is_issued, level_of, tells_level, next_seq, next_tid, MayWant};
 
-    /// A site as its first restart leaves it.
-    pub fn booted(alloc: Global, catalog: Catalog, site: SiteId) -> Site
+    /// A site of which no record tells anything. It comes up by the replay of a Boot.
+    pub fn new(alloc: Global, catalog: Catalog, site: SiteId) -> Site
         requires here { site.0 < catalog.sites }
         requires most { catalog.sites ≤ 8 }
-        ensures known { known result ≡ knowledge catalog site (opening ∷ []) }
+        ensures known { known result ≡ fresh catalog.sites }
         ensures site { site_of result ≡ site }
         ensures catalog { catalog_of result ≡ catalog }
     {
@@ -45,7 +58,7 @@ impl Site {
         Site {
             catalog,
             site,
-            epoch: 1,
+            epoch: 0,
             starts: 0,
             committed,
             held: Vec::new(alloc),
@@ -53,20 +66,22 @@ impl Site {
         }
     }
 
-    /// Whether one more start and one more commit have numbers.
-    pub fn can_count(&self) -> bool
-        ensures { IsTrue result ↔ CanCount (site_of self.now) (known self.now) }
+    /// How often the site came up.
+    pub fn epoch(&self) -> u32
+        ensures { result ≡ (known self.now).epoch }
     {
-        self.starts < u64::MAX && self.committed.get(self.site) < u64::MAX
+        self.epoch
     }
 
     /// The plan of the rule for an input. It takes all the memory that applying it needs, and changes nothing. A bad
-    /// frame and an Abort take none.
+    /// frame, an Abort and a Level take none.
     pub fn plan(&mut self, input: &Input) -> Mem<Plan>
-        requires { CanCount (site_of self.old) (known self.old) }
         ensures rule { IfOk result (IsPlan (catalog_of self.old) (site_of self.old) (known self.old) input.now) }
         ensures room { IfOk result (HasRoom self.new) }
-        ensures free { OnErr result (TakesMemory (event_of input.now)) }
+        ensures free { OnErr result (MayWant (call_of input.now)) }
+        ensures follows { IfOk result (λ p. IfSome p.rec (λ rec. 0 < (known self.old).epoch → CanFollow (catalog_of self.old) (site_of self.old) (known self.old) rec)) }
+        ensures sizes { IfOk result (λ p. IfSome p.rec (IsRecordAmong (catalog_of self.old).sites)) }
+        ensures short { IfOk result (λ p. IsShortReply p.reply) }
         ensures same { known self.new ≡ known self.old }
         ensures site { site_of self.new ≡ site_of self.old }
         ensures catalog { catalog_of self.new ≡ catalog_of self.old }
@@ -81,11 +96,10 @@ impl Site {
     }
 
     fn plan_call(&mut self, client: u32, call: &Call) -> Mem<(Option<Record>, Reply)>
-        requires { CanCount (site_of self.old) (known self.old) }
-        ensures rule { IfOk result (λ p. expected p ≡ call_rule (catalog_of self.old) (site_of self.old) (known self.old) call.now ((known self.old).session client)) }
+        ensures rule { IfOk result (λ p. expected p ≡ call_rule (catalog_of self.old) (site_of self.old) (known self.old) call.now (session_of (known self.old) client)) }
         ensures keeps { IfOk result (λ p. CanKeep self.new p.0) }
         ensures answers { IfOk result (λ p. CanAnswer self.new client p.1) }
-        ensures free { OnErr result (TakesMemory (TrailEvent.Call client call.now)) }
+        ensures free { OnErr result (MayWant call.now) }
         ensures same { known self.new ≡ known self.old }
         ensures site { site_of self.new ≡ site_of self.old }
         ensures catalog { catalog_of self.new ≡ catalog_of self.old }
@@ -97,11 +111,10 @@ impl Site {
     }
 
     fn plan_request(&mut self, client: u32, request: &Request) -> Mem<(Option<Record>, Reply)>
-        requires { CanCount (site_of self.old) (known self.old) }
-        ensures rule { IfOk result (λ p. expected p ≡ call_rule (catalog_of self.old) (site_of self.old) (known self.old) (Ok request.now) ((known self.old).session client)) }
+        ensures rule { IfOk result (λ p. expected p ≡ call_rule (catalog_of self.old) (site_of self.old) (known self.old) (Ok request.now) (session_of (known self.old) client)) }
         ensures keeps { IfOk result (λ p. CanKeep self.new p.0) }
         ensures answers { IfOk result (λ p. CanAnswer self.new client p.1) }
-        ensures free { OnErr result (TakesMemory (TrailEvent.Call client (Ok request.now))) }
+        ensures free { OnErr result (MayWant (Ok request.now)) }
         ensures same { known self.new ≡ known self.old }
         ensures site { site_of self.new ≡ site_of self.old }
         ensures catalog { catalog_of self.new ≡ catalog_of self.old }
@@ -109,15 +122,15 @@ impl Site {
         match request {
             Request::Start => Ok((None, self.plan_start(client)?)),
             Request::Read(oid) => Ok((None, self.plan_read(client, *oid)?)),
-            Request::Write(oid, _) => Ok((None, self.plan_write(client, *oid)?)),
+            Request::Write(oid, value) => Ok((None, self.plan_write(client, *oid, value)?)),
             Request::Commit => self.plan_commit(client),
             Request::Abort => Ok((None, self.plan_abort(client))),
+            Request::Level(tid) => Ok((None, self.tell_level(*tid))),
         }
     }
 
     fn plan_start(&mut self, client: u32) -> Mem<Reply>
-        requires { CanCount (site_of self.old) (known self.old) }
-        ensures rule { IfOk result (λ reply. answers reply ≡ call_rule (catalog_of self.old) (site_of self.old) (known self.old) (Ok Request.Start) ((known self.old).session client)) }
+        ensures rule { IfOk result (λ reply. answers reply ≡ call_rule (catalog_of self.old) (site_of self.old) (known self.old) (Ok Request.Start) (session_of (known self.old) client)) }
         ensures room { IfOk result (CanAnswer self.new client) }
         ensures same { known self.new ≡ known self.old }
         ensures site { site_of self.new ≡ site_of self.old }
@@ -126,49 +139,80 @@ impl Site {
         if find(&self.transactions, client).is_some() {
             return Ok(Reply::Refused(Refusal::TxOpen));
         }
+        if self.transactions.len() >= MOST_OPEN {
+            return Ok(Reply::Refused(Refusal::SessionsFull));
+        }
+        // No memory holds so many starts that they have no number.
+        let number = self.starts.checked_add(1).ok_or(NoMemory)?;
         self.transactions.reserve(1)?;
         Ok(Reply::Started(Tid {
             site: self.site,
             epoch: self.epoch,
-            number: self.starts + 1,
+            number,
         }))
     }
 
+    /// Why an object is neither read nor written whole, if it isn't.
+    fn refusal_of(&self, oid: ObjId) -> Option<Refusal>
+        ensures { (other : Expected) → if_regular (map.get (catalog_of self.now).containers oid.container) other ≡ refused_or result other }
+    {
+        match self.catalog.kind(oid) {
+            None => Some(Refusal::UnknownContainer),
+            Some(Kind::Cset) => Some(Refusal::WrongKind),
+            Some(Kind::Regular) => None,
+        }
+    }
+
     fn plan_read(&self, client: u32, oid: ObjId) -> Mem<Reply>
-        ensures rule { IfOk result (λ reply. answers reply ≡ call_rule (catalog_of self.now) (site_of self.now) (known self.now) (Ok (Request.Read oid)) ((known self.now).session client)) }
+        ensures rule { IfOk result (λ reply. answers reply ≡ call_rule (catalog_of self.now) (site_of self.now) (known self.now) (Ok (Request.Read oid)) (session_of (known self.now) client)) }
         ensures room { IfOk result (CanAnswer self.now client) }
     {
         let Some(transaction) = find(&self.transactions, client) else {
             return Ok(Reply::Refused(Refusal::NoTx));
         };
-        if self.catalog.kind(oid).is_none() {
-            return Ok(Reply::Refused(Refusal::UnknownContainer));
+        if let Some(refusal) = self.refusal_of(oid) {
+            return Ok(Reply::Refused(refusal));
         }
         let snapshot = &transaction.snapshot;
         let value = value_read(&self.held, snapshot, &transaction.updates, oid).cloned()?;
         Ok(Reply::Value(value))
     }
 
-    fn plan_write(&mut self, client: u32, oid: ObjId) -> Mem<Reply>
-        ensures rule { (bytes : List ℕ) → IfOk result (λ reply. answers reply ≡ call_rule (catalog_of self.old) (site_of self.old) (known self.old) (Ok (Request.Write oid bytes)) ((known self.old).session client)) }
+    fn plan_write(&mut self, client: u32, oid: ObjId, value: &Bytes) -> Mem<Reply>
+        ensures rule { IfOk result (λ reply. answers reply ≡ call_rule (catalog_of self.old) (site_of self.old) (known self.old) (Ok (Request.Write oid value.now)) (session_of (known self.old) client)) }
         ensures room { IfOk result (CanAnswer self.new client) }
         ensures same { known self.new ≡ known self.old }
         ensures site { site_of self.new ≡ site_of self.old }
         ensures catalog { catalog_of self.new ≡ catalog_of self.old }
     {
-        if find(&self.transactions, client).is_none() {
-            return Ok(Reply::Refused(Refusal::NoTx));
-        }
-        if self.catalog.kind(oid).is_none() {
-            return Ok(Reply::Refused(Refusal::UnknownContainer));
+        if let Some(refusal) = self.refusal_to_write(client, oid, value) {
+            return Ok(Reply::Refused(refusal));
         }
         reserve_update(&mut self.transactions, client)?;
         Ok(Reply::Done)
     }
 
+    /// Why the value is not written, if it isn't.
+    fn refusal_to_write(&self, client: u32, oid: ObjId, value: &Bytes) -> Option<Refusal>
+        ensures { call_rule (catalog_of self.now) (site_of self.now) (known self.now) (Ok (Request.Write oid value.now)) (session_of (known self.now) client) ≡ refused_or result (answers Reply.Done) }
+    {
+        let Some(transaction) = find(&self.transactions, client) else {
+            return Some(Refusal::NoTx);
+        };
+        if let Some(refusal) = self.refusal_of(oid) {
+            return Some(refusal);
+        }
+        if value.len() > MOST_BYTES {
+            return Some(Refusal::TooLong);
+        }
+        if !has_place(&transaction.updates, oid, value) {
+            return Some(Refusal::TxFull);
+        }
+        None
+    }
+
     fn plan_commit(&mut self, client: u32) -> Mem<(Option<Record>, Reply)>
-        requires { CanCount (site_of self.old) (known self.old) }
-        ensures rule { IfOk result (λ p. expected p ≡ call_rule (catalog_of self.old) (site_of self.old) (known self.old) (Ok Request.Commit) ((known self.old).session client)) }
+        ensures rule { IfOk result (λ p. expected p ≡ call_rule (catalog_of self.old) (site_of self.old) (known self.old) (Ok Request.Commit) (session_of (known self.old) client)) }
         ensures keeps { IfOk result (λ p. CanKeep self.new p.0) }
         ensures answers { IfOk result (λ p. CanAnswer self.new client p.1) }
         ensures same { known self.new ≡ known self.old }
@@ -185,7 +229,12 @@ impl Site {
         if let Some((oid, version)) = conflict(&self.held, snapshot, &transaction.updates) {
             return Ok((None, Reply::Aborted(Cause::Modified { oid, version })));
         }
-        let seq = self.committed.get(self.site) + 1;
+        // No memory holds so many commits that they have no number.
+        let seq = self
+            .committed
+            .get(self.site)
+            .checked_add(1)
+            .ok_or(NoMemory)?;
         let tx = Tx {
             tid: transaction.tid,
             slow: 0,
@@ -201,7 +250,7 @@ impl Site {
     }
 
     fn plan_abort(&self, client: u32) -> Reply
-        ensures rule { answers result ≡ call_rule (catalog_of self.now) (site_of self.now) (known self.now) (Ok Request.Abort) ((known self.now).session client) }
+        ensures rule { answers result ≡ call_rule (catalog_of self.now) (site_of self.now) (known self.now) (Ok Request.Abort) (session_of (known self.now) client) }
         ensures room { CanAnswer self.now client result }
     {
         match find(&self.transactions, client) {
@@ -210,11 +259,45 @@ impl Site {
         }
     }
 
+    /// Whether the name may be that of a transaction that was started here.
+    fn is_issued(&self, tid: Tid) -> bool
+        ensures { result ≡ is_issued (known self.now) tid }
+    {
+        tid.epoch > 0
+            && tid.number > 0
+            && (tid.epoch < self.epoch || tid.epoch == self.epoch && tid.number <= self.starts)
+    }
+
+    /// How far a transaction of this site has come.
+    fn level_of(&self, tid: Tid) -> Level
+        ensures { result ≡ level_of (known self.now) tid }
+    {
+        if holds(&self.held, tid) {
+            Level::Visible
+        } else if has_open(&self.transactions, tid) {
+            Level::Running
+        } else {
+            Level::NotCommitted
+        }
+    }
+
+    fn tell_level(&self, tid: Tid) -> Reply
+        ensures rule { answers result ≡ tells_level (site_of self.now) (known self.now) tid }
+        ensures room { (client : ℕ) → CanAnswer self.now client result }
+    {
+        if tid.site != self.site {
+            return Reply::Refused(Refusal::WrongSite);
+        }
+        if !self.is_issued(tid) {
+            return Reply::Refused(Refusal::NotIssued);
+        }
+        Reply::Level(self.level_of(tid))
+    }
+
     /// Leaves what the rule's record and the reply leave. It takes no memory.
     pub fn apply(&mut self, plan: Plan)
         requires planned { IsPlan (catalog_of self.old) (site_of self.old) (known self.old) plan.input plan }
         requires room { HasRoom self.old plan }
-        requires counts { CanCount (site_of self.old) (known self.old) }
         ensures known { known self.new ≡ after (site_of self.old) (known self.old) (event_of plan.input) (Outcome.Replied plan.reply) plan.rec }
         ensures site { site_of self.new ≡ site_of self.old }
         ensures catalog { catalog_of self.new ≡ catalog_of self.old }
@@ -226,10 +309,9 @@ impl Site {
     }
 
     fn answer(&mut self, client: u32, call: Call, reply: Reply)
-        requires fresh { IsFresh ((known self.old).session client) reply }
+        requires rule { (call_rule (catalog_of self.old) (site_of self.old) (known self.old) call (session_of (known self.old) client)).outcome ≡ Outcome.Replied reply }
         requires room { CanAnswer self.old client reply }
-        requires counts { CanCount (site_of self.old) (known self.old) }
-        ensures known { known self.new ≡ answered (known self.old) (TrailEvent.Call client call) (Outcome.Replied reply) }
+        ensures known { known self.new ≡ answered (TrailEvent.Call client call) (Outcome.Replied reply) (known self.old) }
         ensures held { self.new.held ≡ self.old.held }
         ensures site { site_of self.new ≡ site_of self.old }
         ensures catalog { catalog_of self.new ≡ catalog_of self.old }
@@ -237,24 +319,24 @@ impl Site {
         match reply {
             Reply::Started(tid) => self.start(client, tid),
             Reply::Done => self.update(client, call),
-            Reply::Committed(_) | Reply::Aborted(_) | Reply::Ended => {
-                end_all(&mut self.transactions, client);
+            Reply::Committed(_) | Reply::Aborted(_) | Reply::Ended | Reply::Unsure(_) => {
+                end(&mut self.transactions, client);
             }
-            Reply::Value(_) | Reply::Refused(_) => {}
+            Reply::Value(_) | Reply::Level(_) | Reply::Refused(_) => {}
         }
     }
 
     fn start(&mut self, client: u32, tid: Tid)
-        requires none { session_among client self.old.transactions.items ≡ None }
+        requires none { session_of (known self.old) client ≡ None }
+        requires next { tid ≡ next_tid (site_of self.old) (known self.old) }
         requires room { vec_len self.old.transactions < vec_capacity self.old.transactions }
-        requires counts { self.old.starts + 1 < 2 ^ 64 }
-        ensures known { known self.new ≡ answered (known self.old) (TrailEvent.Call client (Ok Request.Start)) (Outcome.Replied (Reply.Started tid)) }
+        ensures known { known self.new ≡ answered (TrailEvent.Call client (Ok Request.Start)) (Outcome.Replied (Reply.Started tid)) (known self.old) }
         ensures held { self.new.held ≡ self.old.held }
         ensures site { site_of self.new ≡ site_of self.old }
         ensures catalog { catalog_of self.new ≡ catalog_of self.old }
     {
         let alloc = *self.transactions.allocator();
-        self.starts += 1;
+        self.starts = tid.number;
         self.transactions.push_reserved(Transaction {
             client,
             tid,
@@ -264,27 +346,99 @@ impl Site {
     }
 
     fn update(&mut self, client: u32, call: Call)
-        requires { IfSome (first_of client self.old.transactions.items) CanTake }
-        ensures known { known self.new ≡ answered (known self.old) (TrailEvent.Call client call) (Outcome.Replied Reply.Done) }
+        requires fits { IfSome (session_of (known self.old) client) (λ s. IsOpenAt (catalog_of self.old) (site_of self.old) (updated call s)) }
+        requires room { IfSome (first_of client self.old.transactions.items) CanTake }
+        ensures known { known self.new ≡ answered (TrailEvent.Call client call) (Outcome.Replied Reply.Done) (known self.old) }
         ensures held { self.new.held ≡ self.old.held }
         ensures site { site_of self.new ≡ site_of self.old }
         ensures catalog { catalog_of self.new ≡ catalog_of self.old }
     {
-        if let Ok(Request::Write(oid, bytes)) = call {
-            add_update(&mut self.transactions, client, Update::Write(oid, bytes));
+        if let Some(update) = update_of(call) {
+            add_update(&mut self.transactions, client, update);
         }
     }
 
     fn keep(&mut self, rec: Option<Record>)
         requires next { IsNext (site_of self.old) (known self.old) rec }
         requires room { CanKeep self.old rec }
-        ensures known { known self.new ≡ recorded (site_of self.old) (known self.old) rec }
+        ensures known { known self.new ≡ recorded (site_of self.old) rec (known self.old) }
         ensures site { site_of self.new ≡ site_of self.old }
         ensures catalog { catalog_of self.new ≡ catalog_of self.old }
     {
         if let Some(Record::Own(seq, tx)) = rec {
-            self.held.push_reserved(Held { seq, tx });
-            self.committed.raise(self.site, seq);
+            self.hold(seq, tx);
         }
+    }
+
+    fn hold(&mut self, seq: u64, tx: Tx)
+        requires next { seq ≡ next_seq (site_of self.old) (known self.old) }
+        requires short { All HasShortValue tx.updates }
+        requires room { vec_len self.old.held < vec_capacity self.old.held }
+        ensures known { known self.new ≡ recorded (site_of self.old) (Some (Record.Own seq tx)) (known self.old) }
+        ensures site { site_of self.new ≡ site_of self.old }
+        ensures catalog { catalog_of self.new ≡ catalog_of self.old }
+    {
+        self.held.push_reserved(Held { seq, tx });
+        self.committed.raise(self.site, seq);
+    }
+
+    /// Takes a record of the site's journal, behind those before it.
+    pub fn replay(&mut self, rec: Record) -> Result<(), ReplayFault>
+        requires sizes { CanBeRecorded rec }
+        ensures ok { OnOk result (CanFollow (catalog_of self.old) (site_of self.old) (known self.old) rec) }
+        ensures known { OnOk result (known self.new ≡ recorded (site_of self.old) (Some rec) (known self.old)) }
+        ensures unfit { IfErr result (IsReplayFault (catalog_of self.old) (site_of self.old) (known self.old) rec) }
+        ensures same { OnErr result (known self.new ≡ known self.old) }
+        ensures site { site_of self.new ≡ site_of self.old }
+        ensures catalog { catalog_of self.new ≡ catalog_of self.old }
+    {
+        match rec {
+            Record::Boot(epoch) => self.replay_boot(epoch),
+            Record::Own(seq, tx) => self.replay_own(seq, tx),
+        }
+    }
+
+    fn replay_boot(&mut self, epoch: u32) -> Result<(), ReplayFault>
+        ensures ok { OnOk result (CanFollow (catalog_of self.old) (site_of self.old) (known self.old) (Record.Boot epoch)) }
+        ensures known { OnOk result (known self.new ≡ recorded (site_of self.old) (Some (Record.Boot epoch)) (known self.old)) }
+        ensures unfit { IfErr result (IsReplayFault (catalog_of self.old) (site_of self.old) (known self.old) (Record.Boot epoch)) }
+        ensures same { OnErr result (known self.new ≡ known self.old) }
+        ensures site { site_of self.new ≡ site_of self.old }
+        ensures catalog { catalog_of self.new ≡ catalog_of self.old }
+    {
+        if epoch == 0 || epoch - 1 != self.epoch {
+            return Err(ReplayFault::Unfit);
+        }
+        self.epoch = epoch;
+        self.starts = 0;
+        Ok(())
+    }
+
+    fn replay_own(&mut self, seq: u64, tx: Tx) -> Result<(), ReplayFault>
+        requires sizes { CanBeSpelled tx }
+        ensures ok { OnOk result (CanFollow (catalog_of self.old) (site_of self.old) (known self.old) (Record.Own seq tx)) }
+        ensures known { OnOk result (known self.new ≡ recorded (site_of self.old) (Some (Record.Own seq tx)) (known self.old)) }
+        ensures unfit { IfErr result (IsReplayFault (catalog_of self.old) (site_of self.old) (known self.old) (Record.Own seq tx)) }
+        ensures same { OnErr result (known self.new ≡ known self.old) }
+        ensures site { site_of self.new ≡ site_of self.old }
+        ensures catalog { catalog_of self.new ≡ catalog_of self.old }
+    {
+        if !self.is_next_own(seq, &tx) {
+            return Err(ReplayFault::Unfit);
+        }
+        self.held.reserve(1).map_err(|_| ReplayFault::NoMemory)?;
+        self.hold(seq, tx);
+        Ok(())
+    }
+
+    fn is_next_own(&self, seq: u64, tx: &Tx) -> bool
+        ensures { IsTrue result ↔ IsNextOwn (catalog_of self.now) (site_of self.now) (known self.now) seq tx.now }
+    {
+        self.epoch > 0
+            && seq > 0
+            && seq - 1 == self.committed.get(self.site)
+            && tx.tid.site == self.site
+            && tx.slow == 0
+            && are_declared(&self.catalog, tx.updates.as_slice())
     }
 }

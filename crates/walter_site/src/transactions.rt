@@ -1,10 +1,10 @@
-ghost use Rattle.std.specs.Prelude.{◌≡◌, ◌<◌, ℕ, ◌∷◌, [], ◌++◌, nat_eq, Some, None, IfSome, IfNone, OnOk, length, option_map, if◌then◌else◌};
+ghost use Rattle.std.specs.Prelude.{◌≡◌, ◌<◌, Some, None, IfSome, IfNone, OnOk, length, map, filter, not, nat_eq, option_map, if◌then◌else◌};
 ghost use Rattle.std.specs.Option.{option_copied};
-ghost use Rattle.walter_site.specs.Sites.{first_of, session_among, session_of, IsPlaceOf, CanTake};
-ghost use Rattle.walter_trail.specs.Knowledge.{with_update};
+ghost use Rattle.walter_site.specs.Open.{as_session, sessions_of, first_of, IsPlaceOf, CanTake, AreApart, with_any};
+ghost use Rattle.walter_trail.specs.Knowledge.{Session, session_in, with_update, updated};
 
 use crate::transaction::Transaction;
-use walter_base::{Mem, Update};
+use walter_base::{Call, Mem, Request, Update};
 
 /// Where the client's first transaction is.
 pub fn place_of(transactions: &[Transaction], client: u32) -> Option<usize>
@@ -22,7 +22,7 @@ pub fn place_of(transactions: &[Transaction], client: u32) -> Option<usize>
 
 /// Makes room for one more update of the client's transaction.
 pub fn reserve_update(transactions: &mut [Transaction], client: u32) -> Mem<()>
-    ensures same { (c : ℕ) → session_among c transactions.new ≡ session_among c transactions.old }
+    ensures same { sessions_of transactions.new ≡ sessions_of transactions.old }
     ensures room { OnOk result (IfSome (first_of client transactions.new) CanTake) }
 {
     if let Some(place) = place_of(transactions, client) {
@@ -32,10 +32,21 @@ pub fn reserve_update(transactions: &mut [Transaction], client: u32) -> Mem<()>
     Ok(())
 }
 
+/// The update that a call asks for, if it asks for one.
+pub fn update_of(call: Call) -> Option<Update>
+    ensures { (s : Session) → updated call s ≡ with_any result s }
+{
+    match call {
+        Ok(Request::Write(oid, value)) => Some(Update::Write(oid, value)),
+        _ => None,
+    }
+}
+
 /// Adds an update to the client's transaction. It takes no memory.
 pub fn add_update(transactions: &mut [Transaction], client: u32, update: Update)
-    requires { IfSome (first_of client transactions.old) CanTake }
-    ensures { (c : ℕ) → session_among c transactions.new ≡ (if nat_eq c client then option_map (with_update update) (session_among c transactions.old) else session_among c transactions.old) }
+    requires room { IfSome (first_of client transactions.old) CanTake }
+    requires apart { AreApart (sessions_of transactions.old) }
+    ensures { sessions_of transactions.new ≡ map (λ s. if nat_eq client s.0 then (s.0, with_update update s.1) else s) (sessions_of transactions.old) }
 {
     if let Some(place) = place_of(transactions, client) {
         let transaction = &mut transactions[place];
@@ -43,16 +54,17 @@ pub fn add_update(transactions: &mut [Transaction], client: u32, update: Update)
     }
 }
 
-/// Removes the transactions of the client.
-pub fn end_all(transactions: &mut Vec<Transaction>, client: u32)
-    ensures { (c : ℕ) → session_among c transactions.new.items ≡ (if nat_eq c client then None else session_among c transactions.old.items) }
+/// Removes the transaction of the client.
+pub fn end(transactions: &mut Vec<Transaction>, client: u32)
+    ensures { sessions_of transactions.new.items ≡ filter (λ s. not (nat_eq client s.0)) (sessions_of transactions.old.items) }
 {
-    transactions.retain(|transaction| transaction.client != client);
+    transactions.retain(|transaction| client != transaction.client);
 }
 
 /// The client's first transaction.
 pub fn find(transactions: &[Transaction], client: u32) -> Option<&Transaction>
-    ensures { option_copied result ≡ first_of client transactions.entry.now }
+    ensures found { option_copied result ≡ first_of client transactions.entry.now }
+    ensures session { session_in client (sessions_of transactions.entry.now) ≡ option_map as_session (option_copied result) }
 {
     let place = place_of(transactions, client)?;
     Some(&transactions[place])

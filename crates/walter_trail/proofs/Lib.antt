@@ -1,4 +1,3 @@
 pub mod ConflictNamed
-pub mod EndsDecided
 pub mod MergeOrder
 pub mod NamedEntries

@@ -1,11 +1,11 @@
--- What a site knows, and what an event leaves of it. Each part goes by the record first, and by the reply.
-use Rattle.std.specs.Prelude.{ℕ, ◌+◌, nat_eq, nat_le, Bool, List, [], ◌∷◌, ◌++◌, filter, flat_map, replicate, slice_set, Option, Some, None, option_map, Result, Ok, Err, if◌then◌else◌}
+-- What a site that is up knows, and what an event leaves of it. Each part goes by the record first, and by the reply.
+use Rattle.std.specs.Prelude.{ℕ, ◌+◌, nat_eq, nat_le, Bool, not, List, [], ◌∷◌, ◌++◌, filter, flat_map, map, replicate, slice_set, Option, Some, None, Result, Ok, Err, if◌then◌else◌}
 use Rattle.walter_base.specs.declared.message.Record.{Record}
 use Rattle.walter_base.specs.declared.message.Record.TheVariants.{Boot, Own}
 use Rattle.walter_base.specs.declared.message.BadFrame.{BadFrame}
-use Rattle.walter_base.specs.declared.message.Reply.TheVariants.{Started, Value, Done, Committed, Aborted, Ended, Refused}
+use Rattle.walter_base.specs.declared.message.Reply.TheVariants.{Started, Value, Done, Committed, Aborted, Level, Ended, Unsure, Refused}
 use Rattle.walter_base.specs.declared.message.Request.{Request}
-use Rattle.walter_base.specs.declared.message.Request.TheVariants.{Start, Read, Write, Commit, Abort}
+use Rattle.walter_base.specs.declared.message.Request.TheVariants.{Start, Read, Write, Commit, Abort, Level as LevelAsked}
 use Rattle.walter_base.specs.declared.names.SiteId.{SiteId}
 use Rattle.walter_base.specs.declared.names.Tid.{Tid}
 use Rattle.walter_base.specs.declared.update.Update.{Update}
@@ -13,9 +13,9 @@ use Rattle.walter_base.specs.declared.update.Update.TheVariants.{Write as WriteO
 use Rattle.walter_base.specs.Vectors.{entry_at}
 use Rattle.walter_trail.specs.declared.held.Held.{Held}
 use Rattle.walter_trail.specs.declared.trail.Outcome.{Outcome}
-use Rattle.walter_trail.specs.declared.trail.Outcome.TheVariants.{Replied, Taken, Passed}
+use Rattle.walter_trail.specs.declared.trail.Outcome.TheVariants.{Replied, Taken, Passed, Failed, Full, Memory, Down, Refused as RefusedRestart}
 use Rattle.walter_trail.specs.declared.trail.TrailEvent.{TrailEvent}
-use Rattle.walter_trail.specs.declared.trail.TrailEvent.TheVariants.{Call, Restart}
+use Rattle.walter_trail.specs.declared.trail.TrailEvent.TheVariants.{Call, Stop, Restart}
 
 -- an open transaction of a client: its name, its snapshot as a vector, its updates in order
 pub record Session : Type 0 where
@@ -23,18 +23,30 @@ pub record Session : Type 0 where
   pub snapshot : List ℕ
   pub updates : List Update
 
+-- a client with its open transaction
+abbrev pub Open : Type 0
+Open = ℕ × Session
+
 -- the epoch, the starts in it, how many transactions of each site are committed here, the transactions held in order,
--- and the session of each client
+-- and the open ones with their clients, in the order of their starts
 pub record Knowledge : Type 0 where
   pub epoch : ℕ
   pub starts : ℕ
   pub committed : List ℕ
   pub held : List Held
-  pub session : ℕ → Option Session
+  pub sessions : List Open
 
 -- what a site knows before its first event
 abbrev pub fresh : ℕ → Knowledge
-fresh sites = record { epoch = 0; starts = 0; committed = replicate sites 0; held = []; session = λ client. None }
+fresh sites = record { epoch = 0; starts = 0; committed = replicate sites 0; held = []; sessions = [] }
+
+-- the open transaction of a client, if it has one
+abbrev pub session_in : ℕ → List Open → Option Session
+session_in client [] = None
+session_in client (s ∷ ss) = if nat_eq client s.0 then Some s.1 else session_in client ss
+
+abbrev pub session_of : Knowledge → ℕ → Option Session
+session_of K client = session_in client K.sessions
 
 -- whether the vector sees a transaction that is held
 abbrev pub sees : List ℕ → Held → Bool
@@ -56,14 +68,7 @@ starts_booted (Some (Own seq tx)) starts = starts
 
 abbrev pub starts_replied : Outcome → ℕ → ℕ
 starts_replied (Replied (Started tid)) starts = starts + 1
-starts_replied (Replied (Value value)) starts = starts
-starts_replied (Replied Done) starts = starts
-starts_replied (Replied (Committed version)) starts = starts
-starts_replied (Replied (Aborted cause)) starts = starts
-starts_replied (Replied Ended) starts = starts
-starts_replied (Replied (Refused refusal)) starts = starts
-starts_replied Taken starts = starts
-starts_replied Passed starts = starts
+starts_replied outcome starts = starts
 
 abbrev pub committed_after : SiteId → Option Record → List ℕ → List ℕ
 committed_after i None committed = committed
@@ -75,44 +80,50 @@ held_after None held = held
 held_after (Some (Boot next)) held = held
 held_after (Some (Own seq tx)) held = held ++ record { seq = seq; tx = tx } ∷ []
 
--- the sessions, where the event's client gets this one
-abbrev pub with_session : TrailEvent → Option Session → (ℕ → Option Session) → ℕ → Option Session
-with_session (Call client call) new session c = if nat_eq c client then new else session c
-with_session Restart new session c = session c
+-- what is known after a record
+abbrev pub recorded : SiteId → Option Record → Knowledge → Knowledge
+recorded i rec K = record K { epoch = epoch_after rec K.epoch; starts = starts_booted rec K.starts; committed = committed_after i rec K.committed; held = held_after rec K.held }
+
+-- the sessions with one more, of the event's client
+abbrev pub opened : TrailEvent → Session → List Open → List Open
+opened (Call client call) new sessions = sessions ++ (client, new) ∷ []
+opened event new sessions = sessions
+
+-- the sessions without that of the event's client
+abbrev pub closed : TrailEvent → List Open → List Open
+closed (Call client call) sessions = filter (λ s. not (nat_eq client s.0)) sessions
+closed event sessions = sessions
 
 abbrev pub with_update : Update → Session → Session
 with_update update s = record s { updates = s.updates ++ update ∷ [] }
 
 -- the session with the update that was asked for
-abbrev pub updated : Result Request BadFrame → Option Session → Option Session
-updated (Ok (Write oid bytes)) session = option_map (with_update (WriteOf oid bytes)) session
-updated (Ok Start) session = session
-updated (Ok (Read oid)) session = session
-updated (Ok Commit) session = session
-updated (Ok Abort) session = session
-updated (Err bad) session = session
+abbrev pub updated : Result Request BadFrame → Session → Session
+updated (Ok (Write oid bytes)) s = with_update (WriteOf oid bytes) s
+updated call s = s
 
-abbrev pub session_done : TrailEvent → (ℕ → Option Session) → ℕ → Option Session
-session_done (Call client call) session c = if nat_eq c client then updated call (session c) else session c
-session_done Restart session c = session c
+-- the sessions where that of the event's client has the update
+abbrev pub done : TrailEvent → List Open → List Open
+done (Call client call) sessions = map (λ s. if nat_eq client s.0 then (s.0, updated call s.1) else s) sessions
+done event sessions = sessions
 
-abbrev pub session_after : TrailEvent → Outcome → List ℕ → (ℕ → Option Session) → ℕ → Option Session
-session_after event (Replied (Started tid)) committed session = with_session event (Some (record { tid = tid; snapshot = committed; updates = [] })) session
-session_after event (Replied Done) committed session = session_done event session
-session_after event (Replied (Committed version)) committed session = with_session event None session
-session_after event (Replied (Aborted cause)) committed session = with_session event None session
-session_after event (Replied Ended) committed session = with_session event None session
-session_after event (Replied (Value value)) committed session = session
-session_after event (Replied (Refused refusal)) committed session = session
-session_after event Taken committed session = session
-session_after event Passed committed session = session
+abbrev pub sessions_after : TrailEvent → Outcome → List ℕ → List Open → List Open
+sessions_after event (Replied (Started tid)) committed sessions = opened event (record { tid = tid; snapshot = committed; updates = [] }) sessions
+sessions_after event (Replied Done) committed sessions = done event sessions
+sessions_after event (Replied (Committed version)) committed sessions = closed event sessions
+sessions_after event (Replied (Aborted cause)) committed sessions = closed event sessions
+sessions_after event (Replied Ended) committed sessions = closed event sessions
+sessions_after event (Replied (Unsure tid)) committed sessions = closed event sessions
+sessions_after event outcome committed sessions = sessions
+
+-- what is known after a reply
+abbrev pub answered : TrailEvent → Outcome → Knowledge → Knowledge
+answered event outcome K = record K { starts = starts_replied outcome K.starts; sessions = sessions_after event outcome K.committed K.sessions }
 
 -- what is known after an event that came to this outcome and made this record stable
 abbrev pub after : SiteId → Knowledge → TrailEvent → Outcome → Option Record → Knowledge
-after i K event outcome wrote = record {
-  epoch = epoch_after wrote K.epoch;
-  starts = starts_replied outcome (starts_booted wrote K.starts);
-  committed = committed_after i wrote K.committed;
-  held = held_after wrote K.held;
-  session = session_after event outcome K.committed K.session;
-}
+after i K event outcome wrote = recorded i wrote (answered event outcome K)
+
+-- what is left of it where the site loses its memory: what its records tell
+abbrev pub lost : Knowledge → Knowledge
+lost K = record K { starts = 0; sessions = [] }

@@ -1,6 +1,7 @@
 pub mod Knowledge
+pub mod Standing
 pub mod Conflicts
 pub mod Rule
+pub mod Records
 pub mod Trails
-pub mod Ends
 pub mod Merges

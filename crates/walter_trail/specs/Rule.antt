@@ -1,17 +1,22 @@
--- The rules of a site: what an event is to come to, by what the site knows.
-use Rattle.std.specs.Prelude.{ℕ, zero, suc, ◌+◌, List, [], ◌∷◌, Option, Some, None, Result, Ok, Err}
+-- The rules of a site: what an event is to come to, by how the site stands.
+use Rattle.std.specs.Prelude.{ℕ, ◌+◌, nat_eq, nat_le, nat_lt, Bool, true, false, not, ◌&&◌, ◌||◌, List, [], ◌∷◌, ◌++◌, length, Option, Some, None, Result, Ok, Err, if◌then◌else◌}
 use Rattle.std.specs.FinMap.{get}
+use Rattle.std.specs.List.{list_any}
 use Rattle.walter_base.specs.declared.catalog.Catalog.{Catalog}
 use Rattle.walter_base.specs.declared.containers.Container.{Container}
 use Rattle.walter_base.specs.declared.message.BadFrame.{BadFrame as Bad}
+use Rattle.walter_base.specs.declared.message.Level.{Level as HowFar}
+use Rattle.walter_base.specs.declared.message.Level.TheVariants.{NotCommitted, Running, Visible}
 use Rattle.walter_base.specs.declared.message.Record.{Record}
 use Rattle.walter_base.specs.declared.message.Record.TheVariants.{Boot, Own}
 use Rattle.walter_base.specs.declared.message.Refusal.{Refusal}
-use Rattle.walter_base.specs.declared.message.Refusal.TheVariants.{UnknownContainer, NoTx, TxOpen, BadFrame, Memory}
+use Rattle.walter_base.specs.declared.message.Refusal.TheVariants.{UnknownContainer, WrongKind, TxFull, TooLong, NoTx, TxOpen, Gone, BadFrame, Down as IsDown, SessionsFull, Memory, WrongSite, NotIssued}
 use Rattle.walter_base.specs.declared.message.Reply.{Reply}
-use Rattle.walter_base.specs.declared.message.Reply.TheVariants.{Started, Value, Done, Committed, Aborted, Ended, Refused}
+use Rattle.walter_base.specs.declared.message.Reply.TheVariants.{Started, Value, Done, Committed, Aborted, Level, Ended, Refused}
 use Rattle.walter_base.specs.declared.message.Request.{Request}
-use Rattle.walter_base.specs.declared.message.Request.TheVariants.{Start, Read, Write, Commit, Abort}
+use Rattle.walter_base.specs.declared.message.Request.TheVariants.{Start, Read, Write, Commit, Abort, Level as LevelAsked}
+use Rattle.walter_base.specs.declared.names.Kind.{Kind}
+use Rattle.walter_base.specs.declared.names.Kind.TheVariants.{Regular, Cset}
 use Rattle.walter_base.specs.declared.names.SiteId.{SiteId}
 use Rattle.walter_base.specs.declared.names.Tid.{Tid}
 use Rattle.walter_base.specs.declared.names.ObjId.{ObjId}
@@ -19,13 +24,18 @@ use Rattle.walter_base.specs.declared.names.Version.{Version}
 use Rattle.walter_base.specs.declared.transaction.Cause.TheVariants.{Modified, Asked}
 use Rattle.walter_base.specs.declared.transaction.Tx.{Tx}
 use Rattle.walter_base.specs.declared.update.Update.{Update}
+use Rattle.walter_base.specs.declared.update.Update.TheVariants.{Write as WriteOf}
+use Rattle.walter_base.specs.Names.{same_site, same_tid}
+use Rattle.walter_base.specs.Sizes.{size_of_updates}
 use Rattle.walter_base.specs.Values.{value_of}
 use Rattle.walter_base.specs.Vectors.{entry_at}
+use Rattle.walter_trail.specs.declared.held.Held.{Held}
 use Rattle.walter_trail.specs.declared.trail.Outcome.{Outcome}
-use Rattle.walter_trail.specs.declared.trail.Outcome.TheVariants.{Replied, Taken, Passed}
+use Rattle.walter_trail.specs.declared.trail.Outcome.TheVariants.{Replied, Taken, Passed, Down}
 use Rattle.walter_trail.specs.declared.trail.TrailEvent.{TrailEvent}
-use Rattle.walter_trail.specs.declared.trail.TrailEvent.TheVariants.{Call, Restart}
-use Rattle.walter_trail.specs.Knowledge.{Knowledge, Session, read_updates}
+use Rattle.walter_trail.specs.declared.trail.TrailEvent.TheVariants.{Call, Stop, Restart}
+use Rattle.walter_trail.specs.Knowledge.{Knowledge, Session, Open, session_of, read_updates}
+use Rattle.walter_trail.specs.Standing.{Standing}
 use Rattle.walter_trail.specs.Conflicts.{conflict_of}
 
 -- what an event is to bring: at most one record, and an outcome
@@ -51,6 +61,10 @@ next_seq i K = entry_at K.committed i + 1
 abbrev pub tx_of : Session → Tx
 tx_of s = record { tid = s.tid; slow = 0; start = s.snapshot; updates = s.updates }
 
+-- a site has 256 transactions open at most
+abbrev pub starts_new : SiteId → Knowledge → Expected
+starts_new i K = if nat_lt (length K.sessions) 256 then answers (Started (next_tid i K)) else refuses SessionsFull
+
 -- a transaction that meets no conflict commits, under the next number; one that meets one is aborted over it
 abbrev pub decides : SiteId → Knowledge → Session → Option (ObjId × Version) → Expected
 decides i K s None =
@@ -62,45 +76,95 @@ abbrev pub commits : SiteId → Knowledge → Session → List Update → Expect
 commits i K s [] = answers Ended
 commits i K s (update ∷ updates) = decides i K s (conflict_of K.held s.snapshot (update ∷ updates))
 
--- an object of no container of the catalog is refused
-abbrev pub if_known : Option Container → Expected → Expected
-if_known None expected = refuses UnknownContainer
-if_known (Some container) expected = expected
+-- an object of no container of the catalog is refused, and a set that counts is neither read nor written whole
+abbrev pub if_whole : Kind → Expected → Expected
+if_whole Regular expected = expected
+if_whole Cset expected = refuses WrongKind
 
--- what a client is answered, without a session and with one. The refusals come in one order: a bad frame, the want of a
--- session or one too many, an unknown container.
+abbrev pub if_regular : Option Container → Expected → Expected
+if_regular None expected = refuses UnknownContainer
+if_regular (Some container) expected = if_whole container.kind expected
+
+-- whether a transaction has a place for one more update: it has 256 at most, spelled in at most 60,000 bytes
+abbrev pub has_place : List Update → Update → Bool
+has_place updates update = nat_lt (length updates) 256 && nat_le (size_of_updates (updates ++ update ∷ [])) 60000
+
+-- a value has 4,096 bytes at most
+abbrev pub writes : Session → ObjId → List ℕ → Expected
+writes s oid bytes =
+    if nat_lt 4096 (length bytes) then refuses TooLong
+    else if has_place s.updates (WriteOf oid bytes) then answers Done
+    else refuses TxFull
+
+-- whether a transaction is committed here, and whether it is open here
+abbrev pub is_held : Tid → List Held → Bool
+is_held tid held = list_any (λ h. same_tid tid h.tx.tid) held
+
+abbrev pub is_open : Tid → List Open → Bool
+is_open tid sessions = list_any (λ s. same_tid tid s.1.tid) sessions
+
+-- How far a transaction of this site has come. At the one site each commit is durable and visible at once.
+abbrev pub level_of : Knowledge → Tid → HowFar
+level_of K tid = if is_held tid K.held then Visible else if is_open tid K.sessions then Running else NotCommitted
+
+-- whether the name may be that of a transaction: one of an earlier epoch, or of one that was started in this one
+abbrev pub is_issued : Knowledge → Tid → Bool
+is_issued K tid =
+    nat_lt 0 tid.epoch && (nat_lt 0 tid.number
+    && (nat_lt tid.epoch K.epoch || (nat_eq tid.epoch K.epoch && nat_le tid.number K.starts)))
+
+abbrev pub tells_level : SiteId → Knowledge → Tid → Expected
+tells_level i K tid =
+    if not (same_site tid.site i) then refuses WrongSite
+    else if is_issued K tid then answers (Level (level_of K tid))
+    else refuses NotIssued
+
+-- what a client is answered at a site that is up, without a session and with one. The refusals come in one order: a bad
+-- frame; the want of a session, one too many of the client's or of all; an unknown container, the wrong kind; too long a
+-- value, too full a transaction; a wrong site, a name that wasn't given.
 abbrev pub call_rule : Catalog → SiteId → Knowledge → Result Request Bad → Option Session → Expected
 call_rule catalog i K (Err bad) session = refuses (BadFrame bad.at)
-call_rule catalog i K (Ok Start) None = answers (Started (next_tid i K))
+call_rule catalog i K (Ok Start) None = starts_new i K
 call_rule catalog i K (Ok Start) (Some s) = refuses TxOpen
 call_rule catalog i K (Ok (Read oid)) None = refuses NoTx
-call_rule catalog i K (Ok (Read oid)) (Some s) = if_known (get catalog.containers oid.container) (answers (Value (value_of oid (read_updates K s))))
+call_rule catalog i K (Ok (Read oid)) (Some s) = if_regular (get catalog.containers oid.container) (answers (Value (value_of oid (read_updates K s))))
 call_rule catalog i K (Ok (Write oid bytes)) None = refuses NoTx
-call_rule catalog i K (Ok (Write oid bytes)) (Some s) = if_known (get catalog.containers oid.container) (answers Done)
+call_rule catalog i K (Ok (Write oid bytes)) (Some s) = if_regular (get catalog.containers oid.container) (writes s oid bytes)
 call_rule catalog i K (Ok Commit) None = refuses NoTx
 call_rule catalog i K (Ok Commit) (Some s) = commits i K s s.updates
 call_rule catalog i K (Ok Abort) None = refuses NoTx
 call_rule catalog i K (Ok Abort) (Some s) = answers (Aborted Asked)
+call_rule catalog i K (Ok (LevelAsked tid)) session = tells_level i K tid
 
--- a site without an epoch boots into the first; one that is up passes
-abbrev pub restart_rule : ℕ → Expected
-restart_rule zero = record { wrote = Some (Boot 1); outcome = Taken }
-restart_rule (suc epoch) = record { wrote = None; outcome = Passed }
+-- a client whose transaction was lost in a stop is told so in the place of an answer, but to a bad frame or a Level
+abbrev pub if_told : Result Request Bad → Option Tid → Expected → Expected
+if_told call None expected = expected
+if_told (Err bad) (Some tid) expected = expected
+if_told (Ok (LevelAsked asked)) (Some tid) expected = expected
+if_told (Ok Start) (Some tid) expected = refuses (Gone tid)
+if_told (Ok (Read oid)) (Some tid) expected = refuses (Gone tid)
+if_told (Ok (Write oid bytes)) (Some tid) expected = refuses (Gone tid)
+if_told (Ok Commit) (Some tid) expected = refuses (Gone tid)
+if_told (Ok Abort) (Some tid) expected = refuses (Gone tid)
 
-abbrev pub rule : Catalog → SiteId → Knowledge → TrailEvent → Expected
-rule catalog i K (Call client call) = call_rule catalog i K call (K.session client)
-rule catalog i K Restart = restart_rule K.epoch
+-- what a client is answered at a site that is down
+abbrev pub down_rule : Result Request Bad → Expected
+down_rule (Err bad) = refuses (BadFrame bad.at)
+down_rule (Ok request) = refuses IsDown
 
--- an event that may want memory: not a bad frame, nor the end of a transaction that is asked for
-abbrev pub TakesMemory : TrailEvent → Type 0
-TakesMemory (Call client (Ok Start)) = Unit {0}
-TakesMemory (Call client (Ok (Read oid))) = Unit {0}
-TakesMemory (Call client (Ok (Write oid bytes))) = Unit {0}
-TakesMemory (Call client (Ok Commit)) = Unit {0}
-TakesMemory (Call client (Ok Abort)) = ⊥
-TakesMemory (Call client (Err bad)) = ⊥
-TakesMemory Restart = ⊥
+abbrev pub rule : Catalog → SiteId → Standing → TrailEvent → Expected
+rule catalog i S (Call client call) =
+    if S.up then if_told call (S.gone client) (call_rule catalog i S.knows call (session_of S.knows client)) else down_rule call
+rule catalog i S Stop = record { wrote = None; outcome = if S.up then Taken else Down }
+rule catalog i S Restart =
+    if S.up then record { wrote = None; outcome = Passed } else record { wrote = Some (Boot (S.knows.epoch + 1)); outcome = Taken }
 
--- what a call comes to where memory runs out: nothing but a refusal
-abbrev pub no_memory : Expected
-no_memory = refuses Memory
+-- a call that may want memory: not a bad frame, nor the end of a transaction that is asked for, nor a Level
+abbrev pub MayWant : Result Request Bad → Type 0
+MayWant (Err bad) = ⊥
+MayWant (Ok Start) = Unit {0}
+MayWant (Ok (Read oid)) = Unit {0}
+MayWant (Ok (Write oid bytes)) = Unit {0}
+MayWant (Ok Commit) = Unit {0}
+MayWant (Ok Abort) = ⊥
+MayWant (Ok (LevelAsked tid)) = ⊥

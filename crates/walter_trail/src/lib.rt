@@ -7,7 +7,7 @@ mod merging;
 mod trail;
 
 pub use held::Held;
-pub use laws::{commits_are_decided, conflicts_are_named};
+pub use laws::conflicts_are_named;
 pub use merging::{Merged, merge};
 pub use trail::{Entry, Outcome, Trail, TrailEvent};
 

@@ -11,7 +11,9 @@ fn opening(stamp: u64) -> Entry {
         stamp,
         event: TrailEvent::Restart,
         outcome: Outcome::Taken,
+        kept: None,
         wrote: Some(Record::Boot(1)),
+        flight: None,
     }
 }
 
@@ -65,6 +67,9 @@ fn entries_are_copied(rt: HostRuntime) -> Result<(), Fail> {
     let done = Outcome::Replied(Reply::Done).clone()?;
     assert!(rt; matches!(done, Outcome::Replied(Reply::Done)));
     assert!(rt; matches!(Outcome::Passed.clone()?, Outcome::Passed));
+    let full = Outcome::Full { need: 9, left: 8 }.clone()?;
+    assert!(rt; matches!(full, Outcome::Full { need: 9, left: 8 }));
+    assert!(rt; matches!(TrailEvent::Stop.clone()?, TrailEvent::Stop));
     let copy = opening(7).clone()?;
     assert_eq!(rt; copy.stamp, 7);
     assert!(rt; matches!(copy.wrote, Some(Record::Boot(1))));

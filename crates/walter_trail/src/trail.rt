@@ -9,6 +9,8 @@ use walter_base::{Call, Record, Reply};
 pub enum TrailEvent {
     /// A client, by its number in the scenario, sends a frame.
     Call { client: u32, call: Call },
+    /// The site loses its memory.
+    Stop,
     /// The site is to come up.
     Restart,
 }
@@ -28,6 +30,7 @@ impl Clone for TrailEvent {
                     call,
                 })
             }
+            TrailEvent::Stop => Ok(TrailEvent::Stop),
             TrailEvent::Restart => Ok(TrailEvent::Restart),
         }
     }
@@ -42,6 +45,16 @@ pub enum Outcome {
     Taken,
     /// Nothing changed.
     Passed,
+    /// A call on the disk failed, and the site is down.
+    Failed,
+    /// The journal has no place for the record: so many bytes are needed, and so many left.
+    Full { need: u64, left: u64 },
+    /// Memory ran out, and nothing changed.
+    Memory,
+    /// The site is down already.
+    Down,
+    /// The journal is not one that such a site left. No site whose disk tells what it holds comes to this.
+    Refused,
 }
 
 impl Clone for Outcome {
@@ -52,17 +65,31 @@ impl Clone for Outcome {
             Outcome::Replied(reply) => Ok(Outcome::Replied(reply.clone()?)),
             Outcome::Taken => Ok(Outcome::Taken),
             Outcome::Passed => Ok(Outcome::Passed),
+            Outcome::Failed => Ok(Outcome::Failed),
+            Outcome::Full { need, left } => Ok(Outcome::Full {
+                need: *need,
+                left: *left,
+            }),
+            Outcome::Memory => Ok(Outcome::Memory),
+            Outcome::Down => Ok(Outcome::Down),
+            Outcome::Refused => Ok(Outcome::Refused),
         }
     }
 }
 
-/// One thing that happened at a site: its stamp, the event, what it came to, and the record that it made stable.
+/// One thing that happened at a site.
 #[derive(Debug, Drop)]
 pub struct Entry {
     pub stamp: u64,
     pub event: TrailEvent,
+    /// What it came to.
     pub outcome: Outcome,
+    /// The record that was in flight, where a restart found it in the journal.
+    pub kept: Option<Record>,
+    /// The record that the event made stable.
     pub wrote: Option<Record>,
+    /// The record that met a fault of the disk. It is in the journal or not: the next restart that ends well finds out.
+    pub flight: Option<Record>,
 }
 
 impl Clone for Entry {
@@ -73,7 +100,9 @@ impl Clone for Entry {
             stamp: self.stamp,
             event: self.event.clone()?,
             outcome: self.outcome.clone()?,
+            kept: self.kept.clone()?,
             wrote: self.wrote.clone()?,
+            flight: self.flight.clone()?,
         })
     }
 }

@@ -1,5 +1,11 @@
+pub mod EndsDecided
+pub mod ExampleRuns
+pub mod Given
+pub mod HeldNames
+pub mod Journaled
 pub mod OneTrail
 pub mod Rows
-pub mod SpelledSteps
-pub mod SpelledRun
 pub mod RulePromises
+pub mod SessionLists
+pub mod SpelledRun
+pub mod SpelledSteps

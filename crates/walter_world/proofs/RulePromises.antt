@@ -1,116 +1,77 @@
--- What the rule says of aborts and of commits.
-use Rattle.std.proofs.Common.{◌≡◌, ◌≢◌, ℕ, zero, suc, List, [], ◌∷◌, refl, ap, sym, ◌∙◌, subst, Option, Some, None, inl, inr, Result, Ok, Err}
-use Rattle.std.specs.FinMap.{get}
+-- What each right entry promises of aborts and of commits.
+use Rattle.std.proofs.Common.{◌≡◌, ℕ, ◌<◌, Bool, List, [], ◌∷◌, Some, None, IfSome, Ok, refl, ap, sym, ◌∙◌, subst, if◌then◌else◌}
 use Rattle.walter_base.specs.declared.catalog.Catalog.{Catalog}
-use Rattle.walter_base.specs.declared.containers.Container.{Container}
-use Rattle.walter_base.specs.declared.message.BadFrame.{BadFrame}
-use Rattle.walter_base.specs.declared.message.Reply.{Reply}
-use Rattle.walter_base.specs.declared.message.Request.{Request}
-use Rattle.walter_base.specs.declared.message.Request.TheVariants.{Start, Read, Write, Commit, Abort}
-use Rattle.walter_base.specs.declared.message.Reply.TheVariants.{Value, Done}
-use Rattle.walter_base.specs.declared.names.ObjId.{ObjId}
+use Rattle.walter_base.specs.declared.message.Record.{Record}
+use Rattle.walter_base.specs.declared.message.Record.TheVariants.{Own}
+use Rattle.walter_base.specs.declared.message.Request.TheVariants.{Commit}
 use Rattle.walter_base.specs.declared.names.SiteId.{SiteId}
-use Rattle.walter_base.specs.declared.names.Version.{Version}
 use Rattle.walter_base.specs.declared.update.Update.{Update}
-use Rattle.walter_base.specs.Values.{value_of}
 use Rattle.walter_trail.specs.declared.trail.Entry.{Entry}
-use Rattle.walter_trail.specs.declared.trail.Outcome.{Outcome}
-use Rattle.walter_trail.specs.declared.trail.Outcome.TheVariants.{Replied}
 use Rattle.walter_trail.specs.declared.trail.TrailEvent.{TrailEvent}
-use Rattle.walter_trail.specs.declared.trail.TrailEvent.TheVariants.{Call, Restart}
-use Rattle.walter_trail.specs.Conflicts.{conflict_of, IsSeenWhole}
-use Rattle.walter_trail.specs.Knowledge.{Knowledge, Session, read_updates}
-use Rattle.walter_trail.specs.Rule.{answers, call_rule, if_known, commits, decides, restart_rule, rule}
-use Rattle.walter_trail.specs.Trails.{knowledge, IsRightEntry, AreRight}
-use Rattle.walter_trail.proofs.ConflictNamed.{conflict_named, no_conflict_named}
-use Rattle.walter_world.specs.Promises.{IsNamed, AreNamed, IsCommitAnswer, AnswersCommits}
+use Rattle.walter_trail.specs.Conflicts.{IsSeenWhole}
+use Rattle.walter_trail.specs.Knowledge.{Knowledge, Session, session_of}
+use Rattle.walter_trail.specs.Rule.{Expected, decides, commits, call_rule, if_told, down_rule, rule, next_seq, tx_of}
+use Rattle.walter_trail.specs.Standing.{Standing, Came, settled}
+use Rattle.walter_trail.specs.Trails.{standing, came_of, need_of, left_behind, FitsIn, failure, want, fullness, Comes, ruled, met_fault, unread, no_memory, full, IsRightEntry, AreRight}
+use Rattle.walter_trail.proofs.ConflictNamed.{no_conflict_named}
+use Rattle.walter_world.specs.Promises.{AreNamed, IsFree, committed, unsure, full as is_full, no_memory as wants_memory, IsAnswered, AnswersCommits}
+use Rattle.walter_world.proofs.EndsDecided.{settled_call, entry_named}
 
--- an answer that is no abort needs no cause, of a known container or an unknown one
-named_known : (K : Knowledge) (event : TrailEvent) (container : Option Container) (reply : Reply) → IsNamed K event (Replied reply)
-    → IsNamed K event (if_known container (answers reply)).outcome
-named_known K event None reply named = tt
-named_known K event (Some container) reply named = named
+pub right_named : (catalog : Catalog) (capacity : ℕ) (i : SiteId) (newest_first : List Entry) → AreRight catalog capacity i newest_first
+    → AreNamed catalog i newest_first
+right_named catalog capacity i [] right = tt
+right_named catalog capacity i (e ∷ older) right = (right_named catalog capacity i older right.0, entry_named catalog capacity i older e right.1)
 
-module _ (catalog : Catalog) (i : SiteId) (K : Knowledge) where
-  decided_named : (client : ℕ) (s : Session) (found : Option (ObjId × Version)) → K.session client ≡ Some s → conflict_of K.held s.snapshot s.updates ≡ found
-      → IsNamed K (Call client (Ok Commit)) (decides i K s found).outcome
-  decided_named client s None has found = tt
-  decided_named client s (Some conflict) has found = record {
-    client = client;
-    session = s;
-    asked = refl;
-    open_ = has;
-    conflict = (conflict_named K.held s.snapshot s.updates conflict.0 conflict.1).0 found;
-  }
+-- the record and the answer of a commit that meets no conflict
+abbrev pub commit_of : SiteId → Knowledge → Session → Expected
+commit_of i K s = decides i K s None
 
-  commit_named : (client : ℕ) (s : Session) (updates : List Update) → K.session client ≡ Some s → s.updates ≡ updates
-      → IsNamed K (Call client (Ok Commit)) (commits i K s updates).outcome
-  commit_named client s [] has are = tt
-  commit_named client s (update ∷ updates) has are =
-      decided_named client s (conflict_of K.held s.snapshot (update ∷ updates)) has (ap (λ us. conflict_of K.held s.snapshot us) are)
+module _ (catalog : Catalog) (capacity : ℕ) (i : SiteId) (S : Standing) (event : TrailEvent) (s : Session) (free : IsFree S event s) where
+  abbrev pub due : Record
+  due = Own (next_seq i S.knows) (tx_of s)
 
-  call_named : (client : ℕ) (call : Result Request BadFrame) (session : Option Session) → K.session client ≡ session
-      → IsNamed K (Call client call) (call_rule catalog i K call session).outcome
-  call_named client (Err bad) session has = tt
-  call_named client (Ok Start) None has = tt
-  call_named client (Ok Start) (Some s) has = tt
-  call_named client (Ok (Read oid)) None has = tt
-  call_named client (Ok (Read oid)) (Some s) has = named_known K (Call client (Ok (Read oid))) (get catalog.containers oid.container) (Value (value_of oid (read_updates K s))) tt
-  call_named client (Ok (Write oid bytes)) None has = tt
-  call_named client (Ok (Write oid bytes)) (Some s) has = named_known K (Call client (Ok (Write oid bytes))) (get catalog.containers oid.container) Done tt
-  call_named client (Ok Commit) None has = tt
-  call_named client (Ok Commit) (Some s) has = commit_named client s s.updates has refl
-  call_named client (Ok Abort) None has = tt
-  call_named client (Ok Abort) (Some s) has = (client, refl)
+  commits_whole : (updates : List Update) → s.updates ≡ updates → commits i S.knows s updates ≡ commit_of i S.knows s
+  commits_whole [] none = absurd (free.some none)
+  commits_whole (u ∷ us) are =
+      ap (decides i S.knows s) ((no_conflict_named S.knows.held s.snapshot (u ∷ us)).1 (subst (IsSeenWhole S.knows.held s.snapshot) are free.seen))
 
-  restart_named : (epoch : ℕ) → IsNamed K Restart (restart_rule epoch).outcome
-  restart_named zero = tt
-  restart_named (suc epoch) = tt
+  -- the rule commits it
+  rule_commits : rule catalog i S event ≡ commit_of i S.knows s
+  rule_commits =
+      let client = free.asks.client in
+      ap (rule catalog i S) free.asks.asked
+      ∙ (ap (λ (up : Bool). if up then if_told (Ok Commit) (S.gone client) (call_rule catalog i S.knows (Ok Commit) (session_of S.knows client)) else down_rule (Ok Commit)) free.up
+      ∙ (ap (λ gone. if_told (Ok Commit) gone (call_rule catalog i S.knows (Ok Commit) (session_of S.knows client))) free.owed
+      ∙ (ap (call_rule catalog i S.knows (Ok Commit)) free.asks.is_open ∙ commits_whole s.updates refl)))
 
-  rule_named : (event : TrailEvent) → IsNamed K event (rule catalog i K event).outcome
-  rule_named (Call client call) = call_named client call (K.session client) refl
-  rule_named Restart = restart_named K.epoch
+  is_due : (rec : Record) → (rule catalog i S event).wrote ≡ Some rec → due ≡ rec
+  is_due rec is = let both = sym (ap (λ (x : Expected). x.wrote) rule_commits) ∙ is in cc
 
-  -- a commit of what the snapshot sees whole is committed
-  commit_answered : (s : Session) (updates : List Update) → s.updates ≡ updates → updates ≢ [] → IsSeenWhole K.held s.snapshot s.updates
-      → IsCommitAnswer (commits i K s updates).outcome
-  commit_answered s [] are some whole = absurd (some refl)
-  commit_answered s (update ∷ updates) are some whole =
-      let none : conflict_of K.held s.snapshot (update ∷ updates) ≡ None =
-      ap (λ us. conflict_of K.held s.snapshot us) (sym are) ∙ (no_conflict_named K.held s.snapshot s.updates).1 whole in
-      subst (λ found. IsCommitAnswer (decides i K s found).outcome) (sym none) tt
+  pub comes_answered : (came : Came) → Comes catalog capacity i S event came → IsAnswered capacity i S s came.outcome
+  comes_answered came (ruled fits is) =
+      committed (subst (λ (x : Expected). IfSome x.wrote (FitsIn capacity S)) rule_commits fits)
+      (ap (λ (c : Came). c.outcome) is ∙ ap (λ (x : Expected). x.outcome) rule_commits)
+  comes_answered came (met_fault rec is_rec fits is) =
+      let same = is_due rec is_rec in
+      unsure (subst (FitsIn capacity S) (sym same) fits)
+      (ap (λ (c : Came). c.outcome) is ∙ (ap (failure event) (sym same) ∙ ap (λ v. failure v due) free.asks.asked))
+  comes_answered came (unread restart down is) = absurd (let asked = free.asks.asked in cc)
+  comes_answered came (no_memory takes is) = wants_memory (ap (λ (c : Came). c.outcome) is ∙ ap want free.asks.asked)
+  comes_answered came (full rec is_rec many is) =
+      let same = is_due rec is_rec in
+      is_full (subst (λ r. left_behind capacity S.records < need_of r) (sym same) many)
+      (ap (λ (c : Came). c.outcome) is
+      ∙ (ap (λ r. fullness event (need_of r) (left_behind capacity S.records)) (sym same)
+      ∙ ap (λ v. fullness v (need_of due) (left_behind capacity S.records)) free.asks.asked))
 
-  rule_answered : (client : ℕ) (s : Session) → K.session client ≡ Some s → s.updates ≢ [] → IsSeenWhole K.held s.snapshot s.updates
-      → IsCommitAnswer (rule catalog i K (Call client (Ok Commit))).outcome
-  rule_answered client s has some whole =
-      subst (λ session. IsCommitAnswer (call_rule catalog i K (Ok Commit) session).outcome) (sym has) (commit_answered s s.updates refl some whole)
+entry_answered : (catalog : Catalog) (capacity : ℕ) (i : SiteId) (older : List Entry) (e : Entry) → IsRightEntry catalog capacity i older e
+    → (s : Session) → IsFree (standing catalog i older) e.event s → IsAnswered capacity i (standing catalog i older) s e.outcome
+entry_answered catalog capacity i older e right s free =
+    let S : Standing = standing catalog i older in
+    let same : settled i e.kept S ≡ S = settled_call i S e.event e.kept free.asks.client (Ok Commit) right.kept free.asks.asked in
+    comes_answered catalog capacity i S e.event s free (came_of e) (subst (λ (T : Standing). Comes catalog capacity i T e.event (came_of e)) same right.comes)
 
--- each right entry
-entry_named : (catalog : Catalog) (i : SiteId) (older : List Entry) (e : Entry) → IsRightEntry catalog i older e
-    → IsNamed (knowledge catalog i older) e.event e.outcome
-entry_named catalog i older e right =
-    let K : Knowledge = knowledge catalog i older in
-    elim right [
-      | inl by_rule ↦ subst (λ (z : Entry). IsNamed K z.event z.outcome) (sym by_rule) (rule_named catalog i K e.event)
-      | inr unable ↦ subst (λ (z : Entry). IsNamed K z.event z.outcome) (sym unable.1) tt
-    ]
-
-pub right_named : (catalog : Catalog) (i : SiteId) (newest_first : List Entry) → AreRight catalog i newest_first → AreNamed catalog i newest_first
-right_named catalog i [] right = tt
-right_named catalog i (e ∷ older) right = (right_named catalog i older right.0, entry_named catalog i older e right.1)
-
-entry_answered : (catalog : Catalog) (i : SiteId) (older : List Entry) (e : Entry) → IsRightEntry catalog i older e → (client : ℕ) (s : Session)
-    → e.event ≡ Call client (Ok Commit) → (knowledge catalog i older).session client ≡ Some s → s.updates ≢ []
-    → IsSeenWhole (knowledge catalog i older).held s.snapshot s.updates → IsCommitAnswer e.outcome
-entry_answered catalog i older e right client s is has some whole =
-    let K : Knowledge = knowledge catalog i older in
-    elim right [
-      | inl by_rule ↦
-          subst (λ (o : Outcome). IsCommitAnswer o) (sym (ap (λ (z : Entry). z.outcome) by_rule ∙ ap (λ (v : TrailEvent). (rule catalog i K v).outcome) is))
-          (rule_answered catalog i K client s has some whole)
-      | inr unable ↦ subst (λ (o : Outcome). IsCommitAnswer o) (sym (ap (λ (z : Entry). z.outcome) unable.1)) tt
-    ]
-
-pub right_answers : (catalog : Catalog) (i : SiteId) (newest_first : List Entry) → AreRight catalog i newest_first → AnswersCommits catalog i newest_first
-right_answers catalog i [] right = tt
-right_answers catalog i (e ∷ older) right = (right_answers catalog i older right.0, entry_answered catalog i older e right.1)
+pub right_answers : (catalog : Catalog) (capacity : ℕ) (i : SiteId) (newest_first : List Entry) → AreRight catalog capacity i newest_first
+    → AnswersCommits catalog capacity i newest_first
+right_answers catalog capacity i [] right = tt
+right_answers catalog capacity i (e ∷ older) right = (right_answers catalog capacity i older right.0, entry_answered catalog capacity i older e right.1)

@@ -17,11 +17,12 @@ use Rattle.walter_base.specs.Values.{value_of, write_set}
 use Rattle.walter_base.specs.Vectors.{entry_at}
 use Rattle.walter_psi.specs.declared.step.Answer.TheVariants.{Value as ValueIs}
 use Rattle.walter_psi.specs.declared.step.Level.TheVariants.{NotCommitted}
-use Rattle.walter_psi.specs.declared.step.Told.TheVariants.{Version as OfVersion, Level as OfLevel}
+use Rattle.walter_psi.specs.declared.step.Told.{Told as Notice}
+use Rattle.walter_psi.specs.declared.step.Told.TheVariants.{Level as OfLevel}
 use Rattle.walter_psi.specs.declared.step.Step.{Step}
 use Rattle.walter_psi.specs.declared.step.Step.TheVariants.{Start, Op, Read, Commit, Abort, Told}
 use Rattle.walter_psi.specs.Histories.{log, logged, commits, commit_of, snapshot, own_updates, done, committed_updates, given, seen_updates, IsStarted, IsCommitted}
-use Rattle.walter_psi.specs.Legal.{IsLegal, IsLegalStep, IsLegalCommit, IsOver, IsRunning, IsBlocked, IsCause, IsVersionOf}
+use Rattle.walter_psi.specs.Legal.{IsLegal, IsLegalStep, IsLegalCommit, IsOver, IsRunning, IsBlocked, IsCause, IsVersionOf, IsTrueNotice}
 use Rattle.walter_psi.proofs.Lists.{place_of, contains_at, slice_get-push, slice_get-take, slice_get-take_within, Contains-take, flat_map_agree}
 use Rattle.walter_psi.proofs.StepFacts.{logged_commit, commit_of_commit, done_op, done_none, given_commit}
 use Rattle.walter_psi.proofs.OneMore.{legal_snoc, log_snoc, commits_snoc, own_updates_snoc, committed_updates_snoc, started_kept, started_here, started_snoc, committed_snoc}
@@ -40,12 +41,14 @@ pub record IsIssued (epoch starts : ℕ) (x : Tid) : Type 0 where
   pub site : x.site ≡ the_site
   pub past : (x.epoch < epoch) ⊎ ((x.epoch ≡ epoch) × (x.number ≤ starts))
 
--- the open transaction is as its session says, and its snapshot is what its vector sees of what is held
+-- the open transaction is as its session says, its snapshot is what its vector sees of what is held, and nobody was told
+-- that it isn't committed
 pub record IsOpen (held : List Held) (h : List Step) (s : Session) : Type 0 where
   pub running : IsRunning s.tid h
   pub updates : own_updates s.tid h ≡ s.updates
   pub few : entry_at s.snapshot the_site ≤ length held
   pub snapshot : snapshot s.tid h ≡ map name_of (take (entry_at s.snapshot the_site) held)
+  pub quiet : ¬ Contains h (Told s.tid (OfLevel NotCommitted))
 
 -- each session is that of an open transaction, and no two clients have the same
 pub record AreOpen (held : List Held) (h : List Step) (session : ℕ → Option Session) : Type 0 where
@@ -62,19 +65,19 @@ pub record IsTold (epoch starts : ℕ) (committed : List ℕ) (held : List Held)
   pub commits : commits the_site h ≡ map name_of held
   pub updates : (x : Held) → Contains held x → committed_updates h (name_of x) ≡ x.tx.updates
   pub issued : (x : Tid) → IsStarted x h → IsIssued epoch starts x
-  pub quiet : (x : Tid) → ¬ Contains h (Told x (OfLevel NotCommitted))
+  pub denied : (x : Tid) → Contains h (Told x (OfLevel NotCommitted)) → IsIssued epoch starts x
 
--- a step that commits nothing, makes nothing stand, and tells of nothing that it isn't committed
+-- a step that commits nothing and makes nothing stand
 pub record IsQuiet (step : Step) : Type 0 where
   pub none_logged : logged the_site step ≡ []
   pub none_committed : commit_of the_site step ≡ []
-  pub no_notice : (x : Tid) → step ≢ Told x (OfLevel NotCommitted)
 
--- a step that neither ends the transaction nor does anything for it
+-- a step that neither ends the transaction nor does anything for it, nor tells that it isn't committed
 pub record LeavesAlone (x : Tid) (step : Step) : Type 0 where
   pub no_commit : (us : List Update) → step ≢ Commit x us
   pub no_abort : (cause : Cause) → step ≢ Abort x cause
   pub no_update : (u : Update) → step ≢ Op x u
+  pub no_notice : step ≢ Told x (OfLevel NotCommitted)
 
 -- the sessions, where one client has this one
 abbrev pub with_one : ℕ → Option Session → (ℕ → Option Session) → ℕ → Option Session
@@ -87,6 +90,16 @@ issued_more epoch starts more x grow is = record {
   past = elim is.past [
     | inl earlier ↦ inl earlier
     | inr here ↦ inr (here.0, let few = here.1 in omega arith)
+  ];
+}
+
+-- and in a later epoch
+pub issued_later : (epoch starts next : ℕ) (x : Tid) → epoch < next → IsIssued epoch starts x → IsIssued next 0 x
+issued_later epoch starts next x later is = record {
+  site = is.site;
+  past = elim is.past [
+    | inl earlier ↦ inl (omega arith)
+    | inr here ↦ inl (let e = here.0 in omega (arith, e))
   ];
 }
 
@@ -112,6 +125,14 @@ unended_kept x h step no_commit no_abort unended (inr aborted) =
       | inr here ↦ no_abort aborted.0 here
     ]
 
+-- of a transaction of which nobody was told that it isn't committed nobody was told so by a step that tells something else
+pub quiet_kept : (x : Tid) (h : List Step) (step : Step) → step ≢ Told x (OfLevel NotCommitted) → ¬ Contains h (Told x (OfLevel NotCommitted))
+    → ¬ Contains (h ++ step ∷ []) (Told x (OfLevel NotCommitted))
+quiet_kept x h step no_notice quiet told = elim (Contains-push_cases h step (Told x (OfLevel NotCommitted)) told) [
+  | inl before ↦ quiet before
+  | inr here ↦ no_notice here
+]
+
 -- an open transaction stays as it is by a step that leaves it alone, as more is held
 pub stays_open : (held new : List Held) (h : List Step) (s : Session) (step : Step) → IsOpen held h s → LeavesAlone s.tid step
     → IsOpen (held ++ new) (h ++ step ∷ []) s
@@ -120,17 +141,19 @@ stays_open held new h s step is leaves = record {
   updates = own_updates_snoc s.tid h step ∙ (ap (λ us. own_updates s.tid h ++ us) (done_none s.tid step leaves.no_update) ∙ (append-nil (own_updates s.tid h) ∙ is.updates));
   few = let f = is.few in let l = length-append held new in omega (arith, f, l);
   snapshot = snapshot_kept s.tid h (step ∷ []) is.running.0 ∙ (is.snapshot ∙ ap (λ xs. map name_of xs) (sym (take-append-le (entry_at s.snapshot the_site) held new is.few)));
+  quiet = quiet_kept s.tid h step leaves.no_notice is.quiet;
 }
 
 -- the open transaction goes on, with what the step does for it
 pub goes_on : (held : List Held) (h : List Step) (s : Session) (step : Step) (updates : List Update) → IsOpen held h s
-    → ((us : List Update) → step ≢ Commit s.tid us) → ((cause : Cause) → step ≢ Abort s.tid cause) → updates ≡ s.updates ++ done s.tid step
+    → ((us : List Update) → step ≢ Commit s.tid us) → ((cause : Cause) → step ≢ Abort s.tid cause) → step ≢ Told s.tid (OfLevel NotCommitted) → updates ≡ s.updates ++ done s.tid step
     → IsOpen held (h ++ step ∷ []) (record s { updates = updates })
-goes_on held h s step updates is no_commit no_abort more = record {
+goes_on held h s step updates is no_commit no_abort no_notice more = record {
   running = (started_kept s.tid h (step ∷ []) is.running.0, unended_kept s.tid h step no_commit no_abort is.running.1);
   updates = own_updates_snoc s.tid h step ∙ (ap (λ us. us ++ done s.tid step) is.updates ∙ sym more);
   few = is.few;
   snapshot = snapshot_kept s.tid h (step ∷ []) is.running.0 ∙ is.snapshot;
+  quiet = quiet_kept s.tid h step no_notice is.quiet;
 }
 
 -- the session of one client is set, and those of the others are as before
@@ -179,12 +202,12 @@ all_stay held h session step client now are leaves goes differs =
     (others_stay held [] h session step client now are leaves
     (λ s has. subst (λ xs. IsOpen xs (h ++ step ∷ []) s) (sym (append-nil held)) (goes s has)) differs)
 
--- a step that leaves all transactions alone leaves all sessions as they are
+-- a step that leaves all open transactions alone leaves all sessions as they are
 pub all_left : (held : List Held) (h : List Step) (session : ℕ → Option Session) (step : Step) → AreOpen held h session
-    → ((x : Tid) → LeavesAlone x step) → AreOpen held (h ++ step ∷ []) session
+    → ((c : ℕ) (s : Session) → session c ≡ Some s → LeavesAlone s.tid step) → AreOpen held (h ++ step ∷ []) session
 all_left held h session step are leaves = record {
   open_ = λ c s has.
-      subst (λ xs. IsOpen xs (h ++ step ∷ []) s) (append-nil held) (stays_open held [] h s step (are.open_ c s has) (leaves s.tid));
+      subst (λ xs. IsOpen xs (h ++ step ∷ []) s) (append-nil held) (stays_open held [] h s step (are.open_ c s has) (leaves c s has));
   apart = are.apart;
 }
 
@@ -215,15 +238,16 @@ without_step held h session client are = record {
 
 module _ (epoch starts : ℕ) (committed : List ℕ) (held : List Held) (h : List Step) (is : IsTold epoch starts committed held h) where
   -- what is held is committed
-  held_committed : (x : Held) → Contains held x → IsCommitted (name_of x) h
+  pub held_committed : (x : Held) → Contains held x → IsCommitted (name_of x) h
   held_committed x stands =
       logged_committed the_site (name_of x) h is.legal (subst (λ xs. Contains xs (name_of x)) (sym is.log) (map_stands name_of held x stands))
 
   -- a quiet step
   pub quiet_step : (step : Step) (more : ℕ) → IsLegalStep h step → IsQuiet step → starts ≤ more
       → ((x : Tid) (site : SiteId) → step ≡ Start x site → IsIssued epoch more x)
+      → ((x : Tid) → step ≡ Told x (OfLevel NotCommitted) → IsIssued epoch more x)
       → IsTold epoch more committed held (h ++ step ∷ [])
-  quiet_step step more next quiet grow names = record {
+  quiet_step step more next quiet grow names notices = record {
     legal = legal_snoc h step is.legal next;
     vector = is.vector;
     counted = is.counted;
@@ -235,9 +259,9 @@ module _ (epoch starts : ℕ) (committed : List ℕ) (held : List Held) (h : Lis
       | inl before ↦ issued_more epoch starts more x grow (is.issued x before)
       | inr here ↦ names x here.0 here.1
     ];
-    quiet = λ x told. elim (Contains-push_cases h step (Told x (OfLevel NotCommitted)) told) [
-      | inl before ↦ is.quiet x before
-      | inr here ↦ quiet.no_notice x here
+    denied = λ x told. elim (Contains-push_cases h step (Told x (OfLevel NotCommitted)) told) [
+      | inl before ↦ issued_more epoch starts more x grow (is.denied x before)
+      | inr here ↦ notices x here
     ];
   }
 
@@ -251,6 +275,7 @@ module _ (epoch starts : ℕ) (committed : List ℕ) (held : List Held) (h : Lis
       let fresh : ¬ IsStarted x h = λ started. issued_next epoch starts (subst (λ y. IsIssued epoch starts y) name (is.issued x started)) in
       let unended : ¬ IsOver x h = λ over. fresh (over_started x h is.legal over) in
       let step : Step = Start x the_site in
+      let quiet : ¬ Contains h (Told x (OfLevel NotCommitted)) = λ told. issued_next epoch starts (subst (λ y. IsIssued epoch starts y) name (is.denied x told)) in
       let issued_here : IsIssued epoch (starts + 1) x = record { site = home; past = inr (ap (λ (y : Tid). y.epoch) name, let e = ap (λ (y : Tid). y.number) name in omega (arith, e)) } in
       let all : entry_at s.snapshot the_site ≡ length held = ap (λ v. entry_at v the_site) vector ∙ is.counted in
       let goes : IsOpen held (h ++ step ∷ []) s = record {
@@ -258,11 +283,12 @@ module _ (epoch starts : ℕ) (committed : List ℕ) (held : List Held) (h : Lis
         updates = own_updates_snoc x h step ∙ (append-nil (own_updates x h) ∙ (none_done x h is.legal fresh ∙ sym none));
         few = omega (arith, all);
         snapshot = snapshot_here x the_site h [] fresh ∙ (ap (λ (site : SiteId). log site h) home ∙ (is.log ∙ ap (λ xs. map name_of xs) (sym (take_all (entry_at s.snapshot the_site) held (omega (arith, all))))));
+        quiet = quiet_kept x h step (λ e. absurd cc) quiet;
       } in (
-        quiet_step step (starts + 1) (home, fresh) (record { none_logged = refl; none_committed = refl; no_notice = λ y e. absurd cc }) (omega arith)
-            (λ y site e. let same : x ≡ y = cc in subst (λ z. IsIssued epoch (starts + 1) z) same issued_here),
+        quiet_step step (starts + 1) (home, fresh) (record { none_logged = refl; none_committed = refl }) (omega arith)
+            (λ y site e. let same : x ≡ y = cc in subst (λ z. IsIssued epoch (starts + 1) z) same issued_here) (λ y e. absurd cc),
         all_stay held h session step client (Some s) are
-            (λ c t other has. record { no_commit = λ us e. absurd cc; no_abort = λ cause e. absurd cc; no_update = λ u e. absurd cc })
+            (λ c t other has. record { no_commit = λ us e. absurd cc; no_abort = λ cause e. absurd cc; no_update = λ u e. absurd cc; no_notice = λ e. absurd cc })
             (λ t has. let same : s ≡ t = cc in subst (λ z. IsOpen held (h ++ step ∷ []) z) same goes)
             (λ t c u has other gets same. let e : s ≡ t = cc in
             fresh (subst (λ y. IsStarted y h) (sym (ap (λ (z : Session). z.tid) e ∙ same)) (are.open_ c u gets).running.0)),
@@ -286,9 +312,10 @@ module _ (epoch starts : ℕ) (committed : List ℕ) (held : List Held) (h : Lis
       → IsTold epoch starts committed held (h ++ Read s.tid oid (ValueIs value) ∷ []) × AreOpen held (h ++ Read s.tid oid (ValueIs value) ∷ []) session
   read_step session s oid value are opened answer = (
     quiet_step (Read s.tid oid (ValueIs value)) starts (opened.running, answer ∙ ap (λ us. value_of oid us) (read_same s opened))
-        (record { none_logged = refl; none_committed = refl; no_notice = λ y e. absurd cc }) (omega arith)
-        (λ y site e. absurd cc),
-    all_left held h session (Read s.tid oid (ValueIs value)) are (λ x. record { no_commit = λ us e. absurd cc; no_abort = λ cause e. absurd cc; no_update = λ u e. absurd cc }),
+        (record { none_logged = refl; none_committed = refl }) (omega arith)
+        (λ y site e. absurd cc) (λ y e. absurd cc),
+    all_left held h session (Read s.tid oid (ValueIs value)) are
+        (λ c t has. record { no_commit = λ us e. absurd cc; no_abort = λ cause e. absurd cc; no_update = λ u e. absurd cc; no_notice = λ e. absurd cc }),
   )
 
   -- the transactions of other clients have other names
@@ -305,22 +332,33 @@ module _ (epoch starts : ℕ) (committed : List ℕ) (held : List Held) (h : Lis
       let step : Step = Op s.tid update in
       let next : Session = record s { updates = s.updates ++ update ∷ [] } in
       let goes : IsOpen held (h ++ step ∷ []) next =
-      goes_on held h s step (s.updates ++ update ∷ []) opened (λ us e. absurd cc) (λ cause e. absurd cc) (ap (λ us. s.updates ++ us) (sym (done_op s.tid update))) in (
-        quiet_step step starts opened.running (record { none_logged = refl; none_committed = refl; no_notice = λ y e. absurd cc }) (omega arith) (λ y site e. absurd cc),
+      goes_on held h s step (s.updates ++ update ∷ []) opened (λ us e. absurd cc) (λ cause e. absurd cc) (λ e. absurd cc) (ap (λ us. s.updates ++ us) (sym (done_op s.tid update))) in (
+        quiet_step step starts opened.running (record { none_logged = refl; none_committed = refl }) (omega arith) (λ y site e. absurd cc) (λ y e. absurd cc),
         all_stay held h session step client (Some next) are
-            (λ c t other gets. record { no_commit = λ us e. absurd cc; no_abort = λ cause e. absurd cc; no_update = λ u e. others_differ session client s are has c t other gets cc })
+            (λ c t other gets. record { no_commit = λ us e. absurd cc; no_abort = λ cause e. absurd cc; no_update = λ u e. others_differ session client s are has c t other gets cc; no_notice = λ e. absurd cc })
             (λ t e. let same : next ≡ t = cc in subst (λ z. IsOpen held (h ++ step ∷ []) z) same goes)
             (λ t c u e other gets same. let is_ : next ≡ t = cc in others_differ session client s are has c u other gets (ap (λ (z : Session). z.tid) is_ ∙ same)),
       )
 
-  -- the client is told of a version
-  pub told_step : (session : ℕ → Option Session) (x : Tid) (version : Version) → AreOpen held h session → IsVersionOf h version x
-      → IsTold epoch starts committed held (h ++ Told x (OfVersion version) ∷ []) × AreOpen held (h ++ Told x (OfVersion version) ∷ []) session
-  told_step session x version are names = (
-    quiet_step (Told x (OfVersion version)) starts names
-        (record { none_logged = refl; none_committed = refl; no_notice = λ y e. absurd (let same : OfVersion version ≡ OfLevel NotCommitted = cc in cc) }) (omega arith)
-        (λ y site e. absurd cc),
-    all_left held h session (Told x (OfVersion version)) are (λ y. record { no_commit = λ us e. absurd cc; no_abort = λ cause e. absurd cc; no_update = λ u e. absurd cc }),
+  -- a client is told of a transaction, but not that it isn't committed
+  pub tell_step : (session : ℕ → Option Session) (x : Tid) (what : Notice) → AreOpen held h session → IsTrueNotice x h what → what ≢ OfLevel NotCommitted
+      → IsTold epoch starts committed held (h ++ Told x what ∷ []) × AreOpen held (h ++ Told x what ∷ []) session
+  tell_step session x what are true_ other = (
+    quiet_step (Told x what) starts true_ (record { none_logged = refl; none_committed = refl }) (omega arith)
+        (λ y site e. absurd cc) (λ y e. absurd (other cc)),
+    all_left held h session (Told x what) are
+        (λ c t has. record { no_commit = λ us e. absurd cc; no_abort = λ cause e. absurd cc; no_update = λ u e. absurd cc; no_notice = λ e. absurd (other cc) }),
+  )
+
+  -- that a transaction of a name that was given isn't committed, which is open for no client
+  pub deny_step : (session : ℕ → Option Session) (x : Tid) → AreOpen held h session → IsIssued epoch starts x → ¬ IsCommitted x h
+      → ((c : ℕ) (s : Session) → session c ≡ Some s → s.tid ≢ x)
+      → IsTold epoch starts committed held (h ++ Told x (OfLevel NotCommitted) ∷ []) × AreOpen held (h ++ Told x (OfLevel NotCommitted) ∷ []) session
+  deny_step session x are issued uncommitted apart = (
+    quiet_step (Told x (OfLevel NotCommitted)) starts uncommitted (record { none_logged = refl; none_committed = refl }) (omega arith)
+        (λ y site e. absurd cc) (λ y e. let same : x ≡ y = cc in subst (λ z. IsIssued epoch starts z) same issued),
+    all_left held h session (Told x (OfLevel NotCommitted)) are
+        (λ c t has. record { no_commit = λ us e. absurd cc; no_abort = λ cause e. absurd cc; no_update = λ u e. absurd cc; no_notice = λ e. absurd (apart c t has cc) }),
   )
 
   -- its transaction is aborted, for a cause that was there
@@ -329,9 +367,9 @@ module _ (epoch starts : ℕ) (committed : List ℕ) (held : List Held) (h : Lis
       → IsTold epoch starts committed held (h ++ Abort s.tid cause ∷ []) × AreOpen held (h ++ Abort s.tid cause ∷ []) (with_one client None session)
   abort_step session client s cause are has there =
       let step : Step = Abort s.tid cause in (
-        quiet_step step starts ((are.open_ client s has).running, there) (record { none_logged = refl; none_committed = refl; no_notice = λ y e. absurd cc }) (omega arith) (λ y site e. absurd cc),
+        quiet_step step starts ((are.open_ client s has).running, there) (record { none_logged = refl; none_committed = refl }) (omega arith) (λ y site e. absurd cc) (λ y e. absurd cc),
         all_stay held h session step client None are
-            (λ c t other gets. record { no_commit = λ us e. absurd cc; no_abort = λ cause_ e. others_differ session client s are has c t other gets cc; no_update = λ u e. absurd cc })
+            (λ c t other gets. record { no_commit = λ us e. absurd cc; no_abort = λ cause_ e. others_differ session client s are has c t other gets cc; no_update = λ u e. absurd cc; no_notice = λ e. absurd cc })
             (λ t e. absurd cc)
             (λ t c u e other gets same. absurd (let none : None ≡ Some t = e in cc)),
       )
@@ -393,14 +431,11 @@ module _ (epoch starts : ℕ) (committed : List ℕ) (held : List Held) (h : Lis
         subst (λ (site : SiteId). commit_of site (Commit s.tid s.updates) ≡ s.tid ∷ []) home (commit_of_commit s.tid s.updates),
       )
 
-  -- it commits
-  pub commit_step : (session : ℕ → Option Session) (client : ℕ) (s : Session) → AreOpen held h session → session client ≡ Some s → s.updates ≢ []
-      → IsSeenWhole held s.snapshot s.updates
+  -- it commits, under the next number
+  pub commit_told : (s : Session) → IsOpen held h s → s.updates ≢ [] → IsSeenWhole held s.snapshot s.updates
       → IsTold epoch starts (slice_set committed 0 (entry_at committed the_site + 1)) (held ++ record { seq = entry_at committed the_site + 1; tx = tx_of s } ∷ [])
       (h ++ Commit s.tid s.updates ∷ [])
-      × AreOpen (held ++ record { seq = entry_at committed the_site + 1; tx = tx_of s } ∷ []) (h ++ Commit s.tid s.updates ∷ []) (with_one client None session)
-  commit_step session client s are has some whole =
-      let opened = are.open_ client s has in
+  commit_told s opened some whole =
       let x : Tid = s.tid in
       let step : Step = Commit x s.updates in
       let home : x.site ≡ the_site = (is.issued x opened.running.0).site in
@@ -411,37 +446,42 @@ module _ (epoch starts : ℕ) (committed : List ℕ) (held : List Held) (h : Lis
         some = some;
         own = sym opened.updates;
         free = not_blocked s opened whole;
-        final = is.quiet x;
+        final = opened.quiet;
       } in
       let one = commits_one s opened in
       let gives : committed_updates (h ++ step ∷ []) x ≡ s.updates =
       committed_updates_snoc x h step ∙ (ap (λ us. us ++ given x step) (none_committed x h uncommitted) ∙ given_commit x s.updates) in
-      let long = length_push held new in (
-        record {
-          legal = legal_snoc h step is.legal next;
-          vector = let same = length-set committed 0 (entry_at committed the_site + 1) in let some_ = is.vector in omega (arith, same, some_);
-          counted = get_or-set_same committed 0 (entry_at committed the_site + 1) 0 is.vector ∙ (let n = is.counted in omega (arith, n, long));
-          numbered = numbered_more 0 held new is.numbered (let n = is.counted in omega (arith, n)) home;
-          log = log_snoc the_site h step ∙ ((λ i. is.log i ++ one.0 i) ∙ sym (map-append name_of held (new ∷ [])));
-          commits = commits_snoc the_site h step ∙ ((λ i. is.commits i ++ one.1 i) ∙ sym (map-append name_of held (new ∷ [])));
-          updates = λ y stands. elim (Contains-push_cases held new y stands) [
-            | inl before ↦ committed_updates_kept (name_of y) h step next (held_committed y before) ∙ is.updates y before
-            | inr here ↦ subst (λ (z : Held). committed_updates (h ++ step ∷ []) (name_of z) ≡ z.tx.updates) here gives
-          ];
-          issued = λ y started. elim ((started_snoc y h step).0 started) [
-            | inl before ↦ is.issued y before
-            | inr here ↦ absurd (let e = here.1 in cc)
-          ];
-          quiet = λ y told. elim (Contains-push_cases h step (Told y (OfLevel NotCommitted)) told) [
-            | inl before ↦ is.quiet y before
-            | inr here ↦ absurd cc
-          ];
-        },
-        others_stay held (new ∷ []) h session step client None are
-            (λ c t other gets. record { no_commit = λ us e. others_differ session client s are has c t other gets cc; no_abort = λ cause e. absurd cc; no_update = λ u e. absurd cc })
-            (λ t e. absurd cc)
-            (λ t c u e other gets same. absurd (let none : None ≡ Some t = e in cc)),
-      )
+      let long = length_push held new in
+      record {
+        legal = legal_snoc h step is.legal next;
+        vector = let same = length-set committed 0 (entry_at committed the_site + 1) in let some_ = is.vector in omega (arith, same, some_);
+        counted = get_or-set_same committed 0 (entry_at committed the_site + 1) 0 is.vector ∙ (let n = is.counted in omega (arith, n, long));
+        numbered = numbered_more 0 held new is.numbered (let n = is.counted in omega (arith, n)) home;
+        log = log_snoc the_site h step ∙ ((λ i. is.log i ++ one.0 i) ∙ sym (map-append name_of held (new ∷ [])));
+        commits = commits_snoc the_site h step ∙ ((λ i. is.commits i ++ one.1 i) ∙ sym (map-append name_of held (new ∷ [])));
+        updates = λ y stands. elim (Contains-push_cases held new y stands) [
+          | inl before ↦ committed_updates_kept (name_of y) h step next (held_committed y before) ∙ is.updates y before
+          | inr here ↦ subst (λ (z : Held). committed_updates (h ++ step ∷ []) (name_of z) ≡ z.tx.updates) here gives
+        ];
+        issued = λ y started. elim ((started_snoc y h step).0 started) [
+          | inl before ↦ is.issued y before
+          | inr here ↦ absurd (let e = here.1 in cc)
+        ];
+        denied = λ y told. elim (Contains-push_cases h step (Told y (OfLevel NotCommitted)) told) [
+          | inl before ↦ is.denied y before
+          | inr here ↦ absurd cc
+        ];
+      }
+
+  -- and its client's session ends
+  pub commit_open : (session : ℕ → Option Session) (client : ℕ) (s : Session) → AreOpen held h session → session client ≡ Some s
+      → AreOpen (held ++ record { seq = entry_at committed the_site + 1; tx = tx_of s } ∷ []) (h ++ Commit s.tid s.updates ∷ []) (with_one client None session)
+  commit_open session client s are has =
+      let new : Held = record { seq = entry_at committed the_site + 1; tx = tx_of s } in
+      others_stay held (new ∷ []) h session (Commit s.tid s.updates) client None are
+      (λ c t other gets. record { no_commit = λ us e. others_differ session client s are has c t other gets cc; no_abort = λ cause e. absurd cc; no_update = λ u e. absurd cc; no_notice = λ e. absurd cc })
+      (λ t e. absurd cc)
+      (λ t c u e other gets same. absurd (let none : None ≡ Some t = e in cc))
 
   -- the version of the transaction that commits
   pub commit_version : (s : Session) → IsOpen held h s
@@ -465,12 +505,6 @@ module _ (epoch starts : ℕ) (committed : List ℕ) (held : List Held) (h : Lis
     log = is.log;
     commits = is.commits;
     updates = is.updates;
-    issued = λ x started. let before = is.issued x started in record {
-      site = before.site;
-      past = elim before.past [
-        | inl earlier ↦ inl (omega arith)
-        | inr here ↦ inl (let e = here.0 in omega (arith, e))
-      ];
-    };
-    quiet = is.quiet;
+    issued = λ x started. issued_later epoch starts next x later (is.issued x started);
+    denied = λ x told. issued_later epoch starts next x later (is.denied x told);
   }

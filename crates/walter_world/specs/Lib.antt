@@ -1,3 +1,5 @@
 pub mod Spelled
 pub mod Examples
+pub mod Ends
 pub mod Promises
+pub mod Journaled

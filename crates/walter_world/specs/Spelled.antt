@@ -1,28 +1,32 @@
--- The history that the trails spell: each entry of their merge gives at most two steps, that of its record first.
-use Rattle.std.specs.Prelude.{ℕ, List, [], ◌∷◌, ◌++◌, reverse, Option, Some, None, Result, Ok, Err}
+-- The history that the trails spell: each entry of their merge gives at most two steps, those of its records first.
+use Rattle.std.specs.Prelude.{ℕ, List, [], ◌∷◌, ◌++◌, reverse, Option, Some, None, Result, Ok}
 use Rattle.walter_base.specs.declared.catalog.Catalog.{Catalog}
 use Rattle.walter_base.specs.declared.message.BadFrame.{BadFrame}
+use Rattle.walter_base.specs.declared.message.Level.{Level as HowFar}
+use Rattle.walter_base.specs.declared.message.Level.TheVariants.{NotCommitted, Running, Committed as IsCommitted, Durable, Visible}
 use Rattle.walter_base.specs.declared.message.Record.{Record}
 use Rattle.walter_base.specs.declared.message.Record.TheVariants.{Boot, Own}
-use Rattle.walter_base.specs.declared.message.Reply.TheVariants.{Started, Value, Done, Committed, Aborted, Ended, Refused}
+use Rattle.walter_base.specs.declared.message.Reply.TheVariants.{Started, Value, Done, Committed, Aborted, Level}
 use Rattle.walter_base.specs.declared.message.Request.{Request}
-use Rattle.walter_base.specs.declared.message.Request.TheVariants.{Start as StartAsked, Read as ReadAsked, Write as WriteAsked, Commit as CommitAsked, Abort as AbortAsked}
+use Rattle.walter_base.specs.declared.message.Request.TheVariants.{Read as ReadAsked, Write as WriteAsked, Level as LevelAsked}
 use Rattle.walter_base.specs.declared.names.SiteId.{SiteId}
+use Rattle.walter_base.specs.declared.names.Tid.{Tid}
 use Rattle.walter_base.specs.declared.names.Version.{Version}
 use Rattle.walter_base.specs.declared.transaction.Cause.{Cause}
 use Rattle.walter_base.specs.declared.update.Update.TheVariants.{Write as WriteOf}
 use Rattle.walter_psi.specs.declared.step.Answer.TheVariants.{Value as ValueIs}
+use Rattle.walter_psi.specs.declared.step.Level.TheVariants.{NotCommitted as ToldNotCommitted, Committed as ToldCommitted, Durable as ToldDurable, Visible as ToldVisible}
 use Rattle.walter_psi.specs.declared.step.Step.{Step}
 use Rattle.walter_psi.specs.declared.step.Step.TheVariants.{Start, Op, Read, Commit, Abort, Told}
-use Rattle.walter_psi.specs.declared.step.Told.TheVariants.{Version as OfVersion}
+use Rattle.walter_psi.specs.declared.step.Told.TheVariants.{Version as OfVersion, Level as OfLevel}
 use Rattle.walter_trail.specs.declared.trail.Entry.{Entry}
 use Rattle.walter_trail.specs.declared.trail.Outcome.{Outcome}
-use Rattle.walter_trail.specs.declared.trail.Outcome.TheVariants.{Replied, Taken, Passed}
+use Rattle.walter_trail.specs.declared.trail.Outcome.TheVariants.{Replied}
 use Rattle.walter_trail.specs.declared.trail.TrailEvent.{TrailEvent}
-use Rattle.walter_trail.specs.declared.trail.TrailEvent.TheVariants.{Call, Restart}
-use Rattle.walter_trail.specs.Knowledge.{Knowledge, Session}
+use Rattle.walter_trail.specs.declared.trail.TrailEvent.TheVariants.{Call}
+use Rattle.walter_trail.specs.Knowledge.{Knowledge, Session, session_of}
 use Rattle.walter_trail.specs.Merges.{Named, entries_of}
-use Rattle.walter_trail.specs.Trails.{knowledge}
+use Rattle.walter_trail.specs.Trails.{standing}
 
 -- the one site
 abbrev pub the_site : SiteId
@@ -37,19 +41,11 @@ recorded (Some (Own seq tx)) = Commit tx.tid tx.updates ∷ []
 -- the update that a request did, and the read of a request that was answered by a value
 abbrev pub did : Result Request BadFrame → Session → List Step
 did (Ok (WriteAsked oid bytes)) s = Op s.tid (WriteOf oid bytes) ∷ []
-did (Ok StartAsked) s = []
-did (Ok (ReadAsked oid)) s = []
-did (Ok CommitAsked) s = []
-did (Ok AbortAsked) s = []
-did (Err bad) s = []
+did call s = []
 
 abbrev pub saw : Result Request BadFrame → Option (List ℕ) → Session → List Step
 saw (Ok (ReadAsked oid)) value s = Read s.tid oid (ValueIs value) ∷ []
-saw (Ok StartAsked) value s = []
-saw (Ok (WriteAsked oid bytes)) value s = []
-saw (Ok CommitAsked) value s = []
-saw (Ok AbortAsked) value s = []
-saw (Err bad) value s = []
+saw call value s = []
 
 abbrev pub told : Version → Session → List Step
 told version s = Told s.tid (OfVersion version) ∷ []
@@ -62,6 +58,19 @@ abbrev pub of_session : (Session → List Step) → Option Session → List Step
 of_session steps None = []
 of_session steps (Some s) = steps s
 
+-- what a level tells of a transaction; of one that is open there is nothing to tell
+abbrev pub leveled : HowFar → Tid → List Step
+leveled NotCommitted tid = Told tid (OfLevel ToldNotCommitted) ∷ []
+leveled Running tid = []
+leveled IsCommitted tid = Told tid (OfLevel ToldCommitted) ∷ []
+leveled Durable tid = Told tid (OfLevel ToldDurable) ∷ []
+leveled Visible tid = Told tid (OfLevel ToldVisible) ∷ []
+
+-- of the transaction whose level was asked
+abbrev pub told_level : HowFar → Result Request BadFrame → List Step
+told_level level (Ok (LevelAsked tid)) = leveled level tid
+told_level level call = []
+
 -- the step of a reply at a site, to a call of a client with this session
 abbrev pub replied : SiteId → Outcome → Result Request BadFrame → Option Session → List Step
 replied i (Replied (Started tid)) call session = Start tid i ∷ []
@@ -69,23 +78,21 @@ replied i (Replied Done) call session = of_session (did call) session
 replied i (Replied (Value value)) call session = of_session (saw call value) session
 replied i (Replied (Committed version)) call session = of_session (told version) session
 replied i (Replied (Aborted cause)) call session = of_session (aborted cause) session
-replied i (Replied Ended) call session = []
-replied i (Replied (Refused refusal)) call session = []
-replied i Taken call session = []
-replied i Passed call session = []
+replied i (Replied (Level level)) call session = told_level level call
+replied i outcome call session = []
 
 abbrev pub answered : SiteId → Knowledge → Outcome → TrailEvent → List Step
-answered i K outcome (Call client call) = replied i outcome call (K.session client)
-answered i K outcome Restart = []
+answered i K outcome (Call client call) = replied i outcome call (session_of K client)
+answered i K outcome event = []
 
 -- the steps of an entry of a site that knew this before it
 abbrev pub steps_of : SiteId → Knowledge → Entry → List Step
-steps_of i K e = recorded e.wrote ++ answered i K e.outcome e.event
+steps_of i K e = recorded e.kept ++ (recorded e.wrote ++ answered i K e.outcome e.event)
 
 -- the history of these entries, the newest of which comes first
 abbrev pub history : Catalog → List Named → List Step
 history catalog [] = []
-history catalog (n ∷ older) = history catalog older ++ steps_of n.0 (knowledge catalog n.0 (entries_of n.0 older)) n.1
+history catalog (n ∷ older) = history catalog older ++ steps_of n.0 (standing catalog n.0 (entries_of n.0 older)).knows n.1
 
 -- the history that a merge spells
 abbrev pub psi_of : Catalog → List Named → List Step

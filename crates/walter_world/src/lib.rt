@@ -3,4 +3,7 @@
 
 mod laws;
 
-pub use laws::{example_spells, one_site_spells_legal, right_trails_promise};
+pub use laws::{
+    a_restart_keeps_what_is_journaled, commits_are_decided, example_spells, one_site_spells_legal,
+    right_trails_promise,
+};

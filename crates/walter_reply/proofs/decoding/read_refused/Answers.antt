@@ -3,7 +3,7 @@ use Rattle.walter_fields.specs.Spellings.{number_spelled}
 use Rattle.walter_fields.proofs.Exits.{exits_with}
 use Rattle.walter_reply.specs.declared.fault.Stop.TheVariants.{Cut}
 use Rattle.walter_reply.specs.Stops.{StopsBehind}
-use Rattle.walter_reply.proofs.Fronts.{cut_refusal, cut_place, unknown_refusal}
+use Rattle.walter_reply.proofs.Fronts.{cut_refusal, cut_place, cut_gone, cut_need, cut_left, unknown_refusal}
 use Rattle.walter_reply.proofs.decoding.read_refused.Goals as goal
 
 pub returns-in_err-u8-clause-stop : goal.returns-in_err-u8-clause-stop
@@ -18,6 +18,29 @@ returns-in_err-at-in-8-clause-stop c =
     let exit = c.from_residual-in_err-at-in-8 in
     exits_with (StopsBehind 0xE0 left) Cut exit.result exit.ensures.1 (cut_place left mid (subst (λ k. left ≡ number_spelled 1 k ++ mid) c.in-8.is c.in_ok-u8.ensures.taken.front) (c.in_err-at-in-8.ensures.short.0 refl))
 
+pub returns-in_err-tid-in-7-clause-stop : goal.returns-in_err-tid-in-7-clause-stop
+returns-in_err-tid-in-7-clause-stop c =
+    let left = c.args.cursor.now.left in
+    let mid = c.u8.new.self.left in
+    let exit = c.from_residual-in_err-tid-in-7 in
+    exits_with (StopsBehind 0xE0 left) Cut exit.result exit.ensures.1 (cut_gone left mid (subst (λ k. left ≡ number_spelled 1 k ++ mid) c.in-7.is c.in_ok-u8.ensures.taken.front) (c.in_err-tid-in-7.ensures.short.0 refl))
+
+pub returns-in_err-need-in-10-clause-stop : goal.returns-in_err-need-in-10-clause-stop
+returns-in_err-need-in-10-clause-stop c =
+    let left = c.args.cursor.now.left in
+    let mid = c.u8.new.self.left in
+    let exit = c.from_residual-in_err-need-in-10 in
+    exits_with (StopsBehind 0xE0 left) Cut exit.result exit.ensures.1 (cut_need left mid (subst (λ k. left ≡ number_spelled 1 k ++ mid) c.in-10.is c.in_ok-u8.ensures.taken.front) (c.in_err-need-in-10.ensures.short.0 refl))
+
+pub returns-in_err-left-in-10-clause-stop : goal.returns-in_err-left-in-10-clause-stop
+returns-in_err-left-in-10-clause-stop c =
+    let left = c.args.cursor.now.left in
+    let mid = c.u8.new.self.left in
+    let exit = c.from_residual-in_err-left-in-10 in
+    let need = c.in_ok-need-in-10 in
+    exits_with (StopsBehind 0xE0 left) Cut exit.result exit.ensures.1
+    (cut_left left mid c.u64.new.self.left need.need (omega arith) (subst (λ k. left ≡ number_spelled 1 k ++ mid) c.in-10.is c.in_ok-u8.ensures.taken.front) need.ensures.taken.front (c.in_err-left-in-10.ensures.short.0 refl))
+
 pub returns-in_default-clause-stop : goal.returns-in_default-clause-stop
 returns-in_default-clause-stop c =
-    unknown_refusal c.in_ok-u8.field-0 c.args.cursor.now.left c.u8.new.self.left (omega arith) (λ e. omega (arith, e)) (λ e. omega (arith, e)) (λ e. omega (arith, e)) (λ e. omega (arith, e)) (λ e. omega (arith, e)) c.in_ok-u8.ensures.taken.front
+    unknown_refusal c.in_ok-u8.field-0 c.args.cursor.now.left c.u8.new.self.left (omega arith) (λ known. omega (arith, known.some, known.most, known.not_11)) c.in_ok-u8.ensures.taken.front

@@ -1,16 +1,15 @@
-use Rattle.std.proofs.Common.{◌≡◌, Some, get_or, slice_set, ap, refl, sym, ◌∙◌, subst, arith}
+use Rattle.std.proofs.Common.{◌≡◌, Some, get_or, slice_set, ap, sym, subst, arith}
 use Rattle.std.specs.Prelude.{IfSome}
-use Rattle.std.proofs.lemmas.Bool.{eq-eqb}
 use Rattle.walter_site.specs.declared.transaction.Transaction.{Transaction}
-use Rattle.walter_site.specs.Sites.{CanTake, first_of}
-use Rattle.walter_site.proofs.Places.{client_at, session_among-kept, first_of-set}
+use Rattle.walter_site.specs.Open.{CanTake, first_of}
+use Rattle.walter_site.proofs.Places.{client_at, sessions-kept, first_of-set}
 use Rattle.walter_site.proofs.transactions.reserve_update.Goals as goal
 
 pub returns-in_err-reserve-clause-same : goal.returns-in_err-reserve-clause-same
 returns-in_err-reserve-clause-same c =
     let t = c.index-transactions-place.result in
     let old = get_or c.args.transactions.now c.in-Some.place t in
-    session_among-kept c.args.client c.args.transactions.now c.in-Some.place
+    sessions-kept c.args.client c.args.transactions.now c.in-Some.place
     record { client = old.client; tid = old.tid; snapshot = old.snapshot; updates = c.reserve.new.self } t c.in-Some.ensures.place
     (client_at c.args.client c.args.transactions.now c.in-Some.place t c.in-Some.ensures.place)
     (ap (λ us. record { tid = old.tid; snapshot = old.snapshot; updates = us }) c.reserve.ensures.items)
@@ -19,7 +18,7 @@ pub returns-in_ok-reserve-clause-same : goal.returns-in_ok-reserve-clause-same
 returns-in_ok-reserve-clause-same c =
     let t = c.index-transactions-place.result in
     let old = get_or c.args.transactions.now c.in-Some.place t in
-    session_among-kept c.args.client c.args.transactions.now c.in-Some.place
+    sessions-kept c.args.client c.args.transactions.now c.in-Some.place
     record { client = old.client; tid = old.tid; snapshot = old.snapshot; updates = c.reserve.new.self } t c.in-Some.ensures.place
     (client_at c.args.client c.args.transactions.now c.in-Some.place t c.in-Some.ensures.place)
     (ap (λ us. record { tid = old.tid; snapshot = old.snapshot; updates = us }) c.reserve.ensures.items)
@@ -29,8 +28,8 @@ returns-in_ok-reserve-clause-room c =
     let t = c.index-transactions-place.result in
     let old = get_or c.args.transactions.now c.in-Some.place t in
     let new : Transaction = record { client = old.client; tid = old.tid; snapshot = old.snapshot; updates = c.reserve.new.self } in
-    let set = first_of-set c.args.client c.args.transactions.now c.in-Some.place new c.in-Some.ensures.place
-    (client_at c.args.client c.args.transactions.now c.in-Some.place t c.in-Some.ensures.place) c.args.client in
-    let here : first_of c.args.client (slice_set c.args.transactions.now c.in-Some.place new) ≡ Some new = set ∙ rw (eq-eqb c.args.client c.args.client refl) refl in
+    let here : first_of c.args.client (slice_set c.args.transactions.now c.in-Some.place new) ≡ Some new =
+    first_of-set c.args.client c.args.transactions.now c.in-Some.place new c.in-Some.ensures.place
+    (client_at c.args.client c.args.transactions.now c.in-Some.place t c.in-Some.ensures.place) in
     let room : CanTake new = omega (arith, c.in_ok-reserve.ensures.ok) in
     subst (λ o. IfSome o CanTake) (sym here) room

@@ -1,0 +1,3 @@
+pub mod Plain
+pub mod Replays
+pub mod Standings

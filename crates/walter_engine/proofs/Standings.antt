@@ -1,0 +1,59 @@
+-- How a site stands behind a record more, and the records of its journal.
+use Rattle.std.proofs.Common.{◌≡◌, ℕ, ◌+◌, ◌-◌, ◌<◌, ◌≤◌, List, [], ◌∷◌, ◌++◌, length, map, Bool, true, false, Option, Some, None, Result, Ok, Err, refl, ap, sym, ◌∙◌, subst, arith, inl, inr, if◌then◌else◌}
+use Rattle.std.specs.Prelude.{All, IfSome, sum_by}
+use Rattle.std.proofs.lemmas.List.Elements.{All-push}
+use Rattle.walter_base.specs.declared.catalog.Catalog.{Catalog}
+use Rattle.walter_base.specs.declared.message.BadFrame.{BadFrame as Bad}
+use Rattle.walter_base.specs.declared.message.Record.{Record}
+use Rattle.walter_base.specs.declared.message.Record.TheVariants.{Boot, Own}
+use Rattle.walter_base.specs.declared.message.Reply.{Reply}
+use Rattle.walter_base.specs.declared.message.Request.{Request}
+use Rattle.walter_base.specs.declared.names.SiteId.{SiteId}
+use Rattle.walter_record.specs.Spelling.{record_spelled, HasRecordSpelling}
+use Rattle.walter_trail.specs.declared.trail.Outcome.{Outcome}
+use Rattle.walter_trail.specs.declared.trail.Outcome.TheVariants.{Replied, Taken, Failed, Full}
+use Rattle.walter_trail.specs.declared.trail.TrailEvent.{TrailEvent}
+use Rattle.walter_trail.specs.declared.trail.TrailEvent.TheVariants.{Call, Stop, Restart}
+use Rattle.walter_trail.specs.Knowledge.{Knowledge, session_of, fresh, recorded, after, lost}
+use Rattle.walter_trail.specs.Records.{CanFollow, CanAllFollow, replayed}
+use Rattle.walter_trail.specs.Rule.{Expected, rule, call_rule, if_told, down_rule}
+use Rattle.walter_trail.specs.Standing.{Standing, Came, settled, stands_after}
+use Rattle.walter_engine.specs.Contents.{HasRecords, MayHaveRecords, CanBeJournaled, AreJournaled}
+use Rattle.walter_engine.proofs.Replays.{replayed_more, follow_more, lost_recorded, follows_lost, follows_found}
+
+told_none : (call : Result Request Bad) (x : Expected) → if_told call None x ≡ x
+told_none call x = refl
+
+-- at a site that is up a call is answered by the rule of calls, where the client is owed nothing
+pub rule_here : (catalog : Catalog) (i : SiteId) (S : Standing) (client : ℕ) (call : Result Request Bad) → S.up ≡ true → S.gone client ≡ None
+    → rule catalog i S (Call client call) ≡ call_rule catalog i S.knows call (session_of S.knows client)
+rule_here catalog i S client call up none =
+    let x = call_rule catalog i S.knows call (session_of S.knows client) in
+    ap (λ (b : Bool). if b then if_told call (S.gone client) x else down_rule call) up ∙ ap (λ gone. if_told call gone x) none
+
+-- the records of a site with one more
+pub journaled_more : (catalog : Catalog) (i : SiteId) (S T : Standing) (rec : Record) → AreJournaled catalog i S → CanBeJournaled catalog i S rec
+    → T.records ≡ S.records ++ rec ∷ [] → lost T.knows ≡ recorded i (Some rec) (lost S.knows) → T.flight ≡ None → (T.up ≡ true → 0 < T.knows.epoch)
+    → AreJournaled catalog i T
+journaled_more catalog i S T rec all can records knows flight booted = record {
+  spelled = subst (λ rs. All (HasRecordSpelling catalog.sites) rs) (sym records) (All-push (HasRecordSpelling catalog.sites) S.records rec all.spelled can.spelled);
+  follow = subst (λ rs. CanAllFollow catalog i (fresh catalog.sites) rs) (sym records)
+      (follow_more catalog i (fresh catalog.sites) S.records rec all.follow
+      (subst (λ K. CanFollow catalog i K rec) all.tell (follows_lost catalog i S.knows rec can.follows)));
+  tell = knows ∙ (ap (λ K. recorded i (Some rec) K) all.tell
+      ∙ (sym (replayed_more i (fresh catalog.sites) S.records rec) ∙ ap (λ rs. replayed i (fresh catalog.sites) rs) (sym records)));
+  in_flight = subst (λ (f : Option Record). IfSome f (CanBeJournaled catalog i T)) (sym flight) tt;
+  booted = booted;
+}
+
+-- the same records
+pub journaled_same : (catalog : Catalog) (i : SiteId) (S T : Standing) → AreJournaled catalog i S
+    → T.records ≡ S.records → lost T.knows ≡ lost S.knows → IfSome T.flight (CanBeJournaled catalog i T) → (T.up ≡ true → 0 < T.knows.epoch)
+    → AreJournaled catalog i T
+journaled_same catalog i S T all records knows flight booted = record {
+  spelled = subst (λ rs. All (HasRecordSpelling catalog.sites) rs) (sym records) all.spelled;
+  follow = subst (λ rs. CanAllFollow catalog i (fresh catalog.sites) rs) (sym records) all.follow;
+  tell = knows ∙ (all.tell ∙ ap (λ rs. replayed i (fresh catalog.sites) rs) (sym records));
+  in_flight = flight;
+  booted = booted;
+}

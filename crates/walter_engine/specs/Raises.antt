@@ -1,0 +1,58 @@
+-- What a restart leaves of a site that is down.
+use Rattle.std.specs.Prelude.{◌≡◌, ◌⊎◌, ◌<◌, ℕ, Bool, true, false, List, [], ◌∷◌, ◌++◌, map, length, Option, Some, None, is_some, IfSome}
+use Rattle.walter_base.specs.declared.catalog.Catalog.{Catalog}
+use Rattle.walter_base.specs.declared.message.Record.{Record}
+use Rattle.walter_base.specs.declared.names.SiteId.{SiteId}
+use Rattle.walter_disk.specs.declared.disk.Disk.{Ghosts}
+use Rattle.walter_engine.specs.declared.answers.RefusedRestart.{RefusedRestart}
+use Rattle.walter_engine.specs.declared.answers.RefusedRestart.TheVariants.{LastEpoch}
+use Rattle.walter_engine.specs.declared.answers.Restarted.{Restarted}
+use Rattle.walter_engine.specs.declared.answers.Restarted.TheVariants.{Refused}
+use Rattle.walter_engine.specs.declared.engine.Tally.{Tally}
+use Rattle.walter_engine.specs.declared.restarting.Raised.{Raised}
+use Rattle.walter_engine.specs.Contents.{AreJournaled}
+use Rattle.walter_engine.specs.Engines.{IsInState}
+use Rattle.walter_engine.specs.States.{disk_of_state}
+use Rattle.walter_engine.specs.Steps.{came_of_restart, kept_of, IsFaultOfRestart}
+use Rattle.walter_record.specs.Spelling.{record_spelled}
+use Rattle.walter_trail.specs.declared.trail.TrailEvent.TheVariants.{Restart}
+use Rattle.walter_trail.specs.Knowledge.{lost}
+use Rattle.walter_trail.specs.Standing.{Standing, settled, stands_after}
+use Rattle.walter_trail.specs.Trails.{Comes, IsFound}
+
+-- the site is down, and knows what its records tell
+pub record IsDown (S : Standing) : Type 0 where
+  pub down : S.up ≡ false
+  pub rests : lost S.knows ≡ S.knows
+
+-- so many records are known to be in the journal, and one may be in flight
+pub record IsCounted (tally : Tally) (S : Standing) : Type 0 where
+  pub count : tally.records ≡ length S.records
+  pub flight : tally.in_flight ≡ is_some S.flight
+
+-- the bodies are the records, or these with the one in flight behind them
+abbrev pub IsFoundIn : Standing → List (List ℕ) → Type 0
+IsFoundIn S bodies =
+    (bodies ≡ map record_spelled S.records) ⊎ ((rec : Record) × (S.flight ≡ Some rec) × (bodies ≡ map record_spelled (S.records ++ rec ∷ [])))
+
+abbrev pub IsRefused : Restarted → Type 0
+IsRefused answer = (kept : Option Record) × (why : RefusedRestart) × (answer ≡ Refused kept why)
+
+-- a restart of a site that stood so, with this record found
+pub record Boots {D : Type 0} {g : Ghosts D} (catalog : Catalog) (capacity : ℕ) (i : SiteId) (S : Standing) (result : Raised D g) : Type 0 where
+  pub comes : IsRefused result.answer ⊎ Comes catalog capacity i S Restart (came_of_restart result.answer)
+  pub left : IsInState (stands_after i S Restart (came_of_restart result.answer)) (Some result.state)
+  pub journaled : AreJournaled catalog i (stands_after i S Restart (came_of_restart result.answer))
+  pub counted : IsCounted result.tally (stands_after i S Restart (came_of_restart result.answer))
+  pub refused : (kept : Option Record) (why : RefusedRestart) → result.answer ≡ Refused kept why → (why ≡ LastEpoch) × (S.knows.epoch ≡ 4294967295)
+
+-- a restart of a site that stood so
+pub record Raises {D : Type 0} {g : Ghosts D} (catalog : Catalog) (capacity : ℕ) (i : SiteId) (S : Standing) (result : Raised D g) : Type 0 where
+  pub found : IfSome (kept_of result.answer) (IsFound S Restart)
+  pub boots : Boots catalog capacity i (settled i (kept_of result.answer) S) result
+
+-- what is told of the disk is told, its arms are as before, and its faults never fall
+pub record FromDisk {D : Type 0} {g : Ghosts D} (old : D) (result : Raised D g) : Type 0 where
+  pub arms : (g.known (disk_of_state result.state)).arms ≡ (g.known old).arms
+  pub tells : is_some (g.known (disk_of_state result.state)).reads ≡ is_some (g.known old).reads
+  pub faults : IsFaultOfRestart result.answer (g.known old).faults (g.known (disk_of_state result.state)).faults

@@ -1,0 +1,102 @@
+-- What a step and a restart come to, as an event of the site's trail.
+use Rattle.std.specs.Prelude.{◌≡◌, ◌<◌, ◌≤◌, ℕ, List, map, take, slice_get, Option, Some, None, All, IfSome}
+use Rattle.walter_base.specs.declared.catalog.Catalog.{Catalog}
+use Rattle.walter_base.specs.declared.message.BadFrame.{BadFrame}
+use Rattle.walter_base.specs.declared.message.Record.{Record}
+use Rattle.walter_base.specs.declared.message.Refusal.TheVariants.{Down as IsDown}
+use Rattle.walter_base.specs.declared.message.Reply.TheVariants.{Refused as RefusedCall}
+use Rattle.walter_base.specs.declared.message.Request.{Request}
+use Rattle.walter_base.specs.declared.names.SiteId.{SiteId}
+use Rattle.walter_base.specs.Sizes.{IsShortReply, CanBeRecorded}
+use Rattle.walter_disk.specs.Disks.{DiskState}
+use Rattle.walter_journal.specs.Layout.{HasContent, IsForeign, IsDamaged}
+use Rattle.walter_record.specs.Spelling.{record_spelled, HasRecordSpelling}
+use Rattle.walter_trail.specs.declared.trail.Outcome.{Outcome}
+use Rattle.walter_trail.specs.declared.trail.Outcome.TheVariants.{Replied, Taken, Failed as HasFailed, Full as IsFull, Memory, Refused as IsRefused}
+use Rattle.walter_trail.specs.declared.trail.TrailEvent.{TrailEvent}
+use Rattle.walter_trail.specs.declared.trail.TrailEvent.TheVariants.{Call, Stop, Restart}
+use Rattle.walter_trail.specs.Knowledge.{Knowledge, fresh}
+use Rattle.walter_trail.specs.Records.{CanFollow, CanAllFollow, replayed}
+use Rattle.walter_trail.specs.Standing.{Standing, Came, settled, stands_after}
+use Rattle.walter_trail.specs.Trails.{Comes, IsFound, failure, fullness, want, only}
+use Rattle.walter_engine.specs.declared.answers.RefusedRestart.{RefusedRestart}
+use Rattle.walter_engine.specs.declared.answers.RefusedRestart.TheVariants.{Foreign, Damaged, Unreadable, LastEpoch}
+use Rattle.walter_engine.specs.declared.answers.Restarted.{Restarted}
+use Rattle.walter_engine.specs.declared.answers.Restarted.TheVariants as restarted
+use Rattle.walter_engine.specs.declared.answers.Stepped.{Stepped}
+use Rattle.walter_engine.specs.declared.answers.Stepped.TheVariants.{Done, Failed, Full, Down, NoMemory}
+
+-- what the event of a step came to
+abbrev pub came_of_step : TrailEvent → Stepped → Came
+came_of_step event (Done reply wrote) = record { wrote = wrote; outcome = Replied reply; flight = None }
+came_of_step event (Failed rec) = record { wrote = None; outcome = failure event rec; flight = Some rec }
+came_of_step event (Full need left) = only (fullness event need left)
+came_of_step event Down = only (Replied (RefusedCall IsDown))
+came_of_step event NoMemory = only (want event)
+
+-- what a restart came to, and what it found of the record that was in flight
+abbrev pub came_of_restart : Restarted → Came
+came_of_restart (restarted.Up kept wrote) = record { wrote = Some wrote; outcome = Taken; flight = None }
+came_of_restart (restarted.Failed kept flight) = record { wrote = None; outcome = HasFailed; flight = flight }
+came_of_restart (restarted.Full kept need left) = only (IsFull need left)
+came_of_restart (restarted.Refused kept why) = only IsRefused
+came_of_restart (restarted.NoMemory kept) = only Memory
+
+abbrev pub kept_of : Restarted → Option Record
+kept_of (restarted.Up kept wrote) = kept
+kept_of (restarted.Failed kept flight) = kept
+kept_of (restarted.Full kept need left) = kept
+kept_of (restarted.Refused kept why) = kept
+kept_of (restarted.NoMemory kept) = kept
+
+-- what a step answers has a frame, and what it writes a spelling
+abbrev pub IsSizedStep : Stepped → Type 0
+IsSizedStep (Done reply wrote) = IsShortReply reply × IfSome wrote CanBeRecorded
+IsSizedStep (Failed rec) = CanBeRecorded rec
+IsSizedStep (Full need left) = Unit {0}
+IsSizedStep Down = Unit {0}
+IsSizedStep NoMemory = Unit {0}
+
+-- so it is with what a restart found
+abbrev pub IsSizedRestart : Restarted → Type 0
+IsSizedRestart answer = IfSome (kept_of answer) CanBeRecorded × IfSome (came_of_restart answer).wrote CanBeRecorded × IfSome (came_of_restart answer).flight CanBeRecorded
+
+-- the bodies spell these records, of which each can follow those before it
+pub record Tell (catalog : Catalog) (i : SiteId) (bodies : List (List ℕ)) (records : List Record) : Type 0 where
+  pub spell : bodies ≡ map record_spelled records
+  pub spelled : All (HasRecordSpelling catalog.sites) records
+  pub follow : CanAllFollow catalog i (fresh catalog.sites) records
+
+-- the first bodies do; the one with this index spells no record, or one that can't follow
+pub record IsUnreadable (catalog : Catalog) (i : SiteId) (bodies : List (List ℕ)) (index : ℕ) : Type 0 where
+  pub records : List Record
+  pub body : List ℕ
+  pub front : Tell catalog i (take index bodies) records
+  pub within : slice_get bodies index ≡ Some body
+  pub wrong : (rec : Record) → HasRecordSpelling catalog.sites rec → body ≡ record_spelled rec
+      → ¬ CanFollow catalog i (replayed i (fresh catalog.sites) records) rec
+
+-- why a restart is refused, by the bytes that the disk has
+abbrev pub IsRefusedFor : Catalog → SiteId → List ℕ → RefusedRestart → Type 0
+IsRefusedFor catalog i bytes Foreign = IsForeign bytes
+IsRefusedFor catalog i bytes (Damaged at length) = IsDamaged bytes at length
+IsRefusedFor catalog i bytes (Unreadable index) = (bodies : List (List ℕ)) × HasContent bytes bodies × IsUnreadable catalog i bodies index
+IsRefusedFor catalog i bytes LastEpoch =
+    (bodies : List (List ℕ)) × (records : List Record) × HasContent bytes bodies × Tell catalog i bodies records
+    × ((replayed i (fresh catalog.sites) records).epoch ≡ 4294967295)
+
+-- the disk's faults never fall, and a step that failed met one
+abbrev pub IsFaultOfStep : Stepped → ℕ → ℕ → Type 0
+IsFaultOfStep (Failed rec) old new = old < new
+IsFaultOfStep (Done reply wrote) old new = old ≤ new
+IsFaultOfStep (Full need left) old new = old ≤ new
+IsFaultOfStep Down old new = old ≤ new
+IsFaultOfStep NoMemory old new = old ≤ new
+
+-- so it is with a restart
+abbrev pub IsFaultOfRestart : Restarted → ℕ → ℕ → Type 0
+IsFaultOfRestart (restarted.Failed kept flight) old new = old < new
+IsFaultOfRestart (restarted.Up kept wrote) old new = old ≤ new
+IsFaultOfRestart (restarted.Full kept need left) old new = old ≤ new
+IsFaultOfRestart (restarted.Refused kept why) old new = old ≤ new
+IsFaultOfRestart (restarted.NoMemory kept) old new = old ≤ new

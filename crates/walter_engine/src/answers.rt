@@ -1,0 +1,61 @@
+use thiserror::Error;
+use walter_base::{Record, Reply};
+
+/// What a step came to.
+#[derive(Debug, Drop)]
+pub enum Stepped {
+    /// The client is answered so. The record, if there is one, is stable.
+    Done { reply: Reply, wrote: Option<Record> },
+    /// A call on the disk failed while this record was journaled, and the site is down.
+    Failed { flight: Record },
+    /// The journal has no place for the record: so many bytes are needed, and so many left.
+    Full { need: u64, left: u64 },
+    /// The site is down.
+    Down,
+    /// Memory ran out, and nothing changed.
+    NoMemory,
+}
+
+/// What a restart came to. `kept` is the record that was in flight, where the journal has it.
+#[derive(Debug, Drop)]
+pub enum Restarted {
+    /// The site is up, and this record is stable.
+    Up {
+        kept: Option<Record>,
+        wrote: Record,
+    },
+    /// A call on the disk failed: while the journal was read, or while the record in `flight` was journaled.
+    Failed {
+        kept: Option<Record>,
+        flight: Option<Record>,
+    },
+    /// The journal has no place for the record of the restart: so many bytes are needed, and so many left.
+    Full {
+        kept: Option<Record>,
+        need: u64,
+        left: u64,
+    },
+    /// The journal is not one that such a site left, or the site has had its last epoch.
+    Refused {
+        kept: Option<Record>,
+        why: RefusedRestart,
+    },
+    /// Memory ran out.
+    NoMemory {
+        kept: Option<Record>,
+    },
+}
+
+/// Why a journal makes no site.
+#[derive(Clone, Copy, Debug, PartialEq, Eq, Error)]
+pub enum RefusedRestart {
+    #[error("the disk has no journal")]
+    Foreign,
+    #[error("the journal is damaged: behind the gate at {at} stands the length {length}")]
+    Damaged { at: u64, length: u32 },
+    /// The body with this index, from 0, spells no record, or one that cannot follow.
+    #[error("the body {index} of the journal is no record that can stand there")]
+    Unreadable { index: u64 },
+    #[error("the site has had its last epoch")]
+    LastEpoch,
+}

@@ -1,0 +1,226 @@
+ghost use Rattle.std.specs.Prelude.{◌≡◌, ◌≢◌, ◌<◌, ◌≤◌, ◌++◌, ◌∷◌, [], ℕ, List, true, false, None, Some, is_some, IsSome, IfOk, IfErr, OnOk, OnErr, option_map};
+ghost use Rattle.walter_engine.specs.States.{IsOfState};
+
+use crate::answers::{Restarted, Stepped};
+use crate::restarting::{Raised, disk_of, raise, unloaded};
+use crate::stepping::advance;
+use std::alloc::Global;
+use std::mem;
+use walter_base::{Catalog, Mem, NoMemory, SiteId};
+use walter_disk::Disk;
+use walter_journal::{Journal, load};
+use walter_site::{Input, Site};
+
+/// Whether a site is up.
+#[derive(Drop)]
+pub(crate) enum State<D: Disk> {
+    /// It is up, over its journal.
+    Up(Site, Journal<D>),
+    /// It is down, with its disk.
+    Down(D),
+}
+
+/// How many records a journal is known to have, and whether one more may be behind them.
+#[derive(Clone, Copy, Drop)]
+pub(crate) struct Tally {
+    pub records: u64,
+    pub in_flight: bool,
+}
+
+/// A site with its disk. Contracts say by `Stands` how it stands.
+#[derive(Drop)]
+pub struct Engine<D: Disk> {
+    alloc: Global,
+    catalog: Catalog,
+    site: SiteId,
+    capacity: u64,
+    tally: Tally,
+    // None only within a call.
+    state: Option<State<D>>,
+    ghost here: { site.0 < catalog.sites },
+    ghost most: { catalog.sites ≤ 8 },
+    ghost there: { is_some state ≡ true },
+    ghost of: { IsOfState catalog site capacity state },
+}
+
+impl<D: Disk + Drop> Engine<D> {
+    ghost use Rattle.walter_disk.specs.Images.{LeavesOnly};
+    ghost use Rattle.walter_site.specs.Sites.{event_of, client_of};
+    ghost use Rattle.walter_trail.specs.Rule.{rule};
+    ghost use Rattle.walter_trail.specs.Standing.{Standing, unmade, stands_after};
+    ghost use Rattle.walter_trail.specs.Trails.{Comes, only};
+    ghost use Rattle.walter_trail.specs.declared.trail.Outcome.TheVariants.{Taken};
+    ghost use Rattle.walter_trail.specs.declared.trail.TrailEvent.TheVariants.{Stop};
+    ghost use Rattle.walter_engine.specs.Contents.{HasRecords, MayHaveRecords};
+    ghost use Rattle.walter_engine.specs.Engines.{catalog_in, site_in, capacity_in, disk_in, is_up, OfDisks, IsSameEngine, Stands};
+    ghost use Rattle.walter_engine.specs.Restarts.{Restarts};
+    ghost use Rattle.walter_engine.specs.Steps.{came_of_step, IsSizedStep, IsSizedRestart, IsFaultOfStep, IsFaultOfRestart, IsRefusedFor};
+
+    /// A site that is down, with a disk that nothing is known of. Where there is no memory the disk comes back.
+    pub fn new(
+        alloc: Global,
+        disk: D,
+        catalog: &Catalog,
+        site: SiteId,
+        capacity: u64,
+    ) -> Result<Engine<D>, D>
+        requires here { site.0 < catalog.now.sites }
+        requires most { catalog.now.sites ≤ 8 }
+        ensures disk { IfOk result (λ engine. disk_in engine ≡ Some disk) }
+        ensures down { IfOk result (λ engine. is_up engine ≡ false) }
+        ensures catalog { IfOk result (λ engine. catalog_in engine ≡ catalog.now) }
+        ensures site { IfOk result (λ engine. site_in engine ≡ site) }
+        ensures capacity { IfOk result (λ engine. capacity_in engine ≡ capacity) }
+        ensures back { IfErr result (λ back. back ≡ disk) }
+        // over a journal that has no records yet
+        ensures stands { IsSome (D.known disk).reads → 0 < (D.known disk).size
+            → ((image : List ℕ) → D.may_leave disk image → HasRecords image [])
+            → IfOk result (λ engine. Stands engine (unmade catalog.now.sites)) }
+    {
+        let Ok(copy) = catalog.clone() else {
+            return Err(disk);
+        };
+        Ok(Engine {
+            alloc,
+            catalog: copy,
+            site,
+            capacity,
+            tally: Tally {
+                records: 0,
+                in_flight: false,
+            },
+            state: Some(State::Down(disk)),
+        })
+    }
+
+    pub fn is_up(&self) -> bool
+        ensures { result ≡ is_up self.now }
+    {
+        matches!(&self.state, Some(State::Up(_, _)))
+    }
+
+    /// The disk, as it is.
+    pub fn into_disk(self) -> D
+        ensures { Some result ≡ disk_in self }
+    {
+        let Engine { state, .. } = self;
+        match state {
+            Some(state) => disk_of(state),
+            None => unreachable!(),
+        }
+    }
+
+    /// Does to the disk what `Disk::arm` does.
+    pub fn arm(&mut self, nth: u64, choice: u64) -> Mem<()>
+        requires { 0 < nth }
+        ensures armed { OnOk result (OfDisks self.old self.new (λ old new.
+            D.known new ≡ record (D.known old) { arms = option_map (λ arms. arms ++ (nth, choice) ∷ []) (D.known old).arms })) }
+        ensures same { OnErr result (OfDisks self.old self.new (λ old new. D.known new ≡ D.known old)) }
+        ensures engine { IsSameEngine self.old self.new }
+        ensures up { is_up self.new ≡ is_up self.old }
+        ensures stands { (S : Standing) → Stands self.old S → Stands self.new S }
+    {
+        let Some(state) = &mut self.state else {
+            unreachable!()
+        };
+        let armed = match state {
+            State::Up(_, journal) => journal.arm(nth, choice),
+            State::Down(disk) => disk.arm(nth, choice),
+        };
+        armed.map_err(|_| NoMemory)
+    }
+
+    /// Gives the site an input. It takes all its memory before it writes to the journal.
+    pub fn step(&mut self, input: &Input) -> Stepped
+        ensures down { is_up self.old ≡ false → (result ≡ Stepped.Down) × (self.new ≡ self.old) }
+        ensures up { is_up self.old ≡ true → result ≢ Stepped.Down }
+        ensures comes { (S : Standing) → Stands self.old S → S.up ≡ true → S.gone (client_of input.now) ≡ None
+            → Comes (catalog_in self.old) (capacity_in self.old) (site_in self.old) S (event_of input.now) (came_of_step (event_of input.now) result) }
+        ensures stands { (S : Standing) → Stands self.old S → S.up ≡ true → S.gone (client_of input.now) ≡ None
+            → Stands self.new (stands_after (site_in self.old) S (event_of input.now) (came_of_step (event_of input.now) result)) }
+        // a crash at any moment of it leaves the records from before, with the one that the rule brings behind them or without
+        ensures any_moment { (S : Standing) → Stands self.old S → S.up ≡ true → S.gone (client_of input.now) ≡ None
+            → OfDisks self.old self.new (λ old new. LeavesOnly D.moment D.left_since old new
+            (MayHaveRecords S.records (rule (catalog_in self.old) (site_in self.old) S (event_of input.now)).wrote)) }
+        ensures sized { IsSizedStep result }
+        ensures faults { OfDisks self.old self.new (λ old new. IsFaultOfStep result (D.known old).faults (D.known new).faults) }
+        ensures arms { OfDisks self.old self.new (λ old new. (D.known new).arms ≡ (D.known old).arms) }
+        ensures engine { IsSameEngine self.old self.new }
+    {
+        let Some(state) = &mut self.state else {
+            return Stepped::Down;
+        };
+        let stepped = match state {
+            State::Up(site, journal) => {
+                advance(self.alloc, site, journal, &mut self.tally.records, input)
+            }
+            State::Down(_) => return Stepped::Down,
+        };
+        if matches!(&stepped, Stepped::Failed { .. }) {
+            self.tally.in_flight = true;
+            self.fall();
+        }
+        stepped
+    }
+
+    /// The site loses its memory. One that is down has none to lose.
+    pub fn stop(&mut self)
+        ensures stands { (S : Standing) → Stands self.old S → S.up ≡ true
+            → Stands self.new (stands_after (site_in self.old) S Stop (only Taken)) }
+        ensures down { is_up self.new ≡ false }
+        ensures disk { disk_in self.new ≡ disk_in self.old }
+        ensures engine { IsSameEngine self.old self.new }
+    {
+        self.fall();
+    }
+
+    // Keeps nothing but the disk.
+    fn fall(&mut self)
+        ensures down { is_up self.new ≡ false }
+        ensures disk { disk_in self.new ≡ disk_in self.old }
+        ensures tally { self.new.tally ≡ self.old.tally }
+        ensures engine { IsSameEngine self.old self.new }
+    {
+        if let Some(state) = mem::replace(&mut self.state, None) {
+            self.state = Some(State::Down(disk_of(state)));
+        }
+    }
+
+    /// Makes the site anew from its journal.
+    pub fn restart(&mut self) -> Restarted
+        requires { is_up self.old ≡ false }
+        ensures restarts { (S : Standing) → Stands self.old S
+            → Restarts (catalog_in self.old) (capacity_in self.old) (site_in self.old) S result self.new }
+        ensures sized { IsSizedRestart result }
+        ensures faults { OfDisks self.old self.new (λ old new. IsFaultOfRestart result (D.known old).faults (D.known new).faults) }
+        ensures arms { OfDisks self.old self.new (λ old new. (D.known new).arms ≡ (D.known old).arms) }
+        ensures engine { IsSameEngine self.old self.new }
+    {
+        let Some(state) = mem::replace(&mut self.state, None) else {
+            unreachable!()
+        };
+        let disk = disk_of(state);
+        let Raised {
+            state,
+            answer,
+            tally,
+        } = match load(self.alloc, disk, self.capacity) {
+            Ok((journal, bodies)) => raise(
+                self.alloc,
+                &self.catalog,
+                self.site,
+                journal,
+                bodies.as_slice(),
+                self.tally,
+            ),
+            Err((disk, fault)) => Raised {
+                state: State::Down(disk),
+                answer: unloaded(fault),
+                tally: self.tally,
+            },
+        };
+        self.state = Some(state);
+        self.tally = tally;
+        answer
+    }
+}

@@ -1,0 +1,168 @@
+ghost use Rattle.std.specs.Prelude.{◌≡◌, ◌≤◌, ◌<◌, List, ℕ, map, IfSome};
+ghost use Rattle.walter_base.specs.Sizes.{CanBeRecorded};
+ghost use Rattle.walter_journal.specs.Journals.{disk_of, capacity_of, StandsFor};
+ghost use Rattle.walter_record.specs.Spelling.{record_spelled};
+ghost use Rattle.walter_site.specs.Sites.{known, site_of, catalog_of};
+ghost use Rattle.walter_trail.specs.Standing.{Standing};
+ghost use Rattle.walter_engine.specs.Contents.{AreJournaled};
+ghost use Rattle.walter_engine.specs.Raises.{Raises, Boots, IsDown, IsFoundIn, IsCounted, FromDisk};
+ghost use Rattle.walter_engine.specs.Restarts.{unloaded_by};
+ghost use Rattle.walter_engine.specs.States.{IsOf, disk_of_state};
+ghost use Rattle.walter_engine.specs.Steps.{IsSizedRestart, kept_of};
+
+use crate::answers::{RefusedRestart, Restarted};
+use crate::engine::{State, Tally};
+use crate::replaying::{ReadFault, last_record, replay_all};
+use crate::stepping::{Staged, stage};
+use std::alloc::Global;
+use walter_base::{Catalog, Record, SiteId};
+use walter_disk::Disk;
+use walter_journal::{AppendFault, Journal, JournalFault};
+use walter_site::Site;
+
+/// What a restart leaves: the site or its disk, the answer, and what is known of the journal.
+#[derive(Drop)]
+pub(crate) struct Raised<D: Disk> {
+    pub state: State<D>,
+    pub answer: Restarted,
+    pub tally: Tally,
+}
+
+/// Makes the site that the bodies of its journal tell, and journals its next epoch. Where a record was in flight, the one
+/// behind those that were known is that one.
+pub(crate) fn raise<D: Disk>(
+    alloc: Global,
+    catalog: &Catalog,
+    id: SiteId,
+    journal: Journal<D>,
+    bodies: &[Vec<u8>],
+    tally: Tally,
+) -> Raised<D>
+    requires here { id.0 < catalog.now.sites }
+    requires most { catalog.now.sites ≤ 8 }
+    ensures raises { (S : Standing) → IsDown S → AreJournaled catalog.now id S → IsCounted tally S
+        → IsFoundIn S (map (λ body. body.items) bodies.now) → StandsFor journal (map (λ body. body.items) bodies.now)
+        → Raises catalog.now (capacity_of journal) id S result }
+    ensures sized { IsSizedRestart result.answer }
+    ensures disk { FromDisk (disk_of journal) result }
+    ensures of { IsOf catalog.now id (capacity_of journal) result.state }
+{
+    let site = match replay_all(alloc, catalog, id, bodies) {
+        Ok(site) => site,
+        Err(ReadFault::Unreadable { index }) => {
+            let why = RefusedRestart::Unreadable { index };
+            return rest(journal, tally, Restarted::Refused { kept: None, why });
+        }
+        Err(ReadFault::NoMemory) => {
+            return rest(journal, tally, Restarted::NoMemory { kept: None });
+        }
+    };
+    if !tally.in_flight || bodies.len() as u64 <= tally.records {
+        return boot(alloc, site, journal, tally, None);
+    }
+    let Ok(kept) = last_record(alloc, bodies, catalog.sites) else {
+        return rest(journal, tally, Restarted::NoMemory { kept: None });
+    };
+    let settled = Tally {
+        records: bodies.len() as u64,
+        in_flight: false,
+    };
+    boot(alloc, site, journal, settled, kept)
+}
+
+// The site stays down.
+fn rest<D: Disk>(journal: Journal<D>, tally: Tally, answer: Restarted) -> Raised<D>
+    ensures state { result.state ≡ State.Down (disk_of journal) }
+    ensures answer { result.answer ≡ answer }
+    ensures tally { result.tally ≡ tally }
+{
+    Raised {
+        state: State::Down(journal.into_disk()),
+        answer,
+        tally,
+    }
+}
+
+// Journals the next epoch of the site.
+fn boot<D: Disk>(
+    alloc: Global,
+    mut site: Site,
+    mut journal: Journal<D>,
+    tally: Tally,
+    kept: Option<Record>,
+) -> Raised<D>
+    requires sized { IfSome kept CanBeRecorded }
+    ensures boots { (S : Standing) → IsDown S → known site ≡ S.knows → AreJournaled (catalog_of site) (site_of site) S → IsCounted tally S
+        → StandsFor journal (map record_spelled S.records)
+        → Boots (catalog_of site) (capacity_of journal) (site_of site) S result }
+    ensures kept { kept_of result.answer ≡ kept }
+    ensures sized { IsSizedRestart result.answer }
+    ensures disk { FromDisk (disk_of journal) result }
+    ensures of { IsOf (catalog_of site) (site_of site) (capacity_of journal) result.state }
+{
+    let Some(epoch) = site.epoch().checked_add(1) else {
+        let why = RefusedRestart::LastEpoch;
+        return rest(journal, tally, Restarted::Refused { kept, why });
+    };
+    let rec = Record::Boot(epoch);
+    let Ok(Staged { body, count, .. }) = stage(alloc, &mut journal, tally.records, &rec) else {
+        return rest(journal, tally, Restarted::NoMemory { kept });
+    };
+    let Ok(()) = site.replay(Record::Boot(epoch)) else {
+        return rest(journal, tally, Restarted::NoMemory { kept });
+    };
+    match journal.append(body.as_slice()) {
+        Ok(()) => Raised {
+            state: State::Up(site, journal),
+            answer: Restarted::Up { kept, wrote: rec },
+            tally: Tally {
+                records: count,
+                in_flight: false,
+            },
+        },
+        Err(AppendFault::Failed) => {
+            let tally = Tally {
+                records: tally.records,
+                in_flight: true,
+            };
+            let flight = Some(rec);
+            rest(journal, tally, Restarted::Failed { kept, flight })
+        }
+        Err(AppendFault::Full { need, left }) => {
+            let tally = Tally {
+                records: tally.records,
+                in_flight: false,
+            };
+            rest(journal, tally, Restarted::Full { kept, need, left })
+        }
+    }
+}
+
+/// The disk, bare or under a journal.
+pub(crate) fn disk_of<D: Disk>(state: State<D>) -> D
+    ensures { result ≡ disk_of_state state }
+{
+    match state {
+        State::Up(_, journal) => journal.into_disk(),
+        State::Down(disk) => disk,
+    }
+}
+
+/// What a restart comes to whose journal was not loaded.
+pub(crate) fn unloaded(fault: JournalFault) -> Restarted
+    ensures { result ≡ unloaded_by fault }
+{
+    let kept = None;
+    match fault {
+        JournalFault::Failed => Restarted::Failed { kept, flight: None },
+        JournalFault::NoMemory => Restarted::NoMemory { kept },
+        JournalFault::Foreign => Restarted::Refused {
+            kept,
+            why: RefusedRestart::Foreign,
+        },
+        JournalFault::Damaged { at, length } => Restarted::Refused {
+            kept,
+            why: RefusedRestart::Damaged { at, length },
+        },
+    }
+}

@@ -1,0 +1,172 @@
+ghost use Rattle.std.specs.Prelude.{◌≡◌, ◌<◌, None, true, is_some, IfOk, IfSome, OnErr, OnOk};
+ghost use Rattle.walter_base.specs.Sizes.{CanBeRecorded, IsShortReply};
+ghost use Rattle.walter_disk.specs.Images.{LeavesOnly};
+ghost use Rattle.walter_journal.specs.Journals.{disk_of, capacity_of};
+ghost use Rattle.walter_site.specs.Sites.{known, site_of, catalog_of, event_of, client_of, call_of, IsPlan, HasRoom};
+ghost use Rattle.walter_trail.specs.Records.{CanFollow, IsRecordAmong};
+ghost use Rattle.walter_trail.specs.Rule.{MayWant, rule};
+ghost use Rattle.walter_trail.specs.Standing.{Standing};
+ghost use Rattle.walter_engine.specs.Contents.{AreJournaled, MayHaveRecords};
+ghost use Rattle.walter_engine.specs.Engines.{IsRunning};
+ghost use Rattle.walter_engine.specs.Advances.{IsSameJournal, IsStaged, AreStaged, TakesCopy, count_after, Advances};
+ghost use Rattle.walter_engine.specs.Steps.{IsSizedStep, IsFaultOfStep};
+
+use crate::answers::Stepped;
+use std::alloc::Global;
+use walter_base::{Bytes, Mem, NoMemory, Record, Reply};
+use walter_disk::Disk;
+use walter_journal::{AppendFault, Journal};
+use walter_site::{Input, Plan, Site};
+
+/// A record with its bytes, and the number of records that the journal will have then.
+#[derive(Drop)]
+pub(crate) struct Staged {
+    pub rec: Record,
+    pub body: Bytes,
+    pub count: u64,
+}
+
+/// A plan with a copy of its reply, and its record staged, where it has one.
+#[derive(Drop)]
+struct Ready {
+    plan: Plan,
+    reply: Reply,
+    staged: Option<Staged>,
+}
+
+/// Gives a site that is up an input. All the memory that this takes is taken before the journal is written to, and what is
+/// answered stands behind a stable record. `count` is how many records the journal has.
+pub(crate) fn advance<D: Disk>(
+    alloc: Global,
+    site: &mut Site,
+    journal: &mut Journal<D>,
+    count: &mut u64,
+    input: &Input,
+) -> Stepped
+    ensures advances { (S : Standing) → IsRunning S site.old journal.old → AreJournaled (catalog_of site.old) (site_of site.old) S → S.gone (client_of input.now) ≡ None
+        → Advances (catalog_of site.old) (capacity_of journal.old) (site_of site.old) S (event_of input.now) result site.new journal.new }
+    ensures any_moment { (S : Standing) → IsRunning S site.old journal.old → AreJournaled (catalog_of site.old) (site_of site.old) S → S.gone (client_of input.now) ≡ None
+        → LeavesOnly D.moment D.left_since (disk_of journal.old) (disk_of journal.new)
+        (MayHaveRecords S.records (rule (catalog_of site.old) (site_of site.old) S (event_of input.now)).wrote) }
+    ensures count { count.new ≡ count_after count.old result }
+    ensures sized { IsSizedStep result }
+    ensures faults { IsFaultOfStep result (D.known (disk_of journal.old)).faults (D.known (disk_of journal.new)).faults }
+    ensures arms { (D.known (disk_of journal.new)).arms ≡ (D.known (disk_of journal.old)).arms }
+    ensures tells { is_some (D.known (disk_of journal.new)).reads ≡ is_some (D.known (disk_of journal.old)).reads }
+    ensures capacity { capacity_of journal.new ≡ capacity_of journal.old }
+    ensures site { site_of site.new ≡ site_of site.old }
+    ensures catalog { catalog_of site.new ≡ catalog_of site.old }
+{
+    let Ok(ready) = prepare(alloc, site, journal, *count, input) else {
+        return Stepped::NoMemory;
+    };
+    let Ready {
+        plan,
+        reply,
+        staged,
+    } = ready;
+    let Some(
+        Staged {
+            rec,
+            body,
+            count: next,
+        },
+    ) = staged
+    else {
+        site.apply(plan);
+        return Stepped::Done { reply, wrote: None };
+    };
+    match journal.append(body.as_slice()) {
+        Ok(()) => {
+            site.apply(plan);
+            *count = next;
+            Stepped::Done {
+                reply,
+                wrote: Some(rec),
+            }
+        }
+        Err(AppendFault::Failed) => Stepped::Failed { flight: rec },
+        Err(AppendFault::Full { need, left }) => Stepped::Full { need, left },
+    }
+}
+
+// Takes all the memory that a step takes.
+fn prepare<D: Disk>(
+    alloc: Global,
+    site: &mut Site,
+    journal: &mut Journal<D>,
+    count: u64,
+    input: &Input,
+) -> Mem<Ready>
+    ensures plan { IfOk result (λ r. IsPlan (catalog_of site.old) (site_of site.old) (known site.old) input.now r.plan) }
+    ensures room { IfOk result (λ r. HasRoom site.new r.plan) }
+    ensures reply { IfOk result (λ r. r.reply ≡ r.plan.reply) }
+    ensures short { IfOk result (λ r. IsShortReply r.reply) }
+    ensures staged { IfOk result (λ r. AreStaged journal.new count r.plan.rec r.staged) }
+    ensures follows { IfOk result (λ r. IfSome r.plan.rec (λ rec. 0 < (known site.old).epoch → CanFollow (catalog_of site.old) (site_of site.old) (known site.old) rec)) }
+    ensures sizes { IfOk result (λ r. IfSome r.plan.rec (IsRecordAmong (catalog_of site.old).sites)) }
+    ensures free { OnErr result (MayWant (call_of input.now)) }
+    ensures journal { IsSameJournal journal.old journal.new }
+    ensures same { known site.new ≡ known site.old }
+    ensures site { site_of site.new ≡ site_of site.old }
+    ensures catalog { catalog_of site.new ≡ catalog_of site.old }
+{
+    let plan = site.plan(input)?;
+    let reply = copy_reply(&plan.reply)?;
+    let staged = stage_if_any(alloc, journal, count, &plan.rec)?;
+    Ok(Ready {
+        plan,
+        reply,
+        staged,
+    })
+}
+
+fn copy_reply(reply: &Reply) -> Mem<Reply>
+    ensures copy { IfOk result (λ copy. copy ≡ reply.now) }
+    ensures free { OnErr result (TakesCopy reply.now) }
+{
+    match reply {
+        Reply::Aborted(cause) => Ok(Reply::Aborted(*cause)),
+        Reply::Level(level) => Ok(Reply::Level(*level)),
+        Reply::Refused(refusal) => Ok(Reply::Refused(*refusal)),
+        other => Ok(other.clone()?),
+    }
+}
+
+fn stage_if_any<D: Disk>(
+    alloc: Global,
+    journal: &mut Journal<D>,
+    count: u64,
+    rec: &Option<Record>,
+) -> Mem<Option<Staged>>
+    requires { IfSome rec.now CanBeRecorded }
+    ensures staged { IfOk result (AreStaged journal.new count rec.now) }
+    ensures free { OnErr result (is_some rec.now ≡ true) }
+    ensures same { IsSameJournal journal.old journal.new }
+{
+    match rec {
+        Some(rec) => Ok(Some(stage(alloc, journal, count, rec)?)),
+        None => Ok(None),
+    }
+}
+
+/// Spells a record, and makes room for it in the journal.
+pub(crate) fn stage<D: Disk>(
+    alloc: Global,
+    journal: &mut Journal<D>,
+    count: u64,
+    rec: &Record,
+) -> Mem<Staged>
+    requires { CanBeRecorded rec.now }
+    ensures staged { IfOk result (IsStaged journal.new count rec.now) }
+    ensures same { IsSameJournal journal.old journal.new }
+{
+    // No memory holds so many records.
+    let count = count.checked_add(1).ok_or(NoMemory)?;
+    let body = walter_record::encode(alloc, rec)?;
+    let rec = rec.clone()?;
+    match journal.make_room(body.len() as u64) {
+        Ok(()) => Ok(Staged { rec, body, count }),
+        Err(_) => Err(NoMemory),
+    }
+}

@@ -1,0 +1,13 @@
+-- What the lines of a report and of a trace are made of.
+use Rattle.std.specs.Prelude.{ℕ, List, [], ◌∷◌, codes}
+
+abbrev pub comma : ℕ
+comma = 44
+
+abbrev pub line_feed : List ℕ
+line_feed = 10 ∷ []
+
+-- a dash in the place of nothing
+abbrev pub or_dash : List ℕ → List ℕ
+or_dash [] = codes "-"
+or_dash (byte ∷ bytes) = byte ∷ bytes

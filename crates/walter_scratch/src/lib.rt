@@ -1,0 +1,6 @@
+//! Scratch.
+#![tactic(auto)]
+
+mod tie;
+
+pub use tie::{Tie, lose_all};

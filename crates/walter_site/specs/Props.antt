@@ -1,0 +1,32 @@
+-- What holds of the open transactions and of what is held has one proof at most.
+use Rattle.std.specs.Prelude.{List, [], ◌∷◌, Option}
+use Rattle.std.proofs.Props.{props as usual}
+use Rattle.walter_base.specs.declared.catalog.Catalog.{Catalog}
+use Rattle.walter_base.specs.declared.names.Kind.{Kind}
+use Rattle.walter_base.specs.declared.update.Update.{Update}
+use Rattle.walter_base.specs.declared.update.Update.TheVariants.{Write, Add, Del}
+use Rattle.walter_base.specs.Sizes.{HasShortValue}
+use Rattle.walter_site.specs.Open.{AreApart}
+use Rattle.walter_trail.specs.Knowledge.{Open}
+use Rattle.walter_trail.specs.Records.{IsDeclared}
+
+Kind-set : IsSet Kind
+Kind-set = hlevel usual
+
+pub IsDeclared-prop : (catalog : Catalog) (update : Update) → IsProp (IsDeclared catalog update)
+IsDeclared-prop catalog (Write oid bytes) = hlevel (usual, Kind-set)
+IsDeclared-prop catalog (Add oid id) = hlevel (usual, Kind-set)
+IsDeclared-prop catalog (Del oid id) = hlevel (usual, Kind-set)
+
+pub HasShortValue-prop : (update : Update) → IsProp (HasShortValue update)
+HasShortValue-prop (Write oid bytes) = hlevel usual
+HasShortValue-prop (Add oid id) = hlevel usual
+HasShortValue-prop (Del oid id) = hlevel usual
+
+pub AreApart-prop : (sessions : List Open) → IsProp (AreApart sessions)
+AreApart-prop [] = hlevel usual
+AreApart-prop (s ∷ ss) =
+    let others : IsProp (AreApart ss) = AreApart-prop ss in
+    hlevel (usual, others)
+
+pub ruleset props = (usual, IsDeclared-prop, HasShortValue-prop, AreApart-prop)
