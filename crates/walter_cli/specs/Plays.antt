@@ -12,7 +12,7 @@ use Rattle.walter_scenario.specs.declared.scenario.Step.TheVariants as step
 use Rattle.walter_trail.specs.declared.trail.Entry.{Entry}
 use Rattle.walter_trail.specs.declared.trail.TrailEvent.{TrailEvent}
 use Rattle.walter_trail.specs.declared.trail.TrailEvent.TheVariants as event
-use Rattle.walter_trail.specs.Trails.{opening, calls_of}
+use Rattle.walter_trail.specs.Trails.{calls_of}
 use Rattle.walter_cli.specs.declared.cell.Cell.{Cell}
 
 -- a trail has no place for another entry
@@ -44,9 +44,11 @@ abbrev pub Plays : List Client → List Step → (old new : List Entry) → Type
 Plays clients [] old new = new ≡ old
 Plays clients (step ∷ steps) old new = (next : List Entry) × Takes clients step old next × Plays clients steps next new
 
--- so the trail of a run comes of the opening
-abbrev pub IsPlayed : Scenario → List Entry → Type 0
-IsPlayed s trail = Plays s.clients s.steps (opening ∷ []) trail
+-- so the trail of a run comes of that of a site that came up
+pub record IsPlayed (s : Scenario) (trail : List Entry) : Type 0 where
+  pub first : Entry
+  pub comes_up : first.event ≡ event.Restart
+  pub plays : Plays s.clients s.steps (first ∷ []) trail
 
 -- a call is of one of so many clients
 abbrev pub IsOfClients : ℕ → TrailEvent → Type 0

@@ -1,30 +1,34 @@
 ghost use Rattle.walter_cli.specs.Headline.{Promise, Outside};
+ghost use Rattle.walter_cli.specs.Racks.{racked};
 
 use crate::ended::{Ended, Fault};
 use crate::running::run;
 use crate::taking::take_scenario;
-use crate::words::is_play_line;
+use crate::words::command;
+use walter_disk::Rack;
 use walter_stream::{Sink, Source};
 
-/// The program: if the words, those behind the program's name, are the one word `play`, it plays the scenario that the
-/// source has, and writes the report to the sink.
-pub fn top<X: AllocGlobal, S: Source, K: Sink>(
+/// The program: if the words, those behind the program's name, are `play` or `play --trace`, it plays the scenario that the
+/// source has over the rack's disk, and writes the report to the sink.
+pub fn top<X: AllocGlobal, S: Source, K: Sink, R: Rack>(
     rt: &X,
     words: &[String],
     source: &mut S,
     sink: &mut K,
+    rack: &mut R,
 ) -> Ended
     ensures { Promise words.now
+        (racked R.D.Disk (R.disks rack.old) (R.given rack.old) (R.given rack.new) (R.faults rack.old) (R.faults rack.new))
         (record { left = S.left source.old; source_faults = S.faults source.old; holds = K.holds sink.old; sink_faults = K.faults sink.old })
         (record { left = S.left source.new; source_faults = S.faults source.new; holds = K.holds sink.new; sink_faults = K.faults sink.new })
         result }
 {
     let alloc = rt.alloc();
-    if !is_play_line(words) {
+    let Some(command) = command(words) else {
         return Ended::early(alloc, Fault::Usage);
-    }
+    };
     match take_scenario(alloc, source) {
-        Ok(scenario) => run(alloc, &scenario, sink),
+        Ok(scenario) => run(alloc, &scenario, command.trace, sink, rack),
         Err(fault) => Ended::early(alloc, fault),
     }
 }

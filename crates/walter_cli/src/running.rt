@@ -1,59 +1,120 @@
-ghost use Rattle.std.specs.Prelude.{◌≡◌, ◌<◌, length, All, OnOk, IfErr};
-ghost use Rattle.walter_report.specs.Reports.{report_text, HaveFrames};
-ghost use Rattle.walter_scenario.specs.Parts.{IsStep};
+ghost use Rattle.std.specs.Prelude.{◌≡◌, ◌≤◌, length, All, IfOk, OnOk, IfErr};
+ghost use Rattle.walter_report.specs.Reports.{HaveFrames};
+ghost use Rattle.walter_report.specs.Traces.{HaveSpellings};
+ghost use Rattle.walter_scenario.specs.Parts.{IsArm, IsStep, IsCapacity};
 ghost use Rattle.walter_stream.specs.Streams.{Appends};
-ghost use Rattle.walter_cli.specs.Ending.{EndsRun, IsWriteFault};
+ghost use Rattle.walter_cli.specs.Ending.{EndsRun, IsWriteFault, fault_of};
+ghost use Rattle.walter_cli.specs.Racks.{racked};
 ghost use Rattle.walter_cli.specs.Statuses.{status_of};
+ghost use Rattle.walter_cli.specs.Texts.{text_of};
 
-use crate::building::build;
+use crate::building::{Unbuilt, build};
 use crate::ended::{Ended, Fault};
 use crate::play::play;
 use std::alloc::Global;
-use walter_report::report;
+use walter_base::Mem;
+use walter_disk::Rack;
+use walter_report::{report, trace};
 use walter_scenario::Scenario;
 use walter_stream::{Sink, write_all};
 use walter_trail::Trail;
 
-/// Runs a scenario, and writes the report.
-pub fn run<K: Sink>(alloc: Global, scenario: &Scenario, sink: &mut K) -> Ended
+/// Runs a scenario over the rack's disk, gives the disk back, and writes the report, with the trace behind it where one is
+/// asked for.
+pub fn run<K: Sink, R: Rack>(
+    alloc: Global,
+    scenario: &Scenario,
+    traced: bool,
+    sink: &mut K,
+    rack: &mut R,
+) -> Ended
     requires sites { scenario.now.catalog.sites ≡ 1 }
-    requires steps { All (IsStep (length scenario.now.clients)) scenario.now.steps }
+    requires capacity { IsCapacity scenario.now.capacity }
+    requires arms { All (IsArm 1) scenario.now.arms }
+    requires steps { All (IsStep 1 (length scenario.now.clients)) scenario.now.steps }
     ensures status { result.status ≡ status_of result.fault }
-    ensures run { EndsRun scenario.now (K.holds sink.old) (K.holds sink.new) (K.faults sink.old) (K.faults sink.new) result.trails.items result.fault }
+    ensures run { EndsRun (racked R.D.Disk (R.disks rack.old) (R.given rack.old) (R.given rack.new) (R.faults rack.old) (R.faults rack.new))
+        traced scenario.now (K.holds sink.old) (K.holds sink.new) (K.faults sink.old) (K.faults sink.new) result.trails.items result.fault }
 {
     let Ok(mut trails) = Vec::with_capacity(alloc, 1) else {
         return Ended::early(alloc, Fault::Memory);
     };
-    let Ok(mut cell) = build(alloc, scenario) else {
-        return Ended::early(alloc, Fault::Memory);
+    let Ok(disk) = rack.take(0, None) else {
+        return Ended::early(alloc, Fault::Rack { site: 0 });
+    };
+    let mut cell = match build(alloc, scenario, disk) {
+        Ok(cell) => cell,
+        Err((disk, why)) => {
+            // The first cause decides the status.
+            let _ = rack.give(0, disk);
+            return Ended::early(alloc, unbuilt(why));
+        }
     };
     let played = play(alloc, &mut cell, scenario);
-    trails.push_reserved(cell.into_trail());
+    let (disk, trail) = cell.into_parts();
+    trails.push_reserved(trail);
+    let given = rack.give(0, disk);
     if played.is_err() {
         return Ended::late(trails, Some(Fault::Memory));
     }
-    match write_report(alloc, scenario, &trails, sink) {
+    if given.is_err() {
+        return Ended::late(trails, Some(Fault::Rack { site: 0 }));
+    }
+    match write_report(alloc, scenario, traced, &trails, sink) {
         Ok(()) => Ended::late(trails, None),
         Err(fault) => Ended::late(trails, Some(fault)),
     }
 }
 
-// Writes the report of these trails.
+// The fault of a run whose site was not built.
+fn unbuilt(why: Unbuilt) -> Fault
+    ensures { result ≡ fault_of why }
+{
+    match why {
+        Unbuilt::Failed => Fault::Rack { site: 0 },
+        Unbuilt::Journal(cause) => Fault::Journal { site: 0, cause },
+        Unbuilt::NoMemory => Fault::Memory,
+    }
+}
+
+// Writes the report of these trails, with the trace behind it where one is asked for.
 fn write_report<K: Sink>(
     alloc: Global,
     scenario: &Scenario,
+    traced: bool,
     trails: &[Trail],
     sink: &mut K,
 ) -> Result<(), Fault>
-    requires { HaveFrames trails.now }
-    ensures ok { OnOk result (Appends (K.holds sink.old) (K.holds sink.new) (report_text scenario.now trails.now)) }
-    ensures fault { IfErr result (IsWriteFault (report_text scenario.now trails.now) (K.holds sink.old) (K.holds sink.new) (K.faults sink.old) (K.faults sink.new)) }
+    requires few { length trails.now ≤ 8 }
+    requires frames { HaveFrames trails.now }
+    requires records { HaveSpellings trails.now }
+    ensures ok { OnOk result (Appends (K.holds sink.old) (K.holds sink.new) (text_of traced scenario.now trails.now)) }
+    ensures fault { IfErr result (IsWriteFault (text_of traced scenario.now trails.now) (K.holds sink.old) (K.holds sink.new) (K.faults sink.old) (K.faults sink.new)) }
 {
-    let Ok(text) = report(alloc, scenario, trails) else {
+    let Ok(text) = text(alloc, scenario, traced, trails) else {
         return Err(Fault::Memory);
     };
-    match write_all(sink, text.as_slice()) {
+    match write_all(sink, &text) {
         Ok(()) => Ok(()),
         Err(_) => Err(Fault::Write),
     }
+}
+
+// The report of these trails, with the trace behind it where one is asked for.
+fn text(
+    alloc: Global,
+    scenario: &Scenario,
+    traced: bool,
+    trails: &[Trail],
+) -> Mem<Vec<u8>>
+    requires few { length trails.now ≤ 8 }
+    requires frames { HaveFrames trails.now }
+    requires records { HaveSpellings trails.now }
+    ensures { IfOk result (λ text. text.items ≡ text_of traced scenario.now trails.now) }
+{
+    let mut text = report(alloc, scenario, trails)?.into_vec();
+    if traced {
+        text.extend_from_slice(trace(alloc, trails)?.as_slice())?;
+    }
+    Ok(text)
 }

@@ -1,3 +1,14 @@
 pub mod Plain
 pub mod Replays
 pub mod Standings
+pub mod Calls
+pub mod Advancing
+pub mod Room
+pub mod Resting
+pub mod Staging
+pub mod Leaving
+pub mod Moving
+pub mod Bodies
+pub mod Boots
+pub mod Raising
+pub mod Loads

@@ -10,7 +10,7 @@ use Rattle.walter_disk.specs.Images.{LeavesOnly}
 use Rattle.walter_disk.specs.declared.disk.Disk.{Ghosts}
 use Rattle.walter_journal.specs.Journals.{disk_of, end_of, capacity_of, StandsFor, HasRoom}
 use Rattle.walter_journal.specs.declared.journal.Journal.{Journal}
-use Rattle.walter_record.specs.Spelling.{record_spelled}
+use Rattle.walter_record.specs.Spelling.{record_spelled, AreInRange}
 use Rattle.walter_site.specs.declared.site.Site.{Site}
 use Rattle.walter_trail.specs.declared.trail.TrailEvent.{TrailEvent}
 use Rattle.walter_trail.specs.Standing.{Standing, stands_after}
@@ -18,7 +18,7 @@ use Rattle.walter_trail.specs.Trails.{Comes}
 use Rattle.walter_engine.specs.declared.answers.Stepped.{Stepped}
 use Rattle.walter_engine.specs.declared.answers.Stepped.TheVariants as stepped
 use Rattle.walter_engine.specs.declared.stepping.Staged.{Staged}
-use Rattle.walter_engine.specs.Contents.{AreInRange, AreJournaled}
+use Rattle.walter_engine.specs.Contents.{AreJournaled}
 use Rattle.walter_engine.specs.Engines.{IsRunning, IsResting}
 use Rattle.walter_engine.specs.Steps.{came_of_step}
 

@@ -1,19 +1,13 @@
 -- The journal of a site: what its records are, and what a crash leaves of them.
-use Rattle.std.specs.Prelude.{◌≡◌, ◌⊎◌, ◌<◌, ◌^◌, ℕ, true, List, [], ◌∷◌, ◌++◌, map, Option, Some, None, IfSome, All}
+use Rattle.std.specs.Prelude.{◌≡◌, ◌⊎◌, ◌<◌, ℕ, true, List, [], ◌∷◌, ◌++◌, map, Option, Some, None, IfSome, All}
 use Rattle.walter_base.specs.declared.catalog.Catalog.{Catalog}
 use Rattle.walter_base.specs.declared.message.Record.{Record}
-use Rattle.walter_base.specs.declared.message.Record.TheVariants.{Boot, Own}
 use Rattle.walter_base.specs.declared.names.SiteId.{SiteId}
 use Rattle.walter_journal.specs.Layout.{HasContent}
 use Rattle.walter_record.specs.Spelling.{record_spelled, HasRecordSpelling}
-use Rattle.walter_txcode.specs.Spelling.{IsInRange}
 use Rattle.walter_trail.specs.Knowledge.{fresh, lost}
 use Rattle.walter_trail.specs.Records.{CanFollow, CanAllFollow, replayed}
 use Rattle.walter_trail.specs.Standing.{Standing}
-
-abbrev pub AreInRange : Record → Type 0
-AreInRange (Boot epoch) = epoch < 2 ^ 32
-AreInRange (Own seq tx) = (seq < 2 ^ 64) × IsInRange tx
 
 -- the bytes of a journal with these records
 abbrev pub HasRecords : List ℕ → List Record → Type 0

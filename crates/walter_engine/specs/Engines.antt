@@ -8,7 +8,7 @@ use Rattle.walter_engine.specs.declared.engine.Engine.{Engine}
 use Rattle.walter_engine.specs.declared.engine.State.{State}
 use Rattle.walter_engine.specs.declared.engine.State.TheVariants.{Up, Down}
 use Rattle.walter_engine.specs.Contents.{MayHaveRecords, AreJournaled}
-use Rattle.walter_engine.specs.States.{disk_under, is_up_in}
+use Rattle.walter_engine.specs.States.{disk_under, is_up_in, IsOfState}
 use Rattle.walter_journal.specs.Journals.{StandsFor}
 use Rattle.walter_journal.specs.declared.journal.Journal.{Journal}
 use Rattle.walter_record.specs.Spelling.{record_spelled}
@@ -64,6 +64,7 @@ IsInState {g = g} S (Some (Down disk)) = IsResting g S disk
 -- the engine stands so
 pub record Stands {D : Type 0} {g : Ghosts D} (engine : Engine D g) (S : Standing) : Type 0 where
   pub journaled : AreJournaled engine.catalog engine.site S
+  pub of : IsOfState engine.catalog engine.site engine.capacity engine.state
   pub state : IsInState S engine.state
   pub count : engine.tally.records ≡ length S.records
   pub in_flight : engine.tally.in_flight ≡ is_some S.flight

@@ -6,3 +6,4 @@ pub mod Replays
 pub mod Advances
 pub mod Raises
 pub mod Restarts
+pub mod Moves

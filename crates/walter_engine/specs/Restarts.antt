@@ -5,7 +5,7 @@ use Rattle.walter_base.specs.declared.message.Record.{Record}
 use Rattle.walter_base.specs.declared.names.SiteId.{SiteId}
 use Rattle.walter_disk.specs.declared.disk.Disk.{Ghosts}
 use Rattle.walter_engine.specs.declared.answers.RefusedRestart.{RefusedRestart}
-use Rattle.walter_engine.specs.declared.answers.RefusedRestart.TheVariants as why
+use Rattle.walter_engine.specs.declared.answers.RefusedRestart.TheVariants as refused
 use Rattle.walter_engine.specs.declared.answers.Restarted.{Restarted}
 use Rattle.walter_engine.specs.declared.answers.Restarted.TheVariants.{Failed, NoMemory, Refused}
 use Rattle.walter_engine.specs.declared.engine.Engine.{Engine}
@@ -24,11 +24,11 @@ pub record Restarts {D : Type 0} {g : Ghosts D} (catalog : Catalog) (capacity : 
   pub found : IfSome (kept_of answer) (IsFound S Restart)
   pub comes : IsRefused answer ⊎ Comes catalog capacity i (settled i (kept_of answer) S) Restart (came_of_restart answer)
   pub stands : Stands engine (stands_after i (settled i (kept_of answer) S) Restart (came_of_restart answer))
-  pub refused : (kept : Option Record) (why : RefusedRestart) → answer ≡ Refused kept why
-      → (why ≡ why.LastEpoch) × ((settled i kept S).knows.epoch ≡ 4294967295)
+  pub last : (kept : Option Record) (why : RefusedRestart) → answer ≡ Refused kept why
+      → (why ≡ refused.LastEpoch) × ((settled i kept S).knows.epoch ≡ 4294967295)
 
 abbrev pub unloaded_by : JournalFault → Restarted
 unloaded_by fault.Failed = Failed None None
 unloaded_by fault.NoMemory = NoMemory None
-unloaded_by fault.Foreign = Refused None why.Foreign
-unloaded_by (fault.Damaged at length) = Refused None (why.Damaged at length)
+unloaded_by fault.Foreign = Refused None refused.Foreign
+unloaded_by (fault.Damaged at length) = Refused None (refused.Damaged at length)

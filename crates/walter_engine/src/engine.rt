@@ -1,14 +1,14 @@
 ghost use Rattle.std.specs.Prelude.{◌≡◌, ◌≢◌, ◌<◌, ◌≤◌, ◌++◌, ◌∷◌, [], ℕ, List, true, false, None, Some, is_some, IsSome, IfOk, IfErr, OnOk, OnErr, option_map};
-ghost use Rattle.walter_engine.specs.States.{IsOfState};
 
 use crate::answers::{Restarted, Stepped};
+use crate::arming::arm_state;
 use crate::restarting::{Raised, disk_of, raise, unloaded};
-use crate::stepping::advance;
+use crate::stepping::{Moved, take};
 use std::alloc::Global;
 use std::mem;
 use walter_base::{Catalog, Mem, NoMemory, SiteId};
 use walter_disk::Disk;
-use walter_journal::{Journal, load};
+use walter_journal::{Journal, layouts_differ, load};
 use walter_site::{Input, Site};
 
 /// Whether a site is up.
@@ -40,7 +40,6 @@ pub struct Engine<D: Disk> {
     ghost here: { site.0 < catalog.sites },
     ghost most: { catalog.sites ≤ 8 },
     ghost there: { is_some state ≡ true },
-    ghost of: { IsOfState catalog site capacity state },
 }
 
 impl<D: Disk + Drop> Engine<D> {
@@ -120,19 +119,18 @@ impl<D: Disk + Drop> Engine<D> {
         ensures up { is_up self.new ≡ is_up self.old }
         ensures stands { (S : Standing) → Stands self.old S → Stands self.new S }
     {
-        let Some(state) = &mut self.state else {
+        let Some(state) = mem::replace(&mut self.state, None) else {
             unreachable!()
         };
-        let armed = match state {
-            State::Up(_, journal) => journal.arm(nth, choice),
-            State::Down(disk) => disk.arm(nth, choice),
-        };
-        armed.map_err(|_| NoMemory)
+        let (state, armed) = arm_state(state, nth, choice);
+        self.state = Some(state);
+        armed
     }
 
     /// Gives the site an input. It takes all its memory before it writes to the journal.
     pub fn step(&mut self, input: &Input) -> Stepped
-        ensures down { is_up self.old ≡ false → (result ≡ Stepped.Down) × (self.new ≡ self.old) }
+        ensures down { is_up self.old ≡ false → (result ≡ Stepped.Down) × (disk_in self.new ≡ disk_in self.old) }
+        ensures rests { is_up self.old ≡ false → (S : Standing) → Stands self.old S → Stands self.new S }
         ensures up { is_up self.old ≡ true → result ≢ Stepped.Down }
         ensures comes { (S : Standing) → Stands self.old S → S.up ≡ true → S.gone (client_of input.now) ≡ None
             → Comes (catalog_in self.old) (capacity_in self.old) (site_in self.old) S (event_of input.now) (came_of_step (event_of input.now) result) }
@@ -147,19 +145,16 @@ impl<D: Disk + Drop> Engine<D> {
         ensures arms { OfDisks self.old self.new (λ old new. (D.known new).arms ≡ (D.known old).arms) }
         ensures engine { IsSameEngine self.old self.new }
     {
-        let Some(state) = &mut self.state else {
-            return Stepped::Down;
+        let Some(state) = mem::replace(&mut self.state, None) else {
+            unreachable!()
         };
-        let stepped = match state {
-            State::Up(site, journal) => {
-                advance(self.alloc, site, journal, &mut self.tally.records, input)
-            }
-            State::Down(_) => return Stepped::Down,
-        };
-        if matches!(&stepped, Stepped::Failed { .. }) {
-            self.tally.in_flight = true;
-            self.fall();
-        }
+        let Moved {
+            state,
+            stepped,
+            tally,
+        } = take(self.alloc, state, self.tally, input);
+        self.state = Some(state);
+        self.tally = tally;
         stepped
     }
 
@@ -200,6 +195,8 @@ impl<D: Disk + Drop> Engine<D> {
             unreachable!()
         };
         let disk = disk_of(state);
+        // What is loaded is then what the site left.
+        layouts_differ();
         let Raised {
             state,
             answer,

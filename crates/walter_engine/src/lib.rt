@@ -2,6 +2,7 @@
 #![tactic(auto)]
 
 mod answers;
+mod arming;
 mod engine;
 mod replaying;
 mod restarting;

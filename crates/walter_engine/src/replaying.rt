@@ -1,10 +1,8 @@
-ghost use Rattle.std.specs.Prelude.{◌≡◌, ◌≤◌, ◌<◌, List, map, IfOk, IfErr, OnOk, OnErr, Some};
+ghost use Rattle.std.specs.Prelude.{◌≡◌, ◌≤◌, ◌<◌, ◌++◌, ◌∷◌, [], List, map, IfOk, IfErr, IfSome, OnOk, Some};
 ghost use Rattle.walter_base.specs.declared.message.Record.{Record};
 ghost use Rattle.walter_base.specs.Sizes.{CanBeRecorded};
 ghost use Rattle.walter_record.specs.Spelling.{record_spelled, HasRecordSpelling};
 ghost use Rattle.walter_site.specs.Sites.{known, site_of, catalog_of};
-ghost use Rattle.walter_trail.specs.Knowledge.{fresh, recorded};
-ghost use Rattle.walter_trail.specs.Records.{CanFollow, replayed};
 ghost use Rattle.walter_engine.specs.Replays.{Takes, IsUnfit, Tells, IsReadFault};
 
 use std::alloc::Global;

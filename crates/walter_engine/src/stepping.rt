@@ -1,4 +1,6 @@
-ghost use Rattle.std.specs.Prelude.{◌≡◌, ◌<◌, None, true, is_some, IfOk, IfSome, OnErr, OnOk};
+ghost use Rattle.std.specs.Prelude.{◌≡◌, ◌≢◌, ◌<◌, ℕ, Some, None, true, false, is_some, IfOk, IfSome, OnErr, OnOk};
+ghost use Rattle.walter_base.specs.declared.catalog.Catalog.{Catalog};
+ghost use Rattle.walter_base.specs.declared.names.SiteId.{SiteId};
 ghost use Rattle.walter_base.specs.Sizes.{CanBeRecorded, IsShortReply};
 ghost use Rattle.walter_disk.specs.Images.{LeavesOnly};
 ghost use Rattle.walter_journal.specs.Journals.{disk_of, capacity_of};
@@ -7,11 +9,15 @@ ghost use Rattle.walter_trail.specs.Records.{CanFollow, IsRecordAmong};
 ghost use Rattle.walter_trail.specs.Rule.{MayWant, rule};
 ghost use Rattle.walter_trail.specs.Standing.{Standing};
 ghost use Rattle.walter_engine.specs.Contents.{AreJournaled, MayHaveRecords};
-ghost use Rattle.walter_engine.specs.Engines.{IsRunning};
+ghost use Rattle.walter_engine.specs.Engines.{IsRunning, IsInState};
+ghost use Rattle.walter_engine.specs.Moves.{Moves};
+ghost use Rattle.walter_engine.specs.Raises.{IsCounted};
+ghost use Rattle.walter_engine.specs.States.{IsOf, is_up_state, disk_of_state};
 ghost use Rattle.walter_engine.specs.Advances.{IsSameJournal, IsStaged, AreStaged, TakesCopy, count_after, Advances};
 ghost use Rattle.walter_engine.specs.Steps.{IsSizedStep, IsFaultOfStep};
 
 use crate::answers::Stepped;
+use crate::engine::{State, Tally};
 use std::alloc::Global;
 use walter_base::{Bytes, Mem, NoMemory, Record, Reply};
 use walter_disk::Disk;
@@ -34,9 +40,58 @@ struct Ready {
     staged: Option<Staged>,
 }
 
-/// Gives a site that is up an input. All the memory that this takes is taken before the journal is written to, and what is
-/// answered stands behind a stable record. `count` is how many records the journal has.
-pub(crate) fn advance<D: Disk>(
+/// What a step leaves: the site or its disk, the answer, and what is known of the journal.
+#[derive(Drop)]
+pub(crate) struct Moved<D: Disk> {
+    pub state: State<D>,
+    pub stepped: Stepped,
+    pub tally: Tally,
+}
+
+/// Gives a site in this state an input.
+pub(crate) fn take<D: Disk>(alloc: Global, state: State<D>, tally: Tally, input: &Input) -> Moved<D>
+    ensures down { is_up_state state ≡ false → (result.stepped ≡ Stepped.Down) × (result.state ≡ state) × (result.tally ≡ tally) }
+    ensures up { is_up_state state ≡ true → result.stepped ≢ Stepped.Down }
+    ensures moves { (catalog : Catalog) (capacity : ℕ) (i : SiteId) (S : Standing) → IsOf catalog i capacity state → IsInState S (Some state) → AreJournaled catalog i S → IsCounted tally S
+        → S.up ≡ true → S.gone (client_of input.now) ≡ None → Moves catalog capacity i S (event_of input.now) (disk_of_state state) result }
+    ensures sized { IsSizedStep result.stepped }
+    ensures faults { IsFaultOfStep result.stepped (D.known (disk_of_state state)).faults (D.known (disk_of_state result.state)).faults }
+    ensures arms { (D.known (disk_of_state result.state)).arms ≡ (D.known (disk_of_state state)).arms }
+{
+    match state {
+        State::Up(mut site, mut journal) => {
+            let mut records = tally.records;
+            let stepped = advance(alloc, &mut site, &mut journal, &mut records, input);
+            if let Stepped::Failed { .. } = &stepped {
+                return Moved {
+                    state: State::Down(journal.into_disk()),
+                    stepped,
+                    tally: Tally {
+                        records,
+                        in_flight: true,
+                    },
+                };
+            }
+            Moved {
+                state: State::Up(site, journal),
+                stepped,
+                tally: Tally {
+                    records,
+                    in_flight: false,
+                },
+            }
+        }
+        State::Down(disk) => Moved {
+            state: State::Down(disk),
+            stepped: Stepped::Down,
+            tally,
+        },
+    }
+}
+
+// Gives a site that is up an input. All the memory that this takes is taken before the journal is written to, and what is
+// answered stands behind a stable record. `count` is how many records the journal has.
+fn advance<D: Disk>(
     alloc: Global,
     site: &mut Site,
     journal: &mut Journal<D>,
@@ -48,6 +103,7 @@ pub(crate) fn advance<D: Disk>(
     ensures any_moment { (S : Standing) → IsRunning S site.old journal.old → AreJournaled (catalog_of site.old) (site_of site.old) S → S.gone (client_of input.now) ≡ None
         → LeavesOnly D.moment D.left_since (disk_of journal.old) (disk_of journal.new)
         (MayHaveRecords S.records (rule (catalog_of site.old) (site_of site.old) S (event_of input.now)).wrote) }
+    ensures up { result ≢ Stepped.Down }
     ensures count { count.new ≡ count_after count.old result }
     ensures sized { IsSizedStep result }
     ensures faults { IsFaultOfStep result (D.known (disk_of journal.old)).faults (D.known (disk_of journal.new)).faults }

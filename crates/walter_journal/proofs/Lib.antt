@@ -1,6 +1,6 @@
 mod Appending
 mod Gates
 mod Layouts
-mod Moments
+pub mod Moments
 mod Reading
 mod Told

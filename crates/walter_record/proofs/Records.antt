@@ -1,6 +1,7 @@
 -- How long the spelling of a record is, and that it is of no other record.
 use Rattle.std.proofs.Common.{◌≡◌, ◌≢◌, ℕ, ◌^◌, ◌<◌, ◌≤◌, List, [], ◌∷◌, ◌++◌, length, refl, sym, ap, ◌∙◌, arith}
 use Rattle.std.proofs.lemmas.List.{append-nil, length-append}
+use Rattle.walter_base.specs.Sizes.{size_of_record, CanBeRecorded}
 use Rattle.walter_base.specs.declared.message.Record.{Record}
 use Rattle.walter_base.specs.declared.message.Record.TheVariants.{Boot, Own}
 use Rattle.walter_base.specs.declared.transaction.Tx.{Tx}
@@ -9,7 +10,7 @@ use Rattle.walter_fields.proofs.Numbers.{length-number_spelled, same_number}
 use Rattle.walter_txcode.specs.Spelling.{spelling, HasSpelling}
 use Rattle.walter_txcode.proofs.Lengths.{length-spelling}
 use Rattle.walter_txcode.proofs.Prefixes.{same_spelling}
-use Rattle.walter_record.specs.Spelling.{record_spelled, size_of_record, CanBeRecorded, IsRecordAmong, HasRecordSpelling}
+use Rattle.walter_record.specs.Spelling.{record_spelled, HasRecordSpelling}
 
 -- the spelling has the record's size
 pub length-record_spelled : (journaled : Record) → CanBeRecorded journaled → length (record_spelled journaled) ≡ size_of_record journaled
@@ -26,7 +27,7 @@ length-record_spelled (Own seq tx) can =
 
 pub at_most : (journaled : Record) → CanBeRecorded journaled → length (record_spelled journaled) ≤ 60009
 at_most (Boot epoch) can = omega (arith, length-record_spelled (Boot epoch) can)
-at_most (Own seq tx) can = omega (arith, length-record_spelled (Own seq tx) can, can.size)
+at_most (Own seq tx) can = omega (arith, length-record_spelled (Own seq tx) can, can.updates.size)
 
 -- spellings of numbers that are followed by nothing
 same_last : (k m n : ℕ) → m < 256 ^ k → n < 256 ^ k → number_spelled k m ≡ number_spelled k n → m ≡ n
@@ -52,20 +53,23 @@ kind_of-lt (Own seq tx) = omega arith
 pub behind_kind : (k : ℕ) (mid : List ℕ) (r : Record) → k < 256 → number_spelled 1 k ++ mid ≡ record_spelled r → (k ≡ kind_of r) × (mid ≡ fields_spelled r)
 behind_kind k mid r low e = same_number 1 k (kind_of r) mid (fields_spelled r) (omega (arith, low)) (omega (arith, kind_of-lt r)) (e ∙ record_parts r)
 
-same_fields : (sites : ℕ) (a b : Record) → kind_of a ≡ kind_of b → IsRecordAmong sites a → IsRecordAmong sites b → fields_spelled a ≡ fields_spelled b → a ≡ b
-same_fields sites (Boot m) (Boot n) kinds fits_a fits_b e = let same = same_last 4 m n (omega (arith, fits_a)) (omega (arith, fits_b)) e in (λ i. Boot (same i))
-same_fields sites (Own m tx) (Own n other) kinds fits_a fits_b e =
-    let first = same_number 8 m n (spelling tx) (spelling other) (omega (arith, fits_a.0)) (omega (arith, fits_b.0)) e in
-    let second = same_spelling sites tx other fits_a.1 fits_b.1 first.1 in
+own_spelled : (sites seq : ℕ) (tx : Tx) → HasRecordSpelling sites (Own seq tx) → HasSpelling sites tx
+own_spelled sites seq tx has = record { sites = has.among; sizes = has.sizes; ranges = has.ranges.1 }
+
+same_fields : (sites : ℕ) (a b : Record) → kind_of a ≡ kind_of b → HasRecordSpelling sites a → HasRecordSpelling sites b → fields_spelled a ≡ fields_spelled b → a ≡ b
+same_fields sites (Boot m) (Boot n) kinds has_a has_b e = let same = same_last 4 m n (omega (arith, has_a.ranges)) (omega (arith, has_b.ranges)) e in (λ i. Boot (same i))
+same_fields sites (Own m tx) (Own n other) kinds has_a has_b e =
+    let first = same_number 8 m n (spelling tx) (spelling other) (omega (arith, has_a.ranges.0)) (omega (arith, has_b.ranges.0)) e in
+    let second = same_spelling sites tx other (own_spelled sites m tx has_a) (own_spelled sites n other has_b) first.1 in
     (λ i. Own (first.0 i) (second i))
-same_fields sites (Boot m) (Own n other) kinds fits_a fits_b e = absurd (omega (arith, kinds))
-same_fields sites (Own m tx) (Boot n) kinds fits_a fits_b e = absurd (omega (arith, kinds))
+same_fields sites (Boot m) (Own n other) kinds has_a has_b e = absurd (omega (arith, kinds))
+same_fields sites (Own m tx) (Boot n) kinds has_a has_b e = absurd (omega (arith, kinds))
 
 -- records with the same spelling are the same
 pub same_record : (sites : ℕ) (a b : Record) → HasRecordSpelling sites a → HasRecordSpelling sites b → record_spelled a ≡ record_spelled b → a ≡ b
 same_record sites a b has_a has_b e =
     let behind = behind_kind (kind_of a) (fields_spelled a) b (kind_of-lt a) (sym (record_parts a) ∙ e) in
-    same_fields sites a b behind.0 has_a.ranges has_b.ranges behind.1
+    same_fields sites a b behind.0 has_a has_b behind.1
 
 -- ---- where nothing is decoded
 
@@ -90,11 +94,11 @@ no_boot sites bytes mid is none r has e = of_kind r (behind_kind 1 mid r (omega 
 pub no_own : (sites : ℕ) (bytes mid : List ℕ) → bytes ≡ number_spelled 1 2 ++ mid
     → ((seq : ℕ) (tx : Tx) → seq < 2 ^ 64 → HasSpelling sites tx → mid ≢ number_spelled 8 seq ++ spelling tx)
     → (r : Record) → HasRecordSpelling sites r → bytes ≢ record_spelled r
-no_own sites bytes mid is none r has e = of_kind r has.ranges (behind_kind 2 mid r (omega arith) (sym is ∙ e))
+no_own sites bytes mid is none r has e = of_kind r has (behind_kind 2 mid r (omega arith) (sym is ∙ e))
   where
-    of_kind : (r : Record) → IsRecordAmong sites r → (2 ≡ kind_of r) × (mid ≡ fields_spelled r) → ⊥
-    of_kind (Boot epoch) fits parts = omega (arith, parts.0)
-    of_kind (Own seq tx) fits parts = none seq tx fits.0 fits.1 parts.1
+    of_kind : (r : Record) → HasRecordSpelling sites r → (2 ≡ kind_of r) × (mid ≡ fields_spelled r) → ⊥
+    of_kind (Boot epoch) has_r parts = omega (arith, parts.0)
+    of_kind (Own seq tx) has_r parts = none seq tx has_r.ranges.0 (own_spelled sites seq tx has_r) parts.1
 
 -- fewer bytes than a number has, and more
 pub no_number : (k : ℕ) (left : List ℕ) → length left < k → (n : ℕ) → left ≢ number_spelled k n

@@ -1,5 +1,6 @@
 ghost use Rattle.std.specs.Prelude.{◌≡◌, ◌≤◌, ◌++◌, IfOk};
-ghost use Rattle.walter_record.specs.Spelling.{record_spelled, size_of_record, CanBeRecorded};
+ghost use Rattle.walter_base.specs.Sizes.{size_of_record, CanBeRecorded};
+ghost use Rattle.walter_record.specs.Spelling.{record_spelled, AreInRange};
 
 use std::alloc::Global;
 use walter_base::{Bytes, Mem, NoMemory, Record};
@@ -19,7 +20,8 @@ fn size(journaled: &Record) -> usize
 fn append(out: &mut Appender, journaled: &Record)
     requires spelled { CanBeRecorded journaled.now }
     requires room { size_of_record journaled.now ≤ out.old.room }
-    ensures { out.new.bytes ≡ out.old.bytes ++ record_spelled journaled.now }
+    ensures bytes { out.new.bytes ≡ out.old.bytes ++ record_spelled journaled.now }
+    ensures ranges { AreInRange journaled.now }
 {
     match journaled {
         Record::Boot(epoch) => {
@@ -37,7 +39,8 @@ fn append(out: &mut Appender, journaled: &Record)
 /// The one spelling of the record.
 pub fn encode(alloc: Global, journaled: &Record) -> Mem<Bytes>
     requires { CanBeRecorded journaled.now }
-    ensures { IfOk result (λ bytes. bytes ≡ record_spelled journaled.now) }
+    ensures bytes { IfOk result (λ bytes. bytes ≡ record_spelled journaled.now) }
+    ensures ranges { IfOk result (λ _. AreInRange journaled.now) }
 {
     let Ok(mut out) = Appender::with_room(alloc, size(journaled)) else {
         return Err(NoMemory);

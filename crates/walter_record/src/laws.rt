@@ -1,6 +1,7 @@
 ghost use Rattle.std.specs.Prelude.{◌≡◌, ◌≤◌, ℕ, length};
 ghost use Rattle.walter_base.specs.declared.message.Record.{Record};
-ghost use Rattle.walter_record.specs.Spelling.{record_spelled, size_of_record, CanBeRecorded, HasRecordSpelling};
+ghost use Rattle.walter_base.specs.Sizes.{size_of_record, CanBeRecorded};
+ghost use Rattle.walter_record.specs.Spelling.{record_spelled, HasRecordSpelling};
 
 /// Among so many sites, records with the same spelling are the same.
 pub fn one_spelling()

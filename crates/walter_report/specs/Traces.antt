@@ -1,4 +1,4 @@
--- The text of a trace (docs/FORMATS.md, "Traces"): a line for each entry, by stamp and then by site.
+-- The text of a trace (docs/FORMATS.md, "Reports"): a line for each entry, by stamp and then by site.
 use Rattle.std.specs.Prelude.{List, ℕ, ◌++◌, flat_map, codes, Option, Some, None, Result, Ok, Err, IfSome, All}
 use Rattle.std.specs.Fmt.{decimal}
 use Rattle.hex.specs.Hex.{encode_lower}

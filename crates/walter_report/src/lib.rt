@@ -2,10 +2,12 @@
 #![tactic(auto)]
 
 mod clients;
+mod laws;
 mod sites;
 mod text;
 mod traces;
 
+pub use laws::as_it_stands;
 pub use text::report;
 pub use traces::trace;
 

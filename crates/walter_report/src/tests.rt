@@ -4,7 +4,7 @@ ghost use Rattle.walter_reply.specs.Replies.{FitsFrame};
 ghost use Rattle.walter_report.specs.Reports.{reply_in, HaveFrames};
 ghost use Rattle.walter_report.specs.Traces.{HasSpellings, HaveSpellings};
 
-use crate::{report, trace};
+use crate::{as_it_stands, report, trace};
 use std::alloc::Global;
 use std::test::Fail;
 use walter_base::{
@@ -182,6 +182,7 @@ fn each_client_has_a_line_with_the_frames_of_its_replies(rt: HostRuntime) -> Res
 
 #[test]
 fn a_site_is_down_behind_a_stop_and_up_behind_a_restart(rt: HostRuntime) -> Result<(), Fail> {
+    as_it_stands();
     let alloc = rt.alloc();
     let mut entries = opened(alloc)?;
     entries.push(happened(2, TrailEvent::Stop, Outcome::Taken))?;

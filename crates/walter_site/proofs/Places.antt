@@ -1,11 +1,11 @@
 -- Where the transaction of a client stands, and what edits leave of the sessions.
-use Rattle.std.proofs.Common.{◌≡◌, ◌≢◌, ℕ, zero, suc, ◌+◌, ◌<◌, true, false, not, nat_eq, List, [], ◌∷◌, length, filter, map, Option, Some, None, is_some, refl, ap, sym, ◌∙◌, subst, arith, slice_get, slice_set, get_or, option_map, if◌then◌else◌, inl, inr}
+use Rattle.std.proofs.Common.{◌≡◌, ◌≢◌, ℕ, zero, suc, ◌+◌, ◌<◌, true, false, not, nat_eq, List, [], ◌∷◌, length, filter, map, Some, None, is_some, refl, ap, sym, ◌∙◌, subst, arith, slice_get, slice_set, get_or, option_map, if◌then◌else◌, inl, inr}
 use Rattle.std.proofs.lemmas.Bool.{eq-eqb, cases_lt}
 use Rattle.std.proofs.lemmas.Bool.Decides.{nat_tests}
 use Rattle.walter_site.specs.declared.transaction.Transaction.{Transaction}
 use Rattle.walter_site.specs.Open.{as_session, as_open, sessions_of, first_of, IsPlaceOf, AreApart}
 use Rattle.walter_site.proofs.Changes.{changed, untouched}
-use Rattle.walter_trail.specs.Knowledge.{Session, Open, session_in}
+use Rattle.walter_trail.specs.Knowledge.{Session, session_in}
 
 -- none of the first transactions is the client's
 pub record NoneBefore (client : ℕ) (ts : List Transaction) (place : ℕ) : Type 0 where

@@ -1,4 +1,4 @@
-ghost use Rattle.std.specs.Prelude.{◌≡◌, ◌<◌, ◌≤◌, ◌+◌, ◌↔◌, IsTrue, ℕ, length, vec_len, vec_capacity, Ok, Some, OnOk, OnErr, IfOk, IfErr, IfSome, None, All};
+ghost use Rattle.std.specs.Prelude.{◌≡◌, ◌<◌, ◌≤◌, ◌↔◌, IsTrue, ℕ, length, vec_len, vec_capacity, Ok, Some, OnOk, OnErr, IfOk, IfErr, IfSome, None, All};
 ghost use Rattle.walter_site.specs.Open.{sessions_of, first_of, AreOpenAt, IsOpenAt, HasShortValues, CanTake};
 ghost use Rattle.walter_site.specs.Props.{props};
 
@@ -42,7 +42,7 @@ impl Site {
     ghost use Rattle.std.specs.FinMap as map;
     ghost use Rattle.walter_base.specs.Sizes.{HasShortValue, CanBeSpelled, CanBeRecorded, IsShortReply};
     ghost use Rattle.walter_site.specs.Sites.{known, site_of, catalog_of, IsPlan, HasRoom, CanKeep, CanAnswer, IsNext, IsReplayFault, expected, event_of, call_of, refused_or};
-    ghost use Rattle.walter_trail.specs.Knowledge.{after, answered, recorded, fresh, session_in, session_of, updated};
+    ghost use Rattle.walter_trail.specs.Knowledge.{after, answered, recorded, fresh, session_of, updated};
     ghost use Rattle.walter_trail.specs.Records.{CanFollow, IsNextOwn, IsRecordAmong};
     ghost use Rattle.walter_trail.specs.Rule.{Expected, answers, call_rule, if_regular, is_issued, level_of, tells_level, next_seq, next_tid, MayWant};
 
@@ -142,7 +142,7 @@ impl Site {
         if self.transactions.len() >= MOST_OPEN {
             return Ok(Reply::Refused(Refusal::SessionsFull));
         }
-        // No memory holds so many starts that they have no number.
+        // No memory reaches so far that a start has no number.
         let number = self.starts.checked_add(1).ok_or(NoMemory)?;
         self.transactions.reserve(1)?;
         Ok(Reply::Started(Tid {
@@ -229,12 +229,9 @@ impl Site {
         if let Some((oid, version)) = conflict(&self.held, snapshot, &transaction.updates) {
             return Ok((None, Reply::Aborted(Cause::Modified { oid, version })));
         }
-        // No memory holds so many commits that they have no number.
-        let seq = self
-            .committed
-            .get(self.site)
-            .checked_add(1)
-            .ok_or(NoMemory)?;
+        // No memory reaches so far that a commit has no number.
+        let last = self.committed.get(self.site);
+        let seq = last.checked_add(1).ok_or(NoMemory)?;
         let tx = Tx {
             tid: transaction.tid,
             slow: 0,

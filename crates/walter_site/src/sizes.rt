@@ -1,5 +1,5 @@
 ghost use Rattle.std.specs.Prelude.{◌≡◌, ◌≤◌, length};
-ghost use Rattle.walter_base.specs.Sizes.{size_of_update, size_of_updates, HasShortValue, AreSmall};
+ghost use Rattle.walter_base.specs.Sizes.{size_of_update, size_of_updates, AreSmall};
 ghost use Rattle.walter_trail.specs.Rule.{has_place};
 
 use walter_base::{Bytes, ObjId, Update};

@@ -1,10 +1,12 @@
-use crate::{Input, Plan, Site};
+ghost use Rattle.std.specs.Prelude.{IfOk, IfSome};
+ghost use Rattle.walter_base.specs.Sizes.{CanBeRecorded};
+
+use crate::{Input, Plan, ReplayFault, Site};
 use std::alloc::Global;
-use std::process::Abort;
 use std::test::Fail;
 use walter_base::{
-    BadFrame, Bytes, Call, Catalog, Cause, Kind, Mem, ObjId, Refusal, Reply, Request, SiteId,
-    Version,
+    BadFrame, Bytes, Call, Catalog, Cause, Kind, Level, Mem, ObjId, Record, Refusal, Reply,
+    Request, SiteId, Tid, Version,
 };
 
 const OBJECT: ObjId = ObjId {
@@ -22,19 +24,45 @@ const STRANGE: ObjId = ObjId {
     local: 5,
 };
 
-// The site 0, alone, with the container 1.
+const SET: ObjId = ObjId {
+    container: 3,
+    local: 5,
+};
+
+// The site 0, alone, with the container 1 and a container 3 of sets.
+fn unmade(alloc: Global) -> Result<Site, Fail> {
+    let items = [(1, Kind::Regular, SiteId(0)), (3, Kind::Cset, SiteId(0))];
+    let catalog = Catalog::build(alloc, 1, 0, &items)?;
+    Ok(Site::new(alloc, catalog, SiteId(0)))
+}
+
+// In its first epoch.
 fn alone(alloc: Global) -> Result<Site, Fail> {
-    let catalog = Catalog::build(alloc, 1, 0, &[(1, Kind::Regular, SiteId(0))])?;
-    Ok(Site::booted(alloc, catalog, SiteId(0)))
+    let mut site = unmade(alloc)?;
+    site.replay(Record::Boot(1))?;
+    Ok(site)
 }
 
 fn write(alloc: Global, oid: ObjId, bytes: &[u8]) -> Mem<Request> {
     Ok(Request::Write(oid, Bytes::from_slice(alloc, bytes)?))
 }
 
+// A write of so many bytes.
+fn write_of(alloc: Global, oid: ObjId, length: usize) -> Mem<Request> {
+    let bytes = vec![in alloc; 7u8; length]?;
+    Ok(Request::Write(oid, Bytes::from(bytes)))
+}
+
+fn tid(epoch: u32, number: u64) -> Tid {
+    Tid {
+        site: SiteId(0),
+        epoch,
+        number,
+    }
+}
+
 // What the site answers to a call, which it then applies.
-fn served(rt: &impl Abort, site: &mut Site, client: u32, call: Call) -> Mem<Reply> {
-    assert!(rt; site.can_count());
+fn served(site: &mut Site, client: u32, call: Call) -> Mem<Reply> {
     let plan = site.plan(&Input::Call { client, call })?;
     let reply = plan.reply.clone()?;
     site.apply(plan);
@@ -42,15 +70,15 @@ fn served(rt: &impl Abort, site: &mut Site, client: u32, call: Call) -> Mem<Repl
 }
 
 // What the site answers to a request.
-fn asked(rt: &impl Abort, site: &mut Site, client: u32, request: Request) -> Mem<Reply> {
-    served(rt, site, client, Ok(request))
+fn asked(site: &mut Site, client: u32, request: Request) -> Mem<Reply> {
+    served(site, client, Ok(request))
 }
 
 // A transaction that writes the object and commits.
-fn written(rt: &impl Abort, alloc: Global, site: &mut Site, client: u32, oid: ObjId) -> Mem<Reply> {
-    asked(rt, site, client, Request::Start)?;
-    asked(rt, site, client, write(alloc, oid, b"x")?)?;
-    asked(rt, site, client, Request::Commit)
+fn written(alloc: Global, site: &mut Site, client: u32, oid: ObjId) -> Mem<Reply> {
+    asked(site, client, Request::Start)?;
+    asked(site, client, write(alloc, oid, b"x")?)?;
+    asked(site, client, Request::Commit)
 }
 
 fn version(seq: u64) -> Version {
@@ -77,7 +105,7 @@ fn a_transaction_reads_its_own_write_and_commits(rt: HostRuntime) -> Result<(), 
     ];
     let mut replies = Vec::new(alloc);
     for request in requests {
-        replies.push(asked(&rt, &mut site, 0, request)?)?;
+        replies.push(asked(&mut site, 0, request)?)?;
     }
     assert_eq!(rt; replies.len(), 9);
     assert!(rt; matches!(&replies[0], Reply::Refused(Refusal::NoTx)));
@@ -99,9 +127,9 @@ fn a_transaction_reads_its_own_write_and_commits(rt: HostRuntime) -> Result<(), 
 fn a_snapshot_leaves_out_what_commits_later(rt: HostRuntime) -> Result<(), Fail> {
     let alloc = rt.alloc();
     let mut site = alone(alloc)?;
-    asked(&rt, &mut site, 1, Request::Start)?;
-    written(&rt, alloc, &mut site, 0, OBJECT)?;
-    let read = asked(&rt, &mut site, 1, Request::Read(OBJECT))?;
+    asked(&mut site, 1, Request::Start)?;
+    written(alloc, &mut site, 0, OBJECT)?;
+    let read = asked(&mut site, 1, Request::Read(OBJECT))?;
     assert!(rt; matches!(read, Reply::Value(None)));
     Ok(())
 }
@@ -111,14 +139,14 @@ fn the_first_of_two_writers_commits(rt: HostRuntime) -> Result<(), Fail> {
     let alloc = rt.alloc();
     let mut site = alone(alloc)?;
     for client in 0..2 {
-        asked(&rt, &mut site, client, Request::Start)?;
-        asked(&rt, &mut site, client, write(alloc, OBJECT, b"x")?)?;
+        asked(&mut site, client, Request::Start)?;
+        asked(&mut site, client, write(alloc, OBJECT, b"x")?)?;
     }
-    let Reply::Committed(first) = asked(&rt, &mut site, 0, Request::Commit)? else {
+    let Reply::Committed(first) = asked(&mut site, 0, Request::Commit)? else {
         panic!(rt; "the first commits");
     };
     assert_eq!(rt; first, version(1));
-    let Reply::Aborted(cause) = asked(&rt, &mut site, 1, Request::Commit)? else {
+    let Reply::Aborted(cause) = asked(&mut site, 1, Request::Commit)? else {
         panic!(rt; "the second is aborted");
     };
     let modified = Cause::Modified {
@@ -126,7 +154,7 @@ fn the_first_of_two_writers_commits(rt: HostRuntime) -> Result<(), Fail> {
         version: first,
     };
     assert_eq!(rt; cause, modified);
-    let again = asked(&rt, &mut site, 1, Request::Commit)?;
+    let again = asked(&mut site, 1, Request::Commit)?;
     assert!(rt; matches!(again, Reply::Refused(Refusal::NoTx)));
     Ok(())
 }
@@ -135,14 +163,14 @@ fn the_first_of_two_writers_commits(rt: HostRuntime) -> Result<(), Fail> {
 fn a_conflict_names_the_first_object_and_its_first_version(rt: HostRuntime) -> Result<(), Fail> {
     let alloc = rt.alloc();
     let mut site = alone(alloc)?;
-    asked(&rt, &mut site, 0, Request::Start)?;
+    asked(&mut site, 0, Request::Start)?;
     for oid in [LATER, OBJECT, OBJECT] {
-        written(&rt, alloc, &mut site, 1, oid)?;
+        written(alloc, &mut site, 1, oid)?;
     }
     for oid in [LATER, OBJECT] {
-        asked(&rt, &mut site, 0, write(alloc, oid, b"y")?)?;
+        asked(&mut site, 0, write(alloc, oid, b"y")?)?;
     }
-    let Reply::Aborted(cause) = asked(&rt, &mut site, 0, Request::Commit)? else {
+    let Reply::Aborted(cause) = asked(&mut site, 0, Request::Commit)? else {
         panic!(rt; "both objects have later versions");
     };
     let modified = Cause::Modified {
@@ -157,14 +185,14 @@ fn a_conflict_names_the_first_object_and_its_first_version(rt: HostRuntime) -> R
 fn an_abort_ends_the_transaction_and_changes_nothing(rt: HostRuntime) -> Result<(), Fail> {
     let alloc = rt.alloc();
     let mut site = alone(alloc)?;
-    let none = asked(&rt, &mut site, 0, Request::Abort)?;
+    let none = asked(&mut site, 0, Request::Abort)?;
     assert!(rt; matches!(none, Reply::Refused(Refusal::NoTx)));
-    asked(&rt, &mut site, 0, Request::Start)?;
-    asked(&rt, &mut site, 0, write(alloc, OBJECT, b"x")?)?;
-    let aborted = asked(&rt, &mut site, 0, Request::Abort)?;
+    asked(&mut site, 0, Request::Start)?;
+    asked(&mut site, 0, write(alloc, OBJECT, b"x")?)?;
+    let aborted = asked(&mut site, 0, Request::Abort)?;
     assert!(rt; matches!(aborted, Reply::Aborted(Cause::Asked)));
-    asked(&rt, &mut site, 0, Request::Start)?;
-    let read = asked(&rt, &mut site, 0, Request::Read(OBJECT))?;
+    asked(&mut site, 0, Request::Start)?;
+    let read = asked(&mut site, 0, Request::Read(OBJECT))?;
     assert!(rt; matches!(read, Reply::Value(None)));
     Ok(())
 }
@@ -173,9 +201,9 @@ fn an_abort_ends_the_transaction_and_changes_nothing(rt: HostRuntime) -> Result<
 fn a_bad_frame_is_refused_in_any_state(rt: HostRuntime) -> Result<(), Fail> {
     let mut site = alone(rt.alloc())?;
     for _ in 0..2 {
-        let reply = served(&rt, &mut site, 0, Err(BadFrame { at: 3 }))?;
+        let reply = served(&mut site, 0, Err(BadFrame { at: 3 }))?;
         assert!(rt; matches!(reply, Reply::Refused(Refusal::BadFrame { at: 3 })));
-        asked(&rt, &mut site, 0, Request::Start)?;
+        asked(&mut site, 0, Request::Start)?;
     }
     Ok(())
 }
@@ -186,14 +214,14 @@ fn an_unknown_container_is_refused_after_the_want_of_a_transaction(
 ) -> Result<(), Fail> {
     let alloc = rt.alloc();
     let mut site = alone(alloc)?;
-    let first = asked(&rt, &mut site, 0, Request::Read(STRANGE))?;
+    let first = asked(&mut site, 0, Request::Read(STRANGE))?;
     assert!(rt; matches!(first, Reply::Refused(Refusal::NoTx)));
-    asked(&rt, &mut site, 0, Request::Start)?;
+    asked(&mut site, 0, Request::Start)?;
     for request in [Request::Read(STRANGE), write(alloc, STRANGE, b"x")?] {
-        let reply = asked(&rt, &mut site, 0, request)?;
+        let reply = asked(&mut site, 0, request)?;
         assert!(rt; matches!(reply, Reply::Refused(Refusal::UnknownContainer)));
     }
-    let open = asked(&rt, &mut site, 0, Request::Commit)?;
+    let open = asked(&mut site, 0, Request::Commit)?;
     assert!(rt; matches!(open, Reply::Ended));
     Ok(())
 }
@@ -206,12 +234,224 @@ fn an_unapplied_plan_changes_nothing(rt: HostRuntime) -> Result<(), Fail> {
         call: Ok(Request::Start),
     };
     for _ in 0..2 {
-        assert!(rt; site.can_count());
         let Plan { reply, .. } = site.plan(&start)?;
         let Reply::Started(tid) = reply else {
             panic!(rt; "no transaction is open");
         };
         assert_eq!(rt; tid.number, 1);
     }
+    Ok(())
+}
+
+#[test]
+fn a_set_is_neither_read_nor_written_whole(rt: HostRuntime) -> Result<(), Fail> {
+    let alloc = rt.alloc();
+    let mut site = alone(alloc)?;
+    let first = asked(&mut site, 0, Request::Read(SET))?;
+    assert!(rt; matches!(first, Reply::Refused(Refusal::NoTx)));
+    asked(&mut site, 0, Request::Start)?;
+    for request in [Request::Read(SET), write_of(alloc, SET, 4_097)?] {
+        let reply = asked(&mut site, 0, request)?;
+        assert!(rt; matches!(reply, Reply::Refused(Refusal::WrongKind)));
+    }
+    Ok(())
+}
+
+#[test]
+fn a_value_has_4096_bytes_at_most(rt: HostRuntime) -> Result<(), Fail> {
+    let alloc = rt.alloc();
+    let mut site = alone(alloc)?;
+    asked(&mut site, 0, Request::Start)?;
+    let most = asked(&mut site, 0, write_of(alloc, OBJECT, 4_096)?)?;
+    assert!(rt; matches!(most, Reply::Done));
+    let more = asked(&mut site, 0, write_of(alloc, OBJECT, 4_097)?)?;
+    assert!(rt; matches!(more, Reply::Refused(Refusal::TooLong)));
+    let strange = asked(&mut site, 0, write_of(alloc, STRANGE, 4_097)?)?;
+    assert!(rt; matches!(strange, Reply::Refused(Refusal::UnknownContainer)));
+    let Reply::Value(Some(value)) = asked(&mut site, 0, Request::Read(OBJECT))? else {
+        panic!(rt; "the object has the value of the first write");
+    };
+    assert_eq!(rt; value.len(), 4_096);
+    Ok(())
+}
+
+#[test]
+fn a_transaction_has_256_updates_at_most(rt: HostRuntime) -> Result<(), Fail> {
+    let alloc = rt.alloc();
+    let mut site = alone(alloc)?;
+    asked(&mut site, 0, Request::Start)?;
+    for _ in 0..256 {
+        let reply = asked(&mut site, 0, write(alloc, OBJECT, b"x")?)?;
+        assert!(rt; matches!(reply, Reply::Done));
+    }
+    let full = asked(&mut site, 0, write(alloc, OBJECT, b"y")?)?;
+    assert!(rt; matches!(full, Reply::Refused(Refusal::TxFull)));
+    let committed = asked(&mut site, 0, Request::Commit)?;
+    assert!(rt; matches!(committed, Reply::Committed(_)));
+    Ok(())
+}
+
+#[test]
+fn a_transaction_is_spelled_in_60000_bytes_at_most(rt: HostRuntime) -> Result<(), Fail> {
+    let alloc = rt.alloc();
+    let mut site = alone(alloc)?;
+    asked(&mut site, 0, Request::Start)?;
+    for _ in 0..14 {
+        let reply = asked(&mut site, 0, write_of(alloc, OBJECT, 4_096)?)?;
+        assert!(rt; matches!(reply, Reply::Done));
+    }
+    let full = asked(&mut site, 0, write_of(alloc, OBJECT, 4_096)?)?;
+    assert!(rt; matches!(full, Reply::Refused(Refusal::TxFull)));
+    let long = asked(&mut site, 0, write_of(alloc, OBJECT, 4_097)?)?;
+    assert!(rt; matches!(long, Reply::Refused(Refusal::TooLong)));
+    // 57,669 bytes spell the transaction so far, and 2,331 are left.
+    let fits = asked(&mut site, 0, write_of(alloc, OBJECT, 2_314)?)?;
+    assert!(rt; matches!(fits, Reply::Done));
+    let none = asked(&mut site, 0, write_of(alloc, OBJECT, 0)?)?;
+    assert!(rt; matches!(none, Reply::Refused(Refusal::TxFull)));
+    Ok(())
+}
+
+#[test]
+fn a_site_has_256_transactions_open_at_most(rt: HostRuntime) -> Result<(), Fail> {
+    let mut site = alone(rt.alloc())?;
+    for client in 0..256 {
+        let reply = asked(&mut site, client, Request::Start)?;
+        assert!(rt; matches!(reply, Reply::Started(_)));
+    }
+    let full = asked(&mut site, 256, Request::Start)?;
+    assert!(rt; matches!(full, Reply::Refused(Refusal::SessionsFull)));
+    let open = asked(&mut site, 255, Request::Start)?;
+    assert!(rt; matches!(open, Reply::Refused(Refusal::TxOpen)));
+    asked(&mut site, 7, Request::Abort)?;
+    let Reply::Started(next) = asked(&mut site, 256, Request::Start)? else {
+        panic!(rt; "there is a place again");
+    };
+    assert_eq!(rt; next, tid(1, 257));
+    Ok(())
+}
+
+#[test]
+fn a_level_tells_how_far_a_transaction_has_come(rt: HostRuntime) -> Result<(), Fail> {
+    let alloc = rt.alloc();
+    let mut site = alone(alloc)?;
+    written(alloc, &mut site, 0, OBJECT)?;
+    asked(&mut site, 0, Request::Start)?;
+    asked(&mut site, 1, Request::Start)?;
+    asked(&mut site, 1, Request::Abort)?;
+    let levels = [
+        (1, Level::Visible),
+        (2, Level::Running),
+        (3, Level::NotCommitted),
+    ];
+    for (number, level) in levels {
+        let Reply::Level(told) = asked(&mut site, 2, Request::Level(tid(1, number)))? else {
+            panic!(rt; "the transaction was started");
+        };
+        assert_eq!(rt; told, level);
+    }
+    for other in [tid(1, 4), tid(1, 0), tid(0, 1), tid(2, 1)] {
+        let reply = asked(&mut site, 0, Request::Level(other))?;
+        assert!(rt; matches!(reply, Reply::Refused(Refusal::NotIssued)));
+    }
+    let elsewhere = Tid {
+        site: SiteId(1),
+        epoch: 0,
+        number: 1,
+    };
+    let reply = asked(&mut site, 0, Request::Level(elsewhere))?;
+    assert!(rt; matches!(reply, Reply::Refused(Refusal::WrongSite)));
+    Ok(())
+}
+
+// The record of a transaction that writes the object.
+fn record_of(alloc: Global, site: &mut Site, oid: ObjId) -> Mem<Option<Record>>
+    ensures { IfOk result (λ rec. IfSome rec CanBeRecorded) }
+{
+    asked(site, 0, Request::Start)?;
+    asked(site, 0, write(alloc, oid, b"x")?)?;
+    let plan = site.plan(&Input::Call {
+        client: 0,
+        call: Ok(Request::Commit),
+    })?;
+    let rec = plan.rec.clone()?;
+    site.apply(plan);
+    Ok(rec)
+}
+
+#[test]
+fn a_site_is_made_anew_from_its_records(rt: HostRuntime) -> Result<(), Fail> {
+    let alloc = rt.alloc();
+    let mut site = alone(alloc)?;
+    let mut copy = alone(alloc)?;
+    for oid in [OBJECT, LATER] {
+        asked(&mut copy, 1, Request::Start)?;
+        let Some(rec) = record_of(alloc, &mut site, oid)? else {
+            panic!(rt; "the transaction commits");
+        };
+        copy.replay(rec)?;
+    }
+    copy.replay(Record::Boot(2))?;
+    assert_eq!(rt; copy.epoch(), 2);
+    let Reply::Started(first) = asked(&mut copy, 0, Request::Start)? else {
+        panic!(rt; "the client has no transaction");
+    };
+    assert_eq!(rt; first, tid(2, 1));
+    for oid in [OBJECT, LATER] {
+        let Reply::Value(Some(value)) = asked(&mut copy, 0, Request::Read(oid))? else {
+            panic!(rt; "the object has a value");
+        };
+        assert_eq!(rt; value.as_slice(), b"x".as_slice());
+    }
+    asked(&mut copy, 0, write(alloc, LATER, b"y")?)?;
+    let Reply::Committed(third) = asked(&mut copy, 0, Request::Commit)? else {
+        panic!(rt; "all commits are seen");
+    };
+    assert_eq!(rt; third, version(3));
+    let Reply::Level(level) = asked(&mut copy, 0, Request::Level(tid(1, 2)))? else {
+        panic!(rt; "the transaction is of an earlier epoch");
+    };
+    assert_eq!(rt; level, Level::Visible);
+    Ok(())
+}
+
+#[test]
+fn a_record_that_cannot_follow_is_unfit(rt: HostRuntime) -> Result<(), Fail> {
+    let alloc = rt.alloc();
+    let mut site = alone(alloc)?;
+    for epoch in [0, 1, 3] {
+        let fault = site.replay(Record::Boot(epoch)).err();
+        assert_eq!(rt; fault, Some(ReplayFault::Unfit));
+    }
+    let Some(rec) = record_of(alloc, &mut site, OBJECT)? else {
+        panic!(rt; "the transaction commits");
+    };
+    // It stands there already.
+    assert_eq!(rt; site.replay(rec.clone()?).err(), Some(ReplayFault::Unfit));
+    // No Boot stands before it.
+    assert_eq!(rt;
+        unmade(alloc)?.replay(rec.clone()?).err(),
+        Some(ReplayFault::Unfit)
+    );
+    // It is another site's.
+    let items = [(1, Kind::Regular, SiteId(0))];
+    let catalog = Catalog::build(alloc, 2, 0, &items)?;
+    let mut other = Site::new(alloc, catalog, SiteId(1));
+    other.replay(Record::Boot(1))?;
+    assert_eq!(rt; other.replay(rec.clone()?).err(), Some(ReplayFault::Unfit));
+    // The catalog lacks its object.
+    let catalog = Catalog::build(alloc, 1, 0, &[(2, Kind::Regular, SiteId(0))])?;
+    let mut bare = Site::new(alloc, catalog, SiteId(0));
+    bare.replay(Record::Boot(1))?;
+    assert_eq!(rt; bare.replay(rec).err(), Some(ReplayFault::Unfit));
+    Ok(())
+}
+
+#[test]
+fn replay_faults_have_texts(rt: HostRuntime) -> Result<(), Fail> {
+    let unfit = format!(in rt.alloc(); "{}", ReplayFault::Unfit)?;
+    assert_eq!(rt; unfit.as_str(), "the record can't follow those before it");
+    let memory = format!(in rt.alloc(); "{}", ReplayFault::NoMemory)?;
+    assert_eq!(rt; memory.as_str(), "out of memory");
     Ok(())
 }

@@ -1,4 +1,4 @@
-ghost use Rattle.std.specs.Prelude.{◌≡◌, ◌<◌, Some, None, IfSome, IfNone, OnOk, length, map, filter, not, nat_eq, option_map, if◌then◌else◌};
+ghost use Rattle.std.specs.Prelude.{◌≡◌, ◌<◌, None, IfSome, IfNone, OnOk, length, map, filter, not, nat_eq, option_map, if◌then◌else◌};
 ghost use Rattle.std.specs.Option.{option_copied};
 ghost use Rattle.walter_site.specs.Open.{as_session, sessions_of, first_of, IsPlaceOf, CanTake, AreApart, with_any};
 ghost use Rattle.walter_trail.specs.Knowledge.{Session, session_in, with_update, updated};

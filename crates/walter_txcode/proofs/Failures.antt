@@ -16,11 +16,12 @@ use Rattle.walter_txcode.specs.declared.fault.Fault.{Fault}
 use Rattle.walter_txcode.specs.declared.fault.Fault.TheVariants.{Unspelled, NoMemory}
 use Rattle.walter_txcode.specs.Faults.{IfUnspelled}
 use Rattle.walter_names.specs.Names.{object_spelled, tid_spelled, IsObject, IsTid}
-use Rattle.walter_txcode.specs.Spelling.{numbers_spelled, vector_spelled, value_spelled, member_spelled, update_spelled, updates_spelled, head_spelled, spelling, HasShortValue, AreFew, IsUpdate, HasSpelling}
+use Rattle.walter_base.specs.Sizes.{HasShortValue}
+use Rattle.walter_txcode.specs.Spelling.{numbers_spelled, vector_spelled, value_spelled, member_spelled, update_spelled, updates_spelled, head_spelled, spelling, AreFew, IsUpdate, HasSpelling}
 use Rattle.walter_names.proofs.Lengths.{length-tid_spelled}
 use Rattle.walter_txcode.proofs.Lengths.{length-numbers_spelled, length-value_spelled, length-member_spelled, length-update_spelled, length-updates_spelled, length-head_spelled, length-spelling, length-vector_spelled}
 use Rattle.walter_names.proofs.Prefixes.{same_object, same_tid}
-use Rattle.walter_txcode.proofs.Prefixes.{same_numbers, vector_parts, kind_of, fields_spelled, behind_kind, same_update, AreSpellable, AreSpellable-from_both, each_spelled, each_parts, HasHead, same_head, same_updates, first_two}
+use Rattle.walter_txcode.proofs.Prefixes.{few_of, same_numbers, vector_parts, kind_of, fields_spelled, behind_kind, same_update, AreSpellable, AreSpellable-from_both, each_spelled, each_parts, HasHead, same_head, same_updates, first_two}
 
 pub IfUnspelled-weaker : (fault : Fault) {P Q : Type 0} → (P → Q) → IfUnspelled fault P → IfUnspelled fault Q
 IfUnspelled-weaker Unspelled f h = f h
@@ -223,19 +224,19 @@ behind_head sites tid slow start bytes mid tx begins has e =
     (same_head sites tid tx.tid slow tx.slow start tx.start mid (updates_spelled tx.updates) begins.head (head_of sites tx has) (sym begins.front ∙ e)).3
 
 pub too_long : (sites : ℕ) (bytes : List ℕ) → 60000 < length bytes → (tx : Tx) → HasSpelling sites tx → bytes ≢ spelling tx
-too_long sites bytes long tx has e = omega (arith, ap length e, length-spelling tx has.sizes.sites, has.sizes.size)
+too_long sites bytes long tx has e = omega (arith, ap length e, length-spelling tx has.sizes.sites, has.sizes.updates.size)
 
 pub no_transaction : (sites : ℕ) (tid : Tid) (slow : ℕ) (start bytes mid : List ℕ) → Begins sites tid slow start bytes mid
     → ((us : List Update) (rest : List ℕ) → All IsUpdate us → AreFew us → mid ≢ updates_spelled us ++ rest)
     → (tx : Tx) → HasSpelling sites tx → bytes ≢ spelling tx
 no_transaction sites tid slow start bytes mid begins none tx has e =
-    none tx.updates [] has.ranges.updates has.sizes.updates (behind_head sites tid slow start bytes mid tx begins has e ∙ sym (append-nil (updates_spelled tx.updates)))
+    none tx.updates [] has.ranges.updates (few_of tx has.sizes) (behind_head sites tid slow start bytes mid tx begins has e ∙ sym (append-nil (updates_spelled tx.updates)))
 
 pub more_behind : (sites : ℕ) (tid : Tid) (slow : ℕ) (start bytes mid after : List ℕ) (found : List Update) → Begins sites tid slow start bytes mid → mid ≡ updates_spelled found ++ after
     → All IsUpdate found → AreFew found → after ≢ []
     → (tx : Tx) → HasSpelling sites tx → bytes ≢ spelling tx
 more_behind sites tid slow start bytes mid after found begins is fits few more tx has e =
-    more (same_updates found tx.updates after [] fits few has.ranges.updates has.sizes.updates
+    more (same_updates found tx.updates after [] fits few has.ranges.updates (few_of tx has.sizes)
     (sym is ∙ behind_head sites tid slow start bytes mid tx begins has e ∙ sym (append-nil (updates_spelled tx.updates)))).1
 
 -- a transaction that was read to the end
@@ -248,7 +249,11 @@ is_whole sites tx bytes mid after small begins is fits few ended short =
     let few_sites : length tx.start ≤ 8 = omega (arith, head.counted) in (
       record {
         sites = head.counted;
-        sizes = record { sites = few_sites; updates = few; size = omega (arith, ap length spelled, length-spelling tx few_sites) };
+        sizes = record {
+          sites = few_sites;
+          some = few.some;
+          updates = record { few = few.few; values = few.values; size = omega (arith, ap length spelled, length-spelling tx few_sites) };
+        };
         ranges = record { tid = head.name; slow = head.number; start = head.numbers; updates = fits };
       },
       spelled,

@@ -15,7 +15,8 @@ use Rattle.walter_fields.proofs.Numbers.{same_number}
 use Rattle.walter_fields.proofs.Readings.{same_block}
 use Rattle.walter_names.proofs.Prefixes.{regrouped, same_object, same_tid}
 use Rattle.walter_names.specs.Names.{object_spelled, tid_spelled, IsObject, IsTid}
-use Rattle.walter_txcode.specs.Spelling.{numbers_spelled, vector_spelled, value_spelled, member_spelled, update_spelled, updates_spelled, head_spelled, spelling, HasShortValue, AreFew, IsUpdate, HasSpelling}
+use Rattle.walter_base.specs.Sizes.{HasShortValue, CanBeSpelled}
+use Rattle.walter_txcode.specs.Spelling.{numbers_spelled, vector_spelled, value_spelled, member_spelled, update_spelled, updates_spelled, head_spelled, spelling, AreFew, IsUpdate, HasSpelling}
 
 each_number : (xs ys x y : List ℕ) → length xs ≡ length ys → AllByRecursion (λ n. n < 2 ^ 64) xs → AllByRecursion (λ n. n < 2 ^ 64) ys
     → numbers_spelled xs ++ x ≡ numbers_spelled ys ++ y → (xs ≡ ys) × (x ≡ y)
@@ -143,6 +144,9 @@ same_updates us vs x y fits_u few_u fits_v few_v e =
     (regrouped (number_spelled 2 (length us)) (each_spelled us) x (number_spelled 2 (length vs)) (each_spelled vs) y e) in
     same_each us vs x y counts.0 (AreSpellable-from_both us fits_u few_u.values) (AreSpellable-from_both vs fits_v few_v.values) counts.1
 
+pub few_of : (tx : Tx) → CanBeSpelled tx → AreFew tx.updates
+few_of tx sizes = record { some = sizes.some; few = sizes.updates.few; values = sizes.updates.values }
+
 -- what stands before the updates
 pub record HasHead (n : ℕ) (tid : Tid) (slow : ℕ) (start : List ℕ) : Type 0 where
   pub counted : length start ≡ n
@@ -168,6 +172,6 @@ same_spelling n a b has_a has_b e =
     let head : HasHead n a.tid a.slow a.start = record { counted = has_a.sites; name = has_a.ranges.tid; number = has_a.ranges.slow; numbers = has_a.ranges.start } in
     let other : HasHead n b.tid b.slow b.start = record { counted = has_b.sites; name = has_b.ranges.tid; number = has_b.ranges.slow; numbers = has_b.ranges.start } in
     let one = same_head n a.tid b.tid a.slow b.slow a.start b.start (updates_spelled a.updates) (updates_spelled b.updates) head other e in
-    let two = same_updates a.updates b.updates [] [] has_a.ranges.updates has_a.sizes.updates has_b.ranges.updates has_b.sizes.updates
+    let two = same_updates a.updates b.updates [] [] has_a.ranges.updates (few_of a has_a.sizes) has_b.ranges.updates (few_of b has_b.sizes)
     (append-nil (updates_spelled a.updates) ∙ one.3 ∙ sym (append-nil (updates_spelled b.updates))) in
     (λ i. record { tid = one.0 i; slow = one.1 i; start = one.2 i; updates = two.0 i })

@@ -1,6 +1,6 @@
 -- How a transaction is spelled, and which transactions have a spelling (docs/FORMATS.md, "Transaction").
 use Rattle.std.specs.Prelude.{◌≡◌, ◌-◌, ◌<◌, ◌≤◌, ◌^◌, ℕ, List, ◌++◌, length, replicate, All, flat_map}
-use Rattle.walter_base.specs.Sizes.{size_of}
+use Rattle.walter_base.specs.Sizes.{HasShortValue, CanBeSpelled}
 use Rattle.walter_base.specs.declared.names.ObjId.{ObjId}
 use Rattle.walter_base.specs.declared.names.Tid.{Tid}
 use Rattle.walter_base.specs.declared.transaction.Tx.{Tx}
@@ -41,23 +41,11 @@ head_spelled tid slow start = tid_spelled tid ++ number_spelled 8 slow ++ vector
 abbrev pub spelling : Tx → List ℕ
 spelling tx = head_spelled tx.tid tx.slow tx.start ++ updates_spelled tx.updates
 
--- a value of at most 4,096 bytes
-abbrev pub HasShortValue : Update → Type 0
-HasShortValue (Write oid bytes) = length bytes ≤ 4096
-HasShortValue (Add oid id) = Unit {0}
-HasShortValue (Del oid id) = Unit {0}
-
--- from 1 to 256 updates
+-- from 1 to 256 updates, with short values
 pub record AreFew (updates : List Update) : Type 0 where
   pub some : 1 ≤ length updates
   pub few : length updates ≤ 256
   pub values : All HasShortValue updates
-
--- the sizes of a transaction that has a spelling
-pub record CanBeSpelled (tx : Tx) : Type 0 where
-  pub sites : length tx.start ≤ 8
-  pub updates : AreFew tx.updates
-  pub size : size_of tx ≤ 60000
 
 -- the numbers are in the ranges of their fields
 abbrev pub IsUpdate : Update → Type 0

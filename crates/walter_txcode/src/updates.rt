@@ -1,11 +1,11 @@
 ghost use Rattle.std.specs.Prelude.{◌≡◌, ◌≢◌, ◌↔◌, ◌+◌, ◌≤◌, ◌<◌, ◌^◌, ◌++◌, ℕ, List, length, flat_map, sum_by, All, IsErr, IfOk, IfErr};
-ghost use Rattle.walter_base.specs.Sizes.{size_of_update};
+ghost use Rattle.walter_base.specs.Sizes.{size_of_update, HasShortValue};
 ghost use Rattle.walter_base.specs.declared.names.ObjId.{ObjId};
 ghost use Rattle.walter_base.specs.declared.update.Update.{Update};
 ghost use Rattle.walter_fields.specs.Cursors.{Takes};
 ghost use Rattle.walter_txcode.specs.Faults.{IfUnspelled};
 ghost use Rattle.walter_names.specs.Names.{IsObject};
-ghost use Rattle.walter_txcode.specs.Spelling.{value_spelled, member_spelled, update_spelled, updates_spelled, HasShortValue, AreFew, IsUpdate};
+ghost use Rattle.walter_txcode.specs.Spelling.{value_spelled, member_spelled, update_spelled, updates_spelled, AreFew, IsUpdate};
 
 use crate::fault::Fault;
 use std::alloc::Global;
@@ -104,27 +104,47 @@ pub(crate) fn read_updates(alloc: Global, cursor: &mut Cursor) -> Result<Updates
     Ok(Updates::from(read_each(alloc, cursor, count)?))
 }
 
+fn write_value(out: &mut Appender, oid: ObjId, bytes: &Bytes)
+    requires short { length bytes.now ≤ 4096 }
+    requires room { 16 + length bytes.now ≤ out.old.room }
+    ensures bytes { out.new.bytes ≡ out.old.bytes ++ value_spelled oid bytes.now }
+    ensures room { out.new.room + (16 + length bytes.now) ≡ out.old.room }
+    ensures range { IsObject oid }
+{
+    write_object(out, oid);
+    out.block(bytes.as_slice());
+}
+
+fn write_member(out: &mut Appender, oid: ObjId, id: u64)
+    requires { 20 ≤ out.old.room }
+    ensures bytes { out.new.bytes ≡ out.old.bytes ++ member_spelled oid id }
+    ensures room { out.new.room + 20 ≡ out.old.room }
+    ensures object { IsObject oid }
+    ensures id { id < 2 ^ 64 }
+{
+    write_object(out, oid);
+    out.u64(id);
+}
+
 fn write_update(out: &mut Appender, update: &Update)
     requires short { HasShortValue update.now }
     requires room { size_of_update update.now ≤ out.old.room }
     ensures bytes { out.new.bytes ≡ out.old.bytes ++ update_spelled update.now }
     ensures room { out.new.room + size_of_update update.now ≡ out.old.room }
+    ensures range { IsUpdate update.now }
 {
     match update {
         Update::Write(oid, bytes) => {
             out.u8(1);
-            write_object(out, *oid);
-            out.block(bytes.as_slice());
+            write_value(out, *oid, bytes);
         }
         Update::Add(oid, id) => {
             out.u8(2);
-            write_object(out, *oid);
-            out.u64(*id);
+            write_member(out, *oid, *id);
         }
         Update::Del(oid, id) => {
             out.u8(3);
-            write_object(out, *oid);
-            out.u64(*id);
+            write_member(out, *oid, *id);
         }
     }
 }
@@ -134,6 +154,7 @@ pub(crate) fn write_updates(out: &mut Appender, updates: &[Update])
     requires room { 2 + sum_by size_of_update updates.now ≤ out.old.room }
     ensures bytes { out.new.bytes ≡ out.old.bytes ++ updates_spelled updates.now }
     ensures room { out.new.room + (2 + sum_by size_of_update updates.now) ≡ out.old.room }
+    ensures ranges { All IsUpdate updates.now }
 {
     out.u16(updates.len() as u16);
     for update in updates {

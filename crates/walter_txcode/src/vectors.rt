@@ -55,6 +55,7 @@ pub(crate) fn write_vector(out: &mut Appender, vector: &Vts)
     requires room { 64 ≤ out.old.room }
     ensures bytes { out.new.bytes ≡ out.old.bytes ++ vector_spelled vector.now }
     ensures room { out.new.room + 64 ≡ out.old.room }
+    ensures ranges { All (λ number. number < 2 ^ 64) vector.now }
 {
     for site in 0..8 {
         out.u64(vector.get(SiteId(site)));

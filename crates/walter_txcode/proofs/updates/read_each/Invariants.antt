@@ -1,7 +1,8 @@
 use Rattle.std.proofs.Common.{◌≡◌, length, All}
 use Rattle.std.specs.Prelude.{flat_map}
 use Rattle.walter_fields.specs.Cursors.{Takes}
-use Rattle.walter_txcode.specs.Spelling.{update_spelled, HasShortValue, IsUpdate}
+use Rattle.walter_base.specs.Sizes.{HasShortValue}
+use Rattle.walter_txcode.specs.Spelling.{update_spelled, IsUpdate}
 use Rattle.walter_txcode.proofs.updates.read_each.Given as goal
 
 abbrev pub invariant-loop : goal.invariant-loop

@@ -3,7 +3,6 @@ use Rattle.walter_site.specs.Open.{IsOpenAt, AreOpenAt, sessions_of}
 use Rattle.walter_site.specs.Sites.{known, site_of, catalog_of}
 use Rattle.walter_site.proofs.Changes.{open_of, open_without}
 use Rattle.walter_site.proofs.Ruled.{IsFair, ruled_fair}
-use Rattle.walter_trail.specs.declared.trail.Outcome.{Outcome}
 use Rattle.walter_trail.specs.declared.trail.Outcome.TheVariants.{Replied}
 use Rattle.walter_trail.specs.Knowledge.{session_of}
 use Rattle.walter_site.proofs.site.Site.answer.Goals as goal

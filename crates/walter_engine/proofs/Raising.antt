@@ -1,0 +1,162 @@
+-- What a restart finds in a journal, and what it leaves where its site is not booted.
+use Rattle.std.proofs.Common.{◌≡◌, ℕ, ◌+◌, ◌<◌, ◌≤◌, List, [], ◌∷◌, ◌++◌, length, map, Bool, true, false, Option, Some, None, refl, ap, sym, ◌∙◌, subst, inl, inr, ◌⊎◌, ⊎_elim, arith}
+use Rattle.std.specs.Prelude.{All, IfSome, is_some}
+use Rattle.std.proofs.lemmas.List.{length-append, length-map}
+use Rattle.std.proofs.lemmas.List.Elements.{All-push}
+use Rattle.walter_base.specs.declared.catalog.Catalog.{Catalog}
+use Rattle.walter_base.specs.declared.message.Record.{Record}
+use Rattle.walter_base.specs.declared.message.Record.TheVariants.{Boot, Own}
+use Rattle.walter_base.specs.declared.names.SiteId.{SiteId}
+use Rattle.walter_disk.specs.declared.disk.Disk.{Ghosts}
+use Rattle.walter_journal.specs.declared.journal.Journal.{Journal}
+use Rattle.walter_journal.specs.Journals.{disk_of, StandsFor}
+use Rattle.walter_journal.specs.Layout.{HasContent}
+use Rattle.walter_record.specs.Spelling.{record_spelled, HasRecordSpelling}
+use Rattle.walter_trail.specs.declared.trail.TrailEvent.TheVariants.{Restart}
+use Rattle.walter_trail.specs.Knowledge.{Knowledge, fresh, recorded, lost}
+use Rattle.walter_trail.specs.Records.{CanFollow, CanAllFollow, replayed}
+use Rattle.walter_trail.specs.Standing.{Standing, settled}
+use Rattle.walter_trail.specs.Trails.{IsFound}
+use Rattle.walter_engine.specs.declared.answers.Restarted.TheVariants as restarted
+use Rattle.walter_engine.specs.declared.engine.State.TheVariants.{Down}
+use Rattle.walter_engine.specs.declared.engine.Tally.{Tally}
+use Rattle.walter_engine.specs.declared.restarting.Raised.{Raised}
+use Rattle.walter_engine.specs.Contents.{AreJournaled, CanBeJournaled, MayHaveRecords}
+use Rattle.walter_engine.specs.Engines.{IsResting}
+use Rattle.walter_engine.specs.Raises.{Boots, Raises, IsDown, IsCounted, IsFoundIn}
+use Rattle.walter_engine.specs.Replays.{Tells}
+use Rattle.walter_engine.specs.Steps.{Tell, IsUnreadable, kept_of}
+use Rattle.walter_engine.proofs.Bodies.{one_list, readable, some_is}
+use Rattle.walter_engine.proofs.Boots.{boots_no_memory}
+use Rattle.walter_engine.proofs.Replays.{replayed_more, follow_more, follows_lost}
+use Rattle.walter_engine.proofs.Resting.{SizeIs, may_have, rests_by}
+use Rattle.walter_engine.proofs.Standings.{journaled_more}
+
+lost_more : (i : SiteId) (K : Knowledge) (rec : Record) → lost (recorded i (Some rec) K) ≡ recorded i (Some rec) (lost K)
+lost_more i K (Boot epoch) = refl
+lost_more i K (Own seq tx) = refl
+
+module _ (catalog : Catalog) (i : SiteId) (S : Standing) (all : AreJournaled catalog i S) where
+  -- the one in flight
+  in_flight : (rec : Record) → S.flight ≡ Some rec → CanBeJournaled catalog i S rec
+  in_flight rec flight = some_is (CanBeJournaled catalog i S) S.flight rec flight all.in_flight
+
+  tell_alone : Tell catalog i (map record_spelled S.records) S.records
+  tell_alone = record { spell = refl; spelled = all.spelled; follow = all.follow }
+
+  tell_behind : (rec : Record) → S.flight ≡ Some rec → Tell catalog i (map record_spelled (S.records ++ rec ∷ [])) (S.records ++ rec ∷ [])
+  tell_behind rec flight =
+      let can = in_flight rec flight in
+      record {
+        spell = refl;
+        spelled = All-push (HasRecordSpelling catalog.sites) S.records rec all.spelled can.spelled;
+        follow = follow_more catalog i (fresh catalog.sites) S.records rec all.follow (subst (λ K. CanFollow catalog i K rec) all.tell (follows_lost catalog i S.knows rec can.follows));
+      }
+
+  -- what is found can be read
+  pub found_readable : (bodies : List (List ℕ)) (index : ℕ) → IsFoundIn S bodies → IsUnreadable catalog i bodies index → ⊥
+  found_readable bodies index (inl is) bad = readable catalog i (map record_spelled S.records) index S.records tell_alone (subst (λ bodies. IsUnreadable catalog i bodies index) is bad)
+  found_readable bodies index (inr behind) bad =
+      readable catalog i (map record_spelled (S.records ++ behind.0 ∷ [])) index (S.records ++ behind.0 ∷ []) (tell_behind behind.0 behind.1)
+      (subst (λ bodies. IsUnreadable catalog i bodies index) behind.2 bad)
+
+  -- bodies tell what their records do
+  told_by : (bodies : List (List ℕ)) (records : List Record) (K : Knowledge) → Tell catalog i (map record_spelled records) records → bodies ≡ map record_spelled records → Tells catalog i bodies K
+      → K ≡ replayed i (fresh catalog.sites) records
+  told_by bodies records K tell is tells =
+      tells.known ∙ ap (λ rs. replayed i (fresh catalog.sites) rs) (one_list catalog.sites tells.records records tells.tell.spelled tell.spelled (sym tells.tell.spell ∙ is))
+
+  pub knows_alone : (bodies : List (List ℕ)) (K : Knowledge) → IsDown S → bodies ≡ map record_spelled S.records → Tells catalog i bodies K → K ≡ S.knows
+  knows_alone bodies K down is tells = told_by bodies S.records K tell_alone is tells ∙ sym all.tell ∙ down.rests
+
+  pub knows_behind : (bodies : List (List ℕ)) (K : Knowledge) (rec : Record) → IsDown S → S.flight ≡ Some rec → bodies ≡ map record_spelled (S.records ++ rec ∷ []) → Tells catalog i bodies K
+      → K ≡ recorded i (Some rec) S.knows
+  knows_behind bodies K rec down flight is tells =
+      told_by bodies (S.records ++ rec ∷ []) K (tell_behind rec flight) is tells ∙ replayed_more i (fresh catalog.sites) S.records rec
+      ∙ ap (λ K. recorded i (Some rec) K) (sym all.tell ∙ down.rests)
+
+  -- the record in flight is settled
+  pub settled_journaled : (rec : Record) → IsDown S → S.flight ≡ Some rec → AreJournaled catalog i (settled i (Some rec) S)
+  settled_journaled rec down flight =
+      journaled_more catalog i S (settled i (Some rec) S) rec all (in_flight rec flight) refl (lost_more i S.knows rec) refl (λ up. absurd (both down.down up))
+    where
+      both : S.up ≡ false → S.up ≡ true → ⊥
+      both down up = cc
+
+pub settled_down : (i : SiteId) (S : Standing) (rec : Record) → IsDown S → IsDown (settled i (Some rec) S)
+settled_down i S rec down = record { down = down.down; rests = lost_more i S.knows rec ∙ ap (λ K. recorded i (Some rec) K) down.rests }
+
+pub settled_counted : (i : SiteId) (S : Standing) (rec : Record) (bodies : List (List ℕ)) (count : ℕ) → count ≡ length bodies → bodies ≡ map record_spelled (S.records ++ rec ∷ [])
+    → IsCounted (record { records = count; in_flight = false }) (settled i (Some rec) S)
+settled_counted i S rec bodies count is_count is = record { count = is_count ∙ ap length is ∙ length-map (S.records ++ rec ∷ []) record_spelled; flight = refl }
+
+-- which was found, by the count
+pub found_alone : (tally : Tally) (S : Standing) (bodies : List (List ℕ)) → IsCounted tally S → IsFoundIn S bodies → (tally.in_flight ≡ false) ⊎ (length bodies ≤ tally.records) → bodies ≡ map record_spelled S.records
+found_alone tally S bodies counted (inl is) few = is
+found_alone tally S bodies counted (inr behind) (inl none) =
+    let flight : is_some S.flight ≡ true = ap is_some behind.1 in
+    let counts = counted.flight in
+    absurd (cc)
+found_alone tally S bodies counted (inr behind) (inr few) =
+    absurd (omega (arith, few, counted.count, ap length behind.2, length-map (S.records ++ behind.0 ∷ []) record_spelled, length-append S.records (behind.0 ∷ [])))
+
+pub found_behind : (tally : Tally) (S : Standing) (bodies : List (List ℕ)) → IsCounted tally S → IsFoundIn S bodies → tally.records < length bodies
+    → (rec : Record) × (S.flight ≡ Some rec) × (bodies ≡ map record_spelled (S.records ++ rec ∷ []))
+found_behind tally S bodies counted (inl is) more = absurd (omega (arith, more, counted.count, ap length is, length-map S.records record_spelled))
+found_behind tally S bodies counted (inr behind) more = behind
+
+-- a site that is not booted rests, whatever was found
+module _ {D : Type 0} {g : Ghosts D} (size_is : SizeIs g) (S : Standing) (bodies : List (List ℕ)) (down : IsDown S) (found : IsFoundIn S bodies) (journal : Journal D g) (stands : StandsFor journal bodies) where
+  may_have_found : (image : List ℕ) → g.may_leave (disk_of journal) image → MayHaveRecords S.records S.flight image
+  may_have_found image left = by found
+    where
+      has : (bodies' : List (List ℕ)) → bodies ≡ bodies' → HasContent image bodies'
+      has bodies' is = subst (λ bodies. HasContent image bodies) is (subst (λ bytes. HasContent bytes bodies) (sym (stands.durable image left)) stands.content)
+
+      by : IsFoundIn S bodies → MayHaveRecords S.records S.flight image
+      by (inl is) = may_have S.records S.flight image (has (map record_spelled S.records) is)
+      by (inr behind) = subst (λ flight. MayHaveRecords S.records flight image) (sym behind.1) (inr (has (map record_spelled (S.records ++ behind.0 ∷ [])) behind.2))
+
+  found_rests : IsResting g S (disk_of journal)
+  found_rests = rests_by g size_is S journal down.down down.rests bodies stands may_have_found
+
+-- where memory ran out
+pub raises_no_memory : {D : Type 0} {g : Ghosts D} (size_is : SizeIs g) (catalog : Catalog) (capacity : ℕ) (i : SiteId) (S : Standing) (tally : Tally) (bodies : List (List ℕ)) → IsDown S → AreJournaled catalog i S → IsCounted tally S
+    → IsFoundIn S bodies → (journal : Journal D g) → StandsFor journal bodies → (result : Raised D g) → result.state ≡ Down (disk_of journal) → result.answer ≡ restarted.NoMemory None → result.tally ≡ tally → Raises catalog capacity i S result
+raises_no_memory {D} {g} size_is catalog capacity i S tally bodies down all counted found journal stands result is_state is_answer is_tally = record {
+  found = subst (λ (kept : Option Record). IfSome kept (IsFound S Restart)) (sym (ap kept_of is_answer)) tt;
+  boots = subst (λ kept. Boots catalog capacity i (settled i kept S) result) (sym (ap kept_of is_answer))
+      (boots_no_memory {g = g} catalog capacity i S tally all counted (disk_of journal) (found_rests size_is S bodies down found journal stands) None result is_state is_answer is_tally);
+}
+
+-- a site that was booted
+module _ {D : Type 0} {g : Ghosts D} (catalog cat : Catalog) (capacity : ℕ) (i j : SiteId) (S : Standing) (tally : Tally) (K : Knowledge) (bodies : List (List ℕ)) (same_catalog : cat ≡ catalog) (same_site : j ≡ i)
+    (tells : Tells catalog i bodies K) (down : IsDown S) (all : AreJournaled catalog i S) (counted : IsCounted tally S) (found : IsFoundIn S bodies) (journal : Journal D g) (stands : StandsFor journal bodies) (result : Raised D g) (count : ℕ) (is_count : count ≡ length bodies) where
+  abbrev WillBoot : Tally → Catalog → SiteId → Type 0
+  WillBoot tally catalog i = (S : Standing) → IsDown S → K ≡ S.knows → AreJournaled catalog i S → IsCounted tally S → StandsFor journal (map record_spelled S.records) → Boots catalog capacity i S result
+
+  here : (tally : Tally) → WillBoot tally cat j → WillBoot tally catalog i
+  here tally boots = subst (λ c. WillBoot tally c i) same_catalog (subst (λ s. WillBoot tally cat s) same_site boots)
+
+  pub raises_alone : (tally.in_flight ≡ false) ⊎ (count ≤ tally.records) → WillBoot tally cat j → kept_of result.answer ≡ None → Raises catalog capacity i S result
+  raises_alone few boots kept =
+      let is = found_alone tally S bodies counted found (⊎_elim (λ none. inl none) (λ less. inr (omega (arith, less, is_count))) few) in
+      record {
+        found = subst (λ (kept : Option Record). IfSome kept (IsFound S Restart)) (sym kept) tt;
+        boots = subst (λ kept. Boots catalog capacity i (settled i kept S) result) (sym kept)
+            (here tally boots S down (knows_alone catalog i S all bodies K down is tells) all counted (subst (λ bodies. StandsFor journal bodies) is stands));
+      }
+
+  pub raises_behind : (last : Option Record) → tally.records < count → ((records : List Record) (rec : Record) → bodies ≡ map record_spelled (records ++ rec ∷ []) → HasRecordSpelling catalog.sites rec → last ≡ Some rec)
+      → WillBoot (record { records = count; in_flight = false }) cat j → kept_of result.answer ≡ last → Raises catalog capacity i S result
+  raises_behind last more is_last boots kept_is =
+      let behind = found_behind tally S bodies counted found (omega (arith, more, is_count)) in
+      let rec = behind.0 in
+      let can = in_flight catalog i S all rec behind.1 in
+      let kept : kept_of result.answer ≡ Some rec = kept_is ∙ is_last S.records rec behind.2 can.spelled in
+      record {
+        found = subst (λ (kept : Option Record). IfSome kept (IsFound S Restart)) (sym kept) (record { restart = refl; down = down.down; in_flight = behind.1 });
+        boots = subst (λ kept. Boots catalog capacity i (settled i kept S) result) (sym kept)
+            (here _ boots (settled i (Some rec) S) (settled_down i S rec down) (knows_behind catalog i S all bodies K rec down behind.1 behind.2 tells)
+            (settled_journaled catalog i S all rec down behind.1) (settled_counted i S rec bodies count is_count behind.2) (subst (λ bodies. StandsFor journal bodies) behind.2 stands));
+      }

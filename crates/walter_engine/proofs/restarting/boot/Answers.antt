@@ -1,0 +1,67 @@
+use Rattle.std.proofs.Common.{◌≡◌, ◌+◌, ap, ◌∙◌, length, Some, map, arith}
+use Rattle.walter_base.specs.declared.message.Record.TheVariants.{Boot}
+use Rattle.walter_journal.specs.Journals.{left_of, need_of}
+use Rattle.walter_record.specs.Spelling.{record_spelled}
+use Rattle.walter_site.specs.Sites.{site_of, catalog_of}
+use Rattle.walter_trail.specs.Knowledge.{recorded}
+use Rattle.walter_engine.proofs.Boots.{boots_no_memory, boots_up, boots_failed, boots_full, full_is, failed_is}
+use Rattle.walter_engine.proofs.Resting.{rests_under}
+use Rattle.walter_engine.proofs.Room.{short_enough}
+use Rattle.walter_engine.proofs.restarting.boot.Goals as goal
+
+pub returns-in_default-stage-clause-boots : goal.returns-in_default-stage-clause-boots
+returns-in_default-stage-clause-boots g c S down knows all counted stands =
+    let same = c.stage.ensures.same in
+    let rest = c.rest-in_default-stage in
+    let resting = rests_under g.D.Disk g.met.D.Disk.size_is S c.stage.new.journal down.down down.rests (same.stands _ stands) in
+    boots_no_memory {g = g.D.Disk} _ _ _ S c.args.tally all counted _ resting c.args.kept rest.result rest.ensures.state rest.ensures.answer rest.ensures.tally
+
+pub returns-in_default-replay-clause-boots : goal.returns-in_default-replay-clause-boots
+returns-in_default-replay-clause-boots g c S down knows all counted stands =
+    let same = c.stage.ensures.same in
+    let rest = c.rest-in_default-replay in
+    let resting = rests_under g.D.Disk g.met.D.Disk.size_is S c.stage.new.journal down.down down.rests (same.stands _ stands) in
+    boots_no_memory {g = g.D.Disk} _ _ _ S c.args.tally all counted _ resting c.args.kept rest.result rest.ensures.state rest.ensures.answer rest.ensures.tally
+
+pub append-requires-clause-short : goal.append-requires-clause-short
+append-requires-clause-short g c =
+    let body = c.as_slice.ensures ∙ c.in-Ok.ensures.staged.body_is in
+    omega (arith, ap length body, short_enough (Boot c.in-Some.epoch) tt)
+
+pub returns-in-Ok-append-clause-boots : goal.returns-in-Ok-append-clause-boots
+returns-in-Ok-append-clause-boots g c S down knows all counted stands =
+    let staged = c.in-Ok.ensures.staged in
+    let same = c.in-Ok.ensures.same in
+    let epoch = c.in-Some.epoch in
+    let next : epoch ≡ S.knows.epoch + 1 = c.in-Ok-replay.ensures.ok ∙ ap (λ K. K.epoch + 1) knows in
+    boots_up {g = g.D.Disk} (catalog_of c.args.site) (site_of c.args.site) S c.args.tally down all counted c.stage.new.journal (same.stands _ stands) epoch next staged.ranges c.args.kept
+    c.as_slice.result.now (c.as_slice.ensures ∙ staged.body_is) _ same.capacity
+    c.replay.new.self c.append.new.self c.in-Ok.field-0.count
+    (c.in-Ok-replay.ensures.known ∙ ap (λ K. recorded (site_of c.args.site) (Some (Boot epoch)) K) knows) staged.count_is c.in-Ok-append.ensures.ok
+
+pub returns-in-Err-Failed-clause-boots : goal.returns-in-Err-Failed-clause-boots
+returns-in-Err-Failed-clause-boots g c S down knows all counted stands =
+    let staged = c.in-Ok.ensures.staged in
+    let same = c.in-Ok.ensures.same in
+    let epoch = c.in-Some.epoch in
+    let next : epoch ≡ S.knows.epoch + 1 = c.in-Ok-replay.ensures.ok ∙ ap (λ K. K.epoch + 1) knows in
+    let bodies = map record_spelled S.records in
+    let failed = failed_is c.append.result (need_of c.as_slice.result.now) (left_of c.stage.new.journal) _ _ _ c.append.ensures.full c.append.ensures.failed c.in-Err-Failed.field-0 c.in-Err-Failed.is c.in-Err-Failed.field-0-is in
+    let rest = c.rest-in-Err-Failed.ensures in
+    boots_failed {g = g.D.Disk} (catalog_of c.args.site) (site_of c.args.site) S c.args.tally down all counted c.stage.new.journal (same.stands bodies stands) epoch next staged.ranges c.args.kept
+    c.as_slice.result.now (c.as_slice.ensures ∙ staged.body_is) _ same.capacity
+    g.met.D.Disk.size_is g.met.D.Disk.counts_now c.append.new.self failed.0 failed.1 (c.append.ensures.any_moment bodies (same.stands bodies stands))
+    c.rest-in-Err-Failed.result rest.state rest.answer rest.tally
+
+pub returns-clause-boots : goal.returns-clause-boots
+returns-clause-boots g c S down knows all counted stands =
+    let staged = c.in-Ok.ensures.staged in
+    let same = c.in-Ok.ensures.same in
+    let epoch = c.in-Some.epoch in
+    let next : epoch ≡ S.knows.epoch + 1 = c.in-Ok-replay.ensures.ok ∙ ap (λ K. K.epoch + 1) knows in
+    let full = full_is c.append.result (need_of c.as_slice.result.now) (left_of c.stage.new.journal) _ _ _ c.append.ensures.full c.append.ensures.failed c.in-Err-Full.field-0 c.in-Err-Full.need c.in-Err-Full.left c.in-Err-Full.is c.in-Err-Full.field-0-is in
+    let rest = c.rest-in-Err-Full.ensures in
+    boots_full {g = g.D.Disk} (catalog_of c.args.site) (site_of c.args.site) S c.args.tally down all counted c.stage.new.journal (same.stands _ stands) epoch next staged.ranges c.args.kept
+    c.as_slice.result.now (c.as_slice.ensures ∙ staged.body_is) _ same.capacity
+    g.met.D.Disk.size_is c.append.new.self c.in-Err-Full.need c.in-Err-Full.left full.0 full.1 full.2 full.3
+    c.rest-in-Err-Full.result rest.state rest.answer rest.tally
