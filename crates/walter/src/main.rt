@@ -1,10 +1,11 @@
-//! The program `walter`: `top` over standard input, standard output and the process.
+//! The program `walter`: `top` over standard input, standard output, a disk in memory and the process.
 #![tactic(auto)]
 
 use std::env;
 use std::io::{self, ErrorKind};
 use std::process::ExitCode;
 use walter_cli::{Ended, Fault, top};
+use walter_disk_memory::MemoryRack;
 use walter_stream::{StdSink, StdSource};
 
 // The words behind the program's name. A word that is no text is none of any line.
@@ -27,7 +28,8 @@ fn run(rt: &HostRuntime) -> Ended {
     };
     let mut source = StdSource::new(rt.reader());
     let mut sink = StdSink::new(io::writer(rt));
-    top(rt, &words, &mut source, &mut sink)
+    let mut rack = MemoryRack::new(rt.alloc());
+    top(rt, &words, &mut source, &mut sink, &mut rack)
 }
 
 fn main(rt: HostRuntime) -> ExitCode {

@@ -1,7 +1,11 @@
-pub mod OneWord
-pub mod Short
 pub mod Lines
-pub mod Growing
-pub mod Entries
-pub mod Turns
+pub mod WordLines
+pub mod Openings
+pub mod Ties
+pub mod Losses
+pub mod Asked
+pub mod Grown
+pub mod Restarting
 pub mod Runs
+pub mod Turns
+pub mod Giving

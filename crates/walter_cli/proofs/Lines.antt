@@ -1,15 +1,14 @@
 -- What the answers of a client's connection leave of what was read.
-use Rattle.std.proofs.Common.{◌≡◌, ◌≢◌, ◌≤◌, ◌<◌, ℕ, List, [], ◌∷◌, ◌++◌, length, refl, ap, sym, ◌∙◌, subst, arith, inl, inr, Some, Result, Ok, Err, get_or, slice_get, slice_set, nat_eq, if◌then◌else◌}
+use Rattle.std.proofs.Common.{◌≡◌, ◌≢◌, ◌<◌, ℕ, List, [], ◌∷◌, ◌++◌, length, refl, ap, sym, ◌∙◌, subst, arith, inl, inr, Some, Result, get_or, slice_get, slice_set, nat_eq, if◌then◌else◌}
 use Rattle.std.proofs.lemmas.Bool.{cases_lt, eq-eqb, ne_eqb}
 use Rattle.std.proofs.lemmas.List.{append-nil, length-set, get_or-set_same, get_or-set_other}
 use Rattle.std.proofs.lemmas.List.Concat.{flat_map-append}
 use Rattle.std.proofs.lemmas.Option.{slice_get-get_or, slice_get_past, get_or_from_slice_get}
 use Rattle.walter_base.specs.declared.message.BadFrame.{BadFrame}
 use Rattle.walter_base.specs.declared.message.Request.{Request}
-use Rattle.walter_base.specs.declared.message.Request.TheVariants.{Start, Read, Write, Commit, Abort}
 use Rattle.walter_conn.specs.Calls.{Incoming, Answers, TakesCall, before, fault, cut}
 use Rattle.walter_conn.specs.Connections.{incoming}
-use Rattle.walter_conn.specs.Frames.{Call, IsCallOf}
+use Rattle.walter_conn.specs.Frames.{Call}
 use Rattle.walter_conn.specs.Sequences.{AreCalls, AreAllCalls}
 use Rattle.walter_conn.specs.declared.conn.Conn.{Conn}
 use Rattle.walter_conn.specs.declared.next.Next.{Next}
@@ -17,7 +16,6 @@ use Rattle.walter_conn.specs.declared.next.Next.TheVariants.{Frame, Ended, Broke
 use Rattle.walter_conn.specs.declared.state.State.TheVariants as state
 use Rattle.walter_conn.proofs.Standings.{one_more_call, over_keeps, over_all, breaks_keeps, breaks_all, calls_of as calls_told}
 use Rattle.walter_psi.proofs.Lists.{slice_get-push_cases, slice_get-append_left, slice_get-push}
-use Rattle.walter_request.proofs.Lengths.{length-request_spelled}
 use Rattle.walter_scenario.specs.declared.scenario.Client.{Client}
 use Rattle.walter_stream.specs.declared.sink.Sink.{Ghosts as SinkGhosts}
 use Rattle.walter_stream.specs.declared.source.Source.{Ghosts as SourceGhosts}
@@ -26,26 +24,6 @@ use Rattle.walter_trail.specs.declared.trail.TrailEvent.{TrailEvent}
 use Rattle.walter_trail.specs.declared.trail.TrailEvent.TheVariants.{Call as CallEvent}
 use Rattle.walter_trail.specs.Trails.{call_by, calls_of}
 use Rattle.walter_cli.specs.Cells.{IsLine, IsLineAt, AreLines, IsReady, Leaves}
-use Rattle.walter_cli.specs.Shortness.{IsShortCall}
-
--- a call that came in a frame is short
-frame_short : (body : List ℕ) (call : Call) → length body ≤ 65536 → IsCallOf body call → IsShortCall call
-frame_short body (Ok (Write oid bytes)) few spells =
-    let l = ap length spells.is in
-    let m = length-request_spelled (Write oid bytes) in
-    omega (arith, few, l, m)
-frame_short body (Ok Start) few spells = tt
-frame_short body (Ok (Read oid)) few spells = tt
-frame_short body (Ok Commit) few spells = tt
-frame_short body (Ok Abort) few spells = tt
-frame_short body (Err bad) few spells = tt
-
-call_is_short : (old new : Incoming) (call : Call) → TakesCall old new call → IsShortCall call
-call_is_short old new call takes =
-    elim takes.takes [
-      | inl whole ↦ frame_short whole.body call whole.short whole.is_call
-      | inr long ↦ subst IsShortCall (sym long.bad) tt
-    ]
 
 -- a connection from which a call was taken isn't broken
 not_broken : (old new : Incoming) (call : Call) → TakesCall old new call → new.state ≢ state.Broken
@@ -56,7 +34,7 @@ not_broken old new call takes is =
     ]
 
 pub next_ready : (old new : Incoming) (next : Next) → Answers old new next → IsReady new next
-next_ready old new (Frame call) takes = (not_broken old new call takes, call_is_short old new call takes)
+next_ready old new (Frame call) takes = not_broken old new call takes
 next_ready old new Ended over = tt
 next_ready old new Broken breaks = tt
 

@@ -1,48 +1,101 @@
 -- What a cell's trail is a run of, and what the parts of a call of the program promise together.
-use Rattle.std.proofs.Common.{◌≡◌, ℕ, ◌<◌, List, [], ◌∷◌, ◌++◌, length, reverse, Option, Some, None, option_map, ap, sym, ◌∙◌, subst, arith, inl, inr, ◌⊎◌}
-use Rattle.std.specs.Prelude.{All, String, OnOk, Result, Ok, Err, false}
+use Rattle.std.proofs.Common.{◌≡◌, ◌≢◌, ℕ, ◌<◌, List, [], ◌∷◌, ◌++◌, length, reverse, map, Bool, Option, Some, None, option_map, ap, sym, ◌∙◌, subst, arith, inl, inr, ◌⊎◌, refl}
+use Rattle.std.specs.Prelude.{All, String, OnOk, Result, Ok, Err, false, IfSome}
 use Rattle.std.specs.Result.{is_err}
 use Rattle.std.specs.Global.{Global}
-use Rattle.std.proofs.lemmas.List.{append-nil, length-append}
+use Rattle.std.proofs.lemmas.List.{append-nil, length-append, map-append}
 use Rattle.std.proofs.lemmas.List.Elements.{All-push, All-weaker}
-use Rattle.walter_base.specs.declared.catalog.Catalog.{Catalog}
+use Rattle.walter_base.specs.declared.message.Reply.{Reply}
+use Rattle.walter_base.specs.declared.message.Reply.TheVariants.{Started, Value, Done, Committed, Aborted, Level, Ended as IsEnded, Unsure, Refused}
+use Rattle.walter_base.specs.Sizes.{IsShortReply}
 use Rattle.walter_conn.proofs.Standings.{calls_of as calls_told}
-use Rattle.walter_psi.specs.Legal.{IsLegal}
-use Rattle.walter_reply.specs.Replies.{FitsFrame}
+use Rattle.walter_disk.specs.declared.disk.Disk.{Ghosts}
+use Rattle.walter_engine.specs.declared.engine.State.{State}
+use Rattle.walter_engine.specs.declared.engine.State.TheVariants.{Up, Down}
+use Rattle.walter_engine.specs.Contents.{HasRecords, MayHaveRecords}
+use Rattle.walter_engine.specs.Engines.{disk_in, Stands, IsInState}
+use Rattle.walter_engine.specs.States.{disk_under}
+use Rattle.walter_engine.proofs.Resting.{may_have}
+use Rattle.walter_reply.specs.Replies.{FitsFrame, HasShortValue}
 use Rattle.walter_reply.proofs.Lengths.{short_reply_fits}
-use Rattle.walter_report.specs.Reports.{report_text, reply_in, HaveFrames}
+use Rattle.walter_report.specs.Reports.{reply_in, HaveFrames}
+use Rattle.walter_report.specs.Traces.{HasSpellings, HaveSpellings}
+use Rattle.walter_scenario.specs.declared.scenario.Arm.{Arm}
 use Rattle.walter_scenario.specs.declared.place.Place.{Place}
 use Rattle.walter_scenario.specs.declared.place.Place.TheVariants.{TooLong}
 use Rattle.walter_scenario.specs.declared.scenario.Scenario.{Scenario}
 use Rattle.walter_scenario.specs.Scenarios.{IsReading, IsRefusedAt}
 use Rattle.walter_scenario.proofs.Stages.{read_nowhere_refused, one_refused}
-use Rattle.walter_stream.specs.Streams.{AtEnd}
+use Rattle.walter_stream.specs.Streams.{AtEnd, Appends, AppendsFront}
 use Rattle.walter_trail.specs.declared.trail.Entry.{Entry}
 use Rattle.walter_trail.specs.declared.trail.Outcome.{Outcome}
-use Rattle.walter_trail.specs.declared.trail.Outcome.TheVariants.{Replied, Taken, Passed}
-use Rattle.walter_trail.specs.Merges.{merge}
-use Rattle.walter_trail.specs.Trails.{calls_of, IsRightTrail}
-use Rattle.walter_world.specs.Spelled.{the_site, psi_of}
+use Rattle.walter_trail.specs.declared.trail.Outcome.TheVariants.{Replied, Taken, Passed, Failed, Full, Memory as IsMemory, Down as IsDown, Refused as IsRefused}
+use Rattle.walter_trail.specs.Standing.{Standing}
+use Rattle.walter_trail.specs.Trails.{standing, calls_of, IsRightTrail}
+use Rattle.walter_world.specs.Spelled.{the_site}
 use Rattle.walter_world.proofs.RulePromises.{right_named, right_answers}
 use Rattle.walter_world.proofs.SpelledRun.{one_site_legal}
 use Rattle.walter_cli.specs.declared.cell.Cell.{Cell}
 use Rattle.walter_cli.specs.declared.ended.Ended.{Ended}
 use Rattle.walter_cli.specs.declared.ended.Fault.{Fault}
-use Rattle.walter_cli.specs.declared.ended.Fault.TheVariants.{Usage, Scenario as ScenarioFault, Read, Write, Memory}
-use Rattle.walter_cli.specs.Cells.{IsCell}
+use Rattle.walter_cli.specs.declared.ended.Fault.TheVariants.{Usage, Scenario as ScenarioFault, Read, Write, Memory, Rack, Journal}
+use Rattle.walter_cli.specs.declared.ended.JournalCause.{JournalCause}
+use Rattle.walter_cli.specs.declared.ended.JournalCause.TheVariants.{Foreign, Damaged, Used}
+use Rattle.walter_cli.specs.Cells.{IsKnown, IsCell, IsSizedEntry}
 use Rattle.walter_cli.specs.Ending.{IsTaken, IsTakeFault, IsWriteFault, EndsRun}
-use Rattle.walter_cli.specs.Headline.{Outside, HasNoReading, IsRun, IsWholeRun, Promise}
-use Rattle.walter_cli.specs.Plays.{AreCallsOf, IsPlayed}
-use Rattle.walter_cli.specs.Shortness.{Fits}
+use Rattle.walter_cli.specs.Handled.{FitsFrame as OutcomeFits}
+use Rattle.walter_cli.specs.Headline.{Outside, HasNoReading, IsDiskOf, IsTold, IsRun, IsWholeRun, Runs, RunsWhole, Promise}
+use Rattle.walter_cli.specs.Plays.{AreCallsOf, armed_by, all_arms, arms_of}
+use Rattle.walter_cli.specs.Racks.{Racked, HasCause}
 use Rattle.walter_cli.specs.Statuses.{status_of}
-use Rattle.walter_cli.specs.Words.{IsPlayLine}
+use Rattle.walter_cli.specs.Texts.{text_of}
+use Rattle.walter_cli.specs.Words.{IsPlayLine, IsLine}
 
--- the trail of a cell is right
-cell_right : (s : Scenario) (cell : Cell) → IsCell s cell → IsRightTrail s.catalog the_site cell.entries.items
-cell_right s cell is = subst (λ (c : Catalog). IsRightTrail c the_site cell.entries.items) is.catalog_is is.is_known.right
+-- ---- the disk of a run
 
--- its calls are the clients'
-cell_calls : (s : Scenario) (cell : Cell) → IsCell s cell → AreCallsOf s.clients cell.entries.items
+-- what a crash may leave of the disk of an engine that stands so
+state_images : {D : Type 0} {g : Ghosts D} (S : Standing) (state : Option (State D g)) (disk : D) → IsInState S state → disk_under state ≡ Some disk
+    → (image : List ℕ) → g.may_leave disk image → MayHaveRecords S.records S.flight image
+state_images S None disk is under image left = absurd is
+state_images {D = D} {g = g} S (Some (Up site journal)) disk is under image left =
+    let here = subst (λ (d : D). g.may_leave d image) (let same : disk ≡ _ = sym cc in same) left in
+    may_have S.records S.flight image (subst (λ bytes. HasRecords bytes S.records) (sym (is.stands.durable image here)) is.stands.content)
+state_images {D = D} {g = g} S (Some (Down found)) disk is under image left =
+    is.images image (subst (λ (d : D). g.may_leave d image) (let same : disk ≡ found = sym cc in same) left)
+
+pub stands_images : {D : Type 0} {g : Ghosts D} (cell : Cell D g) (S : Standing) (disk : D) → Stands cell.engine S → disk_in cell.engine ≡ Some disk
+    → (image : List ℕ) → g.may_leave disk image → MayHaveRecords S.records S.flight image
+stands_images cell S disk stands under = state_images S cell.engine.state disk stands.state under
+
+-- what of a disk in an engine holds, holds of the disk
+pub of_disk : {D : Type 0} (found : Option D) (disk : D) (P : D → Type 0) → found ≡ Some disk → IfSome found P → P disk
+of_disk found disk P is holds = subst (λ o. IfSome o P) is holds
+
+-- arms from none on
+pub arms_from : (before after : Option (List (ℕ × ℕ))) (arms : List (ℕ × ℕ)) → IfSome before (λ told. told ≡ []) → after ≡ option_map (λ told. told ++ arms) before
+    → IfSome after (λ told. told ≡ arms)
+arms_from None after arms none is = subst (λ o. IfSome o (λ told. told ≡ arms)) (sym is) tt
+arms_from (Some told) after arms none is = subst (λ o. IfSome o (λ t. t ≡ arms)) (sym is) (ap (λ t. t ++ arms) none)
+
+pub arms_front : (after : Option (List (ℕ × ℕ))) (s : Scenario) (some more : List Arm) → s.arms ++ arms_of s.steps ≡ some ++ more → IfSome after (λ told. told ≡ map armed_by some)
+    → IfSome after (λ arms. (rest : List (ℕ × ℕ)) × (all_arms s ≡ arms ++ rest))
+arms_front None s some more all is = tt
+arms_front (Some told) s some more all is =
+    (map armed_by more, ap (λ a. map armed_by a) all ∙ (map-append armed_by some more ∙ ap (λ t. t ++ map armed_by more) (sym is)))
+
+-- the disk is that of the run
+pub disk_is : {D : Type 0} {g : Ghosts D} (s : Scenario) (cell : Cell D g) (disk : D) → IsCell s cell → IsKnown s cell → disk_in cell.engine ≡ Some disk
+    → IfSome (g.known disk).arms (λ arms. (rest : List (ℕ × ℕ)) × (all_arms s ≡ arms ++ rest)) → IsDiskOf s cell.entries.items (g.known disk) (g.may_leave disk)
+disk_is s cell disk is known under arms = record {
+  records = stands_images cell (standing s.catalog the_site (reverse cell.entries.items)) disk known.stands under;
+  faults = of_disk (disk_in cell.engine) disk _ under is.site.faults;
+  arms = arms;
+}
+
+-- ---- runs
+
+-- the calls of a cell are the clients'
+pub cell_calls : {D : Type 0} {g : Ghosts D} (s : Scenario) (cell : Cell D g) → IsCell s cell → AreCallsOf s.clients cell.entries.items
 cell_calls s cell is = record {
   within = is.calls_within;
   front = λ number client at.
@@ -51,37 +104,60 @@ cell_calls s cell is = record {
       (stands.rest, calls_told client.bytes (calls_of number cell.entries.items) _ stands.rest stands stands.unread);
 }
 
+-- what a right trail tells
+pub trail_tells : (s : Scenario) (trail : List Entry) → s.catalog.sites ≡ 1 → IsRightTrail s.catalog s.capacity the_site trail → IsTold s trail
+trail_tells s trail one right = record {
+  right_trail = right;
+  legal_history = one_site_legal s.catalog s.capacity trail one right;
+  aborts_named = right_named s.catalog s.capacity the_site (reverse trail) right.right;
+  commits_answered = right_answers s.catalog s.capacity the_site (reverse trail) right.right;
+}
+
 -- so it is that of a run
-pub run_is : (s : Scenario) (cell : Cell) (trails : List (List Entry)) → s.catalog.sites ≡ 1 → IsCell s cell → trails ≡ cell.entries.items ∷ [] → IsRun s trails
-run_is s cell trails one is same =
-    let right = cell_right s cell is in
-    record {
-      trail = cell.entries.items;
-      one_site = same;
-      right_trail = right;
-      legal_history = subst (λ (ts : List (List Entry)). IsLegal (psi_of s.catalog (merge ts))) (sym same) (one_site_legal s.catalog cell.entries.items one right);
-      whose_calls = cell_calls s cell is;
-      aborts_named = right_named s.catalog the_site (reverse cell.entries.items) right.right;
-      commits_answered = right_answers s.catalog the_site (reverse cell.entries.items) right.right;
-    }
+abbrev pub run_is : {D : Type 0} {g : Ghosts D} (rack : Racked) (s : Scenario) (cell : Cell D g) (trails : List (List Entry)) → s.catalog.sites ≡ 1 → IsCell s cell
+    → (rack.told → IsKnown s cell) → (rack.told → rack.failed ⊎ rack.gives (IsDiskOf s cell.entries.items)) → trails ≡ cell.entries.items ∷ [] → IsRun rack s trails
+run_is rack s cell trails one is known given same = record {
+  trail = cell.entries.items;
+  one_site = same;
+  whose_calls = cell_calls s cell is;
+  told = λ told. trail_tells s cell.entries.items one (known told).right;
+  disk_given_back = given;
+}
 
--- driven to the last step it is that of a whole one
-pub whole_is : (s : Scenario) (cell : Cell) (trails : List (List Entry)) → s.catalog.sites ≡ 1 → IsCell s cell → trails ≡ cell.entries.items ∷ []
-    → IsPlayed s cell.entries.items → IsWholeRun s trails
-unfolding run_is
-whole_is s cell trails one is same driven = record { run = run_is s cell trails one is same; how_driven = driven }
+-- its replies have frames, and its records spellings
+reply_fits : (reply : Reply) → IsShortReply reply → HasShortValue reply
+reply_fits (Value (Some bytes)) short = omega (arith, short)
+reply_fits (Value None) short = tt
+reply_fits (Started tid) short = tt
+reply_fits Done short = tt
+reply_fits (Committed version) short = tt
+reply_fits (Aborted cause) short = tt
+reply_fits (Level level) short = tt
+reply_fits IsEnded short = tt
+reply_fits (Unsure tid) short = tt
+reply_fits (Refused refusal) short = tt
 
--- its replies have frames
-outcome_fits : (outcome : Outcome) → Fits outcome → All FitsFrame (reply_in outcome)
-outcome_fits (Replied reply) fits = All-push FitsFrame [] reply (λ k d within. absurd (omega (arith, within))) (short_reply_fits reply fits)
-outcome_fits Taken fits = λ k d within. absurd (omega (arith, within))
-outcome_fits Passed fits = λ k d within. absurd (omega (arith, within))
+pub outcome_frames : (outcome : Outcome) → OutcomeFits outcome → All FitsFrame (reply_in outcome)
+outcome_frames (Replied reply) fits = All-push FitsFrame [] reply (λ k d within. absurd (omega (arith, within))) (short_reply_fits reply (reply_fits reply fits))
+outcome_frames Taken fits = λ k d within. absurd (omega (arith, within))
+outcome_frames Passed fits = λ k d within. absurd (omega (arith, within))
+outcome_frames Failed fits = λ k d within. absurd (omega (arith, within))
+outcome_frames (Full need left) fits = λ k d within. absurd (omega (arith, within))
+outcome_frames IsMemory fits = λ k d within. absurd (omega (arith, within))
+outcome_frames IsDown fits = λ k d within. absurd (omega (arith, within))
+outcome_frames IsRefused fits = λ k d within. absurd (omega (arith, within))
 
-pub cell_frames : (s : Scenario) (cell : Cell) (trails : List (List Entry)) → IsCell s cell → trails ≡ cell.entries.items ∷ [] → HaveFrames trails
+pub cell_frames : {D : Type 0} {g : Ghosts D} (s : Scenario) (cell : Cell D g) (trails : List (List Entry)) → IsCell s cell → trails ≡ cell.entries.items ∷ [] → HaveFrames trails
 cell_frames s cell trails is same =
     subst HaveFrames (sym same)
     (All-push (λ (trail : List Entry). All (λ (e : Entry). All FitsFrame (reply_in e.outcome)) trail) [] cell.entries.items (λ k d within. absurd (omega (arith, within)))
-    (All-weaker (λ (e : Entry). Fits e.outcome) (λ (e : Entry). All FitsFrame (reply_in e.outcome)) (λ e fits. outcome_fits e.outcome fits) cell.entries.items is.is_known.fits))
+    (All-weaker IsSizedEntry (λ (e : Entry). All FitsFrame (reply_in e.outcome)) (λ e sized. outcome_frames e.outcome sized.outcome) cell.entries.items is.site.sized))
+
+pub cell_spellings : {D : Type 0} {g : Ghosts D} (s : Scenario) (cell : Cell D g) (trails : List (List Entry)) → IsCell s cell → trails ≡ cell.entries.items ∷ [] → HaveSpellings trails
+cell_spellings s cell trails is same =
+    subst HaveSpellings (sym same)
+    (All-push (λ (trail : List Entry). All HasSpellings trail) [] cell.entries.items (λ k d within. absurd (omega (arith, within)))
+    (All-weaker IsSizedEntry HasSpellings (λ e sized. record { kept = sized.kept; wrote = sized.wrote; flight = sized.flight }) cell.entries.items is.site.sized))
 
 -- what holds of a result that is Ok, holds of one that is no Err
 pub ok_part : {T E : Type 0} (r : Result T E) (P : Type 0) → OnOk r P → is_err r ≡ false → P
@@ -89,20 +165,22 @@ ok_part (Ok x) P p is = p
 ok_part (Err e) P p is = absurd cc
 
 -- the end of a run, told by equal trails and an equal fault
-pub ends_with : (s : Scenario) (holds holds' : Option (List ℕ)) (faults faults' : ℕ) (trails told : List (List Entry)) (fault named : Option Fault)
-    → EndsRun s holds holds' faults faults' trails fault → told ≡ trails → named ≡ fault → EndsRun s holds holds' faults faults' told named
-ends_with s holds holds' faults faults' trails told fault named ends same_trails same_fault =
-    subst (λ (f : Option Fault). EndsRun s holds holds' faults faults' told f) (sym same_fault)
-    (subst (λ ts. EndsRun s holds holds' faults faults' ts fault) (sym same_trails) ends)
+pub ends_with : (rack : Racked) (trace : Bool) (s : Scenario) (holds holds' : Option (List ℕ)) (faults faults' : ℕ) (trails told : List (List Entry)) (fault named : Option Fault)
+    → EndsRun rack trace s holds holds' faults faults' trails fault → told ≡ trails → named ≡ fault → EndsRun rack trace s holds holds' faults faults' told named
+ends_with rack trace s holds holds' faults faults' trails told fault named ends same_trails same_fault =
+    subst (λ (f : Option Fault). EndsRun rack trace s holds holds' faults faults' told f) (sym same_fault)
+    (subst (λ ts. EndsRun rack trace s holds holds' faults faults' ts fault) (sym same_trails) ends)
 
 -- the end of a whole run whose report was not written whole
-pub ends_cut : (s : Scenario) (holds holds' : Option (List ℕ)) (faults faults' : ℕ) (trails : List (List Entry)) (fault : Fault)
-    → IsWholeRun s trails → IsWriteFault (report_text s trails) holds holds' faults faults' fault → EndsRun s holds holds' faults faults' trails (Some fault)
-ends_cut s holds holds' faults faults' trails Write run why = (run, why.0, why.1)
-ends_cut s holds holds' faults faults' trails Memory run why = (inr run.run, why)
-ends_cut s holds holds' faults faults' trails Usage run why = absurd why
-ends_cut s holds holds' faults faults' trails (ScenarioFault place) run why = absurd why
-ends_cut s holds holds' faults faults' trails Read run why = absurd why
+pub ends_cut : (rack : Racked) (trace : Bool) (s : Scenario) (holds holds' : Option (List ℕ)) (faults faults' : ℕ) (trails : List (List Entry)) (fault : Fault)
+    → IsWholeRun rack s trails → IsWriteFault (text_of trace s trails) holds holds' faults faults' fault → EndsRun rack trace s holds holds' faults faults' trails (Some fault)
+ends_cut rack trace s holds holds' faults faults' trails Write run why = (run, why.0, why.1)
+ends_cut rack trace s holds holds' faults faults' trails Memory run why = (inr run.run, why)
+ends_cut rack trace s holds holds' faults faults' trails Usage run why = absurd why
+ends_cut rack trace s holds holds' faults faults' trails (ScenarioFault place) run why = absurd why
+ends_cut rack trace s holds holds' faults faults' trails Read run why = absurd why
+ends_cut rack trace s holds holds' faults faults' trails (Rack site) run why = absurd why
+ends_cut rack trace s holds holds' faults faults' trails (Journal site cause) run why = absurd why
 
 -- what a source that has no reading gave is wrong at the place that is named, and at no other
 none_wrong : (before after : Option (List ℕ)) (bytes : List ℕ) (place : Place) → HasNoReading before after place → before ≡ Some bytes → IsRefusedAt bytes place
@@ -133,23 +211,45 @@ taken_reading before after bytes s taken told = here after taken.source.end (sym
 named_place : (place other : Place) → Some (ScenarioFault place) ≡ Some (ScenarioFault other) → place ≡ other
 named_place place other e = let same : ScenarioFault place ≡ ScenarioFault other = cc in cc
 
-module _ (words : List (String Global)) (before after : Outside) (ended : Ended) (line : IsPlayLine words) (status : ended.status ≡ status_of ended.fault) where
+named_journal : (a b : ℕ) (x y : JournalCause) → Some (Journal a x) ≡ Some (Journal b y) → x ≡ y
+named_journal a b x y e = let same : Journal a x ≡ Journal b y = cc in cc
+
+-- no journal that no site can begin with is empty
+never_empty : (cause : JournalCause) (bytes : List ℕ) → HasCause cause bytes → bytes ≢ []
+never_empty Foreign bytes why = why.1
+never_empty (Damaged at length_) bytes why = λ none. let l = ap length why.is ∙ sym refl in absurd (let m = ap length (sym why.is ∙ none) in omega (arith, m))
+never_empty Used bytes why = λ none. absurd (let m = ap length (sym why.1.is ∙ none) in omega (arith, m))
+
+module _ (words : List (String Global)) (rack : Racked) (before after : Outside) (ended : Ended) (trace : Bool) (line : IsPlayLine trace words) (status : ended.status ≡ status_of ended.fault) where
+  asked : IsLine words
+  asked = (trace, line)
+
+  -- what a run promises whatever came of its report
+  whole : (s : Scenario) (Written : List ℕ → Type 0) → IsTaken before.left after.left s → IsWholeRun rack s ended.trails.items → Written (text_of trace s ended.trails.items)
+      → RunsWhole rack words before after ended.trails.items Written
+  whole s Written taken run written = record { bytes = taken.bytes; source = taken.source; scenario = s; reading = taken.reading; run = run; trace = trace; asked = line; bytes_written = written }
+
+  runs : (s : Scenario) → IsTaken before.left after.left s → IsRun rack s ended.trails.items → Runs rack before after ended.trails.items
+  runs s taken run = record { bytes = taken.bytes; source = taken.source; scenario = s; reading = taken.reading; run = run }
+
   -- a run over a scenario that was taken
   pub promise_run : (s : Scenario) (fault : Option Fault) → ended.fault ≡ fault → IsTaken before.left after.left s
-      → EndsRun s before.holds after.holds before.sink_faults after.sink_faults ended.trails.items fault → Promise words before after ended
+      → EndsRun rack trace s before.holds after.holds before.sink_faults after.sink_faults ended.trails.items fault → Promise words rack before after ended
   promise_run s None named taken ends =
       let is : ended.status ≡ 0 = status ∙ ap status_of named in
       record {
         status = status;
-        written = λ h. record { bytes = taken.bytes; source = taken.source; scenario = s; reading = taken.reading; run = ends.0; bytes_written = ends.1 };
-        usage = (λ h. absurd (omega (arith, is, h)), λ other. absurd (other line));
+        written = λ h. whole s (Appends before.holds after.holds) taken ends.0 ends.1;
+        usage = (λ h. absurd (omega (arith, is, h)), λ other. absurd (other asked));
         unreadable = λ place h. absurd (let e = sym named ∙ h in cc);
         unread = λ h. absurd (omega (arith, is, h));
         cut = λ h. absurd (omega (arith, is, h));
         failed = λ h. absurd (omega (arith, is, h));
+        unracked = λ h. absurd (omega (arith, is, h));
+        unfit = λ site cause h told. absurd (let e = sym named ∙ h in cc);
         silent = λ not_done not_cut. absurd (not_done is);
-        legal_trails = inr (record { bytes = taken.bytes; source = taken.source; scenario = s; reading = taken.reading; run = ends.0.run });
-        complete = λ bytes t play told reading source sink. inl is;
+        legal_trails = inr (runs s taken ends.0.run);
+        complete = λ bytes t play told reading known new source sink ok. inl is;
         refuses = λ bytes place play told wrong source. absurd (read_nowhere_refused bytes s place (taken_reading before.left after.left bytes s taken told) wrong);
       }
   promise_run s (Some Write) named taken ends =
@@ -157,14 +257,16 @@ module _ (words : List (String Global)) (before after : Outside) (ended : Ended)
       record {
         status = status;
         written = λ h. absurd (omega (arith, is, h));
-        usage = (λ h. absurd (omega (arith, is, h)), λ other. absurd (other line));
+        usage = (λ h. absurd (omega (arith, is, h)), λ other. absurd (other asked));
         unreadable = λ place h. absurd (let e = sym named ∙ h in cc);
         unread = λ h. absurd (omega (arith, is, h));
-        cut = λ h. record { bytes = taken.bytes; source = taken.source; scenario = s; reading = taken.reading; run = ends.0; bytes_written = ends.1 };
+        cut = λ h. whole s (AppendsFront before.holds after.holds) taken ends.0 ends.1;
         failed = λ h. ends.2;
+        unracked = λ h. absurd (omega (arith, is, h));
+        unfit = λ site cause h told. absurd (let e = sym named ∙ h in cc);
         silent = λ not_done not_cut. absurd (not_cut is);
-        legal_trails = inr (record { bytes = taken.bytes; source = taken.source; scenario = s; reading = taken.reading; run = ends.0.run });
-        complete = λ bytes t play told reading source sink. absurd (let rose = ends.2 in omega (arith, rose, sink));
+        legal_trails = inr (runs s taken ends.0.run);
+        complete = λ bytes t play told reading known new source sink ok. absurd (let rose = ends.2 in omega (arith, rose, sink));
         refuses = λ bytes place play told wrong source. absurd (read_nowhere_refused bytes s place (taken_reading before.left after.left bytes s taken told) wrong);
       }
   promise_run s (Some Memory) named taken ends =
@@ -172,17 +274,50 @@ module _ (words : List (String Global)) (before after : Outside) (ended : Ended)
       record {
         status = status;
         written = λ h. absurd (omega (arith, is, h));
-        usage = (λ h. absurd (omega (arith, is, h)), λ other. absurd (other line));
+        usage = (λ h. absurd (omega (arith, is, h)), λ other. absurd (other asked));
         unreadable = λ place h. absurd (let e = sym named ∙ h in cc);
         unread = λ h. absurd (omega (arith, is, h));
         cut = λ h. absurd (omega (arith, is, h));
         failed = λ h. absurd (omega (arith, is, h));
+        unracked = λ h. absurd (omega (arith, is, h));
+        unfit = λ site cause h told. absurd (let e = sym named ∙ h in cc);
         silent = λ not_done not_cut. ends.1;
-        legal_trails = elim ends.0 [
-          | inl none ↦ inl none
-          | inr run ↦ inr (record { bytes = taken.bytes; source = taken.source; scenario = s; reading = taken.reading; run = run })
-        ];
-        complete = λ bytes t play told reading source sink. inr is;
+        legal_trails = elim ends.0 [ inl none ↦ inl none | inr run ↦ inr (runs s taken run) ];
+        complete = λ bytes t play told reading known new source sink ok. inr (inl is);
+        refuses = λ bytes place play told wrong source. absurd (read_nowhere_refused bytes s place (taken_reading before.left after.left bytes s taken told) wrong);
+      }
+  promise_run s (Some (Rack site)) named taken ends =
+      let is : ended.status ≡ 6 = status ∙ ap status_of named in
+      record {
+        status = status;
+        written = λ h. absurd (omega (arith, is, h));
+        usage = (λ h. absurd (omega (arith, is, h)), λ other. absurd (other asked));
+        unreadable = λ place h. absurd (let e = sym named ∙ h in cc);
+        unread = λ h. absurd (omega (arith, is, h));
+        cut = λ h. absurd (omega (arith, is, h));
+        failed = λ h. absurd (omega (arith, is, h));
+        unracked = λ h. elim ends.2 [ inl rose ↦ inl rose | inr disk ↦ inr disk.1 ];
+        unfit = λ other cause h told. absurd (let e = sym named ∙ h in cc);
+        silent = λ not_done not_cut. ends.1;
+        legal_trails = elim ends.0 [ inl none ↦ inl none | inr run ↦ inr (runs s taken run) ];
+        complete = λ bytes t play told reading known new source sink ok. elim ends.2 [ inl rose ↦ absurd (ok rose) | inr disk ↦ inr (inr disk) ];
+        refuses = λ bytes place play told wrong source. absurd (read_nowhere_refused bytes s place (taken_reading before.left after.left bytes s taken told) wrong);
+      }
+  promise_run s (Some (Journal site cause)) named taken ends =
+      let is : ended.status ≡ 7 = status ∙ ap status_of named in
+      record {
+        status = status;
+        written = λ h. absurd (omega (arith, is, h));
+        usage = (λ h. absurd (omega (arith, is, h)), λ other. absurd (other asked));
+        unreadable = λ place h. absurd (let e = sym named ∙ h in cc);
+        unread = λ h. absurd (omega (arith, is, h));
+        cut = λ h. absurd (omega (arith, is, h));
+        failed = λ h. absurd (omega (arith, is, h));
+        unracked = λ h. absurd (omega (arith, is, h));
+        unfit = λ other why h told. subst (λ (c : JournalCause). rack.holds (HasCause c)) (named_journal site other cause why (sym named ∙ h)) (ends.2 told);
+        silent = λ not_done not_cut. ends.1;
+        legal_trails = inl ends.0;
+        complete = λ bytes t play told reading known new source sink ok. absurd (ends.3 known new);
         refuses = λ bytes place play told wrong source. absurd (read_nowhere_refused bytes s place (taken_reading before.left after.left bytes s taken told) wrong);
       }
   promise_run s (Some Usage) named taken ends = absurd ends
@@ -191,20 +326,22 @@ module _ (words : List (String Global)) (before after : Outside) (ended : Ended)
 
   -- no scenario was taken
   pub promise_fault : (fault : Fault) → ended.fault ≡ Some fault → ended.trails.items ≡ [] → after.holds ≡ before.holds
-      → IsTakeFault before.left after.left before.source_faults after.source_faults fault → Promise words before after ended
+      → IsTakeFault before.left after.left before.source_faults after.source_faults fault → Promise words rack before after ended
   promise_fault (ScenarioFault place) named none same why =
       let is : ended.status ≡ 2 = status ∙ ap status_of named in
       record {
         status = status;
         written = λ h. absurd (omega (arith, is, h));
-        usage = (λ h. absurd (omega (arith, is, h)), λ other. absurd (other line));
-        unreadable = λ other h. let same : place ≡ other = named_place place other (sym named ∙ h) in subst (λ (p : Place). HasNoReading before.left after.left p) same why;
+        usage = (λ h. absurd (omega (arith, is, h)), λ other. absurd (other asked));
+        unreadable = λ other h. let same_place : place ≡ other = named_place place other (sym named ∙ h) in subst (λ (p : Place). HasNoReading before.left after.left p) same_place why;
         unread = λ h. absurd (omega (arith, is, h));
         cut = λ h. absurd (omega (arith, is, h));
         failed = λ h. absurd (omega (arith, is, h));
+        unracked = λ h. absurd (omega (arith, is, h));
+        unfit = λ site cause h told. absurd (let e = sym named ∙ h in cc);
         silent = λ not_done not_cut. same;
         legal_trails = inl none;
-        complete = λ bytes t play told reading source sink. absurd (read_nowhere_refused bytes t place reading (none_wrong before.left after.left bytes place why told));
+        complete = λ bytes t play told reading known new source sink ok. absurd (read_nowhere_refused bytes t place reading (none_wrong before.left after.left bytes place why told));
         refuses = λ bytes other play told wrong source. inl (named ∙ ap (λ (p : Place). Some (ScenarioFault p)) (one_refused bytes place other (none_wrong before.left after.left bytes place why told) wrong));
       }
   promise_fault Read named none same why =
@@ -212,14 +349,16 @@ module _ (words : List (String Global)) (before after : Outside) (ended : Ended)
       record {
         status = status;
         written = λ h. absurd (omega (arith, is, h));
-        usage = (λ h. absurd (omega (arith, is, h)), λ other. absurd (other line));
+        usage = (λ h. absurd (omega (arith, is, h)), λ other. absurd (other asked));
         unreadable = λ place h. absurd (let e = sym named ∙ h in cc);
         unread = λ h. why;
         cut = λ h. absurd (omega (arith, is, h));
         failed = λ h. absurd (omega (arith, is, h));
+        unracked = λ h. absurd (omega (arith, is, h));
+        unfit = λ site cause h told. absurd (let e = sym named ∙ h in cc);
         silent = λ not_done not_cut. same;
         legal_trails = inl none;
-        complete = λ bytes t play told reading source sink. absurd (omega (arith, why, source));
+        complete = λ bytes t play told reading known new source sink ok. absurd (omega (arith, why, source));
         refuses = λ bytes place play told wrong source. absurd (omega (arith, why, source));
       }
   promise_fault Memory named none same why =
@@ -227,15 +366,19 @@ module _ (words : List (String Global)) (before after : Outside) (ended : Ended)
       record {
         status = status;
         written = λ h. absurd (omega (arith, is, h));
-        usage = (λ h. absurd (omega (arith, is, h)), λ other. absurd (other line));
+        usage = (λ h. absurd (omega (arith, is, h)), λ other. absurd (other asked));
         unreadable = λ place h. absurd (let e = sym named ∙ h in cc);
         unread = λ h. absurd (omega (arith, is, h));
         cut = λ h. absurd (omega (arith, is, h));
         failed = λ h. absurd (omega (arith, is, h));
+        unracked = λ h. absurd (omega (arith, is, h));
+        unfit = λ site cause h told. absurd (let e = sym named ∙ h in cc);
         silent = λ not_done not_cut. same;
         legal_trails = inl none;
-        complete = λ bytes t play told reading source sink. inr is;
+        complete = λ bytes t play told reading known new source sink ok. inr (inl is);
         refuses = λ bytes place play told wrong source. inr is;
       }
   promise_fault Usage named none same why = absurd why
   promise_fault Write named none same why = absurd why
+  promise_fault (Rack site) named none same why = absurd why
+  promise_fault (Journal site cause) named none same why = absurd why

@@ -1,5 +1,5 @@
 -- What ties each client behind an event.
-use Rattle.std.proofs.Common.{◌≡◌, ◌≢◌, ℕ, ◌+◌, List, [], ◌∷◌, ◌++◌, map, Bool, true, false, nat_eq, Option, Some, None, Result, Ok, Err, refl, ap, sym, ◌∙◌, subst, if◌then◌else◌, length, inl, inr, ◌⊎◌, rules}
+use Rattle.std.proofs.Common.{◌≡◌, ◌≢◌, ℕ, ◌+◌, List, [], ◌∷◌, ◌++◌, map, Bool, true, false, nat_eq, Option, Some, None, Result, Ok, Err, refl, ap, sym, ◌∙◌, subst, if◌then◌else◌, length, rules}
 use Rattle.std.specs.Prelude.{nat_lt, not, filter}
 use Rattle.std.specs.FinMap.{get}
 use Rattle.std.proofs.lemmas.Bool.{eq-eqb, ne_eqb}
@@ -8,7 +8,6 @@ use Rattle.walter_base.specs.declared.containers.Container.{Container}
 use Rattle.walter_base.specs.declared.message.BadFrame.{BadFrame as Bad}
 use Rattle.walter_base.specs.declared.message.Record.{Record}
 use Rattle.walter_base.specs.declared.message.Record.TheVariants.{Boot, Own}
-use Rattle.walter_base.specs.declared.message.Refusal.{Refusal}
 use Rattle.walter_base.specs.declared.message.Refusal.TheVariants.{Gone as IsGone, UnknownContainer, WrongKind, TooLong, TxFull, NoTx, TxOpen, BadFrame, Down as IsDown, JournalFull, SessionsFull, Memory as NoMemory, WrongSite, NotIssued}
 use Rattle.walter_base.specs.declared.message.Reply.{Reply}
 use Rattle.walter_base.specs.declared.message.Reply.TheVariants.{Started, Value, Done, Committed, Aborted, Level, Ended, Unsure, Refused}
@@ -35,7 +34,7 @@ use Rattle.walter_trail.specs.Standing.{Standing, Came, settled, stands_after, o
 use Rattle.walter_trail.specs.Trails.{Comes, ruled, met_fault, unread, no_memory, full, as_ruled, need_of, left_behind}
 use Rattle.walter_cli.specs.declared.tie.Tie.{Tie}
 use Rattle.walter_cli.specs.declared.tie.Tie.TheVariants.{Free, Open, Gone}
-use Rattle.walter_cli.specs.Ties.{IsSessionOf, Binds, IsTied, by_reply, by_outcome, fallen, tie_after}
+use Rattle.walter_cli.specs.Ties.{Binds, IsTied, by_reply, fallen, tie_after}
 
 -- ---- the sessions behind a reply
 

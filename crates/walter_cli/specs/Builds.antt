@@ -1,5 +1,5 @@
 -- What the building of a site comes to.
-use Rattle.std.specs.Prelude.{◌≡◌, ◌<◌, ℕ, false, List, [], ◌∷◌, length, slice_get, Option, None, Some, IsSome, All, replicate}
+use Rattle.std.specs.Prelude.{◌≡◌, ◌<◌, ◌≤◌, ℕ, List, [], ◌∷◌, length, slice_get, Option, None, Some, IsSome, replicate}
 use Rattle.walter_base.specs.declared.catalog.Catalog.{Catalog}
 use Rattle.walter_base.specs.declared.names.SiteId.{SiteId}
 use Rattle.walter_conn.specs.Connections.{incoming}
@@ -7,7 +7,7 @@ use Rattle.walter_conn.specs.declared.conn.Conn.{Conn}
 use Rattle.walter_disk.specs.Disks.{DiskState}
 use Rattle.walter_disk.specs.declared.disk.Disk.{Ghosts}
 use Rattle.walter_engine.specs.Contents.{HasRecords}
-use Rattle.walter_engine.specs.Engines.{catalog_in, OfDisks, Stands}
+use Rattle.walter_engine.specs.Engines.{catalog_in, capacity_in, OfDisks, Stands}
 use Rattle.walter_engine.specs.declared.answers.RefusedRestart.TheVariants as why
 use Rattle.walter_engine.specs.declared.answers.Restarted.{Restarted}
 use Rattle.walter_engine.specs.declared.answers.Restarted.TheVariants as restarted
@@ -18,6 +18,7 @@ use Rattle.walter_scenario.specs.declared.scenario.Client.{Client}
 use Rattle.walter_stream.specs.declared.sink.Sink.{Ghosts as SinkGhosts}
 use Rattle.walter_stream.specs.declared.source.Source.{Ghosts as SourceGhosts}
 use Rattle.walter_trail.specs.declared.trail.Entry.{Entry}
+use Rattle.walter_trail.specs.declared.trail.Outcome.TheVariants.{Taken}
 use Rattle.walter_trail.specs.declared.trail.TrailEvent.TheVariants.{Restart}
 use Rattle.walter_trail.specs.Standing.{unmade}
 use Rattle.walter_trail.specs.Trails.{standing, opening}
@@ -45,6 +46,7 @@ pub record HasOpened (entries : List Entry) : Type 0 where
   pub one : entries ≡ first ∷ []
   pub stamp : first.stamp ≡ 1
   pub comes_up : first.event ≡ Restart
+  pub taken : first.outcome ≡ Taken
   pub sized : IsSizedEntry first
 
 -- the trail is the opening, and the engine stands as it says
@@ -81,5 +83,5 @@ unopened_by (restarted.Full kept need left) = Some (unbuilt.Journal Used)
 -- why the site over a journal without records didn't come up: only where its disk failed, or memory ran out, where the disk tells
 abbrev pub IsUnopened : {D : Type 0} {g : Ghosts D} → Unbuilt → (old new : Engine D g) → Type 0
 IsUnopened {g = g} unbuilt.Failed old new = OfDisks old new (λ before after. (g.known before).faults < (g.known after).faults)
-IsUnopened (unbuilt.Journal cause) old new = ¬ Stands old (unmade (catalog_in old).sites)
+IsUnopened (unbuilt.Journal cause) old new = 19 ≤ capacity_in old → ¬ Stands old (unmade (catalog_in old).sites)
 IsUnopened unbuilt.NoMemory old new = Unit {0}

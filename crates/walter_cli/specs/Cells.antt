@@ -1,5 +1,5 @@
 -- What holds of a site with its trail and its clients' connections between two events.
-use Rattle.std.specs.Prelude.{◌≡◌, ◌≢◌, ◌<◌, ◌≤◌, ◌⊎◌, ℕ, List, [], ◌∷◌, ◌++◌, length, reverse, slice_get, count_by, Option, Some, None, All, IfSome}
+use Rattle.std.specs.Prelude.{◌≡◌, ◌≢◌, ◌<◌, ◌≤◌, ◌⊎◌, ℕ, List, [], ◌∷◌, ◌++◌, length, reverse, slice_get, count_by, Some, All, IfSome}
 use Rattle.walter_base.specs.Sizes.{CanBeRecorded}
 use Rattle.walter_conn.specs.Calls.{Incoming}
 use Rattle.walter_conn.specs.Connections.{incoming}

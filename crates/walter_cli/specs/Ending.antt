@@ -1,7 +1,6 @@
 -- What the parts of a call of the program come to.
 use Rattle.std.specs.Prelude.{◌≡◌, ◌<◌, ◌⊎◌, ℕ, Bool, List, [], Option, Some, None, IfSome}
 use Rattle.walter_disk.specs.Disks.{DiskState}
-use Rattle.walter_disk.specs.declared.disk.Disk.{Ghosts}
 use Rattle.walter_scenario.specs.declared.scenario.Scenario.{Scenario}
 use Rattle.walter_scenario.specs.Scenarios.{IsReading}
 use Rattle.walter_stream.specs.Streams.{Appends, AppendsFront}
@@ -41,7 +40,7 @@ EndsRun rack trace s holds holds' faults faults' trails (Some Memory) = ((trails
 EndsRun rack trace s holds holds' faults faults' trails (Some (Rack site)) =
     ((trails ≡ []) ⊎ IsRun rack s trails) × (holds' ≡ holds) × (rack.failed ⊎ ((trails ≡ []) × rack.gives (λ known images. 0 < known.faults)))
 EndsRun rack trace s holds holds' faults faults' trails (Some (Journal site cause)) =
-    (trails ≡ []) × (holds' ≡ holds) × (rack.told → rack.holds (HasCause cause))
+    (trails ≡ []) × (holds' ≡ holds) × (rack.told → rack.holds (HasCause cause)) × (rack.told → ¬ rack.holds (λ held. held ≡ []))
 EndsRun rack trace s holds holds' faults faults' trails (Some Usage) = ⊥
 EndsRun rack trace s holds holds' faults faults' trails (Some (ScenarioFault place)) = ⊥
 EndsRun rack trace s holds holds' faults faults' trails (Some Read) = ⊥

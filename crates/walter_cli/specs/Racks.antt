@@ -32,6 +32,6 @@ racked {D = D} g disks before after faults faults' = record {
 
 -- why no new site can begin with these bytes: they are no journal, or a damaged one, or one with records
 abbrev pub HasCause : JournalCause → List ℕ → Type 0
-HasCause Foreign bytes = IsForeign bytes
+HasCause Foreign bytes = IsForeign bytes × (bytes ≢ [])
 HasCause (Damaged at length) bytes = IsDamaged bytes at length
 HasCause Used bytes = (bodies : List (List ℕ)) × HasContent bytes bodies × (bodies ≢ [])

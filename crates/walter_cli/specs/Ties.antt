@@ -1,5 +1,5 @@
 -- What ties a client to a transaction.
-use Rattle.std.specs.Prelude.{◌≡◌, ◌<◌, ℕ, nat_eq, Bool, true, false, List, length, slice_get, Option, Some, None, if◌then◌else◌}
+use Rattle.std.specs.Prelude.{◌≡◌, ℕ, nat_eq, List, length, slice_get, Option, Some, None, if◌then◌else◌}
 use Rattle.walter_base.specs.declared.message.Refusal.TheVariants.{Gone as IsGone}
 use Rattle.walter_base.specs.declared.message.Reply.{Reply}
 use Rattle.walter_base.specs.declared.message.Reply.TheVariants.{Started, Committed, Aborted, Ended, Unsure, Refused}

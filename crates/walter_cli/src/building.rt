@@ -72,11 +72,7 @@ pub fn build<D: Disk + Drop>(
 }
 
 // The disk, once it has a journal without records.
-fn empty_journal<D: Disk>(
-    alloc: Global,
-    disk: D,
-    capacity: u64,
-) -> Result<D, (D, Unbuilt)>
+fn empty_journal<D: Disk>(alloc: Global, disk: D, capacity: u64) -> Result<D, (D, Unbuilt)>
     requires fresh { IsFresh (D.known disk) (D.may_leave disk) }
     ensures empty { IsSome (D.known disk).reads → IfOk result (λ now. HoldsNoRecord (D.known now) (D.may_leave now)) }
     ensures faultless { IfOk result (λ now. (D.known now).faults ≡ (D.known disk).faults) }
@@ -84,13 +80,15 @@ fn empty_journal<D: Disk>(
     ensures tells { IfOk result (λ now. is_some (D.known now).reads ≡ is_some (D.known disk).reads) }
     ensures fault { IfErr result (λ back. IsUnbuilt back.1 (D.known disk) (D.known back.0)) }
 {
-    match load(alloc, disk, capacity) {
-        Ok((journal, bodies)) if bodies.as_slice().is_empty() => Ok(journal.into_disk()),
-        Ok((journal, _)) => Err((
-            journal.into_disk(),
-            Unbuilt::Journal(JournalCause::Used),
-        )),
-        Err((disk, fault)) => Err((disk, unloaded(fault))),
+    let (journal, bodies) = match load(alloc, disk, capacity) {
+        Ok(loaded) => loaded,
+        Err((disk, fault)) => return Err((disk, unloaded(fault))),
+    };
+    let disk = journal.into_disk();
+    if bodies.as_slice().is_empty() {
+        Ok(disk)
+    } else {
+        Err((disk, Unbuilt::Journal(JournalCause::Used)))
     }
 }
 

@@ -47,7 +47,7 @@ pub struct Cell<D: Disk> {
     pub ties: Vec<Tie>,
 }
 
-impl<D: Disk> Cell<D> {
+impl<D: Disk + Drop> Cell<D> {
     ghost use Rattle.walter_engine.specs.Engines.{disk_in, OfDisks};
     ghost use Rattle.walter_scenario.specs.declared.scenario.Scenario.{Scenario};
     ghost use Rattle.walter_trail.specs.Trails.{calls_of};
@@ -62,7 +62,9 @@ impl<D: Disk> Cell<D> {
         ensures trail { result.1 ≡ self.entries.items }
     {
         let Cell {
-            engine, entries, ..
+            engine,
+            entries,
+            ..
         } = self;
         (engine.into_disk(), Trail::from(entries))
     }

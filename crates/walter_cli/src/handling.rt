@@ -1,10 +1,10 @@
-ghost use Rattle.std.specs.Prelude.{◌≡◌, ◌≤◌, ℕ, Bool, false, true, Ok, Option, None, Some, IfSome, IfNone};
+ghost use Rattle.std.specs.Prelude.{◌≡◌, ◌≤◌, ℕ, Bool, false, true, Ok, Option, None, Some, IfSome, IfNone, Result};
 ghost use Rattle.walter_engine.specs.Engines.{catalog_in, site_in, capacity_in, is_up, OfDisks, IsSameEngine, Stands};
 ghost use Rattle.walter_site.specs.Sites.{client_of, call_of, event_of};
 ghost use Rattle.walter_trail.specs.Rule.{if_told, down_rule, refuses, Expected};
 ghost use Rattle.walter_trail.specs.Standing.{Standing, stands_after};
-ghost use Rattle.walter_trail.specs.Trails.{Comes};
-ghost use Rattle.walter_cli.specs.Handled.{came, refused_first, IsSized, IsCalled, IsFaulty};
+ghost use Rattle.walter_trail.specs.Trails.{Comes, failure};
+ghost use Rattle.walter_cli.specs.Handled.{came, refused_first, IsSized, IsFaulty};
 ghost use Rattle.walter_cli.specs.Ties.{IsTied};
 ghost use Rattle.walter_engine.specs.Steps.{came_of_step, came_of_restart, kept_of};
 
@@ -60,7 +60,7 @@ impl Handled {
 
 /// Gives the site a client's call. A bad frame, a site that is down and a transaction that is gone are answered before the
 /// site is asked.
-pub fn handle<D: Disk>(engine: &mut Engine<D>, tie: Tie, input: &Input) -> Handled
+pub fn handle<D: Disk + Drop>(engine: &mut Engine<D>, tie: Tie, input: &Input) -> Handled
     ensures comes { (S : Standing) → Stands engine.old S → IsTied S (client_of input.now) tie
         → Comes (catalog_in engine.old) (capacity_in engine.old) (site_in engine.old) S (event_of input.now) (came result) }
     ensures stands { (S : Standing) → Stands engine.old S → IsTied S (client_of input.now) tie

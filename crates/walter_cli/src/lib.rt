@@ -10,9 +10,10 @@ mod play;
 mod program;
 mod running;
 mod taking;
+mod tie;
 mod words;
 
-pub use ended::{Ended, Fault};
+pub use ended::{Ended, Fault, JournalCause};
 pub use program::top;
 
 #[cfg(test)]

@@ -3,7 +3,7 @@ ghost use Rattle.walter_conn.specs.Connections.{incoming};
 ghost use Rattle.walter_conn.specs.Frames.{Call};
 ghost use Rattle.walter_conn.specs.declared.state.State.TheVariants as state;
 ghost use Rattle.walter_cli.specs.Cells.{IsLine, IsReady, Leaves};
-ghost use Rattle.walter_cli.specs.Shortness.{Fits};
+ghost use Rattle.walter_cli.specs.Handled.{FitsFrame};
 
 use std::alloc::Global;
 use walter_base::{Bytes, Mem, NoMemory};
@@ -40,13 +40,13 @@ pub fn next_call(line: &mut Line, alloc: Global) -> Mem<Next>
 
 /// Writes the reply of an outcome, where it has one.
 pub fn put_reply(line: &mut Line, outcome: &Outcome) -> Result<(), Broken>
-    requires fits { Fits outcome.now }
+    requires fits { FitsFrame outcome.now }
     requires open { (incoming line.old).state ≢ state.Broken }
     ensures written { result ≡ Ok tt }
     ensures same { incoming line.new ≡ incoming line.old }
 {
     match outcome {
         Outcome::Replied(reply) => line.put(reply),
-        Outcome::Taken | Outcome::Passed => Ok(()),
+        _ => Ok(()),
     }
 }

@@ -1,8 +1,8 @@
 ghost use Rattle.std.specs.Prelude.{◌≡◌, ◌++◌, [], ◌∷◌, ℕ, List, length, take, map, All, OnOk};
 ghost use Rattle.walter_scenario.specs.Parts.{IsArm, IsStep};
-ghost use Rattle.walter_trail.specs.Trails.{opening};
+ghost use Rattle.walter_cli.specs.Builds.{HasBegun};
 ghost use Rattle.walter_cli.specs.Cells.{IsCell, IsKnown};
-ghost use Rattle.walter_cli.specs.Plays.{Takes, IsPlayed, Arms, AreArmed, ArmsMore, armed_by, arms_of};
+ghost use Rattle.walter_cli.specs.Plays.{Takes, IsPlayed, AreArmed, ArmsMore, arms_of};
 
 use crate::cell::Cell;
 use std::alloc::Global;
@@ -11,9 +11,9 @@ use walter_disk::Disk;
 use walter_scenario::{Arm, Scenario, Step};
 
 /// Arms the disk as the scenario says, and takes its steps in order. Where memory runs out, what was done so far stands.
-pub fn play<D: Disk>(alloc: Global, cell: &mut Cell<D>, scenario: &Scenario) -> Mem<()>
+pub fn play<D: Disk + Drop>(alloc: Global, cell: &mut Cell<D>, scenario: &Scenario) -> Mem<()>
     requires cell { IsCell scenario.now cell.old }
-    requires opening { cell.old.entries.items ≡ opening ∷ [] }
+    requires begun { HasBegun cell.old.entries.items }
     requires arms { All (IsArm 1) scenario.now.arms }
     requires steps { All (IsStep 1 (length scenario.now.clients)) scenario.now.steps }
     ensures cell { IsCell scenario.now cell.new }
@@ -32,7 +32,7 @@ pub fn play<D: Disk>(alloc: Global, cell: &mut Cell<D>, scenario: &Scenario) -> 
 }
 
 // Takes a step.
-fn take_step<D: Disk>(
+fn take_step<D: Disk + Drop>(
     alloc: Global,
     cell: &mut Cell<D>,
     scenario: &Scenario,

@@ -4,7 +4,7 @@ ghost use Rattle.walter_cli.specs.Racks.{racked};
 use crate::ended::{Ended, Fault};
 use crate::running::run;
 use crate::taking::take_scenario;
-use crate::words::command;
+use crate::words::command_of;
 use walter_disk::Rack;
 use walter_stream::{Sink, Source};
 
@@ -24,7 +24,7 @@ pub fn top<X: AllocGlobal, S: Source, K: Sink, R: Rack>(
         result }
 {
     let alloc = rt.alloc();
-    let Some(command) = command(words) else {
+    let Some(command) = command_of(words) else {
         return Ended::early(alloc, Fault::Usage);
     };
     match take_scenario(alloc, source) {

@@ -101,12 +101,7 @@ fn write_report<K: Sink>(
 }
 
 // The report of these trails, with the trace behind it where one is asked for.
-fn text(
-    alloc: Global,
-    scenario: &Scenario,
-    traced: bool,
-    trails: &[Trail],
-) -> Mem<Vec<u8>>
+fn text(alloc: Global, scenario: &Scenario, traced: bool, trails: &[Trail]) -> Mem<Vec<u8>>
     requires few { length trails.now ≤ 8 }
     requires frames { HaveFrames trails.now }
     requires records { HaveSpellings trails.now }

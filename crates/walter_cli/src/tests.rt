@@ -1,11 +1,14 @@
-ghost use Rattle.std.specs.Prelude.{Some};
+ghost use Rattle.std.specs.Prelude.{None, Some};
 
 mod spelling;
+mod stops;
 
-use crate::{Ended, Fault, top};
+use crate::{Ended, Fault, JournalCause, top};
 use spelling::spelled;
 use std::process::Abort;
 use std::test::Fail;
+use walter_disk::Rack;
+use walter_disk_memory::MemoryRack;
 use walter_psi::first_illegal;
 use walter_scenario::Place;
 use walter_stream::{BytesSource, Failed, MemorySink, MemorySource, Source};
@@ -15,6 +18,30 @@ const FIRST_RUN: &str =
 
 const FIRST_REPORT: &str =
     "sites 1 f 0 clients 1\nclient 0 site 0 replies 4 0000000e800000000001000000000000000100000001820000000b81010000000568656c6c6f0000000a85000000000000000001\nsite 0 up epoch 1 events 5 records 2 got 1 committed 1 log 0:1\n";
+
+const EMPTY_SITE: &str = r#"{"sites":1,"f":0,"containers":[],"clients":[],"steps":[]}"#;
+
+const EMPTY_JOURNAL: &[u8] = b"WALTERJ1\x01\0\0\0\x05\x01\0\0\0\x01\0";
+
+// The frames of requests: a start, a write of one byte and a read of object 1:5, a commit, an abort, and the level of 0.1.1.
+const START: &str = "0000000101";
+
+const WRITE: &str = "00000012030000000100000000000000050000000161";
+
+const READ: &str = "0000000d02000000010000000000000005";
+
+const COMMIT: &str = "0000000108";
+
+const ABORT: &str = "0000000109";
+
+const LEVEL: &str = "0000000e0a00000000010000000000000001";
+
+// The frames of replies: started 0.1.1, done, and how far a transaction has come.
+const STARTED: &str = "0000000e8000000000010000000000000001";
+
+const DONE: &str = "0000000182";
+
+const COMMITTED: &str = "0000000a85000000000000000001";
 
 /// A source that gives one byte a read.
 #[derive(Drop)]
@@ -35,12 +62,13 @@ impl Source for SlowSource {
     }
 }
 
-// What the program makes of these words and this source, over a sink with room whose listed calls fail.
-fn ended_over<S: Source>(
+// What the program makes of these words and this source over this rack, with a sink that has room and whose listed calls fail.
+fn ended_over<S: Source, R: Rack>(
     rt: &impl AllocGlobal,
     words: &str,
     source: &mut S,
     failing_writes: &[u64],
+    rack: &mut R,
 ) -> Result<(Ended, Vec<u8>), Fail> {
     let alloc = rt.alloc();
     let mut line = Vec::new(alloc);
@@ -48,12 +76,23 @@ fn ended_over<S: Source>(
         line.push(String::from_str(alloc, word)?)?;
     }
     let mut sink = MemorySink::with_room(alloc, 65536, Vec::from_slice(alloc, failing_writes)?)?;
-    let ended = top(rt, &line, source, &mut sink);
+    let ended = top(rt, &line, source, &mut sink, rack);
     let text = Vec::from_slice(alloc, sink.as_slice())?;
     Ok((ended, text))
 }
 
-// The same over a source whose listed calls fail.
+// The same of a scenario, over this rack.
+fn ended_on<R: Rack>(
+    rt: &impl AllocGlobal,
+    words: &str,
+    scenario: &str,
+    rack: &mut R,
+) -> Result<(Ended, Vec<u8>), Fail> {
+    let mut source = BytesSource::from(Vec::from_slice(rt.alloc(), scenario.as_bytes())?);
+    ended_over(rt, words, &mut source, &[], rack)
+}
+
+// The same over an empty disk and a source whose listed calls fail.
 fn ended(
     rt: &impl AllocGlobal,
     words: &str,
@@ -66,21 +105,83 @@ fn ended(
         Vec::from_slice(alloc, scenario.as_bytes())?,
         Vec::from_slice(alloc, failing_reads)?,
     );
-    ended_over(rt, words, &mut source, failing_writes)
+    let mut rack = MemoryRack::new(alloc);
+    ended_over(rt, words, &mut source, failing_writes, &mut rack)
 }
 
-// The program writes the report of the scenario, at status 0, and the checker finds nothing in the history that its
-// trail spells.
-fn plays(rt: &(impl Abort + AllocGlobal), scenario: &str, report: &str) -> Result<(), Fail> {
-    let (ended, text) = ended(rt, "play", scenario, &[], &[])?;
+// The call ended well, and the checker finds nothing in the history that its trail spells.
+fn is_legal(rt: &(impl Abort + AllocGlobal), ended: &Ended) -> Result<(), Fail> {
     assert_eq!(rt; ended.status, 0);
     assert_eq!(rt; ended.fault, None);
     assert_eq!(rt; ended.trails.len(), 1);
-    assert_eq!(rt; str::from_utf8(&text)?, report);
     for trail in &ended.trails {
         let history = spelled(rt.alloc(), trail.as_slice())?;
         assert_eq!(rt; first_illegal(rt.alloc(), &history)?, None);
     }
+    Ok(())
+}
+
+// The program writes the report of the scenario, at status 0, and its trail is legal.
+fn plays(rt: &(impl Abort + AllocGlobal), scenario: &str, report: &str) -> Result<(), Fail> {
+    let (ended, text) = ended(rt, "play", scenario, &[], &[])?;
+    is_legal(rt, &ended)?;
+    assert_eq!(rt; str::from_utf8(&text)?, report);
+    Ok(())
+}
+
+// The line of a client in the report of a scenario.
+fn line_of(rt: &(impl Abort + AllocGlobal), scenario: &str, client: u32) -> Result<String, Fail> {
+    let (ended, text) = ended(rt, "play", scenario, &[], &[])?;
+    is_legal(rt, &ended)?;
+    match str::from_utf8(&text)?.split('\n').nth(client as usize + 1) {
+        Some(line) => Ok(String::from_str(rt.alloc(), line)?),
+        None => Err(Fail::from("a report without the client")),
+    }
+}
+
+// The steps of these words, each of client or site 0.
+fn steps_of(rt: &impl AllocGlobal, words: &str) -> Result<String, Fail> {
+    let mut steps = String::new(rt.alloc());
+    for word in words.split_whitespace() {
+        let comma = if steps.is_empty() { "" } else { "," };
+        let step = format!(in rt.alloc(); r#"{comma}["{word}",0]"#)?;
+        steps.push_str(&step)?;
+    }
+    Ok(steps)
+}
+
+// A scenario of one client with these frames at one site with these steps, and with further keys.
+fn scenario_of(
+    rt: &impl AllocGlobal,
+    keys: &str,
+    frames: &[&str],
+    words: &str,
+) -> Result<String, Fail> {
+    let mut sent = String::new(rt.alloc());
+    for frame in frames {
+        sent.push_str(frame)?;
+    }
+    let steps = steps_of(rt, words)?;
+    Ok(format!(in rt.alloc();
+        r#"{{"sites":1,"f":0,"containers":[[1,"regular",0]],"clients":[[0,"{sent}"]],{keys}"steps":[{steps}]}}"#
+    )?)
+}
+
+// The client is answered by these frames.
+fn answers(
+    rt: &(impl Abort + AllocGlobal),
+    keys: &str,
+    frames: &[&str],
+    words: &str,
+    replies: &[&str],
+) -> Result<(), Fail> {
+    let line = line_of(rt, &scenario_of(rt, keys, frames, words)?, 0)?;
+    let count = replies.len();
+    let mut expected = format!(in rt.alloc(); "client 0 site 0 replies {count} ")?;
+    for reply in replies {
+        expected.push_str(reply)?;
+    }
+    assert_eq!(rt; line, expected);
     Ok(())
 }
 
@@ -107,7 +208,8 @@ fn a_source_that_gives_one_byte_a_read_is_the_same(rt: HostRuntime) -> Result<()
     let mut source = SlowSource {
         source: BytesSource::from(bytes),
     };
-    let (ended, text) = ended_over(&rt, "play", &mut source, &[])?;
+    let mut rack = MemoryRack::new(rt.alloc());
+    let (ended, text) = ended_over(&rt, "play", &mut source, &[], &mut rack)?;
     assert_eq!(rt; ended.status, 0);
     assert_eq!(rt; str::from_utf8(&text)?, FIRST_REPORT);
     Ok(())
@@ -244,7 +346,8 @@ fn a_trail_of_a_hundred_thousand_entries_takes_no_more(rt: HostRuntime) -> Resul
     let alloc = rt.alloc();
     let words = vec![in alloc; String::from_str(alloc, "play")?]?;
     let mut sink = MemorySink::with_room(alloc, 2_000_000, Vec::new(alloc))?;
-    let ended = top(&rt, &words, &mut source, &mut sink);
+    let mut rack = MemoryRack::new(alloc);
+    let ended = top(&rt, &words, &mut source, &mut sink, &mut rack);
     assert_eq!(rt; (ended.status, ended.trails.len()), (0, 1));
     assert_eq!(rt; ended.trails[0].len(), 100_000);
     Ok(())
@@ -252,7 +355,13 @@ fn a_trail_of_a_hundred_thousand_entries_takes_no_more(rt: HostRuntime) -> Resul
 
 #[test]
 fn other_words_are_no_line(rt: HostRuntime) -> Result<(), Fail> {
-    for words in ["play --trace", "play --fast", "", "run"] {
+    for words in [
+        "play --fast",
+        "",
+        "run",
+        "play play",
+        "play --trace --trace",
+    ] {
         let (ended, text) = ended(&rt, words, FIRST_RUN, &[], &[])?;
         assert_eq!(rt; (ended.status, ended.fault), (1, Some(Fault::Usage)));
         assert!(rt; text.is_empty());
@@ -272,7 +381,7 @@ fn bytes_that_spell_no_scenario_are_refused_at_their_first_wrong_place(
             Place::Key,
         ),
         (
-            r#"{"sites":1,"f":0,"containers":[],"clients":[],"steps":[],"capacity":142}"#,
+            r#"{"sites":1,"f":0,"containers":[],"clients":[],"steps":[],"speed":1}"#,
             Place::Key,
         ),
         (
@@ -320,8 +429,16 @@ fn bytes_that_spell_no_scenario_are_refused_at_their_first_wrong_place(
 
 #[test]
 fn a_text_above_the_longest_is_refused(rt: HostRuntime) -> Result<(), Fail> {
-    let blanks = joined(&rt, " ", "", 16_777_217)?;
-    refuses(&rt, &blanks, Place::TooLong)
+    let mut source = BytesSource::from(vec![in rt.alloc(); b' '; 16_777_217]?);
+    let mut rack = MemoryRack::new(rt.alloc());
+    let (ended, text) = ended_over(&rt, "play", &mut source, &[], &mut rack)?;
+    let place = Place::TooLong;
+    assert_eq!(rt;
+        (ended.status, ended.fault),
+        (2, Some(Fault::Scenario { place }))
+    );
+    assert!(rt; text.is_empty());
+    Ok(())
 }
 
 #[test]
@@ -346,5 +463,215 @@ fn faults_are_lines_that_a_person_understands(rt: HostRuntime) -> Result<(), Fai
     let place = Place::Containers(3);
     let line = format!(in rt.alloc(); "{}", Fault::Scenario { place })?;
     assert_eq!(rt; line.as_str(), "the scenario has no reading: container 3");
+    Ok(())
+}
+
+#[test]
+fn behind_the_report_stands_a_line_for_each_event(rt: HostRuntime) -> Result<(), Fail> {
+    let mut rack = MemoryRack::new(rt.alloc());
+    let (ended, text) = ended_on(&rt, "play --trace", EMPTY_SITE, &mut rack)?;
+    is_legal(&rt, &ended)?;
+    assert_eq!(rt;
+        str::from_utf8(&text)?,
+        "sites 1 f 0 clients 0\nsite 0 up epoch 1 events 1 records 1 got 0 committed 0 log -\ne 1 0 restart taken - 0100000001 - - 0\n"
+    );
+    assert_eq!(rt; rack.given().len(), 1);
+    let (site, disk) = &rack.given()[0];
+    assert_eq!(rt; (*site, disk.bytes()), (0, EMPTY_JOURNAL));
+    Ok(())
+}
+
+const UNSURE: &str = "0000000e8a00000000010000000000000001";
+
+#[test]
+fn a_stop_at_the_gate_is_unsure_and_then_a_level(rt: HostRuntime) -> Result<(), Fail> {
+    for (arms, level) in [
+        (r#""arms":[[0,3,1]],"#, "000000028805"),
+        (r#""arms":[[0,3,7]],"#, "000000028800"),
+    ] {
+        answers(
+            &rt,
+            arms,
+            &[START, WRITE, COMMIT, START, LEVEL],
+            "call call call call restart call",
+            &[STARTED, DONE, UNSURE, "00000002e009", level],
+        )?;
+    }
+    Ok(())
+}
+
+#[test]
+fn a_step_arms_the_disk_too(rt: HostRuntime) -> Result<(), Fail> {
+    let scenario = format!(in rt.alloc();
+        r#"{{"sites":1,"f":0,"containers":[[1,"regular",0]],"clients":[[0,"{START}{WRITE}{COMMIT}"]],"steps":[["call",0],["call",0],["arm",0,1,0],["call",0]]}}"#
+    )?;
+    let line = line_of(&rt, &scenario, 0)?;
+    assert!(rt; line.as_str().ends_with(UNSURE), "{line}");
+    Ok(())
+}
+
+#[test]
+fn a_client_is_told_once_that_its_transaction_is_gone(rt: HostRuntime) -> Result<(), Fail> {
+    answers(
+        &rt,
+        "",
+        &[START, READ, START],
+        "call stop restart call call",
+        &[
+            STARTED,
+            "0000000fe00700000000010000000000000001",
+            "0000000e8000000000020000000000000001",
+        ],
+    )
+}
+
+// The frame of a write of so many bytes.
+fn long_write(rt: &impl AllocGlobal, count: u16) -> Result<String, Fail> {
+    let value = joined(rt, "61", "", usize::from(count))?;
+    let body = u32::from(count) + 17;
+    Ok(format!(in rt.alloc(); "{body:08x}03000000010000000000000005{count:08x}{value}")?)
+}
+
+#[test]
+fn a_commit_that_finds_no_place_is_refused_and_stays_open(rt: HostRuntime) -> Result<(), Fail> {
+    let hello = "00000016030000000100000000000000050000000568656c6c6f";
+    answers(
+        &rt,
+        r#""capacity":142,"#,
+        &[START, hello, COMMIT],
+        "call call call",
+        &[STARTED, DONE, COMMITTED],
+    )?;
+    answers(
+        &rt,
+        r#""capacity":141,"#,
+        &[START, hello, COMMIT, ABORT],
+        "call call call call",
+        &[
+            STARTED,
+            DONE,
+            "00000012e00a000000000000007b000000000000007a",
+            "000000028603",
+        ],
+    )
+}
+
+#[test]
+fn a_value_has_4096_bytes_at_most(rt: HostRuntime) -> Result<(), Fail> {
+    let longest = long_write(&rt, 4096)?;
+    let longer = long_write(&rt, 4097)?;
+    answers(
+        &rt,
+        "",
+        &[START, &longest, &longer],
+        "call call call",
+        &[STARTED, DONE, "00000002e004"],
+    )
+}
+
+#[test]
+fn a_transaction_has_60_000_bytes_at_most(rt: HostRuntime) -> Result<(), Fail> {
+    let longest = long_write(&rt, 4096)?;
+    let mut frames = vec![in rt.alloc(); START]?;
+    let mut replies = vec![in rt.alloc(); STARTED]?;
+    let mut words = String::from_str(rt.alloc(), "call call")?;
+    for _ in 0..14 {
+        frames.push(&longest)?;
+        replies.push(DONE)?;
+        words.push_str(" call")?;
+    }
+    frames.push(&longest)?;
+    replies.push("00000002e003")?;
+    answers(&rt, "", &frames, &words, &replies)
+}
+
+#[test]
+fn a_level_is_told_of_what_was_started_here(rt: HostRuntime) -> Result<(), Fail> {
+    answers(
+        &rt,
+        "",
+        &[
+            START,
+            "0000000e0a01000000010000000000000001",
+            "0000000e0a00000000010000000000000002",
+            LEVEL,
+        ],
+        "call call call call",
+        &[STARTED, "00000002e00e", "00000002e00f", "000000028801"],
+    )
+}
+
+#[test]
+fn a_site_has_256_transactions_open_at_most(rt: HostRuntime) -> Result<(), Fail> {
+    let clients = joined(&rt, r#"[0,"0000000101"]"#, ",", 257)?;
+    let mut steps = String::from_str(rt.alloc(), r#"["call",0]"#)?;
+    for client in 1..257 {
+        let step = format!(in rt.alloc(); r#",["call",{client}]"#)?;
+        steps.push_str(&step)?;
+    }
+    let scenario = format!(in rt.alloc();
+        r#"{{"sites":1,"f":0,"containers":[],"clients":[{clients}],"steps":[{steps}]}}"#
+    )?;
+    assert_eq!(rt;
+        line_of(&rt, &scenario, 255)?.as_str(),
+        "client 255 site 0 replies 1 0000000e8000000000010000000000000100"
+    );
+    assert_eq!(rt;
+        line_of(&rt, &scenario, 256)?.as_str(),
+        "client 256 site 0 replies 1 00000002e00c"
+    );
+    Ok(())
+}
+
+#[test]
+fn a_site_begins_with_no_other_disk_than_a_new_one(rt: HostRuntime) -> Result<(), Fail> {
+    let damaged = JournalCause::Damaged {
+        at: 8,
+        length: 4_294_967_295,
+    };
+    let table: [(&[u8], JournalCause); 3] = [
+        (b"NOTWALTER", JournalCause::Foreign),
+        (b"WALTERJ1\x01\xff\xff\xff\xff\0", damaged),
+        (EMPTY_JOURNAL, JournalCause::Used),
+    ];
+    let alloc = rt.alloc();
+    for (bytes, cause) in table {
+        let contents = vec![in alloc; Vec::from_slice(alloc, bytes)?]?;
+        let mut rack = MemoryRack::holding(alloc, contents);
+        let (ended, text) = ended_on(&rt, "play", EMPTY_SITE, &mut rack)?;
+        let fault = Fault::Journal { site: 0, cause };
+        assert_eq!(rt; (ended.status, ended.fault), (7, Some(fault)));
+        assert_eq!(rt; (ended.trails.len(), text.len()), (0, 0));
+        assert_eq!(rt; rack.given().len(), 1);
+    }
+    Ok(())
+}
+
+#[test]
+fn a_journal_without_records_is_as_good_as_a_new_disk(rt: HostRuntime) -> Result<(), Fail> {
+    let alloc = rt.alloc();
+    let contents = vec![in alloc; Vec::from_slice(alloc, b"WALTERJ1\x07")?]?;
+    let mut rack = MemoryRack::holding(alloc, contents);
+    let (ended, _text) = ended_on(&rt, "play", EMPTY_SITE, &mut rack)?;
+    is_legal(&rt, &ended)?;
+    assert_eq!(rt; rack.given().len(), 1);
+    let (_site, disk) = &rack.given()[0];
+    assert_eq!(rt; disk.bytes(), EMPTY_JOURNAL);
+    Ok(())
+}
+
+#[test]
+fn a_rack_that_fails_is_told(rt: HostRuntime) -> Result<(), Fail> {
+    // The disk is taken by the first call, and given back by the second.
+    for (failing, trails) in [(1, 0), (2, 1)] {
+        let mut rack = MemoryRack::new(rt.alloc());
+        rack.set_failing(vec![in rt.alloc(); failing]?);
+        let (ended, text) = ended_on(&rt, "play", FIRST_RUN, &mut rack)?;
+        assert_eq!(rt;
+            (ended.status, ended.fault),
+            (6, Some(Fault::Rack { site: 0 }))
+        );
+        assert_eq!(rt; (ended.trails.len(), text.len()), (trails, 0));
+    }
     Ok(())
 }

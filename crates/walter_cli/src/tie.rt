@@ -67,10 +67,15 @@ fn tie_own(ties: &mut [Tie], event: &TrailEvent, outcome: &Outcome)
     ensures long { length ties.new ≡ length ties.old }
     ensures each { (client : ℕ) (tie : Tie) → slice_get ties.old client ≡ Some tie → slice_get ties.new client ≡ Some (by_outcome event.now outcome.now client tie) }
 {
-    if let (TrailEvent::Call { client, .. }, Outcome::Replied(reply)) = (event, outcome)
-        && let Some(tie) = ties.get_mut(*client as usize)
-    {
-        *tie = tie.behind(reply);
+    let TrailEvent::Call { client, .. } = event else {
+        return;
+    };
+    let Outcome::Replied(reply) = outcome else {
+        return;
+    };
+    let place = *client as usize;
+    if place < ties.len() {
+        ties[place] = ties[place].behind(reply);
     }
 }
 

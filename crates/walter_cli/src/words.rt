@@ -9,7 +9,7 @@ pub struct Command {
 }
 
 /// The command that the words are: `play`, or `play --trace`.
-pub fn command(words: &[String]) -> Option<Command>
+pub fn command_of(words: &[String]) -> Option<Command>
     ensures some { IfSome result (λ command. IsPlayLine command.trace words.now) }
     ensures none { IfNone result (¬ IsLine words.now) }
 {

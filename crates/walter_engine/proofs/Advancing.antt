@@ -1,6 +1,6 @@
 -- What a step of a site that is up leaves, by what became of its record.
-use Rattle.std.proofs.Common.{◌≡◌, ℕ, ◌+◌, ◌-◌, ◌<◌, ◌≤◌, List, [], ◌∷◌, ◌++◌, length, map, Bool, true, false, Option, Some, None, Result, Ok, Err, refl, ap, sym, ◌∙◌, subst, arith, inl, inr, ◌⊎◌}
-use Rattle.std.specs.Prelude.{All, IfSome, is_some}
+use Rattle.std.proofs.Common.{◌≡◌, ℕ, ◌<◌, Bool, true, false, Option, Some, None, Result, refl, ap, sym, ◌∙◌, subst, arith}
+use Rattle.std.specs.Prelude.{IfSome}
 use Rattle.walter_base.specs.declared.catalog.Catalog.{Catalog}
 use Rattle.walter_base.specs.declared.message.BadFrame.{BadFrame as Bad}
 use Rattle.walter_base.specs.declared.message.Record.{Record}
@@ -11,11 +11,10 @@ use Rattle.walter_base.specs.declared.names.SiteId.{SiteId}
 use Rattle.walter_base.specs.Sizes.{CanBeRecorded}
 use Rattle.walter_record.specs.Spelling.{AreInRange, HasRecordSpelling}
 use Rattle.walter_site.specs.Sites.{expected}
-use Rattle.walter_trail.specs.declared.trail.Outcome.{Outcome}
 use Rattle.walter_trail.specs.declared.trail.Outcome.TheVariants.{Replied}
 use Rattle.walter_trail.specs.declared.trail.TrailEvent.{TrailEvent}
 use Rattle.walter_trail.specs.declared.trail.TrailEvent.TheVariants.{Call}
-use Rattle.walter_trail.specs.Knowledge.{Knowledge, session_of, fresh, recorded, after, lost, epoch_after}
+use Rattle.walter_trail.specs.Knowledge.{Knowledge, session_of, after, lost, epoch_after}
 use Rattle.walter_trail.specs.Records.{CanFollow, IsRecordAmong}
 use Rattle.walter_trail.specs.Rule.{Expected, rule, call_rule, MayWant}
 use Rattle.walter_trail.specs.Standing.{Standing, Came, stands_after, up_after, knows_after}

@@ -1,11 +1,11 @@
 -- What a restart leaves behind the record of the next epoch.
-use Rattle.std.proofs.Common.{◌≡◌, ℕ, ◌+◌, ◌-◌, ◌^◌, ◌<◌, ◌≤◌, List, [], ◌∷◌, ◌++◌, length, map, Bool, true, false, Option, Some, None, Result, Ok, Err, refl, ap, sym, ◌∙◌, subst, inl, inr, ⊎_elim, arith, if◌then◌else◌}
-use Rattle.std.specs.Prelude.{IfSome, OnErr, is_some}
+use Rattle.std.proofs.Common.{◌≡◌, ℕ, ◌+◌, ◌^◌, ◌<◌, ◌≤◌, List, [], ◌∷◌, map, Bool, true, false, Option, Some, None, Result, Err, refl, ap, sym, ◌∙◌, subst, inl, inr, arith, if◌then◌else◌}
+use Rattle.std.specs.Prelude.{IfSome, OnErr}
 use Rattle.std.proofs.lemmas.Bool.{cases_lt}
 use Rattle.std.proofs.lemmas.List.{length-append, map-append}
 use Rattle.walter_base.specs.declared.catalog.Catalog.{Catalog}
 use Rattle.walter_base.specs.declared.message.Record.{Record}
-use Rattle.walter_base.specs.declared.message.Record.TheVariants.{Boot, Own}
+use Rattle.walter_base.specs.declared.message.Record.TheVariants.{Boot}
 use Rattle.walter_base.specs.declared.names.SiteId.{SiteId}
 use Rattle.walter_disk.specs.declared.disk.Disk.{Ghosts}
 use Rattle.walter_disk.specs.Images.{LeavesOnly}
@@ -15,12 +15,12 @@ use Rattle.walter_journal.specs.declared.journal.Journal.{Journal}
 use Rattle.walter_journal.specs.Journals.{disk_of, capacity_of, left_of, need_of as body_need, StandsFor, Appends}
 use Rattle.walter_journal.specs.Layout.{IsBeforeOrBehind}
 use Rattle.walter_journal.specs.Steps.{Fails}
-use Rattle.walter_record.specs.Spelling.{record_spelled, HasRecordSpelling}
+use Rattle.walter_record.specs.Spelling.{record_spelled}
 use Rattle.walter_site.specs.declared.site.Site.{Site}
 use Rattle.walter_site.specs.Sites.{known}
 use Rattle.walter_trail.specs.declared.trail.Outcome.TheVariants.{Taken, Passed, Failed, Full, Memory}
 use Rattle.walter_trail.specs.declared.trail.TrailEvent.TheVariants.{Restart}
-use Rattle.walter_trail.specs.Knowledge.{Knowledge, recorded, lost}
+use Rattle.walter_trail.specs.Knowledge.{recorded}
 use Rattle.walter_trail.specs.Rule.{Expected, rule}
 use Rattle.walter_trail.specs.Standing.{Standing, Came, stands_after}
 use Rattle.walter_trail.specs.Trails.{Comes, FitsIn, TakesMemory, as_ruled, need_of, left_behind, only}

@@ -1,12 +1,10 @@
 -- What a step leaves of a site that ran over its journal.
-use Rattle.std.proofs.Common.{◌≡◌, ℕ, ◌+◌, ◌<◌, ◌≤◌, List, [], ◌∷◌, ◌++◌, length, map, true, false, Option, Some, None, refl, ap, sym, ◌∙◌, subst, arith, inl, inr}
-use Rattle.std.specs.Prelude.{IfSome, is_some}
+use Rattle.std.proofs.Common.{◌≡◌, ℕ, ◌<◌, ◌≤◌, List, [], ◌∷◌, ◌++◌, map, Option, Some, None, refl, ap, sym, ◌∙◌, subst, arith}
 use Rattle.std.proofs.lemmas.List.{map-append}
 use Rattle.walter_base.specs.declared.catalog.Catalog.{Catalog}
 use Rattle.walter_base.specs.declared.message.Record.{Record}
 use Rattle.walter_base.specs.declared.message.Reply.{Reply}
 use Rattle.walter_base.specs.declared.names.SiteId.{SiteId}
-use Rattle.walter_base.specs.Sizes.{CanBeRecorded}
 use Rattle.walter_disk.specs.Images.{LeavesOnly}
 use Rattle.walter_disk.specs.declared.disk.Disk.{Ghosts}
 use Rattle.walter_journal.specs.Journals.{disk_of, capacity_of, left_of, need_of as body_need, StandsFor, Appends}
@@ -24,16 +22,16 @@ use Rattle.walter_trail.specs.Knowledge.{Knowledge, session_of, after}
 use Rattle.walter_trail.specs.Records.{CanFollow, IsRecordAmong}
 use Rattle.walter_trail.specs.Rule.{rule, call_rule, MayWant}
 use Rattle.walter_trail.specs.declared.trail.TrailEvent.TheVariants.{Call as CallEvent}
-use Rattle.walter_trail.specs.Standing.{Standing, stands_after}
+use Rattle.walter_trail.specs.Standing.{Standing}
 use Rattle.walter_trail.specs.Trails.{no_memory, TakesMemory, need_of, left_behind}
 use Rattle.walter_engine.specs.declared.answers.Stepped.TheVariants.{Done, Failed, Full, NoMemory}
 use Rattle.walter_engine.specs.declared.stepping.Staged.{Staged}
 use Rattle.walter_engine.specs.Advances.{IsSameJournal, IsStaged, Advances}
 use Rattle.walter_engine.specs.Contents.{MayHaveRecords, AreJournaled}
 use Rattle.walter_engine.specs.Engines.{IsRunning}
-use Rattle.walter_engine.proofs.Advancing.{brings, answered_up, answered_knows, answered_comes, wanted_comes, done_journaled, can, wrote_journaled, flew_comes, flew_up, flew_rests, flew_journaled, full_comes}
+use Rattle.walter_engine.proofs.Advancing.{brings, answered_up, answered_knows, answered_comes, done_journaled, wrote_journaled, flew_comes, flew_up, flew_rests, flew_journaled, full_comes}
 use Rattle.walter_engine.proofs.Resting.{may_have, before_or_behind, rests_failed, SizeIs, CountsNow}
-use Rattle.walter_engine.proofs.Room.{fits, much, need_is, left_is}
+use Rattle.walter_engine.proofs.Room.{fits, need_is, left_is}
 
 -- what was planned for the input
 abbrev pub IsPlanned : Catalog → SiteId → Knowledge → Input → Option Record → Reply → Type 0

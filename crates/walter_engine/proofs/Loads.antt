@@ -1,5 +1,5 @@
 -- A restart from the disk of a site that is down.
-use Rattle.std.proofs.Common.{◌≡◌, ℕ, ◌<◌, ◌≤◌, List, [], ◌∷◌, ◌++◌, length, map, Bool, true, false, Option, Some, None, refl, ap, sym, ◌∙◌, subst, inl, inr, ◌⊎◌, ⊎_elim, arith}
+use Rattle.std.proofs.Common.{◌≡◌, ℕ, List, [], ◌∷◌, ◌++◌, map, false, Option, Some, None, refl, ap, sym, ◌∙◌, subst, inl, inr}
 use Rattle.std.specs.Prelude.{IfSome, IsSome, is_some}
 use Rattle.walter_base.specs.declared.catalog.Catalog.{Catalog}
 use Rattle.walter_base.specs.declared.message.Record.{Record}
@@ -24,8 +24,8 @@ use Rattle.walter_engine.specs.declared.engine.State.TheVariants.{Up, Down}
 use Rattle.walter_engine.specs.declared.engine.Tally.{Tally}
 use Rattle.walter_engine.specs.declared.restarting.Raised.{Raised}
 use Rattle.walter_engine.specs.Contents.{AreJournaled, CanBeJournaled, MayHaveRecords}
-use Rattle.walter_engine.specs.Engines.{IsInState, IsResting, Stands}
-use Rattle.walter_engine.specs.Raises.{Raises, Boots, IsDown, IsCounted, IsFoundIn}
+use Rattle.walter_engine.specs.Engines.{IsInState, IsResting}
+use Rattle.walter_engine.specs.Raises.{Raises, IsCounted, IsFoundIn}
 use Rattle.walter_engine.specs.Restarts.{Restarts, unloaded_by}
 use Rattle.walter_engine.specs.States.{disk_of_state, is_up_in, IsOf, IsOfState}
 use Rattle.walter_engine.specs.Steps.{came_of_restart, kept_of}

@@ -1,13 +1,11 @@
 -- What a call at a site that is up is answered, and what that leaves of how the site stands.
-use Rattle.std.proofs.Common.{◌≡◌, ℕ, List, [], ◌∷◌, ◌++◌, Bool, true, false, Option, Some, None, Result, Ok, Err, refl, ap, sym, ◌∙◌, subst, if◌then◌else◌, length}
-use Rattle.std.specs.Prelude.{nat_lt, not}
+use Rattle.std.proofs.Common.{◌≡◌, ◌∙◌, ℕ, List, [], ◌∷◌, Bool, true, false, Option, Some, None, Result, Ok, Err, refl, sym, subst, if◌then◌else◌, length}
+use Rattle.std.specs.Prelude.{◌≢◌, nat_lt, not}
 use Rattle.std.specs.FinMap.{get}
 use Rattle.walter_base.specs.declared.catalog.Catalog.{Catalog}
 use Rattle.walter_base.specs.declared.containers.Container.{Container}
 use Rattle.walter_base.specs.declared.message.BadFrame.{BadFrame as Bad}
 use Rattle.walter_base.specs.declared.message.Record.{Record}
-use Rattle.walter_base.specs.declared.message.Record.TheVariants.{Boot, Own}
-use Rattle.walter_base.specs.declared.message.Refusal.{Refusal}
 use Rattle.walter_base.specs.declared.message.Refusal.TheVariants.{Gone, TooLong, TxFull, SessionsFull, WrongSite, NotIssued}
 use Rattle.walter_base.specs.declared.message.Reply.{Reply}
 use Rattle.walter_base.specs.declared.message.Reply.TheVariants.{Started, Value, Done, Committed, Aborted, Level, Ended, Unsure, Refused}
@@ -23,14 +21,14 @@ use Rattle.walter_base.specs.declared.update.Update.{Update}
 use Rattle.walter_base.specs.declared.update.Update.TheVariants.{Write as WriteOf}
 use Rattle.walter_base.specs.Names.{same_site}
 use Rattle.walter_base.specs.Values.{value_of}
+use Rattle.walter_site.specs.Sites.{expected}
 use Rattle.walter_trail.specs.declared.trail.Outcome.{Outcome}
-use Rattle.walter_trail.specs.declared.trail.Outcome.TheVariants.{Replied, Taken, Passed, Failed, Full, Memory, Down, Refused as IsRefused}
-use Rattle.walter_trail.specs.declared.trail.TrailEvent.{TrailEvent}
-use Rattle.walter_trail.specs.declared.trail.TrailEvent.TheVariants.{Call, Stop, Restart}
+use Rattle.walter_trail.specs.declared.trail.Outcome.TheVariants.{Replied}
+use Rattle.walter_trail.specs.declared.trail.TrailEvent.TheVariants.{Call}
 use Rattle.walter_trail.specs.Conflicts.{conflict_of}
 use Rattle.walter_trail.specs.Knowledge.{Knowledge, Session, read_updates}
-use Rattle.walter_trail.specs.Rule.{Expected, call_rule, if_regular, if_whole, writes, has_place, decides, commits, is_issued, answers, refuses, tells_level, starts_new, next_tid, level_of}
-use Rattle.walter_trail.specs.Standing.{Standing, Came, up_after, knows_after, flight_after, goes_down}
+use Rattle.walter_trail.specs.Rule.{Expected, call_rule, if_regular, if_whole, writes, has_place, decides, commits, is_issued, answers, refuses, next_tid, level_of}
+use Rattle.walter_trail.specs.Standing.{up_after, knows_after, flight_after}
 
 -- the client is told neither that the commit is unsure nor that its transaction is gone
 abbrev pub IsPlain : Outcome → Type 0
@@ -79,6 +77,13 @@ call_plain catalog i K (Ok Abort) (Some s) = tt
 call_plain catalog i K (Ok (LevelAsked tid)) session =
     if_plain (not (same_site tid.site i)) (refuses WrongSite) (if is_issued K tid then answers (Level (level_of K tid)) else refuses NotIssued) tt
     (if_plain (is_issued K tid) (answers (Level (level_of K tid))) (refuses NotIssued) tt tt)
+
+-- so is it with what was planned, and with a copy of it
+pub never_unsure : (catalog : Catalog) (i : SiteId) (K : Knowledge) (call : Result Request Bad) (session : Option Session) (rec : Option Record) (reply copy : Reply)
+    → expected (rec, reply) ≡ call_rule catalog i K call session → copy ≡ reply → (tid : Tid) → copy ≢ Unsure tid
+never_unsure catalog i K call session rec reply copy planned is tid unsure =
+    let plain = subst (λ (x : Expected). IsPlain x.outcome) (sym planned) (call_plain catalog i K call session) in
+    subst (λ (r : Reply). IsPlain (Replied r)) (sym is ∙ unsure) plain
 
 -- behind a plain reply the site is as it was
 pub plain_up : (client : ℕ) (call : Result Request Bad) (reply : Reply) (up : Bool) → IsPlain (Replied reply) → up_after (Call client call) (Replied reply) up ≡ up

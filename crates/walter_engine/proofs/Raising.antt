@@ -1,6 +1,6 @@
 -- What a restart finds in a journal, and what it leaves where its site is not booted.
-use Rattle.std.proofs.Common.{◌≡◌, ℕ, ◌+◌, ◌<◌, ◌≤◌, List, [], ◌∷◌, ◌++◌, length, map, Bool, true, false, Option, Some, None, refl, ap, sym, ◌∙◌, subst, inl, inr, ◌⊎◌, ⊎_elim, arith}
-use Rattle.std.specs.Prelude.{All, IfSome, is_some}
+use Rattle.std.proofs.Common.{◌≡◌, ℕ, ◌<◌, ◌≤◌, List, [], ◌∷◌, ◌++◌, length, map, true, false, Option, Some, None, refl, ap, sym, ◌∙◌, subst, inl, inr, ◌⊎◌, ⊎_elim, arith}
+use Rattle.std.specs.Prelude.{IfSome, is_some}
 use Rattle.std.proofs.lemmas.List.{length-append, length-map}
 use Rattle.std.proofs.lemmas.List.Elements.{All-push}
 use Rattle.walter_base.specs.declared.catalog.Catalog.{Catalog}
@@ -14,7 +14,7 @@ use Rattle.walter_journal.specs.Layout.{HasContent}
 use Rattle.walter_record.specs.Spelling.{record_spelled, HasRecordSpelling}
 use Rattle.walter_trail.specs.declared.trail.TrailEvent.TheVariants.{Restart}
 use Rattle.walter_trail.specs.Knowledge.{Knowledge, fresh, recorded, lost}
-use Rattle.walter_trail.specs.Records.{CanFollow, CanAllFollow, replayed}
+use Rattle.walter_trail.specs.Records.{CanFollow, replayed}
 use Rattle.walter_trail.specs.Standing.{Standing, settled}
 use Rattle.walter_trail.specs.Trails.{IsFound}
 use Rattle.walter_engine.specs.declared.answers.Restarted.TheVariants as restarted

@@ -1,12 +1,12 @@
 -- What records tell, one by one.
-use Rattle.std.proofs.Common.{◌≡◌, ℕ, ◌+◌, List, [], ◌∷◌, ◌++◌, Option, Some, None, refl, ap, sym, ◌∙◌, subst}
+use Rattle.std.proofs.Common.{◌≡◌, List, [], ◌∷◌, ◌++◌, Option, Some, None, refl}
 use Rattle.walter_base.specs.declared.catalog.Catalog.{Catalog}
 use Rattle.walter_base.specs.declared.message.Record.{Record}
 use Rattle.walter_base.specs.declared.message.Record.TheVariants.{Boot, Own}
 use Rattle.walter_base.specs.declared.names.SiteId.{SiteId}
 use Rattle.walter_trail.specs.declared.trail.Outcome.{Outcome}
 use Rattle.walter_trail.specs.declared.trail.TrailEvent.{TrailEvent}
-use Rattle.walter_trail.specs.Knowledge.{Knowledge, recorded, answered, after, lost}
+use Rattle.walter_trail.specs.Knowledge.{Knowledge, recorded, after, lost}
 use Rattle.walter_trail.specs.Records.{CanFollow, CanAllFollow, replayed}
 
 -- one record more

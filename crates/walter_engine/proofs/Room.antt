@@ -1,15 +1,14 @@
 -- How much a journal has room for, by its records.
-use Rattle.std.proofs.Common.{◌≡◌, ℕ, ◌+◌, ◌-◌, ◌<◌, ◌≤◌, List, [], ◌∷◌, ◌++◌, length, map, refl, ap, sym, ◌∙◌, arith}
+use Rattle.std.proofs.Common.{◌≡◌, ℕ, ◌+◌, ◌<◌, ◌≤◌, List, [], ◌∷◌, length, map, refl, arith}
 use Rattle.std.specs.Prelude.{All, sum_by}
 use Rattle.std.specs.List.{AllByRecursion}
 use Rattle.std.proofs.lemmas.List.Elements.{recursion_from_All}
 use Rattle.std.proofs.lemmas.List.Sums.{sum_by-cons}
 use Rattle.walter_base.specs.declared.message.Record.{Record}
-use Rattle.walter_base.specs.Sizes.{size_of_record, CanBeRecorded}
+use Rattle.walter_base.specs.Sizes.{CanBeRecorded}
 use Rattle.walter_disk.specs.declared.disk.Disk.{Ghosts}
 use Rattle.walter_journal.specs.declared.journal.Journal.{Journal}
-use Rattle.walter_journal.specs.Journals.{end_of, capacity_of, left_of, need_of as body_need, StandsFor}
-use Rattle.walter_journal.specs.Layout.{end_behind}
+use Rattle.walter_journal.specs.Journals.{capacity_of, left_of, need_of as body_need, StandsFor}
 use Rattle.walter_record.specs.Spelling.{record_spelled, HasRecordSpelling}
 use Rattle.walter_record.proofs.Records.{length-record_spelled, at_most}
 use Rattle.walter_trail.specs.Standing.{Standing}

@@ -1,5 +1,5 @@
 -- What was staged, where something was.
-use Rattle.std.proofs.Common.{◌≡◌, ℕ, Option, Some, None, subst, sym, refl}
+use Rattle.std.proofs.Common.{◌≡◌, ℕ, Option, Some, None, subst, refl}
 use Rattle.walter_base.specs.declared.message.Record.{Record}
 use Rattle.walter_disk.specs.declared.disk.Disk.{Ghosts}
 use Rattle.walter_journal.specs.declared.journal.Journal.{Journal}

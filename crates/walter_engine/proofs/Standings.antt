@@ -1,25 +1,20 @@
 -- How a site stands behind a record more, and the records of its journal.
-use Rattle.std.proofs.Common.{◌≡◌, ℕ, ◌+◌, ◌-◌, ◌<◌, ◌≤◌, List, [], ◌∷◌, ◌++◌, length, map, Bool, true, false, Option, Some, None, Result, Ok, Err, refl, ap, sym, ◌∙◌, subst, arith, inl, inr, if◌then◌else◌}
-use Rattle.std.specs.Prelude.{All, IfSome, sum_by}
+use Rattle.std.proofs.Common.{◌≡◌, ℕ, ◌<◌, [], ◌∷◌, ◌++◌, Bool, true, Option, Some, None, Result, refl, ap, sym, ◌∙◌, subst, if◌then◌else◌}
+use Rattle.std.specs.Prelude.{All, IfSome}
 use Rattle.std.proofs.lemmas.List.Elements.{All-push}
 use Rattle.walter_base.specs.declared.catalog.Catalog.{Catalog}
 use Rattle.walter_base.specs.declared.message.BadFrame.{BadFrame as Bad}
 use Rattle.walter_base.specs.declared.message.Record.{Record}
-use Rattle.walter_base.specs.declared.message.Record.TheVariants.{Boot, Own}
-use Rattle.walter_base.specs.declared.message.Reply.{Reply}
 use Rattle.walter_base.specs.declared.message.Request.{Request}
 use Rattle.walter_base.specs.declared.names.SiteId.{SiteId}
-use Rattle.walter_record.specs.Spelling.{record_spelled, HasRecordSpelling}
-use Rattle.walter_trail.specs.declared.trail.Outcome.{Outcome}
-use Rattle.walter_trail.specs.declared.trail.Outcome.TheVariants.{Replied, Taken, Failed, Full}
-use Rattle.walter_trail.specs.declared.trail.TrailEvent.{TrailEvent}
-use Rattle.walter_trail.specs.declared.trail.TrailEvent.TheVariants.{Call, Stop, Restart}
-use Rattle.walter_trail.specs.Knowledge.{Knowledge, session_of, fresh, recorded, after, lost}
+use Rattle.walter_record.specs.Spelling.{HasRecordSpelling}
+use Rattle.walter_trail.specs.declared.trail.TrailEvent.TheVariants.{Call}
+use Rattle.walter_trail.specs.Knowledge.{session_of, fresh, recorded, lost}
 use Rattle.walter_trail.specs.Records.{CanFollow, CanAllFollow, replayed}
 use Rattle.walter_trail.specs.Rule.{Expected, rule, call_rule, if_told, down_rule}
-use Rattle.walter_trail.specs.Standing.{Standing, Came, settled, stands_after}
-use Rattle.walter_engine.specs.Contents.{HasRecords, MayHaveRecords, CanBeJournaled, AreJournaled}
-use Rattle.walter_engine.proofs.Replays.{replayed_more, follow_more, lost_recorded, follows_lost, follows_found}
+use Rattle.walter_trail.specs.Standing.{Standing}
+use Rattle.walter_engine.specs.Contents.{CanBeJournaled, AreJournaled}
+use Rattle.walter_engine.proofs.Replays.{replayed_more, follow_more, follows_lost}
 
 told_none : (call : Result Request Bad) (x : Expected) → if_told call None x ≡ x
 told_none call x = refl

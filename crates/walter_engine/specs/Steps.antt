@@ -1,24 +1,20 @@
 -- What a step and a restart come to, as an event of the site's trail.
-use Rattle.std.specs.Prelude.{◌≡◌, ◌<◌, ◌≤◌, ℕ, List, map, take, slice_get, Option, Some, None, All, IfSome}
+use Rattle.std.specs.Prelude.{◌≡◌, ◌≢◌, ◌<◌, ◌≤◌, ℕ, List, map, take, slice_get, Option, Some, None, All, IfSome}
 use Rattle.walter_base.specs.declared.catalog.Catalog.{Catalog}
-use Rattle.walter_base.specs.declared.message.BadFrame.{BadFrame}
 use Rattle.walter_base.specs.declared.message.Record.{Record}
 use Rattle.walter_base.specs.declared.message.Refusal.TheVariants.{Down as IsDown}
-use Rattle.walter_base.specs.declared.message.Reply.TheVariants.{Refused as RefusedCall}
-use Rattle.walter_base.specs.declared.message.Request.{Request}
+use Rattle.walter_base.specs.declared.message.Reply.TheVariants.{Unsure, Refused as RefusedCall}
 use Rattle.walter_base.specs.declared.names.SiteId.{SiteId}
+use Rattle.walter_base.specs.declared.names.Tid.{Tid}
 use Rattle.walter_base.specs.Sizes.{IsShortReply, CanBeRecorded}
-use Rattle.walter_disk.specs.Disks.{DiskState}
 use Rattle.walter_journal.specs.Layout.{HasContent, IsForeign, IsDamaged}
 use Rattle.walter_record.specs.Spelling.{record_spelled, HasRecordSpelling}
-use Rattle.walter_trail.specs.declared.trail.Outcome.{Outcome}
 use Rattle.walter_trail.specs.declared.trail.Outcome.TheVariants.{Replied, Taken, Failed as HasFailed, Full as IsFull, Memory, Refused as IsRefused}
 use Rattle.walter_trail.specs.declared.trail.TrailEvent.{TrailEvent}
-use Rattle.walter_trail.specs.declared.trail.TrailEvent.TheVariants.{Call, Stop, Restart}
-use Rattle.walter_trail.specs.Knowledge.{Knowledge, fresh}
+use Rattle.walter_trail.specs.Knowledge.{fresh}
 use Rattle.walter_trail.specs.Records.{CanFollow, CanAllFollow, replayed}
-use Rattle.walter_trail.specs.Standing.{Standing, Came, settled, stands_after}
-use Rattle.walter_trail.specs.Trails.{Comes, IsFound, failure, fullness, want, only}
+use Rattle.walter_trail.specs.Standing.{Came}
+use Rattle.walter_trail.specs.Trails.{failure, fullness, want, only}
 use Rattle.walter_engine.specs.declared.answers.RefusedRestart.{RefusedRestart}
 use Rattle.walter_engine.specs.declared.answers.RefusedRestart.TheVariants.{Foreign, Damaged, Unreadable, LastEpoch}
 use Rattle.walter_engine.specs.declared.answers.Restarted.{Restarted}
@@ -49,9 +45,10 @@ kept_of (restarted.Full kept need left) = kept
 kept_of (restarted.Refused kept why) = kept
 kept_of (restarted.NoMemory kept) = kept
 
--- what a step answers has a frame, and what it writes a spelling
+-- what a step answers has a frame, and what it writes a spelling. No client is told that its commit is unsure by a step that
+-- is done.
 abbrev pub IsSizedStep : Stepped → Type 0
-IsSizedStep (Done reply wrote) = IsShortReply reply × IfSome wrote CanBeRecorded
+IsSizedStep (Done reply wrote) = IsShortReply reply × IfSome wrote CanBeRecorded × ((tid : Tid) → reply ≢ Unsure tid)
 IsSizedStep (Failed rec) = CanBeRecorded rec
 IsSizedStep (Full need left) = Unit {0}
 IsSizedStep Down = Unit {0}

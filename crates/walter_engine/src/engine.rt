@@ -191,12 +191,12 @@ impl<D: Disk + Drop> Engine<D> {
         ensures arms { OfDisks self.old self.new (λ old new. (D.known new).arms ≡ (D.known old).arms) }
         ensures engine { IsSameEngine self.old self.new }
     {
+        // What is loaded is then what the site left.
+        layouts_differ();
         let Some(state) = mem::replace(&mut self.state, None) else {
             unreachable!()
         };
         let disk = disk_of(state);
-        // What is loaded is then what the site left.
-        layouts_differ();
         let Raised {
             state,
             answer,

@@ -1,6 +1,7 @@
 ghost use Rattle.std.specs.Prelude.{◌≡◌, ◌≢◌, ◌<◌, ℕ, Some, None, true, false, is_some, IfOk, IfSome, OnErr, OnOk};
 ghost use Rattle.walter_base.specs.declared.catalog.Catalog.{Catalog};
 ghost use Rattle.walter_base.specs.declared.names.SiteId.{SiteId};
+ghost use Rattle.walter_base.specs.declared.names.Tid.{Tid};
 ghost use Rattle.walter_base.specs.Sizes.{CanBeRecorded, IsShortReply};
 ghost use Rattle.walter_disk.specs.Images.{LeavesOnly};
 ghost use Rattle.walter_journal.specs.Journals.{disk_of, capacity_of};
@@ -158,6 +159,7 @@ fn prepare<D: Disk>(
     ensures room { IfOk result (λ r. HasRoom site.new r.plan) }
     ensures reply { IfOk result (λ r. r.reply ≡ r.plan.reply) }
     ensures short { IfOk result (λ r. IsShortReply r.reply) }
+    ensures sure { IfOk result (λ r. (tid : Tid) → r.reply ≢ Reply.Unsure tid) }
     ensures staged { IfOk result (λ r. AreStaged journal.new count r.plan.rec r.staged) }
     ensures follows { IfOk result (λ r. IfSome r.plan.rec (λ rec. 0 < (known site.old).epoch → CanFollow (catalog_of site.old) (site_of site.old) (known site.old) rec)) }
     ensures sizes { IfOk result (λ r. IfSome r.plan.rec (IsRecordAmong (catalog_of site.old).sites)) }

@@ -1,16 +1,36 @@
 //! The history that a trail spells, as code, for the checker.
 use std::alloc::Global;
-use walter_base::{Mem, Record, Reply, Request, Tid, Update};
-use walter_psi::{Answer, Step, Told};
+use walter_base::{Level as HowFar, Mem, Record, Reply, Request, Tid, Update};
+use walter_psi::{Answer, Level, Step, Told};
 use walter_trail::{Entry, Outcome, TrailEvent};
+
+// What a client was told by this level. Of a transaction that is open there is nothing to tell.
+fn told_level(level: HowFar) -> Option<Told> {
+    match level {
+        HowFar::NotCommitted => Some(Told::Level(Level::NotCommitted)),
+        HowFar::Running => None,
+        HowFar::Committed => Some(Told::Level(Level::Committed)),
+        HowFar::Durable => Some(Told::Level(Level::Durable)),
+        HowFar::Visible => Some(Told::Level(Level::Visible)),
+    }
+}
+
+// The step of a reply to a request that needs no open transaction.
+fn free_step(request: &Request, reply: &Reply) -> Option<Step> {
+    match (request, reply) {
+        (_, Reply::Started(tid)) => Some(Step::Start(*tid, tid.site)),
+        (Request::Level(tid), Reply::Level(level)) => {
+            let told = told_level(*level)?;
+            Some(Step::Told(*tid, told))
+        }
+        _ => None,
+    }
+}
 
 // The step of a reply to a request, where this transaction was open.
 fn step_of(request: &Request, reply: &Reply, open: Option<Tid>) -> Mem<Option<Step>> {
-    if let Reply::Started(tid) = reply {
-        return Ok(Some(Step::Start(*tid, tid.site)));
-    }
     let Some(tid) = open else {
-        return Ok(None);
+        return Ok(free_step(request, reply));
     };
     Ok(match (request, reply) {
         (Request::Write(oid, bytes), Reply::Done) => {
@@ -23,7 +43,7 @@ fn step_of(request: &Request, reply: &Reply, open: Option<Tid>) -> Mem<Option<St
             Some(Step::Told(tid, Told::Version(*version)))
         }
         (_, Reply::Aborted(cause)) => Some(Step::Abort(tid, *cause)),
-        _ => None,
+        _ => free_step(request, reply),
     })
 }
 
@@ -31,7 +51,7 @@ fn open_behind(reply: &Reply, open: Option<Tid>) -> Option<Tid> {
     match reply {
         Reply::Started(tid) => Some(*tid),
         Reply::Committed(_) | Reply::Aborted(_) | Reply::Ended => None,
-        Reply::Value(_) | Reply::Done | Reply::Refused(_) => open,
+        _ => open,
     }
 }
 
@@ -56,25 +76,53 @@ impl Open {
     }
 }
 
-/// The steps of the entries, that of a record first.
+// Whether the site loses its memory.
+fn goes_down(entry: &Entry) -> bool {
+    match (&entry.event, &entry.outcome) {
+        (_, Outcome::Replied(Reply::Unsure(_)) | Outcome::Failed) => true,
+        (TrailEvent::Stop, Outcome::Taken) => true,
+        _ => false,
+    }
+}
+
+// The step of a record.
+fn record_step(recorded: &Option<Record>) -> Mem<Option<Step>> {
+    match recorded {
+        Some(Record::Own(_, tx)) => Ok(Some(Step::Commit(tx.tid, tx.updates.clone()?))),
+        _ => Ok(None),
+    }
+}
+
+fn push(steps: &mut Vec<Step>, step: Option<Step>) -> Mem<()> {
+    if let Some(step) = step {
+        steps.push(step)?;
+    }
+    Ok(())
+}
+
+/// The steps of the entries, those of their records first.
 pub(super) fn spelled(alloc: Global, trail: &[Entry]) -> Mem<Vec<Step>> {
     let mut steps = Vec::new(alloc);
     let mut open = Open {
         tids: Vec::new(alloc),
     };
     for entry in trail {
-        if let Some(Record::Own(_, tx)) = &entry.wrote {
-            steps.push(Step::Commit(tx.tid, tx.updates.clone()?))?;
-        }
-        let TrailEvent::Call { client, call } = &entry.event else {
-            continue;
-        };
-        if let (Ok(request), Outcome::Replied(reply)) = (call, &entry.outcome) {
+        push(&mut steps, record_step(&entry.kept)?)?;
+        push(&mut steps, record_step(&entry.wrote)?)?;
+        if let (
+            TrailEvent::Call {
+                client,
+                call: Ok(request),
+            },
+            Outcome::Replied(reply),
+        ) = (&entry.event, &entry.outcome)
+        {
             let before = open.of(*client);
-            if let Some(step) = step_of(request, reply, before)? {
-                steps.push(step)?;
-            }
+            push(&mut steps, step_of(request, reply, before)?)?;
             open.set(*client, open_behind(reply, before))?;
+        }
+        if goes_down(entry) {
+            open.tids.clear();
         }
     }
     Ok(steps)

@@ -1,7 +1,6 @@
-use Rattle.std.proofs.Common.{◌+◌, ◌∷◌, [], length, take, ap, arith}
+use Rattle.std.proofs.Common.{◌+◌, [], length, take, ap, arith}
 use Rattle.std.proofs.lemmas.List.{length-take, length_push}
 use Rattle.walter_psi.proofs.CheckerLists.{take_one}
-use Rattle.walter_trail.specs.Trails.{opening}
 use Rattle.walter_cli.proofs.Lines.{lines_grown}
 use Rattle.walter_cli.proofs.building.open_lines.Goals as goal
 
@@ -18,6 +17,6 @@ loop-client-preserved c =
     let front = length-take i clients in
     record {
       long = let a = ap length longer in let b = length_push lines line in let d = is.long in omega (arith, a, b, d);
-      lines = lines_grown (take i clients) (take (i + 1) clients) (opening ∷ []) lines c.push.new.self.items client line (take_one clients i client within c.client-item.is) longer
+      lines = lines_grown (take i clients) (take (i + 1) clients) [] lines c.push.new.self.items client line (take_one clients i client within c.client-item.is) longer
           (let a = is.long in omega (arith, a, front, within)) is.lines c.in_ok-open_line.ensures;
     }

@@ -1,10 +1,9 @@
-use Rattle.std.proofs.Common.{◌≡◌, ◌∷◌, [], length, take}
-use Rattle.walter_trail.specs.Trails.{opening}
-use Rattle.walter_cli.specs.Cells.{AreLines}
+use Rattle.std.proofs.Common.{◌≡◌, length, take}
+use Rattle.walter_cli.specs.Builds.{AreUnread}
 use Rattle.walter_cli.proofs.building.open_lines.Given as goal
 
 abbrev pub invariant-loop-client : goal.invariant-loop-client
 invariant-loop-client l = record {
   long : length l.lines.items ≡ l.client-index;
-  lines : AreLines (take l.client-index l.clients) (opening ∷ []) l.lines.items;
+  lines : AreUnread (take l.client-index l.clients) l.lines.items;
 }

@@ -1,7 +1,7 @@
-use Rattle.std.proofs.Common.{◌≡◌, ◌≤◌, refl, sym, ◌∙◌, subst, ap, rules, ℕ, arith, length, List, Option, Some, ◌<◌, map, inl, inr}
+use Rattle.std.proofs.Common.{◌≡◌, ◌≤◌, sym, ◌∙◌, subst, ap, ℕ, length, List, Option, ◌<◌, map, inl, inr}
 use Rattle.std.specs.Prelude.{IfSome}
 use Rattle.walter_base.specs.declared.message.Record.{Record}
-use Rattle.walter_site.specs.Sites.{known, site_of, catalog_of, call_of, client_of, event_of}
+use Rattle.walter_site.specs.Sites.{known, site_of, catalog_of, event_of}
 use Rattle.std.proofs.lemmas.Bool.{cases_lt}
 use Rattle.walter_disk.specs.Images.{LeavesOnly}
 use Rattle.walter_journal.specs.Journals.{Appends, disk_of, left_of, need_of as body_need}
@@ -11,8 +11,7 @@ use Rattle.walter_trail.specs.declared.trail.Outcome.TheVariants.{Replied}
 use Rattle.walter_trail.specs.Knowledge.{after}
 use Rattle.walter_trail.specs.Records.{CanFollow, IsRecordAmong}
 use Rattle.walter_record.specs.Spelling.{record_spelled}
-use Rattle.walter_engine.proofs.Advancing.{spells, done_journaled}
-use Rattle.walter_engine.proofs.Leaving.{IsPlanned, wanted, done, wrote, filled, flew, crash_before, crash_after}
+use Rattle.walter_engine.proofs.Leaving.{IsPlanned, wrote, filled, flew, crash_after}
 use Rattle.walter_engine.proofs.Room.{short_enough}
 use Rattle.walter_engine.proofs.Staging.{staged_some}
 use Rattle.walter_engine.proofs.stepping.advance.Goals as goal

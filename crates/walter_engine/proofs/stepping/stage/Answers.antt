@@ -1,4 +1,4 @@
-use Rattle.std.proofs.Common.{refl, sym, ◌∙◌, subst, ap, rules, ℕ}
+use Rattle.std.proofs.Common.{subst, rules, ℕ}
 use Rattle.walter_journal.specs.Journals.{HasRoom}
 use Rattle.walter_engine.proofs.stepping.stage.Goals as goal
 

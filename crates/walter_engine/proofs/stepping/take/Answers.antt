@@ -1,11 +1,8 @@
-use Rattle.std.proofs.Common.{◌≡◌, refl, sym, ◌∙◌, subst, ap, ℕ, Some}
+use Rattle.std.proofs.Common.{◌≡◌, sym, ◌∙◌, ap}
 use Rattle.walter_site.specs.Sites.{event_of}
-use Rattle.walter_trail.specs.Standing.{Standing}
 use Rattle.walter_engine.specs.declared.answers.Stepped.{Stepped}
 use Rattle.walter_engine.specs.declared.engine.State.TheVariants.{Down}
-use Rattle.walter_engine.specs.Engines.{IsInState}
-use Rattle.walter_engine.specs.Moves.{Moves}
-use Rattle.walter_engine.specs.States.{IsOf, disk_of_state}
+use Rattle.walter_engine.specs.States.{disk_of_state}
 use Rattle.walter_engine.proofs.Moving.{moved, state_after, flight_left, not_failed, no_flight, moves_as}
 use Rattle.walter_engine.proofs.stepping.take.Goals as goal
 

@@ -1,7 +1,6 @@
-use Rattle.std.proofs.Common.{◌≡◌, ℕ, List, map, refl, sym, ap, ◌∙◌, subst}
+use Rattle.std.proofs.Common.{refl, sym, ap, ◌∙◌, subst}
 use Rattle.walter_engine.specs.declared.answers.Restarted.{Restarted}
 use Rattle.walter_engine.specs.declared.engine.State.TheVariants.{Down}
-use Rattle.walter_engine.specs.declared.restarting.Raised.{Raised}
 use Rattle.walter_engine.specs.Raises.{IsDown, IsCounted}
 use Rattle.walter_engine.specs.States.{IsOf}
 use Rattle.walter_engine.proofs.Loads.{resting_under, restarts_raised, raises_loaded, raises_unloaded}

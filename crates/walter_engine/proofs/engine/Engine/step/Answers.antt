@@ -1,8 +1,5 @@
-use Rattle.std.proofs.Common.{◌≡◌, refl, sym, ◌∙◌, subst, ap, ℕ, Option}
-use Rattle.walter_engine.specs.declared.engine.State.{State}
+use Rattle.std.proofs.Common.{sym, ◌∙◌, ap}
 use Rattle.walter_engine.specs.declared.engine.Tally.{Tally}
-use Rattle.walter_engine.specs.Engines.{IsInState}
-use Rattle.walter_engine.specs.States.{IsOfState}
 use Rattle.walter_engine.proofs.engine.Engine.step.Goals as goal
 
 pub returns-clause-comes : goal.returns-clause-comes

@@ -1,6 +1,0 @@
-//! Scratch.
-#![tactic(auto)]
-
-mod tie;
-
-pub use tie::{Tie, lose_all};
