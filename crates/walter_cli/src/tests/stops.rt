@@ -108,11 +108,8 @@ fn leaves_what_is_told(
     let scenario = armed(rt, nth, choice, words)?;
     let (ended, _text) = ended_on(rt, "play", &scenario, &mut rack)?;
     is_legal(rt, &ended)?;
-    let OpenRack {
-        given: Some(disk),
-        ..
-    } = rack
-    else {
+    let OpenRack { given, .. } = rack;
+    let Some(disk) = given else {
         return Err(Fail::from("no disk"));
     };
     let [trail] = ended.trails.as_slice() else {
