@@ -21,7 +21,7 @@ pub use memory::{Mem, NoMemory};
 pub use message::{BadFrame, Call, Level, Record, Refusal, Reply, Request};
 pub use names::{Kind, ObjId, SiteId, Tid, Version};
 pub use transaction::{Cause, Conflict, Tx};
-pub use update::{Row, Update, Updates};
+pub use update::{Row, Update, Updates, size_of_updates};
 pub use vts::Vts;
 
 #[cfg(test)]

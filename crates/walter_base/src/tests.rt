@@ -1,7 +1,7 @@
 use crate::{
     BadFrame, Bytes, Catalog, CatalogFault, Cause, Container, Containers, Counts, Kind, Level,
     NoMemory, ObjId, Record, Refusal, Reply, Request, SiteId, Tid, Tx, Update, Updates, Version,
-    Vts,
+    Vts, size_of_updates,
 };
 use std::test::Fail;
 
@@ -131,6 +131,7 @@ fn a_transaction_has_a_size(rt: HostRuntime) -> Result<(), Fail> {
         start: Vts::zero(1),
         updates: Updates::from(updates),
     };
+    assert_eq!(rt; size_of_updates(tx.updates.as_slice()), 87 + 22 + 21);
     assert_eq!(rt; tx.size(), 87 + 22 + 21);
     Ok(())
 }

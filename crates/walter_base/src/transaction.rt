@@ -2,7 +2,7 @@ ghost use Rattle.std.specs.Prelude.{◌≡◌, ◌<◌, ◌^◌};
 ghost use Rattle.walter_base.specs.Sizes.{size_of};
 
 use crate::names::{ObjId, Tid, Version};
-use crate::update::Updates;
+use crate::update::{Updates, size_of_updates};
 use crate::vts::Vts;
 use std::alloc::AllocError;
 
@@ -22,12 +22,7 @@ impl Tx {
         requires { size_of self.now < 2 ^ 64 }
         ensures { result ≡ size_of self.now }
     {
-        let updates = self.updates.as_slice();
-        let mut size = 87;
-        for update in updates {
-            size += update.size();
-        }
-        size
+        size_of_updates(self.updates.as_slice())
     }
 }
 

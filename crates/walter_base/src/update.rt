@@ -1,4 +1,5 @@
 ghost use Rattle.std.specs.Prelude.{◌≡◌, ◌<◌, ◌^◌};
+ghost use Rattle.walter_base.specs.Sizes.{size_of_update, size_of_updates};
 
 use crate::bytes::Bytes;
 use crate::names::{ObjId, Version};
@@ -17,10 +18,8 @@ pub enum Update {
 }
 
 impl Update {
-    ghost use Rattle.walter_base.specs.Sizes.{size_of_update};
-
-    /// How many bytes spell the update.
-    pub(crate) fn size(&self) -> u64
+    // How many bytes spell the update.
+    fn size(&self) -> u64
         requires { size_of_update self.now < 2 ^ 64 }
         ensures { result ≡ size_of_update self.now }
     {
@@ -89,4 +88,16 @@ impl From<Vec<Update>> for Updates {
     fn from(items: Vec<Update>) -> Updates {
         Updates { items }
     }
+}
+
+/// How many bytes spell a transaction of these updates.
+pub fn size_of_updates(updates: &[Update]) -> u64
+    requires { size_of_updates updates.now < 2 ^ 64 }
+    ensures { result ≡ size_of_updates updates.now }
+{
+    let mut size = 87;
+    for update in updates {
+        size += update.size();
+    }
+    size
 }

@@ -24,6 +24,7 @@ use Rattle.walter_cli.specs.declared.cell.Serve.{Serve}
 use Rattle.walter_cli.specs.declared.cell.Serve.TheVariants as serve
 use Rattle.walter_cli.specs.Cells.{IsSite, IsCell, IsLineAt, Grows, IsCallOf, TurnsTo, Acts, IsTiedAsMany}
 use Rattle.walter_cli.specs.Plays.{IsTurn, IsEvent, Takes, Plays, IsOfClients, AreArmed, ArmsMore, armed_by, arms_of, arms_by, spent, over, served, came}
+use Rattle.walter_cli.proofs.Asked.{of_disks_so}
 use Rattle.walter_cli.proofs.Lines.{calls_same}
 
 -- there is an element at each place before the end
@@ -164,11 +165,6 @@ of_both (Some a) None z P Q R m there so p q = absurd cc
 of_both (Some a) (Some b) None P Q R m there so p q = tt
 of_both (Some a) (Some b) (Some c) P Q R m there so p q = so a b c p q
 
-if_both : {D : Type 0} (x y : Option D) (P Q : D → D → Type 0) → ((a b : D) → P a b → Q a b) → IfSome x (λ a. IfSome y (λ b. P a b)) → IfSome x (λ a. IfSome y (λ b. Q a b))
-if_both None y P Q so p = tt
-if_both (Some a) None P Q so p = tt
-if_both (Some a) (Some b) P Q so p = so a b p
-
 module _ {D : Type 0} {g : Ghosts D} where
   pub armed_on : (old mid new : Cell D g) (xs ys : List Arm) → AreArmed old mid xs → AreArmed mid new ys → AreArmed old new (xs ++ ys)
   armed_on old mid new xs ys first second =
@@ -179,7 +175,7 @@ module _ {D : Type 0} {g : Ghosts D} where
   -- where the arms are as before
   pub armed_none : (old new : Cell D g) → OfDisks old.engine new.engine (λ before after. (g.known after).arms ≡ (g.known before).arms) → AreArmed old new []
   armed_none old new same =
-      if_both (disk_in old.engine) (disk_in new.engine) (λ a b. (g.known b).arms ≡ (g.known a).arms) (λ a b. ArmsGo g a b []) (λ a b is. is ∙ sym (told_same (g.known a).arms)) same
+      of_disks_so old.engine new.engine (λ a b. (g.known b).arms ≡ (g.known a).arms) (λ a b. ArmsGo g a b []) (λ a b is. is ∙ sym (told_same (g.known a).arms)) same
 
   pub more_none : (old new : Cell D g) (all : List Arm) → AreArmed old new [] → ArmsMore old new all
   more_none old new all armed = ([], all, refl, armed)
@@ -201,7 +197,7 @@ module _ {D : Type 0} {g : Ghosts D} where
       → OfDisks old.engine new.engine (λ before after. g.known after ≡ record (g.known before) { arms = option_map (λ arms. arms ++ (arm.nth, arm.choice) ∷ []) (g.known before).arms })
       → AreArmed old new (arm ∷ [])
   armed_one old new arm armed =
-      if_both (disk_in old.engine) (disk_in new.engine) (λ a b. g.known b ≡ record (g.known a) { arms = option_map (λ arms. arms ++ (arm.nth, arm.choice) ∷ []) (g.known a).arms })
+      of_disks_so old.engine new.engine (λ a b. g.known b ≡ record (g.known a) { arms = option_map (λ arms. arms ++ (arm.nth, arm.choice) ∷ []) (g.known a).arms })
       (λ a b. ArmsGo g a b (arm ∷ [])) (λ a b is. ap (λ k. k.arms) is) armed
 
   pub armed_next : (old mid new : Cell D g) (all : List Arm) (i : ℕ) (d : Arm) → i < length all → AreArmed old mid (take i all)
@@ -213,7 +209,7 @@ module _ {D : Type 0} {g : Ghosts D} where
 
   pub unarmed_none : (old new : Cell D g) → OfDisks old.engine new.engine (λ before after. g.known after ≡ g.known before) → AreArmed old new []
   unarmed_none old new same =
-      armed_none old new (if_both (disk_in old.engine) (disk_in new.engine) (λ a b. g.known b ≡ g.known a) (λ a b. (g.known b).arms ≡ (g.known a).arms) (λ a b is. ap (λ k. k.arms) is) same)
+      armed_none old new (of_disks_so old.engine new.engine (λ a b. g.known b ≡ g.known a) (λ a b. (g.known b).arms ≡ (g.known a).arms) (λ a b is. ap (λ k. k.arms) is) same)
 
   -- where an arm isn't told, those before it were
   pub arms_before : (old mid new : Cell D g) (all rest : List Arm) (i : ℕ) → AreArmed old mid (take i all) → AreArmed mid new [] → ArmsMore old new (all ++ rest)

@@ -1,3 +1,4 @@
 pub mod ConflictNamed
 pub mod MergeOrder
 pub mod NamedEntries
+pub mod Replayed

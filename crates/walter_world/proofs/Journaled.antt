@@ -22,32 +22,10 @@ use Rattle.walter_trail.specs.Records.{IsDeclared, CanFollow, CanAllFollow, repl
 use Rattle.walter_trail.specs.Rule.{next_seq}
 use Rattle.walter_trail.specs.Standing.{Standing, Came, records_after, settled, goes_down, up_after, knows_after, flight_after, stands_after}
 use Rattle.walter_trail.specs.Trails.{standing, came_of, Comes, IsFound, AreRight}
+use Rattle.walter_trail.proofs.Replayed.{all_follow-push, replayed-push, follow_moved}
 use Rattle.walter_world.specs.Journaled.{IsJournaled}
 use Rattle.walter_world.proofs.EndsDecided.{IsBootDue, IsCommitDue, IsDue, IsFair, comes_fair}
 use Rattle.walter_world.proofs.Given.{IsGiven, comes_given, rose, boots}
-
--- one record more
-all_follow-push : (catalog : Catalog) (i : SiteId) (K : Knowledge) (records : List Record) (rec : Record) → CanAllFollow catalog i K records
-    → CanFollow catalog i (replayed i K records) rec → CanAllFollow catalog i K (records ++ rec ∷ [])
-all_follow-push catalog i K [] rec follow next = (next, tt)
-all_follow-push catalog i K (first ∷ records) rec follow next = (follow.0, all_follow-push catalog i (recorded i (Some first) K) records rec follow.1 next)
-
-replayed-push : (i : SiteId) (K : Knowledge) (records : List Record) (rec : Record)
-    → replayed i K (records ++ rec ∷ []) ≡ recorded i (Some rec) (replayed i K records)
-replayed-push i K [] rec = refl
-replayed-push i K (first ∷ records) rec = replayed-push i (recorded i (Some first) K) records rec
-
--- a record that can follow goes by the epoch and the numbers alone
-follow_moved : (catalog : Catalog) (i : SiteId) (K other : Knowledge) (rec : Record) → K.epoch ≡ other.epoch → K.committed ≡ other.committed
-    → CanFollow catalog i K rec → CanFollow catalog i other rec
-follow_moved catalog i K other (Boot next) epoch committed follow = follow ∙ ap (λ n. n + 1) epoch
-follow_moved catalog i K other (Own seq tx) epoch committed follow = record {
-  booted = let b = follow.booted in omega (arith, epoch, b);
-  next = subst (λ (numbers : List ℕ). seq ≡ next_seq i (record other { committed = numbers })) committed follow.next;
-  here = follow.here;
-  fast = follow.fast;
-  declared = follow.declared;
-}
 
 -- an open transaction has a name of the site, and its updates are of objects that are declared
 pub record IsSound (catalog : Catalog) (i : SiteId) (s : Session) : Type 0 where

@@ -1,7 +1,7 @@
 use Rattle.std.proofs.Common.{◌≡◌, ◌+◌, drop}
 use Rattle.std.specs.Prelude.{sum_by}
 use Rattle.walter_base.specs.Sizes.{size_of_update, size_of_updates}
-use Rattle.walter_site.proofs.sizes.size_of_all.Given as goal
+use Rattle.walter_base.proofs.update.size_of_updates.Given as goal
 
 -- the bytes so far and those of the updates to come are all
 abbrev pub invariant-loop-update : goal.invariant-loop-update

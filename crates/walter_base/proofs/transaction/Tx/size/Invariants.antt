@@ -1,8 +1,0 @@
-use Rattle.std.proofs.Common.{◌≡◌, ◌+◌, drop}
-use Rattle.std.specs.Prelude.{sum_by}
-use Rattle.walter_base.specs.Sizes.{size_of, size_of_update}
-use Rattle.walter_base.proofs.transaction.Tx.size.Given as goal
-
--- the bytes so far and those of the updates to come are all
-abbrev pub invariant-loop-update : goal.invariant-loop-update
-invariant-loop-update l = l.size + sum_by size_of_update (drop l.update-index l.updates) ≡ size_of l.self

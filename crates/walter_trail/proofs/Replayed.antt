@@ -1,0 +1,32 @@
+-- What records tell, one by one.
+use Rattle.std.proofs.Common.{◌≡◌, ℕ, ◌+◌, ◌<◌, List, [], ◌∷◌, ◌++◌, Some, refl, ap, ◌∙◌, subst, arith}
+use Rattle.walter_base.specs.declared.catalog.Catalog.{Catalog}
+use Rattle.walter_base.specs.declared.message.Record.{Record}
+use Rattle.walter_base.specs.declared.message.Record.TheVariants.{Boot, Own}
+use Rattle.walter_base.specs.declared.names.SiteId.{SiteId}
+use Rattle.walter_trail.specs.Knowledge.{Knowledge, recorded}
+use Rattle.walter_trail.specs.Records.{CanFollow, CanAllFollow, replayed}
+use Rattle.walter_trail.specs.Rule.{next_seq}
+
+-- one record more
+pub all_follow-push : (catalog : Catalog) (i : SiteId) (K : Knowledge) (records : List Record) (rec : Record) → CanAllFollow catalog i K records
+    → CanFollow catalog i (replayed i K records) rec → CanAllFollow catalog i K (records ++ rec ∷ [])
+all_follow-push catalog i K [] rec follow next = (next, tt)
+all_follow-push catalog i K (first ∷ records) rec follow next = (follow.0, all_follow-push catalog i (recorded i (Some first) K) records rec follow.1 next)
+
+pub replayed-push : (i : SiteId) (K : Knowledge) (records : List Record) (rec : Record)
+    → replayed i K (records ++ rec ∷ []) ≡ recorded i (Some rec) (replayed i K records)
+replayed-push i K [] rec = refl
+replayed-push i K (first ∷ records) rec = replayed-push i (recorded i (Some first) K) records rec
+
+-- a record that can follow goes by the epoch and the numbers alone
+pub follow_moved : (catalog : Catalog) (i : SiteId) (K other : Knowledge) (rec : Record) → K.epoch ≡ other.epoch → K.committed ≡ other.committed
+    → CanFollow catalog i K rec → CanFollow catalog i other rec
+follow_moved catalog i K other (Boot next) epoch committed follow = follow ∙ ap (λ n. n + 1) epoch
+follow_moved catalog i K other (Own seq tx) epoch committed follow = record {
+  booted = let b = follow.booted in omega (arith, epoch, b);
+  next = subst (λ (numbers : List ℕ). seq ≡ next_seq i (record other { committed = numbers })) committed follow.next;
+  here = follow.here;
+  fast = follow.fast;
+  declared = follow.declared;
+}
