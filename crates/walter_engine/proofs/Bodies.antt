@@ -17,7 +17,7 @@ use Rattle.walter_trail.specs.Knowledge.{Knowledge, fresh, recorded}
 use Rattle.walter_trail.specs.Records.{CanFollow, CanAllFollow, replayed}
 use Rattle.walter_engine.specs.Replays.{Takes, SpellsNone, IsUnfit, Tells}
 use Rattle.walter_engine.specs.Steps.{Tell, IsUnreadable}
-use Rattle.walter_engine.proofs.Replays.{replayed_more, follow_more}
+use Rattle.walter_trail.proofs.Replayed.{all_follow-push, replayed-push}
 
 -- a body spells one record
 pub spells_one : (sites : ℕ) (body : List ℕ) (a b : Record) → HasRecordSpelling sites a → HasRecordSpelling sites b → body ≡ record_spelled a → body ≡ record_spelled b → a ≡ b
@@ -64,9 +64,9 @@ tells_more catalog i front body K K' tells takes = record {
   tell = record {
     spell = ap (λ l. l ++ body ∷ []) tells.tell.spell ∙ ap (λ b. map record_spelled tells.records ++ b ∷ []) takes.is ∙ sym (map-append record_spelled tells.records (takes.rec ∷ []));
     spelled = All-push (HasRecordSpelling catalog.sites) tells.records takes.rec tells.tell.spelled takes.spelled;
-    follow = follow_more catalog i (fresh catalog.sites) tells.records takes.rec tells.tell.follow (subst (λ K. CanFollow catalog i K takes.rec) tells.known takes.follows);
+    follow = all_follow-push catalog i (fresh catalog.sites) tells.records takes.rec tells.tell.follow (subst (λ K. CanFollow catalog i K takes.rec) tells.known takes.follows);
   };
-  known = takes.leaves ∙ ap (λ K. recorded i (Some takes.rec) K) tells.known ∙ sym (replayed_more i (fresh catalog.sites) tells.records takes.rec);
+  known = takes.leaves ∙ ap (λ K. recorded i (Some takes.rec) K) tells.known ∙ sym (replayed-push i (fresh catalog.sites) tells.records takes.rec);
 }
 
 unreadable : (catalog : Catalog) (i : SiteId) (bodies : List (List ℕ)) (index : ℕ) (body : List ℕ) (K : Knowledge) → Tells catalog i (take index bodies) K → slice_get bodies index ≡ Some body

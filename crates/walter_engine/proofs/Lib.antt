@@ -2,6 +2,7 @@ pub mod Advancing
 pub mod Bodies
 pub mod Boots
 pub mod Calls
+pub mod Crashes
 pub mod Leaving
 pub mod Loads
 pub mod Moving

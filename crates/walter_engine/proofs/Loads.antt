@@ -5,6 +5,7 @@ use Rattle.walter_base.specs.declared.catalog.Catalog.{Catalog}
 use Rattle.walter_base.specs.declared.message.Record.{Record}
 use Rattle.walter_base.specs.declared.names.SiteId.{SiteId}
 use Rattle.walter_disk.specs.declared.disk.Disk.{Ghosts}
+use Rattle.walter_disk.specs.Disks.{DiskState}
 use Rattle.walter_disk.specs.Images.{IsImage, LeavesOnly}
 use Rattle.walter_journal.specs.declared.fault.JournalFault.{JournalFault}
 use Rattle.walter_journal.specs.declared.fault.JournalFault.TheVariants as fault
@@ -13,23 +14,27 @@ use Rattle.walter_journal.specs.Faults.{HasCause, Finds}
 use Rattle.walter_journal.specs.Journals.{disk_of, capacity_of, StandsFor}
 use Rattle.walter_journal.specs.Layout.{HasContent, IsForeign, IsDamaged}
 use Rattle.walter_journal.specs.Steps.{IsLeft}
+use Rattle.walter_journal.proofs.Moments.{weaker, joined}
 use Rattle.walter_record.specs.Spelling.{record_spelled}
 use Rattle.walter_trail.specs.declared.trail.Outcome.TheVariants.{Failed}
 use Rattle.walter_trail.specs.declared.trail.TrailEvent.TheVariants.{Restart}
 use Rattle.walter_trail.specs.Standing.{Standing, settled, stands_after}
 use Rattle.walter_trail.specs.Trails.{Comes, only}
+use Rattle.walter_engine.specs.declared.answers.RefusedRestart.{RefusedRestart}
+use Rattle.walter_engine.specs.declared.answers.RefusedRestart.TheVariants as refused
 use Rattle.walter_engine.specs.declared.engine.Engine.{Engine}
 use Rattle.walter_engine.specs.declared.engine.State.{State}
 use Rattle.walter_engine.specs.declared.engine.State.TheVariants.{Up, Down}
 use Rattle.walter_engine.specs.declared.engine.Tally.{Tally}
 use Rattle.walter_engine.specs.declared.restarting.Raised.{Raised}
-use Rattle.walter_engine.specs.Contents.{AreJournaled, CanBeJournaled, MayHaveRecords}
-use Rattle.walter_engine.specs.Engines.{IsInState, IsResting}
+use Rattle.walter_engine.specs.Contents.{AreJournaled, CanBeJournaled, MayHaveRecords, MayHaveBoot}
+use Rattle.walter_engine.specs.Engines.{disk_in, OfDisk, OfDisks, IsInState, IsResting}
 use Rattle.walter_engine.specs.Raises.{Raises, IsCounted, IsFoundIn}
 use Rattle.walter_engine.specs.Restarts.{Restarts, unloaded_by}
-use Rattle.walter_engine.specs.States.{disk_of_state, is_up_in, IsOf, IsOfState}
-use Rattle.walter_engine.specs.Steps.{came_of_restart, kept_of}
+use Rattle.walter_engine.specs.States.{disk_of_state, disk_under, is_up_in, IsOf, IsOfState}
+use Rattle.walter_engine.specs.Steps.{came_of_restart, kept_of, IsRefusedOver, IsRefusedFor, IfRefused}
 use Rattle.walter_engine.proofs.Boots.{boots_no_memory}
+use Rattle.walter_engine.proofs.Raising.{refused_so}
 use Rattle.walter_engine.proofs.Replays.{follows_lost}
 use Rattle.walter_engine.proofs.Resting.{SizeIs, CountsNow, rests_on}
 use Rattle.walter_engine.proofs.Standings.{journaled_same}
@@ -144,3 +149,76 @@ module _ {D : Type 0} {g : Ghosts D} (size_is : SizeIs g) (counts_now : CountsNo
   raises_unloaded fault.NoMemory cause = record { found = tt; boots = boots_no_memory catalog capacity i S tally all counted new still None _ refl refl refl }
   raises_unloaded fault.Foreign cause = absurd (wrong IsForeign not_foreign cause)
   raises_unloaded (fault.Damaged at claimed) cause = absurd (wrong (λ bytes. IsDamaged bytes at claimed) (λ bytes bodies. not_damaged bytes bodies at claimed) cause)
+
+-- ---- what a crash leaves, and why it is refused
+
+always : {A : Type 0} (Q : A → Type 0) (o : Option A) → ((x : A) → Q x) → IfSome o Q
+always Q None so = tt
+always Q (Some x) so = so x
+
+-- bytes with bodies for which it is refused
+refused_for : (catalog : Catalog) (i : SiteId) (bytes : List ℕ) (bodies : List (List ℕ)) (why : RefusedRestart) → HasContent bytes bodies → IsRefusedOver catalog i bodies why → IsRefusedFor catalog i bytes why
+refused_for catalog i bytes bodies refused.Foreign content over = absurd over
+refused_for catalog i bytes bodies (refused.Damaged at length) content over = absurd over
+refused_for catalog i bytes bodies (refused.Unreadable index) content over = (bodies, content, over)
+refused_for catalog i bytes bodies refused.LastEpoch content over = (bodies, content, over)
+
+-- a journal that was not loaded
+pub refused_unloaded : (catalog : Catalog) (i : SiteId) (why : JournalFault) (images : List ℕ → Type 0) (old new : DiskState) → HasCause why images old new
+    → IfSome new.reads (λ bytes. IfRefused (unloaded_by why) (IsRefusedFor catalog i bytes))
+refused_unloaded catalog i fault.Failed images old new cause = always _ new.reads (λ bytes. tt)
+refused_unloaded catalog i fault.Foreign images old new cause = cause.are
+refused_unloaded catalog i (fault.Damaged at length) images old new cause = cause.are
+refused_unloaded catalog i fault.NoMemory images old new cause = always _ new.reads (λ bytes. tt)
+
+module _ {D : Type 0} {g : Ghosts D} where
+  -- one that was
+  pub refused_loaded : (catalog : Catalog) (i : SiteId) (disk : D) (journal : Journal D g) (bodies slice : List (List ℕ)) → (IsSome (g.known disk).reads → StandsFor journal bodies) → slice ≡ bodies
+      → is_some (g.known (disk_of journal)).reads ≡ is_some (g.known disk).reads → (result : Raised D g)
+      → IfRefused result.answer (λ why. IsRefusedOver catalog i slice why × (disk_of_state result.state ≡ disk_of journal))
+      → IfSome (g.known (disk_of_state result.state)).reads (λ bytes. IfRefused result.answer (IsRefusedFor catalog i bytes))
+  refused_loaded catalog i disk journal bodies slice loaded same tells result over = at (g.known (disk_of_state result.state)).reads refl
+    where
+      at : (reads : Option (List ℕ)) → (g.known (disk_of_state result.state)).reads ≡ reads → IfSome reads (λ bytes. IfRefused result.answer (IsRefusedFor catalog i bytes))
+      at None is = tt
+      at (Some bytes) is =
+          refused_so result.answer (λ why. IsRefusedOver catalog i slice why × (disk_of_state result.state ≡ disk_of journal)) (IsRefusedFor catalog i bytes) (λ why cause.
+          let told : (g.known (disk_of journal)).reads ≡ Some bytes = sym (ap (λ (d : D). (g.known d).reads) cause.1) ∙ is in
+          let stands = loaded (sym tells ∙ ap is_some told) in
+          let named : Some stands.bytes ≡ Some bytes = sym stands.told ∙ told in
+          let same_bytes : stands.bytes ≡ bytes = cc in
+          refused_for catalog i bytes bodies why (subst (λ b. HasContent b bodies) same_bytes stands.content) (subst (λ b. IsRefusedOver catalog i b why) same cause.0)) over
+
+  -- what is so of what was raised is so of the engine
+  pub refused_raised : (catalog : Catalog) (i : SiteId) (new : Engine D g) (raised found : Raised D g) → raised ≡ found → Some raised.state ≡ new.state
+      → IfSome (g.known (disk_of_state found.state)).reads (λ bytes. IfRefused found.answer (IsRefusedFor catalog i bytes))
+      → OfDisk new (λ disk. IfSome (g.known disk).reads (λ bytes. IfRefused raised.answer (IsRefusedFor catalog i bytes)))
+  refused_raised catalog i new raised found same now is =
+      subst (λ (s : Option (State D g)). IfSome (disk_under s) (λ disk. IfSome (g.known disk).reads (λ bytes. IfRefused raised.answer (IsRefusedFor catalog i bytes)))) now
+      (subst (λ (r : Raised D g). IfSome (g.known (disk_of_state r.state)).reads (λ bytes. IfRefused r.answer (IsRefusedFor catalog i bytes))) (sym same) is)
+
+  pub leaves_raised : (i : SiteId) (S : Standing) (old new : Engine D g) (state : State D g) (disk : D) (raised found : Raised D g) → old.state ≡ Some state → disk ≡ disk_of_state state
+      → raised ≡ found → Some raised.state ≡ new.state → LeavesOnly g.moment g.left_since disk (disk_of_state found.state) (MayHaveBoot i S (kept_of found.answer))
+      → OfDisks old new (λ before after. LeavesOnly g.moment g.left_since before after (MayHaveBoot i S (kept_of raised.answer)))
+  leaves_raised i S old new state disk raised found was is_disk same now run =
+      let P : Option D → Option D → Type 0 = λ before after. IfSome before (λ b. IfSome after (λ a. LeavesOnly g.moment g.left_since b a (MayHaveBoot i S (kept_of raised.answer)))) in
+      let here = subst (λ (r : Raised D g). LeavesOnly g.moment g.left_since disk (disk_of_state r.state) (MayHaveBoot i S (kept_of r.answer))) (sym same) run in
+      subst (λ (s : Option (State D g)). P (disk_under s) (disk_in new)) (sym was)
+      (subst (λ (s : Option (State D g)). P (Some (disk_of_state state)) (disk_under s)) now
+      (subst (λ (d : D). P (Some d) (Some (disk_of_state raised.state))) is_disk here))
+
+  pub leaves_unloaded : (i : SiteId) (S : Standing) (kept : Option Record) (old new : D) → IsResting g S old → LeavesOnly g.moment g.left_since old new (g.may_leave old)
+      → LeavesOnly g.moment g.left_since old new (MayHaveBoot i S kept)
+  leaves_unloaded i S kept old new resting load =
+      weaker g.moment g.left_since old new (g.may_leave old) (MayHaveBoot i S kept) (λ image left. inl (resting.images image left)) load
+
+  pub leaves_loaded : OneContent → (i : SiteId) (S : Standing) (disk : D) (journal : Journal D g) (bodies slice : List (List ℕ)) → IsResting g S disk
+      → IsImage (g.known (disk_of journal)).reads (g.may_leave disk) → StandsFor journal bodies → slice ≡ bodies → LeavesOnly g.moment g.left_since disk (disk_of journal) (g.may_leave disk) → (result : Raised D g)
+      → (IsFoundIn S slice → StandsFor journal slice → LeavesOnly g.moment g.left_since (disk_of journal) (disk_of_state result.state) (MayHaveBoot i S (kept_of result.answer)))
+      → LeavesOnly g.moment g.left_since disk (disk_of_state result.state) (MayHaveBoot i S (kept_of result.answer))
+  leaves_loaded one i S disk journal bodies slice resting image stands same load result raise =
+      let has = resting.images stands.bytes (subst (λ reads. IsImage reads (g.may_leave disk)) stands.told image) in
+      let found = found_in one S S.flight refl stands.bytes bodies has stands.content in
+      joined g.moment g.left_since disk (disk_of journal) (disk_of_state result.state) (MayHaveBoot i S (kept_of result.answer))
+      (leaves_unloaded i S (kept_of result.answer) disk (disk_of journal) resting load)
+      (raise (subst (λ bodies. IsFoundIn S bodies) (sym same) found) (subst (λ bodies. StandsFor journal bodies) (sym same) stands))

@@ -1,5 +1,5 @@
 -- What a restart finds in a journal, and what it leaves where its site is not booted.
-use Rattle.std.proofs.Common.{◌≡◌, ℕ, ◌<◌, ◌≤◌, List, [], ◌∷◌, ◌++◌, length, map, true, false, Option, Some, None, refl, ap, sym, ◌∙◌, subst, inl, inr, ◌⊎◌, ⊎_elim, arith}
+use Rattle.std.proofs.Common.{◌≡◌, ℕ, ◌+◌, ◌<◌, ◌≤◌, List, [], ◌∷◌, ◌++◌, length, map, true, false, Option, Some, None, refl, ap, sym, ◌∙◌, subst, inl, inr, ◌⊎◌, ⊎_elim, arith}
 use Rattle.std.specs.Prelude.{IfSome, is_some}
 use Rattle.std.proofs.lemmas.List.{length-append, length-map}
 use Rattle.std.proofs.lemmas.List.Elements.{All-push}
@@ -8,28 +8,36 @@ use Rattle.walter_base.specs.declared.message.Record.{Record}
 use Rattle.walter_base.specs.declared.message.Record.TheVariants.{Boot, Own}
 use Rattle.walter_base.specs.declared.names.SiteId.{SiteId}
 use Rattle.walter_disk.specs.declared.disk.Disk.{Ghosts}
+use Rattle.walter_disk.specs.Images.{LeavesOnly}
 use Rattle.walter_journal.specs.declared.journal.Journal.{Journal}
 use Rattle.walter_journal.specs.Journals.{disk_of, StandsFor}
-use Rattle.walter_journal.specs.Layout.{HasContent}
+use Rattle.walter_journal.specs.Layout.{HasContent, IsBeforeOrBehind}
+use Rattle.walter_journal.proofs.Moments.{weaker}
 use Rattle.walter_record.specs.Spelling.{record_spelled, HasRecordSpelling}
 use Rattle.walter_trail.specs.declared.trail.TrailEvent.TheVariants.{Restart}
 use Rattle.walter_trail.specs.Knowledge.{Knowledge, fresh, recorded, lost}
 use Rattle.walter_trail.specs.Records.{CanFollow, replayed}
 use Rattle.walter_trail.specs.Standing.{Standing, settled}
 use Rattle.walter_trail.specs.Trails.{IsFound}
+use Rattle.walter_engine.specs.declared.answers.RefusedRestart.{RefusedRestart}
+use Rattle.walter_engine.specs.declared.answers.RefusedRestart.TheVariants as refused
+use Rattle.walter_engine.specs.declared.answers.Restarted.{Restarted}
 use Rattle.walter_engine.specs.declared.answers.Restarted.TheVariants as restarted
 use Rattle.walter_engine.specs.declared.engine.State.TheVariants.{Down}
 use Rattle.walter_engine.specs.declared.engine.Tally.{Tally}
 use Rattle.walter_engine.specs.declared.restarting.Raised.{Raised}
-use Rattle.walter_engine.specs.Contents.{AreJournaled, CanBeJournaled, MayHaveRecords}
+use Rattle.walter_engine.specs.Contents.{AreJournaled, CanBeJournaled, MayHaveRecords, MayHaveBoot}
 use Rattle.walter_engine.specs.Engines.{IsResting}
 use Rattle.walter_engine.specs.Raises.{Boots, Raises, IsDown, IsCounted, IsFoundIn}
 use Rattle.walter_engine.specs.Replays.{Tells}
-use Rattle.walter_engine.specs.Steps.{Tell, IsUnreadable, kept_of}
+use Rattle.walter_engine.specs.States.{disk_of_state}
+use Rattle.walter_engine.specs.Steps.{Tell, IsUnreadable, IsRefusedOver, IfRefused, kept_of}
 use Rattle.walter_engine.proofs.Bodies.{one_list, readable, some_is}
 use Rattle.walter_engine.proofs.Boots.{boots_no_memory}
-use Rattle.walter_engine.proofs.Replays.{replayed_more, follow_more, follows_lost}
-use Rattle.walter_engine.proofs.Resting.{SizeIs, may_have, rests_by}
+use Rattle.walter_engine.proofs.Crashes.{found_may_have, boot_may_have, leaves_bodies, unmoved}
+use Rattle.walter_trail.proofs.Replayed.{all_follow-push, replayed-push}
+use Rattle.walter_engine.proofs.Replays.{follows_lost}
+use Rattle.walter_engine.proofs.Resting.{SizeIs, OnlyNow, rests_by}
 use Rattle.walter_engine.proofs.Standings.{journaled_more}
 
 lost_more : (i : SiteId) (K : Knowledge) (rec : Record) → lost (recorded i (Some rec) K) ≡ recorded i (Some rec) (lost K)
@@ -50,7 +58,7 @@ module _ (catalog : Catalog) (i : SiteId) (S : Standing) (all : AreJournaled cat
       record {
         spell = refl;
         spelled = All-push (HasRecordSpelling catalog.sites) S.records rec all.spelled can.spelled;
-        follow = follow_more catalog i (fresh catalog.sites) S.records rec all.follow (subst (λ K. CanFollow catalog i K rec) all.tell (follows_lost catalog i S.knows rec can.follows));
+        follow = all_follow-push catalog i (fresh catalog.sites) S.records rec all.follow (subst (λ K. CanFollow catalog i K rec) all.tell (follows_lost catalog i S.knows rec can.follows));
       }
 
   -- what is found can be read
@@ -72,7 +80,7 @@ module _ (catalog : Catalog) (i : SiteId) (S : Standing) (all : AreJournaled cat
   pub knows_behind : (bodies : List (List ℕ)) (K : Knowledge) (rec : Record) → IsDown S → S.flight ≡ Some rec → bodies ≡ map record_spelled (S.records ++ rec ∷ []) → Tells catalog i bodies K
       → K ≡ recorded i (Some rec) S.knows
   knows_behind bodies K rec down flight is tells =
-      told_by bodies (S.records ++ rec ∷ []) K (tell_behind rec flight) is tells ∙ replayed_more i (fresh catalog.sites) S.records rec
+      told_by bodies (S.records ++ rec ∷ []) K (tell_behind rec flight) is tells ∙ replayed-push i (fresh catalog.sites) S.records rec
       ∙ ap (λ K. recorded i (Some rec) K) (sym all.tell ∙ down.rests)
 
   -- the record in flight is settled
@@ -108,14 +116,7 @@ found_behind tally S bodies counted (inr behind) more = behind
 -- a site that is not booted rests, whatever was found
 module _ {D : Type 0} {g : Ghosts D} (size_is : SizeIs g) (S : Standing) (bodies : List (List ℕ)) (down : IsDown S) (found : IsFoundIn S bodies) (journal : Journal D g) (stands : StandsFor journal bodies) where
   may_have_found : (image : List ℕ) → g.may_leave (disk_of journal) image → MayHaveRecords S.records S.flight image
-  may_have_found image left = by found
-    where
-      has : (bodies' : List (List ℕ)) → bodies ≡ bodies' → HasContent image bodies'
-      has bodies' is = subst (λ bodies. HasContent image bodies) is (subst (λ bytes. HasContent bytes bodies) (sym (stands.durable image left)) stands.content)
-
-      by : IsFoundIn S bodies → MayHaveRecords S.records S.flight image
-      by (inl is) = may_have S.records S.flight image (has (map record_spelled S.records) is)
-      by (inr behind) = subst (λ flight. MayHaveRecords S.records flight image) (sym behind.1) (inr (has (map record_spelled (S.records ++ behind.0 ∷ [])) behind.2))
+  may_have_found image left = found_may_have S bodies found image (leaves_bodies journal bodies stands image left)
 
   found_rests : IsResting g S (disk_of journal)
   found_rests = rests_by g size_is S journal down.down down.rests bodies stands may_have_found
@@ -160,3 +161,53 @@ module _ {D : Type 0} {g : Ghosts D} (catalog cat : Catalog) (capacity : ℕ) (i
             (here _ boots (settled i (Some rec) S) (settled_down i S rec down) (knows_behind catalog i S all bodies K rec down behind.1 behind.2 tells)
             (settled_journaled catalog i S all rec down behind.1) (settled_counted i S rec bodies count is_count behind.2) (subst (λ bodies. StandsFor journal bodies) behind.2 stands));
       }
+
+  -- ---- what a crash leaves of it
+
+  abbrev Run : (List ℕ → Type 0) → Type 0
+  Run images = LeavesOnly g.moment g.left_since (disk_of journal) (disk_of_state result.state) images
+
+  abbrev BootRun : Type 0
+  BootRun = Run (IsBeforeOrBehind bodies (record_spelled (Boot (K.epoch + 1))))
+
+  left : (kept : Option Record) → kept_of result.answer ≡ kept → bodies ≡ map record_spelled (settled i kept S).records → K ≡ (settled i kept S).knows → BootRun
+      → Run (MayHaveBoot i S (kept_of result.answer))
+  left kept kept_is is knows run =
+      subst (λ kept. Run (MayHaveBoot i S kept)) (sym kept_is)
+      (weaker g.moment g.left_since (disk_of journal) (disk_of_state result.state) (IsBeforeOrBehind bodies (record_spelled (Boot (K.epoch + 1)))) (MayHaveBoot i S kept)
+      (boot_may_have i S kept bodies K found is knows) run)
+
+  pub leaves_alone : (tally.in_flight ≡ false) ⊎ (count ≤ tally.records) → kept_of result.answer ≡ None → BootRun → Run (MayHaveBoot i S (kept_of result.answer))
+  leaves_alone few kept run =
+      let is = found_alone tally S bodies counted found (⊎_elim (λ none. inl none) (λ less. inr (omega (arith, less, is_count))) few) in
+      left None kept is (knows_alone catalog i S all bodies K down is tells) run
+
+  pub leaves_behind : (last : Option Record) → tally.records < count → ((records : List Record) (rec : Record) → bodies ≡ map record_spelled (records ++ rec ∷ []) → HasRecordSpelling catalog.sites rec → last ≡ Some rec)
+      → kept_of result.answer ≡ last → BootRun → Run (MayHaveBoot i S (kept_of result.answer))
+  leaves_behind last more is_last kept_is run =
+      let behind = found_behind tally S bodies counted found (omega (arith, more, is_count)) in
+      let can = in_flight catalog i S all behind.0 behind.1 in
+      left (Some behind.0) (kept_is ∙ is_last S.records behind.0 behind.2 can.spelled) behind.2 (knows_behind catalog i S all bodies K behind.0 down behind.1 behind.2 tells) run
+
+-- where it was not booted
+pub leaves_found : {D : Type 0} {g : Ghosts D} → OnlyNow g → (i : SiteId) (S : Standing) (bodies : List (List ℕ)) → IsFoundIn S bodies → (journal : Journal D g) → StandsFor journal bodies → (result : Raised D g)
+    → disk_of_state result.state ≡ disk_of journal
+    → LeavesOnly g.moment g.left_since (disk_of journal) (disk_of_state result.state) (MayHaveBoot i S (kept_of result.answer))
+leaves_found {D} {g} only_now i S bodies found journal stands result is =
+    weaker g.moment g.left_since (disk_of journal) (disk_of_state result.state) (λ image. HasContent image bodies) (MayHaveBoot i S (kept_of result.answer))
+    (λ image has. inl (found_may_have S bodies found image has)) (unmoved {g = g} only_now journal bodies stands (disk_of_state result.state) is)
+
+-- ---- why it is refused
+
+pub refused_so : (answer : Restarted) (P Q : RefusedRestart → Type 0) → ((why : RefusedRestart) → P why → Q why) → IfRefused answer P → IfRefused answer Q
+refused_so (restarted.Refused kept why) P Q so is = so why is
+refused_so (restarted.Up kept wrote) P Q so is = tt
+refused_so (restarted.Failed kept flight) P Q so is = tt
+refused_so (restarted.Full kept need free) P Q so is = tt
+refused_so (restarted.NoMemory kept) P Q so is = tt
+
+-- behind the last epoch
+pub refused_last : (catalog : Catalog) (i : SiteId) (bodies : List (List ℕ)) (K : Knowledge) (Same : Type 0) → Tells catalog i bodies K → (why : RefusedRestart)
+    → (why ≡ refused.LastEpoch) × (K.epoch ≡ 4294967295) × Same → IsRefusedOver catalog i bodies why × Same
+refused_last catalog i bodies K Same tells why is =
+    (subst (λ why. IsRefusedOver catalog i bodies why) (sym is.0) (tells.records, tells.tell, sym (ap (λ (k : Knowledge). k.epoch) tells.known) ∙ is.1), is.2)

@@ -51,6 +51,9 @@ module _ {D : Type 0} (g : Ghosts D) where
   abbrev pub CountsNow : Type 0
   CountsNow = (disk : D) (t : ℕ) (image : List ℕ) → t ≤ g.moment disk → g.may_leave disk image → g.left_since disk t image
 
+  abbrev pub OnlyNow : Type 0
+  OnlyNow = (disk : D) (image : List ℕ) → g.left_since disk (g.moment disk) image → g.may_leave disk image
+
   pub size_told : SizeIs → (disk : D) (bytes : List ℕ) → (g.known disk).reads ≡ Some bytes → (g.known disk).size ≡ length bytes
   size_told size_is disk bytes told = subst (λ o. IfSome o (λ bytes. (g.known disk).size ≡ length bytes)) told (size_is disk)
 

@@ -14,7 +14,8 @@ use Rattle.walter_trail.specs.Records.{CanFollow, CanAllFollow, replayed}
 use Rattle.walter_trail.specs.Rule.{Expected, rule, call_rule, if_told, down_rule}
 use Rattle.walter_trail.specs.Standing.{Standing}
 use Rattle.walter_engine.specs.Contents.{CanBeJournaled, AreJournaled}
-use Rattle.walter_engine.proofs.Replays.{replayed_more, follow_more, follows_lost}
+use Rattle.walter_trail.proofs.Replayed.{all_follow-push, replayed-push}
+use Rattle.walter_engine.proofs.Replays.{follows_lost}
 
 told_none : (call : Result Request Bad) (x : Expected) → if_told call None x ≡ x
 told_none call x = refl
@@ -33,10 +34,10 @@ pub journaled_more : (catalog : Catalog) (i : SiteId) (S T : Standing) (rec : Re
 journaled_more catalog i S T rec all can records knows flight booted = record {
   spelled = subst (λ rs. All (HasRecordSpelling catalog.sites) rs) (sym records) (All-push (HasRecordSpelling catalog.sites) S.records rec all.spelled can.spelled);
   follow = subst (λ rs. CanAllFollow catalog i (fresh catalog.sites) rs) (sym records)
-      (follow_more catalog i (fresh catalog.sites) S.records rec all.follow
+      (all_follow-push catalog i (fresh catalog.sites) S.records rec all.follow
       (subst (λ K. CanFollow catalog i K rec) all.tell (follows_lost catalog i S.knows rec can.follows)));
   tell = knows ∙ (ap (λ K. recorded i (Some rec) K) all.tell
-      ∙ (sym (replayed_more i (fresh catalog.sites) S.records rec) ∙ ap (λ rs. replayed i (fresh catalog.sites) rs) (sym records)));
+      ∙ (sym (replayed-push i (fresh catalog.sites) S.records rec) ∙ ap (λ rs. replayed i (fresh catalog.sites) rs) (sym records)));
   in_flight = subst (λ (f : Option Record). IfSome f (CanBeJournaled catalog i T)) (sym flight) tt;
   booted = booted;
 }

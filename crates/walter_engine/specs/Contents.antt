@@ -1,13 +1,14 @@
 -- The journal of a site: what its records are, and what a crash leaves of them.
-use Rattle.std.specs.Prelude.{◌≡◌, ◌⊎◌, ◌<◌, ℕ, true, List, [], ◌∷◌, ◌++◌, map, Option, Some, None, IfSome, All}
+use Rattle.std.specs.Prelude.{◌≡◌, ◌⊎◌, ◌+◌, ◌<◌, ℕ, true, List, [], ◌∷◌, ◌++◌, map, Option, Some, None, IfSome, All}
 use Rattle.walter_base.specs.declared.catalog.Catalog.{Catalog}
 use Rattle.walter_base.specs.declared.message.Record.{Record}
+use Rattle.walter_base.specs.declared.message.Record.TheVariants.{Boot}
 use Rattle.walter_base.specs.declared.names.SiteId.{SiteId}
 use Rattle.walter_journal.specs.Layout.{HasContent}
 use Rattle.walter_record.specs.Spelling.{record_spelled, HasRecordSpelling}
 use Rattle.walter_trail.specs.Knowledge.{fresh, lost}
 use Rattle.walter_trail.specs.Records.{CanFollow, CanAllFollow, replayed}
-use Rattle.walter_trail.specs.Standing.{Standing}
+use Rattle.walter_trail.specs.Standing.{Standing, settled}
 
 -- the bytes of a journal with these records
 abbrev pub HasRecords : List ℕ → List Record → Type 0
@@ -17,6 +18,12 @@ HasRecords bytes records = HasContent bytes (map record_spelled records)
 abbrev pub MayHaveRecords : List Record → Option Record → List ℕ → Type 0
 MayHaveRecords records None image = HasRecords image records
 MayHaveRecords records (Some rec) image = HasRecords image records ⊎ HasRecords image (records ++ rec ∷ [])
+
+-- what a crash within a restart leaves: the records from before; or those that the restart finds, where it finds the one in
+-- flight or doesn't, with the next epoch behind them
+abbrev pub MayHaveBoot : SiteId → Standing → Option Record → List ℕ → Type 0
+MayHaveBoot i S kept image =
+    MayHaveRecords S.records S.flight image ⊎ HasRecords image ((settled i kept S).records ++ Boot ((settled i kept S).knows.epoch + 1) ∷ [])
 
 -- the record has a spelling, and can stand behind what the site knows
 pub record CanBeJournaled (catalog : Catalog) (i : SiteId) (S : Standing) (rec : Record) : Type 0 where

@@ -73,14 +73,25 @@ pub record IsUnreadable (catalog : Catalog) (i : SiteId) (bodies : List (List �
   pub wrong : (rec : Record) → HasRecordSpelling catalog.sites rec → body ≡ record_spelled rec
       → ¬ CanFollow catalog i (replayed i (fresh catalog.sites) records) rec
 
--- why a restart is refused, by the bytes that the disk has
+-- why a restart is refused, by the bodies that the journal has: one of them spells no record that can stand there, or the
+-- epoch that they tell is the last
+abbrev pub IsRefusedOver : Catalog → SiteId → List (List ℕ) → RefusedRestart → Type 0
+IsRefusedOver catalog i bodies Foreign = ⊥
+IsRefusedOver catalog i bodies (Damaged at length) = ⊥
+IsRefusedOver catalog i bodies (Unreadable index) = IsUnreadable catalog i bodies index
+IsRefusedOver catalog i bodies LastEpoch =
+    (records : List Record) × Tell catalog i bodies records × ((replayed i (fresh catalog.sites) records).epoch ≡ 4294967295)
+
+-- by the bytes that the disk has: they are no journal, or a damaged one, or one with such bodies
 abbrev pub IsRefusedFor : Catalog → SiteId → List ℕ → RefusedRestart → Type 0
 IsRefusedFor catalog i bytes Foreign = IsForeign bytes
 IsRefusedFor catalog i bytes (Damaged at length) = IsDamaged bytes at length
-IsRefusedFor catalog i bytes (Unreadable index) = (bodies : List (List ℕ)) × HasContent bytes bodies × IsUnreadable catalog i bodies index
-IsRefusedFor catalog i bytes LastEpoch =
-    (bodies : List (List ℕ)) × (records : List Record) × HasContent bytes bodies × Tell catalog i bodies records
-    × ((replayed i (fresh catalog.sites) records).epoch ≡ 4294967295)
+IsRefusedFor catalog i bytes why = (bodies : List (List ℕ)) × HasContent bytes bodies × IsRefusedOver catalog i bodies why
+
+-- where the restart is refused, its cause is so
+abbrev pub IfRefused : Restarted → (RefusedRestart → Type 0) → Type 0
+IfRefused (restarted.Refused kept why) P = P why
+IfRefused answer P = Unit {0}
 
 -- the disk's faults never fall, and a step that failed met one
 abbrev pub IsFaultOfStep : Stepped → ℕ → ℕ → Type 0

@@ -1,4 +1,4 @@
-ghost use Rattle.std.specs.Prelude.{◌≡◌, ◌≢◌, ◌<◌, ◌≤◌, ◌++◌, ◌∷◌, [], ℕ, List, true, false, None, Some, is_some, IsSome, IfOk, IfErr, OnOk, OnErr, option_map};
+ghost use Rattle.std.specs.Prelude.{◌≡◌, ◌≢◌, ◌<◌, ◌≤◌, ◌++◌, ◌∷◌, [], ℕ, List, true, false, None, Some, is_some, IsSome, IfSome, IfOk, IfErr, OnOk, OnErr, option_map};
 
 use crate::answers::{Restarted, Stepped};
 use crate::arming::arm_state;
@@ -50,10 +50,10 @@ impl<D: Disk + Drop> Engine<D> {
     ghost use Rattle.walter_trail.specs.Trails.{Comes, only};
     ghost use Rattle.walter_trail.specs.declared.trail.Outcome.TheVariants.{Taken};
     ghost use Rattle.walter_trail.specs.declared.trail.TrailEvent.TheVariants.{Stop};
-    ghost use Rattle.walter_engine.specs.Contents.{HasRecords, MayHaveRecords};
-    ghost use Rattle.walter_engine.specs.Engines.{catalog_in, site_in, capacity_in, disk_in, is_up, OfDisks, IsSameEngine, Stands};
+    ghost use Rattle.walter_engine.specs.Contents.{HasRecords, MayHaveRecords, MayHaveBoot};
+    ghost use Rattle.walter_engine.specs.Engines.{catalog_in, site_in, capacity_in, disk_in, is_up, OfDisk, OfDisks, IsSameEngine, Stands};
     ghost use Rattle.walter_engine.specs.Restarts.{Restarts};
-    ghost use Rattle.walter_engine.specs.Steps.{came_of_step, IsSizedStep, IsSizedRestart, IsFaultOfStep, IsFaultOfRestart, IsRefusedFor};
+    ghost use Rattle.walter_engine.specs.Steps.{came_of_step, IsSizedStep, IsSizedRestart, IsFaultOfStep, IsFaultOfRestart, IsRefusedFor, IfRefused, kept_of};
 
     /// A site that is down, with a disk that nothing is known of. Where there is no memory the disk comes back.
     pub fn new(
@@ -186,6 +186,12 @@ impl<D: Disk + Drop> Engine<D> {
         requires { is_up self.old ≡ false }
         ensures restarts { (S : Standing) → Stands self.old S
             → Restarts (catalog_in self.old) (capacity_in self.old) (site_in self.old) S result self.new }
+        // a crash at any moment of it leaves the records from before, or those that it found with the next epoch behind them
+        ensures any_moment { (S : Standing) → Stands self.old S
+            → OfDisks self.old self.new (λ old new. LeavesOnly D.moment D.left_since old new (MayHaveBoot (site_in self.old) S (kept_of result))) }
+        // where it is refused, the bytes that the disk has are the cause
+        ensures refused { OfDisk self.new (λ disk. IfSome (D.known disk).reads (λ bytes.
+            IfRefused result (IsRefusedFor (catalog_in self.old) (site_in self.old) bytes))) }
         ensures sized { IsSizedRestart result }
         ensures faults { OfDisks self.old self.new (λ old new. IsFaultOfRestart result (D.known old).faults (D.known new).faults) }
         ensures arms { OfDisks self.old self.new (λ old new. (D.known new).arms ≡ (D.known old).arms) }

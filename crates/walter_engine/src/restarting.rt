@@ -1,14 +1,16 @@
-ghost use Rattle.std.specs.Prelude.{◌≡◌, ◌≤◌, ◌<◌, List, ℕ, map, IfSome};
+ghost use Rattle.std.specs.Prelude.{◌≡◌, ◌≤◌, ◌<◌, ◌+◌, List, ℕ, map, IfSome};
 ghost use Rattle.walter_base.specs.Sizes.{CanBeRecorded};
+ghost use Rattle.walter_disk.specs.Images.{LeavesOnly};
 ghost use Rattle.walter_journal.specs.Journals.{disk_of, capacity_of, StandsFor};
+ghost use Rattle.walter_journal.specs.Layout.{IsBeforeOrBehind};
 ghost use Rattle.walter_record.specs.Spelling.{record_spelled};
 ghost use Rattle.walter_site.specs.Sites.{known, site_of, catalog_of};
 ghost use Rattle.walter_trail.specs.Standing.{Standing};
-ghost use Rattle.walter_engine.specs.Contents.{AreJournaled};
+ghost use Rattle.walter_engine.specs.Contents.{AreJournaled, MayHaveBoot};
 ghost use Rattle.walter_engine.specs.Raises.{Raises, Boots, IsDown, IsFoundIn, IsCounted, FromDisk};
 ghost use Rattle.walter_engine.specs.Restarts.{unloaded_by};
 ghost use Rattle.walter_engine.specs.States.{IsOf, disk_of_state};
-ghost use Rattle.walter_engine.specs.Steps.{IsSizedRestart, kept_of};
+ghost use Rattle.walter_engine.specs.Steps.{IsSizedRestart, IsRefusedOver, IfRefused, kept_of};
 
 use crate::answers::{RefusedRestart, Restarted};
 use crate::engine::{State, Tally};
@@ -43,6 +45,11 @@ pub(crate) fn raise<D: Disk>(
     ensures raises { (S : Standing) → IsDown S → AreJournaled catalog.now id S → IsCounted tally S
         → IsFoundIn S (map (λ body. body.items) bodies.now) → StandsFor journal (map (λ body. body.items) bodies.now)
         → Raises catalog.now (capacity_of journal) id S result }
+    ensures refused { IfRefused result.answer (λ why.
+        IsRefusedOver catalog.now id (map (λ body. body.items) bodies.now) why × (disk_of_state result.state ≡ disk_of journal)) }
+    ensures any_moment { (S : Standing) → IsDown S → AreJournaled catalog.now id S → IsCounted tally S
+        → IsFoundIn S (map (λ body. body.items) bodies.now) → StandsFor journal (map (λ body. body.items) bodies.now)
+        → LeavesOnly D.moment D.left_since (disk_of journal) (disk_of_state result.state) (MayHaveBoot id S (kept_of result.answer)) }
     ensures sized { IsSizedRestart result.answer }
     ensures disk { FromDisk (disk_of journal) result }
     ensures of { IsOf catalog.now id (capacity_of journal) result.state }
@@ -95,6 +102,11 @@ fn boot<D: Disk>(
     ensures boots { (S : Standing) → IsDown S → known site ≡ S.knows → AreJournaled (catalog_of site) (site_of site) S → IsCounted tally S
         → StandsFor journal (map record_spelled S.records)
         → Boots (catalog_of site) (capacity_of journal) (site_of site) S result }
+    ensures refused { IfRefused result.answer (λ why.
+        (why ≡ RefusedRestart.LastEpoch) × ((known site).epoch ≡ 4294967295) × (disk_of_state result.state ≡ disk_of journal)) }
+    ensures any_moment { (bodies : List (List ℕ)) → StandsFor journal bodies
+        → LeavesOnly D.moment D.left_since (disk_of journal) (disk_of_state result.state)
+        (IsBeforeOrBehind bodies (record_spelled (Record.Boot ((known site).epoch + 1)))) }
     ensures kept { kept_of result.answer ≡ kept }
     ensures sized { IsSizedRestart result.answer }
     ensures disk { FromDisk (disk_of journal) result }

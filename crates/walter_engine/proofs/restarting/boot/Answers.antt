@@ -1,10 +1,14 @@
-use Rattle.std.proofs.Common.{◌≡◌, ◌+◌, ap, ◌∙◌, length, Some, map, arith}
+use Rattle.std.proofs.Common.{◌≡◌, ℕ, ◌+◌, ap, ◌∙◌, length, Some, map, refl, inl, arith}
 use Rattle.walter_base.specs.declared.message.Record.TheVariants.{Boot}
-use Rattle.walter_journal.specs.Journals.{left_of, need_of}
+use Rattle.walter_journal.specs.Journals.{disk_of, left_of, need_of}
+use Rattle.walter_journal.specs.Layout.{HasContent}
+use Rattle.walter_journal.proofs.Moments.{weaker}
 use Rattle.walter_record.specs.Spelling.{record_spelled}
-use Rattle.walter_site.specs.Sites.{site_of, catalog_of}
+use Rattle.walter_site.specs.Sites.{known, site_of, catalog_of}
 use Rattle.walter_trail.specs.Knowledge.{recorded}
+use Rattle.walter_engine.specs.States.{disk_of_state}
 use Rattle.walter_engine.proofs.Boots.{boots_no_memory, boots_up, boots_failed, boots_full, full_is, failed_is}
+use Rattle.walter_engine.proofs.Crashes.{unmoved, made_room, room_and_append}
 use Rattle.walter_engine.proofs.Resting.{rests_under}
 use Rattle.walter_engine.proofs.Room.{short_enough}
 use Rattle.walter_engine.proofs.restarting.boot.Goals as goal
@@ -65,3 +69,39 @@ returns-clause-boots g c S down knows all counted stands =
     c.as_slice.result.now (c.as_slice.ensures ∙ staged.body_is) _ same.capacity
     g.met.D.Disk.size_is c.append.new.self c.in-Err-Full.need c.in-Err-Full.left full.0 full.1 full.2 full.3
     c.rest-in-Err-Full.result rest.state rest.answer rest.tally
+
+-- ---- what a crash leaves
+
+pub returns-in_default-clause-any_moment : goal.returns-in_default-clause-any_moment
+returns-in_default-clause-any_moment g c bodies stands =
+    weaker g.D.Disk.moment g.D.Disk.left_since (disk_of c.args.journal) _ (λ image. HasContent image bodies) _ (λ image has. inl has)
+    (unmoved {g = g.D.Disk} g.met.D.Disk.only_now c.args.journal bodies stands _ (ap disk_of_state c.rest.ensures.state))
+
+pub returns-in_default-stage-clause-any_moment : goal.returns-in_default-stage-clause-any_moment
+returns-in_default-stage-clause-any_moment g c bodies stands =
+    made_room {g = g.D.Disk} c.args.journal c.stage.new.journal c.stage.ensures.same bodies stands _ _ (ap disk_of_state c.rest-in_default-stage.ensures.state)
+
+pub returns-in_default-replay-clause-any_moment : goal.returns-in_default-replay-clause-any_moment
+returns-in_default-replay-clause-any_moment g c bodies stands =
+    made_room {g = g.D.Disk} c.args.journal c.stage.new.journal c.stage.ensures.same bodies stands _ _ (ap disk_of_state c.rest-in_default-replay.ensures.state)
+
+pub returns-in-Ok-append-clause-any_moment : goal.returns-in-Ok-append-clause-any_moment
+returns-in-Ok-append-clause-any_moment g c bodies stands =
+    let same = c.in-Ok.ensures.same in
+    room_and_append {g = g.D.Disk} c.args.journal c.stage.new.journal c.append.new.self same bodies stands (record_spelled (Boot ((known c.args.site).epoch + 1))) c.as_slice.result.now
+    (c.as_slice.ensures ∙ c.in-Ok.ensures.staged.body_is ∙ ap (λ (n : ℕ). record_spelled (Boot n)) c.in-Ok-replay.ensures.ok)
+    (c.append.ensures.any_moment bodies (same.stands bodies stands)) _ refl
+
+pub returns-in-Err-Failed-clause-any_moment : goal.returns-in-Err-Failed-clause-any_moment
+returns-in-Err-Failed-clause-any_moment g c bodies stands =
+    let same = c.in-Ok.ensures.same in
+    room_and_append {g = g.D.Disk} c.args.journal c.stage.new.journal c.append.new.self same bodies stands (record_spelled (Boot ((known c.args.site).epoch + 1))) c.as_slice.result.now
+    (c.as_slice.ensures ∙ c.in-Ok.ensures.staged.body_is ∙ ap (λ (n : ℕ). record_spelled (Boot n)) c.in-Ok-replay.ensures.ok)
+    (c.append.ensures.any_moment bodies (same.stands bodies stands)) _ (ap disk_of_state c.rest-in-Err-Failed.ensures.state)
+
+pub returns-clause-any_moment : goal.returns-clause-any_moment
+returns-clause-any_moment g c bodies stands =
+    let same = c.in-Ok.ensures.same in
+    room_and_append {g = g.D.Disk} c.args.journal c.stage.new.journal c.append.new.self same bodies stands (record_spelled (Boot ((known c.args.site).epoch + 1))) c.as_slice.result.now
+    (c.as_slice.ensures ∙ c.in-Ok.ensures.staged.body_is ∙ ap (λ (n : ℕ). record_spelled (Boot n)) c.in-Ok-replay.ensures.ok)
+    (c.append.ensures.any_moment bodies (same.stands bodies stands)) _ (ap disk_of_state c.rest-in-Err-Full.ensures.state)

@@ -1,8 +1,12 @@
-use Rattle.std.proofs.Common.{◌≡◌, ◌≤◌, ◌⊎◌, map, length, Bool, true, false, refl, sym, subst, inl, inr, arith}
+use Rattle.std.proofs.Common.{◌≡◌, ◌≤◌, ◌⊎◌, ℕ, map, length, Bool, true, false, refl, ap, sym, subst, inl, inr, arith}
 use Rattle.std.proofs.lemmas.List.{length-map}
 use Rattle.std.specs.Prelude.{not}
+use Rattle.walter_journal.specs.Journals.{disk_of, capacity_of}
+use Rattle.walter_engine.specs.declared.answers.Restarted.{Restarted}
 use Rattle.walter_engine.specs.Replays.{IsReadFault}
-use Rattle.walter_engine.proofs.Raising.{found_readable, raises_no_memory, raises_alone, raises_behind}
+use Rattle.walter_engine.specs.States.{disk_of_state}
+use Rattle.walter_engine.specs.Steps.{IsUnreadable, IsRefusedOver, IfRefused}
+use Rattle.walter_engine.proofs.Raising.{found_readable, raises_no_memory, raises_alone, raises_behind, leaves_found, leaves_alone, leaves_behind, refused_so, refused_last}
 use Rattle.walter_engine.proofs.restarting.raise.Goals as goal
 use Rattle.walter_engine.proofs.restarting.raise.Goals.{then-not-tally-via-then-not-tally, then-not-tally-via-else-not-tally+then-bodies-tally}
 
@@ -41,3 +45,51 @@ returns-clause-raises g c S down all counted found stands =
     let bodies = map (λ body. body.items) c.args.bodies.now in
     raises_behind {g = g.D.Disk} _ _ _ _ _ S c.args.tally _ bodies c.in-Ok.ensures.catalog c.in-Ok.ensures.site c.in-Ok.ensures.told down all counted found c.args.journal stands c.boot-2.result
     (length c.args.bodies.now) (sym (length-map c.args.bodies.now _)) c.in-Ok-last_record.kept (omega (arith, c.if-bodies-tally.false)) c.in-Ok-last_record.ensures.last c.boot-2.ensures.boots c.boot-2.ensures.kept
+
+-- ---- why it is refused
+
+pub returns-in-Err-Unreadable-clause-refused : goal.returns-in-Err-Unreadable-clause-refused
+returns-in-Err-Unreadable-clause-refused g c =
+    let why = c.in-Err-Unreadable in
+    let bodies = map (λ body. body.items) c.args.bodies.now in
+    let bad = subst (λ f. IsReadFault c.args.catalog.now c.args.id bodies f) why.field-0-is why.ensures.fault in
+    subst (λ (a : Restarted). IfRefused a (λ why. IsRefusedOver c.args.catalog.now c.args.id bodies why × (disk_of_state c.rest.result.state ≡ disk_of c.args.journal))) (sym c.rest.ensures.answer)
+    (subst (λ (n : ℕ). IsUnreadable c.args.catalog.now c.args.id bodies n) (sym why.index-is) bad, ap disk_of_state c.rest.ensures.state)
+
+pub returns-then-not-tally-clause-refused : goal.returns-then-not-tally-clause-refused
+returns-then-not-tally-clause-refused g c =
+    refused_so c.boot.result.answer _ _ (refused_last c.args.catalog.now c.args.id _ _ _ c.in-Ok.ensures.told) c.boot.ensures.refused
+
+pub returns-clause-refused : goal.returns-clause-refused
+returns-clause-refused g c =
+    refused_so c.boot-2.result.answer _ _ (refused_last c.args.catalog.now c.args.id _ _ _ c.in-Ok.ensures.told) c.boot-2.ensures.refused
+
+-- ---- what a crash leaves
+
+pub returns-in-Err-Unreadable-clause-any_moment : goal.returns-in-Err-Unreadable-clause-any_moment
+returns-in-Err-Unreadable-clause-any_moment g c S down all counted found stands =
+    leaves_found {g = g.D.Disk} g.met.D.Disk.only_now c.args.id S _ found c.args.journal stands c.rest.result (ap disk_of_state c.rest.ensures.state)
+
+pub returns-in-Err-NoMemory-clause-any_moment : goal.returns-in-Err-NoMemory-clause-any_moment
+returns-in-Err-NoMemory-clause-any_moment g c S down all counted found stands =
+    leaves_found {g = g.D.Disk} g.met.D.Disk.only_now c.args.id S _ found c.args.journal stands c.rest-in-Err-NoMemory.result (ap disk_of_state c.rest-in-Err-NoMemory.ensures.state)
+
+pub returns-in_default-clause-any_moment : goal.returns-in_default-clause-any_moment
+returns-in_default-clause-any_moment g c S down all counted found stands =
+    leaves_found {g = g.D.Disk} g.met.D.Disk.only_now c.args.id S _ found c.args.journal stands c.rest-in_default.result (ap disk_of_state c.rest-in_default.ensures.state)
+
+pub returns-then-not-tally-clause-any_moment : goal.returns-then-not-tally-clause-any_moment
+returns-then-not-tally-clause-any_moment g c S down all counted found stands =
+    let bodies = map (λ body. body.items) c.args.bodies.now in
+    let few : (c.args.tally.in_flight ≡ false) ⊎ (length c.args.bodies.now ≤ c.args.tally.records) = elim c.then-not-tally.branch [
+      | then-not-tally-via-then-not-tally w ↦ inl (was_false _ w.if-not-tally.true)
+      | then-not-tally-via-else-not-tally+then-bodies-tally w ↦ inr (omega (arith, w.if-bodies-tally.true))
+    ] in
+    leaves_alone {g = g.D.Disk} c.args.catalog.now _ (capacity_of c.args.journal) c.args.id _ S c.args.tally _ bodies c.in-Ok.ensures.catalog c.in-Ok.ensures.site c.in-Ok.ensures.told down all counted found c.args.journal stands c.boot.result
+    (length c.args.bodies.now) (sym (length-map c.args.bodies.now _)) few c.boot.ensures.kept (c.boot.ensures.any_moment bodies stands)
+
+pub returns-clause-any_moment : goal.returns-clause-any_moment
+returns-clause-any_moment g c S down all counted found stands =
+    let bodies = map (λ body. body.items) c.args.bodies.now in
+    leaves_behind {g = g.D.Disk} c.args.catalog.now _ (capacity_of c.args.journal) c.args.id _ S c.args.tally _ bodies c.in-Ok.ensures.catalog c.in-Ok.ensures.site c.in-Ok.ensures.told down all counted found c.args.journal stands c.boot-2.result
+    (length c.args.bodies.now) (sym (length-map c.args.bodies.now _)) c.in-Ok-last_record.kept (omega (arith, c.if-bodies-tally.false)) c.in-Ok-last_record.ensures.last c.boot-2.ensures.kept (c.boot-2.ensures.any_moment bodies stands)
