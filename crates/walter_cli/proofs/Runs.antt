@@ -46,7 +46,7 @@ use Rattle.walter_cli.specs.Ending.{IsTaken, IsTakeFault, IsWriteFault, EndsRun}
 use Rattle.walter_cli.specs.Handled.{FitsFrame as OutcomeFits}
 use Rattle.walter_cli.specs.Headline.{Outside, HasNoReading, IsDiskOf, IsTold, IsRun, IsWholeRun, Runs, RunsWhole, Promise}
 use Rattle.walter_cli.specs.Plays.{AreCallsOf, armed_by, all_arms, arms_of}
-use Rattle.walter_cli.specs.Racks.{Racked, HasCause}
+use Rattle.walter_cli.specs.Racks.{Racked, GivesBack, HasCause}
 use Rattle.walter_cli.specs.Statuses.{status_of}
 use Rattle.walter_cli.specs.Texts.{text_of}
 use Rattle.walter_cli.specs.Words.{IsPlayLine, IsLine}
@@ -220,7 +220,7 @@ never_empty Foreign bytes why = why.1
 never_empty (Damaged at length_) bytes why = λ none. let l = ap length why.is ∙ sym refl in absurd (let m = ap length (sym why.is ∙ none) in omega (arith, m))
 never_empty Used bytes why = λ none. absurd (let m = ap length (sym why.1.is ∙ none) in omega (arith, m))
 
-module _ (words : List (String Global)) (rack : Racked) (before after : Outside) (ended : Ended) (trace : Bool) (line : IsPlayLine trace words) (status : ended.status ≡ status_of ended.fault) where
+module _ (words : List (String Global)) (rack : Racked) (before after : Outside) (ended : Ended) (trace : Bool) (line : IsPlayLine trace words) (status : ended.status ≡ status_of ended.fault) (back : GivesBack rack) where
   asked : IsLine words
   asked = (trace, line)
 
@@ -247,6 +247,7 @@ module _ (words : List (String Global)) (rack : Racked) (before after : Outside)
         failed = λ h. absurd (omega (arith, is, h));
         unracked = λ h. absurd (omega (arith, is, h));
         unfit = λ site cause h told. absurd (let e = sym named ∙ h in cc);
+        given_back = back;
         silent = λ not_done not_cut. absurd (not_done is);
         legal_trails = inr (runs s taken ends.0.run);
         complete = λ bytes t play told reading known new source sink ok. inl is;
@@ -264,6 +265,7 @@ module _ (words : List (String Global)) (rack : Racked) (before after : Outside)
         failed = λ h. ends.2;
         unracked = λ h. absurd (omega (arith, is, h));
         unfit = λ site cause h told. absurd (let e = sym named ∙ h in cc);
+        given_back = back;
         silent = λ not_done not_cut. absurd (not_cut is);
         legal_trails = inr (runs s taken ends.0.run);
         complete = λ bytes t play told reading known new source sink ok. absurd (let rose = ends.2 in omega (arith, rose, sink));
@@ -281,6 +283,7 @@ module _ (words : List (String Global)) (rack : Racked) (before after : Outside)
         failed = λ h. absurd (omega (arith, is, h));
         unracked = λ h. absurd (omega (arith, is, h));
         unfit = λ site cause h told. absurd (let e = sym named ∙ h in cc);
+        given_back = back;
         silent = λ not_done not_cut. ends.1;
         legal_trails = elim ends.0 [ inl none ↦ inl none | inr run ↦ inr (runs s taken run) ];
         complete = λ bytes t play told reading known new source sink ok. inr (inl is);
@@ -298,6 +301,7 @@ module _ (words : List (String Global)) (rack : Racked) (before after : Outside)
         failed = λ h. absurd (omega (arith, is, h));
         unracked = λ h. elim ends.2 [ inl rose ↦ inl rose | inr disk ↦ inr disk.1 ];
         unfit = λ other cause h told. absurd (let e = sym named ∙ h in cc);
+        given_back = back;
         silent = λ not_done not_cut. ends.1;
         legal_trails = elim ends.0 [ inl none ↦ inl none | inr run ↦ inr (runs s taken run) ];
         complete = λ bytes t play told reading known new source sink ok. elim ends.2 [ inl rose ↦ absurd (ok rose) | inr disk ↦ inr (inr disk) ];
@@ -315,6 +319,7 @@ module _ (words : List (String Global)) (rack : Racked) (before after : Outside)
         failed = λ h. absurd (omega (arith, is, h));
         unracked = λ h. absurd (omega (arith, is, h));
         unfit = λ other why h told. subst (λ (c : JournalCause). rack.holds (HasCause c)) (named_journal site other cause why (sym named ∙ h)) (ends.2 told);
+        given_back = back;
         silent = λ not_done not_cut. ends.1;
         legal_trails = inl ends.0;
         complete = λ bytes t play told reading known new source sink ok. absurd (ends.3 known new);
@@ -339,6 +344,7 @@ module _ (words : List (String Global)) (rack : Racked) (before after : Outside)
         failed = λ h. absurd (omega (arith, is, h));
         unracked = λ h. absurd (omega (arith, is, h));
         unfit = λ site cause h told. absurd (let e = sym named ∙ h in cc);
+        given_back = back;
         silent = λ not_done not_cut. same;
         legal_trails = inl none;
         complete = λ bytes t play told reading known new source sink ok. absurd (read_nowhere_refused bytes t place reading (none_wrong before.left after.left bytes place why told));
@@ -356,6 +362,7 @@ module _ (words : List (String Global)) (rack : Racked) (before after : Outside)
         failed = λ h. absurd (omega (arith, is, h));
         unracked = λ h. absurd (omega (arith, is, h));
         unfit = λ site cause h told. absurd (let e = sym named ∙ h in cc);
+        given_back = back;
         silent = λ not_done not_cut. same;
         legal_trails = inl none;
         complete = λ bytes t play told reading known new source sink ok. absurd (omega (arith, why, source));
@@ -373,6 +380,7 @@ module _ (words : List (String Global)) (rack : Racked) (before after : Outside)
         failed = λ h. absurd (omega (arith, is, h));
         unracked = λ h. absurd (omega (arith, is, h));
         unfit = λ site cause h told. absurd (let e = sym named ∙ h in cc);
+        given_back = back;
         silent = λ not_done not_cut. same;
         legal_trails = inl none;
         complete = λ bytes t play told reading known new source sink ok. inr (inl is);

@@ -19,7 +19,7 @@ use Rattle.walter_cli.specs.declared.ended.Fault.TheVariants as fault
 use Rattle.walter_cli.specs.declared.ended.JournalCause.{JournalCause}
 use Rattle.walter_cli.specs.Handled.{is_faulty}
 use Rattle.walter_cli.specs.Plays.{AreCallsOf, IsPlayed, all_arms}
-use Rattle.walter_cli.specs.Racks.{Racked, HasCause}
+use Rattle.walter_cli.specs.Racks.{Racked, GivesBack, HasCause}
 use Rattle.walter_cli.specs.Statuses.{status_of}
 use Rattle.walter_cli.specs.Texts.{text_of}
 use Rattle.walter_cli.specs.Words.{IsPlayLine, IsLine}
@@ -117,6 +117,8 @@ pub record Promise (words : List (String Global)) (rack : Racked) (before after 
   pub unracked : ended.status ≡ 6 → rack.failed ⊎ rack.gives (λ known images. 0 < known.faults)
   -- 7: the disk has what no new site can begin with, where it tells what it has
   pub unfit : (site : ℕ) (cause : JournalCause) → ended.fault ≡ Some (fault.Journal site cause) → rack.told → rack.holds (HasCause cause)
+  -- whatever the status, each disk that was taken was given back, unless the rack failed
+  pub given_back : GivesBack rack
   -- but for 0 and 4 nothing is written
   pub silent : ended.status ≢ 0 → ended.status ≢ 4 → after.holds ≡ before.holds
   -- whatever the status, the trails answered are none, or those of a run

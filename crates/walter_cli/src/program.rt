@@ -18,7 +18,7 @@ pub fn top<X: AllocGlobal, S: Source, K: Sink, R: Rack>(
     rack: &mut R,
 ) -> Ended
     ensures { Promise words.now
-        (racked R.D.Disk (R.disks rack.old) (R.given rack.old) (R.given rack.new) (R.faults rack.old) (R.faults rack.new))
+        (racked R.D.Disk (R.disks rack.old) (R.given rack.old) (R.given rack.new) (R.taken rack.old) (R.taken rack.new) (R.faults rack.old) (R.faults rack.new))
         (record { left = S.left source.old; source_faults = S.faults source.old; holds = K.holds sink.old; sink_faults = K.faults sink.old })
         (record { left = S.left source.new; source_faults = S.faults source.new; holds = K.holds sink.new; sink_faults = K.faults sink.new })
         result }

@@ -4,7 +4,7 @@ ghost use Rattle.walter_report.specs.Traces.{HaveSpellings};
 ghost use Rattle.walter_scenario.specs.Parts.{IsArm, IsStep, IsCapacity};
 ghost use Rattle.walter_stream.specs.Streams.{Appends};
 ghost use Rattle.walter_cli.specs.Ending.{EndsRun, IsWriteFault, fault_of};
-ghost use Rattle.walter_cli.specs.Racks.{racked};
+ghost use Rattle.walter_cli.specs.Racks.{GivesBack, racked};
 ghost use Rattle.walter_cli.specs.Statuses.{status_of};
 ghost use Rattle.walter_cli.specs.Texts.{text_of};
 
@@ -33,7 +33,8 @@ pub fn run<K: Sink, R: Rack>(
     requires arms { All (IsArm 1) scenario.now.arms }
     requires steps { All (IsStep 1 (length scenario.now.clients)) scenario.now.steps }
     ensures status { result.status ≡ status_of result.fault }
-    ensures run { EndsRun (racked R.D.Disk (R.disks rack.old) (R.given rack.old) (R.given rack.new) (R.faults rack.old) (R.faults rack.new))
+    ensures given_back { GivesBack (racked R.D.Disk (R.disks rack.old) (R.given rack.old) (R.given rack.new) (R.taken rack.old) (R.taken rack.new) (R.faults rack.old) (R.faults rack.new)) }
+    ensures run { EndsRun (racked R.D.Disk (R.disks rack.old) (R.given rack.old) (R.given rack.new) (R.taken rack.old) (R.taken rack.new) (R.faults rack.old) (R.faults rack.new))
         traced scenario.now (K.holds sink.old) (K.holds sink.new) (K.faults sink.old) (K.faults sink.new) result.trails.items result.fault }
 {
     let Ok(mut trails) = Vec::with_capacity(alloc, 1) else {

@@ -1,4 +1,4 @@
-ghost use Rattle.std.specs.Prelude.{◌≡◌, ◌<◌, ◌++◌, ◌∷◌, [], ℕ, List, Option, option_map, IfSome, IfOk, OnOk, OnErr};
+ghost use Rattle.std.specs.Prelude.{◌≡◌, ◌+◌, ◌<◌, ◌++◌, ◌∷◌, [], ℕ, List, Option, option_map, IfSome, IfOk, OnOk, OnErr};
 ghost use Rattle.std.specs.Option.{option_copied};
 ghost use Rattle.walter_disk.specs.Racks.{IsFresh};
 
@@ -15,6 +15,9 @@ pub trait Rack {
     /// The disk that is taken for a folder, if one is named, and a site, where the rack tells it.
     ghost disks: { Self → Option (Option (List ℕ) → ℕ → Self.D) };
 
+    /// How many disks were taken.
+    ghost taken: { Self → ℕ };
+
     /// The disks that were given back, each with its site, in order, where the rack tells them.
     ghost given: { Self → Option (List (ℕ × Self.D)) };
 
@@ -24,6 +27,8 @@ pub trait Rack {
             IfSome (disks self.old) (λ told. disk ≡ told (option_copied dir.entry) site)) }
         ensures fresh { IfOk result (λ disk. IsFresh (Self.D.known disk) (Self.D.may_leave disk)) }
         ensures same_disks { disks self.new ≡ disks self.old }
+        ensures taken { OnOk result (taken self.new ≡ taken self.old + 1) }
+        ensures same_taken { OnErr result (taken self.new ≡ taken self.old) }
         ensures same_given { given self.new ≡ given self.old }
         ensures faultless { OnOk result (faults self.new ≡ faults self.old) }
         ensures cause { OnErr result (faults self.old < faults self.new) };
@@ -33,6 +38,7 @@ pub trait Rack {
         ensures given { OnOk result (
             given self.new ≡ option_map (λ told. told ++ (site, disk) ∷ []) (given self.old)) }
         ensures same_given { OnErr result (given self.new ≡ given self.old) }
+        ensures same_taken { taken self.new ≡ taken self.old }
         ensures same_disks { disks self.new ≡ disks self.old }
         ensures faultless { OnOk result (faults self.new ≡ faults self.old) }
         ensures cause { OnErr result (faults self.old < faults self.new) };

@@ -7,6 +7,8 @@ use Rattle.walter_faults.specs.Schedules.{Schedule}
 pub record RackState : Type 0 where
   -- what the disks of the sites hold, from site 0 on
   pub contents : List (List ℕ)
+  -- how many disks were taken
+  pub taken : ℕ
   -- the disks that were given back, each with its site
   pub given : List (ℕ × MemoryState)
   pub schedule : Schedule

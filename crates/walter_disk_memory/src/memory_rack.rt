@@ -1,4 +1,4 @@
-ghost use Rattle.std.specs.Prelude.{◌≡◌, ◌<◌, ◌++◌, ◌∷◌, [], IsErr, IfOk, OnOk, OnErr};
+ghost use Rattle.std.specs.Prelude.{◌≡◌, ◌+◌, ◌<◌, ◌++◌, ◌∷◌, [], IsErr, IfOk, OnOk, OnErr};
 ghost use Rattle.walter_disk_memory.specs.MemoryRacks.{contents_of, disk_of};
 ghost use Rattle.walter_faults.specs.Schedules.{planned, NextFails, AddsCall};
 
@@ -14,6 +14,7 @@ use walter_faults::Schedule;
 pub struct MemoryRack {
     alloc: Global,
     contents: Vec<Vec<u8>>,
+    taken: u64,
     given: Vec<(u8, MemoryDisk)>,
     schedule: Schedule,
 }
@@ -23,13 +24,13 @@ impl Model for MemoryRack {
 
     ghost Value = { RackState };
 
-    ghost view = { λ s. record { contents = contents_of s.contents.items; given = s.given.items; schedule = s.schedule } };
+    ghost view = { λ s. record { contents = contents_of s.contents.items; taken = s.taken; given = s.given.items; schedule = s.schedule } };
 }
 
 impl MemoryRack {
     /// A rack of empty disks.
     pub fn new(alloc: Global) -> MemoryRack
-        ensures { result ≡ record { contents = []; given = []; schedule = planned [] } }
+        ensures { result ≡ record { contents = []; taken = 0; given = []; schedule = planned [] } }
     {
         MemoryRack::holding(alloc, Vec::new(alloc))
     }
@@ -38,6 +39,7 @@ impl MemoryRack {
     pub fn holding(alloc: Global, contents: Vec<Vec<u8>>) -> MemoryRack
         ensures { result ≡ record {
           contents = contents_of contents.items;
+          taken = 0;
           given = [];
           schedule = planned [];
         } }
@@ -45,6 +47,7 @@ impl MemoryRack {
         MemoryRack {
             alloc,
             contents,
+            taken: 0,
             given: Vec::new(alloc),
             schedule: Schedule::new(Vec::new(alloc)),
         }
@@ -87,26 +90,33 @@ impl Rack for MemoryRack {
 
     ghost disks = { λ r. Some (λ dir site. disk_of r.contents site) };
 
+    ghost taken = { λ r. r.taken };
+
     ghost given = { λ r. Some r.given };
 
-    /// Takes memory for the disk. Want of it is a fault.
+    /// Takes memory for the disk. Want of it is a fault, and so is a count of takes that can't rise.
     fn take(&mut self, site: u8, _dir: Option<&str>) -> Result<MemoryDisk, Failed>
         ensures disk { IfOk result (λ disk. disk ≡ disk_of self.old.contents site) }
         ensures fresh { IfOk result (λ disk. IsFresh (known_of disk) (may_leave_of disk)) }
+        ensures taken { OnOk result (self.new.taken ≡ self.old.taken + 1) }
+        ensures same_taken { OnErr result (self.new.taken ≡ self.old.taken) }
         ensures faultless { OnOk result (self.new.schedule.faults ≡ self.old.schedule.faults) }
         ensures cause { OnErr result (self.old.schedule.faults < self.new.schedule.faults) }
 
-        // It fails where it is planned, and changes nothing but the number of calls.
+        // It fails where it is planned, and changes nothing else but the number of calls.
         ensures fails { NextFails self.old.schedule → IsErr result }
         ensures calls { AddsCall self.old.schedule self.new.schedule }
-        ensures same { self.new ≡ record self.old { schedule = self.new.schedule } }
+        ensures same { self.new ≡ record self.old { taken = self.new.taken; schedule = self.new.schedule } }
     {
         if self.schedule.fails() {
             return Err(Failed);
         }
-        match self.disk_of(site) {
-            Ok(disk) => Ok(disk),
-            Err(_) => {
+        match (self.disk_of(site), self.taken.checked_add(1)) {
+            (Ok(disk), Some(taken)) => {
+                self.taken = taken;
+                Ok(disk)
+            }
+            _ => {
                 self.schedule.add_fault();
                 Err(Failed)
             }
@@ -117,6 +127,7 @@ impl Rack for MemoryRack {
     fn give(&mut self, site: u8, disk: MemoryDisk) -> Result<(), Failed>
         ensures given { OnOk result (self.new.given ≡ self.old.given ++ (site, disk) ∷ []) }
         ensures same_given { OnErr result (self.new.given ≡ self.old.given) }
+        ensures same_taken { self.new.taken ≡ self.old.taken }
         ensures same_disks { self.new.contents ≡ self.old.contents }
         ensures faultless { OnOk result (self.new.schedule.faults ≡ self.old.schedule.faults) }
         ensures cause { OnErr result (self.old.schedule.faults < self.new.schedule.faults) }

@@ -26,6 +26,8 @@ impl Rack for OpenRack {
 
     ghost disks = { λ _. None };
 
+    ghost taken = { λ r. r.rack.taken };
+
     ghost given = { λ _. None };
 
     fn take(&mut self, site: u8, dir: Option<&str>) -> Result<MemoryDisk, Failed> {

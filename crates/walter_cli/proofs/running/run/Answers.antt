@@ -6,7 +6,7 @@ use Rattle.walter_trail.specs.declared.trail.Trail.{Trail}
 use Rattle.walter_cli.specs.declared.ended.Fault.TheVariants.{Memory, Rack}
 use Rattle.walter_cli.specs.Ending.{IsWriteFault}
 use Rattle.walter_cli.specs.Texts.{text_of}
-use Rattle.walter_cli.proofs.Giving.{HasPlayed, played_run, whole_is, err_part}
+use Rattle.walter_cli.proofs.Giving.{HasPlayed, played_run, whole_is, err_part, gives_back}
 use Rattle.walter_cli.proofs.Runs.{cell_frames, ok_part, ends_with, ends_cut}
 use Rattle.walter_cli.proofs.running.run.Goals as goal
 
@@ -33,7 +33,7 @@ returns-then-is_err-clause-run g c =
       under = c.into_parts-disk.ensures.disk;
       more = played.arms;
     } in
-    let run = played_run disks s c.in-Ok-take.disk c.into_parts-disk.result.0 c.in-Ok-build.cell cell has before _ _ faults _ _
+    let run = played_run disks s c.in-Ok-take.disk c.into_parts-disk.result.0 c.in-Ok-build.cell cell has before _ _ _ _ faults _ _
     taken.same_given taken.faultless trails c.requires.sites one c.give-given.result given.given given.cause in
     ends_with _ c.args.traced s _ _ _ _ trails _ (Some Memory) _ (inr run, refl) (ap (λ (v : Vec Trail Global). v.items) c.late.ensures.trails) c.late.ensures.fault
 
@@ -60,7 +60,7 @@ returns-then-is_err-2-clause-run g c =
       under = c.into_parts-disk.ensures.disk;
       more = played.arms;
     } in
-    let run = played_run disks s c.in-Ok-take.disk c.into_parts-disk.result.0 c.in-Ok-build.cell cell has before _ _ faults _ _
+    let run = played_run disks s c.in-Ok-take.disk c.into_parts-disk.result.0 c.in-Ok-build.cell cell has before _ _ _ _ faults _ _
     taken.same_given taken.faultless trails c.requires.sites one c.give-given.result given.given given.cause in
     let rose = err_part c.give-given.result _ given.cause (sym c.is_err-2.ensures.value ∙ c.if-is_err-2.true) in
     let failed = subst (λ n. n < g.R.Rack.faults c.give-given.new.self) taken.faultless rose in
@@ -96,7 +96,7 @@ returns-in-Ok-write_report-clause-run g c =
     } in
     let all = sym c.is_err.ensures.value ∙ c.if-is_err.false in
     let back = ok_part c.give-given.result _ given.given (sym c.is_err-2.ensures.value ∙ c.if-is_err-2.false) in
-    let run = whole_is disks s c.in-Ok-take.disk c.into_parts-disk.result.0 c.in-Ok-build.cell cell has before _ _ faults _ _
+    let run = whole_is disks s c.in-Ok-take.disk c.into_parts-disk.result.0 c.in-Ok-build.cell cell has before _ _ _ _ faults _ _
     taken.same_given taken.faultless trails c.requires.sites one back (ok_part c.play-played.result _ played.played all) (ok_part c.play-played.result _ played.armed all) in
     let written = subst (λ (ts : List (List Entry)). Appends (g.K.Sink.holds c.args.sink.now) (g.K.Sink.holds c.write_report.new.sink) (text_of c.args.traced s ts)) c.deref.ensures.value
     c.in-Ok-write_report.ensures.ok in
@@ -127,9 +127,32 @@ returns-in-Err-write_report-clause-run g c =
     } in
     let all = sym c.is_err.ensures.value ∙ c.if-is_err.false in
     let back = ok_part c.give-given.result _ given.given (sym c.is_err-2.ensures.value ∙ c.if-is_err-2.false) in
-    let run = whole_is disks s c.in-Ok-take.disk c.into_parts-disk.result.0 c.in-Ok-build.cell cell has before _ _ faults _ _
+    let run = whole_is disks s c.in-Ok-take.disk c.into_parts-disk.result.0 c.in-Ok-build.cell cell has before _ _ _ _ faults _ _
     taken.same_given taken.faultless trails c.requires.sites one back (ok_part c.play-played.result _ played.played all) (ok_part c.play-played.result _ played.armed all) in
     let why = subst (λ (ts : List (List Entry)). IsWriteFault (text_of c.args.traced s ts) (g.K.Sink.holds c.args.sink.now) (g.K.Sink.holds c.write_report.new.sink)
     (g.K.Sink.faults c.args.sink.now) (g.K.Sink.faults c.write_report.new.sink) c.in-Err-write_report.fault) c.deref.ensures.value c.in-Err-write_report.ensures.fault in
     ends_with _ c.args.traced s _ _ _ _ trails _ (Some c.in-Err-write_report.fault) _ (ends_cut _ c.args.traced s _ _ _ _ trails c.in-Err-write_report.fault run why)
     (ap (λ (v : Vec Trail Global). v.items) c.late-in-Err-write_report.ensures.trails) c.late-in-Err-write_report.ensures.fault
+
+-- ---- the disk is given back
+
+pub returns-then-is_err-clause-given_back : goal.returns-then-is_err-clause-given_back
+returns-then-is_err-clause-given_back g c =
+    let taken = c.in-Ok-take.ensures in
+    let given = c.give-given.ensures in
+    gives_back g.R.D.Disk (g.R.Rack.disks c.args.rack.now) c.into_parts-disk.result.0 (g.R.Rack.given c.args.rack.now) _ _ (g.R.Rack.taken c.args.rack.now) _ _ _ _ c.give-given.result
+    taken.same_given (given.same_taken ∙ taken.taken) taken.faultless given.given given.cause
+
+pub returns-in-Ok-write_report-clause-given_back : goal.returns-in-Ok-write_report-clause-given_back
+returns-in-Ok-write_report-clause-given_back g c =
+    let taken = c.in-Ok-take.ensures in
+    let given = c.give-given.ensures in
+    gives_back g.R.D.Disk (g.R.Rack.disks c.args.rack.now) c.into_parts-disk.result.0 (g.R.Rack.given c.args.rack.now) _ _ (g.R.Rack.taken c.args.rack.now) _ _ _ _ c.give-given.result
+    taken.same_given (given.same_taken ∙ taken.taken) taken.faultless given.given given.cause
+
+pub returns-in-Err-write_report-clause-given_back : goal.returns-in-Err-write_report-clause-given_back
+returns-in-Err-write_report-clause-given_back g c =
+    let taken = c.in-Ok-take.ensures in
+    let given = c.give-given.ensures in
+    gives_back g.R.D.Disk (g.R.Rack.disks c.args.rack.now) c.into_parts-disk.result.0 (g.R.Rack.given c.args.rack.now) _ _ (g.R.Rack.taken c.args.rack.now) _ _ _ _ c.give-given.result
+    taken.same_given (given.same_taken ∙ taken.taken) taken.faultless given.given given.cause
