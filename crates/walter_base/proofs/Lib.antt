@@ -2,3 +2,5 @@ pub mod NameTests
 pub mod Maps
 pub mod Rising
 pub mod ValuesFrom
+pub mod SetCounts
+pub mod Counted

@@ -5,3 +5,4 @@ pub mod Container
 pub mod Catalogs
 pub mod Values
 pub mod Sizes
+pub mod Counting

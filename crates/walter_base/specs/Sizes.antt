@@ -1,10 +1,10 @@
 -- How many bytes spell a transaction and a record (docs/FORMATS.md, "Transaction" and "Record"), and which transactions
 -- are small enough to be spelled.
-use Rattle.std.specs.Prelude.{ℕ, ◌+◌, ◌≤◌, List, length, sum_by, All, Some, None}
+use Rattle.std.specs.Prelude.{ℕ, ◌+◌, ◌≤◌, List, length, sum_by, All, Some}
 use Rattle.walter_base.specs.declared.message.Record.{Record}
 use Rattle.walter_base.specs.declared.message.Record.TheVariants.{Boot, Own}
 use Rattle.walter_base.specs.declared.message.Reply.{Reply}
-use Rattle.walter_base.specs.declared.message.Reply.TheVariants.{Value}
+use Rattle.walter_base.specs.declared.message.Reply.TheVariants.{Value, Set}
 use Rattle.walter_base.specs.declared.transaction.Tx.{Tx}
 use Rattle.walter_base.specs.declared.update.Update.{Update}
 use Rattle.walter_base.specs.declared.update.Update.TheVariants.{Write, Add, Del}
@@ -48,7 +48,8 @@ abbrev pub CanBeRecorded : Record → Type 0
 CanBeRecorded (Boot epoch) = Unit {0}
 CanBeRecorded (Own seq tx) = CanBeSpelled tx
 
--- the value in a reply is short
+-- the value in a reply is short, and so are the counts
 abbrev pub IsShortReply : Reply → Type 0
 IsShortReply (Value (Some bytes)) = length bytes ≤ 4096
+IsShortReply (Set counts) = length counts ≤ 4095
 IsShortReply reply = Unit {0}

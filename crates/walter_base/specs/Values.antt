@@ -1,6 +1,7 @@
 -- What a list of updates makes of an object, and which lists conflict (Sovran et al., SOSP 2011, sections 2 and 3:
 -- regular objects, counting sets, write sets).
-use Rattle.std.specs.Prelude.{◌≡◌, ◌≢◌, ◌↔◌, ◌-ℤ◌, ◌<◌, ℕ, ℤ, pos, Bool, false, ◌&&◌, nat_eq, List, [], ◌∷◌, Option, Some, None, Contains, count_by, flat_map, AllPairs, if◌then◌else◌}
+use Rattle.std.specs.Prelude.{◌≡◌, ◌≢◌, ◌↔◌, ◌-ℤ◌, ◌<◌, ℕ, ℤ, pos, Bool, false, not, ◌&&◌, nat_eq, nat_lt, List, [], ◌∷◌, Option, Some, None, Contains, count_by, filter, flat_map, map, AllPairs, if◌then◌else◌}
+use Rattle.std.specs.Ordering.{int_eq}
 use Rattle.walter_base.specs.declared.names.ObjId.{ObjId}
 use Rattle.walter_base.specs.declared.update.Update.{Update}
 use Rattle.walter_base.specs.declared.update.Update.TheVariants.{Write, Add, Del}
@@ -39,6 +40,26 @@ count_of oid id updates = pos (count_by (adds oid id) updates) -ℤ pos (count_b
 pub record AreCounts (oid : ObjId) (updates : List Update) (counts : List (ℕ × ℤ)) : Type 0 where
   pub rising : AllPairs (λ a b. a.0 < b.0) counts
   pub held : (id : ℕ) (n : ℤ) → Contains counts (id, n) ↔ ((count_of oid id updates ≡ n) × (n ≢ pos 0))
+
+-- the id of a set that an update names, if it names one
+abbrev pub ids_named : ObjId → Update → List ℕ
+ids_named oid (Write at bytes) = []
+ids_named oid (Add at id) = if same_object at oid then id ∷ [] else []
+ids_named oid (Del at id) = if same_object at oid then id ∷ [] else []
+
+-- rising numbers with one more
+abbrev pub with_number : ℕ → List ℕ → List ℕ
+with_number n [] = n ∷ []
+with_number n (m ∷ ms) = if nat_lt n m then n ∷ m ∷ ms else if nat_lt m n then m ∷ with_number n ms else m ∷ ms
+
+-- the numbers of a list, rising, each once
+abbrev pub rising : List ℕ → List ℕ
+rising [] = []
+rising (n ∷ ns) = with_number n (rising ns)
+
+-- the one list of the counts of a set: of the ids that are named those with a count other than 0
+abbrev pub counts_of : ObjId → List Update → List (ℕ × ℤ)
+counts_of oid updates = filter (λ e. not (int_eq e.1 (pos 0))) (map (λ id. (id, count_of oid id updates)) (rising (flat_map (ids_named oid) updates)))
 
 -- the regular object that an update writes, if it writes one
 abbrev pub written : Update → List ObjId

@@ -1,3 +1,4 @@
+use std::alloc::AllocError;
 use std::marker::Model;
 
 /// The ids of a set that counts, each with its count. Contracts see the list of them.
@@ -21,6 +22,18 @@ impl Counts {
         ensures { result.now ≡ self.now }
     {
         &self.items
+    }
+}
+
+impl Clone for Counts {
+    ghost is_clone = { λ a b. b ≡ a };
+
+    ghost use Rattle.std.specs.Prelude.{◌≡◌};
+
+    fn clone(&self) -> Result<Counts, AllocError> {
+        Ok(Counts {
+            items: self.items.clone()?,
+        })
     }
 }
 

@@ -1,6 +1,7 @@
 ghost use Rattle.std.specs.Prelude.{◌≡◌};
 
 use crate::bytes::Bytes;
+use crate::counts::Counts;
 use crate::names::{ObjId, Tid, Version};
 use crate::transaction::{Cause, Tx};
 use std::alloc::AllocError;
@@ -15,6 +16,14 @@ pub enum Request {
     Read(ObjId),
     /// A new value for an object.
     Write(ObjId, Bytes),
+    /// One more of an id in a set that counts.
+    SetAdd(ObjId, u64),
+    /// One less of it.
+    SetDel(ObjId, u64),
+    /// The counts of a set.
+    SetRead(ObjId),
+    /// The count of one id in a set.
+    SetReadId(ObjId, u64),
     /// The end of the transaction, with its updates committed.
     Commit,
     /// The end of the transaction, without its updates.
@@ -42,6 +51,10 @@ impl Clone for Request {
             Request::Start => Ok(Request::Start),
             Request::Read(oid) => Ok(Request::Read(*oid)),
             Request::Write(oid, bytes) => Ok(Request::Write(*oid, bytes.clone()?)),
+            Request::SetAdd(oid, id) => Ok(Request::SetAdd(*oid, *id)),
+            Request::SetDel(oid, id) => Ok(Request::SetDel(*oid, *id)),
+            Request::SetRead(oid) => Ok(Request::SetRead(*oid)),
+            Request::SetReadId(oid, id) => Ok(Request::SetReadId(*oid, *id)),
             Request::Commit => Ok(Request::Commit),
             Request::Abort => Ok(Request::Abort),
             Request::Level(tid) => Ok(Request::Level(*tid)),
@@ -58,6 +71,10 @@ pub enum Reply {
     Value(Option<Bytes>),
     /// The update is taken.
     Done,
+    /// The ids of a set with a count other than 0, by rising id.
+    Set(Counts),
+    /// The count of one id in a set, 0 where the set has it not.
+    Count(i64),
     /// The transaction is committed, as this version.
     Committed(Version),
     /// The transaction is aborted, for this cause.
@@ -81,6 +98,8 @@ impl Clone for Reply {
             Reply::Value(Some(bytes)) => Ok(Reply::Value(Some(bytes.clone()?))),
             Reply::Value(None) => Ok(Reply::Value(None)),
             Reply::Done => Ok(Reply::Done),
+            Reply::Set(counts) => Ok(Reply::Set(counts.clone()?)),
+            Reply::Count(count) => Ok(Reply::Count(*count)),
             Reply::Committed(version) => Ok(Reply::Committed(*version)),
             Reply::Aborted(cause) => Ok(Reply::Aborted(*cause)),
             Reply::Level(level) => Ok(Reply::Level(*level)),
@@ -129,6 +148,8 @@ pub enum Refusal {
     Down,
     /// The journal has no place for the record: so many bytes are needed, and so many left.
     JournalFull { need: u64, left: u64 },
+    /// The set has more ids than a reply may have.
+    SetTooWide,
     /// The site has as many transactions open as it may.
     SessionsFull,
     /// Memory ran out.

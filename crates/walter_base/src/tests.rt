@@ -1,7 +1,7 @@
 use crate::{
     BadFrame, Bytes, Catalog, CatalogFault, Cause, Container, Containers, Counts, Kind, Level,
     NoMemory, ObjId, Record, Refusal, Reply, Request, SiteId, Tid, Tx, Update, Updates, Version,
-    Vts, size_of_updates,
+    Vts, counts_are_one_list, size_of_updates,
 };
 use std::test::Fail;
 
@@ -142,11 +142,35 @@ fn requests_and_replies_are_copied(rt: HostRuntime) -> Result<(), Fail> {
     assert!(rt; matches!(request.clone()?, Request::Write(OBJECT, _)));
     assert!(rt; matches!(Request::Start.clone()?, Request::Start));
     assert!(rt; matches!(Request::Read(OBJECT).clone()?, Request::Read(OBJECT)));
+    assert!(rt;
+        matches!(
+            Request::SetAdd(OBJECT, 9).clone()?,
+            Request::SetAdd(OBJECT, 9)
+        )
+    );
+    assert!(rt;
+        matches!(
+            Request::SetDel(OBJECT, 9).clone()?,
+            Request::SetDel(OBJECT, 9)
+        )
+    );
+    assert!(rt; matches!(Request::SetRead(OBJECT).clone()?, Request::SetRead(OBJECT)));
+    assert!(rt;
+        matches!(
+            Request::SetReadId(OBJECT, 9).clone()?,
+            Request::SetReadId(OBJECT, 9)
+        )
+    );
     assert!(rt; matches!(Request::Commit.clone()?, Request::Commit));
     assert!(rt; matches!(Request::Abort.clone()?, Request::Abort));
     assert!(rt; matches!(Request::Level(TID).clone()?, Request::Level(TID)));
     let reply = Reply::Value(Some(Bytes::from_slice(rt.alloc(), b"x")?));
     assert!(rt; matches!(reply.clone()?, Reply::Value(Some(_))));
+    let Reply::Set(copy) = Reply::Set(Counts::from(vec![in rt.alloc(); (7, 1)]?)).clone()? else {
+        panic!(rt; "a Set is copied as a Set");
+    };
+    assert_eq!(rt; copy.as_slice(), [(7, 1)].as_slice());
+    assert!(rt; matches!(Reply::Count(-1).clone()?, Reply::Count(-1)));
     assert!(rt;
         matches!(
             Reply::Refused(Refusal::NoTx).clone()?,
@@ -173,6 +197,8 @@ fn requests_and_replies_are_copied(rt: HostRuntime) -> Result<(), Fail> {
 fn counts_keep_their_order(rt: HostRuntime) -> Result<(), Fail> {
     let counts = Counts::from(vec![in rt.alloc(); (7, 1), (9, -1)]?);
     assert_eq!(rt; counts.as_slice(), [(7, 1), (9, -1)].as_slice());
+    assert_eq!(rt; counts.clone()?.as_slice(), [(7, 1), (9, -1)].as_slice());
+    counts_are_one_list();
     Ok(())
 }
 

@@ -8,9 +8,9 @@ use Rattle.walter_base.specs.declared.message.Record.TheVariants.{Boot, Own}
 use Rattle.walter_base.specs.declared.message.Refusal.{Refusal}
 use Rattle.walter_base.specs.declared.message.Refusal.TheVariants.{BadFrame, Down as IsDown, Gone as IsGone}
 use Rattle.walter_base.specs.declared.message.Reply.{Reply}
-use Rattle.walter_base.specs.declared.message.Reply.TheVariants.{Started, Value, Done as DoneReply, Committed, Aborted, Level, Ended, Unsure, Refused}
+use Rattle.walter_base.specs.declared.message.Reply.TheVariants.{Started, Value, Done as DoneReply, Set, Count, Committed, Aborted, Level, Ended, Unsure, Refused}
 use Rattle.walter_base.specs.declared.message.Request.{Request}
-use Rattle.walter_base.specs.declared.message.Request.TheVariants.{Start, Read, Write, Commit, Abort, Level as LevelAsked}
+use Rattle.walter_base.specs.declared.message.Request.TheVariants.{Start, Read, Write, SetAdd, SetDel, SetRead, SetReadId, Commit, Abort, Level as LevelAsked}
 use Rattle.walter_base.specs.declared.names.SiteId.{SiteId}
 use Rattle.walter_base.specs.declared.names.Tid.{Tid}
 use Rattle.walter_base.specs.Sizes.{CanBeRecorded}
@@ -71,6 +71,10 @@ module _ (catalog : Catalog) (i : SiteId) (K : Knowledge) (refusal : Refusal) wh
   ruled_first true (Gone tid) (Ok Start) session owing binds is = owed_first session owing tid Start binds.1 is (same_refusal (IsGone tid) refusal is)
   ruled_first true (Gone tid) (Ok (Read oid)) session owing binds is = owed_first session owing tid (Read oid) binds.1 is (same_refusal (IsGone tid) refusal is)
   ruled_first true (Gone tid) (Ok (Write oid bytes)) session owing binds is = owed_first session owing tid (Write oid bytes) binds.1 is (same_refusal (IsGone tid) refusal is)
+  ruled_first true (Gone tid) (Ok (SetAdd oid id)) session owing binds is = owed_first session owing tid (SetAdd oid id) binds.1 is (same_refusal (IsGone tid) refusal is)
+  ruled_first true (Gone tid) (Ok (SetDel oid id)) session owing binds is = owed_first session owing tid (SetDel oid id) binds.1 is (same_refusal (IsGone tid) refusal is)
+  ruled_first true (Gone tid) (Ok (SetRead oid)) session owing binds is = owed_first session owing tid (SetRead oid) binds.1 is (same_refusal (IsGone tid) refusal is)
+  ruled_first true (Gone tid) (Ok (SetReadId oid id)) session owing binds is = owed_first session owing tid (SetReadId oid id) binds.1 is (same_refusal (IsGone tid) refusal is)
   ruled_first true (Gone tid) (Ok Commit) session owing binds is = owed_first session owing tid Commit binds.1 is (same_refusal (IsGone tid) refusal is)
   ruled_first true (Gone tid) (Ok Abort) session owing binds is = owed_first session owing tid Abort binds.1 is (same_refusal (IsGone tid) refusal is)
   ruled_first true (Gone tid) (Ok (LevelAsked asked)) session owing binds is = absurd cc
@@ -97,6 +101,10 @@ asked true (Open tid) (Ok request) session owing binds is = (refl, inl binds.1)
 asked true (Gone tid) (Ok Start) session owing binds is = absurd cc
 asked true (Gone tid) (Ok (Read oid)) session owing binds is = absurd cc
 asked true (Gone tid) (Ok (Write oid bytes)) session owing binds is = absurd cc
+asked true (Gone tid) (Ok (SetAdd oid id)) session owing binds is = absurd cc
+asked true (Gone tid) (Ok (SetDel oid id)) session owing binds is = absurd cc
+asked true (Gone tid) (Ok (SetRead oid)) session owing binds is = absurd cc
+asked true (Gone tid) (Ok (SetReadId oid id)) session owing binds is = absurd cc
 asked true (Gone tid) (Ok Commit) session owing binds is = absurd cc
 asked true (Gone tid) (Ok Abort) session owing binds is = absurd cc
 asked true (Gone tid) (Ok (LevelAsked of)) session owing binds is = (refl, inr (of, refl))
@@ -227,6 +235,8 @@ sized_step h client call answer is none sized =
 reply_rises : (reply : Reply) (old new : ℕ) → ((tid : Tid) → reply ≢ Unsure tid) → old ≤ new → RisesIf (is_faulty (Replied reply)) old new
 reply_rises (Started tid) old new sure rises = rises
 reply_rises (Value value) old new sure rises = rises
+reply_rises (Set counts) old new sure rises = rises
+reply_rises (Count n) old new sure rises = rises
 reply_rises DoneReply old new sure rises = rises
 reply_rises (Committed version) old new sure rises = rises
 reply_rises (Aborted cause) old new sure rises = rises

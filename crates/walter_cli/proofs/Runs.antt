@@ -5,9 +5,6 @@ use Rattle.std.specs.Result.{is_err}
 use Rattle.std.specs.Global.{Global}
 use Rattle.std.proofs.lemmas.List.{append-nil, length-append, map-append}
 use Rattle.std.proofs.lemmas.List.Elements.{All-push, All-weaker}
-use Rattle.walter_base.specs.declared.message.Reply.{Reply}
-use Rattle.walter_base.specs.declared.message.Reply.TheVariants.{Started, Value, Done, Committed, Aborted, Level, Ended as IsEnded, Unsure, Refused}
-use Rattle.walter_base.specs.Sizes.{IsShortReply}
 use Rattle.walter_conn.proofs.Standings.{calls_of as calls_told}
 use Rattle.walter_disk.specs.declared.disk.Disk.{Ghosts}
 use Rattle.walter_engine.specs.declared.engine.State.{State}
@@ -16,8 +13,8 @@ use Rattle.walter_engine.specs.Contents.{HasRecords, MayHaveRecords}
 use Rattle.walter_engine.specs.Engines.{disk_in, Stands, IsInState}
 use Rattle.walter_engine.specs.States.{disk_under}
 use Rattle.walter_engine.proofs.Resting.{may_have}
-use Rattle.walter_reply.specs.Replies.{FitsFrame, HasShortValue}
-use Rattle.walter_reply.proofs.Lengths.{short_reply_fits}
+use Rattle.walter_reply.specs.Replies.{FitsFrame}
+use Rattle.walter_reply.proofs.Lengths.{short_fits}
 use Rattle.walter_report.specs.Reports.{reply_in, HaveFrames}
 use Rattle.walter_report.specs.Traces.{HasSpellings, HaveSpellings}
 use Rattle.walter_scenario.specs.declared.scenario.Arm.{Arm}
@@ -125,20 +122,8 @@ run_is rack s cell trails one is known given same = record {
 }
 
 -- its replies have frames, and its records spellings
-reply_fits : (reply : Reply) → IsShortReply reply → HasShortValue reply
-reply_fits (Value (Some bytes)) short = omega (arith, short)
-reply_fits (Value None) short = tt
-reply_fits (Started tid) short = tt
-reply_fits Done short = tt
-reply_fits (Committed version) short = tt
-reply_fits (Aborted cause) short = tt
-reply_fits (Level level) short = tt
-reply_fits IsEnded short = tt
-reply_fits (Unsure tid) short = tt
-reply_fits (Refused refusal) short = tt
-
 pub outcome_frames : (outcome : Outcome) → OutcomeFits outcome → All FitsFrame (reply_in outcome)
-outcome_frames (Replied reply) fits = All-push FitsFrame [] reply (λ k d within. absurd (omega (arith, within))) (short_reply_fits reply (reply_fits reply fits))
+outcome_frames (Replied reply) fits = All-push FitsFrame [] reply (λ k d within. absurd (omega (arith, within))) (short_fits reply fits)
 outcome_frames Taken fits = λ k d within. absurd (omega (arith, within))
 outcome_frames Passed fits = λ k d within. absurd (omega (arith, within))
 outcome_frames Failed fits = λ k d within. absurd (omega (arith, within))

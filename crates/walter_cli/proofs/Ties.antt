@@ -8,11 +8,11 @@ use Rattle.walter_base.specs.declared.containers.Container.{Container}
 use Rattle.walter_base.specs.declared.message.BadFrame.{BadFrame as Bad}
 use Rattle.walter_base.specs.declared.message.Record.{Record}
 use Rattle.walter_base.specs.declared.message.Record.TheVariants.{Boot, Own}
-use Rattle.walter_base.specs.declared.message.Refusal.TheVariants.{Gone as IsGone, UnknownContainer, WrongKind, TooLong, TxFull, NoTx, TxOpen, BadFrame, Down as IsDown, JournalFull, SessionsFull, Memory as NoMemory, WrongSite, NotIssued}
+use Rattle.walter_base.specs.declared.message.Refusal.TheVariants.{Gone as IsGone, UnknownContainer, WrongKind, TooLong, TxFull, NoTx, TxOpen, BadFrame, Down as IsDown, JournalFull, SetTooWide, SessionsFull, Memory as NoMemory, WrongSite, NotIssued}
 use Rattle.walter_base.specs.declared.message.Reply.{Reply}
-use Rattle.walter_base.specs.declared.message.Reply.TheVariants.{Started, Value, Done, Committed, Aborted, Level, Ended, Unsure, Refused}
+use Rattle.walter_base.specs.declared.message.Reply.TheVariants.{Started, Value, Done, Set, Count, Committed, Aborted, Level, Ended, Unsure, Refused}
 use Rattle.walter_base.specs.declared.message.Request.{Request}
-use Rattle.walter_base.specs.declared.message.Request.TheVariants.{Start, Read, Write, Commit, Abort, Level as LevelAsked}
+use Rattle.walter_base.specs.declared.message.Request.TheVariants.{Start, Read, Write, SetAdd, SetDel, SetRead, SetReadId, Commit, Abort, Level as LevelAsked}
 use Rattle.walter_base.specs.declared.names.Kind.{Kind}
 use Rattle.walter_base.specs.declared.names.Kind.TheVariants.{Regular, Cset}
 use Rattle.walter_base.specs.declared.names.ObjId.{ObjId}
@@ -20,16 +20,16 @@ use Rattle.walter_base.specs.declared.names.SiteId.{SiteId}
 use Rattle.walter_base.specs.declared.names.Tid.{Tid}
 use Rattle.walter_base.specs.declared.names.Version.{Version}
 use Rattle.walter_base.specs.declared.update.Update.{Update}
-use Rattle.walter_base.specs.declared.update.Update.TheVariants.{Write as WriteOf}
+use Rattle.walter_base.specs.declared.update.Update.TheVariants.{Write as WriteOf, Add, Del}
 use Rattle.walter_base.specs.Names.{same_site}
-use Rattle.walter_base.specs.Values.{value_of}
+use Rattle.walter_base.specs.Values.{value_of, count_of, counts_of}
 use Rattle.walter_trail.specs.declared.trail.Outcome.{Outcome}
 use Rattle.walter_trail.specs.declared.trail.Outcome.TheVariants.{Replied, Taken, Passed, Failed, Full, Memory, Down, Refused as IsRefused}
 use Rattle.walter_trail.specs.declared.trail.TrailEvent.{TrailEvent}
 use Rattle.walter_trail.specs.declared.trail.TrailEvent.TheVariants.{Call, Stop, Restart}
 use Rattle.walter_trail.specs.Conflicts.{conflict_of}
 use Rattle.walter_trail.specs.Knowledge.{Knowledge, Session, Open as Opened, session_in, session_of, read_updates, updated, sessions_after}
-use Rattle.walter_trail.specs.Rule.{Expected, rule, call_rule, if_told, down_rule, if_regular, if_whole, writes, has_place, decides, commits, is_issued, answers, refuses, tells_level, next_tid, level_of}
+use Rattle.walter_trail.specs.Rule.{Expected, rule, call_rule, if_told, down_rule, if_regular, if_whole, if_cset, if_counted, updates_with, shows, writes, has_place, decides, commits, is_issued, answers, refuses, tells_level, next_tid, level_of}
 use Rattle.walter_trail.specs.Standing.{Standing, Came, settled, stands_after, owed, told}
 use Rattle.walter_trail.specs.Trails.{Comes, ruled, met_fault, unread, no_memory, full, as_ruled, need_of, left_behind}
 use Rattle.walter_cli.specs.declared.tie.Tie.{Tie}
@@ -82,6 +82,10 @@ updated_tid : (call : Result Request Bad) (s : Session) → (updated call s).tid
 updated_tid (Ok Start) s = refl
 updated_tid (Ok (Read oid)) s = refl
 updated_tid (Ok (Write oid bytes)) s = refl
+updated_tid (Ok (SetAdd oid id)) s = refl
+updated_tid (Ok (SetDel oid id)) s = refl
+updated_tid (Ok (SetRead oid)) s = refl
+updated_tid (Ok (SetReadId oid id)) s = refl
 updated_tid (Ok Commit) s = refl
 updated_tid (Ok Abort) s = refl
 updated_tid (Ok (LevelAsked tid)) s = refl
@@ -145,6 +149,18 @@ tells_regular : (session : Option Session) (owing : Option Tid) (container : Opt
 tells_regular session owing None x p = tt
 tells_regular session owing (Some container) x p = tells_kind session owing container.kind x p
 
+tells_counted : (session : Option Session) (owing : Option Tid) (kind : Kind) (x : Expected) → Tells session owing x.outcome → Tells session owing (if_counted kind x).outcome
+tells_counted session owing Cset x p = p
+tells_counted session owing Regular x p = tt
+
+tells_cset : (session : Option Session) (owing : Option Tid) (container : Option Container) (x : Expected) → Tells session owing x.outcome
+    → Tells session owing (if_cset container x).outcome
+tells_cset session owing None x p = tt
+tells_cset session owing (Some container) x p = tells_counted session owing container.kind x p
+
+tells_placed : (session : Option Session) (owing : Option Tid) (s : Session) (update : Update) → Tells session owing (updates_with s update).outcome
+tells_placed session owing s update = tells_if session owing (has_place s.updates update) (answers Done) (refuses TxFull) tt tt
+
 tells_decides : (session : Option Session) (i : SiteId) (K : Knowledge) (s : Session) (found : Option (ObjId × Version)) → Tells session None (decides i K s found).outcome
 tells_decides session i K s None = refl
 tells_decides session i K s (Some conflict) = refl
@@ -167,8 +183,17 @@ tells_call catalog i K (Ok (Read oid)) None = tt
 tells_call catalog i K (Ok (Read oid)) (Some s) = tells_regular (Some s) None (get catalog.containers oid.container) (answers (Value (value_of oid (read_updates K s)))) tt
 tells_call catalog i K (Ok (Write oid bytes)) None = tt
 tells_call catalog i K (Ok (Write oid bytes)) (Some s) = tells_regular (Some s) None (get catalog.containers oid.container) (writes s oid bytes)
-    (tells_if (Some s) None (nat_lt 4096 (length bytes)) (refuses TooLong) (if has_place s.updates (WriteOf oid bytes) then answers Done else refuses TxFull) tt
-    (tells_if (Some s) None (has_place s.updates (WriteOf oid bytes)) (answers Done) (refuses TxFull) tt tt))
+    (tells_if (Some s) None (nat_lt 4096 (length bytes)) (refuses TooLong) (updates_with s (WriteOf oid bytes)) tt (tells_placed (Some s) None s (WriteOf oid bytes)))
+tells_call catalog i K (Ok (SetAdd oid id)) None = tt
+tells_call catalog i K (Ok (SetAdd oid id)) (Some s) = tells_cset (Some s) None (get catalog.containers oid.container) (updates_with s (Add oid id)) (tells_placed (Some s) None s (Add oid id))
+tells_call catalog i K (Ok (SetDel oid id)) None = tt
+tells_call catalog i K (Ok (SetDel oid id)) (Some s) = tells_cset (Some s) None (get catalog.containers oid.container) (updates_with s (Del oid id)) (tells_placed (Some s) None s (Del oid id))
+tells_call catalog i K (Ok (SetRead oid)) None = tt
+tells_call catalog i K (Ok (SetRead oid)) (Some s) =
+    let counts = counts_of oid (read_updates K s) in
+    tells_cset (Some s) None (get catalog.containers oid.container) (shows counts) (tells_if (Some s) None (nat_lt 4095 (length counts)) (refuses SetTooWide) (answers (Set counts)) tt tt)
+tells_call catalog i K (Ok (SetReadId oid id)) None = tt
+tells_call catalog i K (Ok (SetReadId oid id)) (Some s) = tells_cset (Some s) None (get catalog.containers oid.container) (answers (Count (count_of oid id (read_updates K s)))) tt
 tells_call catalog i K (Ok Commit) None = tt
 tells_call catalog i K (Ok Commit) (Some s) = tells_commits (Some s) i K s s.updates
 tells_call catalog i K (Ok Abort) None = tt
@@ -182,6 +207,10 @@ tells_told catalog i K (Err bad) session (Some tid) = tt
 tells_told catalog i K (Ok Start) session (Some tid) = refl
 tells_told catalog i K (Ok (Read oid)) session (Some tid) = refl
 tells_told catalog i K (Ok (Write oid bytes)) session (Some tid) = refl
+tells_told catalog i K (Ok (SetAdd oid id)) session (Some tid) = refl
+tells_told catalog i K (Ok (SetDel oid id)) session (Some tid) = refl
+tells_told catalog i K (Ok (SetRead oid)) session (Some tid) = refl
+tells_told catalog i K (Ok (SetReadId oid id)) session (Some tid) = refl
 tells_told catalog i K (Ok Commit) session (Some tid) = refl
 tells_told catalog i K (Ok Abort) session (Some tid) = refl
 tells_told catalog i K (Ok (LevelAsked asked)) session (Some tid) = tells_level_of session (Some tid) i K asked
@@ -236,6 +265,8 @@ module _ (client : ℕ) (call : Result Request Bad) (S : Standing) (tie : Tie) (
   own_reply (Started tid) tells = same_binds (Some (record { tid = tid; snapshot = S.knows.committed; updates = [] })) _ None (S.gone client) (Open tid)
       (opened_here client (record { tid = tid; snapshot = S.knows.committed; updates = [] }) sessions tells.0) tells.1 (refl, refl)
   own_reply (Value value) tells = is
+  own_reply (Set counts) tells = is
+  own_reply (Count n) tells = is
   own_reply Done tells = renamed (session_in client sessions) (session_in client (map (with_done client call) sessions)) (S.gone client) tie (done_keeps client client call sessions) is
   own_reply (Committed version) tells = (closed_here client sessions, tells)
   own_reply (Aborted cause) tells = (closed_here client sessions, tells)
@@ -253,6 +284,7 @@ module _ (client : ℕ) (call : Result Request Bad) (S : Standing) (tie : Tie) (
   own_reply (Refused (BadFrame at)) tells = is
   own_reply (Refused IsDown) tells = is
   own_reply (Refused (JournalFull need left)) tells = is
+  own_reply (Refused SetTooWide) tells = is
   own_reply (Refused SessionsFull) tells = is
   own_reply (Refused NoMemory) tells = is
   own_reply (Refused WrongSite) tells = is
@@ -268,6 +300,8 @@ module _ (client other : ℕ) (apart : client ≢ other) (call : Result Request 
   other_reply (Started tid) = same_binds (session_in client all) _ (S.gone client) (S.gone client) tie
       (opened_there client other (record { tid = tid; snapshot = S.knows.committed; updates = [] }) all apart) refl is
   other_reply (Value value) = is
+  other_reply (Set counts) = is
+  other_reply (Count n) = is
   other_reply Done = renamed (session_in client all) (session_in client (map (with_done other call) all)) (S.gone client) tie (done_keeps client other call all) is
   other_reply (Committed version) = same_binds (session_in client all) _ (S.gone client) (S.gone client) tie (closed_there client other all apart) refl is
   other_reply (Aborted cause) = same_binds (session_in client all) _ (S.gone client) (S.gone client) tie (closed_there client other all apart) refl is
@@ -285,6 +319,7 @@ module _ (client other : ℕ) (apart : client ≢ other) (call : Result Request 
   other_reply (Refused (BadFrame at)) = is
   other_reply (Refused IsDown) = is
   other_reply (Refused (JournalFull need left)) = is
+  other_reply (Refused SetTooWide) = is
   other_reply (Refused SessionsFull) = is
   other_reply (Refused NoMemory) = is
   other_reply (Refused WrongSite) = is
@@ -314,6 +349,8 @@ module _ (i : SiteId) (S : Standing) (other : ℕ) (call : Result Request Bad) (
       (if nat_eq client other then Free else tie) (any_reply client other call S tie (Unsure tid) is tells (nat_eq client other) refl)
   replied wrote flight (Started tid) tells = any_reply client other call S tie (Started tid) is tells (nat_eq client other) refl
   replied wrote flight (Value value) tells = any_reply client other call S tie (Value value) is tells (nat_eq client other) refl
+  replied wrote flight (Set counts) tells = any_reply client other call S tie (Set counts) is tells (nat_eq client other) refl
+  replied wrote flight (Count n) tells = any_reply client other call S tie (Count n) is tells (nat_eq client other) refl
   replied wrote flight Done tells = any_reply client other call S tie Done is tells (nat_eq client other) refl
   replied wrote flight (Committed version) tells = any_reply client other call S tie (Committed version) is tells (nat_eq client other) refl
   replied wrote flight (Aborted cause) tells = any_reply client other call S tie (Aborted cause) is tells (nat_eq client other) refl
@@ -348,6 +385,10 @@ writes_told catalog i K (Err bad) session (Some tid) rec brings = absurd cc
 writes_told catalog i K (Ok Start) session (Some tid) rec brings = absurd cc
 writes_told catalog i K (Ok (Read oid)) session (Some tid) rec brings = absurd cc
 writes_told catalog i K (Ok (Write oid bytes)) session (Some tid) rec brings = absurd cc
+writes_told catalog i K (Ok (SetAdd oid id)) session (Some tid) rec brings = absurd cc
+writes_told catalog i K (Ok (SetDel oid id)) session (Some tid) rec brings = absurd cc
+writes_told catalog i K (Ok (SetRead oid)) session (Some tid) rec brings = absurd cc
+writes_told catalog i K (Ok (SetReadId oid id)) session (Some tid) rec brings = absurd cc
 writes_told catalog i K (Ok Commit) session (Some tid) rec brings = absurd cc
 writes_told catalog i K (Ok Abort) session (Some tid) rec brings = absurd cc
 writes_told catalog i K (Ok (LevelAsked asked)) session (Some tid) rec brings = absurd (let e = sym (level_none i K asked) ∙ brings in cc)

@@ -5,7 +5,7 @@ use Rattle.walter_base.specs.declared.message.Refusal.{Refusal}
 use Rattle.walter_base.specs.declared.message.Refusal.TheVariants.{BadFrame, Down, Gone}
 use Rattle.walter_base.specs.declared.message.Reply.TheVariants.{Unsure}
 use Rattle.walter_base.specs.declared.message.Request.{Request}
-use Rattle.walter_base.specs.declared.message.Request.TheVariants.{Start, Read, Write, Commit, Abort, Level}
+use Rattle.walter_base.specs.declared.message.Request.TheVariants.{Start, Read, Write, SetAdd, SetDel, SetRead, SetReadId, Commit, Abort, Level}
 use Rattle.walter_base.specs.Sizes.{IsShortReply, CanBeRecorded}
 use Rattle.walter_trail.specs.declared.trail.Outcome.{Outcome}
 use Rattle.walter_trail.specs.declared.trail.Outcome.TheVariants.{Replied, Failed}
@@ -24,6 +24,10 @@ gone_first (Open tid) request = None
 gone_first (IsGone tid) Start = Some (Gone tid)
 gone_first (IsGone tid) (Read oid) = Some (Gone tid)
 gone_first (IsGone tid) (Write oid bytes) = Some (Gone tid)
+gone_first (IsGone tid) (SetAdd oid id) = Some (Gone tid)
+gone_first (IsGone tid) (SetDel oid id) = Some (Gone tid)
+gone_first (IsGone tid) (SetRead oid) = Some (Gone tid)
+gone_first (IsGone tid) (SetReadId oid id) = Some (Gone tid)
 gone_first (IsGone tid) Commit = Some (Gone tid)
 gone_first (IsGone tid) Abort = Some (Gone tid)
 gone_first (IsGone tid) (Level asked) = None

@@ -163,7 +163,7 @@ fn scenario_of(
     }
     let steps = steps_of(rt, words)?;
     Ok(format!(in rt.alloc();
-        r#"{{"sites":1,"f":0,"containers":[[1,"regular",0]],"clients":[[0,"{sent}"]],{keys}"steps":[{steps}]}}"#
+        r#"{{"sites":1,"f":0,"containers":[[1,"regular",0],[3,"cset",0]],"clients":[[0,"{sent}"]],{keys}"steps":[{steps}]}}"#
     )?)
 }
 
@@ -396,8 +396,8 @@ fn bytes_that_spell_no_scenario_are_refused_at_their_first_wrong_place(
             Place::F,
         ),
         (
-            r#"{"sites":1,"f":0,"containers":[[1,"cset",0]],"clients":[],"steps":[]}"#,
-            Place::Containers(0),
+            r#"{"sites":1,"f":0,"containers":[[1,"cset",0],[2,"Cset",0]],"clients":[],"steps":[]}"#,
+            Place::Containers(1),
         ),
         (
             r#"{"sites":1,"f":0,"containers":[[1,"regular",0],[1,"regular",0]],"clients":[],"steps":[]}"#,
@@ -588,6 +588,126 @@ fn a_transaction_has_60_000_bytes_at_most(rt: HostRuntime) -> Result<(), Fail> {
     frames.push(&longest)?;
     replies.push("00000002e003")?;
     answers(&rt, "", &frames, &words, &replies)
+}
+
+// The frames of requests on the set 3:1: one more and one less of id 9, its counts, and its count of id 9.
+const SET_ADD: &str = "00000015040000000300000000000000010000000000000009";
+
+const SET_DEL: &str = "00000015050000000300000000000000010000000000000009";
+
+const SET_READ: &str = "0000000d06000000030000000000000001";
+
+const SET_READ_ID: &str = "00000015070000000300000000000000010000000000000009";
+
+#[test]
+fn a_transaction_reads_its_own_set_updates(rt: HostRuntime) -> Result<(), Fail> {
+    answers(
+        &rt,
+        "",
+        &[START, SET_DEL, SET_READ, SET_READ_ID, SET_ADD, SET_READ],
+        "call call call call call call",
+        &[
+            STARTED,
+            DONE,
+            "0000001583000000010000000000000009ffffffffffffffff",
+            "0000000984ffffffffffffffff",
+            DONE,
+            "000000058300000000",
+        ],
+    )
+}
+
+#[test]
+fn set_updates_of_two_writers_both_commit(rt: HostRuntime) -> Result<(), Fail> {
+    plays(
+        &rt,
+        r#"{"sites":1,"f":0,"containers":[[3,"cset",0]],"clients":[[0,"00000001010000001504000000030000000000000001000000000000000900000001080000000101000000150700000003000000000000000100000000000000090000000d06000000030000000000000001"],[0,"0000000101000000150400000003000000000000000100000000000000090000000108"]],"steps":[["call",0],["call",1],["call",0],["call",1],["call",0],["call",1],["call",0],["call",0],["call",0]]}"#,
+        "sites 1 f 0 clients 2\nclient 0 site 0 replies 6 0000000e800000000001000000000000000100000001820000000a850000000000000000010000000e80000000000100000000000000030000000984000000000000000200000015830000000100000000000000090000000000000002\nclient 1 site 0 replies 3 0000000e800000000001000000000000000200000001820000000a85000000000000000002\nsite 0 up epoch 1 events 10 records 3 got 2 committed 2 log 0:1,0:2\n",
+    )
+}
+
+#[test]
+fn a_set_and_a_regular_object_are_not_taken_for_each_other(rt: HostRuntime) -> Result<(), Fail> {
+    answers(
+        &rt,
+        "",
+        &[
+            START,
+            "0000000d02000000030000000000000001",
+            "00000012030000000300000000000000010000000161",
+            "00000015040000000100000000000000050000000000000009",
+            "00000015050000000100000000000000050000000000000009",
+            "0000000d06000000010000000000000005",
+            "00000015070000000100000000000000050000000000000009",
+            "0000000d06000000090000000000000001",
+        ],
+        "call call call call call call call call",
+        &[
+            STARTED,
+            "00000002e002",
+            "00000002e002",
+            "00000002e002",
+            "00000002e002",
+            "00000002e002",
+            "00000002e002",
+            "00000002e001",
+        ],
+    )
+}
+
+#[test]
+fn a_transaction_has_256_updates_at_most(rt: HostRuntime) -> Result<(), Fail> {
+    let mut frames = vec![in rt.alloc(); START]?;
+    let mut replies = vec![in rt.alloc(); STARTED]?;
+    for _ in 0..256 {
+        frames.push(SET_ADD)?;
+        replies.push(DONE)?;
+    }
+    frames.push(SET_ADD)?;
+    replies.push("00000002e003")?;
+    frames.push(COMMIT)?;
+    replies.push(COMMITTED)?;
+    let words = joined(&rt, "call", " ", frames.len())?;
+    answers(&rt, "", &frames, &words, &replies)
+}
+
+// The frames that add so many ids from this one on, and commit them.
+fn adding(rt: &impl AllocGlobal, first: u16, count: u16) -> Result<String, Fail> {
+    let mut frames = String::from_str(rt.alloc(), START)?;
+    for place in 0..count {
+        let id = u32::from(first) + u32::from(place);
+        let frame = format!(in rt.alloc(); "0000001504000000030000000000000001{id:016x}")?;
+        frames.push_str(&frame)?;
+    }
+    frames.push_str(COMMIT)?;
+    Ok(frames)
+}
+
+#[test]
+fn a_set_of_4095_ids_is_read_and_a_wider_one_is_refused(rt: HostRuntime) -> Result<(), Fail> {
+    let alloc = rt.alloc();
+    let mut sent = adding(&rt, 0, 255)?;
+    for round in 0..15 {
+        sent.push_str(&adding(&rt, 255 + round * 256, 256)?)?;
+    }
+    sent.push_str(START)?;
+    sent.push_str(SET_READ)?;
+    sent.push_str("0000001504000000030000000000000001000000000000ffff")?;
+    sent.push_str(SET_READ)?;
+    let steps = joined(&rt, r#"["call",0]"#, ",", 16 * 2 + 4095 + 4)?;
+    let scenario = format!(in alloc;
+        r#"{{"sites":1,"f":0,"containers":[[3,"cset",0]],"clients":[[0,"{sent}"]],"steps":[{steps}]}}"#
+    )?;
+    let mut source = BytesSource::from(scenario.into_bytes());
+    let words = vec![in alloc; String::from_str(alloc, "play")?]?;
+    let mut sink = MemorySink::with_room(alloc, 500_000, Vec::new(alloc))?;
+    let mut rack = MemoryRack::new(alloc);
+    let ended = top(&rt, &words, &mut source, &mut sink, &mut rack);
+    assert_eq!(rt; ended.status, 0);
+    let text = str::from_utf8(sink.as_slice())?;
+    assert!(rt; text.contains("0000fff58300000fff00000000000000000000000000000001"));
+    assert!(rt; text.contains("000000018200000002e00b\n"), "{text}");
+    Ok(())
 }
 
 #[test]

@@ -73,7 +73,8 @@ count_unseen oid id vector rows i row within is unseen =
     ap (count_of oid id) (seen_more vector rows i row within is ∙ ap (λ b. seen_updates vector (take i rows) ++ map (λ (r : Row). r.update) (cond b (row ∷ []) [])) fails
     ∙ append-nil (seen_updates vector (take i rows)))
 
-few_seen : (vector : List ℕ) (rows : List Row) → length (seen_updates vector rows) ≤ length rows
+-- no more updates are seen than there are rows
+pub few_seen : (vector : List ℕ) (rows : List Row) → length (seen_updates vector rows) ≤ length rows
 few_seen vector rows =
     let all = length-map (filter (sees_row vector) rows) (λ (r : Row). r.update) in
     let some = length-filter (sees_row vector) rows in

@@ -1,22 +1,27 @@
 -- Which calls may want memory: those whose plan has a record, or a reply whose copy takes memory.
 use Rattle.std.proofs.Common.{◌≡◌, Bool, true, false, Option, Some, None, Result, Ok, Err, refl, sym, ◌∙◌, subst, if◌then◌else◌, ◌⊎◌, inl, inr}
-use Rattle.std.specs.Prelude.{not, is_some, OnErr}
+use Rattle.std.specs.Prelude.{ℤ, not, is_some, OnErr}
+use Rattle.std.specs.FinMap.{get}
 use Rattle.walter_base.specs.declared.catalog.Catalog.{Catalog}
+use Rattle.walter_base.specs.declared.containers.Container.{Container}
 use Rattle.walter_base.specs.declared.message.BadFrame.{BadFrame as Bad}
 use Rattle.walter_base.specs.declared.message.Record.{Record}
 use Rattle.walter_base.specs.declared.message.Refusal.TheVariants.{WrongSite, NotIssued}
 use Rattle.walter_base.specs.declared.message.Reply.{Reply}
-use Rattle.walter_base.specs.declared.message.Reply.TheVariants.{Level}
+use Rattle.walter_base.specs.declared.message.Reply.TheVariants.{Count, Level}
 use Rattle.walter_base.specs.declared.message.Request.{Request}
-use Rattle.walter_base.specs.declared.message.Request.TheVariants.{Start, Read, Write, Commit, Abort, Level as LevelAsked}
+use Rattle.walter_base.specs.declared.message.Request.TheVariants.{Start, Read, Write, SetAdd, SetDel, SetRead, SetReadId, Commit, Abort, Level as LevelAsked}
+use Rattle.walter_base.specs.declared.names.Kind.{Kind}
+use Rattle.walter_base.specs.declared.names.Kind.TheVariants.{Regular, Cset}
 use Rattle.walter_base.specs.declared.names.SiteId.{SiteId}
 use Rattle.walter_base.specs.declared.names.Tid.{Tid}
 use Rattle.walter_base.specs.Names.{same_site}
+use Rattle.walter_base.specs.Values.{count_of}
 use Rattle.walter_site.specs.Sites.{expected}
 use Rattle.walter_trail.specs.declared.trail.Outcome.{Outcome}
 use Rattle.walter_trail.specs.declared.trail.Outcome.TheVariants.{Replied}
-use Rattle.walter_trail.specs.Knowledge.{Knowledge, Session}
-use Rattle.walter_trail.specs.Rule.{Expected, call_rule, answers, refuses, tells_level, is_issued, level_of, MayWant}
+use Rattle.walter_trail.specs.Knowledge.{Knowledge, Session, read_updates}
+use Rattle.walter_trail.specs.Rule.{Expected, call_rule, if_cset, if_counted, answers, refuses, tells_level, is_issued, level_of, MayWant}
 use Rattle.walter_engine.specs.Advances.{TakesCopy}
 
 -- nothing of what is expected takes memory to copy
@@ -31,6 +36,15 @@ if_free : (b : Bool) (x y : Expected) → IsFree x → IsFree y → IsFree (if b
 if_free true x y p q = p
 if_free false x y p q = q
 
+-- the count of an id, of a set that counts or of none
+counted_free : (kind : Kind) (n : ℤ) → IsFree (if_counted kind (answers (Count n)))
+counted_free Cset n = (refl, λ t. t)
+counted_free Regular n = (refl, λ t. t)
+
+count_free : (container : Option Container) (n : ℤ) → IsFree (if_cset container (answers (Count n)))
+count_free None n = (refl, λ t. t)
+count_free (Some container) n = counted_free container.kind n
+
 level_free : (i : SiteId) (K : Knowledge) (tid : Tid) → IsFree (tells_level i K tid)
 level_free i K tid =
     if_free (not (same_site tid.site i)) (refuses WrongSite) (if is_issued K tid then answers (Level (level_of K tid)) else refuses NotIssued) (refl, λ t. t)
@@ -43,6 +57,11 @@ free_or_may catalog i K (Err bad) session = inl (refl, λ t. t)
 free_or_may catalog i K (Ok Start) session = inr tt
 free_or_may catalog i K (Ok (Read oid)) session = inr tt
 free_or_may catalog i K (Ok (Write oid bytes)) session = inr tt
+free_or_may catalog i K (Ok (SetAdd oid id)) session = inr tt
+free_or_may catalog i K (Ok (SetDel oid id)) session = inr tt
+free_or_may catalog i K (Ok (SetRead oid)) session = inr tt
+free_or_may catalog i K (Ok (SetReadId oid id)) None = inl (refl, λ t. t)
+free_or_may catalog i K (Ok (SetReadId oid id)) (Some s) = inl (count_free (get catalog.containers oid.container) (count_of oid id (read_updates K s)))
 free_or_may catalog i K (Ok Commit) session = inr tt
 free_or_may catalog i K (Ok Abort) None = inl (refl, λ t. t)
 free_or_may catalog i K (Ok Abort) (Some s) = inl (refl, λ t. t)

@@ -184,6 +184,7 @@ fn copy_reply(reply: &Reply) -> Mem<Reply>
     ensures free { OnErr result (TakesCopy reply.now) }
 {
     match reply {
+        Reply::Count(count) => Ok(Reply::Count(*count)),
         Reply::Aborted(cause) => Ok(Reply::Aborted(*cause)),
         Reply::Level(level) => Ok(Reply::Level(*level)),
         Reply::Refused(refusal) => Ok(Reply::Refused(*refusal)),

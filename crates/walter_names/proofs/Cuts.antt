@@ -2,6 +2,7 @@
 use Rattle.std.proofs.Common.{◌≡◌, ◌≢◌, ℕ, ◌+◌, ◌-◌, ◌^◌, ◌<◌, ◌≤◌, List, [], ◌++◌, length, take, drop, replicate, refl, sym, ap, ◌∙◌, inl, inr, append_assoc, get_or, arith}
 use Rattle.std.proofs.lemmas.Bool.{cases_lt}
 use Rattle.std.proofs.lemmas.List.{length-append, length-take, length-drop, length-replicate, take-append-drop, get_or_append_left, get_or-append_right, get_or_past, get_or-replicate}
+use Rattle.walter_base.specs.declared.names.ObjId.{ObjId}
 use Rattle.walter_fields.specs.Cursors.{LacksBlock}
 use Rattle.walter_fields.specs.Spellings.{IsBytes, number_spelled, number_read, block_spelled}
 use Rattle.walter_fields.proofs.Numbers.{number_read-lt, number_read-append, number_spelled-read}
@@ -43,6 +44,13 @@ number_of_rest j k bytes fits long = number_spelled-read k (drop j bytes) (omega
 
 two_numbers : (j k : ℕ) (bytes : List ℕ) → IsBytes bytes → length bytes ≡ j + k → bytes ≡ number_spelled j (number_read j (take j bytes)) ++ number_spelled k (number_read k (drop j bytes))
 two_numbers j k bytes fits long = rw (number_of_front j bytes fits (omega (arith, long)), number_of_rest j k bytes fits long) (sym (take-append-drop j bytes))
+
+-- an object and an id, and their bytes
+abbrev pub IsMember : ObjId × ℕ → Type 0
+IsMember member = IsObject member.0 × (member.1 < 2 ^ 64)
+
+abbrev pub member_spelled : ObjId × ℕ → List ℕ
+member_spelled member = object_spelled member.0 ++ number_spelled 8 member.1
 
 pub cut_object : (left : List ℕ) → IsBytes left → length left < 12 → IsCut IsObject object_spelled left
 cut_object left fits few =
@@ -90,6 +98,27 @@ cut_tid left fits few =
       spells =
           sym (take-append-drop 5 whole) ∙ ap (λ t. t ++ drop 5 whole) (two_numbers 1 4 front front_bytes (omega (arith, length-take 5 whole)))
           ∙ ap (λ t. (number_spelled 1 (number_read 1 (take 1 front)) ++ number_spelled 4 (number_read 4 (drop 1 front))) ++ t) (sym (number_of_rest 5 8 whole bytes long));
+    }
+
+-- an object, and eight bytes of a number
+pub cut_member : (left : List ℕ) → IsBytes left → length left < 20 → IsCut IsMember member_spelled left
+cut_member left fits few =
+    let whole = left ++ replicate (20 - length left) 0 in
+    let bytes : IsBytes whole = IsBytes-zeros left (20 - length left) fits in
+    let front = take 12 whole in
+    let front_bytes : IsBytes front = IsBytes-take 12 whole bytes in
+    let long = filled 20 left few in
+    let container = number_read-lt 4 (take 4 front) (IsBytes-take 4 front front_bytes) in
+    let local = number_read-lt 8 (drop 4 front) (IsBytes-drop 4 front front_bytes) in
+    let id = number_read-lt 8 (drop 12 whole) (IsBytes-drop 12 whole bytes) in
+    record {
+      value = (record { container = number_read 4 (take 4 front); local = number_read 8 (drop 4 front) }, number_read 8 (drop 12 whole));
+      more = replicate (20 - length left) 0;
+      ranges = ((omega (arith, container), omega (arith, local)), omega (arith, id));
+      some = some_zeros (20 - length left) (omega arith);
+      spells =
+          sym (take-append-drop 12 whole) ∙ ap (λ t. t ++ drop 12 whole) (two_numbers 4 8 front front_bytes (omega (arith, length-take 12 whole)))
+          ∙ ap (λ t. (number_spelled 4 (number_read 4 (take 4 front)) ++ number_spelled 8 (number_read 8 (drop 4 front))) ++ t) (sym (number_of_rest 12 8 whole bytes long));
     }
 
 -- so many bytes as four bytes of length say, with zeros for those that lack

@@ -7,7 +7,6 @@ pub mod Logs
 pub mod Seen
 pub mod Versions
 pub mod CheckerLists
-pub mod CheckerCounts
 pub mod TimestampFacts
 pub mod ReadFacts
 pub mod WriterFacts

@@ -1,13 +1,11 @@
 -- What a checker of histories looks for.
-use Rattle.std.specs.Prelude.{◌≡◌, ◌≢◌, ◌⊎◌, ℕ, ℤ, pos, List, [], ◌∷◌, Some, Any, Contains, slice_get, take, if◌then◌else◌}
+use Rattle.std.specs.Prelude.{◌≡◌, ◌≢◌, ℕ, List, Some, Contains, slice_get, take}
 use Rattle.walter_base.specs.declared.names.ObjId.{ObjId}
 use Rattle.walter_base.specs.declared.names.SiteId.{SiteId}
 use Rattle.walter_base.specs.declared.names.Tid.{Tid}
 use Rattle.walter_base.specs.declared.transaction.Cause.{Cause}
 use Rattle.walter_base.specs.declared.update.Update.{Update}
-use Rattle.walter_base.specs.declared.update.Update.TheVariants.{Write, Add, Del}
-use Rattle.walter_base.specs.Names.{same_object}
-use Rattle.walter_base.specs.Values.{count_of, write_set, DoConflict}
+use Rattle.walter_base.specs.Values.{write_set, DoConflict}
 use Rattle.walter_psi.specs.declared.step.Step.{Step}
 use Rattle.walter_psi.specs.declared.step.Step.TheVariants.{Start, Commit, Abort}
 use Rattle.walter_psi.specs.Histories.{snapshot, committed_updates}
@@ -39,21 +37,3 @@ pub record Blocks (steps : List Step) (snapshot : List Tid) (x : Tid) (updates :
 -- a transaction wrote the object, and isn't in the snapshot
 abbrev pub IsUnseenWriter : Tid → List Step → ObjId → Tid → Type 0
 IsUnseenWriter x steps oid y = Contains (write_set (committed_updates steps y)) oid × ¬ Contains (snapshot x steps) y
-
--- the entry is the count of its id, which isn't 0
-abbrev pub IsCountOf : ObjId → List Update → ℕ × ℤ → Type 0
-IsCountOf oid updates entry = (count_of oid entry.0 updates ≡ entry.1) × (entry.1 ≢ pos 0)
-
--- one of the entries is of the id
-abbrev pub HasId : ℕ → List (ℕ × ℤ) → Type 0
-HasId id counts = Any (λ entry. entry.0 ≡ id) counts
-
--- the id has an entry, if its count isn't 0
-abbrev pub IsListed : ObjId → List Update → List (ℕ × ℤ) → ℕ → Type 0
-IsListed oid updates counts id = (count_of oid id updates ≡ pos 0) ⊎ HasId id counts
-
--- the id of the set that an update names, if it names one
-abbrev pub ids_named : ObjId → Update → List ℕ
-ids_named oid (Write at bytes) = []
-ids_named oid (Add at id) = if same_object at oid then id ∷ [] else []
-ids_named oid (Del at id) = if same_object at oid then id ∷ [] else []

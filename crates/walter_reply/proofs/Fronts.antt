@@ -1,13 +1,16 @@
 -- Bytes that end within a reply are the front of a spelling.
 use Rattle.std.proofs.Common.{◌≡◌, ◌≢◌, ℕ, ◌-◌, ◌^◌, ◌<◌, List, [], ◌∷◌, ◌++◌, length, refl, sym, ap, subst, ◌∙◌, inl, inr, append_assoc, append-nil, arith}
 use Rattle.std.specs.Prelude.{Some, None}
+use Rattle.std.specs.Int.{w64, cast_signed}
+use Rattle.std.proofs.Math.Facts.{sfits_to_z}
+use Rattle.std.proofs.lemmas.Int.{of_z-to_z}
 use Rattle.std.proofs.lemmas.Bool.{cases_lt}
 use Rattle.std.proofs.lemmas.List.{nil_from_length, length-append, get_or_append_left, get_or-append_right}
 use Rattle.walter_base.specs.declared.message.Level.{Level as HowFar}
 use Rattle.walter_base.specs.declared.message.Level.TheVariants as reached
 use Rattle.walter_base.specs.declared.message.Refusal.TheVariants.{NoTx, Gone, BadFrame, JournalFull}
 use Rattle.walter_base.specs.declared.message.Reply.{Reply}
-use Rattle.walter_base.specs.declared.message.Reply.TheVariants.{Started, Value, Committed, Aborted, Level, Ended, Unsure, Refused}
+use Rattle.walter_base.specs.declared.message.Reply.TheVariants.{Started, Value, Count, Committed, Aborted, Level, Ended, Unsure, Refused}
 use Rattle.walter_base.specs.declared.names.ObjId.{ObjId}
 use Rattle.walter_base.specs.declared.names.Tid.{Tid}
 use Rattle.walter_base.specs.declared.names.Version.{Version}
@@ -150,6 +153,13 @@ cut_number k left bytes few =
       spells = sym (number_spelled-read k (left ++ more) count whole);
     }
 
+pub cut_count : (left : List ℕ) → length left < 8 → IsBytes (number_spelled 1 0x84 ++ left) → IsFront (number_spelled 1 0x84 ++ left)
+cut_count left few bytes =
+    let cut = cut_number 8 left (IsBytes-behind (number_spelled 1 0x84) left bytes) few in
+    let low : cut.value < 2 ^ 64 = omega (arith, cut.ranges) in
+    front_of 0x84 left cut.more (number_spelled 8 cut.value) (Count (cast_signed w64 cut.value)) (sfits_to_z {w = w64} record { fits = low }) cut.some cut.spells
+    (ap (λ n. number_spelled 1 0x84 ++ number_spelled 8 n) (of_z-to_z w64 cut.value low))
+
 pub cut_place : (left mid : List ℕ) → left ≡ number_spelled 1 8 ++ mid → length mid < 4 → IsBytes (number_spelled 1 0xE0 ++ left) → IsFront (number_spelled 1 0xE0 ++ left)
 cut_place left mid is few bytes =
     let cut = cut_number 4 mid (bytes_behind_two 0xE0 8 left mid is bytes) few in
@@ -214,14 +224,3 @@ unknown_refusal n left mid low not is = record {
   place = refl;
   nothing = refusal refl (λ why e. not (subst IsRefusalNumber (sym e) (refusal_number-known why)));
 }
-
-pub not_kind : (k : ℕ) → k ≢ 0x80 → k ≢ 0x81 → k ≢ 0x82 → k ≢ 0x85 → k ≢ 0x86 → k ≢ 0x88 → k ≢ 0x89 → k ≢ 0x8A → k ≢ 0xE0 → ¬ IsKind k
-not_kind k a b c d e f g h i (inl is) = a is
-not_kind k a b c d e f g h i (inr (inl is)) = b is
-not_kind k a b c d e f g h i (inr (inr (inl is))) = c is
-not_kind k a b c d e f g h i (inr (inr (inr (inl is)))) = d is
-not_kind k a b c d e f g h i (inr (inr (inr (inr (inl is))))) = e is
-not_kind k a b c d e f g h i (inr (inr (inr (inr (inr (inl is)))))) = f is
-not_kind k a b c d e f g h i (inr (inr (inr (inr (inr (inr (inl is))))))) = g is
-not_kind k a b c d e f g h i (inr (inr (inr (inr (inr (inr (inr (inl is)))))))) = h is
-not_kind k a b c d e f g h i (inr (inr (inr (inr (inr (inr (inr (inr is)))))))) = i is

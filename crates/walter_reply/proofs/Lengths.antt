@@ -1,19 +1,23 @@
 -- How many bytes the spelling of a reply has.
-use Rattle.std.proofs.Common.{◌≡◌, ◌↔◌, ℕ, ◌+◌, List, [], ◌++◌, length, arith}
+use Rattle.std.proofs.Common.{◌≡◌, ◌↔◌, ℕ, ◌+◌, ◌*◌, List, [], ◌++◌, length, arith}
 use Rattle.std.specs.Prelude.{Some, None}
 use Rattle.std.proofs.lemmas.List.{length-append}
+use Rattle.walter_base.specs.Sizes.{IsShortReply}
 use Rattle.walter_base.specs.declared.message.Reply.{Reply}
-use Rattle.walter_base.specs.declared.message.Reply.TheVariants.{Started, Value, Done, Committed, Aborted, Level, Ended, Unsure, Refused}
+use Rattle.walter_base.specs.declared.message.Reply.TheVariants.{Started, Value, Done, Set, Count, Committed, Aborted, Level, Ended, Unsure, Refused}
 use Rattle.walter_base.specs.declared.message.Refusal.TheVariants.{Gone, BadFrame, JournalFull}
 use Rattle.walter_base.specs.declared.transaction.Cause.TheVariants.{Modified, Locked, Asked}
-use Rattle.walter_fields.specs.Spellings.{number_spelled, block_spelled}
+use Rattle.walter_fields.specs.Spellings.{number_spelled, signed_spelled, block_spelled}
 use Rattle.walter_fields.proofs.Numbers.{length-number_spelled}
 use Rattle.walter_names.specs.Names.{object_spelled, tid_spelled, version_spelled}
 use Rattle.walter_names.proofs.Lengths.{length-object_spelled, length-tid_spelled, length-version_spelled, length-block_spelled}
+use Rattle.std.specs.Int.{w64, cast_unsigned}
+use Rattle.walter_reply.specs.Sets.{counts_spelled}
+use Rattle.walter_reply.proofs.Sets.{length-entries, length-counts_spelled}
 use Rattle.walter_reply.specs.Replies.{level_number, refusal_number, reply_spelled, size_of, FitsFrame, HasShortValue}
 
 -- for what is written of a reply
-pub ruleset lengths = (length-append, length-number_spelled, length-object_spelled, length-tid_spelled, length-version_spelled, length-block_spelled)
+pub ruleset lengths = (length-append, length-number_spelled, length-object_spelled, length-tid_spelled, length-version_spelled, length-block_spelled, length-entries)
 
 two_bytes : (k n : ℕ) (fields : List ℕ) → length (number_spelled 1 k ++ (number_spelled 1 n ++ fields)) ≡ 2 + length fields
 two_bytes k n fields =
@@ -32,6 +36,8 @@ length-reply_spelled (Value (Some bytes)) =
       length-block_spelled bytes,
     )
 length-reply_spelled Done = length-number_spelled 1 _
+length-reply_spelled (Set counts) = omega (arith, length-append (number_spelled 1 0x83) (counts_spelled counts), length-number_spelled 1 0x83, length-counts_spelled counts)
+length-reply_spelled (Count count) = omega (arith, length-append (number_spelled 1 0x84) (signed_spelled count), length-number_spelled 1 0x84, length-number_spelled 8 (cast_unsigned w64 count))
 length-reply_spelled (Committed version) = omega (arith, length-append (number_spelled 1 0x85) (version_spelled version), length-number_spelled 1 0x85, length-version_spelled version)
 length-reply_spelled (Aborted (Modified oid version)) =
     omega (
@@ -74,13 +80,20 @@ length-reply_spelled (Refused why) = two_bytes 0xE0 (refusal_number why) []
 
 pub short_reply_fits : (reply : Reply) → HasShortValue reply → FitsFrame reply
 short_reply_fits (Value (Some bytes)) few = omega (arith, few, length-reply_spelled (Value (Some bytes)))
+short_reply_fits (Set counts) few = omega (arith, few, length-reply_spelled (Set counts))
 short_reply_fits (Aborted (Modified oid version)) few = omega (arith, length-reply_spelled (Aborted (Modified oid version)))
 short_reply_fits (Refused (Gone tid)) few = omega (arith, length-reply_spelled (Refused (Gone tid)))
 short_reply_fits reply few = omega (arith, length-reply_spelled reply)
+
+pub short_fits : (reply : Reply) → IsShortReply reply → FitsFrame reply
+short_fits (Value (Some bytes)) short = short_reply_fits (Value (Some bytes)) (omega (arith, short))
+short_fits (Set counts) short = short_reply_fits (Set counts) short
+short_fits reply short = short_reply_fits reply tt
 
 pub which_fit : (reply : Reply) → HasShortValue reply ↔ FitsFrame reply
 which_fit reply = (short_reply_fits reply, fits reply)
   where
     fits : (reply : Reply) → FitsFrame reply → HasShortValue reply
     fits (Value (Some bytes)) all = omega (arith, all, length-reply_spelled (Value (Some bytes)))
+    fits (Set counts) all = omega (arith, all, length-reply_spelled (Set counts))
     fits reply all = tt

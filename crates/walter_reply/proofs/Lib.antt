@@ -1,3 +1,5 @@
+pub mod Sets
+pub mod SetStops
 pub mod Lengths
 pub mod Prefixes
 pub mod Fronts

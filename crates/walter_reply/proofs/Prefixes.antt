@@ -4,16 +4,18 @@ use Rattle.std.specs.Prelude.{Some, None}
 use Rattle.walter_base.specs.declared.message.Level.{Level as HowFar}
 use Rattle.walter_base.specs.declared.message.Level.TheVariants as reached
 use Rattle.walter_base.specs.declared.message.Refusal.{Refusal}
-use Rattle.walter_base.specs.declared.message.Refusal.TheVariants.{UnknownContainer, WrongKind, TxFull, TooLong, NoTx, TxOpen, Gone, BadFrame, Down, JournalFull, SessionsFull, Memory, WrongSite, NotIssued}
+use Rattle.walter_base.specs.declared.message.Refusal.TheVariants.{UnknownContainer, WrongKind, TxFull, TooLong, NoTx, TxOpen, Gone, BadFrame, Down, JournalFull, SetTooWide, SessionsFull, Memory, WrongSite, NotIssued}
 use Rattle.walter_base.specs.declared.message.Reply.{Reply}
-use Rattle.walter_base.specs.declared.message.Reply.TheVariants.{Started, Value, Done, Committed, Aborted, Level, Ended, Unsure, Refused}
+use Rattle.walter_base.specs.declared.message.Reply.TheVariants.{Started, Value, Done, Set, Count, Committed, Aborted, Level, Ended, Unsure, Refused}
 use Rattle.walter_base.specs.declared.transaction.Cause.{Cause}
 use Rattle.walter_base.specs.declared.transaction.Cause.TheVariants.{Modified, Locked, Asked}
-use Rattle.walter_fields.specs.Spellings.{number_spelled, block_spelled}
+use Rattle.walter_fields.specs.Spellings.{number_spelled, signed_spelled, block_spelled}
 use Rattle.walter_fields.proofs.Numbers.{number_spelled-byte, same_number}
-use Rattle.walter_fields.proofs.Readings.{same_block}
+use Rattle.walter_fields.proofs.Readings.{same_block, same_signed}
 use Rattle.walter_names.specs.Names.{object_spelled, tid_spelled, version_spelled}
 use Rattle.walter_names.proofs.Prefixes.{regrouped, same_object, same_tid, same_version}
+use Rattle.walter_reply.specs.Sets.{counts_spelled}
+use Rattle.walter_reply.proofs.Sets.{same_counts}
 use Rattle.walter_reply.specs.Replies.{cause_number, cause_fields, cause_spelled, level_number, refusal_number, refusal_fields, refusal_spelled, reply_spelled, IsCause, IsRefusal, IsReply, Spells}
 
 -- a reply is its first byte, and its fields
@@ -21,6 +23,8 @@ abbrev pub kind_of : Reply → ℕ
 kind_of (Started tid) = 0x80
 kind_of (Value value) = 0x81
 kind_of Done = 0x82
+kind_of (Set counts) = 0x83
+kind_of (Count count) = 0x84
 kind_of (Committed version) = 0x85
 kind_of (Aborted cause) = 0x86
 kind_of (Level level) = 0x88
@@ -33,6 +37,8 @@ fields_spelled (Started tid) = tid_spelled tid
 fields_spelled (Value None) = number_spelled 1 0
 fields_spelled (Value (Some bytes)) = number_spelled 1 1 ++ block_spelled bytes
 fields_spelled Done = []
+fields_spelled (Set counts) = counts_spelled counts
+fields_spelled (Count count) = signed_spelled count
 fields_spelled (Committed version) = version_spelled version
 fields_spelled (Aborted cause) = cause_spelled cause
 fields_spelled (Level level) = number_spelled 1 (level_number level)
@@ -45,6 +51,8 @@ reply_parts (Started tid) x = append_assoc (number_spelled 1 0x80) (tid_spelled 
 reply_parts (Value None) x = append_assoc (number_spelled 1 0x81) (number_spelled 1 0) x
 reply_parts (Value (Some bytes)) x = append_assoc (number_spelled 1 0x81) (number_spelled 1 1 ++ block_spelled bytes) x
 reply_parts Done x = refl
+reply_parts (Set counts) x = append_assoc (number_spelled 1 0x83) (counts_spelled counts) x
+reply_parts (Count count) x = append_assoc (number_spelled 1 0x84) (signed_spelled count) x
 reply_parts (Committed version) x = append_assoc (number_spelled 1 0x85) (version_spelled version) x
 reply_parts (Aborted cause) x = append_assoc (number_spelled 1 0x86) (cause_spelled cause) x
 reply_parts (Level level) x = append_assoc (number_spelled 1 0x88) (number_spelled 1 (level_number level)) x
@@ -56,6 +64,8 @@ pub kind_of-lt : (a : Reply) → kind_of a < 256
 kind_of-lt (Started tid) = omega arith
 kind_of-lt (Value value) = omega arith
 kind_of-lt Done = omega arith
+kind_of-lt (Set counts) = omega arith
+kind_of-lt (Count count) = omega arith
 kind_of-lt (Committed version) = omega arith
 kind_of-lt (Aborted cause) = omega arith
 kind_of-lt (Level level) = omega arith
@@ -75,27 +85,27 @@ level_number-lt reached.Committed = omega arith
 level_number-lt reached.Durable = omega arith
 level_number-lt reached.Visible = omega arith
 
--- the numbers of refusals are those from 1 to 15, but 11
+-- the numbers of refusals are those from 1 to 15
 pub record IsRefusalNumber (n : ℕ) : Type 0 where
   pub some : 1 ≤ n
   pub most : n ≤ 15
-  pub not_11 : n ≢ 11
 
 pub refusal_number-known : (why : Refusal) → IsRefusalNumber (refusal_number why)
-refusal_number-known UnknownContainer = record { some = omega arith; most = omega arith; not_11 = λ e. omega (arith, e) }
-refusal_number-known WrongKind = record { some = omega arith; most = omega arith; not_11 = λ e. omega (arith, e) }
-refusal_number-known TxFull = record { some = omega arith; most = omega arith; not_11 = λ e. omega (arith, e) }
-refusal_number-known TooLong = record { some = omega arith; most = omega arith; not_11 = λ e. omega (arith, e) }
-refusal_number-known NoTx = record { some = omega arith; most = omega arith; not_11 = λ e. omega (arith, e) }
-refusal_number-known TxOpen = record { some = omega arith; most = omega arith; not_11 = λ e. omega (arith, e) }
-refusal_number-known (Gone tid) = record { some = omega arith; most = omega arith; not_11 = λ e. omega (arith, e) }
-refusal_number-known (BadFrame at) = record { some = omega arith; most = omega arith; not_11 = λ e. omega (arith, e) }
-refusal_number-known Down = record { some = omega arith; most = omega arith; not_11 = λ e. omega (arith, e) }
-refusal_number-known (JournalFull need left) = record { some = omega arith; most = omega arith; not_11 = λ e. omega (arith, e) }
-refusal_number-known SessionsFull = record { some = omega arith; most = omega arith; not_11 = λ e. omega (arith, e) }
-refusal_number-known Memory = record { some = omega arith; most = omega arith; not_11 = λ e. omega (arith, e) }
-refusal_number-known WrongSite = record { some = omega arith; most = omega arith; not_11 = λ e. omega (arith, e) }
-refusal_number-known NotIssued = record { some = omega arith; most = omega arith; not_11 = λ e. omega (arith, e) }
+refusal_number-known UnknownContainer = record { some = omega arith; most = omega arith }
+refusal_number-known WrongKind = record { some = omega arith; most = omega arith }
+refusal_number-known TxFull = record { some = omega arith; most = omega arith }
+refusal_number-known TooLong = record { some = omega arith; most = omega arith }
+refusal_number-known NoTx = record { some = omega arith; most = omega arith }
+refusal_number-known TxOpen = record { some = omega arith; most = omega arith }
+refusal_number-known (Gone tid) = record { some = omega arith; most = omega arith }
+refusal_number-known (BadFrame at) = record { some = omega arith; most = omega arith }
+refusal_number-known Down = record { some = omega arith; most = omega arith }
+refusal_number-known (JournalFull need left) = record { some = omega arith; most = omega arith }
+refusal_number-known SetTooWide = record { some = omega arith; most = omega arith }
+refusal_number-known SessionsFull = record { some = omega arith; most = omega arith }
+refusal_number-known Memory = record { some = omega arith; most = omega arith }
+refusal_number-known WrongSite = record { some = omega arith; most = omega arith }
+refusal_number-known NotIssued = record { some = omega arith; most = omega arith }
 
 pub refusal_number-lt : (why : Refusal) → refusal_number why < 256
 refusal_number-lt why = omega (arith, (refusal_number-known why).most)
@@ -134,6 +144,7 @@ same_refusal (JournalFull a m) (JournalFull b n) x y same fits_a fits_b e =
     let one = same_number 8 a b (number_spelled 8 m ++ x) (number_spelled 8 n ++ y) (omega (arith, fits_a.0)) (omega (arith, fits_b.0)) (regrouped (number_spelled 8 a) (number_spelled 8 m) x (number_spelled 8 b) (number_spelled 8 n) y e) in
     let two = same_number 8 m n x y (omega (arith, fits_a.1)) (omega (arith, fits_b.1)) one.1 in
     ((λ i. JournalFull (one.0 i) (two.0 i)), two.1)
+same_refusal SetTooWide SetTooWide x y same fits_a fits_b e = (refl, e)
 same_refusal SessionsFull SessionsFull x y same fits_a fits_b e = (refl, e)
 same_refusal Memory Memory x y same fits_a fits_b e = (refl, e)
 same_refusal WrongSite WrongSite x y same fits_a fits_b e = (refl, e)
@@ -154,6 +165,8 @@ same_fields (Value (Some v)) (Value (Some w)) x y same fits_a fits_b e =
     let parts = same_block v w x y fits_a fits_b blocks in
     ((λ i. Value (Some (parts.0 i))), parts.1)
 same_fields Done Done x y same fits_a fits_b e = (refl, e)
+same_fields (Set a) (Set b) x y same fits_a fits_b e = let parts = same_counts a b x y fits_a fits_b e in ((λ i. Set (parts.0 i)), parts.1)
+same_fields (Count a) (Count b) x y same fits_a fits_b e = let parts = same_signed a b x y fits_a fits_b e in ((λ i. Count (parts.0 i)), parts.1)
 same_fields (Committed a) (Committed b) x y same fits_a fits_b e = let parts = same_version a b x y fits_a fits_b e in ((λ i. Committed (parts.0 i)), parts.1)
 same_fields (Aborted a) (Aborted b) x y same fits_a fits_b e =
     let numbers = same_number 1 (cause_number a) (cause_number b) (cause_fields a ++ x) (cause_fields b ++ y) (omega (arith, cause_number-lt a)) (omega (arith, cause_number-lt b))

@@ -1,15 +1,17 @@
 -- How replies are spelled, and what is wrong with bytes that spell none (docs/FORMATS.md, "Frames of a client").
-use Rattle.std.specs.Prelude.{◌≡◌, ◌≢◌, ◌⊎◌, ◌<◌, ◌≤◌, ◌^◌, ◌+◌, ℕ, List, [], ◌∷◌, ◌++◌, length, Some, None}
+use Rattle.std.specs.Prelude.{◌≡◌, ◌≢◌, ◌⊎◌, ◌<◌, ◌≤◌, ◌^◌, ◌+◌, ◌*◌, ℕ, List, [], ◌∷◌, ◌++◌, length, Some, None, FitsSigned}
+use Rattle.std.specs.Int.{w64}
 use Rattle.walter_base.specs.declared.message.Level.{Level as HowFar}
 use Rattle.walter_base.specs.declared.message.Level.TheVariants as reached
 use Rattle.walter_base.specs.declared.message.Refusal.{Refusal}
-use Rattle.walter_base.specs.declared.message.Refusal.TheVariants.{UnknownContainer, WrongKind, TxFull, TooLong, NoTx, TxOpen, Gone, BadFrame, Down, JournalFull, SessionsFull, Memory, WrongSite, NotIssued}
+use Rattle.walter_base.specs.declared.message.Refusal.TheVariants.{UnknownContainer, WrongKind, TxFull, TooLong, NoTx, TxOpen, Gone, BadFrame, Down, JournalFull, SetTooWide, SessionsFull, Memory, WrongSite, NotIssued}
 use Rattle.walter_base.specs.declared.message.Reply.{Reply}
-use Rattle.walter_base.specs.declared.message.Reply.TheVariants.{Started, Value, Done, Committed, Aborted, Level, Ended, Unsure, Refused}
+use Rattle.walter_base.specs.declared.message.Reply.TheVariants.{Started, Value, Done, Set, Count, Committed, Aborted, Level, Ended, Unsure, Refused}
 use Rattle.walter_base.specs.declared.transaction.Cause.{Cause}
 use Rattle.walter_base.specs.declared.transaction.Cause.TheVariants.{Modified, Locked, Asked}
-use Rattle.walter_fields.specs.Spellings.{number_spelled, block_spelled}
+use Rattle.walter_fields.specs.Spellings.{number_spelled, signed_spelled, block_spelled}
 use Rattle.walter_names.specs.Names.{object_spelled, tid_spelled, version_spelled, IsObject, IsTid, IsVersion}
+use Rattle.walter_reply.specs.Sets.{counts_spelled, AreRightCounts, IsBadCounts}
 use Rattle.walter_reply.specs.declared.fault.ReplyFault.{ReplyFault}
 use Rattle.walter_reply.specs.declared.fault.ReplyFault.TheVariants as fault
 
@@ -47,6 +49,7 @@ refusal_number (Gone tid) = 7
 refusal_number (BadFrame at) = 8
 refusal_number Down = 9
 refusal_number (JournalFull need left) = 10
+refusal_number SetTooWide = 11
 refusal_number SessionsFull = 12
 refusal_number Memory = 13
 refusal_number WrongSite = 14
@@ -66,6 +69,8 @@ reply_spelled (Started tid) = number_spelled 1 0x80 ++ tid_spelled tid
 reply_spelled (Value None) = number_spelled 1 0x81 ++ number_spelled 1 0
 reply_spelled (Value (Some bytes)) = number_spelled 1 0x81 ++ (number_spelled 1 1 ++ block_spelled bytes)
 reply_spelled Done = number_spelled 1 0x82
+reply_spelled (Set counts) = number_spelled 1 0x83 ++ counts_spelled counts
+reply_spelled (Count count) = number_spelled 1 0x84 ++ signed_spelled count
 reply_spelled (Committed version) = number_spelled 1 0x85 ++ version_spelled version
 reply_spelled (Aborted cause) = number_spelled 1 0x86 ++ cause_spelled cause
 reply_spelled (Level level) = number_spelled 1 0x88 ++ number_spelled 1 (level_number level)
@@ -79,6 +84,8 @@ size_of (Started tid) = 14
 size_of (Value None) = 2
 size_of (Value (Some bytes)) = 6 + length bytes
 size_of Done = 1
+size_of (Set counts) = 5 + 16 * length counts
+size_of (Count count) = 9
 size_of (Committed version) = 10
 size_of (Aborted (Modified oid version)) = 23
 size_of (Aborted (Locked oid owner)) = 27
@@ -103,11 +110,14 @@ IsRefusal (BadFrame at) = at < 2 ^ 32
 IsRefusal (JournalFull need left) = (need < 2 ^ 64) × (left < 2 ^ 64)
 IsRefusal refusal = Unit {0}
 
+-- and the entries of a Set are right, and at most 4,095
 abbrev pub IsReply : Reply → Type 0
 IsReply (Started tid) = IsTid tid
 IsReply (Value None) = Unit {0}
 IsReply (Value (Some bytes)) = length bytes < 2 ^ 32
 IsReply Done = Unit {0}
+IsReply (Set counts) = AreRightCounts counts
+IsReply (Count count) = FitsSigned w64 count
 IsReply (Committed version) = IsVersion version
 IsReply (Aborted cause) = IsCause cause
 IsReply (Level level) = Unit {0}
@@ -124,14 +134,15 @@ pub record Spells (body : List ℕ) (reply : Reply) : Type 0 where
 abbrev pub FitsFrame : Reply → Type 0
 FitsFrame reply = length (reply_spelled reply) ≤ 65536
 
--- where the reply is a value, this has at most 65,530 bytes
+-- where the reply is a value, this has at most 65,530 bytes; and a Set has at most 4,095 entries
 abbrev pub HasShortValue : Reply → Type 0
 HasShortValue (Value (Some bytes)) = length bytes ≤ 65530
+HasShortValue (Set counts) = length counts ≤ 4095
 HasShortValue reply = Unit {0}
 
 -- the first byte of a reply
 abbrev pub IsKind : ℕ → Type 0
-IsKind byte = (byte ≡ 0x80) ⊎ (byte ≡ 0x81) ⊎ (byte ≡ 0x82) ⊎ (byte ≡ 0x85) ⊎ (byte ≡ 0x86) ⊎ (byte ≡ 0x88) ⊎ (byte ≡ 0x89) ⊎ (byte ≡ 0x8A) ⊎ (byte ≡ 0xE0)
+IsKind byte = ((0x80 ≤ byte) × (byte ≤ 0x86)) ⊎ ((0x88 ≤ byte) × (byte ≤ 0x8A)) ⊎ (byte ≡ 0xE0)
 
 -- behind this front the byte stands for nothing: it is no reply's first byte, no flag of a value, no
 -- number of a cause, of a level or of a refusal
@@ -151,11 +162,21 @@ pub record IsUnknown (body : List ℕ) (at : ℕ) : Type 0 where
   pub place : at ≡ length front
   pub nothing : StandsForNothing front byte
 
+-- the body begins as a Set, and what is wrong with its counts is at this place
+pub record IsBadSet (body : List ℕ) (at : ℕ) : Type 0 where
+  pub fields : List ℕ
+  pub place : ℕ
+  pub is : body ≡ 0x83 ∷ fields
+  pub bad : IsBadCounts fields place
+  pub there : at ≡ 1 + place
+
 -- the body spells no reply, and this is the place of what is wrong: 0 where it is empty; that of a byte that stands for
--- nothing; its length where a field runs past its end; the place of the first byte behind the last field
+-- nothing; that of what is wrong with the counts of a Set; its length where a field runs past its end; the place of the
+-- first byte behind the last field
 pub data IsBadFrame (body : List ℕ) (at : ℕ) : Type 0 where
   empty : body ≡ [] → at ≡ 0 → IsBadFrame body at
   unknown : IsUnknown body at → IsBadFrame body at
+  set : IsBadSet body at → IsBadFrame body at
   short : (more : List ℕ) (reply : Reply) → body ≢ [] → more ≢ [] → Spells (body ++ more) reply → at ≡ length body → IsBadFrame body at
   behind : (front rest : List ℕ) (reply : Reply) → body ≡ front ++ rest → rest ≢ [] → Spells front reply → at ≡ length front → IsBadFrame body at
 

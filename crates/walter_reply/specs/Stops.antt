@@ -1,11 +1,11 @@
 -- What a reader of replies has taken, and why it stopped (docs/FORMATS.md, "Frames of a client").
-use Rattle.std.specs.Prelude.{◌≡◌, ◌≢◌, ℕ, List, [], ◌++◌}
+use Rattle.std.specs.Prelude.{◌≡◌, ◌≢◌, ℕ, List, [], ◌++◌, length}
 use Rattle.walter_base.specs.declared.message.Reply.{Reply}
 use Rattle.walter_fields.specs.Cursors.{Unread}
 use Rattle.walter_fields.specs.Spellings.{IsBytes, number_spelled}
-use Rattle.walter_reply.specs.Replies.{reply_spelled, IsReply, Spells, IsUnknown}
+use Rattle.walter_reply.specs.Replies.{reply_spelled, IsReply, Spells, IsUnknown, IsBadSet}
 use Rattle.walter_reply.specs.declared.fault.Stop.{Stop}
-use Rattle.walter_reply.specs.declared.fault.Stop.TheVariants.{Cut, Unknown, NoMemory}
+use Rattle.walter_reply.specs.declared.fault.Stop.TheVariants.{Cut, Unknown, CutSet, BadSet, NoMemory}
 
 -- what was taken ends the spelling of the reply, which the first byte begins
 pub record EndsWith (kind : ℕ) (old new : Unread) (reply : Reply) : Type 0 where
@@ -24,6 +24,8 @@ pub record IsFront (bytes : List ℕ) : Type 0 where
 abbrev pub StopsAt : List ℕ → Stop → Type 0
 StopsAt left Cut = IsBytes left → IsFront left
 StopsAt left (Unknown at) = IsUnknown left at
+StopsAt left CutSet = IsBadSet left (length left)
+StopsAt left (BadSet at) = IsBadSet left at
 StopsAt left NoMemory = Unit {0}
 
 -- why nothing that ends a reply is read of what is left behind its first byte

@@ -1,11 +1,13 @@
-ghost use Rattle.std.specs.Prelude.{◌≤◌, length, IfOk, IfErr};
+ghost use Rattle.std.specs.Prelude.{◌≡◌, ◌≢◌, ◌↔◌, ◌≤◌, ◌<◌, ◌++◌, ℕ, pos, length, flat_map, AllPairs, IsTrue, IfOk, IfErr};
+ghost use Rattle.walter_fields.specs.Spellings.{number_spelled};
 ghost use Rattle.walter_fields.specs.Cursors.{Takes};
 ghost use Rattle.walter_reply.specs.Replies.{reply_spelled, IsReply, Spells, IsFaultOf};
+ghost use Rattle.walter_reply.specs.Sets.{entry_spelled, counts_spelled, IsEntry, AreEntries, AreRightCounts, IsAbove};
 ghost use Rattle.walter_reply.specs.Stops.{EndsWith, StopsBehind, StopsAt};
 
 use crate::fault::{ReplyFault, Stop};
 use std::alloc::Global;
-use walter_base::{Bytes, Cause, Level, Refusal, Reply};
+use walter_base::{Bytes, Cause, Counts, Level, Refusal, Reply};
 use walter_fields::Cursor;
 use walter_names::{read_object, read_tid, read_version};
 
@@ -30,6 +32,95 @@ fn read_value(alloc: Global, cursor: &mut Cursor) -> Result<Reply, Stop>
         }
         _ => Err(Stop::Unknown(1)),
     }
+}
+
+/// The most entries that a Set may have.
+const MOST_ENTRIES: u32 = 4_095;
+
+/// Whether the id is above those of the entries.
+fn is_above(entries: &[(u64, i64)], id: u64) -> bool
+    requires { AllPairs (λ a b. a.0 < b.0) entries.now }
+    ensures { IsTrue result ↔ IsAbove entries.now id }
+{
+    match entries.last() {
+        Some(last) => last.0 < id,
+        None => true,
+    }
+}
+
+/// The entry of a Set that follows these.
+fn read_entry(cursor: &mut Cursor, before: &[(u64, i64)]) -> Result<(u64, i64), Stop>
+    requires few { length before.now ≤ 4095 }
+    requires right { AreEntries before.now }
+    ensures taken { IfOk result (λ entry. Takes cursor.old cursor.new (entry_spelled entry)) }
+    ensures range { IfOk result IsEntry }
+    ensures above { IfOk result (λ entry. IsAbove before.now entry.0) }
+    ensures counted { IfOk result (λ entry. entry.1 ≢ pos 0) }
+    ensures stop { (n : ℕ) → n ≤ 4095 → length before.now < n → IfErr result (StopsBehind 0x83
+        (number_spelled 4 n ++ (flat_map entry_spelled before.now ++ cursor.old.left))) }
+{
+    let at = 5 + 16 * before.len() as u32;
+    let Ok(id) = cursor.u64() else {
+        return Err(Stop::CutSet);
+    };
+    if !is_above(before, id) {
+        return Err(Stop::BadSet(at));
+    }
+    let Ok(count) = cursor.i64() else {
+        return Err(Stop::CutSet);
+    };
+    if count == 0 {
+        return Err(Stop::BadSet(at + 8));
+    }
+    Ok((id, count))
+}
+
+/// So many entries of a Set.
+fn read_entries(alloc: Global, cursor: &mut Cursor, n: u32) -> Result<Vec<(u64, i64)>, Stop>
+    requires { n ≤ 4095 }
+    ensures taken { IfOk result
+        (λ entries. Takes cursor.old cursor.new (flat_map entry_spelled entries.items)) }
+    ensures counted { IfOk result (λ entries. length entries.items ≡ n) }
+    ensures right { IfOk result (λ entries. AreEntries entries.items) }
+    ensures stop { IfErr result (StopsBehind 0x83 (number_spelled 4 n ++ cursor.old.left)) }
+{
+    let mut entries = Vec::new(alloc);
+    for _ in 0..n {
+        let entry = read_entry(cursor, &entries)?;
+        entries.push(entry)?;
+    }
+    Ok(entries)
+}
+
+/// The counts of a Set.
+fn read_counts(alloc: Global, cursor: &mut Cursor) -> Result<Counts, Stop>
+    ensures taken { IfOk result (λ counts. Takes cursor.old cursor.new (counts_spelled counts)) }
+    ensures right { IfOk result AreRightCounts }
+    ensures stop { IfErr result (StopsBehind 0x83 cursor.old.left) }
+{
+    let Ok(n) = cursor.u32() else {
+        return Err(Stop::CutSet);
+    };
+    if n > MOST_ENTRIES {
+        return Err(Stop::BadSet(1));
+    }
+    Ok(Counts::from(read_entries(alloc, cursor, n)?))
+}
+
+/// What stands behind the first byte of Set.
+fn read_set(alloc: Global, cursor: &mut Cursor) -> Result<Reply, Stop>
+    ensures ends { IfOk result (EndsWith 0x83 cursor.old cursor.new) }
+    ensures stop { IfErr result (StopsBehind 0x83 cursor.old.left) }
+{
+    Ok(Reply::Set(read_counts(alloc, cursor)?))
+}
+
+/// What stands behind the first byte of Count.
+fn read_count(cursor: &mut Cursor) -> Result<Reply, Stop>
+    ensures ends { IfOk result (EndsWith 0x84 cursor.old cursor.new) }
+    ensures stop { IfErr result (StopsBehind 0x84 cursor.old.left) }
+{
+    Ok(Reply::Count(cursor.i64()?))
 }
 
 /// What stands behind the first byte of Committed.
@@ -110,6 +201,7 @@ fn read_refused(cursor: &mut Cursor) -> Result<Reply, Stop>
             let left = cursor.u64()?;
             Ok(Reply::Refused(Refusal::JournalFull { need, left }))
         }
+        11 => Ok(Reply::Refused(Refusal::SetTooWide)),
         12 => Ok(Reply::Refused(Refusal::SessionsFull)),
         13 => Ok(Reply::Refused(Refusal::Memory)),
         14 => Ok(Reply::Refused(Refusal::WrongSite)),
@@ -127,6 +219,8 @@ fn read_fields(alloc: Global, cursor: &mut Cursor, kind: u8) -> Result<Reply, St
         0x80 => read_started(cursor),
         0x81 => read_value(alloc, cursor),
         0x82 => Ok(Reply::Done),
+        0x83 => read_set(alloc, cursor),
+        0x84 => read_count(cursor),
         0x85 => read_committed(cursor),
         0x86 => read_aborted(cursor),
         0x88 => read_level(cursor),
@@ -152,6 +246,7 @@ pub fn decode(alloc: Global, body: &[u8]) -> Result<Reply, ReplyFault>
     ensures spelled { IfOk result (λ reply. Spells body.now reply) }
     ensures fault { IfErr result (λ fault. IsFaultOf body.now fault) }
 {
+    let end = body.len() as u32;
     let mut cursor = Cursor::new(body);
     match read_reply(alloc, &mut cursor) {
         Ok(reply) => {
@@ -162,10 +257,9 @@ pub fn decode(alloc: Global, body: &[u8]) -> Result<Reply, ReplyFault>
             }
             Ok(reply)
         }
-        Err(Stop::Cut) => Err(ReplyFault::BadFrame {
-            at: body.len() as u32,
-        }),
-        Err(Stop::Unknown(at)) => Err(ReplyFault::BadFrame { at }),
+        Err(Stop::Cut) => Err(ReplyFault::BadFrame { at: end }),
+        Err(Stop::CutSet) => Err(ReplyFault::BadFrame { at: end }),
+        Err(Stop::Unknown(at) | Stop::BadSet(at)) => Err(ReplyFault::BadFrame { at }),
         Err(Stop::NoMemory) => Err(ReplyFault::NoMemory),
     }
 }

@@ -1,5 +1,6 @@
-ghost use Rattle.std.specs.Prelude.{◌≡◌, ◌+◌, ◌<◌, ◌≤◌, ◌^◌, ◌++◌, length, IfOk};
+ghost use Rattle.std.specs.Prelude.{◌≡◌, ◌+◌, ◌*◌, ◌<◌, ◌≤◌, ◌^◌, ◌++◌, length, IfOk};
 ghost use Rattle.walter_reply.specs.Replies.{cause_number, cause_spelled, level_number, refusal_number, refusal_fields, refusal_spelled, reply_spelled, FitsFrame};
+ghost use Rattle.walter_reply.specs.Sets.{entry_spelled, counts_spelled};
 
 use std::alloc::Global;
 use walter_base::{Bytes, Cause, Level, Mem, NoMemory, Refusal, Reply};
@@ -42,6 +43,7 @@ fn number_of_refusal(refusal: Refusal) -> u8
         Refusal::BadFrame { at: _ } => 8,
         Refusal::Down => 9,
         Refusal::JournalFull { need: _, left: _ } => 10,
+        Refusal::SetTooWide => 11,
         Refusal::SessionsFull => 12,
         Refusal::Memory => 13,
         Refusal::WrongSite => 14,
@@ -89,6 +91,30 @@ fn append_refusal(out: &mut Appender, refusal: Refusal)
     }
 }
 
+// An id, and its count.
+fn append_entry(out: &mut Appender, entry: (u64, i64))
+    requires { 16 ≤ out.old.room }
+    ensures bytes { out.new.bytes ≡ out.old.bytes ++ entry_spelled entry }
+    ensures room { out.new.room + 16 ≡ out.old.room }
+{
+    let (id, count) = entry;
+    out.u64(id);
+    out.i64(count);
+}
+
+// How many entries there are, and the entries.
+fn append_counts(out: &mut Appender, counts: &[(u64, i64)])
+    requires few { length counts.now ≤ 4095 }
+    requires room { 4 + 16 * length counts.now ≤ out.old.room }
+    ensures bytes { out.new.bytes ≡ out.old.bytes ++ counts_spelled counts.now }
+    ensures room { out.new.room + (4 + 16 * length counts.now) ≡ out.old.room }
+{
+    out.u32(counts.len() as u32);
+    for entry in counts {
+        append_entry(out, *entry);
+    }
+}
+
 /// How many bytes the spelling has.
 #[tactic(auto, using(crate::proofs::Lengths::lengths))]
 pub fn size_of(reply: &Reply) -> usize
@@ -100,6 +126,8 @@ pub fn size_of(reply: &Reply) -> usize
         Reply::Value(None) | Reply::Aborted(Cause::Asked) | Reply::Level(_) => 2,
         Reply::Value(Some(bytes)) => 6 + bytes.len(),
         Reply::Done | Reply::Ended => 1,
+        Reply::Set(counts) => 5 + 16 * counts.as_slice().len(),
+        Reply::Count(_) => 9,
         Reply::Committed(_) => 10,
         Reply::Aborted(Cause::Modified { oid: _, version: _ }) => 23,
         Reply::Aborted(Cause::Locked { oid: _, owner: _ }) => 27,
@@ -133,6 +161,14 @@ pub fn append(out: &mut Appender, reply: &Reply)
             out.block(bytes.as_slice());
         }
         Reply::Done => out.u8(0x82),
+        Reply::Set(counts) => {
+            out.u8(0x83);
+            append_counts(out, counts.as_slice());
+        }
+        Reply::Count(count) => {
+            out.u8(0x84);
+            out.i64(*count);
+        }
         Reply::Committed(version) => {
             out.u8(0x85);
             write_version(out, *version);

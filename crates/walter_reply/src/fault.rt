@@ -1,7 +1,7 @@
 ghost use Rattle.std.specs.Prelude.{◌≡◌};
 ghost use Rattle.walter_reply.specs.declared.fault.Stop.TheVariants.{Cut};
 
-use std::alloc::AllocError;
+use std::alloc::{AllocError, AllocFailed};
 use thiserror::Error;
 use walter_fields::Short;
 
@@ -22,6 +22,10 @@ pub(crate) enum Stop {
     Cut,
     /// The byte at this place stands for nothing.
     Unknown(u32),
+    /// The body ends within the counts of a Set.
+    CutSet,
+    /// The field of a Set at this place is wrong.
+    BadSet(u32),
     /// Memory ran out.
     NoMemory,
 }
@@ -41,6 +45,17 @@ impl From<AllocError> for Stop {
     ghost from_gives = { λ _ stop. stop ≡ NoMemory };
 
     fn from(_error: AllocError) -> Stop {
+        Stop::NoMemory
+    }
+}
+
+impl<T: Drop> From<AllocFailed<T>> for Stop {
+    ghost use Rattle.std.specs.Prelude.{◌≡◌};
+    ghost use Rattle.walter_reply.specs.declared.fault.Stop.TheVariants.{NoMemory};
+
+    ghost from_gives = { λ _ stop. stop ≡ NoMemory };
+
+    fn from(_error: AllocFailed<T>) -> Stop {
         Stop::NoMemory
     }
 }

@@ -1,4 +1,5 @@
 ghost use Rattle.std.specs.Prelude.{◌≡◌, ◌↔◌, ℕ, List, length};
+ghost use Rattle.walter_base.specs.Sizes.{IsShortReply};
 ghost use Rattle.walter_base.specs.declared.message.Reply.{Reply};
 ghost use Rattle.walter_reply.specs.Replies.{reply_spelled, size_of, FitsFrame, HasShortValue, Spells, IsBadFrame};
 
@@ -10,9 +11,14 @@ pub fn one_reading()
     ensures place { (body : List ℕ) (m n : ℕ) → IsBadFrame body m → IsBadFrame body n → m ≡ n }
 {}
 
-/// The spelling of a reply fits a frame, but for a value of more than 65,530 bytes.
+/// The spelling of a reply fits a frame, but for a value of more than 65,530 bytes and a Set of more than 4,095 entries.
 pub fn which_fit()
     ensures { (reply : Reply) → HasShortValue reply ↔ FitsFrame reply }
+{}
+
+/// So does that of each reply that a site gives.
+pub fn short_replies_fit()
+    ensures { (reply : Reply) → IsShortReply reply → FitsFrame reply }
 {}
 
 /// The spelling of a reply has its size.

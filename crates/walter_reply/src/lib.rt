@@ -9,7 +9,7 @@ mod laws;
 pub use decoding::decode;
 pub use encoding::{append, encode, size_of};
 pub use fault::ReplyFault;
-pub use laws::{one_reading, size_of_spelling, which_fit};
+pub use laws::{one_reading, short_replies_fit, size_of_spelling, which_fit};
 
 #[cfg(test)]
 mod tests;

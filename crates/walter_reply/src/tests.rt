@@ -3,7 +3,7 @@ ghost use Rattle.std.specs.Prelude.{◌≤◌, length};
 use crate::{ReplyFault, append, decode, encode, size_of};
 use std::alloc::Global;
 use std::test::Fail;
-use walter_base::{Bytes, Cause, Level, ObjId, Refusal, Reply, SiteId, Tid, Version};
+use walter_base::{Bytes, Cause, Counts, Level, ObjId, Refusal, Reply, SiteId, Tid, Version};
 use walter_fields::Appender;
 
 const TID: Tid = Tid {
@@ -44,11 +44,36 @@ const LOCKED: Cause = Cause::Locked {
 /// The value `hello`.
 const HELLO: [u8; 11] = [0x81, 1, 0, 0, 0, 5, 104, 101, 108, 108, 111];
 
+/// The id 9, with the count -1.
+const SET: [u8; 21] = [
+    0x83, 0, 0, 0, 1, 0, 0, 0, 0, 0, 0, 0, 9, 255, 255, 255, 255, 255, 255, 255, 255,
+];
+
+/// The ids 2 and 9, with the counts 1 and -2.
+const TWO: [u8; 37] = [
+    0x83, 0, 0, 0, 2, 0, 0, 0, 0, 0, 0, 0, 2, 0, 0, 0, 0, 0, 0, 0, 1, 0, 0, 0, 0, 0, 0, 0, 9, 255,
+    255, 255, 255, 255, 255, 255, 254,
+];
+
+/// The same, but for the second id, which doesn't rise.
+const FALLING: [u8; 37] = [
+    0x83, 0, 0, 0, 2, 0, 0, 0, 0, 0, 0, 0, 2, 0, 0, 0, 0, 0, 0, 0, 1, 0, 0, 0, 0, 0, 0, 0, 2, 255,
+    255, 255, 255, 255, 255, 255, 254,
+];
+
+/// The same, but for the second count, which is 0.
+const ZERO: [u8; 37] = [
+    0x83, 0, 0, 0, 2, 0, 0, 0, 0, 0, 0, 0, 2, 0, 0, 0, 0, 0, 0, 0, 1, 0, 0, 0, 0, 0, 0, 0, 9, 0, 0,
+    0, 0, 0, 0, 0, 0,
+];
+
 /// Whether the replies are one.
 fn are_same(one: &Reply, other: &Reply) -> bool {
     match (one, other) {
         (Reply::Started(a), Reply::Started(b)) | (Reply::Unsure(a), Reply::Unsure(b)) => a == b,
         (Reply::Value(Some(v)), Reply::Value(Some(w))) => v.as_slice() == w.as_slice(),
+        (Reply::Set(a), Reply::Set(b)) => a.as_slice() == b.as_slice(),
+        (Reply::Count(a), Reply::Count(b)) => a == b,
         (Reply::Committed(a), Reply::Committed(b)) => a == b,
         (Reply::Aborted(a), Reply::Aborted(b)) => a == b,
         (Reply::Level(a), Reply::Level(b)) => a == b,
@@ -116,6 +141,28 @@ fn each_reply_has_its_spelling(rt: HostRuntime) -> Result<(), Fail> {
 }
 
 #[test]
+fn counts_have_their_spelling(rt: HostRuntime) -> Result<(), Fail> {
+    let none = Counts::from(Vec::new(rt.alloc()));
+    let one = Counts::from(vec![in rt.alloc(); (9, -1)]?);
+    let two = Counts::from(vec![in rt.alloc(); (2, 1), (9, -2)]?);
+    let table: [(Reply, &[u8]); 6] = [
+        (Reply::Set(none), &[0x83, 0, 0, 0, 0]),
+        (Reply::Set(one), &SET),
+        (Reply::Set(two), &TWO),
+        (Reply::Count(1), &[0x84, 0, 0, 0, 0, 0, 0, 0, 1]),
+        (Reply::Count(0), &[0x84, 0, 0, 0, 0, 0, 0, 0, 0]),
+        (
+            Reply::Count(-9_223_372_036_854_775_808),
+            &[0x84, 128, 0, 0, 0, 0, 0, 0, 0],
+        ),
+    ];
+    for (reply, spelling) in &table {
+        assert!(rt; is_spelling(rt.alloc(), reply, spelling)?);
+    }
+    Ok(())
+}
+
+#[test]
 fn each_level_has_its_number(rt: HostRuntime) -> Result<(), Fail> {
     for (level, number) in [
         (Level::NotCommitted, 0),
@@ -139,6 +186,7 @@ fn each_refusal_has_its_number(rt: HostRuntime) -> Result<(), Fail> {
         (Refusal::NoTx, 5),
         (Refusal::TxOpen, 6),
         (Refusal::Down, 9),
+        (Refusal::SetTooWide, 11),
         (Refusal::SessionsFull, 12),
         (Refusal::Memory, 13),
         (Refusal::WrongSite, 14),
@@ -187,7 +235,7 @@ fn a_bad_frame_has_its_place(rt: HostRuntime) -> Result<(), Fail> {
     let table: [(&[u8], u32); 24] = [
         (&[], 0),
         (&[1], 0),
-        (&[0x83, 0x82], 0),
+        (&[0x87, 0x82], 0),
         (&[0x81], 1),
         (&[0x81, 2, 0], 1),
         (&[0x88], 1),
@@ -197,7 +245,7 @@ fn a_bad_frame_has_its_place(rt: HostRuntime) -> Result<(), Fail> {
         (&[0x8A, 1, 0], 3),
         (&[0x8B], 0),
         (&[0xE0, 0], 1),
-        (&[0xE0, 11], 1),
+        (&[0xE0, 11, 0], 2),
         (&[0xE0, 16], 1),
         (&[0xE0, 7, 1, 0], 4),
         (&[0xE0, 10, 0, 0, 0, 0, 0, 0, 0, 123, 0], 11),
@@ -209,6 +257,47 @@ fn a_bad_frame_has_its_place(rt: HostRuntime) -> Result<(), Fail> {
         (&[0x81, 0, 7], 2),
         (&[0x85, 1, 0], 3),
         (&HELLO[..10], 10),
+    ];
+    for (body, at) in table {
+        match decode(rt.alloc(), body) {
+            Err(fault) => assert_eq!(rt; fault, ReplyFault::BadFrame { at }),
+            Ok(_) => return Err("the frame spells no reply".into()),
+        }
+    }
+    Ok(())
+}
+
+#[test]
+fn a_bad_set_has_its_place(rt: HostRuntime) -> Result<(), Fail> {
+    let table: [(&[u8], u32); 9] = [
+        (&[0x83], 1),
+        (&[0x83, 0, 0, 16], 4),
+        (&[0x83, 0, 0, 16, 0], 1),
+        (&[0x83, 0, 0, 0, 0, 7], 5),
+        (&[0x83, 0, 0, 0, 1, 0, 0], 7),
+        (&FALLING, 21),
+        (&ZERO, 29),
+        (&[0x84, 0, 0], 3),
+        (&[0x84, 0, 0, 0, 0, 0, 0, 0, 1, 0], 9),
+    ];
+    for (body, at) in table {
+        match decode(rt.alloc(), body) {
+            Err(fault) => assert_eq!(rt; fault, ReplyFault::BadFrame { at }),
+            Ok(_) => return Err("the frame spells no reply".into()),
+        }
+    }
+    Ok(())
+}
+
+#[test]
+fn a_set_that_is_cut_off_has_its_place(rt: HostRuntime) -> Result<(), Fail> {
+    let table: [(&[u8], u32); 6] = [
+        (&SET[..20], 20),
+        (&TWO[..21], 21),
+        (&TWO[..36], 36),
+        (&FALLING[..28], 28),
+        (&FALLING[..29], 21),
+        (&ZERO[..36], 36),
     ];
     for (body, at) in table {
         match decode(rt.alloc(), body) {

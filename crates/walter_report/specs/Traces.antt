@@ -5,7 +5,7 @@ use Rattle.hex.specs.Hex.{encode_lower}
 use Rattle.walter_base.specs.declared.message.BadFrame.{BadFrame}
 use Rattle.walter_base.specs.declared.message.Record.{Record}
 use Rattle.walter_base.specs.declared.message.Request.{Request}
-use Rattle.walter_base.specs.declared.message.Request.TheVariants.{Start, Read, Write, Commit, Abort, Level}
+use Rattle.walter_base.specs.declared.message.Request.TheVariants.{Start, Read, Write, SetAdd, SetDel, SetRead, SetReadId, Commit, Abort, Level}
 use Rattle.walter_base.specs.Sizes.{CanBeRecorded}
 use Rattle.walter_record.specs.Spelling.{record_spelled}
 use Rattle.walter_trail.specs.declared.trail.Entry.{Entry}
@@ -32,6 +32,10 @@ abbrev pub call_word : Result Request BadFrame → List ℕ
 call_word (Ok Start) = codes "start"
 call_word (Ok (Read oid)) = codes "read"
 call_word (Ok (Write oid bytes)) = codes "write"
+call_word (Ok (SetAdd oid id)) = codes "setadd"
+call_word (Ok (SetDel oid id)) = codes "setdel"
+call_word (Ok (SetRead oid)) = codes "setread"
+call_word (Ok (SetReadId oid id)) = codes "setreadid"
 call_word (Ok Commit) = codes "commit"
 call_word (Ok Abort) = codes "abort"
 call_word (Ok (Level tid)) = codes "level"

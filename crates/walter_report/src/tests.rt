@@ -8,8 +8,8 @@ use crate::{as_it_stands, report, trace};
 use std::alloc::Global;
 use std::test::Fail;
 use walter_base::{
-    BadFrame, Bytes, Call, Catalog, Kind, Mem, Record, Refusal, Reply, Request, SiteId, Tid, Tx,
-    Updates, Version, Vts,
+    BadFrame, Bytes, Call, Catalog, Kind, Mem, ObjId, Record, Refusal, Reply, Request, SiteId, Tid,
+    Tx, Updates, Version, Vts,
 };
 use walter_scenario::{Arms, COMMON_CAPACITY, Client, Clients, Scenario, Steps};
 use walter_trail::{Entry, Outcome, Trail, TrailEvent};
@@ -75,6 +75,7 @@ fn fits(reply: &Reply) -> bool
 {
     match reply {
         Reply::Value(Some(bytes)) => bytes.len() <= 65530,
+        Reply::Set(counts) => counts.as_slice().len() <= 4095,
         _ => true,
     }
 }
@@ -246,6 +247,33 @@ fn the_trace_of_an_opening_is_one_line(rt: HostRuntime) -> Result<(), Fail> {
     assert_eq!(rt;
         str::from_utf8(text.as_slice())?,
         "e 1 0 restart taken - 0100000001 - - 0\n"
+    );
+    Ok(())
+}
+
+#[test]
+fn each_call_of_a_set_has_its_name_in_the_trace(rt: HostRuntime) -> Result<(), Fail> {
+    let alloc = rt.alloc();
+    let set = ObjId {
+        container: 2,
+        local: 5,
+    };
+    let mut entries = opened(alloc)?;
+    entries.push(answered(0, Ok(Request::SetAdd(set, 9)), Reply::Done, None))?;
+    entries.push(answered(0, Ok(Request::SetDel(set, 9)), Reply::Done, None))?;
+    entries.push(answered(0, Ok(Request::SetRead(set)), Reply::Ended, None))?;
+    entries.push(answered(0, Ok(Request::SetReadId(set, 9)), Reply::Ended, None))?;
+    let trails = vec![in alloc; Trail::from(entries)]?;
+    assert!(rt; have_frames(&trails));
+    assert!(rt; have_spellings(&trails));
+    let text = trace(alloc, &trails)?;
+    assert_eq!(rt;
+        str::from_utf8(text.as_slice())?,
+        "e 1 0 restart taken - 0100000001 - - 0\n\
+        e 2 0 call:0:setadd reply:0000000182 - - - - 0\n\
+        e 2 0 call:0:setdel reply:0000000182 - - - - 0\n\
+        e 2 0 call:0:setread reply:0000000189 - - - - 0\n\
+        e 2 0 call:0:setreadid reply:0000000189 - - - - 0\n"
     );
     Ok(())
 }

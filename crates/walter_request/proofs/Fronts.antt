@@ -1,16 +1,16 @@
 -- Bytes that end within a request are the front of a spelling.
-use Rattle.std.proofs.Common.{◌≡◌, ◌≢◌, ℕ, ◌<◌, List, [], ◌++◌, length, refl, sym, ap, subst, ◌∙◌, inl, inr, append_assoc, arith}
+use Rattle.std.proofs.Common.{◌≡◌, ◌≢◌, ℕ, ◌<◌, List, [], ◌++◌, length, refl, sym, ap, subst, ◌∙◌, append_assoc, arith}
 use Rattle.std.proofs.lemmas.List.{length-append, nil_from_length}
 use Rattle.walter_base.specs.declared.message.Request.{Request}
-use Rattle.walter_base.specs.declared.message.Request.TheVariants.{Start, Read, Write, Level}
+use Rattle.walter_base.specs.declared.message.Request.TheVariants.{Start, Read, Write, SetRead, Level}
 use Rattle.walter_base.specs.declared.names.ObjId.{ObjId}
 use Rattle.walter_fields.specs.Cursors.{LacksBlock}
 use Rattle.walter_fields.specs.Spellings.{IsBytes, number_spelled, block_spelled}
 use Rattle.walter_fields.proofs.Numbers.{length-number_spelled, number_spelled-byte}
 use Rattle.walter_fields.proofs.Readings.{IsBytes-behind}
 use Rattle.walter_names.specs.Names.{object_spelled, tid_spelled, IsObject}
-use Rattle.walter_names.proofs.Cuts.{cut_object, cut_tid, cut_block}
-use Rattle.walter_request.specs.Requests.{request_spelled, IsRequest, IsOperation}
+use Rattle.walter_names.proofs.Cuts.{cut_object, cut_tid, cut_member, cut_block}
+use Rattle.walter_request.specs.Requests.{request_spelled, member_spelled, IsMember, IsRequest, IsOperation}
 use Rattle.walter_request.specs.Stops.{IsFront, StartsUnknown}
 
 empty_is_front : IsFront []
@@ -28,6 +28,19 @@ front_of operation left more fields request fits some is spelled = record {
 
 pub cut_read : (left : List ℕ) → length left < 12 → IsBytes (number_spelled 1 2 ++ left) → IsFront (number_spelled 1 2 ++ left)
 cut_read left few bytes = let cut = cut_object left (IsBytes-behind (number_spelled 1 2) left bytes) few in front_of 2 left cut.more (object_spelled cut.value) (Read cut.value) cut.ranges cut.some cut.spells refl
+
+pub cut_set_read : (left : List ℕ) → length left < 12 → IsBytes (number_spelled 1 6 ++ left) → IsFront (number_spelled 1 6 ++ left)
+cut_set_read left few bytes = let cut = cut_object left (IsBytes-behind (number_spelled 1 6) left bytes) few in front_of 6 left cut.more (object_spelled cut.value) (SetRead cut.value) cut.ranges cut.some cut.spells refl
+
+-- the operations that are spelled with an object and an id
+abbrev pub IsOfMember : ℕ → (ObjId → ℕ → Request) → Type 0
+IsOfMember operation made = (oid : ObjId) (id : ℕ) → (IsMember oid id → IsRequest (made oid id)) × (request_spelled (made oid id) ≡ number_spelled 1 operation ++ member_spelled oid id)
+
+pub cut_in_member : (operation : ℕ) (made : ObjId → ℕ → Request) (left : List ℕ) → IsOfMember operation made → length left < 20 → IsBytes (number_spelled 1 operation ++ left) → IsFront (number_spelled 1 operation ++ left)
+cut_in_member operation made left is few bytes =
+    let cut = cut_member left (IsBytes-behind (number_spelled 1 operation) left bytes) few in
+    let of = is cut.value.0 cut.value.1 in
+    front_of operation left cut.more (member_spelled cut.value.0 cut.value.1) (made cut.value.0 cut.value.1) (of.0 cut.ranges) cut.some cut.spells of.1
 
 pub cut_write_object : (left : List ℕ) → length left < 12 → IsBytes (number_spelled 1 3 ++ left) → IsFront (number_spelled 1 3 ++ left)
 cut_write_object left few bytes =
@@ -55,11 +68,3 @@ cut_operation left few = rw (nil_from_length left (omega (arith, few))) empty_is
 
 pub unknown_operation : (operation : ℕ) (left : List ℕ) → operation < 256 → ¬ IsOperation operation → StartsUnknown (number_spelled 1 operation ++ left)
 unknown_operation operation left low not = record { byte = operation; rest = left; is = ap (λ t. t ++ left) (number_spelled-byte operation low); unknown = not }
-
-pub not_operation : (k : ℕ) → k ≢ 1 → k ≢ 2 → k ≢ 3 → k ≢ 8 → k ≢ 9 → k ≢ 10 → ¬ IsOperation k
-not_operation k a b c d e f (inl is) = a is
-not_operation k a b c d e f (inr (inl is)) = b is
-not_operation k a b c d e f (inr (inr (inl is))) = c is
-not_operation k a b c d e f (inr (inr (inr (inl is)))) = d is
-not_operation k a b c d e f (inr (inr (inr (inr (inl is))))) = e is
-not_operation k a b c d e f (inr (inr (inr (inr (inr is))))) = f is

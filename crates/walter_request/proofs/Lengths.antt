@@ -2,12 +2,24 @@
 use Rattle.std.proofs.Common.{◌≡◌, ℕ, ◌+◌, List, ◌++◌, length, arith}
 use Rattle.std.proofs.lemmas.List.{length-append}
 use Rattle.walter_base.specs.declared.message.Request.{Request}
-use Rattle.walter_base.specs.declared.message.Request.TheVariants.{Start, Read, Write, Commit, Abort, Level}
+use Rattle.walter_base.specs.declared.message.Request.TheVariants.{Start, Read, Write, SetAdd, SetDel, SetRead, SetReadId, Commit, Abort, Level}
+use Rattle.walter_base.specs.declared.names.ObjId.{ObjId}
 use Rattle.walter_fields.specs.Spellings.{number_spelled, block_spelled}
 use Rattle.walter_fields.proofs.Numbers.{length-number_spelled}
 use Rattle.walter_names.specs.Names.{object_spelled, tid_spelled}
 use Rattle.walter_names.proofs.Lengths.{length-object_spelled, length-tid_spelled, length-block_spelled}
-use Rattle.walter_request.specs.Requests.{request_spelled, size_of}
+use Rattle.walter_request.specs.Requests.{request_spelled, size_of, member_spelled}
+
+length-member_spelled : (operation id : ℕ) (oid : ObjId) → length (number_spelled 1 operation ++ member_spelled oid id) ≡ 21
+length-member_spelled operation id oid =
+    omega (
+      arith,
+      length-append (number_spelled 1 operation) (member_spelled oid id),
+      length-append (object_spelled oid) (number_spelled 8 id),
+      length-number_spelled 1 operation,
+      length-object_spelled oid,
+      length-number_spelled 8 id,
+    )
 
 pub length-request_spelled : (request : Request) → length (request_spelled request) ≡ size_of request
 length-request_spelled Start = length-number_spelled 1 _
@@ -21,6 +33,10 @@ length-request_spelled (Write oid bytes) =
       length-object_spelled oid,
       length-block_spelled bytes,
     )
+length-request_spelled (SetAdd oid id) = length-member_spelled 4 id oid
+length-request_spelled (SetDel oid id) = length-member_spelled 5 id oid
+length-request_spelled (SetRead oid) = omega (arith, length-append (number_spelled 1 6) (object_spelled oid), length-number_spelled 1 6, length-object_spelled oid)
+length-request_spelled (SetReadId oid id) = length-member_spelled 7 id oid
 length-request_spelled Commit = length-number_spelled 1 _
 length-request_spelled Abort = length-number_spelled 1 _
 length-request_spelled (Level tid) = omega (arith, length-append (number_spelled 1 10) (tid_spelled tid), length-number_spelled 1 10, length-tid_spelled tid)

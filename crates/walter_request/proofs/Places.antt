@@ -1,8 +1,8 @@
 -- A bad frame is wrong at one place, that to which a spelling reaches, and spells no request.
-use Rattle.std.proofs.Common.{◌≡◌, ◌≢◌, ℕ, ◌+◌, List, [], ◌∷◌, ◌++◌, length, refl, sym, ap, subst, ◌∙◌, inl, inr, arith}
+use Rattle.std.proofs.Common.{◌≡◌, ◌≢◌, ℕ, ◌+◌, List, [], ◌∷◌, ◌++◌, length, refl, sym, ap, subst, ◌∙◌, arith}
 use Rattle.std.proofs.lemmas.List.{append-nil, length-append}
 use Rattle.walter_base.specs.declared.message.Request.{Request}
-use Rattle.walter_base.specs.declared.message.Request.TheVariants.{Start, Read, Write, Commit, Abort, Level}
+use Rattle.walter_base.specs.declared.message.Request.TheVariants.{Start, Read, Write, SetAdd, SetDel, SetRead, SetReadId, Commit, Abort, Level}
 use Rattle.walter_fields.specs.Cursors.{Unread, Takes, whole_of}
 use Rattle.walter_fields.specs.Spellings.{IsBytes}
 use Rattle.walter_fields.proofs.Longest.{IsLongest, one_longest}
@@ -33,19 +33,23 @@ bad_rest cursor after body request at whole fits taken some place =
 
 -- ---- no two readings
 
-known_operation : (request : Request) (byte : ℕ) → byte ≡ operation_of request → IsOperation byte
-known_operation Start byte e = inl e
-known_operation (Read oid) byte e = inr (inl e)
-known_operation (Write oid bytes) byte e = inr (inr (inl e))
-known_operation Commit byte e = inr (inr (inr (inl e)))
-known_operation Abort byte e = inr (inr (inr (inr (inl e))))
-known_operation (Level tid) byte e = inr (inr (inr (inr (inr e))))
+known_operation : (request : Request) → IsOperation (operation_of request)
+known_operation Start = (omega arith, omega arith)
+known_operation (Read oid) = (omega arith, omega arith)
+known_operation (Write oid bytes) = (omega arith, omega arith)
+known_operation (SetAdd oid id) = (omega arith, omega arith)
+known_operation (SetDel oid id) = (omega arith, omega arith)
+known_operation (SetRead oid) = (omega arith, omega arith)
+known_operation (SetReadId oid id) = (omega arith, omega arith)
+known_operation Commit = (omega arith, omega arith)
+known_operation Abort = (omega arith, omega arith)
+known_operation (Level tid) = (omega arith, omega arith)
 
 -- a spelling begins with an operation
 starts_known : (body rest : List ℕ) (byte : ℕ) (request : Request) → Spells body request → body ≡ byte ∷ rest → IsOperation byte
 starts_known body rest byte request spells is =
     let begins : byte ∷ rest ≡ operation_of request ∷ (fields_spelled request ++ []) = sym is ∙ whole_spelling body request spells in
-    known_operation request byte (cc)
+    subst IsOperation (cc) (known_operation request)
 
 pub no_bad_frame : (body : List ℕ) (request : Request) (at : ℕ) → Spells body request → ¬ IsBadFrame body at
 no_bad_frame body request at spells (empty is place) = not_empty body request spells is

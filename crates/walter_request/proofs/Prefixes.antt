@@ -1,19 +1,24 @@
 -- No spelling of a request begins that of another.
 use Rattle.std.proofs.Common.{◌≡◌, ◌≢◌, ◌∷◌, ap, append-nil, ℕ, ◌<◌, List, [], ◌++◌, refl, sym, ◌∙◌, append_assoc, arith}
 use Rattle.walter_base.specs.declared.message.Request.{Request}
-use Rattle.walter_base.specs.declared.message.Request.TheVariants.{Start, Read, Write, Commit, Abort, Level}
+use Rattle.walter_base.specs.declared.message.Request.TheVariants.{Start, Read, Write, SetAdd, SetDel, SetRead, SetReadId, Commit, Abort, Level}
+use Rattle.walter_base.specs.declared.names.ObjId.{ObjId}
 use Rattle.walter_fields.specs.Spellings.{number_spelled, block_spelled}
 use Rattle.walter_fields.proofs.Numbers.{number_spelled-byte, same_number}
 use Rattle.walter_fields.proofs.Readings.{same_block}
 use Rattle.walter_names.specs.Names.{object_spelled, tid_spelled}
 use Rattle.walter_names.proofs.Prefixes.{regrouped, same_object, same_tid}
-use Rattle.walter_request.specs.Requests.{request_spelled, IsRequest, Spells}
+use Rattle.walter_request.specs.Requests.{request_spelled, member_spelled, IsMember, IsRequest, Spells}
 
 -- a request is its operation, and its fields
 abbrev pub operation_of : Request → ℕ
 operation_of Start = 1
 operation_of (Read oid) = 2
 operation_of (Write oid bytes) = 3
+operation_of (SetAdd oid id) = 4
+operation_of (SetDel oid id) = 5
+operation_of (SetRead oid) = 6
+operation_of (SetReadId oid id) = 7
 operation_of Commit = 8
 operation_of Abort = 9
 operation_of (Level tid) = 10
@@ -22,6 +27,10 @@ abbrev pub fields_spelled : Request → List ℕ
 fields_spelled Start = []
 fields_spelled (Read oid) = object_spelled oid
 fields_spelled (Write oid bytes) = object_spelled oid ++ block_spelled bytes
+fields_spelled (SetAdd oid id) = member_spelled oid id
+fields_spelled (SetDel oid id) = member_spelled oid id
+fields_spelled (SetRead oid) = object_spelled oid
+fields_spelled (SetReadId oid id) = member_spelled oid id
 fields_spelled Commit = []
 fields_spelled Abort = []
 fields_spelled (Level tid) = tid_spelled tid
@@ -30,6 +39,10 @@ pub request_parts : (a : Request) (x : List ℕ) → request_spelled a ++ x ≡ 
 request_parts Start x = refl
 request_parts (Read oid) x = append_assoc (number_spelled 1 2) (object_spelled oid) x
 request_parts (Write oid bytes) x = append_assoc (number_spelled 1 3) (object_spelled oid ++ block_spelled bytes) x
+request_parts (SetAdd oid id) x = append_assoc (number_spelled 1 4) (member_spelled oid id) x
+request_parts (SetDel oid id) x = append_assoc (number_spelled 1 5) (member_spelled oid id) x
+request_parts (SetRead oid) x = append_assoc (number_spelled 1 6) (object_spelled oid) x
+request_parts (SetReadId oid id) x = append_assoc (number_spelled 1 7) (member_spelled oid id) x
 request_parts Commit x = refl
 request_parts Abort x = refl
 request_parts (Level tid) x = append_assoc (number_spelled 1 10) (tid_spelled tid) x
@@ -38,9 +51,19 @@ pub operation_of-lt : (a : Request) → operation_of a < 256
 operation_of-lt Start = omega arith
 operation_of-lt (Read oid) = omega arith
 operation_of-lt (Write oid bytes) = omega arith
+operation_of-lt (SetAdd oid id) = omega arith
+operation_of-lt (SetDel oid id) = omega arith
+operation_of-lt (SetRead oid) = omega arith
+operation_of-lt (SetReadId oid id) = omega arith
 operation_of-lt Commit = omega arith
 operation_of-lt Abort = omega arith
 operation_of-lt (Level tid) = omega arith
+
+same_member : (a b : ObjId) (m n : ℕ) (x y : List ℕ) → IsMember a m → IsMember b n → member_spelled a m ++ x ≡ member_spelled b n ++ y → (a ≡ b) × (m ≡ n) × (x ≡ y)
+same_member a b m n x y fits_a fits_b e =
+    let one = same_object a b (number_spelled 8 m ++ x) (number_spelled 8 n ++ y) fits_a.0 fits_b.0 (regrouped (object_spelled a) (number_spelled 8 m) x (object_spelled b) (number_spelled 8 n) y e) in
+    let two = same_number 8 m n x y (omega (arith, fits_a.1)) (omega (arith, fits_b.1)) one.1 in
+    (one.0, two.0, two.1)
 
 same_fields : (a b : Request) (x y : List ℕ) → operation_of a ≡ operation_of b → IsRequest a → IsRequest b → fields_spelled a ++ x ≡ fields_spelled b ++ y → (a ≡ b) × (x ≡ y)
 same_fields Start Start x y same fits_a fits_b e = (refl, e)
@@ -49,6 +72,10 @@ same_fields (Write a v) (Write b w) x y same fits_a fits_b e =
     let one = same_object a b (block_spelled v ++ x) (block_spelled w ++ y) fits_a.0 fits_b.0 (regrouped (object_spelled a) (block_spelled v) x (object_spelled b) (block_spelled w) y e) in
     let two = same_block v w x y fits_a.1 fits_b.1 one.1 in
     ((λ i. Write (one.0 i) (two.0 i)), two.1)
+same_fields (SetAdd a m) (SetAdd b n) x y same fits_a fits_b e = let parts = same_member a b m n x y fits_a fits_b e in ((λ i. SetAdd (parts.0 i) (parts.1 i)), parts.2)
+same_fields (SetDel a m) (SetDel b n) x y same fits_a fits_b e = let parts = same_member a b m n x y fits_a fits_b e in ((λ i. SetDel (parts.0 i) (parts.1 i)), parts.2)
+same_fields (SetRead a) (SetRead b) x y same fits_a fits_b e = let parts = same_object a b x y fits_a fits_b e in ((λ i. SetRead (parts.0 i)), parts.1)
+same_fields (SetReadId a m) (SetReadId b n) x y same fits_a fits_b e = let parts = same_member a b m n x y fits_a fits_b e in ((λ i. SetReadId (parts.0 i) (parts.1 i)), parts.2)
 same_fields Commit Commit x y same fits_a fits_b e = (refl, e)
 same_fields Abort Abort x y same fits_a fits_b e = (refl, e)
 same_fields (Level a) (Level b) x y same fits_a fits_b e = let parts = same_tid a b x y fits_a fits_b e in ((λ i. Level (parts.0 i)), parts.1)

@@ -1,16 +1,25 @@
 -- How requests are spelled, and what is wrong with bytes that spell none (docs/FORMATS.md, "Frames of a client").
-use Rattle.std.specs.Prelude.{◌≡◌, ◌≢◌, ◌⊎◌, ◌<◌, ◌≤◌, ◌^◌, ◌+◌, ℕ, List, [], ◌∷◌, ◌++◌, length}
+use Rattle.std.specs.Prelude.{◌≡◌, ◌≢◌, ◌<◌, ◌≤◌, ◌^◌, ◌+◌, ℕ, List, [], ◌∷◌, ◌++◌, length}
 use Rattle.walter_base.specs.declared.message.Request.{Request}
-use Rattle.walter_base.specs.declared.message.Request.TheVariants.{Start, Read, Write, Commit, Abort, Level}
+use Rattle.walter_base.specs.declared.names.ObjId.{ObjId}
+use Rattle.walter_base.specs.declared.message.Request.TheVariants.{Start, Read, Write, SetAdd, SetDel, SetRead, SetReadId, Commit, Abort, Level}
 use Rattle.walter_fields.specs.Spellings.{number_spelled, block_spelled}
 use Rattle.walter_names.specs.Names.{object_spelled, tid_spelled, IsObject, IsTid}
 use Rattle.walter_request.specs.declared.fault.RequestFault.{RequestFault}
 use Rattle.walter_request.specs.declared.fault.RequestFault.TheVariants.{BadFrame, NoMemory}
 
+-- an object, and eight bytes of id
+abbrev pub member_spelled : ObjId → ℕ → List ℕ
+member_spelled oid id = object_spelled oid ++ number_spelled 8 id
+
 abbrev pub request_spelled : Request → List ℕ
 request_spelled Start = number_spelled 1 1
 request_spelled (Read oid) = number_spelled 1 2 ++ object_spelled oid
 request_spelled (Write oid bytes) = number_spelled 1 3 ++ (object_spelled oid ++ block_spelled bytes)
+request_spelled (SetAdd oid id) = number_spelled 1 4 ++ member_spelled oid id
+request_spelled (SetDel oid id) = number_spelled 1 5 ++ member_spelled oid id
+request_spelled (SetRead oid) = number_spelled 1 6 ++ object_spelled oid
+request_spelled (SetReadId oid id) = number_spelled 1 7 ++ member_spelled oid id
 request_spelled Commit = number_spelled 1 8
 request_spelled Abort = number_spelled 1 9
 request_spelled (Level tid) = number_spelled 1 10 ++ tid_spelled tid
@@ -20,15 +29,26 @@ abbrev pub size_of : Request → ℕ
 size_of Start = 1
 size_of (Read oid) = 13
 size_of (Write oid bytes) = 17 + length bytes
+size_of (SetAdd oid id) = 21
+size_of (SetDel oid id) = 21
+size_of (SetRead oid) = 13
+size_of (SetReadId oid id) = 21
 size_of Commit = 1
 size_of Abort = 1
 size_of (Level tid) = 14
+
+abbrev pub IsMember : ObjId → ℕ → Type 0
+IsMember oid id = IsObject oid × (id < 2 ^ 64)
 
 -- the numbers of a request are in the ranges of their fields
 abbrev pub IsRequest : Request → Type 0
 IsRequest Start = Unit {0}
 IsRequest (Read oid) = IsObject oid
 IsRequest (Write oid bytes) = IsObject oid × (length bytes < 2 ^ 32)
+IsRequest (SetAdd oid id) = IsMember oid id
+IsRequest (SetDel oid id) = IsMember oid id
+IsRequest (SetRead oid) = IsObject oid
+IsRequest (SetReadId oid id) = IsMember oid id
 IsRequest Commit = Unit {0}
 IsRequest Abort = Unit {0}
 IsRequest (Level tid) = IsTid tid
@@ -44,7 +64,7 @@ FitsFrame request = length (request_spelled request) ≤ 65536
 
 -- the first byte of a request says what is asked
 abbrev pub IsOperation : ℕ → Type 0
-IsOperation byte = (byte ≡ 1) ⊎ (byte ≡ 2) ⊎ (byte ≡ 3) ⊎ (byte ≡ 8) ⊎ (byte ≡ 9) ⊎ (byte ≡ 10)
+IsOperation byte = (1 ≤ byte) × (byte ≤ 10)
 
 -- the body spells no request, and this is the place of what is wrong: 0 where it is empty or its first byte says nothing;
 -- its length where a field runs past its end; the place of the first byte behind the last field

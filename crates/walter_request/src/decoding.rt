@@ -1,12 +1,12 @@
-ghost use Rattle.std.specs.Prelude.{◌≤◌, length, IfOk, IfErr};
+ghost use Rattle.std.specs.Prelude.{◌↔◌, ◌≤◌, ◌<◌, length, IsErr, IfOk, IfErr};
 ghost use Rattle.walter_fields.specs.Cursors.{Takes};
-ghost use Rattle.walter_request.specs.Requests.{request_spelled, IsRequest, Spells, IsFaultOf};
+ghost use Rattle.walter_request.specs.Requests.{member_spelled, request_spelled, IsMember, IsRequest, Spells, IsFaultOf};
 ghost use Rattle.walter_request.specs.Stops.{EndsWith, StopsBehind, StopsAt};
 
 use crate::fault::{RequestFault, Stop};
 use std::alloc::Global;
-use walter_base::{Bytes, Request};
-use walter_fields::Cursor;
+use walter_base::{Bytes, ObjId, Request};
+use walter_fields::{Cursor, Short};
 use walter_names::{read_object, read_tid};
 
 /// What stands behind the operation Read.
@@ -27,6 +27,51 @@ fn read_write(alloc: Global, cursor: &mut Cursor) -> Result<Request, Stop>
     Ok(Request::Write(oid, Bytes::from_slice(alloc, bytes)?))
 }
 
+/// A set, and an id.
+#[tactic(auto, unfolding(walter_fields::specs::Spellings::number_spelled))]
+fn read_member(cursor: &mut Cursor) -> Result<(ObjId, u64), Short>
+    ensures taken { IfOk result (λ member. Takes cursor.old cursor.new (member_spelled member.0 member.1)) }
+    ensures range { IfOk result (λ member. IsMember member.0 member.1) }
+    ensures short { IsErr result ↔ (length cursor.old.left < 20) }
+{
+    Ok((read_object(cursor)?, cursor.u64()?))
+}
+
+/// What stands behind the operation SetAdd.
+fn read_set_add(cursor: &mut Cursor) -> Result<Request, Stop>
+    ensures ends { IfOk result (EndsWith 4 cursor.old cursor.new) }
+    ensures stop { IfErr result (StopsBehind 4 cursor.old.left) }
+{
+    let (oid, id) = read_member(cursor)?;
+    Ok(Request::SetAdd(oid, id))
+}
+
+/// What stands behind the operation SetDel.
+fn read_set_del(cursor: &mut Cursor) -> Result<Request, Stop>
+    ensures ends { IfOk result (EndsWith 5 cursor.old cursor.new) }
+    ensures stop { IfErr result (StopsBehind 5 cursor.old.left) }
+{
+    let (oid, id) = read_member(cursor)?;
+    Ok(Request::SetDel(oid, id))
+}
+
+/// What stands behind the operation SetRead.
+fn read_set_read(cursor: &mut Cursor) -> Result<Request, Stop>
+    ensures ends { IfOk result (EndsWith 6 cursor.old cursor.new) }
+    ensures stop { IfErr result (StopsBehind 6 cursor.old.left) }
+{
+    Ok(Request::SetRead(read_object(cursor)?))
+}
+
+/// What stands behind the operation SetReadId.
+fn read_set_read_id(cursor: &mut Cursor) -> Result<Request, Stop>
+    ensures ends { IfOk result (EndsWith 7 cursor.old cursor.new) }
+    ensures stop { IfErr result (StopsBehind 7 cursor.old.left) }
+{
+    let (oid, id) = read_member(cursor)?;
+    Ok(Request::SetReadId(oid, id))
+}
+
 /// What stands behind the operation Level.
 fn read_level(cursor: &mut Cursor) -> Result<Request, Stop>
     ensures ends { IfOk result (EndsWith 10 cursor.old cursor.new) }
@@ -44,6 +89,10 @@ fn read_fields(alloc: Global, cursor: &mut Cursor, operation: u8) -> Result<Requ
         1 => Ok(Request::Start),
         2 => read_read(cursor),
         3 => read_write(alloc, cursor),
+        4 => read_set_add(cursor),
+        5 => read_set_del(cursor),
+        6 => read_set_read(cursor),
+        7 => read_set_read_id(cursor),
         8 => Ok(Request::Commit),
         9 => Ok(Request::Abort),
         10 => read_level(cursor),

@@ -1,8 +1,8 @@
 ghost use Rattle.std.specs.Prelude.{◌≡◌, ◌+◌, ◌≤◌, ◌++◌, length, IfOk};
-ghost use Rattle.walter_request.specs.Requests.{request_spelled, FitsFrame};
+ghost use Rattle.walter_request.specs.Requests.{member_spelled, request_spelled, FitsFrame};
 
 use std::alloc::Global;
-use walter_base::{Bytes, Mem, NoMemory, Request};
+use walter_base::{Bytes, Mem, NoMemory, ObjId, Request};
 use walter_fields::Appender;
 use walter_names::{write_object, write_tid};
 
@@ -14,10 +14,21 @@ fn size_of(request: &Request) -> usize
 {
     match request {
         Request::Start | Request::Commit | Request::Abort => 1,
-        Request::Read(_) => 13,
+        Request::Read(_) | Request::SetRead(_) => 13,
         Request::Write(_, bytes) => 17 + bytes.len(),
+        Request::SetAdd(_, _) | Request::SetDel(_, _) | Request::SetReadId(_, _) => 21,
         Request::Level(_) => 14,
     }
+}
+
+/// The set, and the id.
+fn write_member(out: &mut Appender, oid: ObjId, id: u64)
+    requires { 20 ≤ out.old.room }
+    ensures bytes { out.new.bytes ≡ out.old.bytes ++ member_spelled oid id }
+    ensures room { out.new.room + 20 ≡ out.old.room }
+{
+    write_object(out, oid);
+    out.u64(id);
 }
 
 /// Writes the request's spelling behind what was written.
@@ -37,6 +48,22 @@ fn append(out: &mut Appender, request: &Request)
             out.u8(3);
             write_object(out, *oid);
             out.block(bytes.as_slice());
+        }
+        Request::SetAdd(oid, id) => {
+            out.u8(4);
+            write_member(out, *oid, *id);
+        }
+        Request::SetDel(oid, id) => {
+            out.u8(5);
+            write_member(out, *oid, *id);
+        }
+        Request::SetRead(oid) => {
+            out.u8(6);
+            write_object(out, *oid);
+        }
+        Request::SetReadId(oid, id) => {
+            out.u8(7);
+            write_member(out, *oid, *id);
         }
         Request::Commit => out.u8(8),
         Request::Abort => out.u8(9),

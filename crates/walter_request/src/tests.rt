@@ -24,6 +24,24 @@ const TID: Tid = Tid {
 /// A Level of it.
 const LEVEL: [u8; 14] = [10, 1, 0, 0, 0, 2, 0, 0, 0, 0, 0, 0, 0, 3];
 
+/// A SetAdd of the id 9 to the object 1, 5.
+const SET_ADD: [u8; 21] = [
+    4, 0, 0, 0, 1, 0, 0, 0, 0, 0, 0, 0, 5, 0, 0, 0, 0, 0, 0, 0, 9,
+];
+
+/// A SetDel of it.
+const SET_DEL: [u8; 21] = [
+    5, 0, 0, 0, 1, 0, 0, 0, 0, 0, 0, 0, 5, 0, 0, 0, 0, 0, 0, 0, 9,
+];
+
+/// A SetRead of the object 1, 5.
+const SET_READ: [u8; 13] = [6, 0, 0, 0, 1, 0, 0, 0, 0, 0, 0, 0, 5];
+
+/// A SetReadId of the greatest id in it.
+const SET_READ_ID: [u8; 21] = [
+    7, 0, 0, 0, 1, 0, 0, 0, 0, 0, 0, 0, 5, 255, 255, 255, 255, 255, 255, 255, 255,
+];
+
 /// A transaction whose site, epoch and number are the greatest that a field holds.
 const GREATEST: Tid = Tid {
     site: SiteId(255),
@@ -35,13 +53,20 @@ const GREATEST: Tid = Tid {
 fn each_request_has_its_spelling(rt: HostRuntime) -> Result<(), Fail> {
     let hello = Bytes::from_slice(rt.alloc(), b"hello")?;
     let none = Bytes::from_slice(rt.alloc(), b"")?;
-    let table: [(Request, &[u8]); 8] = [
+    let table: [(Request, &[u8]); 12] = [
         (Request::Start, &[1]),
         (Request::Read(OBJECT), &READ),
         (Request::Write(OBJECT, hello), &WRITE),
         (
             Request::Write(OBJECT, none),
             &[3, 0, 0, 0, 1, 0, 0, 0, 0, 0, 0, 0, 5, 0, 0, 0, 0],
+        ),
+        (Request::SetAdd(OBJECT, 9), &SET_ADD),
+        (Request::SetDel(OBJECT, 9), &SET_DEL),
+        (Request::SetRead(OBJECT), &SET_READ),
+        (
+            Request::SetReadId(OBJECT, 0xFFFF_FFFF_FFFF_FFFF),
+            &SET_READ_ID,
         ),
         (Request::Commit, &[8]),
         (Request::Abort, &[9]),
@@ -62,7 +87,15 @@ fn each_request_has_its_spelling(rt: HostRuntime) -> Result<(), Fail> {
             (Request::Start, Request::Start)
             | (Request::Commit, Request::Commit)
             | (Request::Abort, Request::Abort) => {}
-            (Request::Read(a), Request::Read(b)) => assert_eq!(rt; a, b),
+            (Request::Read(a), Request::Read(b)) | (Request::SetRead(a), Request::SetRead(b)) => {
+                assert_eq!(rt; a, b);
+            }
+            (Request::SetAdd(a, m), Request::SetAdd(b, n))
+            | (Request::SetDel(a, m), Request::SetDel(b, n))
+            | (Request::SetReadId(a, m), Request::SetReadId(b, n)) => {
+                assert_eq!(rt; a, b);
+                assert_eq!(rt; m, n);
+            }
             (Request::Level(a), Request::Level(b)) => assert_eq!(rt; a, b),
             (Request::Write(a, v), Request::Write(b, w)) => {
                 assert_eq!(rt; a, b);
@@ -76,14 +109,25 @@ fn each_request_has_its_spelling(rt: HostRuntime) -> Result<(), Fail> {
 
 #[test]
 fn a_bad_frame_has_its_place(rt: HostRuntime) -> Result<(), Fail> {
-    let table: [(&[u8], u32); 15] = [
+    let table: [(&[u8], u32); 21] = [
         (&[], 0),
         (&[0], 0),
-        (&[4], 0),
-        (&[7], 0),
+        (&[4], 1),
+        (&[7], 1),
         (&[10], 1),
         (&[11], 0),
-        (&[4, 2, 0], 0),
+        (&[4, 2, 0], 3),
+        (&[11, 2, 0], 0),
+        (&SET_ADD[..20], 20),
+        (&SET_DEL[..13], 13),
+        (&SET_READ[..12], 12),
+        (&SET_READ_ID[..14], 14),
+        (
+            &[
+                7, 0, 0, 0, 1, 0, 0, 0, 0, 0, 0, 0, 5, 0, 0, 0, 0, 0, 0, 0, 9, 0,
+            ],
+            21,
+        ),
         (&[1, 0], 1),
         (&[8, 8, 8], 1),
         (&[9, 9], 1),

@@ -7,11 +7,13 @@ use Rattle.std.proofs.lemmas.List.Elements.{All-take}
 use Rattle.std.proofs.lemmas.Option.{slice_get-get_or}
 use Rattle.serde_json.specs.Data.{Data}
 use Rattle.walter_base.specs.declared.catalog.Catalog.{Catalog}
+use Rattle.walter_base.specs.declared.names.Kind.{Kind}
+use Rattle.walter_base.specs.declared.names.Kind.TheVariants.{Regular, Cset}
 use Rattle.walter_base.specs.Catalogs.{Item, IsWrong, too_many, falls, nowhere, AreRight, AreRightBelow, containers_of}
 use Rattle.walter_scenario.specs.declared.place.Place.TheVariants.{Containers}
 use Rattle.walter_scenario.specs.Faults.{IsItem, HaveContainers}
 use Rattle.walter_scenario.specs.Fronts.{IsDeclared, IsFront, IsCatalog}
-use Rattle.walter_scenario.specs.Parts.{list, container_spelled}
+use Rattle.walter_scenario.specs.Parts.{list, kind_word, container_spelled}
 use Rattle.walter_scenario.proofs.Spelling.{no_more, same_items, spelled_front}
 use Rattle.walter_scenario.proofs.Wrong.{first_wrong}
 
@@ -53,10 +55,18 @@ site_fits sites few cs k d h right =
 right_fit : (sites : ℕ) → sites ≤ 8 → (cs : List Item) → All IsDeclared cs → AreRight sites cs → All Fits cs
 right_fit sites few cs declared right k d h = (declared k d h, site_fits sites few cs k d h right)
 
+-- no word is that of two kinds
+same_kind : (a b : Kind) → kind_word a ≡ kind_word b → a ≡ b
+same_kind Regular Regular e = refl
+same_kind Regular Cset e = cc
+same_kind Cset Regular e = cc
+same_kind Cset Cset e = refl
+
 same_container : (c d : Item) → IsDeclared c → IsDeclared d → container_spelled c ≡ container_spelled d → c ≡ d
 same_container c d a b e =
     let number : c.0 ≡ d.0 = cc in
-    let kind : c.1 ≡ d.1 = a.1 ∙ sym b.1 in
+    let word : kind_word c.1 ≡ kind_word d.1 = cc in
+    let kind : c.1 ≡ d.1 = same_kind c.1 d.1 word in
     let site : c.2.0 ≡ d.2.0 = cc in
     λ i. (number i, kind i, record { 0 = site i })
 
@@ -74,7 +84,7 @@ is_catalog sites value values front catalog e is n of_sites no_faults containers
   spelled = e;
   are = record {
     spelled = sym (take_all (length front) values (omega (arith, n))) ∙ is.spelled;
-    regular = is.declared;
+    numbers = is.declared;
     right = right;
   };
   of_sites = of_sites;
@@ -92,9 +102,9 @@ none_behind sites few value values front e is right other =
       index = length front;
       named = refl;
       wrong = first_wrong (HaveContainers sites) value values (length front) e less
-          (front, record { spelled = is.spelled; regular = is.declared; right = right })
+          (front, record { spelled = is.spelled; numbers = is.declared; right = right })
           (λ more. no_more container_spelled Fits values (length front) more.0 less more.1.spelled
-          (right_fit sites few more.0 more.1.regular more.1.right) (λ d c fits. is.ends less d c fits.0 fits.1));
+          (right_fit sites few more.0 more.1.numbers more.1.right) (λ d c fits. is.ends less d c fits.0 fits.1));
     }
 
 -- the container at the place makes no catalog with those before it
@@ -109,10 +119,10 @@ bad_container sites value values front index e is h wrong right =
       named = refl;
       wrong = first_wrong (HaveContainers sites) value values index e (omega arith) (
         take index front,
-        record { spelled = before; regular = All-take IsDeclared index front is.declared; right = right_front sites front index index (omega arith) right },
+        record { spelled = before; numbers = All-take IsDeclared index front is.declared; right = right_front sites front index index (omega arith) right },
       )
           (λ more.
-          let same = same_declared more.0 (take (index + 1) front) more.1.regular (All-take IsDeclared (index + 1) front is.declared) (sym more.1.spelled ∙ to) in
+          let same = same_declared more.0 (take (index + 1) front) more.1.numbers (All-take IsDeclared (index + 1) front is.declared) (sym more.1.spelled ∙ to) in
           let there : AreRight sites (take (index + 1) front) = subst (AreRight sites) same more.1.right in
           there index (omega (arith, length-take (index + 1) front)) (wrong_in_front sites front index (index + 1) (omega arith) wrong));
     }
@@ -122,7 +132,7 @@ containers_closed sites n values have = (
   take n have.0,
   record {
     spelled = ap (λ vs. take n vs) have.1.spelled ∙ take-map container_spelled n have.0;
-    regular = All-take IsDeclared n have.0 have.1.regular;
+    numbers = All-take IsDeclared n have.0 have.1.numbers;
     right = λ place within wrong.
         let size = length-take n have.0 in
         have.1.right place (omega (arith, size)) (wrong_behind_front sites have.0 place n (omega (arith, size)) wrong);

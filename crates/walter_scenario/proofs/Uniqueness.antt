@@ -30,7 +30,7 @@ pub one_declared : (bytes : List ℕ) (m n : Members) (ds es : List Item) → Ha
 one_declared bytes m n ds es a b =
     let same = one_object bytes m n (containers_object bytes m ds a) (containers_object bytes n es b) in
     let values = one_list (codes "containers") m n a.values b.values same a.spelled b.spelled in
-    same_declared ds es a.are.regular b.are.regular (sym a.are.spelled ∙ values ∙ b.are.spelled)
+    same_declared ds es a.are.numbers b.are.numbers (sym a.are.spelled ∙ values ∙ b.are.spelled)
 
 pub one_of_clients : (bytes : List ℕ) (m n : Members) (ds es : List Item) (cs others : List Client) → HasClients bytes m ds cs → HasClients bytes n es others
     → cs ≡ others

@@ -3,16 +3,15 @@ use Rattle.std.specs.Prelude.{◌≡◌, ◌≢◌, ◌≤◌, ◌<◌, ◌^◌,
 use Rattle.std.specs.List.{HoldsAt}
 use Rattle.serde_json.specs.Data.{Data}
 use Rattle.walter_base.specs.declared.catalog.Catalog.{Catalog}
-use Rattle.walter_base.specs.declared.names.Kind.TheVariants.{Regular}
 use Rattle.walter_base.specs.Catalogs.{Item, containers_of}
 use Rattle.walter_scenario.specs.declared.scenario.Arm.{Arm}
 use Rattle.walter_scenario.specs.declared.scenario.Client.{Client}
 use Rattle.walter_scenario.specs.declared.scenario.Step.{Step}
 use Rattle.walter_scenario.specs.Parts.{list, container_spelled, AreContainers, AreClients, AreArms, AreSteps}
 
--- a regular container whose number fits
+-- a container whose number fits
 abbrev pub IsDeclared : Item → Type 0
-IsDeclared c = (c.0 < 2 ^ 32) × (c.1 ≡ Regular)
+IsDeclared c = c.0 < 2 ^ 32
 
 -- no container of a site that fits is spelled so
 abbrev pub SpellsNone : Data → Type 0

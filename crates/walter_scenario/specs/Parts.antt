@@ -3,7 +3,8 @@ use Rattle.std.specs.Prelude.{◌≡◌, ◌≢◌, ◌⊎◌, ◌+◌, ◌≤�
 use Rattle.hex.specs.Hex.{decode_of}
 use Rattle.serde_json.specs.Data.{Data, number, string, array, unsigned}
 use Rattle.serde_json.specs.View.{items_of}
-use Rattle.walter_base.specs.declared.names.Kind.TheVariants.{Regular}
+use Rattle.walter_base.specs.declared.names.Kind.{Kind}
+use Rattle.walter_base.specs.declared.names.Kind.TheVariants.{Regular, Cset}
 use Rattle.walter_base.specs.Catalogs.{Item, AreRight}
 use Rattle.walter_scenario.specs.declared.scenario.Arm.{Arm}
 use Rattle.walter_scenario.specs.declared.scenario.Client.{Client}
@@ -18,14 +19,19 @@ whole n = number (unsigned n)
 abbrev pub list : List Data → Data
 list values = array (items_of values)
 
--- a container: its number, "regular", and its preferred site
+-- what the objects of a container are, as a word
+abbrev pub kind_word : Kind → List ℕ
+kind_word Regular = codes "regular"
+kind_word Cset = codes "cset"
+
+-- a container: its number, the word of its kind, and its preferred site
 abbrev pub container_spelled : Item → Data
-container_spelled c = list (whole c.0 ∷ string (codes "regular") ∷ whole c.2.0 ∷ [])
+container_spelled c = list (whole c.0 ∷ string (kind_word c.1) ∷ whole c.2.0 ∷ [])
 
 -- the values spell these containers, which make a catalog
 pub record AreContainers (sites : ℕ) (values : List Data) (declared : List Item) : Type 0 where
   pub spelled : values ≡ map container_spelled declared
-  pub regular : All (λ c. (c.0 < 2 ^ 32) × (c.1 ≡ Regular)) declared
+  pub numbers : All (λ c. c.0 < 2 ^ 32) declared
   pub right : AreRight sites declared
 
 -- a client: its site, and its bytes in hex of either case

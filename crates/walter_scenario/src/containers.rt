@@ -1,14 +1,28 @@
-ghost use Rattle.std.specs.Prelude.{◌≡◌, ◌<◌, ◌≤◌, map, IfSome, IfNone, IfOk, IfErr};
+ghost use Rattle.std.specs.Prelude.{◌≡◌, ◌≢◌, ◌<◌, ◌≤◌, map, IfSome, IfNone, IfOk, IfErr};
+ghost use Rattle.serde_json.specs.Data.{string};
 ghost use Rattle.serde_json.specs.View.{view};
+ghost use Rattle.walter_base.specs.declared.names.Kind.{Kind};
 ghost use Rattle.walter_scenario.specs.Faults.{IsContainersFault};
 ghost use Rattle.walter_scenario.specs.Fronts.{IsDeclared, SpellsNone, IsFront, IsCatalog};
-ghost use Rattle.walter_scenario.specs.Parts.{container_spelled};
+ghost use Rattle.walter_scenario.specs.Parts.{kind_word, container_spelled};
 
 use crate::place::{Place, ReadFault};
-use crate::values::{is_string, items_of, triple_of, whole_of};
+use crate::values::{items_of, string_of, triple_of, whole_of};
 use serde_json::Value;
 use std::alloc::{AllocError, Global};
 use walter_base::{Catalog, CatalogFault, Kind, SiteId};
+
+/// The kind whose word the value is.
+fn kind_of(value: &Value) -> Option<Kind>
+    ensures some { IfSome result (λ kind. view value.now ≡ string (kind_word kind)) }
+    ensures none { IfNone result ((kind : Kind) → view value.now ≢ string (kind_word kind)) }
+{
+    match string_of(value)? {
+        "regular" => Some(Kind::Regular),
+        "cset" => Some(Kind::Cset),
+        _ => None,
+    }
+}
 
 /// The container that the value spells.
 fn container_of(value: &Value) -> Option<(u32, Kind, SiteId)>
@@ -18,7 +32,7 @@ fn container_of(value: &Value) -> Option<(u32, Kind, SiteId)>
     let (number, kind, site) = triple_of(value)?;
     let number = u32::try_from(whole_of(number)?).ok()?;
     let site = u8::try_from(whole_of(site)?).ok()?;
-    is_string(kind, "regular").then_some((number, Kind::Regular, SiteId(site)))
+    Some((number, kind_of(kind)?, SiteId(site)))
 }
 
 /// The containers that the values in front spell, up to the first value that spells none.

@@ -90,6 +90,21 @@ fn a_good_scenario_is_read(rt: HostRuntime) -> Result<(), Fail> {
 }
 
 #[test]
+fn each_kind_of_container_is_read(rt: HostRuntime) -> Result<(), Fail> {
+    for (word, kind) in [("regular", Kind::Regular), ("cset", Kind::Cset)] {
+        let list = format!(in rt.alloc(); "[[1,\"{word}\",0]]")?;
+        let text = changed(rt.alloc(), CONTAINERS, &list)?;
+        let scenario = read(rt.alloc(), text.as_bytes())?;
+        let oid = ObjId {
+            container: 1,
+            local: 0,
+        };
+        assert_eq!(rt; scenario.catalog.kind(oid), Some(kind), "{word}");
+    }
+    Ok(())
+}
+
+#[test]
 fn each_kind_of_step_is_read(rt: HostRuntime) -> Result<(), Fail> {
     let list =
         "[[\"stop\",0],[\"arm\",0,1000000,18446744073709551615],[\"restart\",0],[\"call\",1]]";
@@ -220,7 +235,7 @@ fn each_wrong_place_is_named(rt: HostRuntime) -> Result<(), Fail> {
         ("4294967295", "4294967296", Place::Containers(1)),
         (
             "[4294967295,\"regular\",0]",
-            "[2,\"cset\",0]",
+            "[2,\"Cset\",0]",
             Place::Containers(1),
         ),
         (

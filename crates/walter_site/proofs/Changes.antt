@@ -142,3 +142,7 @@ open_of P client (s ∷ ss) all =
       | true ↦ All-head Q s ss all
       | false ↦ open_of P client ss (All-tail Q s ss all)
     ]
+
+-- a session that is found may be open
+pub open_is : (catalog : Catalog) (i : SiteId) (client : ℕ) (ss : List Open) (s : Session) → AreOpenAt catalog i ss → session_in client ss ≡ Some s → IsOpenAt catalog i s
+open_is catalog i client ss s opens here = subst (λ o. IfSome o (IsOpenAt catalog i)) here (open_of (IsOpenAt catalog i) client ss opens.each)

@@ -1,4 +1,5 @@
 pub mod Changes
+pub mod HeldRows
 pub mod Places
+pub mod ReadRows
 pub mod Ruled
-pub mod SeenUpdates

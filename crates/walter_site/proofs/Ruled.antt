@@ -1,5 +1,5 @@
 -- What the rule for a call brings, where all open transactions are right and all values held are short.
-use Rattle.std.proofs.Common.{◌≡◌, ℕ, ◌<◌, ◌≤◌, Bool, true, false, not, ◌&&◌, nat_lt, nat_le, List, [], ◌∷◌, ◌++◌, length, All, filter, flat_map, Option, Some, None, IfSome, Result, Ok, Err, option_map, refl, ap, sym, ◌∙◌, subst, arith, if◌then◌else◌}
+use Rattle.std.proofs.Common.{◌≡◌, ℕ, ◌<◌, ◌≤◌, Bool, true, false, not, ◌&&◌, nat_lt, nat_le, List, [], ◌∷◌, ◌++◌, length, All, filter, flat_map, Option, Some, None, IfSome, Result, Ok, Err, option_map, refl, ap, sym, ◌∙◌, subst, arith, if◌then◌else◌, ℤ}
 use Rattle.std.specs.FinMap.{get}
 use Rattle.std.proofs.lemmas.Bool.Decides.{nat_tests}
 use Rattle.std.proofs.lemmas.List.{length-append}
@@ -8,11 +8,11 @@ use Rattle.walter_base.specs.declared.catalog.Catalog.{Catalog}
 use Rattle.walter_base.specs.declared.containers.Container.{Container}
 use Rattle.walter_base.specs.declared.message.BadFrame.{BadFrame}
 use Rattle.walter_base.specs.declared.message.Record.{Record}
-use Rattle.walter_base.specs.declared.message.Refusal.TheVariants.{TxFull, TooLong, SessionsFull, WrongSite, NotIssued}
+use Rattle.walter_base.specs.declared.message.Refusal.TheVariants.{TxFull, TooLong, SetTooWide, SessionsFull, WrongSite, NotIssued}
 use Rattle.walter_base.specs.declared.message.Reply.{Reply}
-use Rattle.walter_base.specs.declared.message.Reply.TheVariants.{Started, Value, Done, Committed, Aborted, Level, Ended, Unsure, Refused}
+use Rattle.walter_base.specs.declared.message.Reply.TheVariants.{Started, Value, Done, Set, Count, Committed, Aborted, Level, Ended, Unsure, Refused}
 use Rattle.walter_base.specs.declared.message.Request.{Request}
-use Rattle.walter_base.specs.declared.message.Request.TheVariants.{Start, Read, Write, Commit, Abort, Level as LevelAsked}
+use Rattle.walter_base.specs.declared.message.Request.TheVariants.{Start, Read, Write, SetAdd, SetDel, SetRead, SetReadId, Commit, Abort, Level as LevelAsked}
 use Rattle.walter_base.specs.declared.names.Kind.{Kind}
 use Rattle.walter_base.specs.declared.names.Kind.TheVariants.{Regular, Cset}
 use Rattle.walter_base.specs.declared.names.ObjId.{ObjId}
@@ -23,7 +23,7 @@ use Rattle.walter_base.specs.declared.update.Update.{Update}
 use Rattle.walter_base.specs.declared.update.Update.TheVariants.{Write as WriteOf, Add, Del}
 use Rattle.walter_base.specs.Names.{same_object, same_site}
 use Rattle.walter_base.specs.Sizes.{HasShortValue, IsShortReply, size_of_updates}
-use Rattle.walter_base.specs.Values.{held_after, value_from, value_of}
+use Rattle.walter_base.specs.Values.{held_after, value_from, value_of, count_of, counts_of}
 use Rattle.walter_site.specs.Open.{IsOpenAt, HasShortValues}
 use Rattle.walter_site.specs.Sites.{IsNext, expected}
 use Rattle.walter_trail.specs.Conflicts.{conflict_of}
@@ -31,8 +31,8 @@ use Rattle.walter_trail.specs.declared.held.Held.{Held}
 use Rattle.walter_trail.specs.declared.trail.Outcome.{Outcome}
 use Rattle.walter_trail.specs.declared.trail.Outcome.TheVariants.{Replied}
 use Rattle.walter_trail.specs.Knowledge.{Knowledge, Session, sees, read_updates, updated, with_update}
-use Rattle.walter_trail.specs.Records.{CanFollow, IsRecordAmong, IsDeclared}
-use Rattle.walter_trail.specs.Rule.{Expected, answers, refuses, call_rule, level_of, starts_new, if_regular, if_whole, writes, has_place, commits, decides, next_tid, is_issued, tells_level}
+use Rattle.walter_trail.specs.Records.{CanFollow, IsRecordAmong, IsOfKind, IsDeclared}
+use Rattle.walter_trail.specs.Rule.{Expected, answers, refuses, call_rule, level_of, starts_new, if_regular, if_whole, if_cset, if_counted, updates_with, writes, shows, has_place, commits, decides, next_tid, is_issued, tells_level}
 
 -- a value of at most 4,096 bytes, if there is one
 abbrev IsShort : Option (List ℕ) → Type 0
@@ -75,21 +75,31 @@ if_regular-fair P (Some c) expected regular none cset =
       | Cset ↦ λ is. cset
     ] refl
 
--- a write that the transaction has a place for
-open_written : (catalog : Catalog) (i : SiteId) (s : Session) (oid : ObjId) (bytes : List ℕ) (c : Container) → IsOpenAt catalog i s
-    → get catalog.containers oid.container ≡ Some c → c.kind ≡ Regular → nat_lt 4096 (length bytes) ≡ false → has_place s.updates (WriteOf oid bytes) ≡ true
-    → IsOpenAt catalog i (with_update (WriteOf oid bytes) s)
-open_written catalog i s oid bytes c is at kind short place =
-    let parts = both (nat_lt (length s.updates) 256) (nat_le (size_of_updates (s.updates ++ WriteOf oid bytes ∷ [])) 60000) place in
-    let one : IsDeclared catalog (WriteOf oid bytes) = ap (option_map (λ o. o.kind)) at ∙ ap (λ k. Some k) kind in
-    let value : length bytes ≤ 4096 = grind (arith, nat_tests, short) in
+if_cset-fair : (P : Outcome → Type 0) (container : Option Container) (expected : Expected) → ((c : Container) → container ≡ Some c → c.kind ≡ Cset → P expected.outcome)
+    → P (if_cset None expected).outcome → P (if_counted Regular expected).outcome → P (if_cset container expected).outcome
+if_cset-fair P None expected counted none regular = none
+if_cset-fair P (Some c) expected counted none regular =
+    elim c.kind as (λ k. c.kind ≡ k → P (if_counted k expected).outcome) [
+      | Regular ↦ λ is. regular
+      | Cset ↦ λ is. counted c refl is
+    ] refl
+
+-- an object of a container of this kind
+of_kind : (catalog : Catalog) (kind : Kind) (oid : ObjId) (c : Container) → get catalog.containers oid.container ≡ Some c → c.kind ≡ kind → IsOfKind catalog kind oid
+of_kind catalog kind oid c at is = ap (option_map (λ o. o.kind)) at ∙ ap (λ k. Some k) is
+
+-- an update that the transaction has a place for
+open_updated : (catalog : Catalog) (i : SiteId) (s : Session) (update : Update) → IsOpenAt catalog i s
+    → IsDeclared catalog update → HasShortValue update → has_place s.updates update ≡ true → IsOpenAt catalog i (with_update update s)
+open_updated catalog i s update is one value place =
+    let parts = both (nat_lt (length s.updates) 256) (nat_le (size_of_updates (s.updates ++ update ∷ [])) 60000) place in
     record {
       here = is.here;
       sites = is.sites;
-      declared = All-push (IsDeclared catalog) s.updates (WriteOf oid bytes) is.declared one;
+      declared = All-push (IsDeclared catalog) s.updates update is.declared one;
       small = record {
-        few = let l = length-append s.updates (WriteOf oid bytes ∷ []) in grind (arith, nat_tests, parts.0, l);
-        values = All-push HasShortValue s.updates (WriteOf oid bytes) is.small.values value;
+        few = let l = length-append s.updates (update ∷ []) in grind (arith, nat_tests, parts.0, l);
+        values = All-push HasShortValue s.updates update is.small.values value;
         size = grind (arith, nat_tests, parts.1);
       };
     }
@@ -98,18 +108,32 @@ open_written catalog i s oid bytes c is at kind short place =
     both true b h = (refl, h)
     both false b h = absurd (cc)
 
+fair_updated : (P : Outcome → Type 0) (s : Session) (update : Update) → (has_place s.updates update ≡ true → P (Replied Done)) → P (Replied (Refused TxFull)) → P (updates_with s update).outcome
+fair_updated P s update done full =
+    let yes : Expected = answers Done in
+    elim (has_place s.updates update) as (λ b. has_place s.updates update ≡ b → P (if b then yes else refuses TxFull).outcome) [
+      | true ↦ λ place. done place
+      | false ↦ λ none. full
+    ] refl
+
 fair_write : (catalog : Catalog) (i : SiteId) (K : Knowledge) (s : Session) (oid : ObjId) (bytes : List ℕ) (c : Container) → IsOpenAt catalog i s
     → get catalog.containers oid.container ≡ Some c → c.kind ≡ Regular
     → IsFair catalog i K (Ok (Write oid bytes)) (Some s) (writes s oid bytes).outcome
 fair_write catalog i K s oid bytes c is at kind =
     let P : Outcome → Type 0 = λ o. IsFair catalog i K (Ok (Write oid bytes)) (Some s) o in
-    let done : Expected = answers Done in
-    elim (nat_lt 4096 (length bytes)) as (λ b. nat_lt 4096 (length bytes) ≡ b → P (if b then refuses TooLong else if has_place s.updates (WriteOf oid bytes) then done else refuses TxFull).outcome) [
+    elim (nat_lt 4096 (length bytes)) as (λ b. nat_lt 4096 (length bytes) ≡ b → P (if b then refuses TooLong else updates_with s (WriteOf oid bytes)).outcome) [
       | true ↦ λ long. tt
-      | false ↦ λ short. elim (has_place s.updates (WriteOf oid bytes)) as (λ b. has_place s.updates (WriteOf oid bytes) ≡ b → P (if b then done else refuses TxFull).outcome) [
-        | true ↦ λ place. open_written catalog i s oid bytes c is at kind short place
-        | false ↦ λ full. tt
-      ] refl
+      | false ↦ λ short.
+          let value : length bytes ≤ 4096 = grind (arith, nat_tests, short) in
+          fair_updated P s (WriteOf oid bytes) (open_updated catalog i s (WriteOf oid bytes) is (of_kind catalog Regular oid c at kind) value) tt
+    ] refl
+
+fair_shown : (P : Outcome → Type 0) (counts : List (ℕ × ℤ)) → (length counts ≤ 4095 → P (Replied (Set counts))) → P (Replied (Refused SetTooWide)) → P (shows counts).outcome
+fair_shown P counts shown wide =
+    let yes : Expected = answers (Set counts) in
+    elim (nat_lt 4095 (length counts)) as (λ b. nat_lt 4095 (length counts) ≡ b → P (if b then refuses SetTooWide else yes).outcome) [
+      | true ↦ λ long. wide
+      | false ↦ λ short. shown (grind (arith, nat_tests, short))
     ] refl
 
 fair_start : (catalog : Catalog) (i : SiteId) (K : Knowledge) → IsFair catalog i K (Ok Start) None (starts_new i K).outcome
@@ -154,6 +178,23 @@ ruled_fair catalog i K (Ok (Write oid bytes)) None held is = tt
 ruled_fair catalog i K (Ok (Write oid bytes)) (Some s) held is =
     let P : Outcome → Type 0 = λ o. IsFair catalog i K (Ok (Write oid bytes)) (Some s) o in
     if_regular-fair P (get catalog.containers oid.container) (writes s oid bytes) (λ c at kind. fair_write catalog i K s oid bytes c is at kind) tt tt
+ruled_fair catalog i K (Ok (SetAdd oid id)) None held is = tt
+ruled_fair catalog i K (Ok (SetAdd oid id)) (Some s) held is =
+    let P : Outcome → Type 0 = λ o. IsFair catalog i K (Ok (SetAdd oid id)) (Some s) o in
+    if_cset-fair P (get catalog.containers oid.container) (updates_with s (Add oid id)) (λ c at kind. fair_updated P s (Add oid id) (open_updated catalog i s (Add oid id) is (of_kind catalog Cset oid c at kind) tt) tt) tt tt
+ruled_fair catalog i K (Ok (SetDel oid id)) None held is = tt
+ruled_fair catalog i K (Ok (SetDel oid id)) (Some s) held is =
+    let P : Outcome → Type 0 = λ o. IsFair catalog i K (Ok (SetDel oid id)) (Some s) o in
+    if_cset-fair P (get catalog.containers oid.container) (updates_with s (Del oid id)) (λ c at kind. fair_updated P s (Del oid id) (open_updated catalog i s (Del oid id) is (of_kind catalog Cset oid c at kind) tt) tt) tt tt
+ruled_fair catalog i K (Ok (SetRead oid)) None held is = tt
+ruled_fair catalog i K (Ok (SetRead oid)) (Some s) held is =
+    let P : Outcome → Type 0 = λ o. IsFair catalog i K (Ok (SetRead oid)) (Some s) o in
+    let counts = counts_of oid (read_updates K s) in
+    if_cset-fair P (get catalog.containers oid.container) (shows counts) (λ c at kind. fair_shown P counts (λ short. short) tt) tt tt
+ruled_fair catalog i K (Ok (SetReadId oid id)) None held is = tt
+ruled_fair catalog i K (Ok (SetReadId oid id)) (Some s) held is =
+    let P : Outcome → Type 0 = λ o. IsFair catalog i K (Ok (SetReadId oid id)) (Some s) o in
+    if_cset-fair P (get catalog.containers oid.container) (answers (Count (count_of oid id (read_updates K s)))) (λ c at kind. tt) tt tt
 ruled_fair catalog i K (Ok Commit) None held is = tt
 ruled_fair catalog i K (Ok Commit) (Some s) held is = fair_commit catalog i K s s.updates
 ruled_fair catalog i K (Ok Abort) None held is = tt
@@ -166,6 +207,8 @@ fair_short : (catalog : Catalog) (i : SiteId) (K : Knowledge) (call : Result Req
 fair_short catalog i K call session (Started tid) fair = tt
 fair_short catalog i K call session Done fair = tt
 fair_short catalog i K call session (Value value) fair = fair
+fair_short catalog i K call session (Set counts) fair = fair
+fair_short catalog i K call session (Count count) fair = tt
 fair_short catalog i K call session (Committed version) fair = tt
 fair_short catalog i K call session (Aborted cause) fair = tt
 fair_short catalog i K call session (Level level) fair = tt
@@ -177,7 +220,7 @@ fair_short catalog i K call session (Refused refusal) fair = tt
 pub record IsGood (catalog : Catalog) (i : SiteId) (K : Knowledge) (rec : Record) : Type 0 where
   pub follows : 0 < K.epoch → CanFollow catalog i K rec
   pub sizes : IsRecordAmong catalog.sites rec
-  pub next : IsNext i K (Some rec)
+  pub next : IsNext catalog i K (Some rec)
 
 good_decided : (catalog : Catalog) (i : SiteId) (K : Knowledge) (s : Session) (u : Update) (us : List Update) (conflict : Option (ObjId × Version)) → catalog.sites ≤ 8
     → s.updates ≡ u ∷ us → IsOpenAt catalog i s → IfSome (decides i K s conflict).wrote (IsGood catalog i K)
@@ -191,7 +234,7 @@ good_decided catalog i K s u us None most some is = record {
       updates = is.small;
     },
   );
-  next = (refl, is.small.values);
+  next = (refl, is.small.values, is.declared);
 }
 good_decided catalog i K s u us (Some conflict) most some is = tt
 
@@ -208,12 +251,26 @@ none_regular : (P : Record → Type 0) (container : Option Container) (expected 
 none_regular P None expected good = tt
 none_regular P (Some c) expected good = none_whole P c.kind expected good
 
+none_counted : (P : Record → Type 0) (kind : Kind) (expected : Expected) → IfSome expected.wrote P → IfSome (if_counted kind expected).wrote P
+none_counted P Regular expected good = tt
+none_counted P Cset expected good = good
+
+none_cset : (P : Record → Type 0) (container : Option Container) (expected : Expected) → IfSome expected.wrote P → IfSome (if_cset container expected).wrote P
+none_cset P None expected good = tt
+none_cset P (Some c) expected good = none_counted P c.kind expected good
+
+none_updated : (P : Record → Type 0) (s : Session) (update : Update) → IfSome (updates_with s update).wrote P
+none_updated P s update = elim (has_place s.updates update) as (λ b. IfSome (if b then answers Done else refuses TxFull).wrote P) [ true ↦ tt | false ↦ tt ]
+
 none_written : (P : Record → Type 0) (s : Session) (oid : ObjId) (bytes : List ℕ) → IfSome (writes s oid bytes).wrote P
 none_written P s oid bytes =
-    elim (nat_lt 4096 (length bytes)) as (λ b. IfSome (if b then refuses TooLong else if has_place s.updates (WriteOf oid bytes) then answers Done else refuses TxFull).wrote P) [
+    elim (nat_lt 4096 (length bytes)) as (λ b. IfSome (if b then refuses TooLong else updates_with s (WriteOf oid bytes)).wrote P) [
       | true ↦ tt
-      | false ↦ elim (has_place s.updates (WriteOf oid bytes)) as (λ b. IfSome (if b then answers Done else refuses TxFull).wrote P) [ true ↦ tt | false ↦ tt ]
+      | false ↦ none_updated P s (WriteOf oid bytes)
     ]
+
+none_shown : (P : Record → Type 0) (counts : List (ℕ × ℤ)) → IfSome (shows counts).wrote P
+none_shown P counts = elim (nat_lt 4095 (length counts)) as (λ b. IfSome (if b then refuses SetTooWide else answers (Set counts)).wrote P) [ true ↦ tt | false ↦ tt ]
 
 none_started : (P : Record → Type 0) (i : SiteId) (K : Knowledge) → IfSome (starts_new i K).wrote P
 none_started P i K = elim (nat_lt (length K.sessions) 256) as (λ b. IfSome (if b then answers (Started (next_tid i K)) else refuses SessionsFull).wrote P) [ true ↦ tt | false ↦ tt ]
@@ -225,29 +282,38 @@ none_told P i K tid =
       | false ↦ tt
     ]
 
--- the record that the rule gives is good
-ruled_good : (catalog : Catalog) (i : SiteId) (K : Knowledge) (call : Result Request BadFrame) (session : Option Session) → catalog.sites ≤ 8
-    → IfSome session (IsOpenAt catalog i) → IfSome (call_rule catalog i K call session).wrote (IsGood catalog i K)
-ruled_good catalog i K (Err bad) session most is = tt
-ruled_good catalog i K (Ok Start) None most is = none_started (IsGood catalog i K) i K
-ruled_good catalog i K (Ok Start) (Some s) most is = tt
-ruled_good catalog i K (Ok (Read oid)) None most is = tt
-ruled_good catalog i K (Ok (Read oid)) (Some s) most is =
-    none_regular (IsGood catalog i K) (get catalog.containers oid.container) (answers (Value (value_of oid (read_updates K s)))) tt
-ruled_good catalog i K (Ok (Write oid bytes)) None most is = tt
-ruled_good catalog i K (Ok (Write oid bytes)) (Some s) most is =
-    none_regular (IsGood catalog i K) (get catalog.containers oid.container) (writes s oid bytes) (none_written (IsGood catalog i K) s oid bytes)
-ruled_good catalog i K (Ok Commit) None most is = tt
-ruled_good catalog i K (Ok Commit) (Some s) most is = good_commit catalog i K s s.updates most refl is
-ruled_good catalog i K (Ok Abort) None most is = tt
-ruled_good catalog i K (Ok Abort) (Some s) most is = tt
-ruled_good catalog i K (Ok (LevelAsked tid)) session most is = none_told (IsGood catalog i K) i K tid
+-- a record that the rule gives is that of a commit
+ruled_wrote : (P : Record → Type 0) (catalog : Catalog) (i : SiteId) (K : Knowledge) (call : Result Request BadFrame) (session : Option Session)
+    → (call ≡ Ok Commit → (s : Session) → session ≡ Some s → IfSome (commits i K s s.updates).wrote P) → IfSome (call_rule catalog i K call session).wrote P
+ruled_wrote P catalog i K (Err bad) session good = tt
+ruled_wrote P catalog i K (Ok Start) None good = none_started P i K
+ruled_wrote P catalog i K (Ok Start) (Some s) good = tt
+ruled_wrote P catalog i K (Ok (Read oid)) None good = tt
+ruled_wrote P catalog i K (Ok (Read oid)) (Some s) good = none_regular P (get catalog.containers oid.container) (answers (Value (value_of oid (read_updates K s)))) tt
+ruled_wrote P catalog i K (Ok (Write oid bytes)) None good = tt
+ruled_wrote P catalog i K (Ok (Write oid bytes)) (Some s) good = none_regular P (get catalog.containers oid.container) (writes s oid bytes) (none_written P s oid bytes)
+ruled_wrote P catalog i K (Ok (SetAdd oid id)) None good = tt
+ruled_wrote P catalog i K (Ok (SetAdd oid id)) (Some s) good = none_cset P (get catalog.containers oid.container) (updates_with s (Add oid id)) (none_updated P s (Add oid id))
+ruled_wrote P catalog i K (Ok (SetDel oid id)) None good = tt
+ruled_wrote P catalog i K (Ok (SetDel oid id)) (Some s) good = none_cset P (get catalog.containers oid.container) (updates_with s (Del oid id)) (none_updated P s (Del oid id))
+ruled_wrote P catalog i K (Ok (SetRead oid)) None good = tt
+ruled_wrote P catalog i K (Ok (SetRead oid)) (Some s) good =
+    let counts = counts_of oid (read_updates K s) in
+    none_cset P (get catalog.containers oid.container) (shows counts) (none_shown P counts)
+ruled_wrote P catalog i K (Ok (SetReadId oid id)) None good = tt
+ruled_wrote P catalog i K (Ok (SetReadId oid id)) (Some s) good = none_cset P (get catalog.containers oid.container) (answers (Count (count_of oid id (read_updates K s)))) tt
+ruled_wrote P catalog i K (Ok Commit) None good = tt
+ruled_wrote P catalog i K (Ok Commit) (Some s) good = good refl s refl
+ruled_wrote P catalog i K (Ok Abort) None good = tt
+ruled_wrote P catalog i K (Ok Abort) (Some s) good = tt
+ruled_wrote P catalog i K (Ok (LevelAsked tid)) session good = none_told P i K tid
 
 -- a plan that is the rule
 pub planned_good : (catalog : Catalog) (i : SiteId) (K : Knowledge) (call : Result Request BadFrame) (session : Option Session) (p : Option Record × Reply) → catalog.sites ≤ 8
     → IfSome session (IsOpenAt catalog i) → expected p ≡ call_rule catalog i K call session → IfSome p.0 (IsGood catalog i K)
 planned_good catalog i K call session p most is rule =
-    subst (λ (e : Expected). IfSome e.wrote (IsGood catalog i K)) (sym rule) (ruled_good catalog i K call session most is)
+    let session_is : (s : Session) → session ≡ Some s → IsOpenAt catalog i s = λ s at. subst (λ o. IfSome o (IsOpenAt catalog i)) at is in
+    subst (λ (e : Expected). IfSome e.wrote (IsGood catalog i K)) (sym rule) (ruled_wrote (IsGood catalog i K) catalog i K call session (λ asked s at. good_commit catalog i K s s.updates most refl (session_is s at)))
 
 pub planned_short : (catalog : Catalog) (i : SiteId) (K : Knowledge) (call : Result Request BadFrame) (session : Option Session) (p : Option Record × Reply) → All HasShortValues K.held
     → IfSome session (IsOpenAt catalog i) → expected p ≡ call_rule catalog i K call session → IsShortReply p.1

@@ -1,3 +1,4 @@
 pub mod Open
 pub mod Props
+pub mod Rows
 pub mod Sites

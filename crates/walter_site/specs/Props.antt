@@ -1,8 +1,9 @@
--- What holds of the open transactions and of what is held has one proof at most.
+-- What holds of the open transactions, of what is held and of its rows has one proof at most.
 use Rattle.std.specs.Prelude.{List, [], ◌∷◌}
 use Rattle.std.proofs.Props.{props as usual}
 use Rattle.walter_base.specs.declared.catalog.Catalog.{Catalog}
 use Rattle.walter_base.specs.declared.names.Kind.{Kind}
+use Rattle.walter_base.specs.declared.update.Row.{Row}
 use Rattle.walter_base.specs.declared.update.Update.{Update}
 use Rattle.walter_base.specs.declared.update.Update.TheVariants.{Write, Add, Del}
 use Rattle.walter_base.specs.Sizes.{HasShortValue}
@@ -12,6 +13,12 @@ use Rattle.walter_trail.specs.Records.{IsDeclared}
 
 Kind-set : IsSet Kind
 Kind-set = hlevel usual
+
+Update-set : IsSet Update
+Update-set = hlevel usual
+
+pub Row-set : IsSet Row
+Row-set = hlevel (usual, Update-set)
 
 pub IsDeclared-prop : (catalog : Catalog) (update : Update) → IsProp (IsDeclared catalog update)
 IsDeclared-prop catalog (Write oid bytes) = hlevel (usual, Kind-set)
@@ -29,4 +36,4 @@ AreApart-prop (s ∷ ss) =
     let others : IsProp (AreApart ss) = AreApart-prop ss in
     hlevel (usual, others)
 
-pub ruleset props = (usual, IsDeclared-prop, HasShortValue-prop, AreApart-prop)
+pub ruleset props = (usual, Row-set, IsDeclared-prop, HasShortValue-prop, AreApart-prop)

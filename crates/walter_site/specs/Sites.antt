@@ -17,11 +17,12 @@ use Rattle.walter_site.specs.declared.replay.ReplayFault.{ReplayFault}
 use Rattle.walter_site.specs.declared.replay.ReplayFault.TheVariants.{Unfit, NoMemory}
 use Rattle.walter_site.specs.declared.site.Site.{Site}
 use Rattle.walter_site.specs.Open.{sessions_of, first_of, CanTake}
+use Rattle.walter_site.specs.Rows.{rows_told, HaveRoom}
 use Rattle.walter_trail.specs.declared.trail.Outcome.TheVariants.{Replied}
 use Rattle.walter_trail.specs.declared.trail.TrailEvent.{TrailEvent}
 use Rattle.walter_trail.specs.declared.trail.TrailEvent.TheVariants.{Call as CallEvent}
 use Rattle.walter_trail.specs.Knowledge.{Knowledge, session_of}
-use Rattle.walter_trail.specs.Records.{CanFollow}
+use Rattle.walter_trail.specs.Records.{CanFollow, IsDeclared}
 use Rattle.walter_trail.specs.Rule.{Expected, call_rule, next_seq, refuses}
 
 -- what a site knows
@@ -49,21 +50,22 @@ call_of (Call client call) = call
 abbrev pub expected : Option Record × Reply → Expected
 expected p = record { wrote = p.0; outcome = Replied p.1 }
 
--- the plan is for this input, and is the rule
+-- the plan is for this input, and is the rule, with the rows of its record
 pub record IsPlan (catalog : Catalog) (i : SiteId) (K : Knowledge) (input : Input) (plan : Plan) : Type 0 where
   pub input_is : plan.input ≡ input
   pub rule_is : expected (plan.rec, plan.reply) ≡ call_rule catalog i K (call_of input) (session_of K (client_of input))
+  pub rows_are : plan.rows.items ≡ rows_told plan.rec
 
 -- the refusal, if there is one, before anything else
 abbrev pub refused_or : Option Refusal → Expected → Expected
 refused_or None other = other
 refused_or (Some refusal) other = refuses refusal
 
--- what holds the record can take it without memory
+-- what holds the record can take it without memory, and so can the rows of its objects
 abbrev pub CanKeep : Site → Option Record → Type 0
 CanKeep s None = Unit {0}
 CanKeep s (Some (Boot epoch)) = Unit {0}
-CanKeep s (Some (Own seq tx)) = vec_len s.held < vec_capacity s.held
+CanKeep s (Some (Own seq tx)) = (vec_len s.held < vec_capacity s.held) × HaveRoom s.history tx.updates
 
 -- what the reply changes can be changed without memory
 abbrev pub CanAnswer : Site → ℕ → Reply → Type 0
@@ -76,11 +78,11 @@ pub record HasRoom (s : Site) (plan : Plan) : Type 0 where
   pub keeps : CanKeep s plan.rec
   pub answers : CanAnswer s (client_of plan.input) plan.reply
 
--- there is no record, or it is the next commit, with short values
-abbrev pub IsNext : SiteId → Knowledge → Option Record → Type 0
-IsNext i K None = Unit {0}
-IsNext i K (Some (Boot epoch)) = ⊥
-IsNext i K (Some (Own seq tx)) = (seq ≡ next_seq i K) × All HasShortValue tx.updates
+-- there is no record, or it is the next commit, of declared updates with short values
+abbrev pub IsNext : Catalog → SiteId → Knowledge → Option Record → Type 0
+IsNext catalog i K None = Unit {0}
+IsNext catalog i K (Some (Boot epoch)) = ⊥
+IsNext catalog i K (Some (Own seq tx)) = (seq ≡ next_seq i K) × All HasShortValue tx.updates × All (IsDeclared catalog) tx.updates
 
 -- why a record is not replayed
 abbrev pub IsReplayFault : Catalog → SiteId → Knowledge → Record → ReplayFault → Type 0

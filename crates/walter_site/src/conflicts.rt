@@ -1,38 +1,23 @@
-ghost use Rattle.std.specs.Prelude.{◌≡◌, ◌↔◌, IsTrue, option_map};
-ghost use Rattle.walter_base.specs.Values.{write_set};
-ghost use Rattle.walter_trail.specs.Conflicts.{wrote, first_outside, earlier, precedes, conflict_on, conflict_of};
+ghost use Rattle.std.specs.Prelude.{◌≡◌, List, All, option_map};
+ghost use Rattle.walter_base.specs.declared.catalog.Catalog.{Catalog};
+ghost use Rattle.walter_history.specs.Lines.{rows_of};
+ghost use Rattle.walter_history.specs.Rows.{first_unseen};
+ghost use Rattle.walter_site.specs.Rows.{AreRowsOf};
+ghost use Rattle.walter_trail.specs.Conflicts.{earlier, conflict_of};
+ghost use Rattle.walter_trail.specs.declared.held.Held.{Held};
+ghost use Rattle.walter_trail.specs.Records.{IsDeclared};
 
 use walter_base::{ObjId, Update, Version, Vts};
-use walter_trail::Held;
+use walter_history::History;
 
-/// Whether the transaction that is held wrote the object.
-fn has_written(held: &Held, oid: ObjId) -> bool
-    ensures { result ≡ wrote oid held.now }
+/// The first version of the object that the snapshot doesn't see, with the object.
+fn conflict_on(history: &History, snapshot: &Vts, oid: ObjId) -> Option<(ObjId, Version)>
+    ensures { result ≡ option_map (λ version. (oid, version)) (first_unseen snapshot.now (rows_of history.now oid)) }
 {
-    for update in held.tx.updates.as_slice() {
-        if let Update::Write(at, _) = update
-            && oid == *at
-        {
-            return true;
-        }
+    match history.unmodified(oid, snapshot) {
+        Ok(()) => None,
+        Err(version) => Some((oid, version)),
     }
-    false
-}
-
-/// The first version of the object that the snapshot doesn't see.
-fn first_unseen(held: &[Held], snapshot: &Vts, oid: ObjId) -> Option<Version>
-    ensures { result ≡ first_outside snapshot.now oid held.now }
-{
-    for one in held {
-        let version = Version {
-            site: one.tx.tid.site,
-            seq: one.seq,
-        };
-        if !snapshot.sees(version) && has_written(one, oid) {
-            return Some(version);
-        }
-    }
-    None
 }
 
 /// Of two conflicts that on the object that comes first.
@@ -51,14 +36,13 @@ fn earlier_of(
 
 /// The conflict that a commit of these updates meets, if it meets one: the first object written of which the snapshot
 /// doesn't see a version, with the first such version.
-pub fn conflict(held: &[Held], snapshot: &Vts, updates: &[Update]) -> Option<(ObjId, Version)>
-    ensures { result ≡ conflict_of held.now snapshot.now updates.now }
+pub fn conflict(history: &History, snapshot: &Vts, updates: &[Update]) -> Option<(ObjId, Version)>
+    ensures { (catalog : Catalog) (held : List Held) → AreRowsOf catalog held history.now → All (IsDeclared catalog) updates.now → result ≡ conflict_of held snapshot.now updates.now }
 {
     let mut found = None;
     for update in updates {
         if let Update::Write(oid, _) = update {
-            let oid = *oid;
-            let here = first_unseen(held, snapshot, oid).map(|version| (oid, version));
+            let here = conflict_on(history, snapshot, *oid);
             found = earlier_of(found, here);
         }
     }

@@ -6,6 +6,7 @@ mod levels;
 mod plan;
 mod reading;
 mod replay;
+mod rows;
 mod site;
 mod sizes;
 mod transaction;

@@ -1,55 +1,47 @@
-ghost use Rattle.std.specs.Prelude.{◌≡◌, ◌++◌, filter, flat_map};
+ghost use Rattle.std.specs.Prelude.{◌≡◌, ◌≤◌, ◌++◌, length, IfOk};
 ghost use Rattle.std.specs.Option.{option_copied};
-ghost use Rattle.walter_base.specs.Values.{value_from, value_of};
-ghost use Rattle.walter_trail.specs.Knowledge.{sees};
+ghost use Rattle.walter_base.specs.Values.{value_of, count_of, AreCounts};
+ghost use Rattle.walter_history.specs.Lines.{rows_of};
+ghost use Rattle.walter_history.specs.Rows.{seen_updates};
 
-use walter_base::{Bytes, ObjId, Update, Version, Vts};
-use walter_trail::Held;
-
-/// What a regular object that held `base` holds after these updates.
-pub fn value_after<'a>(
-    base: Option<&'a Bytes>,
-    updates: &'a [Update],
-    oid: ObjId,
-) -> Option<&'a Bytes>
-    ensures { option_copied result ≡ value_from (option_copied base.entry) oid updates.entry.now }
-{
-    let mut value = base;
-    for update in updates {
-        if let Update::Write(at, bytes) = update
-            && *at == oid
-        {
-            value = Some(bytes);
-        }
-    }
-    value
-}
-
-/// What a regular object holds after the transactions that the snapshot sees, in their order.
-pub fn value_seen<'a>(held: &'a [Held], snapshot: &Vts, oid: ObjId) -> Option<&'a Bytes>
-    ensures { option_copied result ≡ value_of oid (flat_map (λ h. h.tx.updates) (filter (sees snapshot.now) held.entry.now)) }
-{
-    let mut value = None;
-    for one in held {
-        let version = Version {
-            site: one.tx.tid.site,
-            seq: one.seq,
-        };
-        if snapshot.sees(version) {
-            value = value_after(value, one.tx.updates.as_slice(), oid);
-        }
-    }
-    value
-}
+use std::alloc::Global;
+use walter_base::{Bytes, Counts, Mem, ObjId, Update, Vts};
+use walter_history::History;
 
 /// What a transaction of this snapshot and these updates reads: its own updates stand behind those that it sees.
 pub fn value_read<'a>(
-    held: &'a [Held],
+    history: &'a History,
     snapshot: &Vts,
     updates: &'a [Update],
     oid: ObjId,
 ) -> Option<&'a Bytes>
-    ensures { option_copied result ≡ value_of oid (flat_map (λ h. h.tx.updates) (filter (sees snapshot.now) held.entry.now) ++ updates.entry.now) }
+    ensures { option_copied result ≡ value_of oid (seen_updates snapshot.now (rows_of history.entry.now oid) ++ updates.entry.now) }
 {
-    value_after(value_seen(held, snapshot, oid), updates, oid)
+    let seen = history.latest(oid, snapshot);
+    walter_overlay::value(seen, updates, oid)
+}
+
+/// The same of a set: its counts.
+pub fn counts_read(
+    alloc: Global,
+    history: &History,
+    snapshot: &Vts,
+    updates: &[Update],
+    oid: ObjId,
+) -> Mem<Counts>
+    requires { length updates.now ≤ 256 }
+    ensures { IfOk result (AreCounts oid (seen_updates snapshot.now (rows_of history.now oid) ++ updates.now)) }
+{
+    // No memory reaches so far that a set has 2^62 rows, so its counts leave room for the own updates.
+    let seen = walter_cset::counts(alloc, history.rows(oid), snapshot, oid)?;
+    walter_overlay::counts(alloc, &seen, updates, oid)
+}
+
+/// The same of one id of a set: its count. It takes no memory.
+pub fn count_read(history: &History, snapshot: &Vts, updates: &[Update], oid: ObjId, id: u64) -> i64
+    requires { length updates.now ≤ 256 }
+    ensures { result ≡ count_of oid id (seen_updates snapshot.now (rows_of history.now oid) ++ updates.now) }
+{
+    let seen = walter_cset::count(history.rows(oid), snapshot, oid, id);
+    walter_overlay::count(seen, updates, oid, id)
 }

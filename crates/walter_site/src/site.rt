@@ -1,27 +1,31 @@
 ghost use Rattle.std.specs.Prelude.{◌≡◌, ◌<◌, ◌≤◌, ◌↔◌, IsTrue, ℕ, length, vec_len, vec_capacity, Ok, Some, OnOk, OnErr, IfOk, IfErr, IfSome, None, All};
 ghost use Rattle.walter_site.specs.Open.{sessions_of, first_of, AreOpenAt, IsOpenAt, HasShortValues, CanTake};
 ghost use Rattle.walter_site.specs.Props.{props};
+ghost use Rattle.walter_site.specs.Rows.{AreRowsOf, HaveRoom, rows_from, rows_told};
 
 use crate::conflicts::conflict;
 use crate::levels::{has_open, holds};
 use crate::plan::{Input, Plan};
-use crate::reading::value_read;
+use crate::reading::{count_read, counts_read, value_read};
 use crate::replay::{ReplayFault, are_declared};
-use crate::sizes::{MOST_BYTES, has_place};
+use crate::rows::{append_all, make_room, rows_for, rows_told};
+use crate::sizes::{MOST_BYTES, MOST_SHOWN, SPELLS_COUNT, SPELLS_WRITE, has_place};
 use crate::transaction::Transaction;
 use crate::transactions::{add_update, end, find, reserve_update, update_of};
 use std::alloc::Global;
 use walter_base::{
     BadFrame, Bytes, Call, Catalog, Cause, Kind, Level, Mem, NoMemory, ObjId, Record, Refusal,
-    Reply, Request, SiteId, Tid, Tx, Updates, Version, Vts,
+    Reply, Request, Row, SiteId, Tid, Tx, Updates, Version, Vts,
 };
+use walter_history::History;
 use walter_trail::{Held, Outcome, TrailEvent};
 
 /// How many transactions may be open.
 const MOST_OPEN: usize = 256;
 
-/// One site of the store: what it knows, ready to be read and to be changed by plans.
-#[derive(Debug, Drop)]
+/// One site of the store: what it knows, ready to be read and to be changed by plans. The history has, by objects, the
+/// rows of what is held.
+#[derive(Drop)]
 pub struct Site {
     catalog: Catalog,
     site: SiteId,
@@ -29,12 +33,14 @@ pub struct Site {
     starts: u64,
     committed: Vts,
     held: Vec<Held>,
+    history: History,
     transactions: Vec<Transaction>,
     ghost here: { site.0 < length committed },
     ghost sites: { length committed ≡ catalog.sites },
     ghost most: { catalog.sites ≤ 8 },
     ghost sessions: { AreOpenAt catalog site (sessions_of transactions.items) } by { Prim.hlevel props },
     ghost short: { All HasShortValues held.items } by { Prim.hlevel props },
+    ghost rows: { AreRowsOf catalog held.items history } by { Prim.hlevel props },
 }
 
 #[tactic(auto, unfolding(crate::specs::Sites::known, crate::specs::Sites::site_of, crate::specs::Sites::catalog_of))]
@@ -43,8 +49,8 @@ impl Site {
     ghost use Rattle.walter_base.specs.Sizes.{HasShortValue, CanBeSpelled, CanBeRecorded, IsShortReply};
     ghost use Rattle.walter_site.specs.Sites.{known, site_of, catalog_of, IsPlan, HasRoom, CanKeep, CanAnswer, IsNext, IsReplayFault, expected, event_of, call_of, refused_or};
     ghost use Rattle.walter_trail.specs.Knowledge.{after, answered, recorded, fresh, session_of, updated};
-    ghost use Rattle.walter_trail.specs.Records.{CanFollow, IsNextOwn, IsRecordAmong};
-    ghost use Rattle.walter_trail.specs.Rule.{Expected, answers, call_rule, if_regular, is_issued, level_of, tells_level, next_seq, next_tid, MayWant};
+    ghost use Rattle.walter_trail.specs.Records.{CanFollow, IsNextOwn, IsRecordAmong, IsDeclared};
+    ghost use Rattle.walter_trail.specs.Rule.{Expected, answers, call_rule, if_regular, if_cset, is_issued, level_of, tells_level, next_seq, next_tid, MayWant};
 
     /// A site of which no record tells anything. It comes up by the replay of a Boot.
     pub fn new(alloc: Global, catalog: Catalog, site: SiteId) -> Site
@@ -62,6 +68,7 @@ impl Site {
             starts: 0,
             committed,
             held: Vec::new(alloc),
+            history: History::new(alloc),
             transactions: Vec::new(alloc),
         }
     }
@@ -74,7 +81,7 @@ impl Site {
     }
 
     /// The plan of the rule for an input. It takes all the memory that applying it needs, and changes nothing. A bad
-    /// frame, an Abort and a Level take none.
+    /// frame, a SetReadId, an Abort and a Level take none.
     pub fn plan(&mut self, input: &Input) -> Mem<Plan>
         ensures rule { IfOk result (IsPlan (catalog_of self.old) (site_of self.old) (known self.old) input.now) }
         ensures room { IfOk result (HasRoom self.new) }
@@ -88,8 +95,10 @@ impl Site {
     {
         let Input::Call { client, call } = input;
         let (rec, reply) = self.plan_call(*client, call)?;
+        let alloc = *self.transactions.allocator();
         Ok(Plan {
             input: input.copy()?,
+            rows: rows_told(alloc, &rec)?,
             rec,
             reply,
         })
@@ -123,6 +132,11 @@ impl Site {
             Request::Start => Ok((None, self.plan_start(client)?)),
             Request::Read(oid) => Ok((None, self.plan_read(client, *oid)?)),
             Request::Write(oid, value) => Ok((None, self.plan_write(client, *oid, value)?)),
+            Request::SetAdd(oid, _) | Request::SetDel(oid, _) => {
+                Ok((None, self.plan_change(client, *oid)?))
+            }
+            Request::SetRead(oid) => Ok((None, self.plan_counts(client, *oid)?)),
+            Request::SetReadId(oid, id) => Ok((None, self.plan_count(client, *oid, *id))),
             Request::Commit => self.plan_commit(client),
             Request::Abort => Ok((None, self.plan_abort(client))),
             Request::Level(tid) => Ok((None, self.tell_level(*tid))),
@@ -163,6 +177,17 @@ impl Site {
         }
     }
 
+    /// Why an object has no counts that are read or changed, if it has none.
+    fn refusal_of_set(&self, oid: ObjId) -> Option<Refusal>
+        ensures { (other : Expected) → if_cset (map.get (catalog_of self.now).containers oid.container) other ≡ refused_or result other }
+    {
+        match self.catalog.kind(oid) {
+            None => Some(Refusal::UnknownContainer),
+            Some(Kind::Regular) => Some(Refusal::WrongKind),
+            Some(Kind::Cset) => None,
+        }
+    }
+
     fn plan_read(&self, client: u32, oid: ObjId) -> Mem<Reply>
         ensures rule { IfOk result (λ reply. answers reply ≡ call_rule (catalog_of self.now) (site_of self.now) (known self.now) (Ok (Request.Read oid)) (session_of (known self.now) client)) }
         ensures room { IfOk result (CanAnswer self.now client) }
@@ -174,7 +199,7 @@ impl Site {
             return Ok(Reply::Refused(refusal));
         }
         let snapshot = &transaction.snapshot;
-        let value = value_read(&self.held, snapshot, &transaction.updates, oid).cloned()?;
+        let value = value_read(&self.history, snapshot, &transaction.updates, oid).cloned()?;
         Ok(Reply::Value(value))
     }
 
@@ -205,10 +230,78 @@ impl Site {
         if value.len() > MOST_BYTES {
             return Some(Refusal::TooLong);
         }
-        if !has_place(&transaction.updates, oid, value) {
+        if !has_place(&transaction.updates, SPELLS_WRITE + value.len() as u64) {
             return Some(Refusal::TxFull);
         }
         None
+    }
+
+    /// An id is added to a set, or taken from it.
+    fn plan_change(&mut self, client: u32, oid: ObjId) -> Mem<Reply>
+        ensures add { IfOk result (λ reply. (id : ℕ) → answers reply ≡ call_rule (catalog_of self.old) (site_of self.old) (known self.old) (Ok (Request.SetAdd oid id)) (session_of (known self.old) client)) }
+        ensures del { IfOk result (λ reply. (id : ℕ) → answers reply ≡ call_rule (catalog_of self.old) (site_of self.old) (known self.old) (Ok (Request.SetDel oid id)) (session_of (known self.old) client)) }
+        ensures room { IfOk result (CanAnswer self.new client) }
+        ensures same { known self.new ≡ known self.old }
+        ensures site { site_of self.new ≡ site_of self.old }
+        ensures catalog { catalog_of self.new ≡ catalog_of self.old }
+    {
+        if let Some(refusal) = self.refusal_to_change(client, oid) {
+            return Ok(Reply::Refused(refusal));
+        }
+        reserve_update(&mut self.transactions, client)?;
+        Ok(Reply::Done)
+    }
+
+    /// Why no id is added to the set, or taken from it, if none is.
+    fn refusal_to_change(&self, client: u32, oid: ObjId) -> Option<Refusal>
+        ensures add { (id : ℕ) → call_rule (catalog_of self.now) (site_of self.now) (known self.now) (Ok (Request.SetAdd oid id)) (session_of (known self.now) client) ≡ refused_or result (answers Reply.Done) }
+        ensures del { (id : ℕ) → call_rule (catalog_of self.now) (site_of self.now) (known self.now) (Ok (Request.SetDel oid id)) (session_of (known self.now) client) ≡ refused_or result (answers Reply.Done) }
+    {
+        let Some(transaction) = find(&self.transactions, client) else {
+            return Some(Refusal::NoTx);
+        };
+        if let Some(refusal) = self.refusal_of_set(oid) {
+            return Some(refusal);
+        }
+        if !has_place(&transaction.updates, SPELLS_COUNT) {
+            return Some(Refusal::TxFull);
+        }
+        None
+    }
+
+    fn plan_counts(&self, client: u32, oid: ObjId) -> Mem<Reply>
+        ensures rule { IfOk result (λ reply. answers reply ≡ call_rule (catalog_of self.now) (site_of self.now) (known self.now) (Ok (Request.SetRead oid)) (session_of (known self.now) client)) }
+        ensures room { IfOk result (CanAnswer self.now client) }
+    {
+        let Some(transaction) = find(&self.transactions, client) else {
+            return Ok(Reply::Refused(Refusal::NoTx));
+        };
+        if let Some(refusal) = self.refusal_of_set(oid) {
+            return Ok(Reply::Refused(refusal));
+        }
+        let alloc = *self.transactions.allocator();
+        let snapshot = &transaction.snapshot;
+        let counts = counts_read(alloc, &self.history, snapshot, &transaction.updates, oid)?;
+        if counts.as_slice().len() > MOST_SHOWN {
+            return Ok(Reply::Refused(Refusal::SetTooWide));
+        }
+        Ok(Reply::Set(counts))
+    }
+
+    /// It takes no memory.
+    fn plan_count(&self, client: u32, oid: ObjId, id: u64) -> Reply
+        ensures rule { answers result ≡ call_rule (catalog_of self.now) (site_of self.now) (known self.now) (Ok (Request.SetReadId oid id)) (session_of (known self.now) client) }
+        ensures room { CanAnswer self.now client result }
+    {
+        let Some(transaction) = find(&self.transactions, client) else {
+            return Reply::Refused(Refusal::NoTx);
+        };
+        if let Some(refusal) = self.refusal_of_set(oid) {
+            return Reply::Refused(refusal);
+        }
+        let snapshot = &transaction.snapshot;
+        let count = count_read(&self.history, snapshot, &transaction.updates, oid, id);
+        Reply::Count(count)
     }
 
     fn plan_commit(&mut self, client: u32) -> Mem<(Option<Record>, Reply)>
@@ -226,7 +319,7 @@ impl Site {
             return Ok((None, Reply::Ended));
         }
         let snapshot = &transaction.snapshot;
-        if let Some((oid, version)) = conflict(&self.held, snapshot, &transaction.updates) {
+        if let Some((oid, version)) = conflict(&self.history, snapshot, &transaction.updates) {
             return Ok((None, Reply::Aborted(Cause::Modified { oid, version })));
         }
         // No memory reaches so far that a commit has no number.
@@ -243,6 +336,7 @@ impl Site {
             seq,
         };
         self.held.reserve(1)?;
+        make_room(&mut self.history, tx.updates.as_slice())?;
         Ok((Some(Record::Own(seq, tx)), Reply::Committed(version)))
     }
 
@@ -299,10 +393,15 @@ impl Site {
         ensures site { site_of self.new ≡ site_of self.old }
         ensures catalog { catalog_of self.new ≡ catalog_of self.old }
     {
-        let Plan { input, rec, reply } = plan;
+        let Plan {
+            input,
+            rec,
+            rows,
+            reply,
+        } = plan;
         let Input::Call { client, call } = input;
         self.answer(client, call, reply);
-        self.keep(rec);
+        self.keep(rec, rows);
     }
 
     fn answer(&mut self, client: u32, call: Call, reply: Reply)
@@ -310,6 +409,7 @@ impl Site {
         requires room { CanAnswer self.old client reply }
         ensures known { known self.new ≡ answered (TrailEvent.Call client call) (Outcome.Replied reply) (known self.old) }
         ensures held { self.new.held ≡ self.old.held }
+        ensures history { self.new.history ≡ self.old.history }
         ensures site { site_of self.new ≡ site_of self.old }
         ensures catalog { catalog_of self.new ≡ catalog_of self.old }
     {
@@ -319,7 +419,11 @@ impl Site {
             Reply::Committed(_) | Reply::Aborted(_) | Reply::Ended | Reply::Unsure(_) => {
                 end(&mut self.transactions, client);
             }
-            Reply::Value(_) | Reply::Level(_) | Reply::Refused(_) => {}
+            Reply::Value(_)
+            | Reply::Set(_)
+            | Reply::Count(_)
+            | Reply::Level(_)
+            | Reply::Refused(_) => {}
         }
     }
 
@@ -329,6 +433,7 @@ impl Site {
         requires room { vec_len self.old.transactions < vec_capacity self.old.transactions }
         ensures known { known self.new ≡ answered (TrailEvent.Call client (Ok Request.Start)) (Outcome.Replied (Reply.Started tid)) (known self.old) }
         ensures held { self.new.held ≡ self.old.held }
+        ensures history { self.new.history ≡ self.old.history }
         ensures site { site_of self.new ≡ site_of self.old }
         ensures catalog { catalog_of self.new ≡ catalog_of self.old }
     {
@@ -347,6 +452,7 @@ impl Site {
         requires room { IfSome (first_of client self.old.transactions.items) CanTake }
         ensures known { known self.new ≡ answered (TrailEvent.Call client call) (Outcome.Replied Reply.Done) (known self.old) }
         ensures held { self.new.held ≡ self.old.held }
+        ensures history { self.new.history ≡ self.old.history }
         ensures site { site_of self.new ≡ site_of self.old }
         ensures catalog { catalog_of self.new ≡ catalog_of self.old }
     {
@@ -355,27 +461,32 @@ impl Site {
         }
     }
 
-    fn keep(&mut self, rec: Option<Record>)
-        requires next { IsNext (site_of self.old) (known self.old) rec }
+    fn keep(&mut self, rec: Option<Record>, rows: Vec<Row>)
+        requires next { IsNext (catalog_of self.old) (site_of self.old) (known self.old) rec }
+        requires rows { rows.items ≡ rows_told rec }
         requires room { CanKeep self.old rec }
         ensures known { known self.new ≡ recorded (site_of self.old) rec (known self.old) }
         ensures site { site_of self.new ≡ site_of self.old }
         ensures catalog { catalog_of self.new ≡ catalog_of self.old }
     {
         if let Some(Record::Own(seq, tx)) = rec {
-            self.hold(seq, tx);
+            self.hold(seq, tx, rows);
         }
     }
 
-    fn hold(&mut self, seq: u64, tx: Tx)
+    fn hold(&mut self, seq: u64, tx: Tx, rows: Vec<Row>)
         requires next { seq ≡ next_seq (site_of self.old) (known self.old) }
         requires short { All HasShortValue tx.updates }
+        requires declared { All (IsDeclared (catalog_of self.old)) tx.updates }
+        requires rows { rows.items ≡ rows_from (record { seq = seq; tx = tx }) }
         requires room { vec_len self.old.held < vec_capacity self.old.held }
+        requires places { HaveRoom self.old.history tx.updates }
         ensures known { known self.new ≡ recorded (site_of self.old) (Some (Record.Own seq tx)) (known self.old) }
         ensures site { site_of self.new ≡ site_of self.old }
         ensures catalog { catalog_of self.new ≡ catalog_of self.old }
     {
         self.held.push_reserved(Held { seq, tx });
+        append_all(&mut self.history, rows);
         self.committed.raise(self.site, seq);
     }
 
@@ -423,9 +534,30 @@ impl Site {
         if !self.is_next_own(seq, &tx) {
             return Err(ReplayFault::Unfit);
         }
-        self.held.reserve(1).map_err(|_| ReplayFault::NoMemory)?;
-        self.hold(seq, tx);
+        let Ok(rows) = self.rows_to_hold(seq, &tx) else {
+            return Err(ReplayFault::NoMemory);
+        };
+        self.hold(seq, tx, rows);
         Ok(())
+    }
+
+    /// The rows of a transaction that is to be held, with room for it and for them.
+    fn rows_to_hold(&mut self, seq: u64, tx: &Tx) -> Mem<Vec<Row>>
+        ensures rows { IfOk result (λ rows. rows.items ≡ rows_from (record { seq = seq; tx = tx.now })) }
+        ensures room { OnOk result (vec_len self.new.held < vec_capacity self.new.held) }
+        ensures places { OnOk result (HaveRoom self.new.history tx.now.updates) }
+        ensures same { known self.new ≡ known self.old }
+        ensures site { site_of self.new ≡ site_of self.old }
+        ensures catalog { catalog_of self.new ≡ catalog_of self.old }
+    {
+        self.held.reserve(1)?;
+        make_room(&mut self.history, tx.updates.as_slice())?;
+        let alloc = *self.transactions.allocator();
+        let version = Version {
+            site: tx.tid.site,
+            seq,
+        };
+        rows_for(alloc, version, tx.updates.as_slice())
     }
 
     fn is_next_own(&self, seq: u64, tx: &Tx) -> bool

@@ -5,7 +5,7 @@ use crate::{Input, Plan, ReplayFault, Site};
 use std::alloc::Global;
 use std::test::Fail;
 use walter_base::{
-    BadFrame, Bytes, Call, Catalog, Cause, Kind, Level, Mem, ObjId, Record, Refusal, Reply,
+    BadFrame, Bytes, Call, Catalog, Cause, Counts, Kind, Level, Mem, ObjId, Record, Refusal, Reply,
     Request, SiteId, Tid, Version,
 };
 
@@ -27,6 +27,11 @@ const STRANGE: ObjId = ObjId {
 const SET: ObjId = ObjId {
     container: 3,
     local: 5,
+};
+
+const OTHER_SET: ObjId = ObjId {
+    container: 3,
+    local: 6,
 };
 
 // The site 0, alone, with the container 1 and a container 3 of sets.
@@ -79,6 +84,44 @@ fn written(alloc: Global, site: &mut Site, client: u32, oid: ObjId) -> Mem<Reply
     asked(site, client, Request::Start)?;
     asked(site, client, write(alloc, oid, b"x")?)?;
     asked(site, client, Request::Commit)
+}
+
+// A transaction that adds ids to the set, takes others from it, and commits.
+fn counted(site: &mut Site, client: u32, added: &[u64], taken: &[u64]) -> Mem<Reply> {
+    asked(site, client, Request::Start)?;
+    for id in added {
+        asked(site, client, Request::SetAdd(SET, *id))?;
+    }
+    for id in taken {
+        asked(site, client, Request::SetDel(SET, *id))?;
+    }
+    asked(site, client, Request::Commit)
+}
+
+// The counts of the set that the client reads, if it is answered them.
+fn counts_at(site: &mut Site, client: u32) -> Mem<Option<Counts>> {
+    match asked(site, client, Request::SetRead(SET))? {
+        Reply::Set(counts) => Ok(Some(counts)),
+        _ => Ok(None),
+    }
+}
+
+// The same of one id of a set.
+fn count_at(site: &mut Site, client: u32, oid: ObjId, id: u64) -> Mem<Option<i64>> {
+    match asked(site, client, Request::SetReadId(oid, id))? {
+        Reply::Count(count) => Ok(Some(count)),
+        _ => Ok(None),
+    }
+}
+
+// What may be asked of a set.
+fn of_set(oid: ObjId) -> [Request; 4] {
+    [
+        Request::SetAdd(oid, 7),
+        Request::SetDel(oid, 7),
+        Request::SetRead(oid),
+        Request::SetReadId(oid, 7),
+    ]
 }
 
 fn version(seq: u64) -> Version {
@@ -258,6 +301,116 @@ fn a_set_is_neither_read_nor_written_whole(rt: HostRuntime) -> Result<(), Fail> 
 }
 
 #[test]
+fn a_regular_object_has_no_counts(rt: HostRuntime) -> Result<(), Fail> {
+    let mut site = alone(rt.alloc())?;
+    for request in of_set(SET) {
+        let reply = asked(&mut site, 0, request)?;
+        assert!(rt; matches!(reply, Reply::Refused(Refusal::NoTx)));
+    }
+    asked(&mut site, 0, Request::Start)?;
+    for request in of_set(STRANGE) {
+        let reply = asked(&mut site, 0, request)?;
+        assert!(rt; matches!(reply, Reply::Refused(Refusal::UnknownContainer)));
+    }
+    for request in of_set(OBJECT) {
+        let reply = asked(&mut site, 0, request)?;
+        assert!(rt; matches!(reply, Reply::Refused(Refusal::WrongKind)));
+    }
+    Ok(())
+}
+
+#[test]
+fn a_set_counts_what_is_added_and_taken(rt: HostRuntime) -> Result<(), Fail> {
+    let mut site = alone(rt.alloc())?;
+    let first = counted(&mut site, 0, &[7, 9, 3, 7], &[4, 3])?;
+    assert!(rt; matches!(first, Reply::Committed(_)));
+    asked(&mut site, 0, Request::Start)?;
+    // 3 came back to 0.
+    let seen = counts_at(&mut site, 0)?.ok_or("the set is read")?;
+    assert_eq!(rt; seen.as_slice(), [(4, -1), (7, 2), (9, 1)].as_slice());
+    let changes = [
+        Request::SetDel(SET, 9),
+        Request::SetAdd(SET, 8),
+        Request::SetDel(SET, 7),
+        Request::SetAdd(OTHER_SET, 7),
+    ];
+    for change in changes {
+        let reply = asked(&mut site, 0, change)?;
+        assert!(rt; matches!(reply, Reply::Done));
+    }
+    let own = counts_at(&mut site, 0)?.ok_or("the set is read")?;
+    assert_eq!(rt; own.as_slice(), [(4, -1), (7, 1), (8, 1)].as_slice());
+    for (id, count) in [(3, 0), (4, -1), (5, 0), (7, 1), (8, 1), (9, 0)] {
+        assert_eq!(rt; count_at(&mut site, 0, SET, id)?, Some(count));
+    }
+    for (id, count) in [(7, 1), (4, 0)] {
+        assert_eq!(rt; count_at(&mut site, 0, OTHER_SET, id)?, Some(count));
+    }
+    Ok(())
+}
+
+#[test]
+fn changes_of_a_set_never_conflict(rt: HostRuntime) -> Result<(), Fail> {
+    let mut site = alone(rt.alloc())?;
+    asked(&mut site, 1, Request::Start)?;
+    counted(&mut site, 0, &[7], &[])?;
+    // The snapshot of the client 1 is older.
+    let old = counts_at(&mut site, 1)?.ok_or("the set is read")?;
+    assert_eq!(rt; old.as_slice().len(), 0);
+    assert_eq!(rt; count_at(&mut site, 1, SET, 7)?, Some(0));
+    asked(&mut site, 1, Request::SetAdd(SET, 7))?;
+    assert_eq!(rt; count_at(&mut site, 1, SET, 7)?, Some(1));
+    let Reply::Committed(second) = asked(&mut site, 1, Request::Commit)? else {
+        panic!(rt; "no object is written");
+    };
+    assert_eq!(rt; second, version(2));
+    asked(&mut site, 1, Request::Start)?;
+    assert_eq!(rt; count_at(&mut site, 1, SET, 7)?, Some(2));
+    Ok(())
+}
+
+#[test]
+fn a_transaction_changes_256_counts_at_most(rt: HostRuntime) -> Result<(), Fail> {
+    let mut site = alone(rt.alloc())?;
+    asked(&mut site, 0, Request::Start)?;
+    for _ in 0..256 {
+        let reply = asked(&mut site, 0, Request::SetAdd(SET, 7))?;
+        assert!(rt; matches!(reply, Reply::Done));
+    }
+    for request in [Request::SetAdd(SET, 7), Request::SetDel(SET, 7)] {
+        let full = asked(&mut site, 0, request)?;
+        assert!(rt; matches!(full, Reply::Refused(Refusal::TxFull)));
+    }
+    assert_eq!(rt; count_at(&mut site, 0, SET, 7)?, Some(256));
+    let committed = asked(&mut site, 0, Request::Commit)?;
+    assert!(rt; matches!(committed, Reply::Committed(_)));
+    Ok(())
+}
+
+#[test]
+fn a_set_of_4096_ids_is_too_wide(rt: HostRuntime) -> Result<(), Fail> {
+    let mut site = alone(rt.alloc())?;
+    for commit in 0..16 {
+        asked(&mut site, 0, Request::Start)?;
+        for id in 256 * commit..(256 * commit + 256).min(4_095) {
+            asked(&mut site, 0, Request::SetAdd(SET, id))?;
+        }
+        asked(&mut site, 0, Request::Commit)?;
+    }
+    asked(&mut site, 0, Request::Start)?;
+    let most = counts_at(&mut site, 0)?.ok_or("the set is read")?;
+    assert_eq!(rt; most.as_slice().len(), 4_095);
+    asked(&mut site, 0, Request::SetAdd(SET, 4_095))?;
+    let wide = asked(&mut site, 0, Request::SetRead(SET))?;
+    assert!(rt; matches!(wide, Reply::Refused(Refusal::SetTooWide)));
+    assert_eq!(rt; count_at(&mut site, 0, SET, 4_095)?, Some(1));
+    // A count that comes to 0 makes room.
+    asked(&mut site, 0, Request::SetDel(SET, 7))?;
+    assert!(rt; counts_at(&mut site, 0)?.is_some());
+    Ok(())
+}
+
+#[test]
 fn a_value_has_4096_bytes_at_most(rt: HostRuntime) -> Result<(), Fail> {
     let alloc = rt.alloc();
     let mut site = alone(alloc)?;
@@ -364,12 +517,12 @@ fn a_level_tells_how_far_a_transaction_has_come(rt: HostRuntime) -> Result<(), F
     Ok(())
 }
 
-// The record of a transaction that writes the object.
-fn record_of(alloc: Global, site: &mut Site, oid: ObjId) -> Mem<Option<Record>>
+// The record of a transaction with this update.
+fn record_of(site: &mut Site, update: Request) -> Mem<Option<Record>>
     ensures { IfOk result (λ rec. IfSome rec CanBeRecorded) }
 {
     asked(site, 0, Request::Start)?;
-    asked(site, 0, write(alloc, oid, b"x")?)?;
+    asked(site, 0, update)?;
     let plan = site.plan(&Input::Call {
         client: 0,
         call: Ok(Request::Commit),
@@ -386,7 +539,7 @@ fn a_site_is_made_anew_from_its_records(rt: HostRuntime) -> Result<(), Fail> {
     let mut copy = alone(alloc)?;
     for oid in [OBJECT, LATER] {
         asked(&mut copy, 1, Request::Start)?;
-        let Some(rec) = record_of(alloc, &mut site, oid)? else {
+        let Some(rec) = record_of(&mut site, write(alloc, oid, b"x")?)? else {
             panic!(rt; "the transaction commits");
         };
         copy.replay(rec)?;
@@ -416,6 +569,28 @@ fn a_site_is_made_anew_from_its_records(rt: HostRuntime) -> Result<(), Fail> {
 }
 
 #[test]
+fn counts_are_made_anew_from_records(rt: HostRuntime) -> Result<(), Fail> {
+    let alloc = rt.alloc();
+    let mut site = alone(alloc)?;
+    let mut copy = alone(alloc)?;
+    let changes = [
+        Request::SetAdd(SET, 7),
+        Request::SetDel(SET, 9),
+        Request::SetAdd(SET, 7),
+    ];
+    for change in changes {
+        let Some(rec) = record_of(&mut site, change)? else {
+            panic!(rt; "the transaction commits");
+        };
+        copy.replay(rec)?;
+    }
+    asked(&mut copy, 0, Request::Start)?;
+    let counts = counts_at(&mut copy, 0)?.ok_or("the set is read")?;
+    assert_eq!(rt; counts.as_slice(), [(7, 2), (9, -1)].as_slice());
+    Ok(())
+}
+
+#[test]
 fn a_record_that_cannot_follow_is_unfit(rt: HostRuntime) -> Result<(), Fail> {
     let alloc = rt.alloc();
     let mut site = alone(alloc)?;
@@ -423,7 +598,7 @@ fn a_record_that_cannot_follow_is_unfit(rt: HostRuntime) -> Result<(), Fail> {
         let fault = site.replay(Record::Boot(epoch)).err();
         assert_eq!(rt; fault, Some(ReplayFault::Unfit));
     }
-    let Some(rec) = record_of(alloc, &mut site, OBJECT)? else {
+    let Some(rec) = record_of(&mut site, write(alloc, OBJECT, b"x")?)? else {
         panic!(rt; "the transaction commits");
     };
     // It stands there already.

@@ -38,6 +38,8 @@ pub fn update_of(call: Call) -> Option<Update>
 {
     match call {
         Ok(Request::Write(oid, value)) => Some(Update::Write(oid, value)),
+        Ok(Request::SetAdd(oid, id)) => Some(Update::Add(oid, id)),
+        Ok(Request::SetDel(oid, id)) => Some(Update::Del(oid, id)),
         _ => None,
     }
 }

@@ -1,21 +1,21 @@
 -- What a site that is up knows, and what an event leaves of it. Each part goes by the record first, and by the reply.
-use Rattle.std.specs.Prelude.{ℕ, ◌+◌, nat_eq, nat_le, Bool, not, List, [], ◌∷◌, ◌++◌, filter, flat_map, map, replicate, slice_set, Option, Some, None, Result, Ok, Err, if◌then◌else◌}
+use Rattle.std.specs.Prelude.{ℕ, ◌+◌, nat_eq, nat_le, Bool, not, List, [], ◌∷◌, ◌++◌, filter, flat_map, map, replicate, slice_set, Option, Some, None, Result, Ok, if◌then◌else◌}
 use Rattle.walter_base.specs.declared.message.Record.{Record}
 use Rattle.walter_base.specs.declared.message.Record.TheVariants.{Boot, Own}
 use Rattle.walter_base.specs.declared.message.BadFrame.{BadFrame}
-use Rattle.walter_base.specs.declared.message.Reply.TheVariants.{Started, Value, Done, Committed, Aborted, Level, Ended, Unsure, Refused}
+use Rattle.walter_base.specs.declared.message.Reply.TheVariants.{Started, Done, Committed, Aborted, Ended, Unsure}
 use Rattle.walter_base.specs.declared.message.Request.{Request}
-use Rattle.walter_base.specs.declared.message.Request.TheVariants.{Start, Read, Write, Commit, Abort, Level as LevelAsked}
+use Rattle.walter_base.specs.declared.message.Request.TheVariants.{Write, SetAdd, SetDel}
 use Rattle.walter_base.specs.declared.names.SiteId.{SiteId}
 use Rattle.walter_base.specs.declared.names.Tid.{Tid}
 use Rattle.walter_base.specs.declared.update.Update.{Update}
-use Rattle.walter_base.specs.declared.update.Update.TheVariants.{Write as WriteOf}
+use Rattle.walter_base.specs.declared.update.Update.TheVariants.{Write as WriteOf, Add, Del}
 use Rattle.walter_base.specs.Vectors.{entry_at}
 use Rattle.walter_trail.specs.declared.held.Held.{Held}
 use Rattle.walter_trail.specs.declared.trail.Outcome.{Outcome}
-use Rattle.walter_trail.specs.declared.trail.Outcome.TheVariants.{Replied, Taken, Passed, Failed, Full, Memory, Down, Refused as RefusedRestart}
+use Rattle.walter_trail.specs.declared.trail.Outcome.TheVariants.{Replied}
 use Rattle.walter_trail.specs.declared.trail.TrailEvent.{TrailEvent}
-use Rattle.walter_trail.specs.declared.trail.TrailEvent.TheVariants.{Call, Stop, Restart}
+use Rattle.walter_trail.specs.declared.trail.TrailEvent.TheVariants.{Call}
 
 -- an open transaction of a client: its name, its snapshot as a vector, its updates in order
 pub record Session : Type 0 where
@@ -100,6 +100,8 @@ with_update update s = record s { updates = s.updates ++ update ∷ [] }
 -- the session with the update that was asked for
 abbrev pub updated : Result Request BadFrame → Session → Session
 updated (Ok (Write oid bytes)) s = with_update (WriteOf oid bytes) s
+updated (Ok (SetAdd oid id)) s = with_update (Add oid id) s
+updated (Ok (SetDel oid id)) s = with_update (Del oid id) s
 updated call s = s
 
 -- the sessions where that of the event's client has the update

@@ -1,5 +1,5 @@
 -- The rules of a site: what an event is to come to, by how the site stands.
-use Rattle.std.specs.Prelude.{ℕ, ◌+◌, nat_eq, nat_le, nat_lt, Bool, true, false, not, ◌&&◌, ◌||◌, List, [], ◌∷◌, ◌++◌, length, Option, Some, None, Result, Ok, Err, if◌then◌else◌}
+use Rattle.std.specs.Prelude.{ℕ, ℤ, ◌+◌, nat_eq, nat_le, nat_lt, Bool, not, ◌&&◌, ◌||◌, List, [], ◌∷◌, ◌++◌, length, Option, Some, None, Result, Ok, Err, if◌then◌else◌}
 use Rattle.std.specs.FinMap.{get}
 use Rattle.std.specs.List.{list_any}
 use Rattle.walter_base.specs.declared.catalog.Catalog.{Catalog}
@@ -10,11 +10,11 @@ use Rattle.walter_base.specs.declared.message.Level.TheVariants.{NotCommitted, R
 use Rattle.walter_base.specs.declared.message.Record.{Record}
 use Rattle.walter_base.specs.declared.message.Record.TheVariants.{Boot, Own}
 use Rattle.walter_base.specs.declared.message.Refusal.{Refusal}
-use Rattle.walter_base.specs.declared.message.Refusal.TheVariants.{UnknownContainer, WrongKind, TxFull, TooLong, NoTx, TxOpen, Gone, BadFrame, Down as IsDown, SessionsFull, Memory, WrongSite, NotIssued}
+use Rattle.walter_base.specs.declared.message.Refusal.TheVariants.{UnknownContainer, WrongKind, TxFull, TooLong, NoTx, TxOpen, Gone, BadFrame, Down as IsDown, SetTooWide, SessionsFull, WrongSite, NotIssued}
 use Rattle.walter_base.specs.declared.message.Reply.{Reply}
-use Rattle.walter_base.specs.declared.message.Reply.TheVariants.{Started, Value, Done, Committed, Aborted, Level, Ended, Refused}
+use Rattle.walter_base.specs.declared.message.Reply.TheVariants.{Started, Value, Done, Set, Count, Committed, Aborted, Level, Ended, Refused}
 use Rattle.walter_base.specs.declared.message.Request.{Request}
-use Rattle.walter_base.specs.declared.message.Request.TheVariants.{Start, Read, Write, Commit, Abort, Level as LevelAsked}
+use Rattle.walter_base.specs.declared.message.Request.TheVariants.{Start, Read, Write, SetAdd, SetDel, SetRead, SetReadId, Commit, Abort, Level as LevelAsked}
 use Rattle.walter_base.specs.declared.names.Kind.{Kind}
 use Rattle.walter_base.specs.declared.names.Kind.TheVariants.{Regular, Cset}
 use Rattle.walter_base.specs.declared.names.SiteId.{SiteId}
@@ -24,10 +24,10 @@ use Rattle.walter_base.specs.declared.names.Version.{Version}
 use Rattle.walter_base.specs.declared.transaction.Cause.TheVariants.{Modified, Asked}
 use Rattle.walter_base.specs.declared.transaction.Tx.{Tx}
 use Rattle.walter_base.specs.declared.update.Update.{Update}
-use Rattle.walter_base.specs.declared.update.Update.TheVariants.{Write as WriteOf}
+use Rattle.walter_base.specs.declared.update.Update.TheVariants.{Write as WriteOf, Add, Del}
 use Rattle.walter_base.specs.Names.{same_site, same_tid}
 use Rattle.walter_base.specs.Sizes.{size_of_updates}
-use Rattle.walter_base.specs.Values.{value_of}
+use Rattle.walter_base.specs.Values.{value_of, count_of, counts_of}
 use Rattle.walter_base.specs.Vectors.{entry_at}
 use Rattle.walter_trail.specs.declared.held.Held.{Held}
 use Rattle.walter_trail.specs.declared.trail.Outcome.{Outcome}
@@ -85,16 +85,29 @@ abbrev pub if_regular : Option Container → Expected → Expected
 if_regular None expected = refuses UnknownContainer
 if_regular (Some container) expected = if_whole container.kind expected
 
+-- and a regular object has no counts
+abbrev pub if_counted : Kind → Expected → Expected
+if_counted Cset expected = expected
+if_counted Regular expected = refuses WrongKind
+
+abbrev pub if_cset : Option Container → Expected → Expected
+if_cset None expected = refuses UnknownContainer
+if_cset (Some container) expected = if_counted container.kind expected
+
 -- whether a transaction has a place for one more update: it has 256 at most, spelled in at most 60,000 bytes
 abbrev pub has_place : List Update → Update → Bool
 has_place updates update = nat_lt (length updates) 256 && nat_le (size_of_updates (updates ++ update ∷ [])) 60000
 
+abbrev pub updates_with : Session → Update → Expected
+updates_with s update = if has_place s.updates update then answers Done else refuses TxFull
+
 -- a value has 4,096 bytes at most
 abbrev pub writes : Session → ObjId → List ℕ → Expected
-writes s oid bytes =
-    if nat_lt 4096 (length bytes) then refuses TooLong
-    else if has_place s.updates (WriteOf oid bytes) then answers Done
-    else refuses TxFull
+writes s oid bytes = if nat_lt 4096 (length bytes) then refuses TooLong else updates_with s (WriteOf oid bytes)
+
+-- the counts of a set are shown where they are of 4,095 ids at most
+abbrev pub shows : List (ℕ × ℤ) → Expected
+shows counts = if nat_lt 4095 (length counts) then refuses SetTooWide else answers (Set counts)
 
 -- whether a transaction is committed here, and whether it is open here
 abbrev pub is_held : Tid → List Held → Bool
@@ -121,7 +134,7 @@ tells_level i K tid =
 
 -- what a client is answered at a site that is up, without a session and with one. The refusals come in one order: a bad
 -- frame; the want of a session, one too many of the client's or of all; an unknown container, the wrong kind; too long a
--- value, too full a transaction; a wrong site, a name that wasn't given.
+-- value, too full a transaction, too wide a set; a wrong site, a name that wasn't given.
 abbrev pub call_rule : Catalog → SiteId → Knowledge → Result Request Bad → Option Session → Expected
 call_rule catalog i K (Err bad) session = refuses (BadFrame bad.at)
 call_rule catalog i K (Ok Start) None = starts_new i K
@@ -130,6 +143,14 @@ call_rule catalog i K (Ok (Read oid)) None = refuses NoTx
 call_rule catalog i K (Ok (Read oid)) (Some s) = if_regular (get catalog.containers oid.container) (answers (Value (value_of oid (read_updates K s))))
 call_rule catalog i K (Ok (Write oid bytes)) None = refuses NoTx
 call_rule catalog i K (Ok (Write oid bytes)) (Some s) = if_regular (get catalog.containers oid.container) (writes s oid bytes)
+call_rule catalog i K (Ok (SetAdd oid id)) None = refuses NoTx
+call_rule catalog i K (Ok (SetAdd oid id)) (Some s) = if_cset (get catalog.containers oid.container) (updates_with s (Add oid id))
+call_rule catalog i K (Ok (SetDel oid id)) None = refuses NoTx
+call_rule catalog i K (Ok (SetDel oid id)) (Some s) = if_cset (get catalog.containers oid.container) (updates_with s (Del oid id))
+call_rule catalog i K (Ok (SetRead oid)) None = refuses NoTx
+call_rule catalog i K (Ok (SetRead oid)) (Some s) = if_cset (get catalog.containers oid.container) (shows (counts_of oid (read_updates K s)))
+call_rule catalog i K (Ok (SetReadId oid id)) None = refuses NoTx
+call_rule catalog i K (Ok (SetReadId oid id)) (Some s) = if_cset (get catalog.containers oid.container) (answers (Count (count_of oid id (read_updates K s))))
 call_rule catalog i K (Ok Commit) None = refuses NoTx
 call_rule catalog i K (Ok Commit) (Some s) = commits i K s s.updates
 call_rule catalog i K (Ok Abort) None = refuses NoTx
@@ -144,6 +165,10 @@ if_told (Ok (LevelAsked asked)) (Some tid) expected = expected
 if_told (Ok Start) (Some tid) expected = refuses (Gone tid)
 if_told (Ok (Read oid)) (Some tid) expected = refuses (Gone tid)
 if_told (Ok (Write oid bytes)) (Some tid) expected = refuses (Gone tid)
+if_told (Ok (SetAdd oid id)) (Some tid) expected = refuses (Gone tid)
+if_told (Ok (SetDel oid id)) (Some tid) expected = refuses (Gone tid)
+if_told (Ok (SetRead oid)) (Some tid) expected = refuses (Gone tid)
+if_told (Ok (SetReadId oid id)) (Some tid) expected = refuses (Gone tid)
 if_told (Ok Commit) (Some tid) expected = refuses (Gone tid)
 if_told (Ok Abort) (Some tid) expected = refuses (Gone tid)
 
@@ -159,12 +184,17 @@ rule catalog i S Stop = record { wrote = None; outcome = if S.up then Taken else
 rule catalog i S Restart =
     if S.up then record { wrote = None; outcome = Passed } else record { wrote = Some (Boot (S.knows.epoch + 1)); outcome = Taken }
 
--- a call that may want memory: not a bad frame, nor the end of a transaction that is asked for, nor a Level
+-- a call that may want memory: not a bad frame, nor the count of one id, nor the end of a transaction that is asked for, nor
+-- a Level
 abbrev pub MayWant : Result Request Bad → Type 0
 MayWant (Err bad) = ⊥
 MayWant (Ok Start) = Unit {0}
 MayWant (Ok (Read oid)) = Unit {0}
 MayWant (Ok (Write oid bytes)) = Unit {0}
+MayWant (Ok (SetAdd oid id)) = Unit {0}
+MayWant (Ok (SetDel oid id)) = Unit {0}
+MayWant (Ok (SetRead oid)) = Unit {0}
+MayWant (Ok (SetReadId oid id)) = ⊥
 MayWant (Ok Commit) = Unit {0}
 MayWant (Ok Abort) = ⊥
 MayWant (Ok (LevelAsked tid)) = ⊥

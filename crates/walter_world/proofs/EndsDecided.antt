@@ -1,6 +1,7 @@
 -- What the rule records, and which aborts it gives: a commit is recorded only where it meets no conflict, and aborted only
 -- over one that it meets. So it is with each right entry.
 use Rattle.std.proofs.Common.{◌≡◌, ◌≢◌, ℕ, ◌+◌, Bool, true, false, not, List, [], ◌∷◌, Option, Some, None, Result, Ok, Err, IfSome, refl, ap, sym, ◌∙◌, subst, if◌then◌else◌, nat_lt, length}
+use Rattle.std.specs.Prelude.{ℤ}
 use Rattle.std.specs.FinMap.{get}
 use Rattle.walter_base.specs.declared.catalog.Catalog.{Catalog}
 use Rattle.walter_base.specs.declared.containers.Container.{Container}
@@ -9,7 +10,7 @@ use Rattle.walter_base.specs.declared.message.Record.{Record}
 use Rattle.walter_base.specs.declared.message.Record.TheVariants.{Boot, Own}
 use Rattle.walter_base.specs.declared.message.Reply.TheVariants.{Committed, Aborted, Unsure}
 use Rattle.walter_base.specs.declared.message.Request.{Request}
-use Rattle.walter_base.specs.declared.message.Request.TheVariants.{Start, Read, Write, Commit, Abort, Level}
+use Rattle.walter_base.specs.declared.message.Request.TheVariants.{Start, Read, Write, SetAdd, SetDel, SetRead, SetReadId, Commit, Abort, Level}
 use Rattle.walter_base.specs.declared.names.Kind.{Kind}
 use Rattle.walter_base.specs.declared.names.Kind.TheVariants.{Regular, Cset}
 use Rattle.walter_base.specs.declared.names.ObjId.{ObjId}
@@ -19,16 +20,17 @@ use Rattle.walter_base.specs.declared.names.Version.{Version}
 use Rattle.walter_base.specs.declared.transaction.Cause.TheVariants.{Modified, Locked, Asked}
 use Rattle.walter_base.specs.declared.transaction.Tx.{Tx}
 use Rattle.walter_base.specs.declared.update.Update.{Update}
-use Rattle.walter_base.specs.declared.update.Update.TheVariants.{Write as WriteOf}
+use Rattle.walter_base.specs.declared.update.Update.TheVariants.{Write as WriteOf, Add, Del}
 use Rattle.walter_base.specs.Names.{same_site}
+use Rattle.walter_base.specs.Values.{counts_of}
 use Rattle.walter_trail.specs.declared.trail.Entry.{Entry}
 use Rattle.walter_trail.specs.declared.trail.Outcome.{Outcome}
 use Rattle.walter_trail.specs.declared.trail.Outcome.TheVariants.{Replied, Taken, Passed, Down}
 use Rattle.walter_trail.specs.declared.trail.TrailEvent.{TrailEvent}
 use Rattle.walter_trail.specs.declared.trail.TrailEvent.TheVariants.{Call, Stop, Restart}
 use Rattle.walter_trail.specs.Conflicts.{conflict_of, IsSeenWhole}
-use Rattle.walter_trail.specs.Knowledge.{Knowledge, Session, session_of}
-use Rattle.walter_trail.specs.Rule.{Expected, if_whole, if_regular, has_place, writes, decides, commits, is_issued, call_rule, if_told, down_rule, rule, next_seq, tx_of}
+use Rattle.walter_trail.specs.Knowledge.{Knowledge, Session, session_of, read_updates}
+use Rattle.walter_trail.specs.Rule.{Expected, if_whole, if_regular, if_counted, if_cset, has_place, updates_with, writes, shows, decides, commits, is_issued, call_rule, if_told, down_rule, rule, next_seq, tx_of}
 use Rattle.walter_trail.specs.Standing.{Standing, Came, settled}
 use Rattle.walter_trail.specs.Trails.{standing, came_of, failure, want, fullness, only, Comes, ruled, met_fault, unread, no_memory, full, IsFound, IsRightEntry}
 use Rattle.walter_trail.proofs.ConflictNamed.{conflict_named, no_conflict_named}
@@ -81,6 +83,20 @@ module _ (catalog : Catalog) (i : SiteId) (S : Standing) where
   regular event None x is = plainly event _ tt
   regular event (Some container) x is = whole event container.kind x is
 
+  counted : (event : TrailEvent) (kind : Kind) (x : Expected) → IsDecided i S event x → IsDecided i S event (if_counted kind x)
+  counted event Cset x is = is
+  counted event Regular x is = plainly event _ tt
+
+  cset : (event : TrailEvent) (container : Option Container) (x : Expected) → IsDecided i S event x → IsDecided i S event (if_cset container x)
+  cset event None x is = plainly event _ tt
+  cset event (Some container) x is = counted event container.kind x is
+
+  placed : (event : TrailEvent) (s : Session) (update : Update) → IsDecided i S event (updates_with s update)
+  placed event s update = either event (has_place s.updates update) _ _ (plainly event _ tt) (plainly event _ tt)
+
+  shown : (event : TrailEvent) (counts : List (ℕ × ℤ)) → IsDecided i S event (shows counts)
+  shown event counts = either event (nat_lt 4095 (length counts)) _ _ (plainly event _ tt) (plainly event _ tt)
+
   decided : S.up ≡ true → (client : ℕ) (s : Session) → session_of S.knows client ≡ Some s → s.updates ≢ [] → (conflict : Option (ObjId × Version))
       → conflict_of S.knows.held s.snapshot s.updates ≡ conflict → IsDecided i S (Call client (Ok Commit)) (decides i S.knows s conflict)
   decided up client s is some None none =
@@ -121,7 +137,15 @@ module _ (catalog : Catalog) (i : SiteId) (S : Standing) where
   call_decided up client (Ok (Write oid bytes)) None is = plainly _ _ tt
   call_decided up client (Ok (Write oid bytes)) (Some s) is =
       regular _ (get catalog.containers oid.container) (writes s oid bytes)
-      (either _ (nat_lt 4096 (length bytes)) _ _ (plainly _ _ tt) (either _ (has_place s.updates (WriteOf oid bytes)) _ _ (plainly _ _ tt) (plainly _ _ tt)))
+      (either _ (nat_lt 4096 (length bytes)) _ _ (plainly _ _ tt) (placed _ s (WriteOf oid bytes)))
+  call_decided up client (Ok (SetAdd oid id)) None is = plainly _ _ tt
+  call_decided up client (Ok (SetAdd oid id)) (Some s) is = cset _ (get catalog.containers oid.container) _ (placed _ s (Add oid id))
+  call_decided up client (Ok (SetDel oid id)) None is = plainly _ _ tt
+  call_decided up client (Ok (SetDel oid id)) (Some s) is = cset _ (get catalog.containers oid.container) _ (placed _ s (Del oid id))
+  call_decided up client (Ok (SetRead oid)) None is = plainly _ _ tt
+  call_decided up client (Ok (SetRead oid)) (Some s) is = cset _ (get catalog.containers oid.container) _ (shown _ (counts_of oid (read_updates S.knows s)))
+  call_decided up client (Ok (SetReadId oid id)) None is = plainly _ _ tt
+  call_decided up client (Ok (SetReadId oid id)) (Some s) is = cset _ (get catalog.containers oid.container) _ (plainly _ _ tt)
   call_decided up client (Ok Commit) None is = plainly _ _ tt
   call_decided up client (Ok Commit) (Some s) is = commit_decided up client s is s.updates refl
   call_decided up client (Ok Abort) None is = plainly _ _ tt
@@ -137,6 +161,10 @@ module _ (catalog : Catalog) (i : SiteId) (S : Standing) where
   told_decided client (Ok Start) (Some tid) x is = plainly _ _ tt
   told_decided client (Ok (Read oid)) (Some tid) x is = plainly _ _ tt
   told_decided client (Ok (Write oid bytes)) (Some tid) x is = plainly _ _ tt
+  told_decided client (Ok (SetAdd oid id)) (Some tid) x is = plainly _ _ tt
+  told_decided client (Ok (SetDel oid id)) (Some tid) x is = plainly _ _ tt
+  told_decided client (Ok (SetRead oid)) (Some tid) x is = plainly _ _ tt
+  told_decided client (Ok (SetReadId oid id)) (Some tid) x is = plainly _ _ tt
   told_decided client (Ok Commit) (Some tid) x is = plainly _ _ tt
   told_decided client (Ok Abort) (Some tid) x is = plainly _ _ tt
 

@@ -1,5 +1,6 @@
 -- What the rule gives: names of its own site, and updates of objects that are declared.
 use Rattle.std.proofs.Common.{◌≡◌, ℕ, ◌+◌, Bool, true, false, not, List, [], ◌∷◌, length, Option, Some, None, option_map, Result, Ok, Err, refl, ap, sym, ◌∙◌, subst, if◌then◌else◌, nat_lt, inl, inr, ◌⊎◌}
+use Rattle.std.specs.Prelude.{ℤ}
 use Rattle.std.specs.FinMap.{get}
 use Rattle.walter_base.specs.declared.catalog.Catalog.{Catalog}
 use Rattle.walter_base.specs.declared.containers.Container.{Container}
@@ -8,7 +9,7 @@ use Rattle.walter_base.specs.declared.message.Record.{Record}
 use Rattle.walter_base.specs.declared.message.Record.TheVariants.{Boot, Own}
 use Rattle.walter_base.specs.declared.message.Reply.TheVariants.{Started, Done}
 use Rattle.walter_base.specs.declared.message.Request.{Request}
-use Rattle.walter_base.specs.declared.message.Request.TheVariants.{Start, Read, Write, Commit, Abort, Level}
+use Rattle.walter_base.specs.declared.message.Request.TheVariants.{Start, Read, Write, SetAdd, SetDel, SetRead, SetReadId, Commit, Abort, Level}
 use Rattle.walter_base.specs.declared.names.Kind.{Kind}
 use Rattle.walter_base.specs.declared.names.Kind.TheVariants.{Regular, Cset}
 use Rattle.walter_base.specs.declared.names.ObjId.{ObjId}
@@ -16,22 +17,25 @@ use Rattle.walter_base.specs.declared.names.SiteId.{SiteId}
 use Rattle.walter_base.specs.declared.names.Tid.{Tid}
 use Rattle.walter_base.specs.declared.names.Version.{Version}
 use Rattle.walter_base.specs.declared.update.Update.{Update}
-use Rattle.walter_base.specs.declared.update.Update.TheVariants.{Write as WriteOf}
+use Rattle.walter_base.specs.declared.update.Update.TheVariants.{Write as WriteOf, Add, Del}
 use Rattle.walter_base.specs.Names.{same_site}
+use Rattle.walter_base.specs.Values.{counts_of}
 use Rattle.walter_trail.specs.declared.trail.Outcome.{Outcome}
 use Rattle.walter_trail.specs.declared.trail.Outcome.TheVariants.{Replied, Taken, Passed, Down}
 use Rattle.walter_trail.specs.declared.trail.TrailEvent.{TrailEvent}
 use Rattle.walter_trail.specs.declared.trail.TrailEvent.TheVariants.{Call, Stop, Restart}
 use Rattle.walter_trail.specs.Conflicts.{conflict_of}
-use Rattle.walter_trail.specs.Knowledge.{Session, session_of}
+use Rattle.walter_trail.specs.Knowledge.{Session, session_of, read_updates}
 use Rattle.walter_trail.specs.Records.{IsOfKind}
-use Rattle.walter_trail.specs.Rule.{Expected, if_whole, if_regular, has_place, writes, decides, commits, is_issued, call_rule, if_told, down_rule, rule}
+use Rattle.walter_trail.specs.Rule.{Expected, if_whole, if_regular, if_counted, if_cset, has_place, updates_with, writes, shows, decides, commits, is_issued, call_rule, if_told, down_rule, rule}
 use Rattle.walter_trail.specs.Standing.{Standing, Came, comes_up, goes_down, up_after}
 use Rattle.walter_trail.specs.Trails.{need_of, left_behind, failure, want, fullness, Comes, ruled, met_fault, unread, no_memory, full}
 
--- what was written is of the regular objects
+-- what was written is of the regular objects, and what was added to or taken from is of the sets that count
 abbrev pub IsWritten : Catalog → TrailEvent → Type 0
 IsWritten catalog (Call client (Ok (Write oid bytes))) = IsOfKind catalog Regular oid
+IsWritten catalog (Call client (Ok (SetAdd oid id))) = IsOfKind catalog Cset oid
+IsWritten catalog (Call client (Ok (SetDel oid id))) = IsOfKind catalog Cset oid
 IsWritten catalog event = Unit {0}
 
 -- a transaction starts under a name of the site, and an update is of an object that is declared
@@ -59,6 +63,21 @@ module _ (catalog : Catalog) (i : SiteId) (S : Standing) where
   regular event oid (Some container) x is given =
       whole event container.kind x (λ kind. given (ap (option_map (λ (c : Container). c.kind)) is ∙ ap (λ (k : Kind). Some k) kind))
 
+  -- where a set is updated or counted it is one
+  counted : (event : TrailEvent) (kind : Kind) (x : Expected) → (kind ≡ Cset → Gives event x) → Gives event (if_counted kind x)
+  counted event Cset x given = given refl
+  counted event Regular x given = tt
+
+  cset : (event : TrailEvent) (oid : ObjId) (container : Option Container) (x : Expected) → get catalog.containers oid.container ≡ container
+      → (IsOfKind catalog Cset oid → Gives event x) → Gives event (if_cset container x)
+  cset event oid None x is given = tt
+  cset event oid (Some container) x is given =
+      counted event container.kind x (λ kind. given (ap (option_map (λ (c : Container). c.kind)) is ∙ ap (λ (k : Kind). Some k) kind))
+
+  -- an update is done where the transaction has a place for it
+  placed : (event : TrailEvent) (s : Session) (update : Update) → IsWritten catalog event → Gives event (updates_with s update)
+  placed event s update written = either event (has_place s.updates update) _ _ written tt
+
   decided : (event : TrailEvent) (s : Session) (conflict : Option (ObjId × Version)) → Gives event (decides i S.knows s conflict)
   decided event s None = tt
   decided event s (Some conflict) = tt
@@ -77,7 +96,22 @@ module _ (catalog : Catalog) (i : SiteId) (S : Standing) where
   call_given client (Ok (Write oid bytes)) (Some s) =
       let event : TrailEvent = Call client (Ok (Write oid bytes)) in
       regular event oid (get catalog.containers oid.container) (writes s oid bytes) refl (λ kind.
-      either event (nat_lt 4096 (length bytes)) _ _ tt (either event (has_place s.updates (WriteOf oid bytes)) _ _ kind tt))
+      either event (nat_lt 4096 (length bytes)) _ _ tt (placed event s (WriteOf oid bytes) kind))
+  call_given client (Ok (SetAdd oid id)) None = tt
+  call_given client (Ok (SetAdd oid id)) (Some s) =
+      let event : TrailEvent = Call client (Ok (SetAdd oid id)) in
+      cset event oid (get catalog.containers oid.container) _ refl (λ kind. placed event s (Add oid id) kind)
+  call_given client (Ok (SetDel oid id)) None = tt
+  call_given client (Ok (SetDel oid id)) (Some s) =
+      let event : TrailEvent = Call client (Ok (SetDel oid id)) in
+      cset event oid (get catalog.containers oid.container) _ refl (λ kind. placed event s (Del oid id) kind)
+  call_given client (Ok (SetRead oid)) None = tt
+  call_given client (Ok (SetRead oid)) (Some s) =
+      let event : TrailEvent = Call client (Ok (SetRead oid)) in
+      let counts : List (ℕ × ℤ) = counts_of oid (read_updates S.knows s) in
+      cset event oid (get catalog.containers oid.container) (shows counts) refl (λ kind. either event (nat_lt 4095 (length counts)) _ _ tt tt)
+  call_given client (Ok (SetReadId oid id)) None = tt
+  call_given client (Ok (SetReadId oid id)) (Some s) = cset (Call client (Ok (SetReadId oid id))) oid (get catalog.containers oid.container) _ refl (λ kind. tt)
   call_given client (Ok Commit) None = tt
   call_given client (Ok Commit) (Some s) = committed (Call client (Ok Commit)) s s.updates
   call_given client (Ok Abort) None = tt
@@ -93,6 +127,10 @@ module _ (catalog : Catalog) (i : SiteId) (S : Standing) where
   owed_given client (Ok Start) (Some tid) x given = tt
   owed_given client (Ok (Read oid)) (Some tid) x given = tt
   owed_given client (Ok (Write oid bytes)) (Some tid) x given = tt
+  owed_given client (Ok (SetAdd oid id)) (Some tid) x given = tt
+  owed_given client (Ok (SetDel oid id)) (Some tid) x given = tt
+  owed_given client (Ok (SetRead oid)) (Some tid) x given = tt
+  owed_given client (Ok (SetReadId oid id)) (Some tid) x given = tt
   owed_given client (Ok Commit) (Some tid) x given = tt
   owed_given client (Ok Abort) (Some tid) x given = tt
 

@@ -1,5 +1,5 @@
 -- What a site knows without its open transactions is what its records tell, each of which can follow those before it.
-use Rattle.std.proofs.Common.{◌≡◌, ℕ, ◌+◌, ◌<◌, Bool, true, false, not, List, [], ◌∷◌, ◌++◌, Option, Some, None, IfSome, Result, Ok, refl, ap, sym, ◌∙◌, subst, arith, if◌then◌else◌, nat_eq, inl, inr, All}
+use Rattle.std.proofs.Common.{◌≡◌, ℕ, ◌<◌, Bool, true, false, not, List, [], ◌∷◌, ◌++◌, Option, Some, None, IfSome, Result, Ok, refl, ap, sym, ◌∙◌, subst, arith, if◌then◌else◌, nat_eq, inl, inr, All}
 use Rattle.std.proofs.lemmas.List.Elements.{All-nil, All-push, All-filter, All-map, All-head, All-tail, All-weaker}
 use Rattle.std.proofs.lemmas.Option.{IfSome_then}
 use Rattle.walter_base.specs.declared.catalog.Catalog.{Catalog}
@@ -8,18 +8,18 @@ use Rattle.walter_base.specs.declared.message.Record.{Record}
 use Rattle.walter_base.specs.declared.message.Record.TheVariants.{Boot, Own}
 use Rattle.walter_base.specs.declared.message.Reply.TheVariants.{Started, Done, Committed, Aborted, Ended, Unsure}
 use Rattle.walter_base.specs.declared.message.Request.{Request}
-use Rattle.walter_base.specs.declared.message.Request.TheVariants.{Write}
+use Rattle.walter_base.specs.declared.message.Request.TheVariants.{Write, SetAdd, SetDel}
 use Rattle.walter_base.specs.declared.names.SiteId.{SiteId}
 use Rattle.walter_base.specs.declared.transaction.Tx.{Tx}
-use Rattle.walter_base.specs.declared.update.Update.TheVariants.{Write as WriteOf}
+use Rattle.walter_base.specs.declared.update.Update.{Update}
+use Rattle.walter_base.specs.declared.update.Update.TheVariants.{Write as WriteOf, Add, Del}
 use Rattle.walter_trail.specs.declared.trail.Entry.{Entry}
 use Rattle.walter_trail.specs.declared.trail.Outcome.{Outcome}
 use Rattle.walter_trail.specs.declared.trail.Outcome.TheVariants.{Replied, Full}
 use Rattle.walter_trail.specs.declared.trail.TrailEvent.{TrailEvent}
 use Rattle.walter_trail.specs.declared.trail.TrailEvent.TheVariants.{Call, Stop, Restart}
-use Rattle.walter_trail.specs.Knowledge.{Knowledge, Session, Open, session_in, fresh, recorded, opened, closed, done, updated, sessions_after, after, lost}
+use Rattle.walter_trail.specs.Knowledge.{Knowledge, Session, Open, session_in, fresh, recorded, opened, closed, with_update, done, updated, sessions_after, after, lost}
 use Rattle.walter_trail.specs.Records.{IsDeclared, CanFollow, CanAllFollow, replayed}
-use Rattle.walter_trail.specs.Rule.{next_seq}
 use Rattle.walter_trail.specs.Standing.{Standing, Came, records_after, settled, goes_down, up_after, knows_after, flight_after, stands_after}
 use Rattle.walter_trail.specs.Trails.{standing, came_of, Comes, IsFound, AreRight}
 use Rattle.walter_trail.proofs.Replayed.{all_follow-push, replayed-push, follow_moved}
@@ -49,13 +49,19 @@ module _ (catalog : Catalog) (i : SiteId) where
   abbrev pub Sound : Open → Type 0
   Sound o = IsSound catalog i o.1
 
+  -- a session with one more update, of an object that is declared
+  more_sound : (s : Session) (update : Update) → IsSound catalog i s → IsDeclared catalog update → IsSound catalog i (with_update update s)
+  more_sound s update sound here = record {
+    here = sound.here;
+    declared = All-push (IsDeclared catalog) s.updates update sound.declared here;
+  }
+
   -- a session with the update that was done
   updated_sound : (client : ℕ) (call : Result Request BadFrame) (s : Session) → IsGiven catalog i (Call client call) (Replied Done) → IsSound catalog i s
       → IsSound catalog i (updated call s)
-  updated_sound client (Ok (Write oid bytes)) s given sound = record {
-    here = sound.here;
-    declared = All-push (IsDeclared catalog) s.updates (WriteOf oid bytes) sound.declared given;
-  }
+  updated_sound client (Ok (Write oid bytes)) s given sound = more_sound s (WriteOf oid bytes) sound given
+  updated_sound client (Ok (SetAdd oid id)) s given sound = more_sound s (Add oid id) sound given
+  updated_sound client (Ok (SetDel oid id)) s given sound = more_sound s (Del oid id) sound given
   updated_sound client call s given sound = sound
 
   done_sound : (event : TrailEvent) (sessions : List Open) → IsGiven catalog i event (Replied Done) → AreSound catalog i sessions

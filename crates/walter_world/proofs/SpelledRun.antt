@@ -1,5 +1,6 @@
 -- Each right entry keeps what the history has to do with how the site stands, so it holds of each right trail.
 use Rattle.std.proofs.Common.{◌≡◌, ◌≢◌, ℕ, zero, suc, ◌+◌, Bool, true, false, not, List, [], ◌∷◌, ◌++◌, filter, length, map, reverse, refl, ap, sym, ◌∙◌, subst, arith, Option, Some, None, option_map, IfSome, inl, inr, Result, Ok, Err, replicate, slice_index, ◌<◌, nat_eq, nat_lt, if◌then◌else◌}
+use Rattle.std.specs.Prelude.{ℤ}
 use Rattle.std.specs.FinMap.{get}
 use Rattle.std.proofs.lemmas.Bool.{cases_eq, eq-eqb, ne_eqb}
 use Rattle.std.proofs.lemmas.List.{append-nil, append_assoc, length-replicate}
@@ -12,8 +13,8 @@ use Rattle.walter_base.specs.declared.message.Record.TheVariants.{Boot, Own}
 use Rattle.walter_base.specs.declared.message.Refusal.{Refusal}
 use Rattle.walter_base.specs.declared.message.Refusal.TheVariants.{WrongSite, NotIssued}
 use Rattle.walter_base.specs.declared.message.Request.{Request}
-use Rattle.walter_base.specs.declared.message.Request.TheVariants.{Start, Read, Write, Commit, Abort, Level as LevelAsked}
-use Rattle.walter_base.specs.declared.message.Reply.TheVariants.{Started, Value, Done, Aborted, Level, Ended}
+use Rattle.walter_base.specs.declared.message.Request.TheVariants.{Start, Read, Write, SetAdd, SetDel, SetRead, SetReadId, Commit, Abort, Level as LevelAsked}
+use Rattle.walter_base.specs.declared.message.Reply.TheVariants.{Started, Value, Done, Count, Aborted, Level, Ended}
 use Rattle.walter_base.specs.declared.names.Kind.{Kind}
 use Rattle.walter_base.specs.declared.names.Kind.TheVariants.{Regular, Cset}
 use Rattle.walter_base.specs.declared.names.ObjId.{ObjId}
@@ -23,17 +24,20 @@ use Rattle.walter_base.specs.declared.transaction.Cause.{Cause}
 use Rattle.walter_base.specs.declared.transaction.Cause.TheVariants.{Modified, Asked}
 use Rattle.walter_base.specs.declared.transaction.Tx.{Tx}
 use Rattle.walter_base.specs.declared.update.Update.{Update}
-use Rattle.walter_base.specs.declared.update.Update.TheVariants.{Write as WriteOf}
+use Rattle.walter_base.specs.declared.update.Update.TheVariants.{Write as WriteOf, Add, Del}
 use Rattle.walter_base.specs.Names.{same_site}
-use Rattle.walter_base.specs.Values.{value_of}
+use Rattle.walter_base.specs.Values.{value_of, count_of, counts_of}
 use Rattle.walter_base.specs.Vectors.{entry_at}
+use Rattle.walter_base.proofs.Counted.{counts_of_are}
 use Rattle.walter_base.proofs.NameTests.{same_site-true}
+use Rattle.walter_psi.specs.declared.step.Answer.{Answer}
+use Rattle.walter_psi.specs.declared.step.Answer.TheVariants.{Value as ValueIs, Counts as CountsAre, Count as CountIs}
 use Rattle.walter_psi.specs.declared.step.Level.TheVariants.{NotCommitted as ToldNotCommitted, Visible as ToldVisible}
 use Rattle.walter_psi.specs.declared.step.Step.{Step}
-use Rattle.walter_psi.specs.declared.step.Step.TheVariants.{Commit as CommitStep, Told}
+use Rattle.walter_psi.specs.declared.step.Step.TheVariants.{Op, Read as ReadStep, Commit as CommitStep, Told}
 use Rattle.walter_psi.specs.declared.step.Told.TheVariants.{Version as OfVersion, Level as OfLevel}
 use Rattle.walter_psi.specs.Histories.{IsCommitted}
-use Rattle.walter_psi.specs.Legal.{IsLegal, IsCause}
+use Rattle.walter_psi.specs.Legal.{IsLegal, IsAnswer, IsCause}
 use Rattle.walter_psi.proofs.Lists.{Contains-nil}
 use Rattle.walter_trail.specs.declared.held.Held.{Held}
 use Rattle.walter_trail.specs.declared.trail.Entry.{Entry}
@@ -42,13 +46,13 @@ use Rattle.walter_trail.specs.declared.trail.Outcome.TheVariants.{Replied, Taken
 use Rattle.walter_trail.specs.declared.trail.TrailEvent.{TrailEvent}
 use Rattle.walter_trail.specs.declared.trail.TrailEvent.TheVariants.{Call, Stop, Restart}
 use Rattle.walter_trail.specs.Conflicts.{conflict_of, IsSeenWhole}
-use Rattle.walter_trail.specs.Knowledge.{Knowledge, Session, session_in, session_of, fresh, after, lost, read_updates, with_update, recorded as recorded_in}
+use Rattle.walter_trail.specs.Knowledge.{Knowledge, Session, session_in, session_of, fresh, after, lost, read_updates, with_update, updated, recorded as recorded_in}
 use Rattle.walter_trail.specs.Merges.{merge}
-use Rattle.walter_trail.specs.Rule.{Expected, answers, refuses, if_whole, if_regular, has_place, writes, decides, commits, is_held, is_open, level_of, is_issued, tells_level, call_rule, if_told, down_rule, rule, next_tid, next_seq, tx_of}
+use Rattle.walter_trail.specs.Rule.{Expected, answers, refuses, if_whole, if_regular, if_counted, if_cset, has_place, updates_with, writes, shows, decides, commits, is_held, is_open, level_of, is_issued, tells_level, call_rule, if_told, down_rule, rule, next_tid, next_seq, tx_of}
 use Rattle.walter_trail.specs.Standing.{Standing, Came, settled, stands_after}
 use Rattle.walter_trail.specs.Trails.{standing, came_of, as_ruled, failure, want, fullness, only, Comes, ruled, met_fault, unread, no_memory, full, IsFound, IsRightEntry, AreRight, IsRightTrail}
 use Rattle.walter_trail.proofs.ConflictNamed.{conflict_named, no_conflict_named}
-use Rattle.walter_world.specs.Spelled.{the_site, recorded, answered, steps_of, of_session, did, saw, told, aborted, history, psi_of}
+use Rattle.walter_world.specs.Spelled.{the_site, recorded, answered, steps_of, of_session, did, saw, saw_set, saw_count, told, aborted, history, psi_of}
 use Rattle.walter_world.proofs.EndsDecided.{IsDue, rule_decided}
 use Rattle.walter_world.proofs.HeldNames.{held_is_committed, committed_is_held, issued_by}
 use Rattle.walter_world.proofs.OneTrail.{named, history-named, psi_of-one}
@@ -132,6 +136,16 @@ module _ (catalog : Catalog) (K : Knowledge) (records : List Record) (gone : ℕ
   regular client call None x now = still
   regular client call (Some container) x now = whole client call container.kind x now
 
+  counted : (client : ℕ) (call : Result Request BadFrame) (kind : Kind) (x : Expected) → HoldsAfter site h (Call client call) (as_ruled x)
+      → HoldsAfter site h (Call client call) (as_ruled (if_counted kind x))
+  counted client call Cset x now = now
+  counted client call Regular x now = still
+
+  cset : (client : ℕ) (call : Result Request BadFrame) (container : Option Container) (x : Expected) → HoldsAfter site h (Call client call) (as_ruled x)
+      → HoldsAfter site h (Call client call) (as_ruled (if_cset container x))
+  cset client call None x now = still
+  cset client call (Some container) x now = counted client call container.kind x now
+
   -- a transaction starts
   starts : (client : ℕ) (call : Result Request BadFrame) → session_of K client ≡ None
       → HoldsAfter site h (Call client call) (as_ruled (answers (Started (next_tid the_site K))))
@@ -151,36 +165,65 @@ module _ (catalog : Catalog) (K : Knowledge) (records : List Record) (gone : ℕ
         refl,
       )
 
-  -- an object is read
+  -- an object is read, and the answer is that of the updates that the transaction reads from
+  answers_read : (client : ℕ) (oid : ObjId) (answer : Answer) (s : Session) → session_of K client ≡ Some s → IsAnswer oid (read_updates K s) answer
+      → HoldsAt true K None (h ++ ReadStep s.tid oid answer ∷ [])
+  answers_read client oid answer s has true_ =
+      let step = read_step K.epoch K.starts K.committed K.held h is.is_told (session_of K) s oid answer is.are_open (is.are_open.open_ client s has) true_ in
+      (record { is_told = step.0; are_open = step.1 }, refl)
+
   reads : (client : ℕ) (oid : ObjId) (s : Session) → session_of K client ≡ Some s
       → HoldsAfter site h (Call client (Ok (Read oid))) (as_ruled (answers (Value (value_of oid (read_updates K s)))))
   reads client oid s has =
       let value : Option (List ℕ) = value_of oid (read_updates K s) in
-      let step = read_step K.epoch K.starts K.committed K.held h is.is_told (session_of K) s oid value is.are_open (is.are_open.open_ client s has) refl in
-      let now : HoldsAt true K None (h ++ saw (Ok (Read oid)) value s) = (record { is_told = step.0; are_open = step.1 }, refl) in
-      subst (λ o. HoldsAt true K None (h ++ of_session (saw (Ok (Read oid)) value) o)) (sym has) now
+      subst (λ o. HoldsAt true K None (h ++ of_session (saw (Ok (Read oid)) value) o)) (sym has) (answers_read client oid (ValueIs value) s has refl)
 
-  -- an object is written
-  wrote : (client : ℕ) (oid : ObjId) (bytes : List ℕ) (s : Session) → session_of K client ≡ Some s
-      → HoldsAfter site h (Call client (Ok (Write oid bytes))) (as_ruled (answers Done))
-  wrote client oid bytes s has =
-      let next : Knowledge = after the_site K (Call client (Ok (Write oid bytes))) (Replied Done) None in
-      let step = op_step K.epoch K.starts K.committed K.held h is.is_told (session_of K) client s (WriteOf oid bytes) is.are_open has in
-      let steps : List Step = h ++ did (Ok (Write oid bytes)) s in
+  reads_count : (client : ℕ) (oid : ObjId) (id : ℕ) (s : Session) → session_of K client ≡ Some s
+      → HoldsAfter site h (Call client (Ok (SetReadId oid id))) (as_ruled (answers (Count (count_of oid id (read_updates K s)))))
+  reads_count client oid id s has =
+      let n : ℤ = count_of oid id (read_updates K s) in
+      subst (λ o. HoldsAt true K None (h ++ of_session (saw_count (Ok (SetReadId oid id)) n) o)) (sym has) (answers_read client oid (CountIs id n) s has refl)
+
+  -- a set is shown, if it isn't too wide
+  reads_set : (client : ℕ) (oid : ObjId) (s : Session) → session_of K client ≡ Some s
+      → HoldsAfter site h (Call client (Ok (SetRead oid))) (as_ruled (shows (counts_of oid (read_updates K s))))
+  reads_set client oid s has =
+      let updates : List Update = read_updates K s in
+      let counts : List (ℕ × ℤ) = counts_of oid updates in
+      either (Call client (Ok (SetRead oid))) (nat_lt 4095 (length counts)) _ _ still
+      (subst (λ o. HoldsAt true K None (h ++ of_session (saw_set (Ok (SetRead oid)) counts) o)) (sym has)
+      (answers_read client oid (CountsAre counts) s has (counts_of_are oid updates)))
+
+  -- an update is done
+  wrote : (client : ℕ) (request : Request) (update : Update) (s : Session) → session_of K client ≡ Some s
+      → updated (Ok request) s ≡ with_update update s → did (Ok request) s ≡ Op s.tid update ∷ []
+      → HoldsAfter site h (Call client (Ok request)) (as_ruled (answers Done))
+  wrote client request update s has changes spells =
+      let change : Session → Session = updated (Ok request) in
+      let next : Knowledge = after the_site K (Call client (Ok request)) (Replied Done) None in
+      let step = op_step K.epoch K.starts K.committed K.held h is.is_told (session_of K) client s update is.are_open has in
+      let steps : List Step = h ++ Op s.tid update ∷ [] in
       let now : HoldsAt true next None steps = (
         record {
           is_told = step.0;
-          are_open = same_sessions K.held steps (with_one client (Some (with_update (WriteOf oid bytes) s)) (session_of K)) (session_of next)
+          are_open = same_sessions K.held steps (with_one client (Some (with_update update s)) (session_of K)) (session_of next)
               (λ c. elim (cases_eq c client) [
                 | inl same ↦ rw (eq-eqb c client same)
-                    (ap (λ d. session_of next d) same ∙ (changed_here client (with_update (WriteOf oid bytes)) K.sessions ∙ ap (λ o. option_map (with_update (WriteOf oid bytes)) o) has))
-                | inr other ↦ rw (ne_eqb c client other) (changed_other client c (with_update (WriteOf oid bytes)) K.sessions other)
+                    (ap (λ d. session_of next d) same ∙ (changed_here client change K.sessions ∙ (ap (λ o. option_map change o) has ∙ ap (λ (t : Session). Some t) changes)))
+                | inr other ↦ rw (ne_eqb c client other) (changed_other client c change K.sessions other)
               ])
               step.1;
         },
         refl,
       ) in
-      subst (λ o. HoldsAt true next None (h ++ of_session (did (Ok (Write oid bytes))) o)) (sym has) now
+      subst (λ o. HoldsAt true next None (h ++ of_session (did (Ok request)) o)) (sym has) (subst (λ done. HoldsAt true next None (h ++ done)) (sym spells) now)
+
+  -- if the transaction has a place for it
+  placed : (client : ℕ) (request : Request) (update : Update) (s : Session) → session_of K client ≡ Some s
+      → updated (Ok request) s ≡ with_update update s → did (Ok request) s ≡ Op s.tid update ∷ []
+      → HoldsAfter site h (Call client (Ok request)) (as_ruled (updates_with s update))
+  placed client request update s has changes spells =
+      either (Call client (Ok request)) (has_place s.updates update) _ _ (wrote client request update s has changes spells) still
 
   -- the sessions without that of a client
   without : (client : ℕ) (c : ℕ) → session_in c (filter (λ s. not (nat_eq client s.0)) K.sessions) ≡ with_one client None (session_of K) c
@@ -292,7 +335,18 @@ module _ (catalog : Catalog) (K : Knowledge) (records : List Record) (gone : ℕ
   call_keeps client (Ok (Write oid bytes)) (Some s) has =
       let event : TrailEvent = Call client (Ok (Write oid bytes)) in
       regular client (Ok (Write oid bytes)) (get catalog.containers oid.container) (writes s oid bytes)
-      (either event (nat_lt 4096 (length bytes)) _ _ still (either event (has_place s.updates (WriteOf oid bytes)) _ _ (wrote client oid bytes s has) still))
+      (either event (nat_lt 4096 (length bytes)) _ _ still (placed client (Write oid bytes) (WriteOf oid bytes) s has refl refl))
+  call_keeps client (Ok (SetAdd oid id)) None has = still
+  call_keeps client (Ok (SetAdd oid id)) (Some s) has =
+      cset client (Ok (SetAdd oid id)) (get catalog.containers oid.container) _ (placed client (SetAdd oid id) (Add oid id) s has refl refl)
+  call_keeps client (Ok (SetDel oid id)) None has = still
+  call_keeps client (Ok (SetDel oid id)) (Some s) has =
+      cset client (Ok (SetDel oid id)) (get catalog.containers oid.container) _ (placed client (SetDel oid id) (Del oid id) s has refl refl)
+  call_keeps client (Ok (SetRead oid)) None has = still
+  call_keeps client (Ok (SetRead oid)) (Some s) has = cset client (Ok (SetRead oid)) (get catalog.containers oid.container) _ (reads_set client oid s has)
+  call_keeps client (Ok (SetReadId oid id)) None has = still
+  call_keeps client (Ok (SetReadId oid id)) (Some s) has =
+      cset client (Ok (SetReadId oid id)) (get catalog.containers oid.container) _ (reads_count client oid id s has)
   call_keeps client (Ok Commit) None has = still
   call_keeps client (Ok Commit) (Some s) has = committed_ client s s.updates has refl
   call_keeps client (Ok Abort) None has = still
@@ -307,6 +361,10 @@ module _ (catalog : Catalog) (K : Knowledge) (records : List Record) (gone : ℕ
   owed_keeps client (Ok Start) (Some tid) x now = still
   owed_keeps client (Ok (Read oid)) (Some tid) x now = still
   owed_keeps client (Ok (Write oid bytes)) (Some tid) x now = still
+  owed_keeps client (Ok (SetAdd oid id)) (Some tid) x now = still
+  owed_keeps client (Ok (SetDel oid id)) (Some tid) x now = still
+  owed_keeps client (Ok (SetRead oid)) (Some tid) x now = still
+  owed_keeps client (Ok (SetReadId oid id)) (Some tid) x now = still
   owed_keeps client (Ok Commit) (Some tid) x now = still
   owed_keeps client (Ok Abort) (Some tid) x now = still
 

@@ -13,16 +13,16 @@ use Rattle.walter_base.specs.declared.names.Version.{Version}
 use Rattle.walter_base.specs.declared.transaction.Cause.{Cause}
 use Rattle.walter_base.specs.declared.transaction.Cause.TheVariants.{Modified}
 use Rattle.walter_base.specs.declared.update.Update.{Update}
-use Rattle.walter_base.specs.Values.{value_of, write_set}
+use Rattle.walter_base.specs.Values.{write_set}
 use Rattle.walter_base.specs.Vectors.{entry_at}
-use Rattle.walter_psi.specs.declared.step.Answer.TheVariants.{Value as ValueIs}
+use Rattle.walter_psi.specs.declared.step.Answer.{Answer}
 use Rattle.walter_psi.specs.declared.step.Level.TheVariants.{NotCommitted}
 use Rattle.walter_psi.specs.declared.step.Told.{Told as Notice}
 use Rattle.walter_psi.specs.declared.step.Told.TheVariants.{Level as OfLevel}
 use Rattle.walter_psi.specs.declared.step.Step.{Step}
 use Rattle.walter_psi.specs.declared.step.Step.TheVariants.{Start, Op, Read, Commit, Abort, Told}
 use Rattle.walter_psi.specs.Histories.{log, logged, commits, commit_of, snapshot, own_updates, done, committed_updates, given, seen_updates, IsStarted, IsCommitted}
-use Rattle.walter_psi.specs.Legal.{IsLegal, IsLegalStep, IsLegalCommit, IsOver, IsRunning, IsBlocked, IsCause, IsVersionOf, IsTrueNotice}
+use Rattle.walter_psi.specs.Legal.{IsLegal, IsLegalStep, IsLegalCommit, IsOver, IsRunning, IsBlocked, IsAnswer, IsCause, IsVersionOf, IsTrueNotice}
 use Rattle.walter_psi.proofs.Lists.{place_of, contains_at, slice_get-push, slice_get-take, slice_get-take_within, Contains-take, flat_map_agree}
 use Rattle.walter_psi.proofs.StepFacts.{logged_commit, commit_of_commit, done_op, done_none, given_commit}
 use Rattle.walter_psi.proofs.OneMore.{legal_snoc, log_snoc, commits_snoc, own_updates_snoc, committed_updates_snoc, started_kept, started_here, started_snoc, committed_snoc}
@@ -307,14 +307,14 @@ module _ (epoch starts : ℕ) (committed : List ℕ) (held : List Held) (h : Lis
       (λ i. same i ++ sym opened.updates i)
 
   -- it reads
-  pub read_step : (session : ℕ → Option Session) (s : Session) (oid : ObjId) (value : Option (List ℕ)) → AreOpen held h session → IsOpen held h s
-      → value ≡ value_of oid (flat_map (λ x. x.tx.updates) (filter (sees s.snapshot) held) ++ s.updates)
-      → IsTold epoch starts committed held (h ++ Read s.tid oid (ValueIs value) ∷ []) × AreOpen held (h ++ Read s.tid oid (ValueIs value) ∷ []) session
-  read_step session s oid value are opened answer = (
-    quiet_step (Read s.tid oid (ValueIs value)) starts (opened.running, answer ∙ ap (λ us. value_of oid us) (read_same s opened))
+  pub read_step : (session : ℕ → Option Session) (s : Session) (oid : ObjId) (answer : Answer) → AreOpen held h session → IsOpen held h s
+      → IsAnswer oid (flat_map (λ x. x.tx.updates) (filter (sees s.snapshot) held) ++ s.updates) answer
+      → IsTold epoch starts committed held (h ++ Read s.tid oid answer ∷ []) × AreOpen held (h ++ Read s.tid oid answer ∷ []) session
+  read_step session s oid answer are opened true_ = (
+    quiet_step (Read s.tid oid answer) starts (opened.running, subst (λ us. IsAnswer oid us answer) (read_same s opened) true_)
         (record { none_logged = refl; none_committed = refl }) (omega arith)
         (λ y site e. absurd cc) (λ y e. absurd cc),
-    all_left held h session (Read s.tid oid (ValueIs value)) are
+    all_left held h session (Read s.tid oid answer) are
         (λ c t has. record { no_commit = λ us e. absurd cc; no_abort = λ cause e. absurd cc; no_update = λ u e. absurd cc; no_notice = λ e. absurd cc }),
   )
 

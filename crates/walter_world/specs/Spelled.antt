@@ -1,20 +1,20 @@
 -- The history that the trails spell: each entry of their merge gives at most two steps, those of its records first.
-use Rattle.std.specs.Prelude.{ℕ, List, [], ◌∷◌, ◌++◌, reverse, Option, Some, None, Result, Ok}
+use Rattle.std.specs.Prelude.{ℕ, ℤ, List, [], ◌∷◌, ◌++◌, reverse, Option, Some, None, Result, Ok}
 use Rattle.walter_base.specs.declared.catalog.Catalog.{Catalog}
 use Rattle.walter_base.specs.declared.message.BadFrame.{BadFrame}
 use Rattle.walter_base.specs.declared.message.Level.{Level as HowFar}
 use Rattle.walter_base.specs.declared.message.Level.TheVariants.{NotCommitted, Running, Committed as IsCommitted, Durable, Visible}
 use Rattle.walter_base.specs.declared.message.Record.{Record}
 use Rattle.walter_base.specs.declared.message.Record.TheVariants.{Boot, Own}
-use Rattle.walter_base.specs.declared.message.Reply.TheVariants.{Started, Value, Done, Committed, Aborted, Level}
+use Rattle.walter_base.specs.declared.message.Reply.TheVariants.{Started, Value, Done, Set, Count, Committed, Aborted, Level}
 use Rattle.walter_base.specs.declared.message.Request.{Request}
-use Rattle.walter_base.specs.declared.message.Request.TheVariants.{Read as ReadAsked, Write as WriteAsked, Level as LevelAsked}
+use Rattle.walter_base.specs.declared.message.Request.TheVariants.{Read as ReadAsked, Write as WriteAsked, SetAdd, SetDel, SetRead, SetReadId, Level as LevelAsked}
 use Rattle.walter_base.specs.declared.names.SiteId.{SiteId}
 use Rattle.walter_base.specs.declared.names.Tid.{Tid}
 use Rattle.walter_base.specs.declared.names.Version.{Version}
 use Rattle.walter_base.specs.declared.transaction.Cause.{Cause}
-use Rattle.walter_base.specs.declared.update.Update.TheVariants.{Write as WriteOf}
-use Rattle.walter_psi.specs.declared.step.Answer.TheVariants.{Value as ValueIs}
+use Rattle.walter_base.specs.declared.update.Update.TheVariants.{Write as WriteOf, Add, Del}
+use Rattle.walter_psi.specs.declared.step.Answer.TheVariants.{Value as ValueIs, Counts as CountsAre, Count as CountIs}
 use Rattle.walter_psi.specs.declared.step.Level.TheVariants.{NotCommitted as ToldNotCommitted, Committed as ToldCommitted, Durable as ToldDurable, Visible as ToldVisible}
 use Rattle.walter_psi.specs.declared.step.Step.{Step}
 use Rattle.walter_psi.specs.declared.step.Step.TheVariants.{Start, Op, Read, Commit, Abort, Told}
@@ -38,14 +38,24 @@ recorded None = []
 recorded (Some (Boot epoch)) = []
 recorded (Some (Own seq tx)) = Commit tx.tid tx.updates ∷ []
 
--- the update that a request did, and the read of a request that was answered by a value
+-- the update that a request did, and the read of a request that was answered by a value, by counts or by a count
 abbrev pub did : Result Request BadFrame → Session → List Step
 did (Ok (WriteAsked oid bytes)) s = Op s.tid (WriteOf oid bytes) ∷ []
+did (Ok (SetAdd oid id)) s = Op s.tid (Add oid id) ∷ []
+did (Ok (SetDel oid id)) s = Op s.tid (Del oid id) ∷ []
 did call s = []
 
 abbrev pub saw : Result Request BadFrame → Option (List ℕ) → Session → List Step
 saw (Ok (ReadAsked oid)) value s = Read s.tid oid (ValueIs value) ∷ []
 saw call value s = []
+
+abbrev pub saw_set : Result Request BadFrame → List (ℕ × ℤ) → Session → List Step
+saw_set (Ok (SetRead oid)) counts s = Read s.tid oid (CountsAre counts) ∷ []
+saw_set call counts s = []
+
+abbrev pub saw_count : Result Request BadFrame → ℤ → Session → List Step
+saw_count (Ok (SetReadId oid id)) n s = Read s.tid oid (CountIs id n) ∷ []
+saw_count call n s = []
 
 abbrev pub told : Version → Session → List Step
 told version s = Told s.tid (OfVersion version) ∷ []
@@ -76,6 +86,8 @@ abbrev pub replied : SiteId → Outcome → Result Request BadFrame → Option S
 replied i (Replied (Started tid)) call session = Start tid i ∷ []
 replied i (Replied Done) call session = of_session (did call) session
 replied i (Replied (Value value)) call session = of_session (saw call value) session
+replied i (Replied (Set counts)) call session = of_session (saw_set call counts) session
+replied i (Replied (Count n)) call session = of_session (saw_count call n) session
 replied i (Replied (Committed version)) call session = of_session (told version) session
 replied i (Replied (Aborted cause)) call session = of_session (aborted cause) session
 replied i (Replied (Level level)) call session = told_level level call

@@ -36,8 +36,16 @@ fn step_of(request: &Request, reply: &Reply, open: Option<Tid>) -> Mem<Option<St
         (Request::Write(oid, bytes), Reply::Done) => {
             Some(Step::Op(tid, Update::Write(*oid, bytes.clone()?)))
         }
+        (Request::SetAdd(oid, id), Reply::Done) => Some(Step::Op(tid, Update::Add(*oid, *id))),
+        (Request::SetDel(oid, id), Reply::Done) => Some(Step::Op(tid, Update::Del(*oid, *id))),
         (Request::Read(oid), Reply::Value(value)) => {
             Some(Step::Read(tid, *oid, Answer::Value(value.clone()?)))
+        }
+        (Request::SetRead(oid), Reply::Set(counts)) => {
+            Some(Step::Read(tid, *oid, Answer::Counts(counts.clone()?)))
+        }
+        (Request::SetReadId(oid, id), Reply::Count(count)) => {
+            Some(Step::Read(tid, *oid, Answer::Count(*id, *count)))
         }
         (Request::Commit, Reply::Committed(version)) => {
             Some(Step::Told(tid, Told::Version(*version)))

@@ -2,7 +2,8 @@
 ghost use Rattle.std.specs.Prelude.{◌≡◌, ◌≢◌, ◌↔◌, ◌<◌, ◌-ℤ◌, pos, IsTrue, Contains, All, AllPairs, Some, Option, IfOk, flat_map, option_copied, option_to_list};
 ghost use Rattle.walter_base.specs.Values.{value_of, held_after, count_of, adds, takes, AreCounts};
 ghost use Rattle.walter_psi.specs.Legal.{IsAnswer};
-ghost use Rattle.walter_psi.specs.Checking.{IsCountOf, IsListed, HasId, ids_named};
+ghost use Rattle.walter_base.specs.Counting.{IsCountOf, IsListed, HasId};
+ghost use Rattle.walter_base.specs.Values.{ids_named};
 
 use crate::step::Answer;
 use std::alloc::Global;

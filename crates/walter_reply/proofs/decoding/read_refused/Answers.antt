@@ -43,4 +43,4 @@ returns-in_err-left-in-10-clause-stop c =
 
 pub returns-in_default-clause-stop : goal.returns-in_default-clause-stop
 returns-in_default-clause-stop c =
-    unknown_refusal c.in_ok-u8.field-0 c.args.cursor.now.left c.u8.new.self.left (omega arith) (λ known. omega (arith, known.some, known.most, known.not_11)) c.in_ok-u8.ensures.taken.front
+    unknown_refusal c.in_ok-u8.field-0 c.args.cursor.now.left c.u8.new.self.left (omega arith) (λ known. omega (arith, known.some, known.most)) c.in_ok-u8.ensures.taken.front

@@ -1,7 +1,7 @@
 use Rattle.std.proofs.Common.{◌∙◌, subst, refl, List, ℕ}
 use Rattle.std.specs.Prelude.{All}
-use Rattle.walter_psi.specs.Checking.{IsListed}
-use Rattle.walter_psi.proofs.CheckerCounts.{counts_are, counts_true, counts_listed}
+use Rattle.walter_base.specs.Counting.{IsListed}
+use Rattle.walter_base.proofs.SetCounts.{counts_are, counts_true, counts_listed}
 use Rattle.walter_psi.proofs.checker.answers.are_counts.Goals as goal
 
 pub returns-then-not-are_rising : goal.returns-then-not-are_rising

@@ -1,5 +1,5 @@
 use Rattle.std.proofs.Common.{refl}
-use Rattle.walter_psi.specs.Checking.{IsListed}
+use Rattle.walter_base.specs.Counting.{IsListed}
 use Rattle.std.proofs.lemmas.List.Elements.{All-more}
 use Rattle.walter_psi.proofs.CheckerLists.{all_whole}
 use Rattle.walter_psi.proofs.checker.answers.are_listed.Goals as goal

@@ -1,6 +1,6 @@
 use Rattle.std.proofs.Common.{take}
 use Rattle.std.specs.Prelude.{All}
-use Rattle.walter_psi.specs.Checking.{IsListed}
+use Rattle.walter_base.specs.Counting.{IsListed}
 use Rattle.walter_psi.proofs.checker.answers.are_listed.Given as goal
 
 -- the ids so far are listed

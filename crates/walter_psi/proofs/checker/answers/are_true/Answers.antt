@@ -1,6 +1,6 @@
 use Rattle.std.proofs.Common.{refl}
 use Rattle.std.specs.Prelude.{pos}
-use Rattle.walter_psi.specs.Checking.{IsCountOf}
+use Rattle.walter_base.specs.Counting.{IsCountOf}
 use Rattle.std.proofs.lemmas.List.Elements.{All-more}
 use Rattle.walter_psi.proofs.CheckerLists.{all_whole}
 use Rattle.walter_psi.proofs.checker.answers.are_true.Goals as goal

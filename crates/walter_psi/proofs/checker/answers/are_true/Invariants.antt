@@ -1,6 +1,6 @@
 use Rattle.std.proofs.Common.{take}
 use Rattle.std.specs.Prelude.{All}
-use Rattle.walter_psi.specs.Checking.{IsCountOf}
+use Rattle.walter_base.specs.Counting.{IsCountOf}
 use Rattle.walter_psi.proofs.checker.answers.are_true.Given as goal
 
 -- the entries so far are counts of their ids

@@ -1,5 +1,5 @@
 -- When entries are the counts of a set after some updates.
-use Rattle.std.proofs.Common.{◌≡◌, ◌≢◌, ℕ, zero, suc, ◌<◌, List, [], ◌∷◌, get_or, Some, nat_eq, refl, ap, sym, ◌∙◌, subst, Bool, true, false, ◌&&◌, inl, inr, ◌⊎◌, if◌then◌else◌}
+use Rattle.std.proofs.Common.{◌≡◌, ◌≢◌, ℕ, zero, suc, ◌<◌, List, [], ◌∷◌, get_or, nat_eq, refl, ap, sym, ◌∙◌, subst, Bool, true, false, ◌&&◌, inl, inr, ◌⊎◌, arith, if◌then◌else◌}
 use Rattle.std.specs.Prelude.{ℤ, pos, negsuc, Contains, All, AllPairs, count_by, flat_map}
 use Rattle.std.proofs.lemmas.Bool.{eqb-true, cases_Bool}
 use Rattle.std.proofs.lemmas.List.Elements.{Contains-append_left, Contains-append_right, Contains-get_or, All-contains}
@@ -8,8 +8,8 @@ use Rattle.walter_base.specs.declared.update.Update.{Update}
 use Rattle.walter_base.specs.declared.update.Update.TheVariants.{Write, Add, Del}
 use Rattle.walter_base.specs.Names.{same_object}
 use Rattle.walter_base.specs.Values.{count_of, adds, takes, AreCounts}
-use Rattle.walter_psi.specs.Checking.{IsCountOf, IsListed, ids_named}
-use Rattle.walter_psi.proofs.Lists.{contains_at}
+use Rattle.walter_base.specs.Counting.{IsCountOf, IsListed}
+use Rattle.walter_base.specs.Values.{ids_named}
 
 -- an id that the updates don't name is neither added nor taken away
 record IsUntouched (oid : ObjId) (id : ℕ) (updates : List Update) : Type 0 where
@@ -18,7 +18,7 @@ record IsUntouched (oid : ObjId) (id : ℕ) (updates : List Update) : Type 0 whe
 
 -- an id that an update names is named, whatever follows
 names : (oid at : ObjId) (id name : ℕ) → same_object at oid ≡ true → nat_eq name id ≡ true → Contains (if same_object at oid then name ∷ [] else []) id
-names oid at id name here same = rw here (contains_at (name ∷ []) id 0 (ap (λ n. Some n) (eqb-true name id same)))
+names oid at id name here same = rw here (0, omega arith, eqb-true name id same)
 
 -- an update of another object, or of another id, leaves the test of it false
 other_object : (test same : Bool) → test ≡ false → (test && same) ≡ false

@@ -1,0 +1,54 @@
+-- The rows that what is held spells: for each update one, with the version of its transaction.
+use Rattle.std.specs.Prelude.{◌≡◌, ◌≤◌, Bool, List, [], map, filter, flat_map, length, All, Option, Some, None}
+use Rattle.walter_base.specs.declared.catalog.Catalog.{Catalog}
+use Rattle.walter_base.specs.declared.message.Record.{Record}
+use Rattle.walter_base.specs.declared.message.Record.TheVariants.{Boot, Own}
+use Rattle.walter_base.specs.declared.names.ObjId.{ObjId}
+use Rattle.walter_base.specs.declared.names.Version.{Version}
+use Rattle.walter_base.specs.declared.update.Row.{Row}
+use Rattle.walter_base.specs.declared.update.Update.{Update}
+use Rattle.walter_base.specs.Names.{same_object}
+use Rattle.walter_history.specs.Lines.{Line, rows_of, room_of}
+use Rattle.walter_history.specs.Rows.{object_of}
+use Rattle.walter_trail.specs.Conflicts.{version_of}
+use Rattle.walter_trail.specs.declared.held.Held.{Held}
+use Rattle.walter_trail.specs.Records.{IsDeclared}
+
+-- an update with the version that its transaction became
+abbrev pub row_with : Version → Update → Row
+row_with version update = record { version = version; update = update }
+
+-- the rows of a transaction that is held, one for each of its updates
+abbrev pub rows_from : Held → List Row
+rows_from h = map (row_with (version_of h)) h.tx.updates
+
+-- the rows of the transaction in a record, if it has one
+abbrev pub rows_told : Option Record → List Row
+rows_told None = []
+rows_told (Some (Boot epoch)) = []
+rows_told (Some (Own seq tx)) = rows_from (record { seq = seq; tx = tx })
+
+-- whether an update changes the object
+abbrev pub changes : ObjId → Update → Bool
+changes oid update = same_object (object_of update) oid
+
+-- those of the rows that change the object
+abbrev pub rows_on : ObjId → List Row → List Row
+rows_on oid rows = filter (λ row. changes oid row.update) rows
+
+-- the rows of an object: for each transaction that is held, in order, each of its updates of the object
+abbrev pub rows_in : ObjId → List Held → List Row
+rows_in oid held = rows_on oid (flat_map rows_from held)
+
+-- all updates of the transaction are declared
+abbrev pub HasDeclared : Catalog → Held → Type 0
+HasDeclared catalog h = All (IsDeclared catalog) h.tx.updates
+
+-- the history has the rows that what is held spells, of objects that are declared
+pub record AreRowsOf (catalog : Catalog) (held : List Held) (history : List (ObjId × Line)) : Type 0 where
+  pub same : (oid : ObjId) → rows_of history oid ≡ rows_in oid held
+  pub declared : All (HasDeclared catalog) held
+
+-- the history has room for all of the updates, whichever of their objects they change
+abbrev pub HaveRoom : List (ObjId × Line) → List Update → Type 0
+HaveRoom history updates = All (λ update. length updates ≤ room_of history (object_of update)) updates

@@ -1,0 +1,70 @@
+ghost use Rattle.std.specs.Prelude.{◌≡◌, ◌++◌, map, IfOk, OnOk, OnErr, IsSome};
+ghost use Rattle.walter_base.specs.declared.names.ObjId.{ObjId as Object};
+ghost use Rattle.walter_history.specs.Lines.{rows_of};
+ghost use Rattle.walter_history.specs.Rows.{object_of};
+ghost use Rattle.walter_site.specs.Rows.{row_with, rows_told, rows_on, HaveRoom};
+
+use std::alloc::Global;
+use walter_base::{Mem, ObjId, Record, Row, Update, Version};
+use walter_history::History;
+
+/// The object that the update changes.
+fn object_of(update: &Update) -> ObjId
+    ensures { result ≡ object_of update.now }
+{
+    match update {
+        Update::Write(oid, _) | Update::Add(oid, _) | Update::Del(oid, _) => *oid,
+    }
+}
+
+/// The updates as rows of the version.
+pub fn rows_for(alloc: Global, version: Version, updates: &[Update]) -> Mem<Vec<Row>>
+    ensures { IfOk result (λ rows. rows.items ≡ map (row_with version) updates.now) }
+{
+    let mut rows = Vec::new(alloc);
+    for update in updates {
+        let update = update.clone()?;
+        rows.push(Row { version, update })?;
+    }
+    Ok(rows)
+}
+
+/// The rows of the transaction in the record. Without a record it takes no memory.
+pub fn rows_told(alloc: Global, rec: &Option<Record>) -> Mem<Vec<Row>>
+    ensures rows { IfOk result (λ rows. rows.items ≡ rows_told rec.now) }
+    ensures free { OnErr result (IsSome rec.now) }
+{
+    match rec {
+        Some(Record::Own(seq, tx)) => {
+            let version = Version {
+                site: tx.tid.site,
+                seq: *seq,
+            };
+            rows_for(alloc, version, tx.updates.as_slice())
+        }
+        Some(Record::Boot(_)) | None => Ok(Vec::new(alloc)),
+    }
+}
+
+/// Makes room for the rows of the updates.
+pub fn make_room(history: &mut History, updates: &[Update]) -> Mem<()>
+    ensures room { OnOk result (HaveRoom history.new updates.now) }
+    ensures rows { (oid : Object) → rows_of history.new oid ≡ rows_of history.old oid }
+{
+    // An object may be changed by each of them: what is left over serves later transactions.
+    let most = updates.len() as u64;
+    for update in updates {
+        history.reserve(object_of(update), most)?;
+    }
+    Ok(())
+}
+
+/// Puts each row behind the others of its object, without taking memory.
+pub fn append_all(history: &mut History, rows: Vec<Row>)
+    requires { HaveRoom history.old (map (λ row. row.update) rows.items) }
+    ensures { (oid : Object) → rows_of history.new oid ≡ rows_of history.old oid ++ rows_on oid rows.items }
+{
+    for row in rows {
+        history.append(object_of(&row.update), row);
+    }
+}
