@@ -19,9 +19,9 @@ use Rattle.walter_trail.specs.Records.{CanFollow, IsRecordAmong}
 use Rattle.walter_trail.specs.Rule.{Expected, rule, call_rule, MayWant}
 use Rattle.walter_trail.specs.Standing.{Standing, Came, stands_after, up_after, knows_after}
 use Rattle.walter_trail.specs.Trails.{Comes, ruled, met_fault, no_memory, full, as_ruled, failure, fullness, want, only, FitsIn, need_of, left_behind, TakesMemory}
+use Rattle.walter_trail.proofs.Replayed.{lost_after, follows_lost}
 use Rattle.walter_engine.specs.Contents.{CanBeJournaled, AreJournaled}
 use Rattle.walter_engine.proofs.Plain.{IsPlain, call_plain, plain_up, plain_knows}
-use Rattle.walter_engine.proofs.Replays.{lost_recorded, follows_lost}
 use Rattle.walter_engine.proofs.Standings.{rule_here, journaled_more, journaled_same}
 
 -- what has sizes and ranges of a record among so many sites has a spelling among them
@@ -86,7 +86,7 @@ module _ (catalog : Catalog) (capacity : ℕ) (i : SiteId) (S : Standing) (clien
       let T = stands_after i S (Call client call) (record { wrote = None; outcome = Replied reply; flight = None }) in
       let knows = sym (answered_knows catalog capacity i S client call K None reply up settled same nothing planned J)
       ∙ ap (λ (k : Knowledge). after i k (Call client call) (Replied reply) None) same in
-      journaled_same catalog i S T J refl (ap lost knows ∙ lost_recorded i S.knows (Call client call) (Replied reply) None)
+      journaled_same catalog i S T J refl (ap lost knows ∙ lost_after i S.knows (Call client call) (Replied reply) None)
       (subst (λ (f : Option Record). IfSome f (CanBeJournaled catalog i T)) (sym (flight_none reply)) tt)
       (λ is. subst (λ (k : Knowledge). 0 < k.epoch) (sym knows) (J.booted up))
     where
@@ -120,7 +120,7 @@ module _ (catalog : Catalog) (capacity : ℕ) (i : SiteId) (S : Standing) (clien
   pub wrote_journaled : AreJournaled catalog i (stands_after i S ev wrote_it)
   wrote_journaled =
       let T = stands_after i S ev wrote_it in
-      journaled_more catalog i S T rec J can refl (ap lost wrote_knows ∙ lost_recorded i S.knows ev (Replied reply) (Some rec)) refl
+      journaled_more catalog i S T rec J can refl (ap lost wrote_knows ∙ lost_after i S.knows ev (Replied reply) (Some rec)) refl
       (λ is. subst (λ (k : Knowledge). 0 < k.epoch) (sym wrote_knows) (booted_behind catalog i S.knows rec can.follows (J.booted up)))
 
   -- it met a fault

@@ -24,6 +24,7 @@ use Rattle.walter_trail.specs.Knowledge.{recorded}
 use Rattle.walter_trail.specs.Rule.{Expected, rule}
 use Rattle.walter_trail.specs.Standing.{Standing, Came, stands_after}
 use Rattle.walter_trail.specs.Trails.{Comes, FitsIn, TakesMemory, as_ruled, need_of, left_behind, only}
+use Rattle.walter_trail.proofs.Replayed.{lost_after}
 use Rattle.walter_engine.specs.declared.answers.Restarted.{Restarted}
 use Rattle.walter_engine.specs.declared.answers.Restarted.TheVariants as restarted
 use Rattle.walter_engine.specs.declared.engine.State.{State}
@@ -33,7 +34,6 @@ use Rattle.walter_engine.specs.declared.restarting.Raised.{Raised}
 use Rattle.walter_engine.specs.Contents.{AreJournaled, CanBeJournaled}
 use Rattle.walter_engine.specs.Engines.{IsResting}
 use Rattle.walter_engine.specs.Raises.{Boots, IsDown, IsCounted}
-use Rattle.walter_engine.proofs.Replays.{lost_recorded}
 use Rattle.walter_engine.proofs.Resting.{SizeIs, CountsNow, rests_under, rests_failed}
 use Rattle.walter_engine.proofs.Room.{need_is, left_is, fits, much}
 use Rattle.walter_engine.proofs.Standings.{journaled_more, journaled_same}
@@ -119,7 +119,7 @@ module _ {D : Type 0} {g : Ghosts D} (catalog : Catalog) (i : SiteId) (S : Stand
           settled = refl;
           stands = subst (λ bodies. StandsFor new bodies) (sym (map-append record_spelled S.records (Boot epoch ∷ []))) (appends.behind (map record_spelled S.records) stands);
         };
-        journaled = journaled_more catalog i S T (Boot epoch) all can refl (lost_recorded i S.knows Restart Taken (Some (Boot epoch))) refl (λ up. omega (arith, next));
+        journaled = journaled_more catalog i S T (Boot epoch) all can refl (lost_after i S.knows Restart Taken (Some (Boot epoch))) refl (λ up. omega (arith, next));
         counted = record { count = omega (arith, is_count, counted.count, length-append S.records (Boot epoch ∷ [])); flight = refl };
         refused = λ k why is. cc;
       })

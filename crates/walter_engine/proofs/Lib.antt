@@ -8,7 +8,6 @@ pub mod Loads
 pub mod Moving
 pub mod Plain
 pub mod Raising
-pub mod Replays
 pub mod Resting
 pub mod Room
 pub mod Staging

@@ -20,6 +20,7 @@ use Rattle.walter_trail.specs.declared.trail.Outcome.TheVariants.{Failed}
 use Rattle.walter_trail.specs.declared.trail.TrailEvent.TheVariants.{Restart}
 use Rattle.walter_trail.specs.Standing.{Standing, settled, stands_after}
 use Rattle.walter_trail.specs.Trails.{Comes, only}
+use Rattle.walter_trail.proofs.Replayed.{follows_lost}
 use Rattle.walter_engine.specs.declared.answers.RefusedRestart.{RefusedRestart}
 use Rattle.walter_engine.specs.declared.answers.RefusedRestart.TheVariants as refused
 use Rattle.walter_engine.specs.declared.engine.Engine.{Engine}
@@ -35,7 +36,6 @@ use Rattle.walter_engine.specs.States.{disk_of_state, disk_under, is_up_in, IsOf
 use Rattle.walter_engine.specs.Steps.{came_of_restart, kept_of, IsRefusedOver, IsRefusedFor, IfRefused}
 use Rattle.walter_engine.proofs.Boots.{boots_no_memory}
 use Rattle.walter_engine.proofs.Raising.{refused_so}
-use Rattle.walter_engine.proofs.Replays.{follows_lost}
 use Rattle.walter_engine.proofs.Resting.{SizeIs, CountsNow, rests_on}
 use Rattle.walter_engine.proofs.Standings.{journaled_same}
 

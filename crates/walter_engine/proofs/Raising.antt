@@ -5,7 +5,7 @@ use Rattle.std.proofs.lemmas.List.{length-append, length-map}
 use Rattle.std.proofs.lemmas.List.Elements.{All-push}
 use Rattle.walter_base.specs.declared.catalog.Catalog.{Catalog}
 use Rattle.walter_base.specs.declared.message.Record.{Record}
-use Rattle.walter_base.specs.declared.message.Record.TheVariants.{Boot, Own}
+use Rattle.walter_base.specs.declared.message.Record.TheVariants.{Boot}
 use Rattle.walter_base.specs.declared.names.SiteId.{SiteId}
 use Rattle.walter_disk.specs.declared.disk.Disk.{Ghosts}
 use Rattle.walter_disk.specs.Images.{LeavesOnly}
@@ -15,7 +15,7 @@ use Rattle.walter_journal.specs.Layout.{HasContent, IsBeforeOrBehind}
 use Rattle.walter_journal.proofs.Moments.{weaker}
 use Rattle.walter_record.specs.Spelling.{record_spelled, HasRecordSpelling}
 use Rattle.walter_trail.specs.declared.trail.TrailEvent.TheVariants.{Restart}
-use Rattle.walter_trail.specs.Knowledge.{Knowledge, fresh, recorded, lost}
+use Rattle.walter_trail.specs.Knowledge.{Knowledge, fresh, recorded}
 use Rattle.walter_trail.specs.Records.{CanFollow, replayed}
 use Rattle.walter_trail.specs.Standing.{Standing, settled}
 use Rattle.walter_trail.specs.Trails.{IsFound}
@@ -35,14 +35,9 @@ use Rattle.walter_engine.specs.Steps.{Tell, IsUnreadable, IsRefusedOver, IfRefus
 use Rattle.walter_engine.proofs.Bodies.{one_list, readable, some_is}
 use Rattle.walter_engine.proofs.Boots.{boots_no_memory}
 use Rattle.walter_engine.proofs.Crashes.{found_may_have, boot_may_have, leaves_bodies, unmoved}
-use Rattle.walter_trail.proofs.Replayed.{all_follow-push, replayed-push}
-use Rattle.walter_engine.proofs.Replays.{follows_lost}
+use Rattle.walter_trail.proofs.Replayed.{all_follow-push, replayed-push, lost_recorded, follows_lost}
 use Rattle.walter_engine.proofs.Resting.{SizeIs, OnlyNow, rests_by}
 use Rattle.walter_engine.proofs.Standings.{journaled_more}
-
-lost_more : (i : SiteId) (K : Knowledge) (rec : Record) → lost (recorded i (Some rec) K) ≡ recorded i (Some rec) (lost K)
-lost_more i K (Boot epoch) = refl
-lost_more i K (Own seq tx) = refl
 
 module _ (catalog : Catalog) (i : SiteId) (S : Standing) (all : AreJournaled catalog i S) where
   -- the one in flight
@@ -86,13 +81,13 @@ module _ (catalog : Catalog) (i : SiteId) (S : Standing) (all : AreJournaled cat
   -- the record in flight is settled
   pub settled_journaled : (rec : Record) → IsDown S → S.flight ≡ Some rec → AreJournaled catalog i (settled i (Some rec) S)
   settled_journaled rec down flight =
-      journaled_more catalog i S (settled i (Some rec) S) rec all (in_flight rec flight) refl (lost_more i S.knows rec) refl (λ up. absurd (both down.down up))
+      journaled_more catalog i S (settled i (Some rec) S) rec all (in_flight rec flight) refl (lost_recorded i S.knows (Some rec)) refl (λ up. absurd (both down.down up))
     where
       both : S.up ≡ false → S.up ≡ true → ⊥
       both down up = cc
 
 pub settled_down : (i : SiteId) (S : Standing) (rec : Record) → IsDown S → IsDown (settled i (Some rec) S)
-settled_down i S rec down = record { down = down.down; rests = lost_more i S.knows rec ∙ ap (λ K. recorded i (Some rec) K) down.rests }
+settled_down i S rec down = record { down = down.down; rests = lost_recorded i S.knows (Some rec) ∙ ap (λ K. recorded i (Some rec) K) down.rests }
 
 pub settled_counted : (i : SiteId) (S : Standing) (rec : Record) (bodies : List (List ℕ)) (count : ℕ) → count ≡ length bodies → bodies ≡ map record_spelled (S.records ++ rec ∷ [])
     → IsCounted (record { records = count; in_flight = false }) (settled i (Some rec) S)

@@ -14,8 +14,7 @@ use Rattle.walter_trail.specs.Records.{CanFollow, CanAllFollow, replayed}
 use Rattle.walter_trail.specs.Rule.{Expected, rule, call_rule, if_told, down_rule}
 use Rattle.walter_trail.specs.Standing.{Standing}
 use Rattle.walter_engine.specs.Contents.{CanBeJournaled, AreJournaled}
-use Rattle.walter_trail.proofs.Replayed.{all_follow-push, replayed-push}
-use Rattle.walter_engine.proofs.Replays.{follows_lost}
+use Rattle.walter_trail.proofs.Replayed.{all_follow-push, replayed-push, follows_lost}
 
 told_none : (call : Result Request Bad) (x : Expected) → if_told call None x ≡ x
 told_none call x = refl

@@ -1,10 +1,12 @@
 -- What records tell, one by one.
-use Rattle.std.proofs.Common.{◌≡◌, ℕ, ◌+◌, List, [], ◌∷◌, ◌++◌, Some, refl, ap, ◌∙◌, subst, arith}
+use Rattle.std.proofs.Common.{◌≡◌, ℕ, ◌+◌, List, [], ◌∷◌, ◌++◌, Option, Some, None, refl, ap, ◌∙◌, subst, arith}
 use Rattle.walter_base.specs.declared.catalog.Catalog.{Catalog}
 use Rattle.walter_base.specs.declared.message.Record.{Record}
 use Rattle.walter_base.specs.declared.message.Record.TheVariants.{Boot, Own}
 use Rattle.walter_base.specs.declared.names.SiteId.{SiteId}
-use Rattle.walter_trail.specs.Knowledge.{Knowledge, recorded}
+use Rattle.walter_trail.specs.declared.trail.Outcome.{Outcome}
+use Rattle.walter_trail.specs.declared.trail.TrailEvent.{TrailEvent}
+use Rattle.walter_trail.specs.Knowledge.{Knowledge, recorded, after, lost}
 use Rattle.walter_trail.specs.Records.{CanFollow, CanAllFollow, replayed}
 use Rattle.walter_trail.specs.Rule.{next_seq}
 
@@ -30,3 +32,19 @@ follow_moved catalog i K other (Own seq tx) epoch committed follow = record {
   fast = follow.fast;
   declared = follow.declared;
 }
+
+-- what is lost is lost before a record or after it
+pub lost_recorded : (i : SiteId) (K : Knowledge) (wrote : Option Record) → lost (recorded i wrote K) ≡ recorded i wrote (lost K)
+lost_recorded i K None = refl
+lost_recorded i K (Some (Boot epoch)) = refl
+lost_recorded i K (Some (Own seq tx)) = refl
+
+-- so what is left behind an event goes by its record alone
+pub lost_after : (i : SiteId) (K : Knowledge) (event : TrailEvent) (outcome : Outcome) (wrote : Option Record) → lost (after i K event outcome wrote) ≡ recorded i wrote (lost K)
+lost_after i K event outcome None = refl
+lost_after i K event outcome (Some (Boot epoch)) = refl
+lost_after i K event outcome (Some (Own seq tx)) = refl
+
+-- whether a record can follow goes by what is left
+pub follows_lost : (catalog : Catalog) (i : SiteId) (K : Knowledge) (rec : Record) → CanFollow catalog i K rec → CanFollow catalog i (lost K) rec
+follows_lost catalog i K rec follows = follow_moved catalog i K (lost K) rec refl refl follows

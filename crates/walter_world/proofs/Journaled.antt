@@ -22,7 +22,7 @@ use Rattle.walter_trail.specs.Knowledge.{Knowledge, Session, Open, session_in, f
 use Rattle.walter_trail.specs.Records.{IsDeclared, CanFollow, CanAllFollow, replayed}
 use Rattle.walter_trail.specs.Standing.{Standing, Came, records_after, settled, goes_down, up_after, knows_after, flight_after, stands_after}
 use Rattle.walter_trail.specs.Trails.{standing, came_of, Comes, IsFound, AreRight}
-use Rattle.walter_trail.proofs.Replayed.{all_follow-push, replayed-push, follow_moved}
+use Rattle.walter_trail.proofs.Replayed.{all_follow-push, replayed-push, follow_moved, lost_recorded, lost_after}
 use Rattle.walter_world.specs.Journaled.{IsJournaled}
 use Rattle.walter_world.proofs.EndsDecided.{IsBootDue, IsCommitDue, IsDue, IsFair, comes_fair}
 use Rattle.walter_world.proofs.Given.{IsGiven, comes_given, rose, boots}
@@ -118,23 +118,14 @@ due_follows catalog i S event (Own seq tx) is due =
       declared = subst (λ (t : Tx). All (IsDeclared catalog) t.updates) (sym due.tx_is) sound.declared;
     }
 
--- what is lost is lost before a record or after it
-lost_recorded : (i : SiteId) (rec : Record) (K : Knowledge) → lost (recorded i (Some rec) K) ≡ recorded i (Some rec) (lost K)
-lost_recorded i (Boot next) K = refl
-lost_recorded i (Own seq tx) K = refl
-
-lost_after : (i : SiteId) (wrote : Option Record) (K : Knowledge) (event : TrailEvent) (outcome : Outcome)
+-- what is left behind an event, and behind a fall, goes by its record
+left_after : (i : SiteId) (wrote : Option Record) (K : Knowledge) (event : TrailEvent) (outcome : Outcome)
     → lost (knows_after event outcome (after i K event outcome wrote)) ≡ lost (recorded i wrote K)
-lost_after i wrote K event outcome = at (goes_down event outcome) ∙ at_record wrote
+left_after i wrote K event outcome = at (goes_down event outcome) ∙ lost_after i K event outcome wrote ∙ sym (lost_recorded i K wrote)
   where
     at : (down : Bool) → lost (if down then lost (after i K event outcome wrote) else after i K event outcome wrote) ≡ lost (after i K event outcome wrote)
     at true = refl
     at false = refl
-
-    at_record : (rec : Option Record) → lost (after i K event outcome rec) ≡ lost (recorded i rec K)
-    at_record None = refl
-    at_record (Some (Boot next)) = refl
-    at_record (Some (Own seq tx)) = refl
 
 -- one record more, of those that can follow
 follows_more : (catalog : Catalog) (i : SiteId) (S : Standing) (rec : Record) → IsJournaled catalog i S → CanFollow catalog i S.knows rec
@@ -147,7 +138,7 @@ follows_more catalog i S rec is follow =
 tells_more : (catalog : Catalog) (i : SiteId) (S : Standing) (rec : Record) → IsJournaled catalog i S
     → lost (recorded i (Some rec) S.knows) ≡ replayed i (fresh catalog.sites) (S.records ++ rec ∷ [])
 tells_more catalog i S rec is =
-    lost_recorded i rec S.knows ∙ (ap (recorded i (Some rec)) is.told ∙ sym (replayed-push i (fresh catalog.sites) S.records rec))
+    lost_recorded i S.knows (Some rec) ∙ (ap (recorded i (Some rec)) is.told ∙ sym (replayed-push i (fresh catalog.sites) S.records rec))
 
 -- a restart found the record in flight
 settled_grounded : (catalog : Catalog) (i : SiteId) (S : Standing) (event : TrailEvent) (kept : Option Record) → IsGrounded catalog i S
@@ -177,10 +168,10 @@ module _ (catalog : Catalog) (capacity : ℕ) (i : SiteId) (S : Standing) (event
   wrote_follows rec wrote = due_follows catalog i S event rec is (fair.due rec wrote)
 
   epoch_then : (wrote : Option Record) → came.wrote ≡ wrote → then_knows.epoch ≡ (recorded i wrote S.knows).epoch
-  epoch_then wrote are = ap (λ (K : Knowledge). K.epoch) (lost_after i came.wrote S.knows event came.outcome) ∙ ap (λ o. (recorded i o S.knows).epoch) are
+  epoch_then wrote are = ap (λ (K : Knowledge). K.epoch) (left_after i came.wrote S.knows event came.outcome) ∙ ap (λ o. (recorded i o S.knows).epoch) are
 
   committed_then : (wrote : Option Record) → came.wrote ≡ wrote → then_knows.committed ≡ (recorded i wrote S.knows).committed
-  committed_then wrote are = ap (λ (K : Knowledge). K.committed) (lost_after i came.wrote S.knows event came.outcome) ∙ ap (λ o. (recorded i o S.knows).committed) are
+  committed_then wrote are = ap (λ (K : Knowledge). K.committed) (left_after i came.wrote S.knows event came.outcome) ∙ ap (λ o. (recorded i o S.knows).committed) are
 
   booted_by : (wrote : Option Record) → came.wrote ≡ wrote → up_after event came.outcome S.up ≡ true → 0 < (recorded i wrote S.knows).epoch
   booted_by None none up = elim (rose event came.outcome S.up up) [
@@ -225,7 +216,7 @@ module _ (catalog : Catalog) (capacity : ℕ) (i : SiteId) (S : Standing) (event
     journaled = record {
       follow = follow_then came.wrote refl;
       flight = flight_then came.flight came.wrote came.outcome refl refl;
-      told = lost_after i came.wrote S.knows event came.outcome ∙ told_then came.wrote refl;
+      told = left_after i came.wrote S.knows event came.outcome ∙ told_then came.wrote refl;
     };
   }
 
