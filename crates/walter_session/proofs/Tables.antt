@@ -1,36 +1,98 @@
--- What follows where one client's session changes, and each other client keeps its own.
-use Rattle.std.proofs.Common.{◌≡◌, ℕ, ◌+◌, ◌≤◌, Bool, true, false, nat_eq, Option, Some, None, refl, ap, sym, ◌∙◌, subst, arith, option_map, is_some, Result, Ok, Err, IsOk, OnOk, if◌then◌else◌}
+-- What follows where what is kept of one client changes, and what is kept of each other stays.
+use Rattle.std.proofs.Common.{◌≡◌, ℕ, ◌+◌, ◌≤◌, Bool, true, false, cond, not, nat_eq, List, [], ◌∷◌, ◌++◌, map, Option, Some, None, refl, ap, sym, ◌∙◌, subst, arith, option_map, Result, Ok, Err, IsOk, OnOk, if◌then◌else◌}
+use Rattle.std.specs.Prelude.{slice_get}
 use Rattle.std.specs.Option.{option_map_or}
+use Rattle.std.specs.Map.{lookup}
 use Rattle.std.proofs.lemmas.Bool.{eqb-true}
-use Rattle.walter_session.specs.Sessions.{Seen, Kept, Table, kept_of, session_of, room_of, Becomes, AreSame}
+use Rattle.std.proofs.lemmas.Map.Made.{lookup-map_values}
+use Rattle.std.proofs.lemmas.Option.{slice_get-map}
+use Rattle.walter_session.specs.Sessions.{Seen, Kept, Table, room_of, AreApart, changed, without}
+use Rattle.walter_session.proofs.Lists.{lookup-changed, lookup-without}
 
-pub record Sets (old new : Table) (client : ℕ) (kept : Option Kept) : Type 0 where
-  pub at : (other : ℕ) → kept_of new other ≡ (if nat_eq client other then kept else kept_of old other)
+abbrev pub kept_of : Table → ℕ → Option Kept
+kept_of table client = lookup (nat_eq client) table.clients
 
 abbrev pub room_in : Option Kept → ℕ
 room_in kept = option_map_or (λ k. k.room) kept 0
 
-abbrev pub session_in : Option Kept → Option Seen
-session_in kept = option_map (λ k. k.session) kept
+-- what is kept, as it is seen
+abbrev pub seen_of : List (ℕ × Kept) → List (ℕ × Seen)
+seen_of clients = map (λ e. (e.0, e.1.session)) clients
+
+-- what is seen at a place
+pub seen_at : (clients : List (ℕ × Kept)) (place : ℕ) (kept : Option (ℕ × Kept)) → slice_get clients place ≡ kept → slice_get (seen_of clients) place ≡ option_map (λ e. (e.0, e.1.session)) kept
+seen_at clients place kept at = slice_get-map (λ (e : ℕ × Kept). (e.0, e.1.session)) clients place ∙ ap (option_map (λ e. (e.0, e.1.session))) at
+
+-- another session with this room
+abbrev pub moved : (Seen → Seen) → ℕ → Kept → Kept
+moved f room kept = record { session = f kept.session; room = room }
+
+pub seen-changed : (client room : ℕ) (f : Seen → Seen) (clients : List (ℕ × Kept)) → seen_of (changed client (moved f room) clients) ≡ changed client f (seen_of clients)
+seen-changed client room f [] = refl
+seen-changed client room f (e ∷ es) =
+    let rest = seen-changed client room f es in
+    elim (nat_eq client e.0) as (λ b. seen_of ((if b then (e.0, moved f room e.1) else e) ∷ changed client (moved f room) es) ≡ (if b then (e.0, f e.1.session) else (e.0, e.1.session)) ∷ changed client f (seen_of es)) [
+      | true ↦ ap (λ os. (e.0, f e.1.session) ∷ os) rest
+      | false ↦ ap (λ os. (e.0, e.1.session) ∷ os) rest
+    ]
+
+pub seen-without : (client : ℕ) (clients : List (ℕ × Kept)) → seen_of (without client clients) ≡ without client (seen_of clients)
+seen-without client [] = refl
+seen-without client (e ∷ es) =
+    let rest = seen-without client es in
+    elim (nat_eq client e.0) as (λ b. seen_of (cond (not b) (e ∷ without client es) (without client es)) ≡ cond (not b) ((e.0, e.1.session) ∷ without client (seen_of es)) (without client (seen_of es))) [
+      | true ↦ rest
+      | false ↦ ap (λ os. (e.0, e.1.session) ∷ os) rest
+    ]
+
+pub seen-apart : (clients : List (ℕ × Kept)) → AreApart clients → AreApart (seen_of clients)
+seen-apart [] apart = tt
+seen-apart (e ∷ es) apart = (lookup-map_values (λ (k : Kept). k.session) (nat_eq e.0) es ∙ ap (option_map (λ (k : Kept). k.session)) apart.0, seen-apart es apart.1)
+
+-- nothing changes where a session becomes itself
+pub changed-same : (client : ℕ) (sessions : List (ℕ × Seen)) → changed client (λ s. s) sessions ≡ sessions
+changed-same client [] = refl
+changed-same client (e ∷ es) =
+    let rest = changed-same client es in
+    elim (nat_eq client e.0) as (λ b. (if b then (e.0, e.1) else e) ∷ changed client (λ s. s) es ≡ e ∷ es) [
+      | true ↦ ap (λ os. e ∷ os) rest
+      | false ↦ ap (λ os. e ∷ os) rest
+    ]
+
+-- what is kept of the client is this now
+pub record Sets (old new : Table) (client : ℕ) (kept : Option Kept) : Type 0 where
+  pub at : (other : ℕ) → kept_of new other ≡ (if nat_eq client other then kept else kept_of old other)
+
+pub changed_sets : (old new : Table) (client : ℕ) (f : Kept → Kept) (was : Kept) → new.clients ≡ changed client f old.clients → kept_of old client ≡ Some was → Sets old new client (Some (f was))
+changed_sets old new client f was are here = record {
+  at = λ other. ap (lookup (nat_eq other)) are ∙ lookup-changed client other f old.clients
+      ∙ (elim (nat_eq client other) as (λ b. nat_eq client other ≡ b → (if b then option_map f (kept_of old other) else kept_of old other) ≡ (if b then Some (f was) else kept_of old other)) [
+        | true ↦ λ b. ap (λ c. option_map f (kept_of old c)) (sym (eqb-true client other b)) ∙ ap (option_map f) here
+        | false ↦ λ b. refl
+      ] refl);
+}
+
+pub without_sets : (old new : Table) (client : ℕ) → new.clients ≡ without client old.clients → Sets old new client None
+without_sets old new client are = record { at = λ other. ap (lookup (nat_eq other)) are ∙ lookup-without client other old.clients }
+
+-- one that starts has no room
+pub rooms_behind : (old new : Table) (client : ℕ) (kept : Kept) → new.clients ≡ old.clients ++ (client, kept) ∷ [] → kept.room ≡ 0 → (other : ℕ) → room_of new other ≡ room_of old other
+rooms_behind old new client kept are none other = ap (λ es. room_in (lookup (nat_eq other) es)) are ∙ by old.clients
+  where
+    by : (es : List (ℕ × Kept)) → room_in (lookup (nat_eq other) (es ++ (client, kept) ∷ [])) ≡ room_in (lookup (nat_eq other) es)
+    by [] = elim (nat_eq other client) as (λ b. room_in (cond b (Some kept) None) ≡ 0) [ true ↦ none | false ↦ refl ]
+    by (e ∷ es) = elim (nat_eq other e.0) as (λ b. room_in (cond b (Some e.1) (lookup (nat_eq other) (es ++ (client, kept) ∷ []))) ≡ room_in (cond b (Some e.1) (lookup (nat_eq other) es))) [
+      | true ↦ refl
+      | false ↦ by es
+    ]
 
 inside : {X : Type 0} (f : Option Kept → X) (b : Bool) (kept held : Option Kept) → f (if b then kept else held) ≡ (if b then f kept else f held)
 inside f true kept held = refl
 inside f false kept held = refl
 
 module _ (old new : Table) (client : ℕ) (kept : Option Kept) (sets : Sets old new client kept) where
-  pub becomes : (session : Option Seen) → session_in kept ≡ session → Becomes old new client session
-  becomes session is other =
-      ap session_in (sets.at other) ∙ inside session_in (nat_eq client other) kept (kept_of old other)
-      ∙ ap (λ s. if nat_eq client other then s else session_of old other) is
-
   pub rooms : (other : ℕ) → room_of new other ≡ (if nat_eq client other then room_in kept else room_of old other)
   rooms other = ap room_in (sets.at other) ∙ inside room_in (nat_eq client other) kept (kept_of old other)
-
-  pub same : session_in kept ≡ session_of old client → AreSame old new
-  same is other = becomes (session_of old client) is other ∙ (elim (nat_eq client other) as (λ b. nat_eq client other ≡ b → (if b then session_of old client else session_of old other) ≡ session_of old other) [
-    | true ↦ λ b. ap (session_of old) (eqb-true client other b)
-    | false ↦ λ b. refl
-  ] refl)
 
   pub rooms_more : room_of old client ≤ room_in kept → (other : ℕ) → room_of old other ≤ room_of new other
   rooms_more more other = subst (λ n. room_of old other ≤ n) (sym (rooms other)) (elim (nat_eq client other) as (λ b. nat_eq client other ≡ b → room_of old other ≤ (if b then room_in kept else room_of old other)) [
@@ -49,13 +111,6 @@ module _ (old new : Table) (client : ℕ) (kept : Option Kept) (sets : Sets old 
     | true ↦ λ b. is ∙ ap (room_of old) (eqb-true client other b)
     | false ↦ λ b. omega arith
   ] refl)
-
-pub from_view : (table old new : Table) {client : ℕ} {kept : Option Kept} → table ≡ old → Sets table new client kept → Sets old new client kept
-from_view table old new {client} {kept} is sets = subst (λ t. Sets t new client kept) is sets
-
-pub none_of : {X : Type 0} (o : Option X) → is_some o ≡ false → o ≡ None
-none_of None is = refl
-none_of (Some x) is = absurd (cc)
 
 pub from_ok : {T E : Type 0} (r : Result T E) (P : Type 0) → IsOk r → OnOk r P → P
 from_ok (Ok x) P is p = p

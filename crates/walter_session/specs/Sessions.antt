@@ -1,6 +1,6 @@
--- Sessions by the numbers of their clients.
-use Rattle.std.specs.Prelude.{◌≡◌, ◌<◌, ◌≤◌, ◌-◌, ◌++◌, ℕ, nat_eq, min, List, [], ◌∷◌, map, length, Option, Some, None, IsSome, option_map, vec_len, vec_capacity, if◌then◌else◌}
-use Rattle.std.specs.Option.{option_map_or, option_flatten}
+-- Sessions with the numbers of their clients, in the order of their starts.
+use Rattle.std.specs.Prelude.{◌≡◌, ◌<◌, ◌≤◌, ◌-◌, ◌++◌, ℕ, nat_eq, min, not, List, [], ◌∷◌, map, filter, filter_map, length, All, Option, Some, None, IsSome, option_map, vec_len, vec_capacity, if◌then◌else◌}
+use Rattle.std.specs.Option.{option_map_or}
 use Rattle.std.specs.Map.{lookup}
 use Rattle.slab.specs.Slab.{Slab, get, slab_len}
 use Rattle.walter_base.specs.declared.names.Tid.{Tid}
@@ -27,29 +27,41 @@ pub record Kept : Type 0 where
   pub session : Seen
   pub room : ℕ
 
--- what is kept of each client, and how many more sessions can start without memory
+-- what is kept of each client that has a session, in the order of the starts, and how many more sessions can start
+-- without memory
 pub record Table : Type 0 where
-  pub clients : List (ℕ × Option Kept)
+  pub clients : List (ℕ × Kept)
   pub starts : ℕ
 
-abbrev pub kept_of : Table → ℕ → Option Kept
-kept_of table client = option_flatten (lookup (nat_eq client) table.clients)
+-- the sessions with their clients, in the order of their starts
+abbrev pub sessions_of : Table → List (ℕ × Seen)
+sessions_of table = map (λ e. (e.0, e.1.session)) table.clients
 
 -- the session of a client, if it has one
 abbrev pub session_of : Table → ℕ → Option Seen
-session_of table client = option_map (λ kept. kept.session) (kept_of table client)
+session_of table client = lookup (nat_eq client) (sessions_of table)
 
 -- how many updates can be added to the client's session without memory; 0 where it has none
 abbrev pub room_of : Table → ℕ → ℕ
-room_of table client = option_map_or (λ kept. kept.room) (kept_of table client) 0
-
--- how many sessions there are
-abbrev pub count_of : Table → ℕ
-count_of table = length table.clients
+room_of table client = option_map_or (λ kept. kept.room) (lookup (nat_eq client) table.clients) 0
 
 -- one more session can start without memory
 abbrev pub CanStart : Table → Type 0
 CanStart table = 0 < table.starts
+
+module _ {X : Type 0} where
+  -- no two are of one client
+  abbrev pub AreApart : List (ℕ × X) → Type 0
+  AreApart [] = Unit {0}
+  AreApart (e ∷ es) = (lookup (nat_eq e.0) es ≡ None) × AreApart es
+
+  -- what is of the client changes, and what is of others stays
+  abbrev pub changed : ℕ → (X → X) → List (ℕ × X) → List (ℕ × X)
+  changed client f es = map (λ e. if nat_eq client e.0 then (e.0, f e.1) else e) es
+
+  -- without what is of the client
+  abbrev pub without : ℕ → List (ℕ × X) → List (ℕ × X)
+  without client es = filter (λ e. not (nat_eq client e.0)) es
 
 -- a session as it starts
 abbrev pub started : Tid → List ℕ → Seen
@@ -61,32 +73,29 @@ with_update update s = record s { updates = s.updates ++ update ∷ [] }
 abbrev pub with_stage : Stage → Seen → Seen
 with_stage stage s = record s { stage = stage }
 
--- this is the client's session now, and each other client has what it had
-abbrev pub Becomes : Table → Table → ℕ → Option Seen → Type 0
-Becomes old new client session = (other : ℕ) → session_of new other ≡ (if nat_eq client other then session else session_of old other)
-
--- each client has what it had
-abbrev pub AreSame : Table → Table → Type 0
-AreSame old new = (client : ℕ) → session_of new client ≡ session_of old client
-
 -- why no session starts: the client has one; else there are as many as there may be; else there is no memory
 abbrev pub IsStartFault : Table → ℕ → StartFault → Type 0
 IsStartFault table client TxOpen = IsSome (session_of table client)
-IsStartFault table client SessionsFull = (session_of table client ≡ None) × (256 ≤ count_of table)
-IsStartFault table client NoMemory = (session_of table client ≡ None) × (count_of table < 256) × ¬ CanStart table
+IsStartFault table client SessionsFull = (session_of table client ≡ None) × (256 ≤ length (sessions_of table))
+IsStartFault table client NoMemory = (session_of table client ≡ None) × (length (sessions_of table) < 256) × ¬ CanStart table
 
 -- what a slot keeps
 abbrev pub kept_in : Slot → Kept
 kept_in slot = record { session = seen slot.session; room = vec_capacity slot.session.updates - vec_len slot.session.updates }
 
 -- what the slots keep of each client, by the key of its slot
-abbrev pub clients_in : Slab Slot → List (ℕ × ℕ) → List (ℕ × Option Kept)
-clients_in slots keys = map (λ e. (e.0, option_map kept_in (get slots e.1))) keys
+abbrev pub clients_in : Slab Slot → List (ℕ × ℕ) → List (ℕ × Kept)
+clients_in slots keys = filter_map (λ e. option_map (λ slot. (e.0, kept_in slot)) (get slots e.1)) keys
 
 -- how many more slots there is room for, where so many more keys fit
 abbrev pub starts_in : Slab Slot → ℕ → ℕ
 starts_in slots keys = min (slots.capacity - slab_len slots) keys
 
--- the key of each client is that of a slot of this client
-abbrev pub AreLinked : List (ℕ × ℕ) → Slab Slot → Type 0
-AreLinked keys slots = (client key : ℕ) → lookup (nat_eq client) keys ≡ Some key → (slot : Slot) × (get slots key ≡ Some slot) × (slot.client ≡ client)
+-- the key is that of a slot of this client
+abbrev pub IsKeyOf : Slab Slot → ℕ × ℕ → Type 0
+IsKeyOf slots e = (slot : Slot) × (get slots e.1 ≡ Some slot) × (slot.client ≡ e.0)
+
+-- the key of each client is that of a slot of this client, and each client has one key at most
+pub record AreLinked (keys : List (ℕ × ℕ)) (slots : Slab Slot) : Type 0 where
+  pub each : All (IsKeyOf slots) keys
+  pub apart : AreApart keys

@@ -1,6 +1,8 @@
-ghost use Rattle.std.specs.Prelude.{◌≡◌, ◌<◌, ◌≤◌, ◌+◌, ℕ, nat_eq, None, Some, IsSome, IsOk, OnOk, OnErr, IfErr, is_some, option_map, if◌then◌else◌};
-ghost use Rattle.std.specs.Option.{option_copied};
-ghost use Rattle.walter_session.specs.Sessions.{seen, session_of, room_of, count_of, CanStart, started, with_update, with_stage, Becomes, AreSame, IsStartFault};
+ghost use Rattle.std.specs.Prelude.{◌≡◌, ◌<◌, ◌≤◌, ◌+◌, ◌++◌, ◌∷◌, ◌↔◌, [], ℕ, nat_eq, length, slice_get, false, None, IsSome, IsOk, IsTrue, OnOk, OnErr, IfErr, option_map, if◌then◌else◌};
+ghost use Rattle.std.specs.List.{list_any};
+ghost use Rattle.std.specs.Option.{option_copied, option_map_or};
+ghost use Rattle.walter_base.specs.Names.{same_tid};
+ghost use Rattle.walter_session.specs.Sessions.{seen, sessions_of, session_of, room_of, CanStart, AreApart, started, changed, without, with_update, with_stage, IsStartFault};
 
 use crate::session::{Session, Stage, StartFault};
 use crate::slot::Slot;
@@ -13,8 +15,8 @@ use walter_base::{Mem, Tid, Update, Vts};
 /// How many sessions there may be.
 pub const MOST_SESSIONS: usize = 256;
 
-/// The sessions of clients. Contracts see what is kept of each client, and read it by `session_of`, `room_of` and
-/// `count_of`.
+/// The sessions of clients, in the order of their starts. Contracts see what is kept of each client, and read it by
+/// `sessions_of`, `session_of` and `room_of`.
 #[derive(Drop)]
 pub struct Sessions {
     alloc: Global,
@@ -23,7 +25,6 @@ pub struct Sessions {
 }
 
 impl Model for Sessions {
-    ghost use Rattle.std.specs.Prelude.{ℕ};
     ghost use Rattle.indexmap.specs.IndexMap.{spare};
     ghost use Rattle.walter_session.specs.Sessions.{Table, clients_in, starts_in, AreLinked};
 
@@ -37,8 +38,7 @@ impl Model for Sessions {
 impl Sessions {
     /// No client has a session.
     pub fn new(alloc: Global) -> Sessions
-        ensures sessions { (client : ℕ) → session_of result client ≡ None }
-        ensures count { count_of result ≡ 0 }
+        ensures { sessions_of result ≡ [] }
     {
         Sessions {
             alloc,
@@ -47,12 +47,19 @@ impl Sessions {
         }
     }
 
+    /// Whether there are as many sessions as there may be. No two of them are of one client.
+    pub fn is_full(&self) -> bool
+        ensures full { IsTrue result ↔ (256 ≤ length (sessions_of self.now)) }
+        ensures apart { AreApart (sessions_of self.now) }
+    {
+        self.keys.len() >= MOST_SESSIONS
+    }
+
     /// Makes room for one more session.
     pub fn reserve_start(&mut self) -> Mem<()>
         ensures enough { OnOk result (CanStart self.new) }
         ensures had { CanStart self.old → IsOk result }
-        ensures sessions { AreSame self.old self.new }
-        ensures count { count_of self.new ≡ count_of self.old }
+        ensures sessions { sessions_of self.new ≡ sessions_of self.old }
         ensures room { (client : ℕ) → room_of self.new client ≡ room_of self.old client }
         ensures starts { CanStart self.old → CanStart self.new }
     {
@@ -61,20 +68,18 @@ impl Sessions {
         Ok(())
     }
 
-    /// Starts a session of stage Open for a client, without updates.
+    /// Starts a session of stage Open for a client, without updates, behind the others.
     pub fn start(&mut self, client: u32, tid: Tid, snapshot: Vts) -> Result<(), StartFault>
-        ensures started { OnOk result (Becomes self.old self.new client (Some (started tid snapshot))) }
-        ensures count { OnOk result (count_of self.new ≡ count_of self.old + 1) }
-        ensures free { OnOk result ((session_of self.old client ≡ None) × (count_of self.old < 256)) }
+        ensures started { OnOk result (sessions_of self.new ≡ sessions_of self.old ++ (client, started tid snapshot) ∷ []) }
+        ensures free { OnOk result ((session_of self.old client ≡ None) × (length (sessions_of self.old) < 256)) }
         ensures fault { IfErr result (IsStartFault self.old client) }
-        ensures same { OnErr result (AreSame self.old self.new) }
-        ensures same_count { OnErr result (count_of self.new ≡ count_of self.old) }
+        ensures same { OnErr result (sessions_of self.new ≡ sessions_of self.old) }
         ensures room { (other : ℕ) → room_of self.new other ≡ room_of self.old other }
     {
         if self.keys.contains_key(&client) {
             return Err(StartFault::TxOpen);
         }
-        if self.keys.len() >= MOST_SESSIONS {
+        if self.is_full() {
             return Err(StartFault::SessionsFull);
         }
         let Ok(()) = self.reserve_start() else {
@@ -88,8 +93,7 @@ impl Sessions {
     fn put(&mut self, client: u32, tid: Tid, snapshot: Vts)
         requires none { session_of self.old client ≡ None }
         requires room { CanStart self.old }
-        ensures started { Becomes self.old self.new client (Some (started tid snapshot)) }
-        ensures count { count_of self.new ≡ count_of self.old + 1 }
+        ensures started { sessions_of self.new ≡ sessions_of self.old ++ (client, started tid snapshot) ∷ [] }
         ensures room { (other : ℕ) → room_of self.new other ≡ room_of self.old other }
     {
         let session = Session {
@@ -106,8 +110,7 @@ impl Sessions {
     pub fn reserve_update(&mut self, client: u32) -> Mem<()>
         ensures enough { OnOk result (IsSome (session_of self.old client) → 0 < room_of self.new client) }
         ensures had { 0 < room_of self.old client → IsOk result }
-        ensures sessions { AreSame self.old self.new }
-        ensures count { count_of self.new ≡ count_of self.old }
+        ensures sessions { sessions_of self.new ≡ sessions_of self.old }
         ensures room { (other : ℕ) → room_of self.old other ≤ room_of self.new other }
         ensures starts { CanStart self.old → CanStart self.new }
     {
@@ -123,10 +126,9 @@ impl Sessions {
     /// Puts an update behind the others of the client's session.
     pub fn add(&mut self, client: u32, update: Update) -> Mem<()>
         requires { IsSome (session_of self.old client) }
-        ensures added { OnOk result (Becomes self.old self.new client (option_map (with_update update) (session_of self.old client))) }
-        ensures same { OnErr result (AreSame self.old self.new) }
+        ensures added { OnOk result (sessions_of self.new ≡ changed client (with_update update) (sessions_of self.old)) }
+        ensures same { OnErr result (sessions_of self.new ≡ sessions_of self.old) }
         ensures had { 0 < room_of self.old client → IsOk result }
-        ensures count { count_of self.new ≡ count_of self.old }
         ensures room { (other : ℕ) → room_of self.old other ≤ room_of self.new other + (if nat_eq client other then 1 else 0) }
         ensures starts { CanStart self.old → CanStart self.new }
     {
@@ -138,8 +140,7 @@ impl Sessions {
     /// Puts an update behind the others of the client's session, without taking memory.
     fn push(&mut self, client: u32, update: Update)
         requires { 0 < room_of self.old client }
-        ensures added { Becomes self.old self.new client (option_map (with_update update) (session_of self.old client)) }
-        ensures count { count_of self.new ≡ count_of self.old }
+        ensures added { sessions_of self.new ≡ changed client (with_update update) (sessions_of self.old) }
         ensures room { (other : ℕ) → room_of self.new other + (if nat_eq client other then 1 else 0) ≡ room_of self.old other }
         ensures starts { CanStart self.old → CanStart self.new }
     {
@@ -155,8 +156,7 @@ impl Sessions {
     /// The stage of the client's session becomes this one.
     pub fn set_stage(&mut self, client: u32, stage: Stage)
         requires { IsSome (session_of self.old client) }
-        ensures stage { Becomes self.old self.new client (option_map (with_stage stage) (session_of self.old client)) }
-        ensures count { count_of self.new ≡ count_of self.old }
+        ensures stage { sessions_of self.new ≡ changed client (with_stage stage) (sessions_of self.old) }
         ensures room { (other : ℕ) → room_of self.new other ≡ room_of self.old other }
         ensures starts { CanStart self.old → CanStart self.new }
     {
@@ -180,14 +180,39 @@ impl Sessions {
         Some(&slot.session)
     }
 
-    /// Ends the session of a client, where it has one.
+    /// Whether some client's session is of the transaction.
+    pub fn has(&self, tid: Tid) -> bool
+        ensures { result ≡ list_any (λ s. same_tid tid s.1.tid) (sessions_of self.now) }
+    {
+        for place in 0..self.keys.len() {
+            if self.is_at(place, tid) {
+                return true;
+            }
+        }
+        false
+    }
+
+    /// Whether the session that started at this place in their order is of the transaction.
+    fn is_at(&self, place: usize, tid: Tid) -> bool
+        ensures { result ≡ option_map_or (λ s. same_tid tid s.1.tid) (slice_get (sessions_of self.now) place) false }
+    {
+        let Some((_, key)) = self.keys.get_index(place) else {
+            return false;
+        };
+        match self.slots.get(*key) {
+            Some(slot) => tid == slot.session.tid,
+            None => false,
+        }
+    }
+
+    /// Ends the session of a client, where it has one. The order of the others stays.
     pub fn end(&mut self, client: u32)
-        ensures sessions { Becomes self.old self.new client None }
-        ensures count { count_of self.new + (if is_some (session_of self.old client) then 1 else 0) ≡ count_of self.old }
+        ensures sessions { sessions_of self.new ≡ without client (sessions_of self.old) }
         ensures room { (other : ℕ) → room_of self.new other ≡ (if nat_eq client other then 0 else room_of self.old other) }
         ensures starts { CanStart self.old → CanStart self.new }
     {
-        let Some(key) = self.keys.swap_remove(&client) else {
+        // There are 256 keys at most to be shifted.
+        let Some(key) = self.keys.shift_remove(&client) else {
             return;
         };
         self.slots.try_remove(key);

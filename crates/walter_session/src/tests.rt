@@ -33,9 +33,11 @@ fn a_client_has_one_session_at_most(rt: HostRuntime) -> Result<(), Fail> {
     assert!(rt; sessions.get(7).is_none());
     assert_eq!(rt; number_of(sessions.get(9)), Some(2));
     sessions.end(7);
+    assert!(rt; !sessions.has(tid(1)));
     sessions.start(7, tid(3), Vts::zero(1))?;
     assert_eq!(rt; number_of(sessions.get(7)), Some(3));
     assert_eq!(rt; number_of(sessions.get(9)), Some(2));
+    assert!(rt; sessions.has(tid(2)) && sessions.has(tid(3)));
     Ok(())
 }
 
@@ -74,6 +76,7 @@ fn one_session_too_many_is_refused(rt: HostRuntime) -> Result<(), Fail> {
     for client in 0..MOST_SESSIONS as u32 {
         sessions.start(client, tid(1), Vts::zero(1))?;
     }
+    assert!(rt; sessions.is_full());
     let more = sessions.start(256, tid(1), Vts::zero(1));
     assert_eq!(rt; more, Err(StartFault::SessionsFull));
     sessions.end(3);

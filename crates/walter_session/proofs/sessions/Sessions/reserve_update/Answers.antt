@@ -1,35 +1,51 @@
-use Rattle.std.proofs.Common.{◌<◌, ◌≤◌, ◌∙◌, Some, is_some, refl, ap, sym, subst, arith}
+use Rattle.std.proofs.Common.{◌≤◌, ◌<◌, ◌∙◌, is_some, ap, sym, subst, refl}
 use Rattle.std.proofs.lemmas.Bool.{eq-eqb}
 use Rattle.std.proofs.lemmas.Grind.{common_steps}
-use Rattle.walter_session.specs.Sessions.{kept_of, kept_in}
-use Rattle.walter_session.proofs.Tables.{session_in, room_in, given_ok, from_view, same, rooms_more}
-use Rattle.walter_session.proofs.Links.{kept_is, nothing_kept, write_sets, write_linked}
+use Rattle.std.proofs.Common.{arith, if◌then◌else◌}
+use Rattle.slab.specs.Slab.{with_value}
+use Rattle.walter_session.specs.Sessions.{Table, Seen, room_of, session_of, sessions_of, kept_in}
+use Rattle.walter_session.proofs.Tables.{room_in, moved, seen_of, seen-changed, changed-same, changed_sets, rooms, rooms_more, given_ok}
+use Rattle.walter_session.proofs.Links.{table_in, never_vacant, found, lent_linked, lent_clients, lent_kept}
 use Rattle.walter_session.proofs.sessions.Sessions.reserve_update.Goals as goal
 
 pub invariant_of-self-2 : goal.invariant_of-self-2
 invariant_of-self-2 c =
-    write_linked c.self.inside.slots c.self.inside.keys.entries c.args.client c.in-Some.key c.in-Some-get_mut.slot.now c.make_room.new.self c.self.invariant
+    lent_linked c.self.inside.slots c.self.inside.keys.entries c.args.client c.in-Some.key c.in-Some-get_mut.slot.now c.make_room.new.self c.self.invariant
     (sym c.get.ensures.value ∙ sym c.copied.ensures ∙ c.in-Some.is) (sym c.in-Some-get_mut.ensures.value) c.make_room.ensures.client
 
 pub returns-in_default-clause-enough : goal.returns-in_default-clause-enough
 returns-in_default-clause-enough c is =
-    let none = ap (λ table. kept_of table c.args.client) (sym c.self.view_is) ∙ nothing_kept c.self.inside.slots c.self.inside.keys.entries 0 c.args.client (sym c.get.ensures.value ∙ sym c.copied.ensures ∙ c.in_default.is) in
-    absurd (cc (ap (λ k. is_some (session_in k)) none, is))
+    let none = ap (λ table. is_some (session_of table c.args.client)) (sym c.self.view_is)
+    ∙ found c.self.inside.slots c.self.inside.keys.entries 0 c.args.client c.self.invariant.each ∙ ap is_some (sym c.get.ensures.value ∙ sym c.copied.ensures ∙ c.in_default.is) in
+    absurd (cc (none, is))
+
+pub returns-in_default-get_mut : goal.returns-in_default-get_mut
+returns-in_default-get_mut c =
+    let at = sym c.get.ensures.value ∙ sym c.copied.ensures ∙ c.in-Some.is in
+    absurd (never_vacant c.self.inside.slots c.self.inside.keys.entries c.args.client c.in-Some.key c.self.invariant.each at (sym c.in_default-get_mut.ensures.value))
 
 pub returns : goal.returns
 returns c =
-    let slot = c.in-Some-get_mut.slot.now in
+    let same = λ (s : Seen). s in
+    let slots = c.self.inside.slots in
     let entries = c.self.inside.keys.entries in
+    let client = c.args.client in
+    let key = c.in-Some.key in
+    let was = c.in-Some-get_mut.slot.now in
+    let now = c.make_room.new.self in
+    let before = c.args.self.now in
+    let view = ap (λ (t : Table). t.clients) c.self.view_is in
     let at = sym c.get.ensures.value ∙ sym c.copied.ensures ∙ c.in-Some.is in
     let here = sym c.in-Some-get_mut.ensures.value in
-    let kept = ap (λ table. kept_of table c.args.client) (sym c.self.view_is) ∙ kept_is c.self.inside.slots entries 0 c.args.client c.in-Some.key slot at here in
-    let sets = from_view _ _ _ c.self.view_is (write_sets c.self.inside.slots entries c.args.client c.in-Some.key slot c.make_room.new.self c.self.invariant at here c.make_room.ensures.client _ 0) in
-    let now = ap room_in (sets.at c.args.client) ∙ rw (eq-eqb c.args.client c.args.client refl) refl in
+    let kept = lent_kept slots entries client key was now c.self.invariant at here before view in
+    let wrote = lent_clients slots entries client key was now c.self.invariant at here before view same c.make_room.ensures.session in
+    let sets = changed_sets before (table_in (with_value slots key now) entries 0) client (moved same (kept_in now).room) (kept_in was) wrote kept in
+    let seen = ap seen_of wrote ∙ seen-changed client (kept_in now).room same before.clients in
+    let more = c.make_room.ensures.more in
     record {
-      enough = given_ok c.make_room.result _ _ (λ enough is. subst (λ n. 0 < n) (sym now) enough) c.make_room.ensures.enough;
+      enough = given_ok c.make_room.result _ _ (λ enough is. subst (λ n. 0 < n) (sym (rooms before _ client _ sets client ∙ ap (λ b. if b then (kept_in now).room else room_of before client) (eq-eqb client client refl))) enough) c.make_room.ensures.enough;
       had = λ room. c.make_room.ensures.had (subst (λ n. 0 < n) (ap room_in kept) room);
-      sessions = same _ _ c.args.client _ sets (ap (λ s. Some s) c.make_room.ensures.session ∙ sym (ap session_in kept));
-      count = grind (arith, common_steps);
-      room = rooms_more _ _ c.args.client _ sets (subst (λ n. n ≤ (kept_in c.make_room.new.self).room) (sym (ap room_in kept)) c.make_room.ensures.more);
+      sessions = seen ∙ changed-same client (sessions_of before);
+      room = rooms_more before _ client _ sets (subst (λ n. n ≤ (kept_in now).room) (sym (ap room_in kept)) more);
       starts = grind (arith, common_steps);
     }
