@@ -1,5 +1,5 @@
 pub mod Changes
 pub mod HeldRows
-pub mod Places
+pub mod Opens
 pub mod ReadRows
 pub mod Ruled

@@ -1,5 +1,6 @@
 -- What the rule for a call brings, where all open transactions are right and all values held are short.
 use Rattle.std.proofs.Common.{◌≡◌, ℕ, ◌<◌, ◌≤◌, Bool, true, false, not, ◌&&◌, nat_lt, nat_le, List, [], ◌∷◌, ◌++◌, length, All, filter, flat_map, Option, Some, None, IfSome, Result, Ok, Err, option_map, refl, ap, sym, ◌∙◌, subst, arith, if◌then◌else◌, ℤ}
+use Rattle.std.specs.Prelude.{IsSomeAnd}
 use Rattle.std.specs.FinMap.{get}
 use Rattle.std.proofs.lemmas.Bool.Decides.{nat_tests}
 use Rattle.std.proofs.lemmas.List.{length-append}
@@ -58,11 +59,11 @@ short_read K s held own =
     All-append HasShortValue (flat_map (λ h. h.tx.updates) (filter (sees s.snapshot) K.held)) s.updates
     (short_held (filter (sees s.snapshot) K.held) (All-filter (sees s.snapshot) HasShortValues K.held held)) own
 
--- what is asked of an outcome: a value in it is short; a transaction that starts has the next name, and its client has
--- none; one that takes an update may be open with it
+-- what is asked of an outcome: a value in it is short; a transaction that starts has the next name, its client has none,
+-- and there are fewer than 256; one that takes an update is open, and may be open with it
 abbrev pub IsFair : Catalog → SiteId → Knowledge → Result Request BadFrame → Option Session → Outcome → Type 0
-IsFair catalog i K call session (Replied (Started tid)) = (session ≡ None) × (tid ≡ next_tid i K)
-IsFair catalog i K call session (Replied Done) = IfSome session (λ s. IsOpenAt catalog i (updated call s))
+IsFair catalog i K call session (Replied (Started tid)) = (session ≡ None) × (tid ≡ next_tid i K) × (length K.sessions < 256)
+IsFair catalog i K call session (Replied Done) = IsSomeAnd session (λ s. IsOpenAt catalog i (updated call s))
 IsFair catalog i K call session (Replied reply) = IsShortReply reply
 IsFair catalog i K call session outcome = Unit {0}
 
@@ -138,10 +139,10 @@ fair_shown P counts shown wide =
 
 fair_start : (catalog : Catalog) (i : SiteId) (K : Knowledge) → IsFair catalog i K (Ok Start) None (starts_new i K).outcome
 fair_start catalog i K =
-    elim (nat_lt (length K.sessions) 256) as (λ b. IsFair catalog i K (Ok Start) None (if b then answers (Started (next_tid i K)) else refuses SessionsFull).outcome) [
-      | true ↦ (refl, refl)
-      | false ↦ tt
-    ]
+    elim (nat_lt (length K.sessions) 256) as (λ b. nat_lt (length K.sessions) 256 ≡ b → IsFair catalog i K (Ok Start) None (if b then answers (Started (next_tid i K)) else refuses SessionsFull).outcome) [
+      | true ↦ λ few. (refl, refl, grind (arith, nat_tests, few))
+      | false ↦ λ full. tt
+    ] refl
 
 fair_decided : (catalog : Catalog) (i : SiteId) (K : Knowledge) (s : Session) (conflict : Option (ObjId × Version)) → IsFair catalog i K (Ok Commit) (Some s) (decides i K s conflict).outcome
 fair_decided catalog i K s None = tt

@@ -1,42 +1,30 @@
--- The open transactions of a site, as sessions, and what holds of them and of what is held.
-use Rattle.std.specs.Prelude.{◌≡◌, ◌<◌, ◌≢◌, ℕ, zero, suc, nat_eq, List, [], ◌∷◌, map, length, All, Option, Some, None, is_some, false, vec_len, vec_capacity, if◌then◌else◌}
+-- The open transactions of a site, and what holds of them and of what is held.
+use Rattle.std.specs.Prelude.{◌≡◌, ℕ, List, [], ◌∷◌, map, length, All, Option, Some, None, is_some, false}
 use Rattle.walter_base.specs.declared.catalog.Catalog.{Catalog}
 use Rattle.walter_base.specs.declared.names.SiteId.{SiteId}
 use Rattle.walter_base.specs.declared.update.Update.{Update}
 use Rattle.walter_base.specs.Sizes.{HasShortValue, AreSmall}
-use Rattle.walter_site.specs.declared.transaction.Transaction.{Transaction}
+use Rattle.walter_session.specs.declared.session.Session.{Session as Kept}
+use Rattle.walter_session.specs.Sessions.{Seen, Table, seen, sessions_of}
 use Rattle.walter_trail.specs.declared.held.Held.{Held}
 use Rattle.walter_trail.specs.Knowledge.{Open, Session, session_in, with_update}
 use Rattle.walter_trail.specs.Records.{IsDeclared}
 
-abbrev pub as_session : Transaction → Session
-as_session t = record { tid = t.tid; snapshot = t.snapshot; updates = t.updates.items }
+-- an open transaction as a trail knows it
+abbrev pub as_known : Seen → Session
+as_known s = record { tid = s.tid; snapshot = s.snapshot; updates = s.updates }
 
-abbrev pub as_open : Transaction → Open
-as_open t = (t.client, as_session t)
+abbrev pub as_session : Kept → Session
+as_session s = as_known (seen s)
 
-abbrev pub sessions_of : List Transaction → List Open
-sessions_of ts = map as_open ts
+-- the open transactions with their clients, in the order of their starts
+abbrev pub opens_of : Table → List Open
+opens_of table = map (λ s. (s.0, as_known s.1)) (sessions_of table)
 
 -- the session with the update, if there is one
 abbrev pub with_any : Option Update → Session → Session
 with_any None s = s
 with_any (Some update) s = with_update update s
-
--- the first transaction of a client among these
-abbrev pub first_of : ℕ → List Transaction → Option Transaction
-first_of client [] = None
-first_of client (t ∷ ts) = if nat_eq client t.client then Some t else first_of client ts
-
--- the first transaction of the client stands at this place
-abbrev pub IsPlaceOf : ℕ → List Transaction → ℕ → Type 0
-IsPlaceOf client [] place = ⊥
-IsPlaceOf client (t ∷ ts) zero = t.client ≡ client
-IsPlaceOf client (t ∷ ts) (suc place) = (t.client ≢ client) × IsPlaceOf client ts place
-
--- the transaction can take an update without memory
-abbrev pub CanTake : Transaction → Type 0
-CanTake t = vec_len t.updates < vec_capacity t.updates
 
 -- a transaction that was started here: its snapshot has a number for each site, and its updates could be committed
 pub record IsOpenAt (catalog : Catalog) (i : SiteId) (s : Session) : Type 0 where

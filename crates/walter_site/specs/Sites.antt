@@ -1,5 +1,5 @@
 -- What the fields of a site amount to, and what a plan asks of them.
-use Rattle.std.specs.Prelude.{◌≡◌, ◌<◌, ℕ, All, Option, Some, None, IfSome, Result, vec_len, vec_capacity}
+use Rattle.std.specs.Prelude.{◌≡◌, ◌<◌, ℕ, All, Option, Some, None, IfSome, IsSome, Result, vec_len, vec_capacity}
 use Rattle.walter_base.specs.declared.catalog.Catalog.{Catalog}
 use Rattle.walter_base.specs.declared.message.BadFrame.{BadFrame}
 use Rattle.walter_base.specs.declared.message.Record.{Record}
@@ -16,18 +16,19 @@ use Rattle.walter_site.specs.declared.plan.Plan.{Plan}
 use Rattle.walter_site.specs.declared.replay.ReplayFault.{ReplayFault}
 use Rattle.walter_site.specs.declared.replay.ReplayFault.TheVariants.{Unfit, NoMemory}
 use Rattle.walter_site.specs.declared.site.Site.{Site}
-use Rattle.walter_site.specs.Open.{sessions_of, first_of, CanTake}
+use Rattle.walter_session.specs.Sessions.{session_of, room_of, CanStart}
+use Rattle.walter_site.specs.Open.{opens_of}
 use Rattle.walter_site.specs.Rows.{rows_told, HaveRoom}
 use Rattle.walter_trail.specs.declared.trail.Outcome.TheVariants.{Replied}
 use Rattle.walter_trail.specs.declared.trail.TrailEvent.{TrailEvent}
 use Rattle.walter_trail.specs.declared.trail.TrailEvent.TheVariants.{Call as CallEvent}
-use Rattle.walter_trail.specs.Knowledge.{Knowledge, session_of}
+use Rattle.walter_trail.specs.Knowledge.{Knowledge, session_of as known_of}
 use Rattle.walter_trail.specs.Records.{CanFollow, IsDeclared}
 use Rattle.walter_trail.specs.Rule.{Expected, call_rule, next_seq, refuses}
 
 -- what a site knows
 unfoldable pub known : Site → Knowledge
-known s = record { epoch = s.epoch; starts = s.starts; committed = s.committed; held = s.held.items; sessions = sessions_of s.transactions.items }
+known s = record { epoch = s.epoch; starts = s.starts; committed = s.committed; held = s.held.items; sessions = opens_of s.sessions }
 
 -- which site it is
 unfoldable pub site_of : Site → SiteId
@@ -53,7 +54,7 @@ expected p = record { wrote = p.0; outcome = Replied p.1 }
 -- the plan is for this input, and is the rule, with the rows of its record
 pub record IsPlan (catalog : Catalog) (i : SiteId) (K : Knowledge) (input : Input) (plan : Plan) : Type 0 where
   pub input_is : plan.input ≡ input
-  pub rule_is : expected (plan.rec, plan.reply) ≡ call_rule catalog i K (call_of input) (session_of K (client_of input))
+  pub rule_is : expected (plan.rec, plan.reply) ≡ call_rule catalog i K (call_of input) (known_of K (client_of input))
   pub rows_are : plan.rows.items ≡ rows_told plan.rec
 
 -- the refusal, if there is one, before anything else
@@ -69,8 +70,8 @@ CanKeep s (Some (Own seq tx)) = (vec_len s.held < vec_capacity s.held) × HaveRo
 
 -- what the reply changes can be changed without memory
 abbrev pub CanAnswer : Site → ℕ → Reply → Type 0
-CanAnswer s client (Started tid) = vec_len s.transactions < vec_capacity s.transactions
-CanAnswer s client Done = IfSome (first_of client s.transactions.items) CanTake
+CanAnswer s client (Started tid) = CanStart s.sessions
+CanAnswer s client Done = IsSome (session_of s.sessions client) → 0 < room_of s.sessions client
 CanAnswer s client reply = Unit {0}
 
 -- the site has the memory that the plan takes

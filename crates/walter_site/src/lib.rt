@@ -7,10 +7,9 @@ mod plan;
 mod reading;
 mod replay;
 mod rows;
+mod sessions;
 mod site;
 mod sizes;
-mod transaction;
-mod transactions;
 
 pub use plan::{Input, Plan};
 pub use replay::ReplayFault;

@@ -1,27 +1,25 @@
-ghost use Rattle.std.specs.Prelude.{◌≡◌, ◌<◌, ◌≤◌, ◌↔◌, IsTrue, ℕ, length, vec_len, vec_capacity, Ok, Some, OnOk, OnErr, IfOk, IfErr, IfSome, None, All};
-ghost use Rattle.walter_site.specs.Open.{sessions_of, first_of, AreOpenAt, IsOpenAt, HasShortValues, CanTake};
+ghost use Rattle.std.specs.Prelude.{◌≡◌, ◌<◌, ◌≤◌, ◌↔◌, IsTrue, ℕ, length, vec_len, vec_capacity, Ok, Some, OnOk, OnErr, IfOk, IfErr, IfSome, IsSomeAnd, None, All};
+ghost use Rattle.walter_session.specs.Sessions.{CanStart, room_of};
+ghost use Rattle.walter_site.specs.Open.{opens_of, AreOpenAt, IsOpenAt, HasShortValues};
 ghost use Rattle.walter_site.specs.Props.{props};
 ghost use Rattle.walter_site.specs.Rows.{AreRowsOf, HaveRoom, rows_from, rows_told};
 
 use crate::conflicts::conflict;
-use crate::levels::{has_open, holds};
+use crate::levels::holds;
 use crate::plan::{Input, Plan};
 use crate::reading::{count_read, counts_read, value_read};
 use crate::replay::{ReplayFault, are_declared};
 use crate::rows::{append_all, make_room, rows_for, rows_told};
+use crate::sessions::{add_update, end, find, has_open, open, update_of};
 use crate::sizes::{MOST_BYTES, MOST_SHOWN, SPELLS_COUNT, SPELLS_WRITE, has_place};
-use crate::transaction::Transaction;
-use crate::transactions::{add_update, end, find, reserve_update, update_of};
 use std::alloc::Global;
 use walter_base::{
     BadFrame, Bytes, Call, Catalog, Cause, Kind, Level, Mem, NoMemory, ObjId, Record, Refusal,
     Reply, Request, Row, SiteId, Tid, Tx, Updates, Version, Vts,
 };
 use walter_history::History;
+use walter_session::Sessions;
 use walter_trail::{Held, Outcome, TrailEvent};
-
-/// How many transactions may be open.
-const MOST_OPEN: usize = 256;
 
 /// One site of the store: what it knows, ready to be read and to be changed by plans. The history has, by objects, the
 /// rows of what is held.
@@ -34,11 +32,11 @@ pub struct Site {
     committed: Vts,
     held: Vec<Held>,
     history: History,
-    transactions: Vec<Transaction>,
+    sessions: Sessions,
     ghost here: { site.0 < length committed },
     ghost sites: { length committed ≡ catalog.sites },
     ghost most: { catalog.sites ≤ 8 },
-    ghost sessions: { AreOpenAt catalog site (sessions_of transactions.items) } by { Prim.hlevel props },
+    ghost opens: { AreOpenAt catalog site (opens_of sessions) } by { Prim.hlevel props },
     ghost short: { All HasShortValues held.items } by { Prim.hlevel props },
     ghost rows: { AreRowsOf catalog held.items history } by { Prim.hlevel props },
 }
@@ -69,7 +67,7 @@ impl Site {
             committed,
             held: Vec::new(alloc),
             history: History::new(alloc),
-            transactions: Vec::new(alloc),
+            sessions: Sessions::new(alloc),
         }
     }
 
@@ -95,7 +93,7 @@ impl Site {
     {
         let Input::Call { client, call } = input;
         let (rec, reply) = self.plan_call(*client, call)?;
-        let alloc = *self.transactions.allocator();
+        let alloc = *self.held.allocator();
         Ok(Plan {
             input: input.copy()?,
             rows: rows_told(alloc, &rec)?,
@@ -150,15 +148,15 @@ impl Site {
         ensures site { site_of self.new ≡ site_of self.old }
         ensures catalog { catalog_of self.new ≡ catalog_of self.old }
     {
-        if find(&self.transactions, client).is_some() {
+        if find(&self.sessions, client).is_some() {
             return Ok(Reply::Refused(Refusal::TxOpen));
         }
-        if self.transactions.len() >= MOST_OPEN {
+        if self.sessions.is_full() {
             return Ok(Reply::Refused(Refusal::SessionsFull));
         }
         // No memory reaches so far that a start has no number.
         let number = self.starts.checked_add(1).ok_or(NoMemory)?;
-        self.transactions.reserve(1)?;
+        self.sessions.reserve_start()?;
         Ok(Reply::Started(Tid {
             site: self.site,
             epoch: self.epoch,
@@ -192,7 +190,7 @@ impl Site {
         ensures rule { IfOk result (λ reply. answers reply ≡ call_rule (catalog_of self.now) (site_of self.now) (known self.now) (Ok (Request.Read oid)) (session_of (known self.now) client)) }
         ensures room { IfOk result (CanAnswer self.now client) }
     {
-        let Some(transaction) = find(&self.transactions, client) else {
+        let Some(transaction) = find(&self.sessions, client) else {
             return Ok(Reply::Refused(Refusal::NoTx));
         };
         if let Some(refusal) = self.refusal_of(oid) {
@@ -213,7 +211,7 @@ impl Site {
         if let Some(refusal) = self.refusal_to_write(client, oid, value) {
             return Ok(Reply::Refused(refusal));
         }
-        reserve_update(&mut self.transactions, client)?;
+        self.sessions.reserve_update(client)?;
         Ok(Reply::Done)
     }
 
@@ -221,7 +219,7 @@ impl Site {
     fn refusal_to_write(&self, client: u32, oid: ObjId, value: &Bytes) -> Option<Refusal>
         ensures { call_rule (catalog_of self.now) (site_of self.now) (known self.now) (Ok (Request.Write oid value.now)) (session_of (known self.now) client) ≡ refused_or result (answers Reply.Done) }
     {
-        let Some(transaction) = find(&self.transactions, client) else {
+        let Some(transaction) = find(&self.sessions, client) else {
             return Some(Refusal::NoTx);
         };
         if let Some(refusal) = self.refusal_of(oid) {
@@ -248,7 +246,7 @@ impl Site {
         if let Some(refusal) = self.refusal_to_change(client, oid) {
             return Ok(Reply::Refused(refusal));
         }
-        reserve_update(&mut self.transactions, client)?;
+        self.sessions.reserve_update(client)?;
         Ok(Reply::Done)
     }
 
@@ -257,7 +255,7 @@ impl Site {
         ensures add { (id : ℕ) → call_rule (catalog_of self.now) (site_of self.now) (known self.now) (Ok (Request.SetAdd oid id)) (session_of (known self.now) client) ≡ refused_or result (answers Reply.Done) }
         ensures del { (id : ℕ) → call_rule (catalog_of self.now) (site_of self.now) (known self.now) (Ok (Request.SetDel oid id)) (session_of (known self.now) client) ≡ refused_or result (answers Reply.Done) }
     {
-        let Some(transaction) = find(&self.transactions, client) else {
+        let Some(transaction) = find(&self.sessions, client) else {
             return Some(Refusal::NoTx);
         };
         if let Some(refusal) = self.refusal_of_set(oid) {
@@ -273,13 +271,13 @@ impl Site {
         ensures rule { IfOk result (λ reply. answers reply ≡ call_rule (catalog_of self.now) (site_of self.now) (known self.now) (Ok (Request.SetRead oid)) (session_of (known self.now) client)) }
         ensures room { IfOk result (CanAnswer self.now client) }
     {
-        let Some(transaction) = find(&self.transactions, client) else {
+        let Some(transaction) = find(&self.sessions, client) else {
             return Ok(Reply::Refused(Refusal::NoTx));
         };
         if let Some(refusal) = self.refusal_of_set(oid) {
             return Ok(Reply::Refused(refusal));
         }
-        let alloc = *self.transactions.allocator();
+        let alloc = *self.held.allocator();
         let snapshot = &transaction.snapshot;
         let counts = counts_read(alloc, &self.history, snapshot, &transaction.updates, oid)?;
         if counts.as_slice().len() > MOST_SHOWN {
@@ -293,7 +291,7 @@ impl Site {
         ensures rule { answers result ≡ call_rule (catalog_of self.now) (site_of self.now) (known self.now) (Ok (Request.SetReadId oid id)) (session_of (known self.now) client) }
         ensures room { CanAnswer self.now client result }
     {
-        let Some(transaction) = find(&self.transactions, client) else {
+        let Some(transaction) = find(&self.sessions, client) else {
             return Reply::Refused(Refusal::NoTx);
         };
         if let Some(refusal) = self.refusal_of_set(oid) {
@@ -312,7 +310,7 @@ impl Site {
         ensures site { site_of self.new ≡ site_of self.old }
         ensures catalog { catalog_of self.new ≡ catalog_of self.old }
     {
-        let Some(transaction) = find(&self.transactions, client) else {
+        let Some(transaction) = find(&self.sessions, client) else {
             return Ok((None, Reply::Refused(Refusal::NoTx)));
         };
         if transaction.updates.is_empty() {
@@ -344,7 +342,7 @@ impl Site {
         ensures rule { answers result ≡ call_rule (catalog_of self.now) (site_of self.now) (known self.now) (Ok Request.Abort) (session_of (known self.now) client) }
         ensures room { CanAnswer self.now client result }
     {
-        match find(&self.transactions, client) {
+        match find(&self.sessions, client) {
             Some(_) => Reply::Aborted(Cause::Asked),
             None => Reply::Refused(Refusal::NoTx),
         }
@@ -365,7 +363,7 @@ impl Site {
     {
         if holds(&self.held, tid) {
             Level::Visible
-        } else if has_open(&self.transactions, tid) {
+        } else if has_open(&self.sessions, tid) {
             Level::Running
         } else {
             Level::NotCommitted
@@ -417,7 +415,7 @@ impl Site {
             Reply::Started(tid) => self.start(client, tid),
             Reply::Done => self.update(client, call),
             Reply::Committed(_) | Reply::Aborted(_) | Reply::Ended | Reply::Unsure(_) => {
-                end(&mut self.transactions, client);
+                end(&mut self.sessions, client);
             }
             Reply::Value(_)
             | Reply::Set(_)
@@ -430,26 +428,21 @@ impl Site {
     fn start(&mut self, client: u32, tid: Tid)
         requires none { session_of (known self.old) client ≡ None }
         requires next { tid ≡ next_tid (site_of self.old) (known self.old) }
-        requires room { vec_len self.old.transactions < vec_capacity self.old.transactions }
+        requires few { length (opens_of self.old.sessions) < 256 }
+        requires room { CanStart self.old.sessions }
         ensures known { known self.new ≡ answered (TrailEvent.Call client (Ok Request.Start)) (Outcome.Replied (Reply.Started tid)) (known self.old) }
         ensures held { self.new.held ≡ self.old.held }
         ensures history { self.new.history ≡ self.old.history }
         ensures site { site_of self.new ≡ site_of self.old }
         ensures catalog { catalog_of self.new ≡ catalog_of self.old }
     {
-        let alloc = *self.transactions.allocator();
         self.starts = tid.number;
-        self.transactions.push_reserved(Transaction {
-            client,
-            tid,
-            snapshot: self.committed,
-            updates: Vec::new(alloc),
-        });
+        open(&mut self.sessions, client, tid, self.committed);
     }
 
     fn update(&mut self, client: u32, call: Call)
-        requires fits { IfSome (session_of (known self.old) client) (λ s. IsOpenAt (catalog_of self.old) (site_of self.old) (updated call s)) }
-        requires room { IfSome (first_of client self.old.transactions.items) CanTake }
+        requires fits { IsSomeAnd (session_of (known self.old) client) (λ s. IsOpenAt (catalog_of self.old) (site_of self.old) (updated call s)) }
+        requires room { 0 < room_of self.old.sessions client }
         ensures known { known self.new ≡ answered (TrailEvent.Call client call) (Outcome.Replied Reply.Done) (known self.old) }
         ensures held { self.new.held ≡ self.old.held }
         ensures history { self.new.history ≡ self.old.history }
@@ -457,7 +450,7 @@ impl Site {
         ensures catalog { catalog_of self.new ≡ catalog_of self.old }
     {
         if let Some(update) = update_of(call) {
-            add_update(&mut self.transactions, client, update);
+            add_update(&mut self.sessions, client, update);
         }
     }
 
@@ -552,7 +545,7 @@ impl Site {
     {
         self.held.reserve(1)?;
         make_room(&mut self.history, tx.updates.as_slice())?;
-        let alloc = *self.transactions.allocator();
+        let alloc = *self.held.allocator();
         let version = Version {
             site: tx.tid.site,
             seq,

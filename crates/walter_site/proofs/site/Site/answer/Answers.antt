@@ -1,5 +1,5 @@
 use Rattle.std.proofs.Common.{ap, sym, ◌∙◌, subst}
-use Rattle.walter_site.specs.Open.{IsOpenAt, AreOpenAt, sessions_of}
+use Rattle.walter_site.specs.Open.{IsOpenAt, AreOpenAt, opens_of}
 use Rattle.walter_site.specs.Sites.{known, site_of, catalog_of}
 use Rattle.walter_site.proofs.Changes.{open_of, open_without}
 use Rattle.walter_site.proofs.Ruled.{IsFair, ruled_fair}
@@ -13,7 +13,7 @@ update-requires-clause-fits c =
     let self = c.args.self.now in
     let K = known self in
     let session = session_of K c.args.client in
-    let is = open_of (IsOpenAt self.catalog self.site) c.args.client (sessions_of self.transactions.items) self.sessions.each in
+    let is = open_of (IsOpenAt self.catalog self.site) c.args.client (opens_of self.sessions) self.opens.each in
     let fair = ruled_fair self.catalog self.site K c.args.call session self.short is in
     subst (IsFair self.catalog self.site K c.args.call session) (c.requires.rule ∙ ap (λ r. Replied r) c.in-Done.is) fair
 
@@ -21,4 +21,4 @@ pub invariant_of-self-clause-sessions : goal.invariant_of-self-clause-sessions
 unfolding known site_of catalog_of
 invariant_of-self-clause-sessions c =
     let self = c.args.self.now in
-    subst (AreOpenAt self.catalog self.site) (sym c.end.ensures) (open_without self.catalog self.site c.args.client (sessions_of self.transactions.items) self.sessions)
+    subst (AreOpenAt self.catalog self.site) (sym c.end.ensures) (open_without self.catalog self.site c.args.client (opens_of self.sessions) self.opens)

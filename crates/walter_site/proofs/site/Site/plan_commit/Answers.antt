@@ -6,7 +6,7 @@ use Rattle.walter_base.specs.declared.message.Reply.TheVariants.{Committed}
 use Rattle.walter_base.specs.declared.message.Request.TheVariants.{Commit}
 use Rattle.walter_base.specs.declared.names.SiteId.{SiteId}
 use Rattle.walter_base.specs.declared.update.Update.{Update}
-use Rattle.walter_site.specs.Open.{as_session, sessions_of}
+use Rattle.walter_site.specs.Open.{as_session, opens_of}
 use Rattle.walter_site.specs.Sites.{known, site_of, catalog_of}
 use Rattle.walter_site.proofs.Changes.{open_is}
 use Rattle.walter_trail.specs.Conflicts.{conflict_of}
@@ -29,10 +29,10 @@ unfolding known site_of catalog_of
 returns-in-Some-conflict-clause-rule c =
     let self = c.args.self.now in
     let s = as_session c.in-Some.transaction.now in
-    let here = ap (λ ts. session_in c.args.client (sessions_of ts)) (sym c.deref.ensures.value) ∙ c.in-Some.ensures.session in
-    let is = open_is self.catalog self.site c.args.client (sessions_of self.transactions.items) s self.sessions here in
-    let declared = subst (All (IsDeclared self.catalog)) (sym c.deref-2.ensures.value) is.declared in
-    let found : c.conflict.result ≡ conflict_of self.held.items s.snapshot c.deref-2.result.now = c.conflict.ensures self.catalog self.held.items self.rows declared in
+    let here = c.in-Some.ensures.session in
+    let is = open_is self.catalog self.site c.args.client (opens_of self.sessions) s self.opens here in
+    let declared = subst (All (IsDeclared self.catalog)) (sym c.deref.ensures.value) is.declared in
+    let found : c.conflict.result ≡ conflict_of self.held.items s.snapshot c.deref.result.now = c.conflict.ensures self.catalog self.held.items self.rows declared in
     search rules
 
 pub returns-clause-rule : goal.returns-clause-rule
@@ -40,11 +40,11 @@ unfolding known site_of catalog_of
 returns-clause-rule c =
     let self = c.args.self.now in
     let s = as_session c.in-Some.transaction.now in
-    let here = ap (λ ts. session_in c.args.client (sessions_of ts)) (sym c.deref.ensures.value) ∙ c.in-Some.ensures.session in
-    let is = open_is self.catalog self.site c.args.client (sessions_of self.transactions.items) s self.sessions here in
-    let declared = subst (All (IsDeclared self.catalog)) (sym c.deref-2.ensures.value) is.declared in
-    let found : c.conflict.result ≡ conflict_of self.held.items s.snapshot c.deref-2.result.now = c.conflict.ensures self.catalog self.held.items self.rows declared in
-    let none : conflict_of self.held.items s.snapshot s.updates ≡ None = ap (conflict_of self.held.items s.snapshot) (sym c.deref-2.ensures.value) ∙ sym found ∙ c.in_default-conflict.is in
+    let here = c.in-Some.ensures.session in
+    let is = open_is self.catalog self.site c.args.client (opens_of self.sessions) s self.opens here in
+    let declared = subst (All (IsDeclared self.catalog)) (sym c.deref.ensures.value) is.declared in
+    let found : c.conflict.result ≡ conflict_of self.held.items s.snapshot c.deref.result.now = c.conflict.ensures self.catalog self.held.items self.rows declared in
+    let none : conflict_of self.held.items s.snapshot s.updates ≡ None = ap (conflict_of self.held.items s.snapshot) (sym c.deref.ensures.value) ∙ sym found ∙ c.in_default-conflict.is in
     let some : length s.updates ≢ 0 = λ none. filled (vec_len c.in-Some.transaction.now.updates) (sym c.is_empty.ensures ∙ c.if-is_empty.false) (omega (arith, none)) in
     let updates : c.from.result ≡ s.updates = c.from.ensures ∙ same_from_all_zip _ s.updates c.in_ok-clone.field-0.items c.in_ok-clone.ensures.cases.0 (λ x y same. same) in
     let seq : c.in_ok-seq.seq ≡ next_seq self.site (known self) = search rules in

@@ -15,6 +15,6 @@ returns-clause-rule c =
     let self = c.args.self.now in
     let s = as_session c.in-Some.transaction.now in
     let read : option_copied c.value_read.result ≡ value_of c.args.oid (read_updates (known self) s) =
-    c.value_read.ensures ∙ ap (λ own. value_of c.args.oid (seen_updates s.snapshot (rows_of self.history c.args.oid) ++ own)) c.deref-2.ensures.value ∙ value_read_is self.catalog s.snapshot c.args.oid self.held.items s.updates self.history self.rows
+    c.value_read.ensures ∙ ap (λ own. value_of c.args.oid (seen_updates s.snapshot (rows_of self.history c.args.oid) ++ own)) c.deref.ensures.value ∙ value_read_is self.catalog s.snapshot c.args.oid self.held.items s.updates self.history self.rows
     in
     search rules

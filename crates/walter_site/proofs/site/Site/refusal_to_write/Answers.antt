@@ -1,5 +1,5 @@
 use Rattle.std.proofs.Common.{ap, sym, ◌∙◌}
-use Rattle.walter_site.specs.Open.{as_session, sessions_of}
+use Rattle.walter_site.specs.Open.{as_session, opens_of}
 use Rattle.walter_site.proofs.Changes.{open_is}
 use Rattle.walter_trail.specs.Knowledge.{session_in}
 use Rattle.walter_site.proofs.site.Site.refusal_to_write.Goals as goal
@@ -7,5 +7,5 @@ use Rattle.walter_site.proofs.site.Site.refusal_to_write.Goals as goal
 pub has_place-requires-clause-small : goal.has_place-requires-clause-small
 has_place-requires-clause-small c =
     let self = c.args.self.now in
-    let here = ap (λ ts. session_in c.args.client (sessions_of ts)) (sym c.deref.ensures.value) ∙ c.in-Some.ensures.session in
-    rw c.deref-2.ensures.value (open_is self.catalog self.site c.args.client (sessions_of self.transactions.items) (as_session c.in-Some.transaction.now) self.sessions here).small
+    let here = c.in-Some.ensures.session in
+    rw c.deref.ensures.value (open_is self.catalog self.site c.args.client (opens_of self.sessions) (as_session c.in-Some.transaction.now) self.opens here).small
