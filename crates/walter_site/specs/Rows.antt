@@ -1,5 +1,5 @@
 -- The rows that what is held spells: for each update one, with the version of its transaction.
-use Rattle.std.specs.Prelude.{◌≡◌, ◌≤◌, Bool, List, [], map, filter, flat_map, length, All, Option, Some, None}
+use Rattle.std.specs.Prelude.{◌≡◌, ℕ, ◌≤◌, Bool, List, [], map, filter, flat_map, count_by, All, Option, Some, None}
 use Rattle.walter_base.specs.declared.catalog.Catalog.{Catalog}
 use Rattle.walter_base.specs.declared.message.Record.{Record}
 use Rattle.walter_base.specs.declared.message.Record.TheVariants.{Boot, Own}
@@ -49,6 +49,10 @@ pub record AreRowsOf (catalog : Catalog) (held : List Held) (history : List (Obj
   pub same : (oid : ObjId) → rows_of history oid ≡ rows_in oid held
   pub declared : All (HasDeclared catalog) held
 
--- the history has room for all of the updates, whichever of their objects they change
+-- how many of the updates change the object
+abbrev pub count_on : ObjId → List Update → ℕ
+count_on oid updates = count_by (changes oid) updates
+
+-- the history has room for the updates of each of their objects
 abbrev pub HaveRoom : List (ObjId × Line) → List Update → Type 0
-HaveRoom history updates = All (λ update. length updates ≤ room_of history (object_of update)) updates
+HaveRoom history updates = All (λ update. count_on (object_of update) updates ≤ room_of history (object_of update)) updates

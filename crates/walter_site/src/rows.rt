@@ -2,7 +2,7 @@ ghost use Rattle.std.specs.Prelude.{◌≡◌, ◌++◌, map, IfOk, OnOk, OnErr,
 ghost use Rattle.walter_base.specs.declared.names.ObjId.{ObjId as Object};
 ghost use Rattle.walter_history.specs.Lines.{rows_of};
 ghost use Rattle.walter_history.specs.Rows.{object_of};
-ghost use Rattle.walter_site.specs.Rows.{row_with, rows_told, rows_on, HaveRoom};
+ghost use Rattle.walter_site.specs.Rows.{row_with, rows_told, rows_on, count_on, HaveRoom};
 
 use std::alloc::Global;
 use walter_base::{Mem, ObjId, Record, Row, Update, Version};
@@ -46,15 +46,26 @@ pub fn rows_told(alloc: Global, rec: &Option<Record>) -> Mem<Vec<Row>>
     }
 }
 
+/// How many of the updates change the object.
+fn count_on(oid: ObjId, updates: &[Update]) -> u64
+    ensures { result ≡ count_on oid updates.now }
+{
+    updates
+        .iter()
+        .filter(|update| object_of(update) == oid)
+        .count() as u64
+}
+
 /// Makes room for the rows of the updates.
 pub fn make_room(history: &mut History, updates: &[Update]) -> Mem<()>
     ensures room { OnOk result (HaveRoom history.new updates.now) }
     ensures rows { (oid : Object) → rows_of history.new oid ≡ rows_of history.old oid }
 {
-    // An object may be changed by each of them: what is left over serves later transactions.
-    let most = updates.len() as u64;
+    // A transaction has at most 256 updates, so counting anew at each of them is at most 256² comparisons, and takes no
+    // memory.
     for update in updates {
-        history.reserve(object_of(update), most)?;
+        let oid = object_of(update);
+        history.reserve(oid, count_on(oid, updates))?;
     }
     Ok(())
 }
