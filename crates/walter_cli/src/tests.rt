@@ -1,16 +1,18 @@
 ghost use Rattle.std.specs.Prelude.{None, Some};
 
+mod faults;
+mod limits;
+mod sets;
 mod spelling;
 mod stops;
 
-use crate::{Ended, Fault, JournalCause, top};
+use crate::{Ended, top};
 use spelling::spelled;
 use std::process::Abort;
 use std::test::Fail;
 use walter_disk::Rack;
 use walter_disk_memory::MemoryRack;
 use walter_psi::first_illegal;
-use walter_scenario::Place;
 use walter_stream::{BytesSource, Failed, MemorySink, MemorySource, Source};
 
 const FIRST_RUN: &str =
@@ -35,6 +37,15 @@ const COMMIT: &str = "0000000108";
 const ABORT: &str = "0000000109";
 
 const LEVEL: &str = "0000000e0a00000000010000000000000001";
+
+// The frames of requests on the set 3:1: one more and one less of id 9, its counts, and its count of id 9.
+const SET_ADD: &str = "00000015040000000300000000000000010000000000000009";
+
+const SET_DEL: &str = "00000015050000000300000000000000010000000000000009";
+
+const SET_READ: &str = "0000000d06000000030000000000000001";
+
+const SET_READ_ID: &str = "00000015070000000300000000000000010000000000000009";
 
 // The frames of replies: started 0.1.1, done, and how far a transaction has come.
 const STARTED: &str = "0000000e8000000000010000000000000001";
@@ -185,16 +196,16 @@ fn answers(
     Ok(())
 }
 
-// Bytes that spell no scenario are refused at this place, and nothing is written.
-fn refuses(rt: &(impl Abort + AllocGlobal), scenario: &str, place: Place) -> Result<(), Fail> {
-    let (ended, text) = ended(rt, "play", scenario, &[], &[])?;
-    assert_eq!(rt;
-        (ended.status, ended.fault),
-        (2, Some(Fault::Scenario { place })),
-        "{scenario}"
-    );
-    assert!(rt; text.is_empty());
-    Ok(())
+// So many of a piece, with a comma between.
+fn joined(rt: &impl AllocGlobal, piece: &str, comma: &str, count: usize) -> Result<String, Fail> {
+    let mut text = String::new(rt.alloc());
+    for number in 0..count {
+        if number > 0 {
+            text.push_str(comma)?;
+        }
+        text.push_str(piece)?;
+    }
+    Ok(text)
 }
 
 #[test]
@@ -323,152 +334,6 @@ fn without_clients_the_report_is_of_the_opening(rt: HostRuntime) -> Result<(), F
     )
 }
 
-// So many of a piece, with a comma between.
-fn joined(rt: &impl AllocGlobal, piece: &str, comma: &str, count: usize) -> Result<String, Fail> {
-    let mut text = String::new(rt.alloc());
-    for number in 0..count {
-        if number > 0 {
-            text.push_str(comma)?;
-        }
-        text.push_str(piece)?;
-    }
-    Ok(text)
-}
-
-#[test]
-fn a_trail_of_a_hundred_thousand_entries_takes_no_more(rt: HostRuntime) -> Result<(), Fail> {
-    let frames = joined(&rt, "0000000108", "", 100_001)?;
-    let steps = joined(&rt, r#"["call",0]"#, ",", 100_001)?;
-    let scenario = format!(in rt.alloc();
-        r#"{{"sites":1,"f":0,"containers":[],"clients":[[0,"{frames}"]],"steps":[{steps}]}}"#
-    )?;
-    let mut source = BytesSource::from(scenario.into_bytes());
-    let alloc = rt.alloc();
-    let words = vec![in alloc; String::from_str(alloc, "play")?]?;
-    let mut sink = MemorySink::with_room(alloc, 2_000_000, Vec::new(alloc))?;
-    let mut rack = MemoryRack::new(alloc);
-    let ended = top(&rt, &words, &mut source, &mut sink, &mut rack);
-    assert_eq!(rt; ended.status, 0);
-    let [trail] = ended.trails.as_slice() else {
-        return Err(Fail::from("not one trail"));
-    };
-    assert_eq!(rt; trail.len(), 100_000);
-    Ok(())
-}
-
-#[test]
-fn other_words_are_no_line(rt: HostRuntime) -> Result<(), Fail> {
-    for words in [
-        "play --fast",
-        "",
-        "run",
-        "play play",
-        "play --trace --trace",
-    ] {
-        let (ended, text) = ended(&rt, words, FIRST_RUN, &[], &[])?;
-        assert_eq!(rt; (ended.status, ended.fault), (1, Some(Fault::Usage)));
-        assert!(rt; text.is_empty());
-    }
-    Ok(())
-}
-
-#[test]
-fn bytes_that_spell_no_scenario_are_refused_at_their_first_wrong_place(
-    rt: HostRuntime,
-) -> Result<(), Fail> {
-    let table = [
-        ("[", Place::Json),
-        ("[]", Place::Json),
-        (
-            r#"{"sites":1,"f":0,"containers":[],"clients":[]}"#,
-            Place::Key,
-        ),
-        (
-            r#"{"sites":1,"f":0,"containers":[],"clients":[],"steps":[],"speed":1}"#,
-            Place::Key,
-        ),
-        (
-            r#"{"sites":9,"f":0,"containers":[],"clients":[],"steps":[]}"#,
-            Place::Sites,
-        ),
-        (
-            r#"{"sites":1,"f":1,"containers":[],"clients":[],"steps":[]}"#,
-            Place::F,
-        ),
-        (
-            r#"{"sites":1,"f":0,"containers":[[1,"cset",0],[2,"Cset",0]],"clients":[],"steps":[]}"#,
-            Place::Containers(1),
-        ),
-        (
-            r#"{"sites":1,"f":0,"containers":[[1,"regular",0],[1,"regular",0]],"clients":[],"steps":[]}"#,
-            Place::Containers(1),
-        ),
-        (
-            r#"{"sites":1,"f":0,"containers":[],"clients":[[0,""],[0,"0"]],"steps":[]}"#,
-            Place::Clients(1),
-        ),
-        (
-            r#"{"sites":1,"f":0,"containers":[],"clients":[[1,""]],"steps":[]}"#,
-            Place::Clients(0),
-        ),
-        (
-            r#"{"sites":1,"f":0,"containers":[],"clients":[[0,""]],"steps":[["call",0],["call",1]]}"#,
-            Place::Steps(1),
-        ),
-        (
-            r#"{"sites":1,"f":0,"containers":[],"clients":[[0,""]],"steps":[["tick",0]]}"#,
-            Place::Steps(0),
-        ),
-        (
-            r#"{"sites":1,"f":2,"containers":[],"clients":[],"steps":[["call",7]]}"#,
-            Place::F,
-        ),
-    ];
-    for (scenario, place) in table {
-        refuses(&rt, scenario, place)?;
-    }
-    Ok(())
-}
-
-#[test]
-fn a_text_above_the_longest_is_refused(rt: HostRuntime) -> Result<(), Fail> {
-    let mut source = BytesSource::from(vec![in rt.alloc(); b' '; 16_777_217]?);
-    let mut rack = MemoryRack::new(rt.alloc());
-    let (ended, text) = ended_over(&rt, "play", &mut source, &[], &mut rack)?;
-    let place = Place::TooLong;
-    assert_eq!(rt;
-        (ended.status, ended.fault),
-        (2, Some(Fault::Scenario { place }))
-    );
-    assert!(rt; text.is_empty());
-    Ok(())
-}
-
-#[test]
-fn a_source_that_fails_is_told(rt: HostRuntime) -> Result<(), Fail> {
-    let (ended, text) = ended(&rt, "play", FIRST_RUN, &[2], &[])?;
-    assert_eq!(rt; (ended.status, ended.fault), (3, Some(Fault::Read)));
-    assert!(rt; text.is_empty());
-    Ok(())
-}
-
-#[test]
-fn a_sink_that_fails_is_told(rt: HostRuntime) -> Result<(), Fail> {
-    let (ended, text) = ended(&rt, "play", FIRST_RUN, &[], &[1])?;
-    assert_eq!(rt; (ended.status, ended.fault), (4, Some(Fault::Write)));
-    assert_eq!(rt; ended.trails.len(), 1);
-    assert!(rt; text.is_empty());
-    Ok(())
-}
-
-#[test]
-fn faults_are_lines_that_a_person_understands(rt: HostRuntime) -> Result<(), Fail> {
-    let place = Place::Containers(3);
-    let line = format!(in rt.alloc(); "{}", Fault::Scenario { place })?;
-    assert_eq!(rt; line.as_str(), "the scenario has no reading: container 3");
-    Ok(())
-}
-
 #[test]
 fn behind_the_report_stands_a_line_for_each_event(rt: HostRuntime) -> Result<(), Fail> {
     let mut rack = MemoryRack::new(rt.alloc());
@@ -529,187 +394,6 @@ fn a_client_is_told_once_that_its_transaction_is_gone(rt: HostRuntime) -> Result
     )
 }
 
-// The frame of a write of so many bytes.
-fn long_write(rt: &impl AllocGlobal, count: u16) -> Result<String, Fail> {
-    let value = joined(rt, "61", "", usize::from(count))?;
-    let body = u32::from(count) + 17;
-    Ok(format!(in rt.alloc(); "{body:08x}03000000010000000000000005{count:08x}{value}")?)
-}
-
-#[test]
-fn a_commit_that_finds_no_place_is_refused_and_stays_open(rt: HostRuntime) -> Result<(), Fail> {
-    let hello = "00000016030000000100000000000000050000000568656c6c6f";
-    answers(
-        &rt,
-        r#""capacity":142,"#,
-        &[START, hello, COMMIT],
-        "call call call",
-        &[STARTED, DONE, COMMITTED],
-    )?;
-    answers(
-        &rt,
-        r#""capacity":141,"#,
-        &[START, hello, COMMIT, ABORT],
-        "call call call call",
-        &[
-            STARTED,
-            DONE,
-            "00000012e00a000000000000007b000000000000007a",
-            "000000028603",
-        ],
-    )
-}
-
-#[test]
-fn a_value_has_4096_bytes_at_most(rt: HostRuntime) -> Result<(), Fail> {
-    let longest = long_write(&rt, 4096)?;
-    let longer = long_write(&rt, 4097)?;
-    answers(
-        &rt,
-        "",
-        &[START, &longest, &longer],
-        "call call call",
-        &[STARTED, DONE, "00000002e004"],
-    )
-}
-
-#[test]
-fn a_transaction_has_60_000_bytes_at_most(rt: HostRuntime) -> Result<(), Fail> {
-    let longest = long_write(&rt, 4096)?;
-    let mut frames = Vec::new(rt.alloc());
-    frames.push(START)?;
-    let mut replies = vec![in rt.alloc(); STARTED]?;
-    let mut words = String::from_str(rt.alloc(), "call call")?;
-    for _ in 0..14 {
-        frames.push(&longest)?;
-        replies.push(DONE)?;
-        words.push_str(" call")?;
-    }
-    frames.push(&longest)?;
-    replies.push("00000002e003")?;
-    answers(&rt, "", &frames, &words, &replies)
-}
-
-// The frames of requests on the set 3:1: one more and one less of id 9, its counts, and its count of id 9.
-const SET_ADD: &str = "00000015040000000300000000000000010000000000000009";
-
-const SET_DEL: &str = "00000015050000000300000000000000010000000000000009";
-
-const SET_READ: &str = "0000000d06000000030000000000000001";
-
-const SET_READ_ID: &str = "00000015070000000300000000000000010000000000000009";
-
-#[test]
-fn a_transaction_reads_its_own_set_updates(rt: HostRuntime) -> Result<(), Fail> {
-    answers(
-        &rt,
-        "",
-        &[START, SET_DEL, SET_READ, SET_READ_ID, SET_ADD, SET_READ],
-        "call call call call call call",
-        &[
-            STARTED,
-            DONE,
-            "0000001583000000010000000000000009ffffffffffffffff",
-            "0000000984ffffffffffffffff",
-            DONE,
-            "000000058300000000",
-        ],
-    )
-}
-
-#[test]
-fn set_updates_of_two_writers_both_commit(rt: HostRuntime) -> Result<(), Fail> {
-    plays(
-        &rt,
-        r#"{"sites":1,"f":0,"containers":[[3,"cset",0]],"clients":[[0,"00000001010000001504000000030000000000000001000000000000000900000001080000000101000000150700000003000000000000000100000000000000090000000d06000000030000000000000001"],[0,"0000000101000000150400000003000000000000000100000000000000090000000108"]],"steps":[["call",0],["call",1],["call",0],["call",1],["call",0],["call",1],["call",0],["call",0],["call",0]]}"#,
-        "sites 1 f 0 clients 2\nclient 0 site 0 replies 6 0000000e800000000001000000000000000100000001820000000a850000000000000000010000000e80000000000100000000000000030000000984000000000000000200000015830000000100000000000000090000000000000002\nclient 1 site 0 replies 3 0000000e800000000001000000000000000200000001820000000a85000000000000000002\nsite 0 up epoch 1 events 10 records 3 got 2 committed 2 log 0:1,0:2\n",
-    )
-}
-
-#[test]
-fn a_set_and_a_regular_object_are_not_taken_for_each_other(rt: HostRuntime) -> Result<(), Fail> {
-    answers(
-        &rt,
-        "",
-        &[
-            START,
-            "0000000d02000000030000000000000001",
-            "00000012030000000300000000000000010000000161",
-            "00000015040000000100000000000000050000000000000009",
-            "00000015050000000100000000000000050000000000000009",
-            "0000000d06000000010000000000000005",
-            "00000015070000000100000000000000050000000000000009",
-            "0000000d06000000090000000000000001",
-        ],
-        "call call call call call call call call",
-        &[
-            STARTED,
-            "00000002e002",
-            "00000002e002",
-            "00000002e002",
-            "00000002e002",
-            "00000002e002",
-            "00000002e002",
-            "00000002e001",
-        ],
-    )
-}
-
-#[test]
-fn a_transaction_has_256_updates_at_most(rt: HostRuntime) -> Result<(), Fail> {
-    let mut frames = vec![in rt.alloc(); START]?;
-    let mut replies = vec![in rt.alloc(); STARTED]?;
-    for _ in 0..256 {
-        frames.push(SET_ADD)?;
-        replies.push(DONE)?;
-    }
-    frames.push(SET_ADD)?;
-    replies.push("00000002e003")?;
-    frames.push(COMMIT)?;
-    replies.push(COMMITTED)?;
-    let words = joined(&rt, "call", " ", frames.len())?;
-    answers(&rt, "", &frames, &words, &replies)
-}
-
-// The frames that add so many ids from this one on, and commit them.
-fn adding(rt: &impl AllocGlobal, first: u16, count: u16) -> Result<String, Fail> {
-    let mut frames = String::from_str(rt.alloc(), START)?;
-    for place in 0..count {
-        let id = u32::from(first) + u32::from(place);
-        let frame = format!(in rt.alloc(); "0000001504000000030000000000000001{id:016x}")?;
-        frames.push_str(&frame)?;
-    }
-    frames.push_str(COMMIT)?;
-    Ok(frames)
-}
-
-#[test]
-fn a_set_of_4095_ids_is_read_and_a_wider_one_is_refused(rt: HostRuntime) -> Result<(), Fail> {
-    let alloc = rt.alloc();
-    let mut sent = adding(&rt, 0, 255)?;
-    for round in 0..15 {
-        sent.push_str(&adding(&rt, 255 + round * 256, 256)?)?;
-    }
-    sent.push_str(START)?;
-    sent.push_str(SET_READ)?;
-    sent.push_str("0000001504000000030000000000000001000000000000ffff")?;
-    sent.push_str(SET_READ)?;
-    let steps = joined(&rt, r#"["call",0]"#, ",", 16 * 2 + 4095 + 4)?;
-    let scenario = format!(in alloc;
-        r#"{{"sites":1,"f":0,"containers":[[3,"cset",0]],"clients":[[0,"{sent}"]],"steps":[{steps}]}}"#
-    )?;
-    let mut source = BytesSource::from(scenario.into_bytes());
-    let words = vec![in alloc; String::from_str(alloc, "play")?]?;
-    let mut sink = MemorySink::with_room(alloc, 500_000, Vec::new(alloc))?;
-    let mut rack = MemoryRack::new(alloc);
-    let ended = top(&rt, &words, &mut source, &mut sink, &mut rack);
-    assert_eq!(rt; ended.status, 0);
-    let text = str::from_utf8(sink.as_slice())?;
-    assert!(rt; text.contains("0000fff58300000fff00000000000000000000000000000001"));
-    assert!(rt; text.contains("000000018200000002e00b\n"), "{text}");
-    Ok(())
-}
-
 #[test]
 fn a_level_is_told_of_what_was_started_here(rt: HostRuntime) -> Result<(), Fail> {
     answers(
@@ -724,80 +408,4 @@ fn a_level_is_told_of_what_was_started_here(rt: HostRuntime) -> Result<(), Fail>
         "call call call call",
         &[STARTED, "00000002e00e", "00000002e00f", "000000028801"],
     )
-}
-
-#[test]
-fn a_site_has_256_transactions_open_at_most(rt: HostRuntime) -> Result<(), Fail> {
-    let clients = joined(&rt, r#"[0,"0000000101"]"#, ",", 257)?;
-    let mut steps = String::from_str(rt.alloc(), r#"["call",0]"#)?;
-    for client in 1..257 {
-        let step = format!(in rt.alloc(); r#",["call",{client}]"#)?;
-        steps.push_str(&step)?;
-    }
-    let scenario = format!(in rt.alloc();
-        r#"{{"sites":1,"f":0,"containers":[],"clients":[{clients}],"steps":[{steps}]}}"#
-    )?;
-    assert_eq!(rt;
-        line_of(&rt, &scenario, 255)?.as_str(),
-        "client 255 site 0 replies 1 0000000e8000000000010000000000000100"
-    );
-    assert_eq!(rt;
-        line_of(&rt, &scenario, 256)?.as_str(),
-        "client 256 site 0 replies 1 00000002e00c"
-    );
-    Ok(())
-}
-
-#[test]
-fn a_site_begins_with_no_other_disk_than_a_new_one(rt: HostRuntime) -> Result<(), Fail> {
-    let damaged = JournalCause::Damaged {
-        at: 8,
-        length: 4_294_967_295,
-    };
-    let table: [(&[u8], JournalCause); 3] = [
-        (b"NOTWALTER", JournalCause::Foreign),
-        (b"WALTERJ1\x01\xff\xff\xff\xff\0", damaged),
-        (EMPTY_JOURNAL, JournalCause::Used),
-    ];
-    let alloc = rt.alloc();
-    for (bytes, cause) in table {
-        let contents = vec![in alloc; Vec::from_slice(alloc, bytes)?]?;
-        let mut rack = MemoryRack::holding(alloc, contents);
-        let (ended, text) = ended_on(&rt, "play", EMPTY_SITE, &mut rack)?;
-        let fault = Fault::Journal { site: 0, cause };
-        assert_eq!(rt; (ended.status, ended.fault), (7, Some(fault)));
-        assert_eq!(rt; (ended.trails.len(), text.len()), (0, 0));
-        assert_eq!(rt; rack.given().len(), 1);
-    }
-    Ok(())
-}
-
-#[test]
-fn a_journal_without_records_is_as_good_as_a_new_disk(rt: HostRuntime) -> Result<(), Fail> {
-    let alloc = rt.alloc();
-    let contents = vec![in alloc; Vec::from_slice(alloc, b"WALTERJ1\x07")?]?;
-    let mut rack = MemoryRack::holding(alloc, contents);
-    let (ended, _text) = ended_on(&rt, "play", EMPTY_SITE, &mut rack)?;
-    is_legal(&rt, &ended)?;
-    let [(_site, disk)] = rack.given() else {
-        return Err(Fail::from("not one disk"));
-    };
-    assert_eq!(rt; disk.bytes(), EMPTY_JOURNAL);
-    Ok(())
-}
-
-#[test]
-fn a_rack_that_fails_is_told(rt: HostRuntime) -> Result<(), Fail> {
-    // The disk is taken by the first call, and given back by the second.
-    for (failing, trails) in [(1, 0), (2, 1)] {
-        let mut rack = MemoryRack::new(rt.alloc());
-        rack.set_failing(vec![in rt.alloc(); failing]?);
-        let (ended, text) = ended_on(&rt, "play", FIRST_RUN, &mut rack)?;
-        assert_eq!(rt;
-            (ended.status, ended.fault),
-            (6, Some(Fault::Rack { site: 0 }))
-        );
-        assert_eq!(rt; (ended.trails.len(), text.len()), (trails, 0));
-    }
-    Ok(())
 }
