@@ -1,5 +1,5 @@
 -- The open transactions of a site, and what holds of them and of what is held.
-use Rattle.std.specs.Prelude.{◌≡◌, ℕ, List, [], ◌∷◌, map, length, All, Option, Some, None, is_some, false}
+use Rattle.std.specs.Prelude.{◌≡◌, List, [], ◌∷◌, map, length, All, Option, Some, None, is_some, false}
 use Rattle.walter_base.specs.declared.catalog.Catalog.{Catalog}
 use Rattle.walter_base.specs.declared.names.SiteId.{SiteId}
 use Rattle.walter_base.specs.declared.update.Update.{Update}

@@ -1,5 +1,5 @@
 -- What the fields of a site amount to, and what a plan asks of them.
-use Rattle.std.specs.Prelude.{◌≡◌, ◌<◌, ℕ, All, Option, Some, None, IfSome, IsSome, Result, vec_len, vec_capacity}
+use Rattle.std.specs.Prelude.{◌≡◌, ◌<◌, ℕ, All, Option, Some, None, IsSome, Result, vec_len, vec_capacity}
 use Rattle.walter_base.specs.declared.catalog.Catalog.{Catalog}
 use Rattle.walter_base.specs.declared.message.BadFrame.{BadFrame}
 use Rattle.walter_base.specs.declared.message.Record.{Record}

@@ -1,7 +1,10 @@
-use Rattle.std.proofs.Common.{ap, sym, ◌∙◌, subst}
+use Rattle.std.proofs.Common.{Option, Some, None, refl, ap, sym, ◌∙◌, subst}
+use Rattle.std.specs.Prelude.{IsSome, IsSomeAnd}
+use Rattle.walter_session.specs.Sessions.{sessions_of}
 use Rattle.walter_site.specs.Open.{IsOpenAt, AreOpenAt, opens_of}
-use Rattle.walter_site.specs.Sites.{known, site_of, catalog_of}
+use Rattle.walter_site.specs.Sites.{known, site_of, catalog_of, CanAnswer}
 use Rattle.walter_site.proofs.Changes.{open_of, open_without}
+use Rattle.walter_site.proofs.Opens.{some_session}
 use Rattle.walter_site.proofs.Ruled.{IsFair, ruled_fair}
 use Rattle.walter_trail.specs.declared.trail.Outcome.TheVariants.{Replied}
 use Rattle.walter_trail.specs.Knowledge.{session_of}
@@ -17,8 +20,20 @@ update-requires-clause-fits c =
     let fair = ruled_fair self.catalog self.site K c.args.call session self.short is in
     subst (IsFair self.catalog self.site K c.args.call session) (c.requires.rule ∙ ap (λ r. Replied r) c.in-Done.is) fair
 
-pub invariant_of-self-clause-sessions : goal.invariant_of-self-clause-sessions
+is_there : {X : Type 0} (P : X → Type 0) (o : Option X) → IsSomeAnd o P → IsSome o
+is_there P None is = absurd is
+is_there P (Some x) is = refl
+
+pub update-requires-clause-room : goal.update-requires-clause-room
 unfolding known site_of catalog_of
-invariant_of-self-clause-sessions c =
+update-requires-clause-room c =
+    let self = c.args.self.now in
+    let client = c.args.client in
+    let there : IsSome (session_of (known self) client) = is_there _ (session_of (known self) client) (update-requires-clause-fits c) in
+    subst (CanAnswer self client) c.in-Done.is c.requires.room (some_session client (sessions_of self.sessions) there)
+
+pub invariant_of-self-clause-opens : goal.invariant_of-self-clause-opens
+unfolding known site_of catalog_of
+invariant_of-self-clause-opens c =
     let self = c.args.self.now in
     subst (AreOpenAt self.catalog self.site) (sym c.end.ensures) (open_without self.catalog self.site c.args.client (opens_of self.sessions) self.opens)

@@ -11,7 +11,7 @@ use Rattle.walter_site.specs.Sites.{known, site_of, catalog_of}
 use Rattle.walter_site.proofs.Changes.{open_is}
 use Rattle.walter_trail.specs.Conflicts.{conflict_of}
 use Rattle.walter_trail.specs.declared.trail.Outcome.TheVariants.{Replied}
-use Rattle.walter_trail.specs.Knowledge.{Knowledge, Session, session_in}
+use Rattle.walter_trail.specs.Knowledge.{Knowledge, Session}
 use Rattle.walter_trail.specs.Rule.{call_rule, commits, decides, next_seq}
 use Rattle.walter_trail.specs.Records.{IsDeclared}
 use Rattle.walter_site.proofs.site.Site.plan_commit.Goals as goal

@@ -1,11 +1,10 @@
-use Rattle.std.proofs.Common.{◌++◌, sym, ap, ◌∙◌, rules}
+use Rattle.std.proofs.Common.{◌++◌, ap, ◌∙◌, rules}
 use Rattle.walter_base.specs.Values.{count_of}
 use Rattle.walter_history.specs.Lines.{rows_of}
 use Rattle.walter_history.specs.Rows.{seen_updates}
 use Rattle.walter_site.specs.Open.{as_session, opens_of}
 use Rattle.walter_site.specs.Sites.{known, site_of, catalog_of}
 use Rattle.walter_site.proofs.Changes.{open_is}
-use Rattle.walter_trail.specs.Knowledge.{session_in}
 use Rattle.walter_site.proofs.ReadRows.{count_read_is}
 use Rattle.walter_site.proofs.site.Site.plan_count.Goals as goal
 

@@ -1,9 +1,9 @@
-use Rattle.std.proofs.Common.{◌≡◌, ◌++◌, sym, ap, ◌∙◌, subst, rules}
+use Rattle.std.proofs.Common.{◌≡◌, ◌++◌, subst, rules}
 use Rattle.walter_base.specs.Values.{AreCounts}
 use Rattle.walter_site.specs.Open.{as_session, opens_of}
 use Rattle.walter_site.specs.Sites.{known, site_of, catalog_of}
 use Rattle.walter_site.proofs.Changes.{open_is}
-use Rattle.walter_trail.specs.Knowledge.{session_in, read_updates}
+use Rattle.walter_trail.specs.Knowledge.{read_updates}
 use Rattle.walter_history.specs.Lines.{rows_of}
 use Rattle.walter_history.specs.Rows.{seen_updates}
 use Rattle.walter_base.specs.Values.{counts_of}

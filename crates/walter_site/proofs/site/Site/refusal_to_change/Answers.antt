@@ -1,7 +1,5 @@
-use Rattle.std.proofs.Common.{ap, sym, ◌∙◌}
 use Rattle.walter_site.specs.Open.{as_session, opens_of}
 use Rattle.walter_site.proofs.Changes.{open_is}
-use Rattle.walter_trail.specs.Knowledge.{session_in}
 use Rattle.walter_site.proofs.site.Site.refusal_to_change.Goals as goal
 
 pub has_place-requires-clause-small : goal.has_place-requires-clause-small
