@@ -16,9 +16,9 @@ use Rattle.walter_trail.specs.declared.trail.TrailEvent.{TrailEvent}
 use Rattle.walter_trail.specs.declared.trail.TrailEvent.TheVariants.{Call}
 use Rattle.walter_trail.specs.Knowledge.{Knowledge, session_of, after, lost, epoch_after}
 use Rattle.walter_trail.specs.Records.{CanFollow, IsRecordAmong}
-use Rattle.walter_trail.specs.Rule.{Expected, rule, call_rule, MayWant}
+use Rattle.walter_trail.specs.Rule.{Expected, rule, call_rule}
 use Rattle.walter_trail.specs.Standing.{Standing, Came, stands_after, up_after, knows_after}
-use Rattle.walter_trail.specs.Trails.{Comes, ruled, met_fault, no_memory, full, as_ruled, failure, fullness, want, only, FitsIn, need_of, left_behind, TakesMemory}
+use Rattle.walter_trail.specs.Trails.{Comes, ruled, met_fault, full, as_ruled, failure, fullness, only, FitsIn, need_of, left_behind}
 use Rattle.walter_trail.proofs.Replayed.{lost_after, follows_lost}
 use Rattle.walter_engine.specs.Contents.{CanBeJournaled, AreJournaled}
 use Rattle.walter_engine.proofs.Plain.{IsPlain, call_plain, plain_up, plain_knows}
@@ -72,26 +72,6 @@ module _ (catalog : Catalog) (capacity : ℕ) (i : SiteId) (S : Standing) (clien
 
   pub answered_comes : IfSome rec (FitsIn capacity S) → Comes catalog capacity i S event answered
   answered_comes fits = ruled (subst (λ (r : Option Record). IfSome r (FitsIn capacity S)) (sym brings) fits) (ap as_ruled (sym by_rule))
-
-  -- memory ran out
-  pub wanted_comes : MayWant call → Comes catalog capacity i S event (only (want event))
-  wanted_comes may = no_memory (subst (λ (b : Bool). TakesMemory b event) (sym up) may) refl
-
--- the same, without a record
-module _ (catalog : Catalog) (capacity : ℕ) (i : SiteId) (S : Standing) (client : ℕ) (call : Result Request Bad) (K : Knowledge) (reply : Reply)
-    (up : S.up ≡ true) (settled : S.flight ≡ None) (same : K ≡ S.knows) (nothing : S.gone client ≡ None)
-    (planned : expected (None, reply) ≡ call_rule catalog i K call (session_of K client)) (J : AreJournaled catalog i S) where
-  pub done_journaled : AreJournaled catalog i (stands_after i S (Call client call) (record { wrote = None; outcome = Replied reply; flight = None }))
-  done_journaled =
-      let T = stands_after i S (Call client call) (record { wrote = None; outcome = Replied reply; flight = None }) in
-      let knows = sym (answered_knows catalog capacity i S client call K None reply up settled same nothing planned J)
-      ∙ ap (λ (k : Knowledge). after i k (Call client call) (Replied reply) None) same in
-      journaled_same catalog i S T J refl (ap lost knows ∙ lost_after i S.knows (Call client call) (Replied reply) None)
-      (subst (λ (f : Option Record). IfSome f (CanBeJournaled catalog i T)) (sym (flight_none reply)) tt)
-      (λ is. subst (λ (k : Knowledge). 0 < k.epoch) (sym knows) (J.booted up))
-    where
-      flight_none : (r : Reply) → (stands_after i S (Call client call) (record { wrote = None; outcome = Replied r; flight = None })).flight ≡ None
-      flight_none r = settled
 
 -- the same, with a record that the journal takes, meets a fault with, or has no place for
 module _ (catalog : Catalog) (capacity : ℕ) (i : SiteId) (S : Standing) (client : ℕ) (call : Result Request Bad) (K : Knowledge) (rec : Record) (reply : Reply)

@@ -89,7 +89,6 @@ boots_no_memory {D} {g} catalog capacity i S tally all counted disk resting kept
       left = resting;
       journaled = journaled_same catalog i S (stands_after i S Restart (only Memory)) all refl refl all.in_flight (λ up. cc);
       counted = counted;
-      refused = λ k why is. cc;
     })
 
 module _ {D : Type 0} {g : Ghosts D} (catalog : Catalog) (i : SiteId) (S : Standing) (tally : Tally) (down : IsDown S) (all : AreJournaled catalog i S) (counted : IsCounted tally S) (journal : Journal D g)
@@ -121,7 +120,6 @@ module _ {D : Type 0} {g : Ghosts D} (catalog : Catalog) (i : SiteId) (S : Stand
         };
         journaled = journaled_more catalog i S T (Boot epoch) all can refl (lost_after i S.knows Restart Taken (Some (Boot epoch))) refl (λ up. omega (arith, next));
         counted = record { count = omega (arith, is_count, counted.count, length-append S.records (Boot epoch ∷ [])); flight = refl };
-        refused = λ k why is. cc;
       })
 
   -- it met a fault of the disk
@@ -138,7 +136,6 @@ module _ {D : Type 0} {g : Ghosts D} (catalog : Catalog) (i : SiteId) (S : Stand
         left = rests_failed g size_is counts_now S.records (Boot epoch) T journal new stands fails run refl refl refl refl;
         journaled = journaled_same catalog i S T all refl refl (record { spelled = can.spelled; follows = next }) (λ up. cc);
         counted = record { count = counted.count; flight = refl };
-        refused = λ k why is. cc;
       }))
 
   -- it found no place
@@ -156,5 +153,4 @@ module _ {D : Type 0} {g : Ghosts D} (catalog : Catalog) (i : SiteId) (S : Stand
         left = rests_under g size_is T journal down.down down.rests stands;
         journaled = journaled_same catalog i S T all refl refl tt (λ up. cc);
         counted = record { count = counted.count; flight = refl };
-        refused = λ k why is. cc;
       }))

@@ -1,4 +1,4 @@
--- What a crash within a restart leaves.
+-- What a crash within a step or a restart leaves.
 use Rattle.std.proofs.Common.{◌≡◌, ℕ, ◌+◌, List, [], ◌∷◌, ◌++◌, map, Option, refl, ap, sym, ◌∙◌, subst, inl, inr, arith}
 use Rattle.std.proofs.lemmas.List.{map-append}
 use Rattle.walter_base.specs.declared.message.Record.{Record}
@@ -16,7 +16,7 @@ use Rattle.walter_trail.specs.Standing.{Standing, settled}
 use Rattle.walter_engine.specs.Advances.{IsSameJournal}
 use Rattle.walter_engine.specs.Contents.{MayHaveRecords, MayHaveBoot}
 use Rattle.walter_engine.specs.Raises.{IsFoundIn}
-use Rattle.walter_engine.proofs.Resting.{OnlyNow, may_have}
+use Rattle.walter_engine.proofs.Resting.{OnlyNow, may_have, leaves_bodies}
 
 -- what is found may be there
 pub found_may_have : (S : Standing) (bodies : List (List ℕ)) → IsFoundIn S bodies → (image : List ℕ) → HasContent image bodies → MayHaveRecords S.records S.flight image
@@ -36,27 +36,22 @@ boot_may_have i S kept bodies K found is knows image (inr has) =
     inr (subst (λ bodies. HasContent image bodies) behind has)
 
 module _ {D : Type 0} {g : Ghosts D} where
-  -- a journal that stands for these bodies leaves them
-  pub leaves_bodies : (journal : Journal D g) (bodies : List (List ℕ)) → StandsFor journal bodies → (image : List ℕ) → g.may_leave (disk_of journal) image → HasContent image bodies
-  leaves_bodies journal bodies stands image left = subst (λ bytes. HasContent bytes bodies) (sym (stands.durable image left)) stands.content
-
-  -- where nothing is done
-  pub unmoved : OnlyNow g → (journal : Journal D g) (bodies : List (List ℕ)) → StandsFor journal bodies → (disk : D) → disk ≡ disk_of journal
-      → LeavesOnly g.moment g.left_since (disk_of journal) disk (λ image. HasContent image bodies)
-  unmoved only_now journal bodies stands disk is =
-      subst (λ (d : D). LeavesOnly g.moment g.left_since (disk_of journal) d (λ image. HasContent image bodies)) (sym is) (record {
+  -- where nothing was done: what is so of each image with these bodies
+  pub unmoved : OnlyNow g → (journal : Journal D g) (bodies : List (List ℕ)) → StandsFor journal bodies → (P : List ℕ → Type 0) → ((image : List ℕ) → HasContent image bodies → P image) → (disk : D)
+      → disk ≡ disk_of journal → LeavesOnly g.moment g.left_since (disk_of journal) disk P
+  unmoved only_now journal bodies stands P so disk is =
+      subst (λ (d : D). LeavesOnly g.moment g.left_since (disk_of journal) d P) (sym is) (record {
         later = omega arith;
-        each = λ image left. leaves_bodies journal bodies stands image (only_now (disk_of journal) image left);
+        each = λ image left. so image (leaves_bodies g journal bodies stands image (only_now (disk_of journal) image left));
         before = λ t image le left. inl left;
       })
 
-  -- where no more was done than to make room
-  pub made_room : (old mid : Journal D g) → IsSameJournal old mid → (bodies : List (List ℕ)) → StandsFor old bodies → (body : List ℕ) (disk : D) → disk ≡ disk_of mid
-      → LeavesOnly g.moment g.left_since (disk_of old) disk (IsBeforeOrBehind bodies body)
-  made_room old mid same bodies stands body disk is =
-      subst (λ (d : D). LeavesOnly g.moment g.left_since (disk_of old) d (IsBeforeOrBehind bodies body)) (sym is)
-      (weaker g.moment g.left_since (disk_of old) (disk_of mid) (g.may_leave (disk_of old)) (IsBeforeOrBehind bodies body)
-      (λ image left. inl (leaves_bodies old bodies stands image left)) same.any_moment)
+  -- where no more was done than to make room: the same
+  pub made_room : (old mid : Journal D g) → IsSameJournal old mid → (bodies : List (List ℕ)) → StandsFor old bodies → (P : List ℕ → Type 0) → ((image : List ℕ) → HasContent image bodies → P image) → (disk : D)
+      → disk ≡ disk_of mid → LeavesOnly g.moment g.left_since (disk_of old) disk P
+  made_room old mid same bodies stands P so disk is =
+      subst (λ (d : D). LeavesOnly g.moment g.left_since (disk_of old) d P) (sym is)
+      (weaker g.moment g.left_since (disk_of old) (disk_of mid) (g.may_leave (disk_of old)) P (λ image left. so image (leaves_bodies g old bodies stands image left)) same.any_moment)
 
   -- where a body was appended, or was not
   pub room_and_append : (old mid new : Journal D g) → IsSameJournal old mid → (bodies : List (List ℕ)) → StandsFor old bodies → (body other : List ℕ) → other ≡ body
@@ -65,5 +60,5 @@ module _ {D : Type 0} {g : Ghosts D} where
   room_and_append old mid new same bodies stands body other other_is run disk is =
       subst (λ (d : D). LeavesOnly g.moment g.left_since (disk_of old) d (IsBeforeOrBehind bodies body)) (sym is)
       (joined g.moment g.left_since (disk_of old) (disk_of mid) (disk_of new) (IsBeforeOrBehind bodies body)
-      (made_room old mid same bodies stands body (disk_of mid) refl)
+      (made_room old mid same bodies stands (IsBeforeOrBehind bodies body) (λ image has. inl has) (disk_of mid) refl)
       (subst (λ (b : List ℕ). LeavesOnly g.moment g.left_since (disk_of mid) (disk_of new) (IsBeforeOrBehind bodies b)) other_is run))

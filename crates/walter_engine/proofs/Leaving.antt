@@ -8,10 +8,10 @@ use Rattle.walter_base.specs.declared.names.SiteId.{SiteId}
 use Rattle.walter_disk.specs.Images.{LeavesOnly}
 use Rattle.walter_disk.specs.declared.disk.Disk.{Ghosts}
 use Rattle.walter_journal.specs.Journals.{disk_of, capacity_of, left_of, need_of as body_need, StandsFor, Appends}
-use Rattle.walter_journal.specs.Layout.{HasContent, IsBeforeOrBehind}
+use Rattle.walter_journal.specs.Layout.{IsBeforeOrBehind}
 use Rattle.walter_journal.specs.Steps.{Fails}
 use Rattle.walter_journal.specs.declared.journal.Journal.{Journal}
-use Rattle.walter_journal.proofs.Moments.{weaker, joined}
+use Rattle.walter_journal.proofs.Moments.{weaker}
 use Rattle.walter_record.specs.Spelling.{record_spelled}
 use Rattle.walter_site.specs.declared.plan.Input.{Input}
 use Rattle.walter_site.specs.declared.plan.Input.TheVariants.{Call}
@@ -20,17 +20,17 @@ use Rattle.walter_site.specs.Sites.{known, event_of, client_of, call_of, expecte
 use Rattle.walter_trail.specs.declared.trail.Outcome.TheVariants.{Replied}
 use Rattle.walter_trail.specs.Knowledge.{Knowledge, session_of, after}
 use Rattle.walter_trail.specs.Records.{CanFollow, IsRecordAmong}
-use Rattle.walter_trail.specs.Rule.{rule, call_rule, MayWant}
-use Rattle.walter_trail.specs.declared.trail.TrailEvent.TheVariants.{Call as CallEvent}
+use Rattle.walter_trail.specs.Rule.{rule, call_rule}
 use Rattle.walter_trail.specs.Standing.{Standing}
-use Rattle.walter_trail.specs.Trails.{no_memory, TakesMemory, need_of, left_behind}
-use Rattle.walter_engine.specs.declared.answers.Stepped.TheVariants.{Done, Failed, Full, NoMemory}
+use Rattle.walter_trail.specs.Trails.{need_of, left_behind}
+use Rattle.walter_engine.specs.declared.answers.Stepped.TheVariants.{Done, Failed, Full}
 use Rattle.walter_engine.specs.declared.stepping.Staged.{Staged}
 use Rattle.walter_engine.specs.Advances.{IsSameJournal, IsStaged, Advances}
 use Rattle.walter_engine.specs.Contents.{MayHaveRecords, AreJournaled}
 use Rattle.walter_engine.specs.Engines.{IsRunning}
-use Rattle.walter_engine.proofs.Advancing.{brings, answered_up, answered_knows, answered_comes, done_journaled, wrote_journaled, flew_comes, flew_up, flew_rests, flew_journaled, full_comes}
-use Rattle.walter_engine.proofs.Resting.{may_have, before_or_behind, rests_failed, SizeIs, CountsNow}
+use Rattle.walter_engine.proofs.Advancing.{brings, answered_up, answered_knows, answered_comes, wrote_journaled, flew_comes, flew_up, flew_rests, flew_journaled, full_comes}
+use Rattle.walter_engine.proofs.Crashes.{room_and_append}
+use Rattle.walter_engine.proofs.Resting.{before_or_behind, rests_failed, SizeIs, CountsNow}
 use Rattle.walter_engine.proofs.Room.{fits, need_is, left_is}
 
 -- what was planned for the input
@@ -41,32 +41,6 @@ module _ {D : Type 0} {g : Ghosts D} (catalog : Catalog) (i : SiteId) (S : Stand
     (running : IsRunning S site old) (J : AreJournaled catalog i S) (same : IsSameJournal old mid) where
   stands_mid : StandsFor mid (map record_spelled S.records)
   stands_mid = same.stands (map record_spelled S.records) running.stands
-
-  -- memory ran out
-  pub wanted : (input : Input) (now : Site) (rec : Option Record) (reply : Reply) → S.gone (client_of input) ≡ None → known now ≡ known site → MayWant (call_of input)
-      → Advances catalog (capacity_of old) i S (event_of input) NoMemory now mid
-  wanted (Call client call) now rec reply nothing still may = record {
-    comes = no_memory (subst (λ b. TakesMemory b (CallEvent client call)) (sym running.up) may) refl;
-    left = record { up = running.up; knows = still ∙ running.knows; settled = running.settled; stands = stands_mid };
-    journaled = J;
-  }
-
-  -- the client is answered, without a record
-  pub done : (input : Input) (now : Site) (reply copy : Reply) → S.gone (client_of input) ≡ None → IsPlanned catalog i (known site) input None reply → copy ≡ reply
-      → known now ≡ after i (known site) (event_of input) (Replied reply) None
-      → Advances catalog (capacity_of old) i S (event_of input) (Done copy None) now mid
-  done (Call client call) now reply copy nothing planned is left =
-      subst (λ (r : Reply). Advances catalog (capacity_of old) i S (CallEvent client call) (Done r None) now mid) (sym is) (
-      record {
-        comes = answered_comes catalog (capacity_of old) i S client call (known site) None reply running.up running.settled running.knows nothing planned J tt;
-        left = record {
-          up = answered_up catalog (capacity_of old) i S client call (known site) None reply running.up running.settled running.knows nothing planned J;
-          knows = left ∙ answered_knows catalog (capacity_of old) i S client call (known site) None reply running.up running.settled running.knows nothing planned J;
-          settled = running.settled;
-          stands = stands_mid;
-        };
-        journaled = done_journaled catalog (capacity_of old) i S client call (known site) reply running.up running.settled running.knows nothing planned J;
-      })
 
   -- with a record, which was staged
   module _ (input : Input) (rec : Record) (reply : Reply) (count : ℕ) (s : Staged) (nothing : S.gone (client_of input) ≡ None) (planned : IsPlanned catalog i (known site) input (Some rec) reply)
@@ -147,27 +121,13 @@ module _ {D : Type 0} {g : Ghosts D} (catalog : Catalog) (i : SiteId) (S : Stand
           journaled = flew_journaled catalog (capacity_of old) i S client call (known site) rec reply running.up running.settled running.knows none plan J staged.sized staged.ranges among follows;
         }
 
-  -- ---- what a crash leaves
-
-  abbrev Crash : Input → Journal D g → Type 0
-  Crash input new = LeavesOnly g.moment g.left_since (disk_of old) (disk_of new) (MayHaveRecords S.records (rule catalog i S (event_of input)).wrote)
-
-  before : (rec : Option Record) (image : List ℕ) → g.may_leave (disk_of old) image → MayHaveRecords S.records rec image
-  before rec image left = may_have S.records rec image
-      (subst (λ bytes. HasContent bytes (map record_spelled S.records)) (sym (running.stands.durable image left)) running.stands.content)
-
-  -- where nothing was appended
-  pub crash_before : (input : Input) → Crash input mid
-  crash_before input = weaker g.moment g.left_since (disk_of old) (disk_of mid) (g.may_leave (disk_of old)) (MayHaveRecords S.records (rule catalog i S (event_of input)).wrote)
-      (before (rule catalog i S (event_of input)).wrote) same.any_moment
-
+  -- what a crash leaves of it
   pub crash_after : (input : Input) (rec : Record) (reply : Reply) (body : List ℕ) (new : Journal D g) → S.gone (client_of input) ≡ None
       → IsPlanned catalog i (known site) input (Some rec) reply → body ≡ record_spelled rec
-      → LeavesOnly g.moment g.left_since (disk_of mid) (disk_of new) (IsBeforeOrBehind (map record_spelled S.records) body) → Crash input new
+      → LeavesOnly g.moment g.left_since (disk_of mid) (disk_of new) (IsBeforeOrBehind (map record_spelled S.records) body)
+      → LeavesOnly g.moment g.left_since (disk_of old) (disk_of new) (MayHaveRecords S.records (rule catalog i S (event_of input)).wrote)
   crash_after (Call client call) rec reply body new none plan is run =
       let brought = brings catalog (capacity_of old) i S client call (known site) (Some rec) reply running.up running.settled running.knows none plan J in
       subst (λ (r : Option Record). LeavesOnly g.moment g.left_since (disk_of old) (disk_of new) (MayHaveRecords S.records r)) (sym brought)
-      (joined g.moment g.left_since (disk_of old) (disk_of mid) (disk_of new) (MayHaveRecords S.records (Some rec))
-      (weaker g.moment g.left_since (disk_of old) (disk_of mid) (g.may_leave (disk_of old)) (MayHaveRecords S.records (Some rec)) (before (Some rec)) same.any_moment)
-      (weaker g.moment g.left_since (disk_of mid) (disk_of new) (IsBeforeOrBehind (map record_spelled S.records) body) (MayHaveRecords S.records (Some rec))
-      (λ image it. before_or_behind S.records rec image (subst (λ (b : List ℕ). IsBeforeOrBehind (map record_spelled S.records) b image) is it)) run))
+      (weaker g.moment g.left_since (disk_of old) (disk_of new) (IsBeforeOrBehind (map record_spelled S.records) (record_spelled rec)) (MayHaveRecords S.records (Some rec)) (before_or_behind S.records rec)
+      (room_and_append old mid new same (map record_spelled S.records) running.stands (record_spelled rec) body is run (disk_of new) refl))

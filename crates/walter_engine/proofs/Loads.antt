@@ -23,6 +23,7 @@ use Rattle.walter_trail.specs.Trails.{Comes, only}
 use Rattle.walter_trail.proofs.Replayed.{follows_lost}
 use Rattle.walter_engine.specs.declared.answers.RefusedRestart.{RefusedRestart}
 use Rattle.walter_engine.specs.declared.answers.RefusedRestart.TheVariants as refused
+use Rattle.walter_engine.specs.declared.answers.Restarted.{Restarted}
 use Rattle.walter_engine.specs.declared.engine.Engine.{Engine}
 use Rattle.walter_engine.specs.declared.engine.State.{State}
 use Rattle.walter_engine.specs.declared.engine.State.TheVariants.{Up, Down}
@@ -30,7 +31,7 @@ use Rattle.walter_engine.specs.declared.engine.Tally.{Tally}
 use Rattle.walter_engine.specs.declared.restarting.Raised.{Raised}
 use Rattle.walter_engine.specs.Contents.{AreJournaled, CanBeJournaled, MayHaveRecords, MayHaveBoot}
 use Rattle.walter_engine.specs.Engines.{disk_in, OfDisk, OfDisks, IsInState, IsResting}
-use Rattle.walter_engine.specs.Raises.{Raises, IsCounted, IsFoundIn}
+use Rattle.walter_engine.specs.Raises.{Raises, IsCounted, IsFoundIn, IsLast}
 use Rattle.walter_engine.specs.Restarts.{Restarts, unloaded_by}
 use Rattle.walter_engine.specs.States.{disk_of_state, disk_under, is_up_in, IsOf, IsOfState}
 use Rattle.walter_engine.specs.Steps.{came_of_restart, kept_of, IsRefusedOver, IsRefusedFor, IfRefused}
@@ -103,9 +104,7 @@ module _ {D : Type 0} {g : Ghosts D} where
           count = counted.count;
           in_flight = counted.flight;
         };
-        last = λ kept why is.
-            let refused = raises.boots.refused kept why is in
-            (refused.0, ap (λ kept. (settled engine.site kept S).knows.epoch) (sym (ap kept_of is)) ∙ refused.1);
+        last = λ kept why is. subst (λ (a : Restarted). IfRefused a (IsLast (settled engine.site (kept_of a) S).knows)) is raises.last;
       }
 
   -- what a journal that was loaded has
@@ -143,10 +142,10 @@ module _ {D : Type 0} {g : Ghosts D} (size_is : SizeIs g) (counts_now : CountsNo
               (if_some (CanBeJournaled catalog i S) (CanBeJournaled catalog i T) S.flight (λ rec can. record { spelled = can.spelled; follows = follows_lost catalog i S.knows rec can.follows }) all.in_flight)
               (λ up. cc);
           counted = record { count = counted.count; flight = counted.flight };
-          refused = λ k why is. cc;
         };
+        last = tt;
       }
-  raises_unloaded fault.NoMemory cause = record { found = tt; boots = boots_no_memory catalog capacity i S tally all counted new still None _ refl refl refl }
+  raises_unloaded fault.NoMemory cause = record { found = tt; boots = boots_no_memory catalog capacity i S tally all counted new still None _ refl refl refl; last = tt }
   raises_unloaded fault.Foreign cause = absurd (wrong IsForeign not_foreign cause)
   raises_unloaded (fault.Damaged at claimed) cause = absurd (wrong (λ bytes. IsDamaged bytes at claimed) (λ bytes bodies. not_damaged bytes bodies at claimed) cause)
 

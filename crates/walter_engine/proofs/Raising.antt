@@ -11,7 +11,7 @@ use Rattle.walter_disk.specs.declared.disk.Disk.{Ghosts}
 use Rattle.walter_disk.specs.Images.{LeavesOnly}
 use Rattle.walter_journal.specs.declared.journal.Journal.{Journal}
 use Rattle.walter_journal.specs.Journals.{disk_of, StandsFor}
-use Rattle.walter_journal.specs.Layout.{HasContent, IsBeforeOrBehind}
+use Rattle.walter_journal.specs.Layout.{IsBeforeOrBehind}
 use Rattle.walter_journal.proofs.Moments.{weaker}
 use Rattle.walter_record.specs.Spelling.{record_spelled, HasRecordSpelling}
 use Rattle.walter_trail.specs.declared.trail.TrailEvent.TheVariants.{Restart}
@@ -28,15 +28,15 @@ use Rattle.walter_engine.specs.declared.engine.Tally.{Tally}
 use Rattle.walter_engine.specs.declared.restarting.Raised.{Raised}
 use Rattle.walter_engine.specs.Contents.{AreJournaled, CanBeJournaled, MayHaveRecords, MayHaveBoot}
 use Rattle.walter_engine.specs.Engines.{IsResting}
-use Rattle.walter_engine.specs.Raises.{Boots, Raises, IsDown, IsCounted, IsFoundIn}
+use Rattle.walter_engine.specs.Raises.{Boots, Raises, IsDown, IsCounted, IsFoundIn, IsLast}
 use Rattle.walter_engine.specs.Replays.{Tells}
 use Rattle.walter_engine.specs.States.{disk_of_state}
 use Rattle.walter_engine.specs.Steps.{Tell, IsUnreadable, IsRefusedOver, IfRefused, kept_of}
 use Rattle.walter_engine.proofs.Bodies.{one_list, readable, some_is}
 use Rattle.walter_engine.proofs.Boots.{boots_no_memory}
-use Rattle.walter_engine.proofs.Crashes.{found_may_have, boot_may_have, leaves_bodies, unmoved}
+use Rattle.walter_engine.proofs.Crashes.{found_may_have, boot_may_have, unmoved}
 use Rattle.walter_trail.proofs.Replayed.{all_follow-push, replayed-push, lost_recorded, follows_lost}
-use Rattle.walter_engine.proofs.Resting.{SizeIs, OnlyNow, rests_by}
+use Rattle.walter_engine.proofs.Resting.{SizeIs, OnlyNow, rests_by, leaves_bodies}
 use Rattle.walter_engine.proofs.Standings.{journaled_more}
 
 module _ (catalog : Catalog) (i : SiteId) (S : Standing) (all : AreJournaled catalog i S) where
@@ -111,7 +111,7 @@ found_behind tally S bodies counted (inr behind) more = behind
 -- a site that is not booted rests, whatever was found
 module _ {D : Type 0} {g : Ghosts D} (size_is : SizeIs g) (S : Standing) (bodies : List (List ℕ)) (down : IsDown S) (found : IsFoundIn S bodies) (journal : Journal D g) (stands : StandsFor journal bodies) where
   may_have_found : (image : List ℕ) → g.may_leave (disk_of journal) image → MayHaveRecords S.records S.flight image
-  may_have_found image left = found_may_have S bodies found image (leaves_bodies journal bodies stands image left)
+  may_have_found image left = found_may_have S bodies found image (leaves_bodies g journal bodies stands image left)
 
   found_rests : IsResting g S (disk_of journal)
   found_rests = rests_by g size_is S journal down.down down.rests bodies stands may_have_found
@@ -123,7 +123,16 @@ raises_no_memory {D} {g} size_is catalog capacity i S tally bodies down all coun
   found = subst (λ (kept : Option Record). IfSome kept (IsFound S Restart)) (sym (ap kept_of is_answer)) tt;
   boots = subst (λ kept. Boots catalog capacity i (settled i kept S) result) (sym (ap kept_of is_answer))
       (boots_no_memory {g = g} catalog capacity i S tally all counted (disk_of journal) (found_rests size_is S bodies down found journal stands) None result is_state is_answer is_tally);
+  last = subst (λ (answer : Restarted). IfRefused answer (IsLast (settled i (kept_of answer) S).knows)) (sym is_answer) tt;
 }
+
+-- where it is refused, its cause is also so
+pub refused_so : (answer : Restarted) (P Q : RefusedRestart → Type 0) → ((why : RefusedRestart) → P why → Q why) → IfRefused answer P → IfRefused answer Q
+refused_so (restarted.Refused kept why) P Q so is = so why is
+refused_so (restarted.Up kept wrote) P Q so is = tt
+refused_so (restarted.Failed kept flight) P Q so is = tt
+refused_so (restarted.Full kept need free) P Q so is = tt
+refused_so (restarted.NoMemory kept) P Q so is = tt
 
 -- a site that was booted
 module _ {D : Type 0} {g : Ghosts D} (catalog cat : Catalog) (capacity : ℕ) (i j : SiteId) (S : Standing) (tally : Tally) (K : Knowledge) (bodies : List (List ℕ)) (same_catalog : cat ≡ catalog) (same_site : j ≡ i)
@@ -131,30 +140,45 @@ module _ {D : Type 0} {g : Ghosts D} (catalog cat : Catalog) (capacity : ℕ) (i
   abbrev WillBoot : Tally → Catalog → SiteId → Type 0
   WillBoot tally catalog i = (S : Standing) → IsDown S → K ≡ S.knows → AreJournaled catalog i S → IsCounted tally S → StandsFor journal (map record_spelled S.records) → Boots catalog capacity i S result
 
+  abbrev IsOverLast : RefusedRestart → Type 0
+  IsOverLast why = (why ≡ refused.LastEpoch) × (K.epoch ≡ 4294967295) × (disk_of_state result.state ≡ disk_of journal)
+
   here : (tally : Tally) → WillBoot tally cat j → WillBoot tally catalog i
   here tally boots = subst (λ c. WillBoot tally c i) same_catalog (subst (λ s. WillBoot tally cat s) same_site boots)
 
-  pub raises_alone : (tally.in_flight ≡ false) ⊎ (count ≤ tally.records) → WillBoot tally cat j → kept_of result.answer ≡ None → Raises catalog capacity i S result
-  raises_alone few boots kept =
+  -- it is refused behind the last epoch, with this record kept
+  last_at : (kept : Option Record) → kept_of result.answer ≡ kept → K ≡ (settled i kept S).knows → IfRefused result.answer IsOverLast
+      → IfRefused result.answer (IsLast (settled i (kept_of result.answer) S).knows)
+  last_at kept is knows =
+      refused_so result.answer IsOverLast (IsLast (settled i (kept_of result.answer) S).knows)
+      (λ why over. (over.0, ap (λ (k : Option Record). (settled i k S).knows.epoch) is ∙ sym (ap (λ (k : Knowledge). k.epoch) knows) ∙ over.1))
+
+  pub raises_alone : (tally.in_flight ≡ false) ⊎ (count ≤ tally.records) → WillBoot tally cat j → IfRefused result.answer IsOverLast → kept_of result.answer ≡ None
+      → Raises catalog capacity i S result
+  raises_alone few boots over kept =
       let is = found_alone tally S bodies counted found (⊎_elim (λ none. inl none) (λ less. inr (omega (arith, less, is_count))) few) in
+      let knows = knows_alone catalog i S all bodies K down is tells in
       record {
         found = subst (λ (kept : Option Record). IfSome kept (IsFound S Restart)) (sym kept) tt;
         boots = subst (λ kept. Boots catalog capacity i (settled i kept S) result) (sym kept)
-            (here tally boots S down (knows_alone catalog i S all bodies K down is tells) all counted (subst (λ bodies. StandsFor journal bodies) is stands));
+            (here tally boots S down knows all counted (subst (λ bodies. StandsFor journal bodies) is stands));
+        last = last_at None kept knows over;
       }
 
   pub raises_behind : (last : Option Record) → tally.records < count → ((records : List Record) (rec : Record) → bodies ≡ map record_spelled (records ++ rec ∷ []) → HasRecordSpelling catalog.sites rec → last ≡ Some rec)
-      → WillBoot (record { records = count; in_flight = false }) cat j → kept_of result.answer ≡ last → Raises catalog capacity i S result
-  raises_behind last more is_last boots kept_is =
+      → WillBoot (record { records = count; in_flight = false }) cat j → IfRefused result.answer IsOverLast → kept_of result.answer ≡ last → Raises catalog capacity i S result
+  raises_behind last more is_last boots over kept_is =
       let behind = found_behind tally S bodies counted found (omega (arith, more, is_count)) in
       let rec = behind.0 in
       let can = in_flight catalog i S all rec behind.1 in
       let kept : kept_of result.answer ≡ Some rec = kept_is ∙ is_last S.records rec behind.2 can.spelled in
+      let knows = knows_behind catalog i S all bodies K rec down behind.1 behind.2 tells in
       record {
         found = subst (λ (kept : Option Record). IfSome kept (IsFound S Restart)) (sym kept) (record { restart = refl; down = down.down; in_flight = behind.1 });
         boots = subst (λ kept. Boots catalog capacity i (settled i kept S) result) (sym kept)
-            (here _ boots (settled i (Some rec) S) (settled_down i S rec down) (knows_behind catalog i S all bodies K rec down behind.1 behind.2 tells)
+            (here _ boots (settled i (Some rec) S) (settled_down i S rec down) knows
             (settled_journaled catalog i S all rec down behind.1) (settled_counted i S rec bodies count is_count behind.2) (subst (λ bodies. StandsFor journal bodies) behind.2 stands));
+        last = last_at (Some rec) kept knows over;
       }
 
   -- ---- what a crash leaves of it
@@ -189,17 +213,9 @@ pub leaves_found : {D : Type 0} {g : Ghosts D} → OnlyNow g → (i : SiteId) (S
     → disk_of_state result.state ≡ disk_of journal
     → LeavesOnly g.moment g.left_since (disk_of journal) (disk_of_state result.state) (MayHaveBoot i S (kept_of result.answer))
 leaves_found {D} {g} only_now i S bodies found journal stands result is =
-    weaker g.moment g.left_since (disk_of journal) (disk_of_state result.state) (λ image. HasContent image bodies) (MayHaveBoot i S (kept_of result.answer))
-    (λ image has. inl (found_may_have S bodies found image has)) (unmoved {g = g} only_now journal bodies stands (disk_of_state result.state) is)
+    unmoved {g = g} only_now journal bodies stands (MayHaveBoot i S (kept_of result.answer)) (λ image has. inl (found_may_have S bodies found image has)) (disk_of_state result.state) is
 
 -- ---- why it is refused
-
-pub refused_so : (answer : Restarted) (P Q : RefusedRestart → Type 0) → ((why : RefusedRestart) → P why → Q why) → IfRefused answer P → IfRefused answer Q
-refused_so (restarted.Refused kept why) P Q so is = so why is
-refused_so (restarted.Up kept wrote) P Q so is = tt
-refused_so (restarted.Failed kept flight) P Q so is = tt
-refused_so (restarted.Full kept need free) P Q so is = tt
-refused_so (restarted.NoMemory kept) P Q so is = tt
 
 -- behind the last epoch
 pub refused_last : (catalog : Catalog) (i : SiteId) (bodies : List (List ℕ)) (K : Knowledge) (Same : Type 0) → Tells catalog i bodies K → (why : RefusedRestart)

@@ -44,6 +44,10 @@ begun_by None size images records flight told is_size are image = cc
 begun_by (Some bytes) size images records flight told is_size are image = omega (arith, is_size, may_have_begun records flight bytes (are bytes image))
 
 module _ {D : Type 0} (g : Ghosts D) where
+  -- a journal that stands for these bodies leaves them
+  pub leaves_bodies : (journal : Journal D g) (bodies : List (List ℕ)) → StandsFor journal bodies → (image : List ℕ) → g.may_leave (disk_of journal) image → HasContent image bodies
+  leaves_bodies journal bodies stands image left = subst (λ bytes. HasContent bytes bodies) (sym (stands.durable image left)) stands.content
+
   -- the laws of a disk that are used here
   abbrev pub SizeIs : Type 0
   SizeIs = (disk : D) → IfSome (g.known disk).reads (λ bytes. (g.known disk).size ≡ length bytes)
@@ -76,8 +80,8 @@ module _ {D : Type 0} (g : Ghosts D) where
   pub rests_under : SizeIs → (S : Standing) (journal : Journal D g) → S.up ≡ false → lost S.knows ≡ S.knows → StandsFor journal (map record_spelled S.records)
       → IsResting g S (disk_of journal)
   rests_under size_is S journal down rests stands =
-      rests_by size_is S journal down rests (map record_spelled S.records) stands (λ image left. may_have S.records S.flight image
-      (subst (λ bytes. HasContent bytes (map record_spelled S.records)) (sym (stands.durable image left)) stands.content))
+      rests_by size_is S journal down rests (map record_spelled S.records) stands
+      (λ image left. may_have S.records S.flight image (leaves_bodies journal (map record_spelled S.records) stands image left))
 
   -- a record whose append failed is in flight
   pub rests_failed : SizeIs → CountsNow → (records : List Record) (rec : Record) (T : Standing) (old new : Journal D g) → StandsFor old (map record_spelled records)

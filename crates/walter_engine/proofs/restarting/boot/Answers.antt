@@ -1,8 +1,8 @@
-use Rattle.std.proofs.Common.{◌≡◌, ℕ, ◌+◌, ap, ◌∙◌, length, Some, map, refl, inl, arith}
+use Rattle.std.proofs.Common.{◌≡◌, ℕ, ◌+◌, List, ap, ◌∙◌, length, Some, map, refl, inl, arith}
 use Rattle.walter_base.specs.declared.message.Record.TheVariants.{Boot}
-use Rattle.walter_journal.specs.Journals.{disk_of, left_of, need_of}
-use Rattle.walter_journal.specs.Layout.{HasContent}
-use Rattle.walter_journal.proofs.Moments.{weaker}
+use Rattle.walter_disk.specs.Images.{LeavesOnly}
+use Rattle.walter_journal.specs.Journals.{disk_of, left_of, need_of, StandsFor}
+use Rattle.walter_journal.specs.Layout.{IsBeforeOrBehind}
 use Rattle.walter_record.specs.Spelling.{record_spelled}
 use Rattle.walter_site.specs.Sites.{known, site_of, catalog_of}
 use Rattle.walter_trail.specs.Knowledge.{recorded}
@@ -11,6 +11,8 @@ use Rattle.walter_engine.proofs.Boots.{boots_no_memory, boots_up, boots_failed, 
 use Rattle.walter_engine.proofs.Crashes.{unmoved, made_room, room_and_append}
 use Rattle.walter_engine.proofs.Resting.{rests_under}
 use Rattle.walter_engine.proofs.Room.{short_enough}
+use Rattle.walter_engine.proofs.restarting.boot.Given.{Over}
+use Rattle.walter_engine.proofs.restarting.boot.Goals.{After-append}
 use Rattle.walter_engine.proofs.restarting.boot.Goals as goal
 
 pub returns-in_default-stage-clause-boots : goal.returns-in_default-stage-clause-boots
@@ -72,36 +74,33 @@ returns-clause-boots g c S down knows all counted stands =
 
 -- ---- what a crash leaves
 
+-- whatever came of the append
+appended : (g : Over) (c : After-append g) (bodies : List (List ℕ)) → StandsFor c.args.journal bodies → (disk : g.row.D.Denot) → disk ≡ disk_of c.append.new.self
+    → LeavesOnly g.D.Disk.moment g.D.Disk.left_since (disk_of c.args.journal) disk (IsBeforeOrBehind bodies (record_spelled (Boot ((known c.args.site).epoch + 1))))
+appended g c bodies stands disk is =
+    let same = c.in-Ok.ensures.same in
+    room_and_append {g = g.D.Disk} c.args.journal c.stage.new.journal c.append.new.self same bodies stands (record_spelled (Boot ((known c.args.site).epoch + 1))) c.as_slice.result.now
+    (c.as_slice.ensures ∙ c.in-Ok.ensures.staged.body_is ∙ ap (λ (n : ℕ). record_spelled (Boot n)) c.in-Ok-replay.ensures.ok)
+    (c.append.ensures.any_moment bodies (same.stands bodies stands)) disk is
+
 pub returns-in_default-clause-any_moment : goal.returns-in_default-clause-any_moment
 returns-in_default-clause-any_moment g c bodies stands =
-    weaker g.D.Disk.moment g.D.Disk.left_since (disk_of c.args.journal) _ (λ image. HasContent image bodies) _ (λ image has. inl has)
-    (unmoved {g = g.D.Disk} g.met.D.Disk.only_now c.args.journal bodies stands _ (ap disk_of_state c.rest.ensures.state))
+    unmoved {g = g.D.Disk} g.met.D.Disk.only_now c.args.journal bodies stands _ (λ image has. inl has) _ (ap disk_of_state c.rest.ensures.state)
 
 pub returns-in_default-stage-clause-any_moment : goal.returns-in_default-stage-clause-any_moment
 returns-in_default-stage-clause-any_moment g c bodies stands =
-    made_room {g = g.D.Disk} c.args.journal c.stage.new.journal c.stage.ensures.same bodies stands _ _ (ap disk_of_state c.rest-in_default-stage.ensures.state)
+    made_room {g = g.D.Disk} c.args.journal c.stage.new.journal c.stage.ensures.same bodies stands _ (λ image has. inl has) _ (ap disk_of_state c.rest-in_default-stage.ensures.state)
 
 pub returns-in_default-replay-clause-any_moment : goal.returns-in_default-replay-clause-any_moment
 returns-in_default-replay-clause-any_moment g c bodies stands =
-    made_room {g = g.D.Disk} c.args.journal c.stage.new.journal c.stage.ensures.same bodies stands _ _ (ap disk_of_state c.rest-in_default-replay.ensures.state)
+    made_room {g = g.D.Disk} c.args.journal c.stage.new.journal c.stage.ensures.same bodies stands _ (λ image has. inl has) _ (ap disk_of_state c.rest-in_default-replay.ensures.state)
 
 pub returns-in-Ok-append-clause-any_moment : goal.returns-in-Ok-append-clause-any_moment
-returns-in-Ok-append-clause-any_moment g c bodies stands =
-    let same = c.in-Ok.ensures.same in
-    room_and_append {g = g.D.Disk} c.args.journal c.stage.new.journal c.append.new.self same bodies stands (record_spelled (Boot ((known c.args.site).epoch + 1))) c.as_slice.result.now
-    (c.as_slice.ensures ∙ c.in-Ok.ensures.staged.body_is ∙ ap (λ (n : ℕ). record_spelled (Boot n)) c.in-Ok-replay.ensures.ok)
-    (c.append.ensures.any_moment bodies (same.stands bodies stands)) _ refl
+returns-in-Ok-append-clause-any_moment g c bodies stands = appended g (goal.at.returns-in-Ok-append-clause-any_moment g c).After-append bodies stands _ refl
 
 pub returns-in-Err-Failed-clause-any_moment : goal.returns-in-Err-Failed-clause-any_moment
 returns-in-Err-Failed-clause-any_moment g c bodies stands =
-    let same = c.in-Ok.ensures.same in
-    room_and_append {g = g.D.Disk} c.args.journal c.stage.new.journal c.append.new.self same bodies stands (record_spelled (Boot ((known c.args.site).epoch + 1))) c.as_slice.result.now
-    (c.as_slice.ensures ∙ c.in-Ok.ensures.staged.body_is ∙ ap (λ (n : ℕ). record_spelled (Boot n)) c.in-Ok-replay.ensures.ok)
-    (c.append.ensures.any_moment bodies (same.stands bodies stands)) _ (ap disk_of_state c.rest-in-Err-Failed.ensures.state)
+    appended g (goal.at.returns-in-Err-Failed-clause-any_moment g c).After-append bodies stands _ (ap disk_of_state c.rest-in-Err-Failed.ensures.state)
 
 pub returns-clause-any_moment : goal.returns-clause-any_moment
-returns-clause-any_moment g c bodies stands =
-    let same = c.in-Ok.ensures.same in
-    room_and_append {g = g.D.Disk} c.args.journal c.stage.new.journal c.append.new.self same bodies stands (record_spelled (Boot ((known c.args.site).epoch + 1))) c.as_slice.result.now
-    (c.as_slice.ensures ∙ c.in-Ok.ensures.staged.body_is ∙ ap (λ (n : ℕ). record_spelled (Boot n)) c.in-Ok-replay.ensures.ok)
-    (c.append.ensures.any_moment bodies (same.stands bodies stands)) _ (ap disk_of_state c.rest-in-Err-Full.ensures.state)
+returns-clause-any_moment g c bodies stands = appended g (goal.at.returns-clause-any_moment g c).After-append bodies stands _ (ap disk_of_state c.rest-in-Err-Full.ensures.state)

@@ -38,13 +38,13 @@ returns-then-not-tally-clause-raises g c S down all counted found stands =
       | then-not-tally-via-else-not-tally+then-bodies-tally w ↦ inr (omega (arith, w.if-bodies-tally.true))
     ] in
     raises_alone {g = g.D.Disk} _ _ _ _ _ S c.args.tally _ bodies c.in-Ok.ensures.catalog c.in-Ok.ensures.site c.in-Ok.ensures.told down all counted found c.args.journal stands c.boot.result
-    (length c.args.bodies.now) (sym (length-map c.args.bodies.now _)) few c.boot.ensures.boots c.boot.ensures.kept
+    (length c.args.bodies.now) (sym (length-map c.args.bodies.now _)) few c.boot.ensures.boots c.boot.ensures.refused c.boot.ensures.kept
 
 pub returns-clause-raises : goal.returns-clause-raises
 returns-clause-raises g c S down all counted found stands =
     let bodies = map (λ body. body.items) c.args.bodies.now in
     raises_behind {g = g.D.Disk} _ _ _ _ _ S c.args.tally _ bodies c.in-Ok.ensures.catalog c.in-Ok.ensures.site c.in-Ok.ensures.told down all counted found c.args.journal stands c.boot-2.result
-    (length c.args.bodies.now) (sym (length-map c.args.bodies.now _)) c.in-Ok-last_record.kept (omega (arith, c.if-bodies-tally.false)) c.in-Ok-last_record.ensures.last c.boot-2.ensures.boots c.boot-2.ensures.kept
+    (length c.args.bodies.now) (sym (length-map c.args.bodies.now _)) c.in-Ok-last_record.kept (omega (arith, c.if-bodies-tally.false)) c.in-Ok-last_record.ensures.last c.boot-2.ensures.boots c.boot-2.ensures.refused c.boot-2.ensures.kept
 
 -- ---- why it is refused
 
