@@ -1,9 +1,10 @@
 -- What a start, an update and an end leave of the open transactions.
 use Rattle.std.proofs.Common.{◌≡◌, ℕ, Bool, true, false, not, nat_eq, List, [], ◌∷◌, ◌++◌, All, filter, map, Some, None, IfSome, is_some, refl, ap, sym, ◌∙◌, subst, if◌then◌else◌}
-use Rattle.std.proofs.lemmas.Bool.{eqb-true, eq-eqb}
+use Rattle.std.proofs.lemmas.Bool.{eqb-true}
 use Rattle.std.proofs.lemmas.List.Elements.{All-nil, All-cons, All-head, All-tail, All-push, All-filter}
 use Rattle.walter_base.specs.declared.catalog.Catalog.{Catalog}
 use Rattle.walter_base.specs.declared.names.SiteId.{SiteId}
+use Rattle.walter_session.proofs.Lists.{turned}
 use Rattle.walter_site.specs.Open.{IsOpenAt, AreApart, AreOpenAt}
 use Rattle.walter_trail.specs.Knowledge.{Session, Open, session_in}
 
@@ -110,12 +111,6 @@ none_more k client new (s ∷ ss) none other =
       | true ↦ λ h. h
       | false ↦ λ h. none_more k client new ss h other
     ] none
-
-turned : (a b : ℕ) → nat_eq a b ≡ false → nat_eq b a ≡ false
-turned a b apart = elim (nat_eq b a) as (λ t. nat_eq b a ≡ t → t ≡ false) [
-  | true ↦ λ is. let yes : nat_eq a b ≡ true = eq-eqb a b (sym (eqb-true b a is)) in absurd (cc)
-  | false ↦ λ is. refl
-] refl
 
 apart_more : (client : ℕ) (new : Session) (ss : List Open) → AreApart ss → is_some (session_in client ss) ≡ false → AreApart (ss ++ (client, new) ∷ [])
 apart_more client new [] apart none = (refl, tt)

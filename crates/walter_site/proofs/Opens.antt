@@ -1,6 +1,6 @@
 -- What is seen of sessions, as a trail knows it.
-use Rattle.std.proofs.Common.{◌≡◌, ℕ, true, false, cond, not, nat_eq, ◌||◌, List, [], ◌∷◌, map, filter, Option, Some, None, Result, Ok, Err, refl, ap, sym, ◌∙◌, subst, option_map, length, if◌then◌else◌}
-use Rattle.std.specs.Prelude.{IsSome, IsOk, OnOk}
+use Rattle.std.proofs.Common.{◌≡◌, ℕ, true, false, cond, not, nat_eq, ◌||◌, List, [], ◌∷◌, map, filter, Option, Some, None, refl, ap, sym, ◌∙◌, subst, option_map, length, if◌then◌else◌}
+use Rattle.std.specs.Prelude.{IsSome}
 use Rattle.std.specs.List.{list_any}
 use Rattle.std.specs.Map.{lookup}
 use Rattle.std.proofs.lemmas.List.{length-map}
@@ -63,7 +63,3 @@ some_session client ss some = by (lookup (nat_eq client) ss) (subst IsSome (sess
     by : (o : Option Seen) → IsSome (option_map as_known o) → IsSome o
     by None is = is
     by (Some s) is = refl
-
-pub from_ok : {T E : Type 0} (r : Result T E) (P : Type 0) → IsOk r → OnOk r P → P
-from_ok (Ok x) P is p = p
-from_ok (Err e) P is p = absurd (cc)

@@ -1,6 +1,7 @@
 use Rattle.std.proofs.Common.{ap, ◌∙◌}
 use Rattle.walter_session.specs.Sessions.{sessions_of}
-use Rattle.walter_site.proofs.Opens.{opens, from_ok, some_session, opens-changed}
+use Rattle.walter_session.proofs.Tables.{from_ok}
+use Rattle.walter_site.proofs.Opens.{opens, some_session, opens-changed}
 use Rattle.walter_site.proofs.sessions.add_update.Goals as goal
 
 pub add-requires : goal.add-requires
