@@ -16,7 +16,6 @@ use Rattle.walter_engine.proofs.Resting.{may_have, leaves_bodies}
 use Rattle.walter_reply.specs.Replies.{FitsFrame}
 use Rattle.walter_reply.proofs.Lengths.{short_fits}
 use Rattle.walter_report.specs.Reports.{reply_in, HaveFrames}
-use Rattle.walter_report.specs.Traces.{HasSpellings, HaveSpellings}
 use Rattle.walter_scenario.specs.declared.scenario.Arm.{Arm}
 use Rattle.walter_scenario.specs.declared.place.Place.{Place}
 use Rattle.walter_scenario.specs.declared.place.Place.TheVariants.{TooLong}
@@ -137,12 +136,6 @@ cell_frames s cell trails is same =
     subst HaveFrames (sym same)
     (All-push (λ (trail : List Entry). All (λ (e : Entry). All FitsFrame (reply_in e.outcome)) trail) [] cell.entries.items (λ k d within. absurd (omega (arith, within)))
     (All-weaker IsSizedEntry (λ (e : Entry). All FitsFrame (reply_in e.outcome)) (λ e sized. outcome_frames e.outcome sized.outcome) cell.entries.items is.site.sized))
-
-pub cell_spellings : {D : Type 0} {g : Ghosts D} (s : Scenario) (cell : Cell D g) (trails : List (List Entry)) → IsCell s cell → trails ≡ cell.entries.items ∷ [] → HaveSpellings trails
-cell_spellings s cell trails is same =
-    subst HaveSpellings (sym same)
-    (All-push (λ (trail : List Entry). All HasSpellings trail) [] cell.entries.items (λ k d within. absurd (omega (arith, within)))
-    (All-weaker IsSizedEntry HasSpellings (λ e sized. record { kept = sized.kept; wrote = sized.wrote; flight = sized.flight }) cell.entries.items is.site.sized))
 
 -- what holds of a result that is Ok, holds of one that is no Err
 pub ok_part : {T E : Type 0} (r : Result T E) (P : Type 0) → OnOk r P → is_err r ≡ false → P
