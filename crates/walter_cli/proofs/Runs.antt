@@ -9,14 +9,13 @@ use Rattle.walter_conn.proofs.Standings.{calls_of as calls_told}
 use Rattle.walter_disk.specs.declared.disk.Disk.{Ghosts}
 use Rattle.walter_engine.specs.declared.engine.State.{State}
 use Rattle.walter_engine.specs.declared.engine.State.TheVariants.{Up, Down}
-use Rattle.walter_engine.specs.Contents.{HasRecords, MayHaveRecords}
+use Rattle.walter_engine.specs.Contents.{MayHaveRecords}
 use Rattle.walter_engine.specs.Engines.{disk_in, Stands, IsInState}
 use Rattle.walter_engine.specs.States.{disk_under}
-use Rattle.walter_engine.proofs.Resting.{may_have}
+use Rattle.walter_engine.proofs.Resting.{may_have, leaves_bodies}
 use Rattle.walter_reply.specs.Replies.{FitsFrame}
 use Rattle.walter_reply.proofs.Lengths.{short_fits}
 use Rattle.walter_report.specs.Reports.{reply_in, HaveFrames}
-use Rattle.walter_report.specs.Traces.{HasSpellings, HaveSpellings}
 use Rattle.walter_scenario.specs.declared.scenario.Arm.{Arm}
 use Rattle.walter_scenario.specs.declared.place.Place.{Place}
 use Rattle.walter_scenario.specs.declared.place.Place.TheVariants.{TooLong}
@@ -56,7 +55,7 @@ state_images : {D : Type 0} {g : Ghosts D} (S : Standing) (state : Option (State
 state_images S None disk is under image left = absurd is
 state_images {D = D} {g = g} S (Some (Up site journal)) disk is under image left =
     let here = subst (λ (d : D). g.may_leave d image) (let same : disk ≡ _ = sym cc in same) left in
-    may_have S.records S.flight image (subst (λ bytes. HasRecords bytes S.records) (sym (is.stands.durable image here)) is.stands.content)
+    may_have S.records S.flight image (leaves_bodies g journal _ is.stands image here)
 state_images {D = D} {g = g} S (Some (Down found)) disk is under image left =
     is.images image (subst (λ (d : D). g.may_leave d image) (let same : disk ≡ found = sym cc in same) left)
 
@@ -138,12 +137,6 @@ cell_frames s cell trails is same =
     (All-push (λ (trail : List Entry). All (λ (e : Entry). All FitsFrame (reply_in e.outcome)) trail) [] cell.entries.items (λ k d within. absurd (omega (arith, within)))
     (All-weaker IsSizedEntry (λ (e : Entry). All FitsFrame (reply_in e.outcome)) (λ e sized. outcome_frames e.outcome sized.outcome) cell.entries.items is.site.sized))
 
-pub cell_spellings : {D : Type 0} {g : Ghosts D} (s : Scenario) (cell : Cell D g) (trails : List (List Entry)) → IsCell s cell → trails ≡ cell.entries.items ∷ [] → HaveSpellings trails
-cell_spellings s cell trails is same =
-    subst HaveSpellings (sym same)
-    (All-push (λ (trail : List Entry). All HasSpellings trail) [] cell.entries.items (λ k d within. absurd (omega (arith, within)))
-    (All-weaker IsSizedEntry HasSpellings (λ e sized. record { kept = sized.kept; wrote = sized.wrote; flight = sized.flight }) cell.entries.items is.site.sized))
-
 -- what holds of a result that is Ok, holds of one that is no Err
 pub ok_part : {T E : Type 0} (r : Result T E) (P : Type 0) → OnOk r P → is_err r ≡ false → P
 ok_part (Ok x) P p is = p
@@ -193,12 +186,6 @@ taken_reading before after bytes s taken told = here after taken.source.end (sym
         let same : bytes ≡ taken.bytes ++ rest = cc in
         subst (λ (b : List ℕ). IsReading b s) (sym (same ∙ ap (λ r. taken.bytes ++ r) end ∙ append-nil taken.bytes)) taken.reading
 
-named_place : (place other : Place) → Some (ScenarioFault place) ≡ Some (ScenarioFault other) → place ≡ other
-named_place place other e = let same : ScenarioFault place ≡ ScenarioFault other = cc in cc
-
-named_journal : (a b : ℕ) (x y : JournalCause) → Some (Journal a x) ≡ Some (Journal b y) → x ≡ y
-named_journal a b x y e = let same : Journal a x ≡ Journal b y = cc in cc
-
 -- no journal that no site can begin with is empty
 never_empty : (cause : JournalCause) (bytes : List ℕ) → HasCause cause bytes → bytes ≢ []
 never_empty Foreign bytes why = why.1
@@ -217,99 +204,103 @@ module _ (words : List (String Global)) (rack : Racked) (before after : Outside)
   runs : (s : Scenario) → IsTaken before.left after.left s → IsRun rack s ended.trails.items → Runs rack before after ended.trails.items
   runs s taken run = record { bytes = taken.bytes; source = taken.source; scenario = s; reading = taken.reading; run = run }
 
+  -- whether there was a run
+  runs_if : (s : Scenario) → IsTaken before.left after.left s → (ended.trails.items ≡ []) ⊎ IsRun rack s ended.trails.items → (ended.trails.items ≡ []) ⊎ Runs rack before after ended.trails.items
+  runs_if s taken (inl none) = inl none
+  runs_if s taken (inr run) = inr (runs s taken run)
+
+  -- what is so at the end with this fault, or with none
+  abbrev Tells : Option Fault → Type 0
+  Tells None = RunsWhole rack words before after ended.trails.items (Appends before.holds after.holds)
+  Tells (Some Usage) = ⊥
+  Tells (Some (ScenarioFault place)) = HasNoReading before.left after.left place
+  Tells (Some Read) = before.source_faults < after.source_faults
+  Tells (Some Write) = RunsWhole rack words before after ended.trails.items (AppendsFront before.holds after.holds) × (before.sink_faults < after.sink_faults)
+  Tells (Some Memory) = Unit {0}
+  Tells (Some (Rack site)) = rack.failed ⊎ ((ended.trails.items ≡ []) × rack.gives (λ known images. 0 < known.faults))
+  Tells (Some (Journal site cause)) = (rack.told → rack.holds (HasCause cause)) × (rack.told → ¬ rack.holds (λ held. held ≡ []))
+
+  -- so it is by the status
+  at_done : (fault : Option Fault) → Tells fault → status_of fault ≡ 0 → RunsWhole rack words before after ended.trails.items (Appends before.holds after.holds)
+  at_done None told is = told
+  at_done (Some Usage) told is = absurd told
+  at_done _ told is = absurd (omega (arith, is))
+
+  at_usage : (fault : Option Fault) → Tells fault → status_of fault ≡ 1 → ⊥
+  at_usage (Some Usage) told is = told
+  at_usage _ told is = omega (arith, is)
+
+  at_unread : (fault : Option Fault) → Tells fault → status_of fault ≡ 3 → before.source_faults < after.source_faults
+  at_unread (Some Read) told is = told
+  at_unread _ told is = absurd (omega (arith, is))
+
+  at_cut : (fault : Option Fault) → Tells fault → status_of fault ≡ 4
+      → RunsWhole rack words before after ended.trails.items (AppendsFront before.holds after.holds) × (before.sink_faults < after.sink_faults)
+  at_cut (Some Write) told is = told
+  at_cut _ told is = absurd (omega (arith, is))
+
+  at_unracked : (fault : Option Fault) → Tells fault → status_of fault ≡ 6 → rack.failed ⊎ rack.gives (λ known images. 0 < known.faults)
+  at_unracked (Some (Rack site)) (inl rose) is = inl rose
+  at_unracked (Some (Rack site)) (inr disk) is = inr disk.1
+  at_unracked _ told is = absurd (omega (arith, is))
+
+  -- where nothing fails, a scenario that the bytes spell is run
+  completes : (fault : Option Fault) → ended.status ≡ status_of fault → Tells fault → (bytes : List ℕ) (s : Scenario) → before.left ≡ Some bytes → IsReading bytes s → rack.told → rack.holds (λ held. held ≡ [])
+      → after.source_faults ≡ before.source_faults → after.sink_faults ≡ before.sink_faults → ¬ rack.failed
+      → (ended.status ≡ 0) ⊎ (ended.status ≡ 5) ⊎ ((ended.trails.items ≡ []) × rack.gives (λ known images. 0 < known.faults))
+  completes None is told bytes s left reading known new source sink ok = inl is
+  completes (Some Usage) is told bytes s left reading known new source sink ok = absurd told
+  completes (Some (ScenarioFault place)) is told bytes s left reading known new source sink ok =
+      absurd (read_nowhere_refused bytes s place reading (none_wrong before.left after.left bytes place told left))
+  completes (Some Read) is told bytes s left reading known new source sink ok = absurd (omega (arith, told, source))
+  completes (Some Write) is told bytes s left reading known new source sink ok = absurd (let rose = told.1 in omega (arith, rose, sink))
+  completes (Some Memory) is told bytes s left reading known new source sink ok = inr (inl is)
+  completes (Some (Rack site)) is (inl rose) bytes s left reading known new source sink ok = absurd (ok rose)
+  completes (Some (Rack site)) is (inr disk) bytes s left reading known new source sink ok = inr (inr disk)
+  completes (Some (Journal site cause)) is told bytes s left reading known new source sink ok = absurd (told.1 known new)
+
+  -- where the bytes are wrong at a place, it is named, or memory ran out
+  abbrev Refuses : Type 0
+  Refuses = (bytes : List ℕ) (place : Place) → before.left ≡ Some bytes → IsRefusedAt bytes place → after.source_faults ≡ before.source_faults → (ended.fault ≡ Some (ScenarioFault place)) ⊎ (ended.status ≡ 5)
+
+  -- all that is promised, by what is so with the fault
+  promise : (fault : Option Fault) → ended.fault ≡ fault → Tells fault → (ended.status ≢ 0 → ended.status ≢ 4 → after.holds ≡ before.holds)
+      → (ended.trails.items ≡ []) ⊎ Runs rack before after ended.trails.items → Refuses → Promise words rack before after ended
+  promise fault named told silent legal refuses =
+      let is : ended.status ≡ status_of fault = status ∙ ap status_of named in
+      record {
+        status = status;
+        written = λ h. at_done fault told (sym is ∙ h);
+        usage = (λ h. absurd (at_usage fault told (sym is ∙ h)), λ other. absurd (other asked));
+        unreadable = λ place h. subst (λ (f : Option Fault). Tells f) (sym named ∙ h) told;
+        unread = λ h. at_unread fault told (sym is ∙ h);
+        cut = λ h. (at_cut fault told (sym is ∙ h)).0;
+        failed = λ h. (at_cut fault told (sym is ∙ h)).1;
+        unracked = λ h. at_unracked fault told (sym is ∙ h);
+        unfit = λ site cause h. (subst (λ (f : Option Fault). Tells f) (sym named ∙ h) told).0;
+        given_back = back;
+        silent = silent;
+        legal_trails = legal;
+        complete = λ bytes s play. completes fault is told bytes s;
+        refuses = λ bytes place play. refuses bytes place;
+      }
+
+  -- the bytes of a scenario that was taken are refused nowhere
+  never : (s : Scenario) → IsTaken before.left after.left s → Refuses
+  never s taken = λ bytes place left wrong source. absurd (read_nowhere_refused bytes s place (taken_reading before.left after.left bytes s taken left) wrong)
+
   -- a run over a scenario that was taken
   pub promise_run : (s : Scenario) (fault : Option Fault) → ended.fault ≡ fault → IsTaken before.left after.left s
       → EndsRun rack trace s before.holds after.holds before.sink_faults after.sink_faults ended.trails.items fault → Promise words rack before after ended
   promise_run s None named taken ends =
-      let is : ended.status ≡ 0 = status ∙ ap status_of named in
-      record {
-        status = status;
-        written = λ h. whole s (Appends before.holds after.holds) taken ends.0 ends.1;
-        usage = (λ h. absurd (omega (arith, is, h)), λ other. absurd (other asked));
-        unreadable = λ place h. absurd (let e = sym named ∙ h in cc);
-        unread = λ h. absurd (omega (arith, is, h));
-        cut = λ h. absurd (omega (arith, is, h));
-        failed = λ h. absurd (omega (arith, is, h));
-        unracked = λ h. absurd (omega (arith, is, h));
-        unfit = λ site cause h told. absurd (let e = sym named ∙ h in cc);
-        given_back = back;
-        silent = λ not_done not_cut. absurd (not_done is);
-        legal_trails = inr (runs s taken ends.0.run);
-        complete = λ bytes t play told reading known new source sink ok. inl is;
-        refuses = λ bytes place play told wrong source. absurd (read_nowhere_refused bytes s place (taken_reading before.left after.left bytes s taken told) wrong);
-      }
+      promise None named (whole s (Appends before.holds after.holds) taken ends.0 ends.1) (λ not_done not_cut. absurd (not_done (status ∙ ap status_of named)))
+      (inr (runs s taken ends.0.run)) (never s taken)
   promise_run s (Some Write) named taken ends =
-      let is : ended.status ≡ 4 = status ∙ ap status_of named in
-      record {
-        status = status;
-        written = λ h. absurd (omega (arith, is, h));
-        usage = (λ h. absurd (omega (arith, is, h)), λ other. absurd (other asked));
-        unreadable = λ place h. absurd (let e = sym named ∙ h in cc);
-        unread = λ h. absurd (omega (arith, is, h));
-        cut = λ h. whole s (AppendsFront before.holds after.holds) taken ends.0 ends.1;
-        failed = λ h. ends.2;
-        unracked = λ h. absurd (omega (arith, is, h));
-        unfit = λ site cause h told. absurd (let e = sym named ∙ h in cc);
-        given_back = back;
-        silent = λ not_done not_cut. absurd (not_cut is);
-        legal_trails = inr (runs s taken ends.0.run);
-        complete = λ bytes t play told reading known new source sink ok. absurd (let rose = ends.2 in omega (arith, rose, sink));
-        refuses = λ bytes place play told wrong source. absurd (read_nowhere_refused bytes s place (taken_reading before.left after.left bytes s taken told) wrong);
-      }
-  promise_run s (Some Memory) named taken ends =
-      let is : ended.status ≡ 5 = status ∙ ap status_of named in
-      record {
-        status = status;
-        written = λ h. absurd (omega (arith, is, h));
-        usage = (λ h. absurd (omega (arith, is, h)), λ other. absurd (other asked));
-        unreadable = λ place h. absurd (let e = sym named ∙ h in cc);
-        unread = λ h. absurd (omega (arith, is, h));
-        cut = λ h. absurd (omega (arith, is, h));
-        failed = λ h. absurd (omega (arith, is, h));
-        unracked = λ h. absurd (omega (arith, is, h));
-        unfit = λ site cause h told. absurd (let e = sym named ∙ h in cc);
-        given_back = back;
-        silent = λ not_done not_cut. ends.1;
-        legal_trails = elim ends.0 [ inl none ↦ inl none | inr run ↦ inr (runs s taken run) ];
-        complete = λ bytes t play told reading known new source sink ok. inr (inl is);
-        refuses = λ bytes place play told wrong source. absurd (read_nowhere_refused bytes s place (taken_reading before.left after.left bytes s taken told) wrong);
-      }
-  promise_run s (Some (Rack site)) named taken ends =
-      let is : ended.status ≡ 6 = status ∙ ap status_of named in
-      record {
-        status = status;
-        written = λ h. absurd (omega (arith, is, h));
-        usage = (λ h. absurd (omega (arith, is, h)), λ other. absurd (other asked));
-        unreadable = λ place h. absurd (let e = sym named ∙ h in cc);
-        unread = λ h. absurd (omega (arith, is, h));
-        cut = λ h. absurd (omega (arith, is, h));
-        failed = λ h. absurd (omega (arith, is, h));
-        unracked = λ h. elim ends.2 [ inl rose ↦ inl rose | inr disk ↦ inr disk.1 ];
-        unfit = λ other cause h told. absurd (let e = sym named ∙ h in cc);
-        given_back = back;
-        silent = λ not_done not_cut. ends.1;
-        legal_trails = elim ends.0 [ inl none ↦ inl none | inr run ↦ inr (runs s taken run) ];
-        complete = λ bytes t play told reading known new source sink ok. elim ends.2 [ inl rose ↦ absurd (ok rose) | inr disk ↦ inr (inr disk) ];
-        refuses = λ bytes place play told wrong source. absurd (read_nowhere_refused bytes s place (taken_reading before.left after.left bytes s taken told) wrong);
-      }
-  promise_run s (Some (Journal site cause)) named taken ends =
-      let is : ended.status ≡ 7 = status ∙ ap status_of named in
-      record {
-        status = status;
-        written = λ h. absurd (omega (arith, is, h));
-        usage = (λ h. absurd (omega (arith, is, h)), λ other. absurd (other asked));
-        unreadable = λ place h. absurd (let e = sym named ∙ h in cc);
-        unread = λ h. absurd (omega (arith, is, h));
-        cut = λ h. absurd (omega (arith, is, h));
-        failed = λ h. absurd (omega (arith, is, h));
-        unracked = λ h. absurd (omega (arith, is, h));
-        unfit = λ other why h told. subst (λ (c : JournalCause). rack.holds (HasCause c)) (named_journal site other cause why (sym named ∙ h)) (ends.2 told);
-        given_back = back;
-        silent = λ not_done not_cut. ends.1;
-        legal_trails = inl ends.0;
-        complete = λ bytes t play told reading known new source sink ok. absurd (ends.3 known new);
-        refuses = λ bytes place play told wrong source. absurd (read_nowhere_refused bytes s place (taken_reading before.left after.left bytes s taken told) wrong);
-      }
+      promise (Some Write) named (whole s (AppendsFront before.holds after.holds) taken ends.0 ends.1, ends.2) (λ not_done not_cut. absurd (not_cut (status ∙ ap status_of named)))
+      (inr (runs s taken ends.0.run)) (never s taken)
+  promise_run s (Some Memory) named taken ends = promise (Some Memory) named tt (λ not_done not_cut. ends.1) (runs_if s taken ends.0) (never s taken)
+  promise_run s (Some (Rack site)) named taken ends = promise (Some (Rack site)) named ends.2 (λ not_done not_cut. ends.1) (runs_if s taken ends.0) (never s taken)
+  promise_run s (Some (Journal site cause)) named taken ends = promise (Some (Journal site cause)) named (ends.2, ends.3) (λ not_done not_cut. ends.1) (inl ends.0) (never s taken)
   promise_run s (Some Usage) named taken ends = absurd ends
   promise_run s (Some (ScenarioFault place)) named taken ends = absurd ends
   promise_run s (Some Read) named taken ends = absurd ends
@@ -318,59 +309,12 @@ module _ (words : List (String Global)) (rack : Racked) (before after : Outside)
   pub promise_fault : (fault : Fault) → ended.fault ≡ Some fault → ended.trails.items ≡ [] → after.holds ≡ before.holds
       → IsTakeFault before.left after.left before.source_faults after.source_faults fault → Promise words rack before after ended
   promise_fault (ScenarioFault place) named none same why =
-      let is : ended.status ≡ 2 = status ∙ ap status_of named in
-      record {
-        status = status;
-        written = λ h. absurd (omega (arith, is, h));
-        usage = (λ h. absurd (omega (arith, is, h)), λ other. absurd (other asked));
-        unreadable = λ other h. let same_place : place ≡ other = named_place place other (sym named ∙ h) in subst (λ (p : Place). HasNoReading before.left after.left p) same_place why;
-        unread = λ h. absurd (omega (arith, is, h));
-        cut = λ h. absurd (omega (arith, is, h));
-        failed = λ h. absurd (omega (arith, is, h));
-        unracked = λ h. absurd (omega (arith, is, h));
-        unfit = λ site cause h told. absurd (let e = sym named ∙ h in cc);
-        given_back = back;
-        silent = λ not_done not_cut. same;
-        legal_trails = inl none;
-        complete = λ bytes t play told reading known new source sink ok. absurd (read_nowhere_refused bytes t place reading (none_wrong before.left after.left bytes place why told));
-        refuses = λ bytes other play told wrong source. inl (named ∙ ap (λ (p : Place). Some (ScenarioFault p)) (one_refused bytes place other (none_wrong before.left after.left bytes place why told) wrong));
-      }
+      promise (Some (ScenarioFault place)) named why (λ not_done not_cut. same) (inl none) (λ bytes other left wrong source.
+      inl (named ∙ ap (λ (p : Place). Some (ScenarioFault p)) (one_refused bytes place other (none_wrong before.left after.left bytes place why left) wrong)))
   promise_fault Read named none same why =
-      let is : ended.status ≡ 3 = status ∙ ap status_of named in
-      record {
-        status = status;
-        written = λ h. absurd (omega (arith, is, h));
-        usage = (λ h. absurd (omega (arith, is, h)), λ other. absurd (other asked));
-        unreadable = λ place h. absurd (let e = sym named ∙ h in cc);
-        unread = λ h. why;
-        cut = λ h. absurd (omega (arith, is, h));
-        failed = λ h. absurd (omega (arith, is, h));
-        unracked = λ h. absurd (omega (arith, is, h));
-        unfit = λ site cause h told. absurd (let e = sym named ∙ h in cc);
-        given_back = back;
-        silent = λ not_done not_cut. same;
-        legal_trails = inl none;
-        complete = λ bytes t play told reading known new source sink ok. absurd (omega (arith, why, source));
-        refuses = λ bytes place play told wrong source. absurd (omega (arith, why, source));
-      }
+      promise (Some Read) named why (λ not_done not_cut. same) (inl none) (λ bytes place left wrong source. absurd (omega (arith, why, source)))
   promise_fault Memory named none same why =
-      let is : ended.status ≡ 5 = status ∙ ap status_of named in
-      record {
-        status = status;
-        written = λ h. absurd (omega (arith, is, h));
-        usage = (λ h. absurd (omega (arith, is, h)), λ other. absurd (other asked));
-        unreadable = λ place h. absurd (let e = sym named ∙ h in cc);
-        unread = λ h. absurd (omega (arith, is, h));
-        cut = λ h. absurd (omega (arith, is, h));
-        failed = λ h. absurd (omega (arith, is, h));
-        unracked = λ h. absurd (omega (arith, is, h));
-        unfit = λ site cause h told. absurd (let e = sym named ∙ h in cc);
-        given_back = back;
-        silent = λ not_done not_cut. same;
-        legal_trails = inl none;
-        complete = λ bytes t play told reading known new source sink ok. inr (inl is);
-        refuses = λ bytes place play told wrong source. inr is;
-      }
+      promise (Some Memory) named tt (λ not_done not_cut. same) (inl none) (λ bytes place left wrong source. inr (status ∙ ap status_of named))
   promise_fault Usage named none same why = absurd why
   promise_fault Write named none same why = absurd why
   promise_fault (Rack site) named none same why = absurd why

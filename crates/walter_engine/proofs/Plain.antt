@@ -28,7 +28,7 @@ use Rattle.walter_trail.specs.declared.trail.TrailEvent.TheVariants.{Call}
 use Rattle.walter_trail.specs.Conflicts.{conflict_of}
 use Rattle.walter_trail.specs.Knowledge.{Knowledge, Session, read_updates}
 use Rattle.walter_trail.specs.Rule.{Expected, call_rule, if_regular, if_whole, if_cset, if_counted, updates_with, shows, writes, has_place, decides, commits, is_issued, answers, refuses, next_tid, level_of}
-use Rattle.walter_trail.specs.Standing.{up_after, knows_after, flight_after}
+use Rattle.walter_trail.specs.Standing.{up_after, knows_after}
 
 -- the client is told neither that the commit is unsure nor that its transaction is gone
 abbrev pub IsPlain : Outcome → Type 0
@@ -131,8 +131,3 @@ plain_knows client call (Level level) K p = refl
 plain_knows client call Ended K p = refl
 plain_knows client call (Unsure tid) K p = absurd p
 plain_knows client call (Refused refusal) K p = refl
-
--- where nothing is in flight, a reply leaves nothing in flight
-pub plain_flight : (wrote : Option Record) (reply : Reply) → ◌≡◌ {A = Option Record} (flight_after None wrote (Replied reply) None) None
-plain_flight None reply = refl
-plain_flight (Some rec) reply = refl

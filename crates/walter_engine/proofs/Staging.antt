@@ -14,12 +14,3 @@ staged_some journal count rec staged s all is = at rec (subst (λ (o : Option St
     at : (o : Option Record) → AreStaged journal count o (Some s) → (r : Record) × (o ≡ Some r) × IsStaged journal count r s
     at None a = absurd a
     at (Some r) a = (r, refl, a)
-
--- none was, so there is none
-pub staged_none : {D : Type 0} {g : Ghosts D} (journal : Journal D g) (count : ℕ) (rec : Option Record) (staged : Option Staged)
-    → AreStaged journal count rec staged → staged ≡ None → rec ≡ None
-staged_none journal count rec staged all is = at rec (subst (λ (o : Option Staged). AreStaged journal count rec o) is all)
-  where
-    at : (o : Option Record) → AreStaged journal count o None → o ≡ None
-    at None a = refl
-    at (Some r) a = absurd a

@@ -1,5 +1,5 @@
 -- How a site stands behind a record more, and the records of its journal.
-use Rattle.std.proofs.Common.{◌≡◌, ℕ, ◌<◌, [], ◌∷◌, ◌++◌, Bool, true, Option, Some, None, Result, refl, ap, sym, ◌∙◌, subst, if◌then◌else◌}
+use Rattle.std.proofs.Common.{◌≡◌, ℕ, ◌<◌, [], ◌∷◌, ◌++◌, Bool, true, Option, Some, None, Result, ap, sym, ◌∙◌, subst, if◌then◌else◌}
 use Rattle.std.specs.Prelude.{All, IfSome}
 use Rattle.std.proofs.lemmas.List.Elements.{All-push}
 use Rattle.walter_base.specs.declared.catalog.Catalog.{Catalog}
@@ -11,13 +11,10 @@ use Rattle.walter_record.specs.Spelling.{HasRecordSpelling}
 use Rattle.walter_trail.specs.declared.trail.TrailEvent.TheVariants.{Call}
 use Rattle.walter_trail.specs.Knowledge.{session_of, fresh, recorded, lost}
 use Rattle.walter_trail.specs.Records.{CanFollow, CanAllFollow, replayed}
-use Rattle.walter_trail.specs.Rule.{Expected, rule, call_rule, if_told, down_rule}
+use Rattle.walter_trail.specs.Rule.{rule, call_rule, if_told, down_rule}
 use Rattle.walter_trail.specs.Standing.{Standing}
 use Rattle.walter_engine.specs.Contents.{CanBeJournaled, AreJournaled}
 use Rattle.walter_trail.proofs.Replayed.{all_follow-push, replayed-push, follows_lost}
-
-told_none : (call : Result Request Bad) (x : Expected) → if_told call None x ≡ x
-told_none call x = refl
 
 -- at a site that is up a call is answered by the rule of calls, where the client is owed nothing
 pub rule_here : (catalog : Catalog) (i : SiteId) (S : Standing) (client : ℕ) (call : Result Request Bad) → S.up ≡ true → S.gone client ≡ None
