@@ -45,7 +45,7 @@ All-Contains_map f (x ∷ xs) =
     (All-weaker (λ y. Contains (map f xs) (f y)) (λ y. Contains (f x ∷ map f xs) (f y)) (λ y within. Contains-cons (f x) (map f xs) (f y) within) xs (All-Contains_map f xs))
 
 -- what passes the test of a filter is kept
-All-Contains_filter : {X : Type 0} (p : X → Bool) (xs : List X) → All (λ x. p x ≡ true → Contains (filter p xs) x) xs
+pub All-Contains_filter : {X : Type 0} (p : X → Bool) (xs : List X) → All (λ x. p x ≡ true → Contains (filter p xs) x) xs
 All-Contains_filter p [] = All-nil (λ x. p x ≡ true → Contains [] x)
 All-Contains_filter {X} p (x ∷ xs) =
     All-cons (λ y. p y ≡ true → Contains (filter p (x ∷ xs)) y) x xs (λ passes. rw passes (Contains-head x (filter p xs)))

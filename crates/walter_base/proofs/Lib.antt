@@ -4,3 +4,4 @@ pub mod Rising
 pub mod ValuesFrom
 pub mod SetCounts
 pub mod Counted
+pub mod ByClient

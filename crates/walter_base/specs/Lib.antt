@@ -6,3 +6,4 @@ pub mod Catalogs
 pub mod Values
 pub mod Sizes
 pub mod Counting
+pub mod ByClient

@@ -7,6 +7,12 @@ use Rattle.walter_base.specs.declared.update.Update.{Update}
 use Rattle.walter_base.specs.declared.update.Update.TheVariants.{Write, Add, Del}
 use Rattle.walter_base.specs.Names.{same_object}
 
+-- the object that an update changes
+abbrev pub object_of : Update → ObjId
+object_of (Write oid bytes) = oid
+object_of (Add oid id) = oid
+object_of (Del oid id) = oid
+
 -- what a regular object holds after an update, that held this before
 abbrev pub held_after : ObjId → Option (List ℕ) → Update → Option (List ℕ)
 held_after oid held (Write at bytes) = if same_object at oid then Some bytes else held

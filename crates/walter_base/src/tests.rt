@@ -98,6 +98,7 @@ fn values_are_copied(rt: HostRuntime) -> Result<(), Fail> {
     assert_eq!(rt; (bytes.len(), bytes.is_empty()), (5, false));
     assert_eq!(rt; bytes.clone()?.as_slice(), b"hello".as_slice());
     let write = Update::Write(OBJECT, bytes);
+    assert!(rt; write.object() == OBJECT);
     let updates = Updates::from(vec![in rt.alloc();
         write.clone()?,
         Update::Add(OBJECT, 9).clone()?,

@@ -1,5 +1,6 @@
 ghost use Rattle.std.specs.Prelude.{◌≡◌, ◌<◌, ◌^◌};
 ghost use Rattle.walter_base.specs.Sizes.{size_of_update, size_of_updates};
+ghost use Rattle.walter_base.specs.Values.{object_of};
 
 use crate::bytes::Bytes;
 use crate::names::{ObjId, Version};
@@ -18,6 +19,15 @@ pub enum Update {
 }
 
 impl Update {
+    /// The object that the update changes.
+    pub fn object(&self) -> ObjId
+        ensures { result ≡ object_of self.now }
+    {
+        match self {
+            Update::Write(oid, _) | Update::Add(oid, _) | Update::Del(oid, _) => *oid,
+        }
+    }
+
     // How many bytes spell the update.
     fn size(&self) -> u64
         requires { size_of_update self.now < 2 ^ 64 }

@@ -1,6 +1,6 @@
 -- What ties each client behind an event.
-use Rattle.std.proofs.Common.{◌≡◌, ◌≢◌, ℕ, ◌+◌, List, [], ◌∷◌, ◌++◌, map, Bool, true, false, nat_eq, Option, Some, None, Result, Ok, Err, refl, ap, sym, ◌∙◌, subst, if◌then◌else◌, length, rules}
-use Rattle.std.specs.Prelude.{nat_lt, not, filter}
+use Rattle.std.proofs.Common.{◌≡◌, ◌≢◌, ℕ, ◌+◌, List, [], ◌∷◌, ◌++◌, Bool, true, false, nat_eq, Option, Some, None, option_map, Result, Ok, Err, refl, ap, sym, ◌∙◌, subst, if◌then◌else◌, length, rules}
+use Rattle.std.specs.Prelude.{nat_lt, not}
 use Rattle.std.specs.FinMap.{get}
 use Rattle.std.proofs.lemmas.Bool.{eq-eqb, ne_eqb}
 use Rattle.walter_base.specs.declared.catalog.Catalog.{Catalog}
@@ -21,8 +21,10 @@ use Rattle.walter_base.specs.declared.names.Tid.{Tid}
 use Rattle.walter_base.specs.declared.names.Version.{Version}
 use Rattle.walter_base.specs.declared.update.Update.{Update}
 use Rattle.walter_base.specs.declared.update.Update.TheVariants.{Write as WriteOf, Add, Del}
+use Rattle.walter_base.specs.ByClient.{changed, without}
 use Rattle.walter_base.specs.Names.{same_site}
 use Rattle.walter_base.specs.Values.{value_of, count_of, counts_of}
+use Rattle.walter_base.proofs.ByClient.{lookup-behind, lookup-changed, lookup-without}
 use Rattle.walter_trail.specs.declared.trail.Outcome.{Outcome}
 use Rattle.walter_trail.specs.declared.trail.Outcome.TheVariants.{Replied, Taken, Passed, Failed, Full, Memory, Down, Refused as IsRefused}
 use Rattle.walter_trail.specs.declared.trail.TrailEvent.{TrailEvent}
@@ -39,43 +41,19 @@ use Rattle.walter_cli.specs.Ties.{Binds, IsTied, by_reply, fallen, tie_after}
 -- ---- the sessions behind a reply
 
 opened_here : (client : ℕ) (s : Session) (sessions : List Opened) → session_in client sessions ≡ None → session_in client (sessions ++ (client, s) ∷ []) ≡ Some s
-opened_here client s [] none = ap (λ b. if b then Some s else None) (eq-eqb client client refl)
-opened_here client s (x ∷ sessions) none = at (nat_eq client x.0) refl none (λ rest. opened_here client s sessions rest)
-  where
-    at : (b : Bool) → nat_eq client x.0 ≡ b → (if b then Some x.1 else session_in client sessions) ≡ None
-        → (session_in client sessions ≡ None → session_in client (sessions ++ (client, s) ∷ []) ≡ Some s)
-        → (if b then Some x.1 else session_in client (sessions ++ (client, s) ∷ [])) ≡ Some s
-    at true is nothing more = absurd cc
-    at false is nothing more = more nothing
+opened_here client s sessions none = lookup-behind client client s sessions none ∙ ap (λ b. if b then Some s else session_in client sessions) (eq-eqb client client refl)
 
-opened_there : (client other : ℕ) (s : Session) (sessions : List Opened) → client ≢ other → session_in client (sessions ++ (other, s) ∷ []) ≡ session_in client sessions
-opened_there client other s [] apart = ap (λ b. if b then Some s else None) (ne_eqb client other apart)
-opened_there client other s (x ∷ sessions) apart = ap (λ rest. if nat_eq client x.0 then Some x.1 else rest) (opened_there client other s sessions apart)
-
--- the sessions but those of a client
-abbrev without : ℕ → List Opened → List Opened
-without client sessions = filter (λ s. not (nat_eq client s.0)) sessions
-
-closed_one : (client : ℕ) (x : Opened) (sessions : List Opened) → session_in client (without client sessions) ≡ None → (b : Bool) → nat_eq client x.0 ≡ b
-    → session_in client (if not b then x ∷ without client sessions else without client sessions) ≡ None
-closed_one client x sessions none true is = none
-closed_one client x sessions none false is = ap (λ b. if b then Some x.1 else session_in client (without client sessions)) is ∙ none
+opened_there : (client other : ℕ) (s : Session) (sessions : List Opened) → client ≢ other → session_in other sessions ≡ None
+    → session_in client (sessions ++ (other, s) ∷ []) ≡ session_in client sessions
+opened_there client other s sessions apart none =
+    lookup-behind other client s sessions none ∙ ap (λ b. if b then Some s else session_in client sessions) (ne_eqb other client (λ e. apart (sym e)))
 
 closed_here : (client : ℕ) (sessions : List Opened) → session_in client (without client sessions) ≡ None
-closed_here client [] = refl
-closed_here client (x ∷ sessions) = closed_one client x sessions (closed_here client sessions) (nat_eq client x.0) refl
-
-left_one : (client other : ℕ) (x : Opened) (sessions : List Opened) → client ≢ other → session_in client (without other sessions) ≡ session_in client sessions
-    → (b : Bool) → nat_eq other x.0 ≡ b
-    → session_in client (if not b then x ∷ without other sessions else without other sessions) ≡ session_in client (x ∷ sessions)
-left_one client other x sessions apart same true is =
-    let there : other ≡ x.0 = search rules in
-    same ∙ sym (ap (λ b. if b then Some x.1 else session_in client sessions) (ne_eqb client x.0 (λ e. apart (e ∙ sym there))))
-left_one client other x sessions apart same false is = ap (λ rest. if nat_eq client x.0 then Some x.1 else rest) same
+closed_here client sessions = lookup-without client client sessions ∙ ap (λ b. if b then None else session_in client sessions) (eq-eqb client client refl)
 
 closed_there : (client other : ℕ) (sessions : List Opened) → client ≢ other → session_in client (without other sessions) ≡ session_in client sessions
-closed_there client other [] apart = refl
-closed_there client other (x ∷ sessions) apart = left_one client other x sessions apart (closed_there client other sessions apart) (nat_eq other x.0) refl
+closed_there client other sessions apart =
+    lookup-without other client sessions ∙ ap (λ b. if b then None else session_in client sessions) (ne_eqb other client (λ e. apart (sym e)))
 
 -- an update changes no name
 updated_tid : (call : Result Request Bad) (s : Session) → (updated call s).tid ≡ s.tid
@@ -98,30 +76,17 @@ KeepsName None (Some s) = ⊥
 KeepsName (Some s) None = ⊥
 KeepsName (Some s) (Some t) = t.tid ≡ s.tid
 
-abbrev with_done : ℕ → Result Request Bad → Opened → Opened
-with_done client call s = if nat_eq client s.0 then (s.0, updated call s.1) else s
-
-done_one : (client other : ℕ) (call : Result Request Bad) (x : Opened) (old new : Option Session) → KeepsName old new → (a b : Bool)
-    → KeepsName (if b then Some x.1 else old) (let y = if a then (x.0, updated call x.1) else x in if b then Some y.1 else new)
-done_one client other call x old new keeps true true = updated_tid call x.1
-done_one client other call x old new keeps false true = refl
-done_one client other call x old new keeps true false = keeps
-done_one client other call x old new keeps false false = keeps
-
-done_place : (other : ℕ) (call : Result Request Bad) (x : Opened) → (with_done other call x).0 ≡ x.0
-done_place other call x = at (nat_eq other x.0)
-  where
-    at : (b : Bool) → ◌≡◌ {A = ℕ} (if b then (x.0, updated call x.1) else x).0 x.0
-    at true = refl
-    at false = refl
+keeps_name : (call : Result Request Bad) (b : Bool) (old : Option Session) → KeepsName old (if b then option_map (updated call) old else old)
+keeps_name call true None = tt
+keeps_name call true (Some s) = updated_tid call s
+keeps_name call false None = tt
+keeps_name call false (Some s) = refl
 
 done_keeps : (client other : ℕ) (call : Result Request Bad) (sessions : List Opened)
-    → KeepsName (session_in client sessions) (session_in client (map (with_done other call) sessions))
-done_keeps client other call [] = tt
-done_keeps client other call (x ∷ sessions) =
-    subst (λ (k : ℕ). KeepsName (session_in client (x ∷ sessions)) (if nat_eq client k then Some (with_done other call x).1 else session_in client (map (with_done other call) sessions)))
-    (sym (done_place other call x))
-    (done_one client other call x (session_in client sessions) (session_in client (map (with_done other call) sessions)) (done_keeps client other call sessions) (nat_eq other x.0) (nat_eq client x.0))
+    → KeepsName (session_in client sessions) (session_in client (changed other (updated call) sessions))
+done_keeps client other call sessions =
+    subst (KeepsName (session_in client sessions)) (sym (lookup-changed other client (updated call) sessions))
+    (keeps_name call (nat_eq other client) (session_in client sessions))
 
 -- ---- what a reply tells of who gets it
 
@@ -267,7 +232,7 @@ module _ (client : ℕ) (call : Result Request Bad) (S : Standing) (tie : Tie) (
   own_reply (Value value) tells = is
   own_reply (Set counts) tells = is
   own_reply (Count n) tells = is
-  own_reply Done tells = renamed (session_in client sessions) (session_in client (map (with_done client call) sessions)) (S.gone client) tie (done_keeps client client call sessions) is
+  own_reply Done tells = renamed (session_in client sessions) (session_in client (changed client (updated call) sessions)) (S.gone client) tie (done_keeps client client call sessions) is
   own_reply (Committed version) tells = (closed_here client sessions, tells)
   own_reply (Aborted cause) tells = (closed_here client sessions, tells)
   own_reply (Level level) tells = is
@@ -295,35 +260,35 @@ module _ (client other : ℕ) (apart : client ≢ other) (call : Result Request 
   abbrev all : List Opened
   all = S.knows.sessions
 
-  other_reply : (reply : Reply)
+  other_reply : (reply : Reply) → Tells (session_of S.knows other) (S.gone other) (Replied reply)
       → Binds (session_in client (sessions_after (Call other call) (Replied reply) S.knows.committed all)) (told (Call other call) (Replied reply) S.gone client) tie
-  other_reply (Started tid) = same_binds (session_in client all) _ (S.gone client) (S.gone client) tie
-      (opened_there client other (record { tid = tid; snapshot = S.knows.committed; updates = [] }) all apart) refl is
-  other_reply (Value value) = is
-  other_reply (Set counts) = is
-  other_reply (Count n) = is
-  other_reply Done = renamed (session_in client all) (session_in client (map (with_done other call) all)) (S.gone client) tie (done_keeps client other call all) is
-  other_reply (Committed version) = same_binds (session_in client all) _ (S.gone client) (S.gone client) tie (closed_there client other all apart) refl is
-  other_reply (Aborted cause) = same_binds (session_in client all) _ (S.gone client) (S.gone client) tie (closed_there client other all apart) refl is
-  other_reply (Level level) = is
-  other_reply Ended = same_binds (session_in client all) _ (S.gone client) (S.gone client) tie (closed_there client other all apart) refl is
-  other_reply (Unsure tid) = same_binds (session_in client all) _ (S.gone client) (S.gone client) tie (closed_there client other all apart) refl is
-  other_reply (Refused (IsGone tid)) = same_binds (session_in client all) _ (S.gone client) _ tie refl
+  other_reply (Started tid) tells = same_binds (session_in client all) _ (S.gone client) (S.gone client) tie
+      (opened_there client other (record { tid = tid; snapshot = S.knows.committed; updates = [] }) all apart tells.0) refl is
+  other_reply (Value value) tells = is
+  other_reply (Set counts) tells = is
+  other_reply (Count n) tells = is
+  other_reply Done tells = renamed (session_in client all) (session_in client (changed other (updated call) all)) (S.gone client) tie (done_keeps client other call all) is
+  other_reply (Committed version) tells = same_binds (session_in client all) _ (S.gone client) (S.gone client) tie (closed_there client other all apart) refl is
+  other_reply (Aborted cause) tells = same_binds (session_in client all) _ (S.gone client) (S.gone client) tie (closed_there client other all apart) refl is
+  other_reply (Level level) tells = is
+  other_reply Ended tells = same_binds (session_in client all) _ (S.gone client) (S.gone client) tie (closed_there client other all apart) refl is
+  other_reply (Unsure tid) tells = same_binds (session_in client all) _ (S.gone client) (S.gone client) tie (closed_there client other all apart) refl is
+  other_reply (Refused (IsGone tid)) tells = same_binds (session_in client all) _ (S.gone client) _ tie refl
       (ap (λ b. if b then None else S.gone client) (ne_eqb other client (λ e. apart (sym e)))) is
-  other_reply (Refused UnknownContainer) = is
-  other_reply (Refused WrongKind) = is
-  other_reply (Refused TxFull) = is
-  other_reply (Refused TooLong) = is
-  other_reply (Refused NoTx) = is
-  other_reply (Refused TxOpen) = is
-  other_reply (Refused (BadFrame at)) = is
-  other_reply (Refused IsDown) = is
-  other_reply (Refused (JournalFull need left)) = is
-  other_reply (Refused SetTooWide) = is
-  other_reply (Refused SessionsFull) = is
-  other_reply (Refused NoMemory) = is
-  other_reply (Refused WrongSite) = is
-  other_reply (Refused NotIssued) = is
+  other_reply (Refused UnknownContainer) tells = is
+  other_reply (Refused WrongKind) tells = is
+  other_reply (Refused TxFull) tells = is
+  other_reply (Refused TooLong) tells = is
+  other_reply (Refused NoTx) tells = is
+  other_reply (Refused TxOpen) tells = is
+  other_reply (Refused (BadFrame at)) tells = is
+  other_reply (Refused IsDown) tells = is
+  other_reply (Refused (JournalFull need left)) tells = is
+  other_reply (Refused SetTooWide) tells = is
+  other_reply (Refused SessionsFull) tells = is
+  other_reply (Refused NoMemory) tells = is
+  other_reply (Refused WrongSite) tells = is
+  other_reply (Refused NotIssued) tells = is
 
 -- so a client is tied behind any reply, to it or to another
 any_reply : (client other : ℕ) (call : Result Request Bad) (S : Standing) (tie : Tie) (reply : Reply) → IsTied S client tie
@@ -335,7 +300,7 @@ any_reply client other call S tie reply is tells true same =
     subst (λ (o : ℕ). Binds (session_in client (sessions_after (Call o call) (Replied reply) S.knows.committed S.knows.sessions)) (told (Call o call) (Replied reply) S.gone client) (by_reply reply tie))
     (sym here) (own_reply client call S tie is reply (subst (λ (o : ℕ). Tells (session_of S.knows o) (S.gone o) (Replied reply)) here tells))
 any_reply client other call S tie reply is tells false apart =
-    other_reply client other (λ e. absurd (let b = eq-eqb client other e in cc)) call S tie is reply
+    other_reply client other (λ e. absurd (let b = eq-eqb client other e in cc)) call S tie is reply tells
 
 -- behind a reply of a client's call the site is up or falls
 module _ (i : SiteId) (S : Standing) (other : ℕ) (call : Result Request Bad) (client : ℕ) (tie : Tie) (is : IsTied S client tie) where

@@ -1,12 +1,12 @@
 -- The entries of a tally whose number isn't 0 are the numbers of the tally.
-use Rattle.std.proofs.Common.{◌≡◌, ◌≢◌, ℕ, zero, suc, ◌<◌, Bool, true, false, cond, List, [], ◌∷◌, Option, Some, None, refl, ap, sym, ◌∙◌, subst, arith, map}
-use Rattle.std.specs.Prelude.{ℤ, pos, negsuc, All, AllPairs, Contains, filter}
+use Rattle.std.proofs.Common.{◌≡◌, ◌≢◌, ℕ, zero, suc, ◌<◌, Bool, true, false, List, Option, Some, None, refl, ap, sym, ◌∙◌, arith, map}
+use Rattle.std.specs.Prelude.{ℤ, pos, negsuc, AllPairs, Contains, filter}
 use Rattle.std.specs.Option.{unwrap_or}
 use Rattle.std.specs.Ordering.{nat_cmp}
 use Rattle.std.specs.Cmp.{nat_cmp_total}
 use Rattle.std.specs.BTreeMap.{BTreeMap, IsOrdered, get}
 use Rattle.std.proofs.lemmas.List.{get_or-map, length-map}
-use Rattle.std.proofs.lemmas.List.Elements.{All-nil, All-cons, All-weaker, All-filter, All-contains, All-contains_itself, filter_passes, Contains-append_left, Contains-append_right, Contains-push}
+use Rattle.std.proofs.lemmas.List.Elements.{All-filter, All-contains, All-contains_itself, filter_passes}
 use Rattle.std.proofs.lemmas.List.Kept.{AllPairs-filter}
 use Rattle.std.proofs.lemmas.Map.Keys.{below_from_sorted}
 use Rattle.std.proofs.lemmas.Map.Lookups.{exact_unsigned}
@@ -14,6 +14,7 @@ use Rattle.std.proofs.lemmas.Map.Views.{btree_map_get_iff}
 use Rattle.walter_base.specs.declared.names.ObjId.{ObjId}
 use Rattle.walter_base.specs.declared.update.Update.{Update}
 use Rattle.walter_base.specs.Values.{count_of, AreCounts}
+use Rattle.walter_base.proofs.Counted.{All-Contains_filter}
 use Rattle.walter_cset.specs.Tallies.{number_at, AreNumbers}
 
 abbrev pub is_other_than_0 : ℤ → Bool
@@ -33,20 +34,6 @@ other_than_0 : (n : ℤ) → n ≢ pos 0 → is_other_than_0 n ≡ true
 other_than_0 (pos zero) apart = absurd (apart refl)
 other_than_0 (pos (suc n)) apart = refl
 other_than_0 (negsuc n) apart = refl
-
--- an element that passes is kept
-kept : {X : Type 0} (p : X → Bool) (xs : List X) → All (λ y. p y ≡ true → Contains (filter p xs) y) xs
-kept {X} p [] = All-nil (λ y. p y ≡ true → Contains (filter p []) y)
-kept {X} p (x ∷ xs) = All-cons (λ y. p y ≡ true → Contains (filter p (x ∷ xs)) y) x xs first (All-weaker (λ y. p y ≡ true → Contains (filter p xs) y) _ later xs (kept p xs))
-  where
-    first : p x ≡ true → Contains (filter p (x ∷ xs)) x
-    first is = subst (λ b. Contains (cond b (x ∷ filter p xs) (filter p xs)) x) (sym is) (Contains-append_left (x ∷ []) (filter p xs) x (Contains-push [] x))
-
-    later : (y : X) → (p y ≡ true → Contains (filter p xs) y) → p y ≡ true → Contains (filter p (x ∷ xs)) y
-    later y has is = elim (p x) as (λ b. Contains (cond b (x ∷ filter p xs) (filter p xs)) y) [
-      | true ↦ Contains-append_right (x ∷ []) (filter p xs) y (has is)
-      | false ↦ has is
-    ]
 
 rising_entries : (tally : BTreeMap ℕ ℤ) → IsOrdered nat_cmp tally → AllPairs (λ a b. a.0 < b.0) tally.entries
 rising_entries tally ordered i j d before within =
@@ -74,7 +61,7 @@ are_numbers tally ordered = record {
         (number_found tally id n ((btree_map_get_iff nat_cmp_total exact_unsigned tally ordered id n).1 within), not_0 n passes),
     λ is.
         let within = (btree_map_get_iff nat_cmp_total exact_unsigned tally ordered id n).0 (found (get nat_cmp tally id) n is.0 is.1) in
-        All-contains (λ e. is_other_than_0 e.1 ≡ true → Contains (others_than_0 tally.entries) e) tally.entries (id, n) (kept (λ e. is_other_than_0 e.1) tally.entries) within (other_than_0 n is.1),
+        All-contains (λ e. is_other_than_0 e.1 ≡ true → Contains (others_than_0 tally.entries) e) tally.entries (id, n) (All-Contains_filter (λ e. is_other_than_0 e.1) tally.entries) within (other_than_0 n is.1),
   );
 }
 

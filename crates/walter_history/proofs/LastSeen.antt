@@ -8,10 +8,10 @@ use Rattle.walter_base.specs.declared.update.Row.{Row}
 use Rattle.walter_base.specs.declared.update.Update.{Update}
 use Rattle.walter_base.specs.declared.update.Update.TheVariants.{Write, Add, Del}
 use Rattle.walter_base.specs.Names.{same_object}
-use Rattle.walter_base.specs.Values.{value_from, value_of, held_after}
+use Rattle.walter_base.specs.Values.{object_of, value_from, value_of, held_after}
 use Rattle.walter_base.proofs.NameTests.{same_object_refl}
 use Rattle.walter_base.proofs.ValuesFrom.{value_from-append}
-use Rattle.walter_history.specs.Rows.{object_of, AreOf, sees_row, seen_updates, bytes_of, seen_bytes}
+use Rattle.walter_history.specs.Rows.{AreOf, sees_row, seen_updates, bytes_of, seen_bytes}
 
 pub own_front : (oid : ObjId) (front : List Row) (row : Row) → AreOf oid (front ++ row ∷ []) → AreOf oid front
 own_front oid front row own k d within =

@@ -11,7 +11,8 @@ use Rattle.walter_base.specs.declared.update.Row.{Row}
 use Rattle.walter_base.specs.Names.{same_object}
 use Rattle.walter_base.proofs.NameTests.{same_object-true, same_object_refl}
 use Rattle.walter_history.specs.Lines.{Line, line_of, line_in, lines_in, rows_of, room_of, IsOpen}
-use Rattle.walter_history.specs.Rows.{object_of, AreOf}
+use Rattle.walter_base.specs.Values.{object_of}
+use Rattle.walter_history.specs.Rows.{AreOf}
 
 -- what a look-up finds, as a line
 pub line_found : (entries : List (ObjId × Vec Row)) (oid : ObjId) → line_of (lines_in entries) oid ≡ option_map line_in (lookup (same_object oid) entries)

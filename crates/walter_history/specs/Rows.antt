@@ -6,13 +6,8 @@ use Rattle.walter_base.specs.declared.names.Version.{Version}
 use Rattle.walter_base.specs.declared.update.Row.{Row}
 use Rattle.walter_base.specs.declared.update.Update.{Update}
 use Rattle.walter_base.specs.declared.update.Update.TheVariants.{Write, Add, Del}
+use Rattle.walter_base.specs.Values.{object_of}
 use Rattle.walter_base.specs.Vectors.{entry_at}
-
--- the object that an update changes
-abbrev pub object_of : Update → ObjId
-object_of (Write oid bytes) = oid
-object_of (Add oid id) = oid
-object_of (Del oid id) = oid
 
 -- each of the rows changes the object
 abbrev pub AreOf : ObjId → List Row → Type 0

@@ -1,10 +1,10 @@
-ghost use Rattle.std.specs.Prelude.{◌≡◌, ◌<◌, ◌≤◌, ◌-◌, ℕ, ◌++◌, ◌∷◌, [], None, Some, OnOk, IfErr, if◌then◌else◌};
+ghost use Rattle.std.specs.Prelude.{◌≡◌, ◌<◌, ◌≤◌, ◌-◌, ◌++◌, ◌∷◌, [], None, Some, OnOk, IfErr, if◌then◌else◌};
 ghost use Rattle.std.specs.Option.{option_copied};
 ghost use Rattle.walter_base.specs.declared.names.ObjId.{ObjId as Object};
 ghost use Rattle.walter_base.specs.Names.{same_object};
-ghost use Rattle.walter_base.specs.Values.{value_of};
+ghost use Rattle.walter_base.specs.Values.{value_of, object_of};
 ghost use Rattle.walter_history.specs.Lines.{IsOpen, rows_of, room_of};
-ghost use Rattle.walter_history.specs.Rows.{AreOf, object_of, seen_updates, first_unseen};
+ghost use Rattle.walter_history.specs.Rows.{AreOf, seen_updates, first_unseen};
 
 use crate::rows::{all_seen, last_seen, make_room};
 use indexmap::IndexMap;

@@ -7,7 +7,7 @@ use Rattle.walter_fields.specs.Cursors.{LacksBlock}
 use Rattle.walter_fields.specs.Spellings.{IsBytes, number_spelled, number_read, block_spelled}
 use Rattle.walter_fields.proofs.Numbers.{number_read-lt, number_read-append, number_spelled-read}
 use Rattle.walter_fields.proofs.Readings.{IsBytes-take, IsBytes-drop}
-use Rattle.walter_names.specs.Names.{object_spelled, tid_spelled, version_spelled, IsObject, IsTid, IsVersion}
+use Rattle.walter_names.specs.Names.{object_spelled, tid_spelled, version_spelled, member_spelled, IsObject, IsTid, IsVersion, IsMember}
 
 -- the front of the spelling of a value, of which the end is cut off
 pub record IsCut {A : Type 0} (Is : A → Type 0) (spelled : A → List ℕ) (left : List ℕ) : Type 0 where
@@ -44,13 +44,6 @@ number_of_rest j k bytes fits long = number_spelled-read k (drop j bytes) (omega
 
 two_numbers : (j k : ℕ) (bytes : List ℕ) → IsBytes bytes → length bytes ≡ j + k → bytes ≡ number_spelled j (number_read j (take j bytes)) ++ number_spelled k (number_read k (drop j bytes))
 two_numbers j k bytes fits long = rw (number_of_front j bytes fits (omega (arith, long)), number_of_rest j k bytes fits long) (sym (take-append-drop j bytes))
-
--- an object and an id, and their bytes
-abbrev pub IsMember : ObjId × ℕ → Type 0
-IsMember member = IsObject member.0 × (member.1 < 2 ^ 64)
-
-abbrev pub member_spelled : ObjId × ℕ → List ℕ
-member_spelled member = object_spelled member.0 ++ number_spelled 8 member.1
 
 pub cut_object : (left : List ℕ) → IsBytes left → length left < 12 → IsCut IsObject object_spelled left
 cut_object left fits few =
@@ -100,8 +93,7 @@ cut_tid left fits few =
           ∙ ap (λ t. (number_spelled 1 (number_read 1 (take 1 front)) ++ number_spelled 4 (number_read 4 (drop 1 front))) ++ t) (sym (number_of_rest 5 8 whole bytes long));
     }
 
--- an object, and eight bytes of a number
-pub cut_member : (left : List ℕ) → IsBytes left → length left < 20 → IsCut IsMember member_spelled left
+pub cut_member : (left : List ℕ) → IsBytes left → length left < 20 → IsCut (λ (m : ObjId × ℕ). IsMember m.0 m.1) (λ m. member_spelled m.0 m.1) left
 cut_member left fits few =
     let whole = left ++ replicate (20 - length left) 0 in
     let bytes : IsBytes whole = IsBytes-zeros left (20 - length left) fits in

@@ -6,7 +6,7 @@ use Rattle.walter_base.specs.declared.names.Tid.{Tid}
 use Rattle.walter_base.specs.declared.names.Version.{Version}
 use Rattle.walter_fields.specs.Spellings.{number_spelled, block_spelled}
 use Rattle.walter_fields.proofs.Numbers.{length-number_spelled}
-use Rattle.walter_names.specs.Names.{object_spelled, tid_spelled, version_spelled}
+use Rattle.walter_names.specs.Names.{object_spelled, tid_spelled, version_spelled, member_spelled}
 
 pub length-object_spelled : (oid : ObjId) → length (object_spelled oid) ≡ 12
 length-object_spelled oid = omega (arith, length-append (number_spelled 4 oid.container) (number_spelled 8 oid.local), length-number_spelled 4 oid.container, length-number_spelled 8 oid.local)
@@ -25,6 +25,9 @@ length-tid_spelled tid =
 pub length-version_spelled : (version : Version) → length (version_spelled version) ≡ 9
 length-version_spelled version =
     omega (arith, length-append (number_spelled 1 version.site.0) (number_spelled 8 version.seq), length-number_spelled 1 version.site.0, length-number_spelled 8 version.seq)
+
+pub length-member_spelled : (oid : ObjId) (id : ℕ) → length (member_spelled oid id) ≡ 20
+length-member_spelled oid id = omega (arith, length-append (object_spelled oid) (number_spelled 8 id), length-object_spelled oid, length-number_spelled 8 id)
 
 pub length-block_spelled : (bytes : List ℕ) → length (block_spelled bytes) ≡ 4 + length bytes
 length-block_spelled bytes = omega (arith, length-append (number_spelled 4 (length bytes)) bytes, length-number_spelled 4 (length bytes))

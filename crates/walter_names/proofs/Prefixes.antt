@@ -5,7 +5,7 @@ use Rattle.walter_base.specs.declared.names.Tid.{Tid}
 use Rattle.walter_base.specs.declared.names.Version.{Version}
 use Rattle.walter_fields.specs.Spellings.{number_spelled}
 use Rattle.walter_fields.proofs.Numbers.{same_number}
-use Rattle.walter_names.specs.Names.{object_spelled, tid_spelled, version_spelled, IsObject, IsTid, IsVersion}
+use Rattle.walter_names.specs.Names.{object_spelled, tid_spelled, version_spelled, IsObject, IsTid, IsVersion, member_spelled, IsMember}
 
 -- two spellings that are regrouped round what follows
 pub regrouped : (a b x c d y : List ℕ) → (a ++ b) ++ x ≡ (c ++ d) ++ y → a ++ (b ++ x) ≡ c ++ (d ++ y)
@@ -33,3 +33,9 @@ same_version a b x y fits_a fits_b e =
     (regrouped (number_spelled 1 a.site.0) (number_spelled 8 a.seq) x (number_spelled 1 b.site.0) (number_spelled 8 b.seq) y e) in
     let two = same_number 8 a.seq b.seq x y (omega arith) (omega arith) one.1 in
     ((λ i. record { site = record { 0 = one.0 i }; seq = two.0 i }), two.1)
+
+pub same_member : (a b : ObjId) (m n : ℕ) (x y : List ℕ) → IsMember a m → IsMember b n → member_spelled a m ++ x ≡ member_spelled b n ++ y → (a ≡ b) × (m ≡ n) × (x ≡ y)
+same_member a b m n x y fits_a fits_b e =
+    let one = same_object a b (number_spelled 8 m ++ x) (number_spelled 8 n ++ y) fits_a.0 fits_b.0 (regrouped (object_spelled a) (number_spelled 8 m) x (object_spelled b) (number_spelled 8 n) y e) in
+    let two = same_number 8 m n x y (omega (arith, fits_a.1)) (omega (arith, fits_b.1)) one.1 in
+    (one.0, two.0, two.1)

@@ -1,4 +1,4 @@
--- How objects, the names of transactions, and versions are spelled (docs/FORMATS.md, "Bytes").
+-- How objects, the names of transactions, versions, and the members of sets are spelled (docs/FORMATS.md, "Bytes").
 use Rattle.std.specs.Prelude.{◌<◌, ◌^◌, ℕ, List, ◌++◌}
 use Rattle.walter_base.specs.declared.names.ObjId.{ObjId}
 use Rattle.walter_base.specs.declared.names.Tid.{Tid}
@@ -14,6 +14,10 @@ tid_spelled tid = number_spelled 1 tid.site.0 ++ number_spelled 4 tid.epoch ++ n
 abbrev pub version_spelled : Version → List ℕ
 version_spelled version = number_spelled 1 version.site.0 ++ number_spelled 8 version.seq
 
+-- a set, and an id in it
+abbrev pub member_spelled : ObjId → ℕ → List ℕ
+member_spelled oid id = object_spelled oid ++ number_spelled 8 id
+
 -- the numbers are in the ranges of their fields
 abbrev pub IsObject : ObjId → Type 0
 IsObject oid = (oid.container < 2 ^ 32) × (oid.local < 2 ^ 64)
@@ -23,3 +27,6 @@ IsTid tid = (tid.site.0 < 2 ^ 8) × (tid.epoch < 2 ^ 32) × (tid.number < 2 ^ 64
 
 abbrev pub IsVersion : Version → Type 0
 IsVersion version = (version.site.0 < 2 ^ 8) × (version.seq < 2 ^ 64)
+
+abbrev pub IsMember : ObjId → ℕ → Type 0
+IsMember oid id = IsObject oid × (id < 2 ^ 64)

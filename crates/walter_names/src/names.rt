@@ -1,6 +1,6 @@
-ghost use Rattle.std.specs.Prelude.{◌≡◌, ◌↔◌, ◌+◌, ◌≤◌, ◌<◌, ◌^◌, ◌++◌, length, IsErr, IfOk};
+ghost use Rattle.std.specs.Prelude.{◌≡◌, ◌↔◌, ◌+◌, ◌≤◌, ◌<◌, ◌++◌, length, IsErr, IfOk};
 ghost use Rattle.walter_fields.specs.Cursors.{Takes};
-ghost use Rattle.walter_names.specs.Names.{object_spelled, tid_spelled, version_spelled, IsObject, IsTid, IsVersion};
+ghost use Rattle.walter_names.specs.Names.{object_spelled, tid_spelled, version_spelled, member_spelled, IsObject, IsTid, IsVersion, IsMember};
 
 use walter_base::{ObjId, SiteId, Tid, Version};
 use walter_fields::{Appender, Cursor, Short};
@@ -68,4 +68,24 @@ pub fn write_version(out: &mut Appender, version: Version)
 {
     out.u8(version.site.0);
     out.u64(version.seq);
+}
+
+/// A set, and an id in it.
+#[tactic(auto, unfolding(walter_fields::specs::Spellings::number_spelled))]
+pub fn read_member(cursor: &mut Cursor) -> Result<(ObjId, u64), Short>
+    ensures taken { IfOk result (λ member. Takes cursor.old cursor.new (member_spelled member.0 member.1)) }
+    ensures range { IfOk result (λ member. IsMember member.0 member.1) }
+    ensures short { IsErr result ↔ (length cursor.old.left < 20) }
+{
+    Ok((read_object(cursor)?, cursor.u64()?))
+}
+
+pub fn write_member(out: &mut Appender, oid: ObjId, id: u64)
+    requires { 20 ≤ out.old.room }
+    ensures bytes { out.new.bytes ≡ out.old.bytes ++ member_spelled oid id }
+    ensures room { out.new.room + 20 ≡ out.old.room }
+    ensures range { IsMember oid id }
+{
+    write_object(out, oid);
+    out.u64(id);
 }

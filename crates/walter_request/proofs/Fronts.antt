@@ -8,9 +8,9 @@ use Rattle.walter_fields.specs.Cursors.{LacksBlock}
 use Rattle.walter_fields.specs.Spellings.{IsBytes, number_spelled, block_spelled}
 use Rattle.walter_fields.proofs.Numbers.{length-number_spelled, number_spelled-byte}
 use Rattle.walter_fields.proofs.Readings.{IsBytes-behind}
-use Rattle.walter_names.specs.Names.{object_spelled, tid_spelled, IsObject}
+use Rattle.walter_names.specs.Names.{object_spelled, tid_spelled, IsObject, member_spelled, IsMember}
 use Rattle.walter_names.proofs.Cuts.{cut_object, cut_tid, cut_member, cut_block}
-use Rattle.walter_request.specs.Requests.{request_spelled, member_spelled, IsMember, IsRequest, IsOperation}
+use Rattle.walter_request.specs.Requests.{request_spelled, IsRequest, IsOperation}
 use Rattle.walter_request.specs.Stops.{IsFront, StartsUnknown}
 
 empty_is_front : IsFront []

@@ -6,20 +6,13 @@ use Rattle.walter_base.specs.declared.message.Request.TheVariants.{Start, Read, 
 use Rattle.walter_base.specs.declared.names.ObjId.{ObjId}
 use Rattle.walter_fields.specs.Spellings.{number_spelled, block_spelled}
 use Rattle.walter_fields.proofs.Numbers.{length-number_spelled}
-use Rattle.walter_names.specs.Names.{object_spelled, tid_spelled}
-use Rattle.walter_names.proofs.Lengths.{length-object_spelled, length-tid_spelled, length-block_spelled}
-use Rattle.walter_request.specs.Requests.{request_spelled, size_of, member_spelled}
+use Rattle.walter_names.specs.Names.{object_spelled, tid_spelled, member_spelled}
+use Rattle.walter_names.proofs.Lengths.{length-object_spelled, length-tid_spelled, length-member_spelled, length-block_spelled}
+use Rattle.walter_request.specs.Requests.{request_spelled, size_of}
 
-length-member_spelled : (operation id : ℕ) (oid : ObjId) → length (number_spelled 1 operation ++ member_spelled oid id) ≡ 21
-length-member_spelled operation id oid =
-    omega (
-      arith,
-      length-append (number_spelled 1 operation) (member_spelled oid id),
-      length-append (object_spelled oid) (number_spelled 8 id),
-      length-number_spelled 1 operation,
-      length-object_spelled oid,
-      length-number_spelled 8 id,
-    )
+of_member : (operation id : ℕ) (oid : ObjId) → length (number_spelled 1 operation ++ member_spelled oid id) ≡ 21
+of_member operation id oid =
+    omega (arith, length-append (number_spelled 1 operation) (member_spelled oid id), length-number_spelled 1 operation, length-member_spelled oid id)
 
 pub length-request_spelled : (request : Request) → length (request_spelled request) ≡ size_of request
 length-request_spelled Start = length-number_spelled 1 _
@@ -33,13 +26,13 @@ length-request_spelled (Write oid bytes) =
       length-object_spelled oid,
       length-block_spelled bytes,
     )
-length-request_spelled (SetAdd oid id) = length-member_spelled 4 id oid
-length-request_spelled (SetDel oid id) = length-member_spelled 5 id oid
+length-request_spelled (SetAdd oid id) = of_member 4 id oid
+length-request_spelled (SetDel oid id) = of_member 5 id oid
 length-request_spelled (SetRead oid) = omega (arith, length-append (number_spelled 1 6) (object_spelled oid), length-number_spelled 1 6, length-object_spelled oid)
-length-request_spelled (SetReadId oid id) = length-member_spelled 7 id oid
+length-request_spelled (SetReadId oid id) = of_member 7 id oid
 length-request_spelled Commit = length-number_spelled 1 _
 length-request_spelled Abort = length-number_spelled 1 _
 length-request_spelled (Level tid) = omega (arith, length-append (number_spelled 1 10) (tid_spelled tid), length-number_spelled 1 10, length-tid_spelled tid)
 
 -- for what is written of a request
-pub ruleset lengths = (length-append, length-number_spelled, length-object_spelled, length-tid_spelled, length-block_spelled)
+pub ruleset lengths = (length-append, length-number_spelled, length-object_spelled, length-tid_spelled, length-member_spelled, length-block_spelled)

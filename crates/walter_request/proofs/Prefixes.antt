@@ -2,13 +2,12 @@
 use Rattle.std.proofs.Common.{◌≡◌, ◌≢◌, ◌∷◌, ap, append-nil, ℕ, ◌<◌, List, [], ◌++◌, refl, sym, ◌∙◌, append_assoc, arith}
 use Rattle.walter_base.specs.declared.message.Request.{Request}
 use Rattle.walter_base.specs.declared.message.Request.TheVariants.{Start, Read, Write, SetAdd, SetDel, SetRead, SetReadId, Commit, Abort, Level}
-use Rattle.walter_base.specs.declared.names.ObjId.{ObjId}
 use Rattle.walter_fields.specs.Spellings.{number_spelled, block_spelled}
 use Rattle.walter_fields.proofs.Numbers.{number_spelled-byte, same_number}
 use Rattle.walter_fields.proofs.Readings.{same_block}
-use Rattle.walter_names.specs.Names.{object_spelled, tid_spelled}
-use Rattle.walter_names.proofs.Prefixes.{regrouped, same_object, same_tid}
-use Rattle.walter_request.specs.Requests.{request_spelled, member_spelled, IsMember, IsRequest, Spells}
+use Rattle.walter_names.specs.Names.{object_spelled, tid_spelled, member_spelled}
+use Rattle.walter_names.proofs.Prefixes.{regrouped, same_object, same_tid, same_member}
+use Rattle.walter_request.specs.Requests.{request_spelled, IsRequest, Spells}
 
 -- a request is its operation, and its fields
 abbrev pub operation_of : Request → ℕ
@@ -58,12 +57,6 @@ operation_of-lt (SetReadId oid id) = omega arith
 operation_of-lt Commit = omega arith
 operation_of-lt Abort = omega arith
 operation_of-lt (Level tid) = omega arith
-
-same_member : (a b : ObjId) (m n : ℕ) (x y : List ℕ) → IsMember a m → IsMember b n → member_spelled a m ++ x ≡ member_spelled b n ++ y → (a ≡ b) × (m ≡ n) × (x ≡ y)
-same_member a b m n x y fits_a fits_b e =
-    let one = same_object a b (number_spelled 8 m ++ x) (number_spelled 8 n ++ y) fits_a.0 fits_b.0 (regrouped (object_spelled a) (number_spelled 8 m) x (object_spelled b) (number_spelled 8 n) y e) in
-    let two = same_number 8 m n x y (omega (arith, fits_a.1)) (omega (arith, fits_b.1)) one.1 in
-    (one.0, two.0, two.1)
 
 same_fields : (a b : Request) (x y : List ℕ) → operation_of a ≡ operation_of b → IsRequest a → IsRequest b → fields_spelled a ++ x ≡ fields_spelled b ++ y → (a ≡ b) × (x ≡ y)
 same_fields Start Start x y same fits_a fits_b e = (refl, e)

@@ -1,16 +1,11 @@
 -- How requests are spelled, and what is wrong with bytes that spell none (docs/FORMATS.md, "Frames of a client").
 use Rattle.std.specs.Prelude.{◌≡◌, ◌≢◌, ◌<◌, ◌≤◌, ◌^◌, ◌+◌, ℕ, List, [], ◌∷◌, ◌++◌, length}
 use Rattle.walter_base.specs.declared.message.Request.{Request}
-use Rattle.walter_base.specs.declared.names.ObjId.{ObjId}
 use Rattle.walter_base.specs.declared.message.Request.TheVariants.{Start, Read, Write, SetAdd, SetDel, SetRead, SetReadId, Commit, Abort, Level}
 use Rattle.walter_fields.specs.Spellings.{number_spelled, block_spelled}
-use Rattle.walter_names.specs.Names.{object_spelled, tid_spelled, IsObject, IsTid}
+use Rattle.walter_names.specs.Names.{object_spelled, tid_spelled, member_spelled, IsObject, IsTid, IsMember}
 use Rattle.walter_request.specs.declared.fault.RequestFault.{RequestFault}
 use Rattle.walter_request.specs.declared.fault.RequestFault.TheVariants.{BadFrame, NoMemory}
-
--- an object, and eight bytes of id
-abbrev pub member_spelled : ObjId → ℕ → List ℕ
-member_spelled oid id = object_spelled oid ++ number_spelled 8 id
 
 abbrev pub request_spelled : Request → List ℕ
 request_spelled Start = number_spelled 1 1
@@ -36,9 +31,6 @@ size_of (SetReadId oid id) = 21
 size_of Commit = 1
 size_of Abort = 1
 size_of (Level tid) = 14
-
-abbrev pub IsMember : ObjId → ℕ → Type 0
-IsMember oid id = IsObject oid × (id < 2 ^ 64)
 
 -- the numbers of a request are in the ranges of their fields
 abbrev pub IsRequest : Request → Type 0

@@ -1,13 +1,13 @@
-ghost use Rattle.std.specs.Prelude.{◌↔◌, ◌≤◌, ◌<◌, length, IsErr, IfOk, IfErr};
+ghost use Rattle.std.specs.Prelude.{◌≤◌, ◌<◌, length, IfOk, IfErr};
 ghost use Rattle.walter_fields.specs.Cursors.{Takes};
-ghost use Rattle.walter_request.specs.Requests.{member_spelled, request_spelled, IsMember, IsRequest, Spells, IsFaultOf};
+ghost use Rattle.walter_request.specs.Requests.{request_spelled, IsRequest, Spells, IsFaultOf};
 ghost use Rattle.walter_request.specs.Stops.{EndsWith, StopsBehind, StopsAt};
 
 use crate::fault::{RequestFault, Stop};
 use std::alloc::Global;
-use walter_base::{Bytes, ObjId, Request};
-use walter_fields::{Cursor, Short};
-use walter_names::{read_object, read_tid};
+use walter_base::{Bytes, Request};
+use walter_fields::Cursor;
+use walter_names::{read_member, read_object, read_tid};
 
 /// What stands behind the operation Read.
 fn read_read(cursor: &mut Cursor) -> Result<Request, Stop>
@@ -25,16 +25,6 @@ fn read_write(alloc: Global, cursor: &mut Cursor) -> Result<Request, Stop>
     let oid = read_object(cursor)?;
     let bytes = cursor.block()?;
     Ok(Request::Write(oid, Bytes::from_slice(alloc, bytes)?))
-}
-
-/// A set, and an id.
-#[tactic(auto, unfolding(walter_fields::specs::Spellings::number_spelled))]
-fn read_member(cursor: &mut Cursor) -> Result<(ObjId, u64), Short>
-    ensures taken { IfOk result (λ member. Takes cursor.old cursor.new (member_spelled member.0 member.1)) }
-    ensures range { IfOk result (λ member. IsMember member.0 member.1) }
-    ensures short { IsErr result ↔ (length cursor.old.left < 20) }
-{
-    Ok((read_object(cursor)?, cursor.u64()?))
 }
 
 /// What stands behind the operation SetAdd.

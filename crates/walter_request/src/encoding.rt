@@ -1,10 +1,10 @@
 ghost use Rattle.std.specs.Prelude.{◌≡◌, ◌+◌, ◌≤◌, ◌++◌, length, IfOk};
-ghost use Rattle.walter_request.specs.Requests.{member_spelled, request_spelled, FitsFrame};
+ghost use Rattle.walter_request.specs.Requests.{request_spelled, FitsFrame};
 
 use std::alloc::Global;
-use walter_base::{Bytes, Mem, NoMemory, ObjId, Request};
+use walter_base::{Bytes, Mem, NoMemory, Request};
 use walter_fields::Appender;
-use walter_names::{write_object, write_tid};
+use walter_names::{write_member, write_object, write_tid};
 
 /// How many bytes the spelling has.
 #[tactic(auto, using(crate::proofs::Lengths::lengths))]
@@ -19,16 +19,6 @@ fn size_of(request: &Request) -> usize
         Request::SetAdd(_, _) | Request::SetDel(_, _) | Request::SetReadId(_, _) => 21,
         Request::Level(_) => 14,
     }
-}
-
-/// The set, and the id.
-fn write_member(out: &mut Appender, oid: ObjId, id: u64)
-    requires { 20 ≤ out.old.room }
-    ensures bytes { out.new.bytes ≡ out.old.bytes ++ member_spelled oid id }
-    ensures room { out.new.room + 20 ≡ out.old.room }
-{
-    write_object(out, oid);
-    out.u64(id);
 }
 
 /// Writes the request's spelling behind what was written.

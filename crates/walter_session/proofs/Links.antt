@@ -12,9 +12,10 @@ use Rattle.std.proofs.lemmas.Option.{slice_get_cases, slice_get_past, slice_get_
 use Rattle.slab.specs.Slab.{Slab, get, with_value, Updates}
 use Rattle.slab.proofs.SlabLemmas.{Updates-with_value}
 use Rattle.walter_session.specs.declared.slot.Slot.{Slot}
-use Rattle.walter_session.specs.Sessions.{Seen, Kept, Table, sessions_of, session_of, kept_in, clients_in, IsKeyOf, AreLinked, AreApart, changed, without}
+use Rattle.walter_base.specs.ByClient.{AreApart, changed, without}
+use Rattle.walter_session.specs.Sessions.{Seen, Kept, Table, sessions_of, session_of, kept_in, clients_in, IsKeyOf, AreLinked}
 use Rattle.walter_session.proofs.Tables.{moved}
-use Rattle.walter_session.proofs.Lists.{absent_head, absent_tail, changed-absent, without-absent, apart_behind, apart_left}
+use Rattle.walter_base.proofs.ByClient.{absent_head, absent_tail, changed-absent, without-absent, apart_behind, apart_left}
 
 -- what the slots keep under a key, if there is one
 abbrev pub kept_at : Slab Slot → Option ℕ → Option Kept

@@ -1,13 +1,13 @@
 -- What follows where what is kept of one client changes, and what is kept of each other stays.
-use Rattle.std.proofs.Common.{◌≡◌, ℕ, ◌+◌, ◌≤◌, Bool, true, false, cond, not, nat_eq, List, [], ◌∷◌, ◌++◌, map, Option, Some, None, refl, ap, sym, ◌∙◌, subst, arith, option_map, Result, Ok, Err, IsOk, OnOk, if◌then◌else◌}
+use Rattle.std.proofs.Common.{◌≡◌, ℕ, ◌+◌, ◌≤◌, Bool, true, false, cond, nat_eq, List, [], ◌∷◌, ◌++◌, map, Option, Some, None, refl, ap, sym, ◌∙◌, subst, arith, option_map, Result, Ok, Err, IsOk, OnOk, if◌then◌else◌}
 use Rattle.std.specs.Prelude.{slice_get}
 use Rattle.std.specs.Option.{option_map_or}
 use Rattle.std.specs.Map.{lookup}
 use Rattle.std.proofs.lemmas.Bool.{eqb-true}
-use Rattle.std.proofs.lemmas.Map.Made.{lookup-map_values}
 use Rattle.std.proofs.lemmas.Option.{slice_get-map}
-use Rattle.walter_session.specs.Sessions.{Seen, Kept, Table, room_of, AreApart, changed, without}
-use Rattle.walter_session.proofs.Lists.{lookup-changed, lookup-without}
+use Rattle.walter_base.specs.ByClient.{changed, without}
+use Rattle.walter_base.proofs.ByClient.{lookup-changed_into, lookup-without, seen-changed as changed_in_view}
+use Rattle.walter_session.specs.Sessions.{Seen, Kept, Table, room_of}
 
 abbrev pub kept_of : Table → ℕ → Option Kept
 kept_of table client = lookup (nat_eq client) table.clients
@@ -28,36 +28,7 @@ abbrev pub moved : (Seen → Seen) → ℕ → Kept → Kept
 moved f room kept = record { session = f kept.session; room = room }
 
 pub seen-changed : (client room : ℕ) (f : Seen → Seen) (clients : List (ℕ × Kept)) → seen_of (changed client (moved f room) clients) ≡ changed client f (seen_of clients)
-seen-changed client room f [] = refl
-seen-changed client room f (e ∷ es) =
-    let rest = seen-changed client room f es in
-    elim (nat_eq client e.0) as (λ b. seen_of ((if b then (e.0, moved f room e.1) else e) ∷ changed client (moved f room) es) ≡ (if b then (e.0, f e.1.session) else (e.0, e.1.session)) ∷ changed client f (seen_of es)) [
-      | true ↦ ap (λ os. (e.0, f e.1.session) ∷ os) rest
-      | false ↦ ap (λ os. (e.0, e.1.session) ∷ os) rest
-    ]
-
-pub seen-without : (client : ℕ) (clients : List (ℕ × Kept)) → seen_of (without client clients) ≡ without client (seen_of clients)
-seen-without client [] = refl
-seen-without client (e ∷ es) =
-    let rest = seen-without client es in
-    elim (nat_eq client e.0) as (λ b. seen_of (cond (not b) (e ∷ without client es) (without client es)) ≡ cond (not b) ((e.0, e.1.session) ∷ without client (seen_of es)) (without client (seen_of es))) [
-      | true ↦ rest
-      | false ↦ ap (λ os. (e.0, e.1.session) ∷ os) rest
-    ]
-
-pub seen-apart : (clients : List (ℕ × Kept)) → AreApart clients → AreApart (seen_of clients)
-seen-apart [] apart = tt
-seen-apart (e ∷ es) apart = (lookup-map_values (λ (k : Kept). k.session) (nat_eq e.0) es ∙ ap (option_map (λ (k : Kept). k.session)) apart.0, seen-apart es apart.1)
-
--- nothing changes where a session becomes itself
-pub changed-same : (client : ℕ) (sessions : List (ℕ × Seen)) → changed client (λ s. s) sessions ≡ sessions
-changed-same client [] = refl
-changed-same client (e ∷ es) =
-    let rest = changed-same client es in
-    elim (nat_eq client e.0) as (λ b. (if b then (e.0, e.1) else e) ∷ changed client (λ s. s) es ≡ e ∷ es) [
-      | true ↦ ap (λ os. e ∷ os) rest
-      | false ↦ ap (λ os. e ∷ os) rest
-    ]
+seen-changed client room f clients = changed_in_view (λ (k : Kept). k.session) client (moved f room) f clients (λ k. refl)
 
 -- what is kept of the client is this now
 pub record Sets (old new : Table) (client : ℕ) (kept : Option Kept) : Type 0 where
@@ -65,11 +36,7 @@ pub record Sets (old new : Table) (client : ℕ) (kept : Option Kept) : Type 0 w
 
 pub changed_sets : (old new : Table) (client : ℕ) (f : Kept → Kept) (was : Kept) → new.clients ≡ changed client f old.clients → kept_of old client ≡ Some was → Sets old new client (Some (f was))
 changed_sets old new client f was are here = record {
-  at = λ other. ap (lookup (nat_eq other)) are ∙ lookup-changed client other f old.clients
-      ∙ (elim (nat_eq client other) as (λ b. nat_eq client other ≡ b → (if b then option_map f (kept_of old other) else kept_of old other) ≡ (if b then Some (f was) else kept_of old other)) [
-        | true ↦ λ b. ap (λ c. option_map f (kept_of old c)) (sym (eqb-true client other b)) ∙ ap (option_map f) here
-        | false ↦ λ b. refl
-      ] refl);
+  at = λ other. ap (lookup (nat_eq other)) are ∙ lookup-changed_into client other f (f was) old.clients (ap (option_map f) here);
 }
 
 pub without_sets : (old new : Table) (client : ℕ) → new.clients ≡ without client old.clients → Sets old new client None

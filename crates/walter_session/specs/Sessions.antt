@@ -1,10 +1,10 @@
 -- Sessions with the numbers of their clients, in the order of their starts.
-use Rattle.std.specs.Prelude.{◌≡◌, ◌<◌, ◌≤◌, ◌-◌, ◌++◌, ℕ, nat_eq, min, not, List, [], ◌∷◌, map, filter, filter_map, length, All, Option, Some, None, IsSome, option_map, vec_len, vec_capacity, if◌then◌else◌}
+use Rattle.std.specs.Prelude.{◌≡◌, ◌<◌, ◌≤◌, ◌-◌, ◌++◌, ℕ, min, List, [], ◌∷◌, map, filter_map, length, All, Option, Some, None, IsSome, option_map, vec_len, vec_capacity}
 use Rattle.std.specs.Option.{option_map_or}
-use Rattle.std.specs.Map.{lookup}
 use Rattle.slab.specs.Slab.{Slab, get, slab_len}
 use Rattle.walter_base.specs.declared.names.Tid.{Tid}
 use Rattle.walter_base.specs.declared.update.Update.{Update}
+use Rattle.walter_base.specs.ByClient.{of_client, AreApart}
 use Rattle.walter_session.specs.declared.session.Session.{Session}
 use Rattle.walter_session.specs.declared.session.Stage.{Stage}
 use Rattle.walter_session.specs.declared.session.Stage.TheVariants.{Open}
@@ -39,29 +39,15 @@ sessions_of table = map (λ e. (e.0, e.1.session)) table.clients
 
 -- the session of a client, if it has one
 abbrev pub session_of : Table → ℕ → Option Seen
-session_of table client = lookup (nat_eq client) (sessions_of table)
+session_of table client = of_client client (sessions_of table)
 
 -- how many updates can be added to the client's session without memory; 0 where it has none
 abbrev pub room_of : Table → ℕ → ℕ
-room_of table client = option_map_or (λ kept. kept.room) (lookup (nat_eq client) table.clients) 0
+room_of table client = option_map_or (λ kept. kept.room) (of_client client table.clients) 0
 
 -- one more session can start without memory
 abbrev pub CanStart : Table → Type 0
 CanStart table = 0 < table.starts
-
-module _ {X : Type 0} where
-  -- no two are of one client
-  abbrev pub AreApart : List (ℕ × X) → Type 0
-  AreApart [] = Unit {0}
-  AreApart (e ∷ es) = (lookup (nat_eq e.0) es ≡ None) × AreApart es
-
-  -- what is of the client changes, and what is of others stays
-  abbrev pub changed : ℕ → (X → X) → List (ℕ × X) → List (ℕ × X)
-  changed client f es = map (λ e. if nat_eq client e.0 then (e.0, f e.1) else e) es
-
-  -- without what is of the client
-  abbrev pub without : ℕ → List (ℕ × X) → List (ℕ × X)
-  without client es = filter (λ e. not (nat_eq client e.0)) es
 
 -- a session as it starts
 abbrev pub started : Tid → List ℕ → Seen

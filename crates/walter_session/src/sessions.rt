@@ -1,8 +1,9 @@
 ghost use Rattle.std.specs.Prelude.{◌≡◌, ◌<◌, ◌≤◌, ◌+◌, ◌++◌, ◌∷◌, ◌↔◌, [], ℕ, nat_eq, length, slice_get, false, None, IsSome, IsOk, IsTrue, OnOk, OnErr, IfErr, option_map, if◌then◌else◌};
 ghost use Rattle.std.specs.List.{list_any};
 ghost use Rattle.std.specs.Option.{option_copied, option_map_or};
+ghost use Rattle.walter_base.specs.ByClient.{AreApart, changed, without};
 ghost use Rattle.walter_base.specs.Names.{same_tid};
-ghost use Rattle.walter_session.specs.Sessions.{seen, sessions_of, session_of, room_of, CanStart, AreApart, started, changed, without, with_update, with_stage, IsStartFault};
+ghost use Rattle.walter_session.specs.Sessions.{seen, sessions_of, session_of, room_of, CanStart, started, with_update, with_stage, IsStartFault};
 
 use crate::session::{Session, Stage, StartFault};
 use crate::slot::Slot;

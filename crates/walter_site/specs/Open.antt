@@ -1,13 +1,14 @@
 -- The open transactions of a site, and what holds of them and of what is held.
-use Rattle.std.specs.Prelude.{◌≡◌, List, [], ◌∷◌, map, length, All, Option, Some, None, is_some, false}
+use Rattle.std.specs.Prelude.{◌≡◌, List, map, length, All, Option, Some, None}
 use Rattle.walter_base.specs.declared.catalog.Catalog.{Catalog}
 use Rattle.walter_base.specs.declared.names.SiteId.{SiteId}
 use Rattle.walter_base.specs.declared.update.Update.{Update}
+use Rattle.walter_base.specs.ByClient.{AreApart}
 use Rattle.walter_base.specs.Sizes.{HasShortValue, AreSmall}
 use Rattle.walter_session.specs.declared.session.Session.{Session as Kept}
 use Rattle.walter_session.specs.Sessions.{Seen, Table, seen, sessions_of}
 use Rattle.walter_trail.specs.declared.held.Held.{Held}
-use Rattle.walter_trail.specs.Knowledge.{Open, Session, session_in, with_update}
+use Rattle.walter_trail.specs.Knowledge.{Open, Session, with_update}
 use Rattle.walter_trail.specs.Records.{IsDeclared}
 
 -- an open transaction as a trail knows it
@@ -32,11 +33,6 @@ pub record IsOpenAt (catalog : Catalog) (i : SiteId) (s : Session) : Type 0 wher
   pub sites : length s.snapshot ≡ catalog.sites
   pub declared : All (IsDeclared catalog) s.updates
   pub small : AreSmall s.updates
-
--- no two are of one client
-abbrev pub AreApart : List Open → Type 0
-AreApart [] = Unit {0}
-AreApart (s ∷ ss) = (is_some (session_in s.0 ss) ≡ false) × AreApart ss
 
 pub record AreOpenAt (catalog : Catalog) (i : SiteId) (sessions : List Open) : Type 0 where
   pub each : All (λ s. IsOpenAt catalog i s.1) sessions

@@ -6,9 +6,9 @@ use Rattle.walter_base.specs.declared.names.Kind.{Kind}
 use Rattle.walter_base.specs.declared.update.Row.{Row}
 use Rattle.walter_base.specs.declared.update.Update.{Update}
 use Rattle.walter_base.specs.declared.update.Update.TheVariants.{Write, Add, Del}
+use Rattle.walter_base.specs.ByClient.{AreApart}
 use Rattle.walter_base.specs.Sizes.{HasShortValue}
-use Rattle.walter_site.specs.Open.{AreApart}
-use Rattle.walter_trail.specs.Knowledge.{Open}
+use Rattle.walter_trail.specs.Knowledge.{Open, Session}
 use Rattle.walter_trail.specs.Records.{IsDeclared}
 
 Kind-set : IsSet Kind
@@ -19,6 +19,9 @@ Update-set = hlevel usual
 
 pub Row-set : IsSet Row
 Row-set = hlevel (usual, Update-set)
+
+Session-set : IsSet Session
+Session-set = hlevel (usual, Update-set)
 
 pub IsDeclared-prop : (catalog : Catalog) (update : Update) → IsProp (IsDeclared catalog update)
 IsDeclared-prop catalog (Write oid bytes) = hlevel (usual, Kind-set)
@@ -34,6 +37,6 @@ pub AreApart-prop : (sessions : List Open) → IsProp (AreApart sessions)
 AreApart-prop [] = hlevel usual
 AreApart-prop (s ∷ ss) =
     let others : IsProp (AreApart ss) = AreApart-prop ss in
-    hlevel (usual, others)
+    hlevel (usual, Session-set, others)
 
 pub ruleset props = (usual, Row-set, IsDeclared-prop, HasShortValue-prop, AreApart-prop)

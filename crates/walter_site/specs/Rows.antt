@@ -9,7 +9,7 @@ use Rattle.walter_base.specs.declared.update.Row.{Row}
 use Rattle.walter_base.specs.declared.update.Update.{Update}
 use Rattle.walter_base.specs.Names.{same_object}
 use Rattle.walter_history.specs.Lines.{Line, rows_of, room_of}
-use Rattle.walter_history.specs.Rows.{object_of}
+use Rattle.walter_base.specs.Values.{object_of}
 use Rattle.walter_trail.specs.Conflicts.{version_of}
 use Rattle.walter_trail.specs.declared.held.Held.{Held}
 use Rattle.walter_trail.specs.Records.{IsDeclared}

@@ -1,21 +1,11 @@
 ghost use Rattle.std.specs.Prelude.{◌≡◌, ◌++◌, map, IfOk, OnOk, OnErr, IsSome};
 ghost use Rattle.walter_base.specs.declared.names.ObjId.{ObjId as Object};
 ghost use Rattle.walter_history.specs.Lines.{rows_of};
-ghost use Rattle.walter_history.specs.Rows.{object_of};
 ghost use Rattle.walter_site.specs.Rows.{row_with, rows_told, rows_on, count_on, HaveRoom};
 
 use std::alloc::Global;
 use walter_base::{Mem, ObjId, Record, Row, Update, Version};
 use walter_history::History;
-
-/// The object that the update changes.
-fn object_of(update: &Update) -> ObjId
-    ensures { result ≡ object_of update.now }
-{
-    match update {
-        Update::Write(oid, _) | Update::Add(oid, _) | Update::Del(oid, _) => *oid,
-    }
-}
 
 /// The updates as rows of the version.
 pub fn rows_for(alloc: Global, version: Version, updates: &[Update]) -> Mem<Vec<Row>>
@@ -52,7 +42,7 @@ fn count_on(oid: ObjId, updates: &[Update]) -> u64
 {
     updates
         .iter()
-        .filter(|update| object_of(update) == oid)
+        .filter(|update| update.object() == oid)
         .count() as u64
 }
 
@@ -64,7 +54,7 @@ pub fn make_room(history: &mut History, updates: &[Update]) -> Mem<()>
     // A transaction has at most 256 updates, so counting anew at each of them is at most 256² comparisons, and takes no
     // memory.
     for update in updates {
-        let oid = object_of(update);
+        let oid = update.object();
         history.reserve(oid, count_on(oid, updates))?;
     }
     Ok(())
@@ -76,6 +66,6 @@ pub fn append_all(history: &mut History, rows: Vec<Row>)
     ensures { (oid : Object) → rows_of history.new oid ≡ rows_of history.old oid ++ rows_on oid rows.items }
 {
     for row in rows {
-        history.append(object_of(&row.update), row);
+        history.append(row.update.object(), row);
     }
 }

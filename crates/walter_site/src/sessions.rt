@@ -1,6 +1,7 @@
 //! The open transactions in the words of the trail.
-ghost use Rattle.std.specs.Prelude.{◌≡◌, ◌<◌, ◌++◌, ◌∷◌, [], IsSome, None, length, map, filter, not, nat_eq, option_map, if◌then◌else◌};
+ghost use Rattle.std.specs.Prelude.{◌≡◌, ◌<◌, ◌++◌, ◌∷◌, [], IsSome, None, length, option_map, if◌then◌else◌};
 ghost use Rattle.std.specs.Option.{option_copied};
+ghost use Rattle.walter_base.specs.ByClient.{changed, without};
 ghost use Rattle.walter_session.specs.Sessions.{CanStart, room_of};
 ghost use Rattle.walter_site.specs.Open.{as_session, opens_of, with_any};
 ghost use Rattle.walter_trail.specs.Knowledge.{Session as Known, session_in, with_update, updated};
@@ -49,14 +50,14 @@ pub fn update_of(call: Call) -> Option<Update>
 pub fn add_update(sessions: &mut Sessions, client: u32, update: Update)
     requires open { IsSome (session_in client (opens_of sessions.old)) }
     requires room { 0 < room_of sessions.old client }
-    ensures { opens_of sessions.new ≡ map (λ s. if nat_eq client s.0 then (s.0, with_update update s.1) else s) (opens_of sessions.old) }
+    ensures { opens_of sessions.new ≡ changed client (with_update update) (opens_of sessions.old) }
 {
     sessions.add(client, update).unwrap();
 }
 
 /// Ends the transaction of the client.
 pub fn end(sessions: &mut Sessions, client: u32)
-    ensures { opens_of sessions.new ≡ filter (λ s. not (nat_eq client s.0)) (opens_of sessions.old) }
+    ensures { opens_of sessions.new ≡ without client (opens_of sessions.old) }
 {
     sessions.end(client);
 }

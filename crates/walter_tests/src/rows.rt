@@ -1,7 +1,6 @@
 //! Random commits that are kept twice: as the plain list of the transactions, which is the definition of what a store
 //! holds, and as rows of versions by object, as a site keeps them. Each read of the rows is to tell what the list tells.
-ghost use Rattle.std.specs.Prelude.{◌≡◌, ◌<◌, IsTrue, All};
-ghost use Rattle.walter_history.specs.Rows.{object_of};
+ghost use Rattle.std.specs.Prelude.{◌<◌, IsTrue, All};
 ghost use Rattle.walter_overlay.specs.Overlays.{IsModest};
 
 use rand_core::Rng;
@@ -96,20 +95,12 @@ fn unmodified_in(list: &[Committed], oid: ObjId, by: &Vts) -> Result<(), Version
         let changes = transaction
             .updates
             .iter()
-            .any(|update| object_of(update) == oid);
+            .any(|update| update.object() == oid);
         if changes && !by.sees(transaction.version) {
             return Err(transaction.version);
         }
     }
     Ok(())
-}
-
-fn object_of(update: &Update) -> ObjId
-    ensures { result ≡ object_of update.now }
-{
-    match update {
-        Update::Write(oid, _) | Update::Add(oid, _) | Update::Del(oid, _) => *oid,
-    }
 }
 
 // What is committed and asked, at random.
@@ -161,7 +152,7 @@ fn any_vector(random: &mut Pcg32, bound: u64) -> Vts
 /// Puts the updates of a commit into the rows of their objects.
 fn keep(history: &mut History, version: Version, updates: &[Update]) -> Mem<()> {
     for update in updates {
-        let oid = object_of(update);
+        let oid = update.object();
         let update = update.clone()?;
         history.reserve(oid, 1)?;
         history.append(oid, Row { version, update });

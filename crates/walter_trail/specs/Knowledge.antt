@@ -1,5 +1,5 @@
 -- What a site that is up knows, and what an event leaves of it. Each part goes by the record first, and by the reply.
-use Rattle.std.specs.Prelude.{ℕ, ◌+◌, nat_eq, nat_le, Bool, not, List, [], ◌∷◌, ◌++◌, filter, flat_map, map, replicate, slice_set, Option, Some, None, Result, Ok, if◌then◌else◌}
+use Rattle.std.specs.Prelude.{ℕ, ◌+◌, nat_le, Bool, List, [], ◌∷◌, ◌++◌, filter, flat_map, replicate, slice_set, Option, Some, None, Result, Ok, if◌then◌else◌}
 use Rattle.walter_base.specs.declared.message.Record.{Record}
 use Rattle.walter_base.specs.declared.message.Record.TheVariants.{Boot, Own}
 use Rattle.walter_base.specs.declared.message.BadFrame.{BadFrame}
@@ -10,6 +10,7 @@ use Rattle.walter_base.specs.declared.names.SiteId.{SiteId}
 use Rattle.walter_base.specs.declared.names.Tid.{Tid}
 use Rattle.walter_base.specs.declared.update.Update.{Update}
 use Rattle.walter_base.specs.declared.update.Update.TheVariants.{Write as WriteOf, Add, Del}
+use Rattle.walter_base.specs.ByClient.{of_client, changed, without}
 use Rattle.walter_base.specs.Vectors.{entry_at}
 use Rattle.walter_trail.specs.declared.held.Held.{Held}
 use Rattle.walter_trail.specs.declared.trail.Outcome.{Outcome}
@@ -42,8 +43,7 @@ fresh sites = record { epoch = 0; starts = 0; committed = replicate sites 0; hel
 
 -- the open transaction of a client, if it has one
 abbrev pub session_in : ℕ → List Open → Option Session
-session_in client [] = None
-session_in client (s ∷ ss) = if nat_eq client s.0 then Some s.1 else session_in client ss
+session_in client sessions = of_client client sessions
 
 abbrev pub session_of : Knowledge → ℕ → Option Session
 session_of K client = session_in client K.sessions
@@ -91,7 +91,7 @@ opened event new sessions = sessions
 
 -- the sessions without that of the event's client
 abbrev pub closed : TrailEvent → List Open → List Open
-closed (Call client call) sessions = filter (λ s. not (nat_eq client s.0)) sessions
+closed (Call client call) sessions = without client sessions
 closed event sessions = sessions
 
 abbrev pub with_update : Update → Session → Session
@@ -106,7 +106,7 @@ updated call s = s
 
 -- the sessions where that of the event's client has the update
 abbrev pub done : TrailEvent → List Open → List Open
-done (Call client call) sessions = map (λ s. if nat_eq client s.0 then (s.0, updated call s.1) else s) sessions
+done (Call client call) sessions = changed client (updated call) sessions
 done event sessions = sessions
 
 abbrev pub sessions_after : TrailEvent → Outcome → List ℕ → List Open → List Open

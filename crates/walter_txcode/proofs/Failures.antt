@@ -15,11 +15,11 @@ use Rattle.walter_fields.proofs.Readings.{LacksBlock-no_block, same_block}
 use Rattle.walter_txcode.specs.declared.fault.Fault.{Fault}
 use Rattle.walter_txcode.specs.declared.fault.Fault.TheVariants.{Unspelled, NoMemory}
 use Rattle.walter_txcode.specs.Faults.{IfUnspelled}
-use Rattle.walter_names.specs.Names.{object_spelled, tid_spelled, IsObject, IsTid}
+use Rattle.walter_names.specs.Names.{object_spelled, tid_spelled, IsObject, IsTid, member_spelled}
 use Rattle.walter_base.specs.Sizes.{HasShortValue}
-use Rattle.walter_txcode.specs.Spelling.{numbers_spelled, vector_spelled, value_spelled, member_spelled, update_spelled, updates_spelled, head_spelled, spelling, AreFew, IsUpdate, HasSpelling}
-use Rattle.walter_names.proofs.Lengths.{length-tid_spelled}
-use Rattle.walter_txcode.proofs.Lengths.{length-numbers_spelled, length-value_spelled, length-member_spelled, length-update_spelled, length-updates_spelled, length-head_spelled, length-spelling, length-vector_spelled}
+use Rattle.walter_txcode.specs.Spelling.{numbers_spelled, vector_spelled, value_spelled, update_spelled, updates_spelled, head_spelled, spelling, AreFew, IsUpdate, HasSpelling}
+use Rattle.walter_names.proofs.Lengths.{length-tid_spelled, length-member_spelled}
+use Rattle.walter_txcode.proofs.Lengths.{length-numbers_spelled, length-value_spelled, length-update_spelled, length-updates_spelled, length-head_spelled, length-spelling, length-vector_spelled}
 use Rattle.walter_names.proofs.Prefixes.{same_object, same_tid}
 use Rattle.walter_txcode.proofs.Prefixes.{few_of, same_numbers, vector_parts, kind_of, fields_spelled, behind_kind, same_update, AreSpellable, AreSpellable-from_both, each_spelled, each_parts, HasHead, same_head, same_updates, first_two}
 

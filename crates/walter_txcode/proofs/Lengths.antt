@@ -12,9 +12,9 @@ use Rattle.walter_base.specs.declared.update.Update.{Update}
 use Rattle.walter_base.specs.declared.update.Update.TheVariants.{Write, Add, Del}
 use Rattle.walter_fields.specs.Spellings.{number_spelled, block_spelled}
 use Rattle.walter_fields.proofs.Numbers.{length-number_spelled}
-use Rattle.walter_names.proofs.Lengths.{length-object_spelled, length-tid_spelled, length-block_spelled}
-use Rattle.walter_names.specs.Names.{object_spelled, tid_spelled}
-use Rattle.walter_txcode.specs.Spelling.{numbers_spelled, vector_spelled, value_spelled, member_spelled, update_spelled, updates_spelled, head_spelled, spelling}
+use Rattle.walter_names.proofs.Lengths.{length-object_spelled, length-tid_spelled, length-member_spelled, length-block_spelled}
+use Rattle.walter_names.specs.Names.{object_spelled, tid_spelled, member_spelled}
+use Rattle.walter_txcode.specs.Spelling.{numbers_spelled, vector_spelled, value_spelled, update_spelled, updates_spelled, head_spelled, spelling}
 
 pub length-numbers_spelled : (numbers : List ℕ) → length (numbers_spelled numbers) ≡ 8 * length numbers
 length-numbers_spelled [] = refl
@@ -28,9 +28,6 @@ length-vector_spelled vector few =
 
 pub length-value_spelled : (oid : ObjId) (bytes : List ℕ) → length (value_spelled oid bytes) ≡ 16 + length bytes
 length-value_spelled oid bytes = omega (arith, length-append (object_spelled oid) (block_spelled bytes), length-object_spelled oid, length-block_spelled bytes)
-
-pub length-member_spelled : (oid : ObjId) (id : ℕ) → length (member_spelled oid id) ≡ 20
-length-member_spelled oid id = omega (arith, length-append (object_spelled oid) (number_spelled 8 id), length-object_spelled oid, length-number_spelled 8 id)
 
 pub length-update_spelled : (u : Update) → length (update_spelled u) ≡ size_of_update u
 length-update_spelled (Write oid bytes) = omega (arith, length-append (number_spelled 1 1) (value_spelled oid bytes), length-number_spelled 1 1, length-value_spelled oid bytes)

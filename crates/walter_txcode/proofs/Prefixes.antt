@@ -13,10 +13,10 @@ use Rattle.walter_base.specs.declared.update.Update.TheVariants.{Write, Add, Del
 use Rattle.walter_fields.specs.Spellings.{number_spelled, block_spelled}
 use Rattle.walter_fields.proofs.Numbers.{same_number}
 use Rattle.walter_fields.proofs.Readings.{same_block}
-use Rattle.walter_names.proofs.Prefixes.{regrouped, same_object, same_tid}
-use Rattle.walter_names.specs.Names.{object_spelled, tid_spelled, IsObject, IsTid}
+use Rattle.walter_names.proofs.Prefixes.{regrouped, same_object, same_tid, same_member}
+use Rattle.walter_names.specs.Names.{object_spelled, tid_spelled, IsObject, IsTid, member_spelled}
 use Rattle.walter_base.specs.Sizes.{HasShortValue, CanBeSpelled}
-use Rattle.walter_txcode.specs.Spelling.{numbers_spelled, vector_spelled, value_spelled, member_spelled, update_spelled, updates_spelled, head_spelled, spelling, AreFew, IsUpdate, HasSpelling}
+use Rattle.walter_txcode.specs.Spelling.{numbers_spelled, vector_spelled, value_spelled, update_spelled, updates_spelled, head_spelled, spelling, AreFew, IsUpdate, HasSpelling}
 
 each_number : (xs ys x y : List ℕ) → length xs ≡ length ys → AllByRecursion (λ n. n < 2 ^ 64) xs → AllByRecursion (λ n. n < 2 ^ 64) ys
     → numbers_spelled xs ++ x ≡ numbers_spelled ys ++ y → (xs ≡ ys) × (x ≡ y)
@@ -54,12 +54,6 @@ same_value a b v w x y fits_a fits_b short_v short_w e =
     let two = same_block v w x y (omega arith) (omega arith) one.1 in
     (one.0, two.0, two.1)
 
-pub same_member : (a b : ObjId) (m n : ℕ) (x y : List ℕ) → IsObject a → IsObject b → m < 2 ^ 64 → n < 2 ^ 64 → member_spelled a m ++ x ≡ member_spelled b n ++ y → (a ≡ b) × (m ≡ n) × (x ≡ y)
-same_member a b m n x y fits_a fits_b low_m low_n e =
-    let one = same_object a b (number_spelled 8 m ++ x) (number_spelled 8 n ++ y) fits_a fits_b (regrouped (object_spelled a) (number_spelled 8 m) x (object_spelled b) (number_spelled 8 n) y e) in
-    let two = same_number 8 m n x y (omega (arith, low_m)) (omega (arith, low_n)) one.1 in
-    (one.0, two.0, two.1)
-
 -- an update is its kind, and its fields
 abbrev pub kind_of : Update → ℕ
 kind_of (Write oid bytes) = 1
@@ -91,9 +85,9 @@ same_fields : (a b : Update) (x y : List ℕ) → kind_of a ≡ kind_of b → Is
 same_fields (Write a v) (Write b w) x y kinds fits_a short_a fits_b short_b e =
     let parts = same_value a b v w x y fits_a fits_b short_a short_b e in ((λ i. Write (parts.0 i) (parts.1 i)), parts.2)
 same_fields (Add a m) (Add b n) x y kinds fits_a short_a fits_b short_b e =
-    let parts = same_member a b m n x y fits_a.0 fits_b.0 fits_a.1 fits_b.1 e in ((λ i. Add (parts.0 i) (parts.1 i)), parts.2)
+    let parts = same_member a b m n x y fits_a fits_b e in ((λ i. Add (parts.0 i) (parts.1 i)), parts.2)
 same_fields (Del a m) (Del b n) x y kinds fits_a short_a fits_b short_b e =
-    let parts = same_member a b m n x y fits_a.0 fits_b.0 fits_a.1 fits_b.1 e in ((λ i. Del (parts.0 i) (parts.1 i)), parts.2)
+    let parts = same_member a b m n x y fits_a fits_b e in ((λ i. Del (parts.0 i) (parts.1 i)), parts.2)
 same_fields (Write a v) (Add b n) x y kinds fits_a short_a fits_b short_b e = absurd (omega (arith, kinds))
 same_fields (Write a v) (Del b n) x y kinds fits_a short_a fits_b short_b e = absurd (omega (arith, kinds))
 same_fields (Add a m) (Write b w) x y kinds fits_a short_a fits_b short_b e = absurd (omega (arith, kinds))

@@ -7,7 +7,7 @@ use Rattle.walter_base.specs.declared.transaction.Tx.{Tx}
 use Rattle.walter_base.specs.declared.update.Update.{Update}
 use Rattle.walter_base.specs.declared.update.Update.TheVariants.{Write, Add, Del}
 use Rattle.walter_fields.specs.Spellings.{number_spelled, block_spelled}
-use Rattle.walter_names.specs.Names.{object_spelled, tid_spelled, IsObject, IsTid}
+use Rattle.walter_names.specs.Names.{object_spelled, tid_spelled, IsObject, IsTid, member_spelled}
 
 -- eight bytes for each number
 abbrev pub numbers_spelled : List ℕ → List ℕ
@@ -20,10 +20,6 @@ vector_spelled vector = numbers_spelled (vector ++ replicate (8 - length vector)
 -- the object and the value of a write
 abbrev pub value_spelled : ObjId → List ℕ → List ℕ
 value_spelled oid bytes = object_spelled oid ++ block_spelled bytes
-
--- the set and the id of an addition to it, or of what is taken away
-abbrev pub member_spelled : ObjId → ℕ → List ℕ
-member_spelled oid id = object_spelled oid ++ number_spelled 8 id
 
 abbrev pub update_spelled : Update → List ℕ
 update_spelled (Write oid bytes) = number_spelled 1 1 ++ value_spelled oid bytes

@@ -1,17 +1,17 @@
-ghost use Rattle.std.specs.Prelude.{◌≡◌, ◌≢◌, ◌↔◌, ◌+◌, ◌≤◌, ◌<◌, ◌^◌, ◌++◌, ℕ, List, length, flat_map, sum_by, All, IsErr, IfOk, IfErr};
+ghost use Rattle.std.specs.Prelude.{◌≡◌, ◌≢◌, ◌+◌, ◌≤◌, ◌<◌, ◌++◌, ℕ, List, length, flat_map, sum_by, All, IfOk, IfErr};
 ghost use Rattle.walter_base.specs.Sizes.{size_of_update, HasShortValue};
 ghost use Rattle.walter_base.specs.declared.names.ObjId.{ObjId};
 ghost use Rattle.walter_base.specs.declared.update.Update.{Update};
 ghost use Rattle.walter_fields.specs.Cursors.{Takes};
 ghost use Rattle.walter_txcode.specs.Faults.{IfUnspelled};
 ghost use Rattle.walter_names.specs.Names.{IsObject};
-ghost use Rattle.walter_txcode.specs.Spelling.{value_spelled, member_spelled, update_spelled, updates_spelled, AreFew, IsUpdate};
+ghost use Rattle.walter_txcode.specs.Spelling.{value_spelled, update_spelled, updates_spelled, AreFew, IsUpdate};
 
 use crate::fault::Fault;
 use std::alloc::Global;
 use walter_base::{Bytes, ObjId, Update, Updates};
 use walter_fields::{Appender, Cursor, Short};
-use walter_names::{read_object, write_object};
+use walter_names::{read_member, read_object, write_member, write_object};
 
 /// The most bytes that a value may have.
 const LONGEST_VALUE: usize = 4_096;
@@ -35,17 +35,6 @@ fn read_value<'a>(cursor: &mut Cursor<'a>) -> Result<(ObjId, &'a [u8]), Fault>
         return Err(Fault::Unspelled);
     }
     Ok((oid, bytes))
-}
-
-/// The set and the id of what is added to it, or taken away.
-#[tactic(auto, unfolding(walter_fields::specs::Spellings::number_spelled))]
-fn read_member(cursor: &mut Cursor) -> Result<(ObjId, u64), Short>
-    ensures taken { IfOk result (λ m. Takes cursor.old cursor.new (member_spelled m.0 m.1)) }
-    ensures object { IfOk result (λ m. IsObject m.0) }
-    ensures id { IfOk result (λ m. m.1 < 2 ^ 64) }
-    ensures short { IsErr result ↔ (length cursor.old.left < 20) }
-{
-    Ok((read_object(cursor)?, cursor.u64()?))
 }
 
 fn read_update(alloc: Global, cursor: &mut Cursor) -> Result<Update, Fault>
@@ -113,17 +102,6 @@ fn write_value(out: &mut Appender, oid: ObjId, bytes: &Bytes)
 {
     write_object(out, oid);
     out.block(bytes.as_slice());
-}
-
-fn write_member(out: &mut Appender, oid: ObjId, id: u64)
-    requires { 20 ≤ out.old.room }
-    ensures bytes { out.new.bytes ≡ out.old.bytes ++ member_spelled oid id }
-    ensures room { out.new.room + 20 ≡ out.old.room }
-    ensures object { IsObject oid }
-    ensures id { id < 2 ^ 64 }
-{
-    write_object(out, oid);
-    out.u64(id);
 }
 
 fn write_update(out: &mut Appender, update: &Update)

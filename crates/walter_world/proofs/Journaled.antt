@@ -1,6 +1,6 @@
 -- What a site knows without its open transactions is what its records tell, each of which can follow those before it.
 use Rattle.std.proofs.Common.{◌≡◌, ℕ, ◌<◌, Bool, true, false, not, List, [], ◌∷◌, ◌++◌, Option, Some, None, IfSome, Result, Ok, refl, ap, sym, ◌∙◌, subst, arith, if◌then◌else◌, nat_eq, inl, inr, All}
-use Rattle.std.proofs.lemmas.List.Elements.{All-nil, All-push, All-filter, All-map, All-head, All-tail, All-weaker}
+use Rattle.std.proofs.lemmas.List.Elements.{All-nil, All-push, All-filter, All-map, All-weaker}
 use Rattle.std.proofs.lemmas.Option.{IfSome_then}
 use Rattle.walter_base.specs.declared.catalog.Catalog.{Catalog}
 use Rattle.walter_base.specs.declared.message.BadFrame.{BadFrame}
@@ -13,6 +13,7 @@ use Rattle.walter_base.specs.declared.names.SiteId.{SiteId}
 use Rattle.walter_base.specs.declared.transaction.Tx.{Tx}
 use Rattle.walter_base.specs.declared.update.Update.{Update}
 use Rattle.walter_base.specs.declared.update.Update.TheVariants.{Write as WriteOf, Add, Del}
+use Rattle.walter_base.proofs.ByClient.{all_of_client}
 use Rattle.walter_trail.specs.declared.trail.Entry.{Entry}
 use Rattle.walter_trail.specs.declared.trail.Outcome.{Outcome}
 use Rattle.walter_trail.specs.declared.trail.Outcome.TheVariants.{Replied, Full}
@@ -38,12 +39,7 @@ AreSound catalog i sessions = All (λ o. IsSound catalog i o.1) sessions
 -- the transaction of a client is one of them
 session_sound : (catalog : Catalog) (i : SiteId) (client : ℕ) (s : Session) (ss : List Open) → AreSound catalog i ss → session_in client ss ≡ Some s
     → IsSound catalog i s
-session_sound catalog i client s [] are has = absurd cc
-session_sound catalog i client s (t ∷ ss) are has =
-    (elim (nat_eq client t.0) as (λ b. (if b then Some t.1 else session_in client ss) ≡ Some s → IsSound catalog i s) [
-      | true ↦ λ e. let same : t.1 ≡ s = cc in subst (IsSound catalog i) same (All-head (λ (o : Open). IsSound catalog i o.1) t ss are)
-      | false ↦ λ e. session_sound catalog i client s ss (All-tail (λ (o : Open). IsSound catalog i o.1) t ss are) e
-    ]) has
+session_sound catalog i client s ss are has = subst (λ o. IfSome o (IsSound catalog i)) has (all_of_client (IsSound catalog i) client ss are)
 
 module _ (catalog : Catalog) (i : SiteId) where
   abbrev pub Sound : Open → Type 0

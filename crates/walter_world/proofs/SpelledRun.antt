@@ -1,8 +1,7 @@
 -- Each right entry keeps what the history has to do with how the site stands, so it holds of each right trail.
-use Rattle.std.proofs.Common.{◌≡◌, ◌≢◌, ℕ, zero, suc, ◌+◌, Bool, true, false, not, List, [], ◌∷◌, ◌++◌, filter, length, map, reverse, refl, ap, sym, ◌∙◌, subst, arith, Option, Some, None, option_map, IfSome, inl, inr, Result, Ok, Err, replicate, slice_index, ◌<◌, nat_eq, nat_lt, if◌then◌else◌}
+use Rattle.std.proofs.Common.{◌≡◌, ◌≢◌, ℕ, zero, suc, ◌+◌, Bool, true, false, not, List, [], ◌∷◌, ◌++◌, length, map, reverse, refl, ap, sym, ◌∙◌, subst, arith, Option, Some, None, option_map, IfSome, Result, Ok, Err, replicate, slice_index, ◌<◌, nat_lt, if◌then◌else◌}
 use Rattle.std.specs.Prelude.{ℤ}
 use Rattle.std.specs.FinMap.{get}
-use Rattle.std.proofs.lemmas.Bool.{cases_eq, eq-eqb, ne_eqb}
 use Rattle.std.proofs.lemmas.List.{append-nil, append_assoc, length-replicate}
 use Rattle.walter_base.specs.declared.catalog.Catalog.{Catalog}
 use Rattle.walter_base.specs.declared.containers.Container.{Container}
@@ -38,6 +37,7 @@ use Rattle.walter_psi.specs.declared.step.Step.TheVariants.{Op, Read as ReadStep
 use Rattle.walter_psi.specs.declared.step.Told.TheVariants.{Version as OfVersion, Level as OfLevel}
 use Rattle.walter_psi.specs.Histories.{IsCommitted}
 use Rattle.walter_psi.specs.Legal.{IsLegal, IsAnswer, IsCause}
+use Rattle.walter_base.proofs.ByClient.{lookup-behind, lookup-changed_into, lookup-without}
 use Rattle.walter_psi.proofs.Lists.{Contains-nil}
 use Rattle.walter_trail.specs.declared.held.Held.{Held}
 use Rattle.walter_trail.specs.declared.trail.Entry.{Entry}
@@ -56,7 +56,7 @@ use Rattle.walter_world.specs.Spelled.{the_site, recorded, answered, steps_of, o
 use Rattle.walter_world.proofs.EndsDecided.{IsDue, rule_decided}
 use Rattle.walter_world.proofs.HeldNames.{held_is_committed, committed_is_held, issued_by}
 use Rattle.walter_world.proofs.OneTrail.{named, history-named, psi_of-one}
-use Rattle.walter_world.proofs.SessionLists.{opened_here, opened_other, closed_here, closed_other, changed_here, changed_other, found_open}
+use Rattle.walter_world.proofs.SessionLists.{found_open}
 use Rattle.walter_world.proofs.SpelledSteps.{IsIssued, IsOpen, IsTold, AreOpen, with_one, same_sessions, without_step, start_step, read_step, op_step, tell_step, deny_step, abort_step, conflict_cause, commit_told, commit_open, commit_version, boot}
 
 -- what a site that is up knows is what the history says
@@ -156,10 +156,7 @@ module _ (catalog : Catalog) (K : Knowledge) (records : List Record) (gone : ℕ
         record {
           is_told = step.0;
           are_open = same_sessions K.held steps (with_one client (Some s) (session_of K)) (λ c. session_in c (K.sessions ++ (client, s) ∷ []))
-              (λ c. elim (cases_eq c client) [
-                | inl same ↦ rw (eq-eqb c client same) (ap (λ d. session_in d (K.sessions ++ (client, s) ∷ [])) same ∙ opened_here client s K.sessions none)
-                | inr other ↦ rw (ne_eqb c client other) (opened_other client c s K.sessions other)
-              ])
+              (λ c. lookup-behind client c s K.sessions none)
               step.1;
         },
         refl,
@@ -207,11 +204,7 @@ module _ (catalog : Catalog) (K : Knowledge) (records : List Record) (gone : ℕ
         record {
           is_told = step.0;
           are_open = same_sessions K.held steps (with_one client (Some (with_update update s)) (session_of K)) (session_of next)
-              (λ c. elim (cases_eq c client) [
-                | inl same ↦ rw (eq-eqb c client same)
-                    (ap (λ d. session_of next d) same ∙ (changed_here client change K.sessions ∙ (ap (λ o. option_map change o) has ∙ ap (λ (t : Session). Some t) changes)))
-                | inr other ↦ rw (ne_eqb c client other) (changed_other client c change K.sessions other)
-              ])
+              (λ c. lookup-changed_into client c change (with_update update s) K.sessions (ap (λ o. option_map change o) has ∙ ap (λ (t : Session). Some t) changes))
               step.1;
         },
         refl,
@@ -225,13 +218,6 @@ module _ (catalog : Catalog) (K : Knowledge) (records : List Record) (gone : ℕ
   placed client request update s has changes spells =
       either (Call client (Ok request)) (has_place s.updates update) _ _ (wrote client request update s has changes spells) still
 
-  -- the sessions without that of a client
-  without : (client : ℕ) (c : ℕ) → session_in c (filter (λ s. not (nat_eq client s.0)) K.sessions) ≡ with_one client None (session_of K) c
-  without client c = elim (cases_eq c client) [
-    | inl same ↦ rw (eq-eqb c client same) (ap (λ d. session_in d (filter (λ s. not (nat_eq client s.0)) K.sessions)) same ∙ closed_here client K.sessions)
-    | inr other ↦ rw (ne_eqb c client other) (closed_other client c K.sessions other)
-  ]
-
   -- a transaction is aborted, for a cause that was there
   aborts : (client : ℕ) (request : Request) (s : Session) (cause : Cause) → session_of K client ≡ Some s → IsCause s.tid h cause
       → HoldsAfter site h (Call client (Ok request)) (as_ruled (answers (Aborted cause)))
@@ -242,7 +228,7 @@ module _ (catalog : Catalog) (K : Knowledge) (records : List Record) (gone : ℕ
       let now : HoldsAt true next None steps = (
         record {
           is_told = step.0;
-          are_open = same_sessions K.held steps (with_one client None (session_of K)) (session_of next) (without client) step.1;
+          are_open = same_sessions K.held steps (with_one client None (session_of K)) (session_of next) (λ c. lookup-without client c K.sessions) step.1;
         },
         refl,
       ) in
@@ -263,7 +249,7 @@ module _ (catalog : Catalog) (K : Knowledge) (records : List Record) (gone : ℕ
       let now : HoldsAt true next None all = (
         record {
           is_told = told_.0;
-          are_open = same_sessions next.held all (with_one client None (session_of K)) (session_of next) (without client) told_.1;
+          are_open = same_sessions next.held all (with_one client None (session_of K)) (session_of next) (λ c. lookup-without client c K.sessions) told_.1;
         },
         refl,
       ) in
@@ -280,7 +266,7 @@ module _ (catalog : Catalog) (K : Knowledge) (records : List Record) (gone : ℕ
       let next : Knowledge = after the_site K (Call client (Ok Commit)) (Replied Ended) None in
       let ended : HoldsUp next h = record {
         is_told = is.is_told;
-        are_open = same_sessions K.held h (with_one client None (session_of K)) (session_of next) (without client) (without_step K.held h (session_of K) client is.are_open);
+        are_open = same_sessions K.held h (with_one client None (session_of K)) (session_of next) (λ c. lookup-without client c K.sessions) (without_step K.held h (session_of K) client is.are_open);
       } in
       (subst (λ steps. HoldsUp next steps) (sym (append-nil h)) ended, refl)
   committed_ client s (update ∷ updates) has are =

@@ -81,7 +81,7 @@ pub record LeavesAlone (x : Tid) (step : Step) : Type 0 where
 
 -- the sessions, where one client has this one
 abbrev pub with_one : ℕ → Option Session → (ℕ → Option Session) → ℕ → Option Session
-with_one client now session c = if nat_eq c client then now else session c
+with_one client now session c = if nat_eq client c then now else session c
 
 -- a name stays issued, as more are
 pub issued_more : (epoch starts more : ℕ) (x : Tid) → starts ≤ more → IsIssued epoch starts x → IsIssued epoch more x
@@ -161,8 +161,8 @@ with_cases : (client : ℕ) (now : Option Session) (session : ℕ → Option Ses
     → ((c ≡ client) × (now ≡ Some s)) ⊎ ((c ≢ client) × (session c ≡ Some s))
 with_cases client now session c s has =
     elim (cases_eq c client) [
-      | inl same ↦ inl (same, let e = eq-eqb c client same in ap (λ b. if b then now else session c) (sym e) ∙ has)
-      | inr other ↦ inr (other, let e = ne_eqb c client other in ap (λ b. if b then now else session c) (sym e) ∙ has)
+      | inl same ↦ inl (same, let e = eq-eqb client c (sym same) in ap (λ b. if b then now else session c) (sym e) ∙ has)
+      | inr other ↦ inr (other, let e = ne_eqb client c (λ e. other (sym e)) in ap (λ b. if b then now else session c) (sym e) ∙ has)
     ]
 
 -- the sessions after a step that leaves alone the transactions of the other clients, where the client's is the one that it has

@@ -1,5 +1,5 @@
-use Rattle.walter_names.proofs.Lengths.{length-object_spelled, length-tid_spelled, length-version_spelled}
-use Rattle.walter_names.proofs.Prefixes.{same_object, same_tid, same_version}
+use Rattle.walter_names.proofs.Lengths.{length-object_spelled, length-tid_spelled, length-version_spelled, length-member_spelled}
+use Rattle.walter_names.proofs.Prefixes.{same_object, same_tid, same_version, same_member}
 use Rattle.walter_names.proofs.laws.one_spelling.Goals as goal
 
 pub returns-clause-objects : goal.returns-clause-objects
@@ -19,3 +19,9 @@ returns-clause-tid_bytes c = length-tid_spelled
 
 pub returns-clause-version_bytes : goal.returns-clause-version_bytes
 returns-clause-version_bytes c = length-version_spelled
+
+pub returns-clause-members : goal.returns-clause-members
+returns-clause-members c = same_member
+
+pub returns-clause-member_bytes : goal.returns-clause-member_bytes
+returns-clause-member_bytes c = length-member_spelled

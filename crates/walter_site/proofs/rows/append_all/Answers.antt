@@ -10,7 +10,7 @@ use Rattle.walter_base.specs.declared.update.Update.{Update}
 use Rattle.walter_base.specs.Names.{same_object}
 use Rattle.walter_base.proofs.NameTests.{same_object-true, same_object_refl}
 use Rattle.walter_history.specs.Lines.{Line, rows_of, room_of}
-use Rattle.walter_history.specs.Rows.{object_of}
+use Rattle.walter_base.specs.Values.{object_of}
 use Rattle.walter_site.specs.Rows.{changes, rows_on, count_on, HaveRoom}
 use Rattle.walter_site.proofs.rows.append_all.Goals as goal
 
@@ -79,7 +79,7 @@ append-requires-clause-room c =
     let rows = c.args.rows.items in
     let turn = YieldsList-turn (YieldsList-from_vec rows (search rules) (search rules)) c.loop-row.yielded c.loop-row.row-iterator c.loop-row.yielded_by c.next.result c.next.new.self c.in-Some.row c.in-Some.is c.next.ensures.steps in
     let room = room_from c.loop-row.history rows (length c.loop-row.yielded) c.in-Some.row turn.0 turn.1 c.loop-row.invariant.room in
-    subst (λ (at : ObjId). 0 < room_of c.loop-row.history at) (sym c.object_of.ensures) (room_here c.loop-row.history c.in-Some.row _ room)
+    subst (λ (at : ObjId). 0 < room_of c.loop-row.history at) (sym c.object.ensures) (room_here c.loop-row.history c.in-Some.row _ room)
 
 pub loop-row-preserved : goal.loop-row-preserved
 loop-row-preserved c =
@@ -93,9 +93,9 @@ loop-row-preserved c =
     let room = room_from old rows n row turn.0 turn.1 c.loop-row.invariant.room in
     record {
       rows = λ oid.
-          rows_more old new row c.object_of.result oid c.object_of.ensures (c.append.ensures.rows oid)
+          rows_more old new row c.object.result oid c.object.ensures (c.append.ensures.rows oid)
           ∙ ap (λ before. before ++ rows_on oid (row ∷ [])) (c.loop-row.invariant.rows oid)
           ∙ append_assoc (rows_of c.args.history.now oid) (rows_on oid (take n rows)) (rows_on oid (row ∷ []))
           ∙ ap (λ behind. rows_of c.args.history.now oid ++ behind) (sym (rows_on-more oid rows n row turn.0 turn.1) ∙ ap (λ k. rows_on oid (take k rows)) (sym more));
-      room = subst (λ k. HaveRoom new (updates_in (drop k rows))) (sym more) (room_behind old new row (drop (n + 1) rows) room (subst (IsRoomLess old new) c.object_of.ensures c.append.ensures.room));
+      room = subst (λ k. HaveRoom new (updates_in (drop k rows))) (sym more) (room_behind old new row (drop (n + 1) rows) room (subst (IsRoomLess old new) c.object.ensures c.append.ensures.room));
     }

@@ -4,7 +4,7 @@ use Rattle.std.proofs.lemmas.List.Elements.{All-more, All-same, All-weaker}
 use Rattle.walter_base.specs.declared.names.ObjId.{ObjId}
 use Rattle.walter_base.specs.declared.update.Update.{Update}
 use Rattle.walter_history.specs.Lines.{room_of}
-use Rattle.walter_history.specs.Rows.{object_of}
+use Rattle.walter_base.specs.Values.{object_of}
 use Rattle.walter_site.specs.Rows.{count_on}
 use Rattle.walter_site.proofs.rows.make_room.Goals as goal
 
@@ -18,8 +18,8 @@ loop-update-preserved c =
     let Old : Update → Type 0 = λ (o : Update). count_on (object_of o) updates ≤ room_of old (object_of o) in
     let New : Update → Type 0 = λ (o : Update). count_on (object_of o) updates ≤ room_of new (object_of o) in
     let wider : (o : Update) → Old o → New o = λ o had. let more = c.in_ok-reserve.ensures.room (object_of o) in omega (arith, had, more) in
-    let counted : count_on c.object_of-oid.result updates ≤ room_of new c.object_of-oid.result = subst (λ (n : ℕ). n ≤ room_of new c.object_of-oid.result) c.count_on.ensures c.in_ok-reserve.ensures.enough in
-    let enough : New u = subst (λ (at : ObjId). count_on at updates ≤ room_of new at) c.object_of-oid.ensures counted in
+    let counted : count_on c.object-oid.result updates ≤ room_of new c.object-oid.result = subst (λ (n : ℕ). n ≤ room_of new c.object-oid.result) c.count_on.ensures c.in_ok-reserve.ensures.enough in
+    let enough : New u = subst (λ (at : ObjId). count_on at updates ≤ room_of new at) c.object-oid.ensures counted in
     record {
       room = All-more New updates i u c.loop-update-test.true (All-weaker Old New wider (take i updates) c.loop-update.invariant.room) (subst New c.update-item.is enough);
       same = λ oid. c.in_ok-reserve.ensures.rows oid ∙ c.loop-update.invariant.same oid;

@@ -1,7 +1,7 @@
 use Rattle.std.proofs.Common.{◌≡◌, ◌≤◌, All, take}
 use Rattle.walter_base.specs.declared.names.ObjId.{ObjId}
 use Rattle.walter_history.specs.Lines.{rows_of, room_of}
-use Rattle.walter_history.specs.Rows.{object_of}
+use Rattle.walter_base.specs.Values.{object_of}
 use Rattle.walter_site.specs.Rows.{count_on}
 use Rattle.walter_site.proofs.rows.make_room.Given as goal
 

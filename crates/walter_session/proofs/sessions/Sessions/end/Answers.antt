@@ -1,7 +1,8 @@
 use Rattle.std.proofs.Common.{◌∙◌, None, ap, sym, refl, subst, rules}
-use Rattle.walter_session.specs.Sessions.{Table, AreLinked, clients_in, without}
-use Rattle.walter_session.proofs.Lists.{removed-absent}
-use Rattle.walter_session.proofs.Tables.{seen_of, seen-without, without_sets, rooms}
+use Rattle.walter_session.specs.Sessions.{Table, AreLinked, Kept, clients_in}
+use Rattle.walter_base.specs.ByClient.{without}
+use Rattle.walter_base.proofs.ByClient.{removed-absent, seen-without}
+use Rattle.walter_session.proofs.Tables.{seen_of, without_sets, rooms}
 use Rattle.walter_session.proofs.Links.{table_in, only_own, end_clients, end_linked, end_nothing, same_linked}
 use Rattle.walter_session.proofs.sessions.Sessions.end.Goals as goal
 
@@ -31,7 +32,7 @@ returns-in_default c =
     let clients = ap (clients_in slots) (c.shift_remove.ensures.entries ∙ removed-absent client entries absent) ∙ sym (end_nothing slots entries client c.self.invariant absent)
     ∙ ap (λ (t : Table). without client t.clients) c.self.view_is in
     record {
-      sessions = ap seen_of clients ∙ seen-without client before.clients;
+      sessions = ap seen_of clients ∙ seen-without (λ (k : Kept). k.session) client before.clients;
       room = rooms before _ client None (without_sets before (table_in slots c.shift_remove.new.self.entries 0) client clients);
       starts = search rules;
     }
@@ -47,7 +48,7 @@ returns c =
     let clients = ap (clients_in c.try_remove.new.self) c.shift_remove.ensures.entries ∙ end_clients slots c.try_remove.new.self client key None only c.try_remove.ensures.updates entries c.self.invariant
     ∙ ap (λ (t : Table). without client t.clients) c.self.view_is in
     record {
-      sessions = ap seen_of clients ∙ seen-without client before.clients;
+      sessions = ap seen_of clients ∙ seen-without (λ (k : Kept). k.session) client before.clients;
       room = rooms before _ client None (without_sets before (table_in c.try_remove.new.self c.shift_remove.new.self.entries 0) client clients);
       starts = search rules;
     }

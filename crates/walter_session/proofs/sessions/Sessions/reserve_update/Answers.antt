@@ -4,7 +4,8 @@ use Rattle.std.proofs.lemmas.Grind.{common_steps}
 use Rattle.std.proofs.Common.{arith, if◌then◌else◌}
 use Rattle.slab.specs.Slab.{with_value}
 use Rattle.walter_session.specs.Sessions.{Table, Seen, room_of, session_of, sessions_of, kept_in}
-use Rattle.walter_session.proofs.Tables.{room_in, moved, seen_of, seen-changed, changed-same, changed_sets, rooms, rooms_more, given_ok}
+use Rattle.walter_base.proofs.ByClient.{changed-same}
+use Rattle.walter_session.proofs.Tables.{room_in, moved, seen_of, seen-changed, changed_sets, rooms, rooms_more, given_ok}
 use Rattle.walter_session.proofs.Links.{table_in, never_vacant, found, lent_linked, lent_clients, lent_kept}
 use Rattle.walter_session.proofs.sessions.Sessions.reserve_update.Goals as goal
 
@@ -45,7 +46,7 @@ returns c =
     record {
       enough = given_ok c.make_room.result _ _ (λ enough is. subst (λ n. 0 < n) (sym (rooms before _ client _ sets client ∙ ap (λ b. if b then (kept_in now).room else room_of before client) (eq-eqb client client refl))) enough) c.make_room.ensures.enough;
       had = λ room. c.make_room.ensures.had (subst (λ n. 0 < n) (ap room_in kept) room);
-      sessions = seen ∙ changed-same client (sessions_of before);
+      sessions = seen ∙ changed-same client same (sessions_of before) (λ s. refl);
       room = rooms_more before _ client _ sets (subst (λ n. n ≤ (kept_in now).room) (sym (ap room_in kept)) more);
       starts = grind (arith, common_steps);
     }

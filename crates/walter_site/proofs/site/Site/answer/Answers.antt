@@ -3,7 +3,8 @@ use Rattle.std.specs.Prelude.{IsSome, IsSomeAnd}
 use Rattle.walter_session.specs.Sessions.{sessions_of}
 use Rattle.walter_site.specs.Open.{IsOpenAt, AreOpenAt, opens_of}
 use Rattle.walter_site.specs.Sites.{known, site_of, catalog_of, CanAnswer}
-use Rattle.walter_site.proofs.Changes.{open_of, open_without}
+use Rattle.walter_base.proofs.ByClient.{all_of_client}
+use Rattle.walter_site.proofs.Changes.{open_without}
 use Rattle.walter_site.proofs.Opens.{some_session}
 use Rattle.walter_site.proofs.Ruled.{IsFair, ruled_fair}
 use Rattle.walter_trail.specs.declared.trail.Outcome.TheVariants.{Replied}
@@ -16,7 +17,7 @@ update-requires-clause-fits c =
     let self = c.args.self.now in
     let K = known self in
     let session = session_of K c.args.client in
-    let is = open_of (IsOpenAt self.catalog self.site) c.args.client (opens_of self.sessions) self.opens.each in
+    let is = all_of_client (IsOpenAt self.catalog self.site) c.args.client (opens_of self.sessions) self.opens.each in
     let fair = ruled_fair self.catalog self.site K c.args.call session self.short is in
     subst (IsFair self.catalog self.site K c.args.call session) (c.requires.rule ∙ ap (λ r. Replied r) c.in-Done.is) fair
 

@@ -7,7 +7,7 @@ use Rattle.walter_base.specs.declared.names.SiteId.{SiteId}
 use Rattle.walter_base.specs.Vectors.{entry_at}
 use Rattle.walter_site.specs.Open.{IsOpenAt, opens_of}
 use Rattle.walter_site.specs.Sites.{known, site_of, catalog_of, IsNext}
-use Rattle.walter_site.proofs.Changes.{open_of}
+use Rattle.walter_base.proofs.ByClient.{all_of_client}
 use Rattle.walter_site.proofs.Ruled.{IsGood, planned_good}
 use Rattle.walter_trail.specs.Knowledge.{Knowledge}
 use Rattle.walter_trail.specs.Records.{IsDeclared}
@@ -26,6 +26,6 @@ pub keep-requires-clause-next : goal.keep-requires-clause-next
 unfolding known site_of catalog_of
 keep-requires-clause-next c =
     let self = c.args.self.now in
-    let is = open_of (IsOpenAt self.catalog self.site) _ (opens_of self.sessions) self.opens.each in
+    let is = all_of_client (IsOpenAt self.catalog self.site) _ (opens_of self.sessions) self.opens.each in
     next_kept self.catalog _ self.site _ (known self) (known c.answer.new.self) c.args.plan.rec c.answer.ensures.catalog c.answer.ensures.site (ap (λ (K : Knowledge). K.committed) c.answer.ensures.known)
     (planned_good self.catalog self.site (known self) _ _ (c.args.plan.rec, c.args.plan.reply) self.most is c.requires.planned.rule_is)

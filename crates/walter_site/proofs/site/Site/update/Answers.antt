@@ -2,7 +2,8 @@ use Rattle.std.proofs.Common.{◌≡◌, Option, Some, None, sym, subst}
 use Rattle.std.specs.Prelude.{IfSome, IsSomeAnd}
 use Rattle.walter_site.specs.Open.{opens_of, AreOpenAt, IsOpenAt}
 use Rattle.walter_site.specs.Sites.{known, site_of, catalog_of}
-use Rattle.walter_site.proofs.Changes.{open_changed, unchanged}
+use Rattle.walter_base.proofs.ByClient.{changed-same}
+use Rattle.walter_site.proofs.Changes.{open_changed}
 use Rattle.walter_trail.specs.Knowledge.{Session, session_in, with_update, updated}
 use Rattle.walter_site.proofs.site.Site.update.Goals as goal
 
@@ -23,5 +24,5 @@ pub returns-in_default-clause-known : goal.returns-in_default-clause-known
 unfolding known
 returns-in_default-clause-known c =
     let self = c.args.self.now in
-    let same = unchanged c.args.client (updated c.args.call) (opens_of self.sessions) (λ s. c.in_default.ensures s) in
+    let same = changed-same c.args.client (updated c.args.call) (opens_of self.sessions) (λ s. c.in_default.ensures s) in
     λ i. record { epoch = self.epoch; starts = self.starts; committed = self.committed; held = self.held.items; sessions = sym same i }
