@@ -5,13 +5,18 @@ use crate::{Input, Plan, ReplayFault, Site};
 use std::alloc::Global;
 use std::test::Fail;
 use walter_base::{
-    BadFrame, Bytes, Call, Catalog, Cause, Kind, Mem, ObjId, Record, Refusal, Reply, Request,
-    SiteId, Tid, Version,
+    BadFrame, Bytes, Call, Catalog, Cause, Kind, Level, Mem, ObjId, Record, Refusal, Reply,
+    Request, SiteId, Tid, Version,
 };
 
 const OBJECT: ObjId = ObjId {
     container: 1,
     local: 5,
+};
+
+const SET: ObjId = ObjId {
+    container: 3,
+    local: 1,
 };
 
 const LATER: ObjId = ObjId {
@@ -33,16 +38,13 @@ fn alone(alloc: Global) -> Result<Site, Fail> {
     Ok(site)
 }
 
-fn write(alloc: Global, oid: ObjId, bytes: &[u8]) -> Mem<Request> {
-    Ok(Request::Write(oid, Bytes::from_slice(alloc, bytes)?))
+fn ask(client: u32, request: Request) -> (u32, Call) {
+    (client, Ok(request))
 }
 
-fn tid(epoch: u32, number: u64) -> Tid {
-    Tid {
-        site: SiteId(0),
-        epoch,
-        number,
-    }
+fn ask_to_write(alloc: Global, client: u32, oid: ObjId, bytes: &[u8]) -> Mem<(u32, Call)> {
+    let bytes = Bytes::from_slice(alloc, bytes)?;
+    Ok(ask(client, Request::Write(oid, bytes)))
 }
 
 // What the site answers to a call, which it then applies.
@@ -53,16 +55,55 @@ fn served(site: &mut Site, client: u32, call: Call) -> Mem<Reply> {
     Ok(reply)
 }
 
-// What the site answers to a request.
-fn asked(site: &mut Site, client: u32, request: Request) -> Mem<Reply> {
-    served(site, client, Ok(request))
+// What the site answers to the calls of these clients, one behind the other.
+fn answers_of(alloc: Global, mut site: Site, calls: Vec<(u32, Call)>) -> Mem<Vec<Reply>> {
+    let mut replies = Vec::new(alloc);
+    for (client, call) in calls {
+        replies.push(served(&mut site, client, call)?)?;
+    }
+    Ok(replies)
 }
 
-// A transaction that writes the object and commits.
-fn written(alloc: Global, site: &mut Site, client: u32, oid: ObjId) -> Mem<Reply> {
-    asked(site, client, Request::Start)?;
-    asked(site, client, write(alloc, oid, b"x")?)?;
-    asked(site, client, Request::Commit)
+// What a new site answers.
+fn answers(alloc: Global, calls: Vec<(u32, Call)>) -> Result<Vec<Reply>, Fail> {
+    Ok(answers_of(alloc, alone(alloc)?, calls)?)
+}
+
+// The record of a transaction with this update.
+fn record_of(site: &mut Site, update: Request) -> Mem<Option<Record>>
+    ensures { IfOk result (λ rec. IfSome rec CanBeRecorded) }
+{
+    served(site, 0, Ok(Request::Start))?;
+    served(site, 0, Ok(update))?;
+    let plan = site.plan(&Input::Call {
+        client: 0,
+        call: Ok(Request::Commit),
+    })?;
+    let rec = plan.rec.clone()?;
+    site.apply(plan);
+    Ok(rec)
+}
+
+// A site made anew from the records of transactions with these updates, in its second epoch.
+fn made_anew(alloc: Global, updates: Vec<Request>) -> Result<Site, Fail> {
+    let mut site = alone(alloc)?;
+    let mut copy = alone(alloc)?;
+    for update in updates {
+        let Some(rec) = record_of(&mut site, update)? else {
+            return Err(Fail::from("the transaction commits"));
+        };
+        copy.replay(rec)?;
+    }
+    copy.replay(Record::Boot(2))?;
+    Ok(copy)
+}
+
+fn tid(epoch: u32, number: u64) -> Tid {
+    Tid {
+        site: SiteId(0),
+        epoch,
+        number,
+    }
 }
 
 fn version(seq: u64) -> Version {
@@ -75,120 +116,235 @@ fn version(seq: u64) -> Version {
 #[test]
 fn a_transaction_reads_its_own_write_and_commits(rt: HostRuntime) -> Result<(), Fail> {
     let alloc = rt.alloc();
-    let mut site = alone(alloc)?;
-    let requests = [
-        Request::Read(OBJECT),
-        Request::Start,
-        Request::Start,
-        write(alloc, OBJECT, b"hello")?,
-        Request::Read(OBJECT),
-        Request::Commit,
-        Request::Start,
-        Request::Read(OBJECT),
-        Request::Commit,
-    ];
-    let mut replies = Vec::new(alloc);
-    for request in requests {
-        replies.push(asked(&mut site, 0, request)?)?;
-    }
-    assert_eq!(rt; replies.len(), 9);
-    assert!(rt; matches!(&replies[0], Reply::Refused(Refusal::NoTx)));
-    assert!(rt; matches!(&replies[1], Reply::Started(_)));
-    assert!(rt; matches!(&replies[2], Reply::Refused(Refusal::TxOpen)));
-    assert!(rt; matches!(&replies[3], Reply::Done));
-    assert!(rt; matches!(&replies[5], Reply::Committed(_)));
-    assert!(rt; matches!(&replies[8], Reply::Ended));
-    for reply in [&replies[4], &replies[7]] {
-        let Reply::Value(Some(value)) = reply else {
-            panic!(rt; "the object has a value");
-        };
-        assert_eq!(rt; value.as_slice(), b"hello".as_slice());
-    }
+    let calls = vec![in alloc;
+        ask(0, Request::Read(OBJECT)),
+        ask(0, Request::Start),
+        ask(0, Request::Start),
+        ask_to_write(alloc, 0, OBJECT, b"hello")?,
+        ask(0, Request::Read(OBJECT)),
+        ask(0, Request::Commit),
+        ask(0, Request::Start),
+        ask(0, Request::Read(OBJECT)),
+        ask(0, Request::Commit),
+    ]?;
+    let replies = answers(alloc, calls)?;
+    let [
+        Reply::Refused(Refusal::NoTx),
+        Reply::Started(_),
+        Reply::Refused(Refusal::TxOpen),
+        Reply::Done,
+        Reply::Value(Some(own)),
+        Reply::Committed(_),
+        Reply::Started(_),
+        Reply::Value(Some(committed)),
+        Reply::Ended,
+    ] = replies.as_slice()
+    else {
+        panic!(rt; "other replies");
+    };
+    assert_eq!(rt; own.as_slice(), b"hello".as_slice());
+    assert_eq!(rt; committed.as_slice(), b"hello".as_slice());
     Ok(())
 }
 
 #[test]
 fn a_snapshot_leaves_out_what_commits_later(rt: HostRuntime) -> Result<(), Fail> {
     let alloc = rt.alloc();
-    let mut site = alone(alloc)?;
-    asked(&mut site, 1, Request::Start)?;
-    written(alloc, &mut site, 0, OBJECT)?;
-    let read = asked(&mut site, 1, Request::Read(OBJECT))?;
-    assert!(rt; matches!(read, Reply::Value(None)));
+    let calls = vec![in alloc;
+        ask(1, Request::Start),
+        ask(0, Request::Start),
+        ask_to_write(alloc, 0, OBJECT, b"x")?,
+        ask(0, Request::Commit),
+        ask(1, Request::Read(OBJECT)),
+    ]?;
+    let replies = answers(alloc, calls)?;
+    assert!(rt; matches!(replies.last(), Some(Reply::Value(None))));
     Ok(())
 }
 
 #[test]
 fn the_first_of_two_writers_commits(rt: HostRuntime) -> Result<(), Fail> {
     let alloc = rt.alloc();
-    let mut site = alone(alloc)?;
-    for client in 0..2 {
-        asked(&mut site, client, Request::Start)?;
-        asked(&mut site, client, write(alloc, OBJECT, b"x")?)?;
-    }
-    let Reply::Committed(first) = asked(&mut site, 0, Request::Commit)? else {
-        panic!(rt; "the first commits");
+    let calls = vec![in alloc;
+        ask(0, Request::Start),
+        ask_to_write(alloc, 0, OBJECT, b"x")?,
+        ask(1, Request::Start),
+        ask_to_write(alloc, 1, OBJECT, b"x")?,
+        ask(0, Request::Commit),
+        ask(1, Request::Commit),
+        ask(1, Request::Commit),
+    ]?;
+    let replies = answers(alloc, calls)?;
+    let [
+        _,
+        _,
+        _,
+        _,
+        Reply::Committed(first),
+        Reply::Aborted(cause),
+        Reply::Refused(Refusal::NoTx),
+    ] = replies.as_slice()
+    else {
+        panic!(rt; "other replies");
     };
-    assert_eq!(rt; first, version(1));
-    let Reply::Aborted(cause) = asked(&mut site, 1, Request::Commit)? else {
-        panic!(rt; "the second is aborted");
-    };
+    assert_eq!(rt; *first, version(1));
     let modified = Cause::Modified {
         oid: OBJECT,
-        version: first,
+        version: version(1),
     };
-    assert_eq!(rt; cause, modified);
-    let again = asked(&mut site, 1, Request::Commit)?;
-    assert!(rt; matches!(again, Reply::Refused(Refusal::NoTx)));
+    assert_eq!(rt; *cause, modified);
     Ok(())
 }
 
 #[test]
 fn a_conflict_names_the_first_object_and_its_first_version(rt: HostRuntime) -> Result<(), Fail> {
     let alloc = rt.alloc();
-    let mut site = alone(alloc)?;
-    asked(&mut site, 0, Request::Start)?;
+    let mut calls = vec![in alloc; ask(0, Request::Start)]?;
     for oid in [LATER, OBJECT, OBJECT] {
-        written(alloc, &mut site, 1, oid)?;
+        calls.push(ask(1, Request::Start))?;
+        calls.push(ask_to_write(alloc, 1, oid, b"x")?)?;
+        calls.push(ask(1, Request::Commit))?;
     }
     for oid in [LATER, OBJECT] {
-        asked(&mut site, 0, write(alloc, oid, b"y")?)?;
+        calls.push(ask_to_write(alloc, 0, oid, b"y")?)?;
     }
-    let Reply::Aborted(cause) = asked(&mut site, 0, Request::Commit)? else {
+    calls.push(ask(0, Request::Commit))?;
+    let replies = answers(alloc, calls)?;
+    let Some(Reply::Aborted(cause)) = replies.last() else {
         panic!(rt; "both objects have later versions");
     };
     let modified = Cause::Modified {
         oid: OBJECT,
         version: version(2),
     };
-    assert_eq!(rt; cause, modified);
+    assert_eq!(rt; *cause, modified);
     Ok(())
 }
 
 #[test]
 fn an_abort_ends_the_transaction_and_changes_nothing(rt: HostRuntime) -> Result<(), Fail> {
     let alloc = rt.alloc();
-    let mut site = alone(alloc)?;
-    let none = asked(&mut site, 0, Request::Abort)?;
-    assert!(rt; matches!(none, Reply::Refused(Refusal::NoTx)));
-    asked(&mut site, 0, Request::Start)?;
-    asked(&mut site, 0, write(alloc, OBJECT, b"x")?)?;
-    let aborted = asked(&mut site, 0, Request::Abort)?;
-    assert!(rt; matches!(aborted, Reply::Aborted(Cause::Asked)));
-    asked(&mut site, 0, Request::Start)?;
-    let read = asked(&mut site, 0, Request::Read(OBJECT))?;
-    assert!(rt; matches!(read, Reply::Value(None)));
+    let calls = vec![in alloc;
+        ask(0, Request::Abort),
+        ask(0, Request::Start),
+        ask_to_write(alloc, 0, OBJECT, b"x")?,
+        ask(0, Request::Abort),
+        ask(0, Request::Start),
+        ask(0, Request::Read(OBJECT)),
+    ]?;
+    let replies = answers(alloc, calls)?;
+    let [
+        Reply::Refused(Refusal::NoTx),
+        _,
+        _,
+        Reply::Aborted(Cause::Asked),
+        _,
+        Reply::Value(None),
+    ] = replies.as_slice()
+    else {
+        panic!(rt; "other replies");
+    };
     Ok(())
 }
 
 #[test]
 fn a_bad_frame_is_refused_in_any_state(rt: HostRuntime) -> Result<(), Fail> {
+    let alloc = rt.alloc();
+    let calls = vec![in alloc;
+        (0, Err(BadFrame { at: 3 })),
+        ask(0, Request::Start),
+        (0, Err(BadFrame { at: 5 })),
+    ]?;
+    let replies = answers(alloc, calls)?;
+    let [
+        Reply::Refused(Refusal::BadFrame { at: 3 }),
+        _,
+        Reply::Refused(Refusal::BadFrame { at: 5 }),
+    ] = replies.as_slice()
+    else {
+        panic!(rt; "other replies");
+    };
+    Ok(())
+}
+
+#[test]
+fn a_set_counts_what_is_added_and_taken(rt: HostRuntime) -> Result<(), Fail> {
+    let alloc = rt.alloc();
+    let calls = vec![in alloc;
+        ask(0, Request::Start),
+        ask(0, Request::Read(SET)),
+        ask(0, Request::SetRead(OBJECT)),
+        ask(0, Request::SetAdd(SET, 9)),
+        ask(0, Request::SetAdd(SET, 7)),
+        ask(0, Request::SetDel(SET, 7)),
+        ask(0, Request::SetRead(SET)),
+        ask(0, Request::SetReadId(SET, 7)),
+        ask(0, Request::Commit),
+        ask(0, Request::Level(tid(1, 1))),
+    ]?;
+    let replies = answers(alloc, calls)?;
+    let [
+        _,
+        Reply::Refused(Refusal::WrongKind),
+        Reply::Refused(Refusal::WrongKind),
+        Reply::Done,
+        Reply::Done,
+        Reply::Done,
+        Reply::Set(counts),
+        Reply::Count(0),
+        Reply::Committed(_),
+        Reply::Level(Level::Visible),
+    ] = replies.as_slice()
+    else {
+        panic!(rt; "other replies");
+    };
+    assert_eq!(rt; counts.as_slice(), [(9, 1)].as_slice());
+    Ok(())
+}
+
+#[test]
+fn a_site_is_made_anew_from_its_records(rt: HostRuntime) -> Result<(), Fail> {
+    let alloc = rt.alloc();
+    let updates = vec![in alloc;
+        Request::Write(OBJECT, Bytes::from_slice(alloc, b"x")?),
+        Request::SetAdd(SET, 7),
+        Request::SetDel(SET, 9),
+        Request::SetAdd(SET, 7),
+    ]?;
+    let calls = vec![in alloc;
+        ask(0, Request::Start),
+        ask(0, Request::Read(OBJECT)),
+        ask(0, Request::SetRead(SET)),
+        ask(0, Request::SetAdd(SET, 1)),
+        ask(0, Request::Commit),
+        ask(0, Request::Level(tid(1, 4))),
+    ]?;
+    let replies = answers_of(alloc, made_anew(alloc, updates)?, calls)?;
+    let [
+        Reply::Started(first),
+        Reply::Value(Some(value)),
+        Reply::Set(counts),
+        Reply::Done,
+        Reply::Committed(fifth),
+        Reply::Level(Level::Visible),
+    ] = replies.as_slice()
+    else {
+        panic!(rt; "other replies");
+    };
+    assert_eq!(rt; (*first, *fifth), (tid(2, 1), version(5)));
+    assert_eq!(rt; value.as_slice(), b"x".as_slice());
+    assert_eq!(rt; counts.as_slice(), [(7, 2), (9, -1)].as_slice());
+    Ok(())
+}
+
+#[test]
+fn a_record_that_cannot_follow_is_unfit(rt: HostRuntime) -> Result<(), Fail> {
     let mut site = alone(rt.alloc())?;
-    for _ in 0..2 {
-        let reply = served(&mut site, 0, Err(BadFrame { at: 3 }))?;
-        assert!(rt; matches!(reply, Reply::Refused(Refusal::BadFrame { at: 3 })));
-        asked(&mut site, 0, Request::Start)?;
+    for epoch in [0, 1, 3] {
+        let fault = site.replay(Record::Boot(epoch)).err();
+        assert_eq!(rt; fault, Some(ReplayFault::Unfit));
     }
+    assert_eq!(rt; site.epoch(), 1);
     Ok(())
 }
 
@@ -211,20 +367,27 @@ fn an_unapplied_plan_changes_nothing(rt: HostRuntime) -> Result<(), Fail> {
 
 #[test]
 fn a_site_has_256_transactions_open_at_most(rt: HostRuntime) -> Result<(), Fail> {
-    let mut site = alone(rt.alloc())?;
-    for client in 0..256 {
-        let reply = asked(&mut site, client, Request::Start)?;
-        assert!(rt; matches!(reply, Reply::Started(_)));
+    let alloc = rt.alloc();
+    let mut calls = Vec::new(alloc);
+    for client in 0..257 {
+        calls.push(ask(client, Request::Start))?;
     }
-    let full = asked(&mut site, 256, Request::Start)?;
-    assert!(rt; matches!(full, Reply::Refused(Refusal::SessionsFull)));
-    let open = asked(&mut site, 255, Request::Start)?;
-    assert!(rt; matches!(open, Reply::Refused(Refusal::TxOpen)));
-    asked(&mut site, 7, Request::Abort)?;
-    let Reply::Started(next) = asked(&mut site, 256, Request::Start)? else {
-        panic!(rt; "there is a place again");
+    calls.push(ask(255, Request::Start))?;
+    calls.push(ask(7, Request::Abort))?;
+    calls.push(ask(256, Request::Start))?;
+    let replies = answers(alloc, calls)?;
+    let [
+        ..,
+        Reply::Started(last),
+        Reply::Refused(Refusal::SessionsFull),
+        Reply::Refused(Refusal::TxOpen),
+        Reply::Aborted(Cause::Asked),
+        Reply::Started(next),
+    ] = replies.as_slice()
+    else {
+        panic!(rt; "other replies");
     };
-    assert_eq!(rt; next, tid(1, 257));
+    assert_eq!(rt; (last.number, next.number), (256, 257));
     Ok(())
 }
 
