@@ -1,7 +1,7 @@
 use crate::{Engine, RefusedRestart, Restarted, Stepped};
 use std::alloc::Global;
 use std::test::Fail;
-use walter_base::{Bytes, Catalog, Kind, ObjId, Record, Refusal, Reply, Request, SiteId};
+use walter_base::{Bytes, Catalog, Kind, Mem, ObjId, Record, Refusal, Reply, Request, SiteId};
 use walter_disk_memory::MemoryDisk;
 use walter_site::Input;
 
@@ -14,6 +14,31 @@ const CAPACITY: u64 = 1000;
 
 const FIRST_EPOCH: &[u8] = b"WALTERJ1\x01\0\0\0\x05\x01\0\0\0\x01\0";
 
+/// What is done to an engine.
+#[derive(Drop)]
+enum Act {
+    Ask(Request),
+    Stop,
+    Restart,
+    /// Lets the disk's call behind so many fail, with this choice.
+    ArmBehind(u32, u64),
+}
+
+/// What came of it.
+#[derive(Drop)]
+enum Came {
+    Answered(Stepped),
+    Restarted(Restarted),
+    Nothing,
+}
+
+/// What came of each act, and what the disk holds behind them.
+#[derive(Drop)]
+struct Played {
+    came: Vec<Came>,
+    disk: MemoryDisk,
+}
+
 // The site 0, alone, over this disk.
 fn over(alloc: Global, disk: MemoryDisk, capacity: u64) -> Result<Engine<MemoryDisk>, Fail> {
     let catalog = Catalog::build(alloc, 1, 0, &[(1, Kind::Regular, SiteId(0))])?;
@@ -23,285 +48,341 @@ fn over(alloc: Global, disk: MemoryDisk, capacity: u64) -> Result<Engine<MemoryD
     Ok(engine)
 }
 
-fn over_bytes(alloc: Global, bytes: &[u8]) -> Result<Engine<MemoryDisk>, Fail> {
-    let disk = MemoryDisk::holding(alloc, bytes.to_vec(alloc)?)?;
-    over(alloc, disk, CAPACITY)
-}
-
 // A site that is up is not restarted.
-fn restart(engine: &mut Engine<MemoryDisk>) -> Result<Restarted, Fail> {
-    if engine.is_up() {
-        return Err("the site is up".into());
+fn done(engine: &mut Engine<MemoryDisk>, act: Act) -> Mem<Came> {
+    match act {
+        Act::Ask(request) => {
+            let call = Ok(request);
+            Ok(Came::Answered(engine.step(&Input::Call { client: 0, call })))
+        }
+        Act::Stop => {
+            engine.stop();
+            Ok(Came::Nothing)
+        }
+        Act::Restart if engine.is_up() => Ok(Came::Nothing),
+        Act::Restart => Ok(Came::Restarted(engine.restart())),
+        Act::ArmBehind(passing, choice) => {
+            engine.arm(u64::from(passing) + 1, choice)?;
+            Ok(Came::Nothing)
+        }
     }
-    Ok(engine.restart())
 }
 
-// In its first epoch.
-fn up(alloc: Global, capacity: u64) -> Result<Engine<MemoryDisk>, Fail> {
-    let mut engine = over(alloc, MemoryDisk::new(alloc), capacity)?;
-    restart(&mut engine)?;
-    Ok(engine)
+fn play(alloc: Global, disk: MemoryDisk, capacity: u64, acts: Vec<Act>) -> Result<Played, Fail> {
+    let mut engine = over(alloc, disk, capacity)?;
+    let mut came = Vec::new(alloc);
+    for act in acts {
+        came.push(done(&mut engine, act)?)?;
+    }
+    let disk = engine.into_disk();
+    Ok(Played { came, disk })
 }
 
-fn asked(engine: &mut Engine<MemoryDisk>, request: Request) -> Stepped {
-    let call = Ok(request);
-    engine.step(&Input::Call { client: 0, call })
+// The same over a new disk, of a site that comes up first.
+fn play_up(alloc: Global, capacity: u64, acts: Vec<Act>) -> Result<Played, Fail> {
+    let mut all = vec![in alloc; Act::Restart]?;
+    for act in acts {
+        all.push(act)?;
+    }
+    play(alloc, MemoryDisk::new(alloc), capacity, all)
 }
 
-// A transaction that writes the object and commits.
-fn commit(alloc: Global, engine: &mut Engine<MemoryDisk>) -> Result<Stepped, Fail> {
-    asked(engine, Request::Start);
+// A transaction that writes the object and commits, and then these acts.
+fn committing(alloc: Global, acts: Vec<Act>) -> Mem<Vec<Act>> {
     let hello = Bytes::from_slice(alloc, b"hello")?;
-    asked(engine, Request::Write(OBJECT, hello));
-    Ok(asked(engine, Request::Commit))
-}
-
-// Whether a new transaction finds a value of the object.
-fn has_value(engine: &mut Engine<MemoryDisk>) -> bool {
-    asked(engine, Request::Start);
-    let answer = asked(engine, Request::Read(OBJECT));
-    let Stepped::Done { reply, .. } = &answer else {
-        return false;
-    };
-    matches!(reply, Reply::Value(Some(_)))
-}
-
-fn is_committed(answer: &Stepped) -> bool {
-    let Stepped::Done {
-        reply,
-        wrote: Some(rec),
-    } = answer
-    else {
-        return false;
-    };
-    matches!(reply, Reply::Committed(_)) && matches!(rec, Record::Own(1, _))
-}
-
-fn is_in_flight(answer: &Stepped) -> bool {
-    matches!(answer, Stepped::Failed { flight } if matches!(flight, Record::Own(1, _)))
-}
-
-fn epoch_of(rec: &Record) -> Option<u32> {
-    match rec {
-        Record::Boot(epoch) => Some(*epoch),
-        Record::Own(_, _) => None,
+    let mut all = vec![in alloc;
+        Act::Ask(Request::Start),
+        Act::Ask(Request::Write(OBJECT, hello)),
+        Act::Ask(Request::Commit),
+    ]?;
+    for act in acts {
+        all.push(act)?;
     }
-}
-
-// The epoch that a restart brings.
-fn next_epoch(answer: &Restarted) -> Option<u32> {
-    match answer {
-        Restarted::Up { wrote, .. } => epoch_of(wrote),
-        _ => None,
-    }
-}
-
-// Whether a restart finds the record that was in flight.
-fn keeps(answer: &Restarted) -> bool {
-    match answer {
-        Restarted::Up { kept, .. } => kept.is_some(),
-        _ => false,
-    }
-}
-
-fn has_bytes(engine: Engine<MemoryDisk>, bytes: &[u8]) -> bool {
-    engine.into_disk().bytes() == bytes
+    Ok(all)
 }
 
 #[test]
 fn a_new_site_is_down_and_says_so(rt: HostRuntime) -> Result<(), Fail> {
     let alloc = rt.alloc();
-    let mut engine = over(alloc, MemoryDisk::new(alloc), CAPACITY)?;
-    assert!(rt; !engine.is_up());
-    let answer = asked(&mut engine, Request::Start);
-    assert!(rt; matches!(&answer, Stepped::Down));
-    assert!(rt; !engine.is_up());
+    let acts = vec![in alloc; Act::Ask(Request::Start)]?;
+    let played = play(alloc, MemoryDisk::new(alloc), CAPACITY, acts)?;
+    assert!(rt; matches!(played.came.as_slice(), [Came::Answered(Stepped::Down)]));
     Ok(())
 }
 
 #[test]
 fn the_first_restart_brings_the_first_epoch(rt: HostRuntime) -> Result<(), Fail> {
     let alloc = rt.alloc();
-    let mut engine = over(alloc, MemoryDisk::new(alloc), CAPACITY)?;
-    assert!(rt; brings(&mut engine, 1, false)?);
-    assert!(rt; engine.is_up());
-    assert!(rt; has_bytes(engine, FIRST_EPOCH));
+    let played = play_up(alloc, CAPACITY, Vec::new(alloc))?;
+    let [
+        Came::Restarted(
+            Restarted::Up {
+                kept: None,
+                wrote: Record::Boot(1),
+            },
+        ),
+    ] = played.came.as_slice()
+    else {
+        panic!(rt; "another answer");
+    };
+    assert_eq!(rt; played.disk.bytes(), FIRST_EPOCH);
     Ok(())
-}
-
-fn stop(engine: &mut Engine<MemoryDisk>) -> bool {
-    engine.stop();
-    !engine.is_up()
-}
-
-// Whether a commit is done, and the site then down.
-fn stops_behind_a_commit(alloc: Global, engine: &mut Engine<MemoryDisk>) -> Result<bool, Fail> {
-    let done = commit(alloc, engine)?;
-    Ok(is_committed(&done) && stop(engine))
-}
-
-// Whether a restart brings this epoch, and finds a record that was in flight or none.
-fn brings(engine: &mut Engine<MemoryDisk>, epoch: u32, found: bool) -> Result<bool, Fail> {
-    let answer = restart(engine)?;
-    Ok(next_epoch(&answer) == Some(epoch) && keeps(&answer) == found)
 }
 
 #[test]
 fn a_commit_outlives_a_stop(rt: HostRuntime) -> Result<(), Fail> {
     let alloc = rt.alloc();
-    let mut engine = up(alloc, CAPACITY)?;
-    assert!(rt; stops_behind_a_commit(alloc, &mut engine)?);
-    assert!(rt; brings(&mut engine, 2, false)?);
-    assert!(rt; has_value(&mut engine));
+    let behind = vec![in alloc;
+        Act::Stop,
+        Act::Restart,
+        Act::Ask(Request::Start),
+        Act::Ask(Request::Read(OBJECT)),
+    ]?;
+    let played = play_up(alloc, CAPACITY, committing(alloc, behind)?)?;
+    let [
+        _,
+        _,
+        _,
+        Came::Answered(
+            Stepped::Done {
+                reply: Reply::Committed(_),
+                wrote: Some(Record::Own(1, _)),
+            },
+        ),
+        _,
+        Came::Restarted(
+            Restarted::Up {
+                kept: None,
+                wrote: Record::Boot(2),
+            },
+        ),
+        _,
+        Came::Answered(
+            Stepped::Done {
+                reply: Reply::Value(Some(_)),
+                ..
+            },
+        ),
+    ] = played.came.as_slice()
+    else {
+        panic!(rt; "other answers");
+    };
     Ok(())
 }
 
 #[test]
 fn a_stop_ends_what_is_open(rt: HostRuntime) -> Result<(), Fail> {
-    let mut engine = up(rt.alloc(), CAPACITY)?;
-    asked(&mut engine, Request::Start);
-    engine.stop();
-    restart(&mut engine)?;
-    let answer = asked(&mut engine, Request::Commit);
-    let Stepped::Done { reply, .. } = &answer else {
-        return Err("the client has no answer".into());
+    let alloc = rt.alloc();
+    let acts = vec![in alloc;
+        Act::Ask(Request::Start),
+        Act::Stop,
+        Act::Ask(Request::Commit),
+        Act::Restart,
+        Act::Ask(Request::Commit),
+    ]?;
+    let played = play_up(alloc, CAPACITY, acts)?;
+    let [
+        ..,
+        Came::Answered(Stepped::Down),
+        _,
+        Came::Answered(
+            Stepped::Done {
+                reply: Reply::Refused(Refusal::NoTx),
+                ..
+            },
+        ),
+    ] = played.came.as_slice()
+    else {
+        panic!(rt; "other answers");
     };
-    assert!(rt; matches!(reply, Reply::Refused(Refusal::NoTx)));
     Ok(())
 }
 
-// Down, with a commit in flight whose gate met a fault. The disk then holds what the choice says.
-fn with_a_flight(alloc: Global, choice: u64) -> Result<Engine<MemoryDisk>, Fail> {
-    let mut engine = up(alloc, CAPACITY)?;
-    engine.arm(3, choice)?;
-    let failed = commit(alloc, &mut engine)?;
-    if !is_in_flight(&failed) {
-        return Err("the commit is not in flight".into());
-    }
-    Ok(engine)
-}
-
-// Whether a restart keeps the commit.
+// Whether a restart keeps a commit whose gate met a fault, where the disk then holds what the choice says.
 fn is_kept(alloc: Global, choice: u64) -> Result<bool, Fail> {
-    let mut engine = with_a_flight(alloc, choice)?;
-    let answer = restart(&mut engine)?;
-    if keeps(&answer) != has_value(&mut engine) {
-        return Err("the commit is kept and not seen".into());
+    let behind = vec![in alloc;
+        Act::Restart,
+        Act::Ask(Request::Start),
+        Act::Ask(Request::Read(OBJECT)),
+    ]?;
+    let mut acts = vec![in alloc; Act::ArmBehind(2, choice)]?;
+    for act in committing(alloc, behind)? {
+        acts.push(act)?;
     }
-    Ok(keeps(&answer) && next_epoch(&answer) == Some(2))
+    let played = play_up(alloc, CAPACITY, acts)?;
+    let [
+        ..,
+        Came::Answered(
+            Stepped::Failed {
+                flight: Record::Own(1, _),
+            },
+        ),
+        Came::Restarted(
+            Restarted::Up {
+                kept,
+                wrote: Record::Boot(2),
+            },
+        ),
+        _,
+        Came::Answered(
+            Stepped::Done {
+                reply: Reply::Value(value),
+                ..
+            },
+        ),
+    ] = played.came.as_slice()
+    else {
+        return Err("other answers".into());
+    };
+    if kept.is_some() != value.is_some() {
+        return Err("a commit is seen exactly where it is kept".into());
+    }
+    Ok(kept.is_some())
 }
 
 #[test]
 fn a_commit_in_flight_is_kept_where_its_gate_is_open(rt: HostRuntime) -> Result<(), Fail> {
     let alloc = rt.alloc();
-    assert!(rt; is_kept(alloc, 1)?);
-    assert!(rt; !is_kept(alloc, 0)?);
-    assert!(rt; !is_kept(alloc, 7)?);
-    Ok(())
-}
-
-// The epoch that was in flight when the restart failed.
-fn epoch_in_flight(answer: &Restarted) -> Option<u32> {
-    match answer {
-        Restarted::Failed {
-            flight: Some(rec),
-            ..
-        } => epoch_of(rec),
-        _ => None,
+    for (choice, kept) in [(1, true), (0, false), (7, false)] {
+        assert_eq!(rt; is_kept(alloc, choice)?, kept);
     }
-}
-
-// Whether a restart fails, with this epoch in flight or none.
-fn fails_with(engine: &mut Engine<MemoryDisk>, epoch: Option<u32>) -> Result<bool, Fail> {
-    let failed = restart(engine)?;
-    Ok(matches!(&failed, Restarted::Failed { .. }) && epoch_in_flight(&failed) == epoch)
+    Ok(())
 }
 
 #[test]
 fn an_epoch_in_flight_is_not_given_again(rt: HostRuntime) -> Result<(), Fail> {
     let alloc = rt.alloc();
-    let mut engine = over(alloc, MemoryDisk::new(alloc), CAPACITY)?;
-    engine.arm(5, 1)?;
-    assert!(rt; fails_with(&mut engine, Some(1))?);
-    assert!(rt; brings(&mut engine, 2, true)?);
+    let acts = vec![in alloc; Act::ArmBehind(4, 1), Act::Restart, Act::Restart]?;
+    let played = play(alloc, MemoryDisk::new(alloc), CAPACITY, acts)?;
+    let [
+        _,
+        Came::Restarted(
+            Restarted::Failed {
+                kept: None,
+                flight: Some(Record::Boot(1)),
+            },
+        ),
+        Came::Restarted(
+            Restarted::Up {
+                kept: Some(Record::Boot(1)),
+                wrote: Record::Boot(2),
+            },
+        ),
+    ] = played.came.as_slice()
+    else {
+        panic!(rt; "other answers");
+    };
     Ok(())
 }
 
 #[test]
 fn a_journal_that_is_not_read_has_nothing_in_flight(rt: HostRuntime) -> Result<(), Fail> {
-    let mut engine = over_bytes(rt.alloc(), FIRST_EPOCH)?;
-    engine.arm(1, 1)?;
-    assert!(rt; fails_with(&mut engine, None)?);
-    assert!(rt; brings(&mut engine, 2, false)?);
+    let alloc = rt.alloc();
+    let disk = MemoryDisk::holding(alloc, FIRST_EPOCH.to_vec(alloc)?)?;
+    let acts = vec![in alloc; Act::ArmBehind(0, 1), Act::Restart, Act::Restart]?;
+    let played = play(alloc, disk, CAPACITY, acts)?;
+    let [
+        _,
+        Came::Restarted(
+            Restarted::Failed {
+                kept: None,
+                flight: None,
+            },
+        ),
+        Came::Restarted(
+            Restarted::Up {
+                kept: None,
+                wrote: Record::Boot(2),
+            },
+        ),
+    ] = played.came.as_slice()
+    else {
+        panic!(rt; "other answers");
+    };
     Ok(())
-}
-
-// What a first commit comes to in a journal of this capacity.
-fn first_commit(alloc: Global, capacity: u64) -> Result<Stepped, Fail> {
-    let mut engine = up(alloc, capacity)?;
-    commit(alloc, &mut engine)
-}
-
-fn is_full(answer: &Stepped, wanted: u64, spare: u64) -> bool {
-    match answer {
-        Stepped::Full { need, left } => *need == wanted && *left == spare,
-        _ => false,
-    }
 }
 
 #[test]
 fn a_commit_is_refused_where_one_byte_is_missing(rt: HostRuntime) -> Result<(), Fail> {
     let alloc = rt.alloc();
-    let full = first_commit(alloc, 141)?;
-    assert!(rt; is_full(&full, 123, 122));
-    let done = first_commit(alloc, 142)?;
-    assert!(rt; is_committed(&done));
+    let wider = play_up(alloc, 142, committing(alloc, Vec::new(alloc))?)?;
+    let [
+        ..,
+        Came::Answered(
+            Stepped::Done {
+                reply: Reply::Committed(_),
+                ..
+            },
+        ),
+    ] = wider.came.as_slice()
+    else {
+        panic!(rt; "the commit has place");
+    };
+    let narrow = play_up(alloc, 141, committing(alloc, Vec::new(alloc))?)?;
+    let [
+        ..,
+        Came::Answered(
+            Stepped::Full {
+                need: 123,
+                left: 122,
+            },
+        ),
+    ] = narrow.came.as_slice()
+    else {
+        panic!(rt; "the journal is full");
+    };
     Ok(())
 }
 
 #[test]
 fn a_restart_is_refused_where_one_byte_is_missing(rt: HostRuntime) -> Result<(), Fail> {
     let alloc = rt.alloc();
-    let mut engine = over(alloc, MemoryDisk::new(alloc), 18)?;
-    let full = restart(&mut engine)?;
-    let Restarted::Full { need, left, .. } = &full else {
-        return Err("the journal is not full".into());
+    let narrow = play_up(alloc, 18, vec![in alloc; Act::Ask(Request::Start)]?)?;
+    let [
+        Came::Restarted(
+            Restarted::Full {
+                kept: None,
+                need: 10,
+                left: 9,
+            },
+        ),
+        Came::Answered(Stepped::Down),
+    ] = narrow.came.as_slice()
+    else {
+        panic!(rt; "the journal is full");
     };
-    assert!(rt; *need == 10 && *left == 9);
-    assert!(rt; !engine.is_up());
-    let wider = up(alloc, 19)?;
-    assert!(rt; wider.is_up());
-    Ok(())
-}
-
-fn refusal_of(answer: &Restarted) -> Option<RefusedRestart> {
-    match answer {
-        Restarted::Refused { why, .. } => Some(*why),
-        _ => None,
-    }
-}
-
-// Whether a restart over these bytes is refused so, and leaves them as they are.
-fn is_refused(alloc: Global, bytes: &[u8], expected: RefusedRestart) -> Result<bool, Fail> {
-    let mut engine = over_bytes(alloc, bytes)?;
-    let answer = restart(&mut engine)?;
-    Ok(refusal_of(&answer) == Some(expected) && has_bytes(engine, bytes))
-}
-
-#[test]
-fn bytes_of_no_journal_are_refused(rt: HostRuntime) -> Result<(), Fail> {
-    let alloc = rt.alloc();
-    assert!(rt; is_refused(alloc, b"NOTWALTER", RefusedRestart::Foreign)?);
-    let damaged = RefusedRestart::Damaged { at: 8, length: 0 };
-    assert!(rt; is_refused(alloc, b"WALTERJ1\x01\0", damaged)?);
+    let wider = play_up(alloc, 19, Vec::new(alloc))?;
+    assert!(rt;
+        matches!(
+            wider.came.as_slice(),
+            [Came::Restarted(Restarted::Up { .. })]
+        )
+    );
     Ok(())
 }
 
 #[test]
-fn a_body_that_cannot_stand_there_is_refused(rt: HostRuntime) -> Result<(), Fail> {
+fn bytes_that_no_such_site_left_are_refused(rt: HostRuntime) -> Result<(), Fail> {
     let alloc = rt.alloc();
     let first = RefusedRestart::Unreadable { index: 0 };
-    assert!(rt; is_refused(alloc, b"WALTERJ1\x01\0\0\0\x01\x07\0", first)?);
-    assert!(rt; is_refused(alloc, b"WALTERJ1\x01\0\0\0\x05\x01\0\0\0\x02\0", first)?);
+    let table: [(&[u8], RefusedRestart); 4] = [
+        (b"NOTWALTER", RefusedRestart::Foreign),
+        (
+            b"WALTERJ1\x01\0",
+            RefusedRestart::Damaged { at: 8, length: 0 },
+        ),
+        (b"WALTERJ1\x01\0\0\0\x01\x07\0", first),
+        (b"WALTERJ1\x01\0\0\0\x05\x01\0\0\0\x02\0", first),
+    ];
+    for (bytes, expected) in table {
+        let disk = MemoryDisk::holding(alloc, bytes.to_vec(alloc)?)?;
+        let played = play(alloc, disk, CAPACITY, vec![in alloc; Act::Restart]?)?;
+        let [Came::Restarted(Restarted::Refused { kept: None, why })] = played.came.as_slice()
+        else {
+            panic!(rt; "the restart is refused");
+        };
+        assert_eq!(rt; *why, expected);
+        assert_eq!(rt; played.disk.bytes(), bytes);
+    }
     Ok(())
 }
