@@ -157,8 +157,7 @@ module _ {D : Type 0} {g : Ghosts D} where
     };
     of = stands.of;
     state = state_owing S gone engine.state stands.state;
-    count = stands.count;
-    in_flight = stands.in_flight;
+    tallied = let t = stands.tallied in record { in_flight = t.in_flight; count = t.count };
   }
     where
       flights : (catalog : Catalog) (i : SiteId) (S : Standing) (gone : ℕ → Option Tid) (flight : Option Record) → IfSome flight (CanBeJournaled catalog i S)

@@ -1,6 +1,6 @@
 -- What the first restart of a site over a journal without records comes to.
 use Rattle.std.proofs.Common.{◌≡◌, ◌<◌, ◌≤◌, ◌-◌, ℕ, List, [], ◌∷◌, ◌++◌, length, refl, ap, sym, ◌∙◌, subst, arith, inl, inr, Option, Some, None, slice_get}
-use Rattle.std.specs.Prelude.{All, IfSome, replicate, reverse, count_by}
+use Rattle.std.specs.Prelude.{All, IfSome, IsSome, is_some, replicate, reverse, count_by}
 use Rattle.std.proofs.lemmas.List.{length-replicate, get_or-replicate}
 use Rattle.std.proofs.lemmas.List.Elements.{All-nil, All-push}
 use Rattle.std.proofs.lemmas.Option.{slice_get_within, get_or_from_slice_get}
@@ -12,6 +12,7 @@ use Rattle.walter_base.specs.declared.names.SiteId.{SiteId}
 use Rattle.walter_conn.specs.Connections.{incoming}
 use Rattle.walter_conn.specs.declared.conn.Conn.{Conn}
 use Rattle.walter_disk.specs.declared.disk.Disk.{Ghosts}
+use Rattle.walter_disk.specs.Disks.{DiskState}
 use Rattle.walter_engine.specs.declared.answers.RefusedRestart.{RefusedRestart}
 use Rattle.walter_engine.specs.declared.answers.RefusedRestart.TheVariants as why
 use Rattle.walter_engine.specs.declared.answers.Restarted.{Restarted}
@@ -41,8 +42,10 @@ use Rattle.walter_cli.specs.declared.tie.Tie.{Tie}
 use Rattle.walter_cli.specs.declared.tie.Tie.TheVariants.{Free}
 use Rattle.walter_cli.specs.Builds.{unopened_by, IsUnopened, HasOpened, Opens, AreFree, AreUnread}
 use Rattle.walter_cli.specs.Cells.{IsCell, IsSizedEntry, IsKnown, IsLine, AreLines}
+use Rattle.walter_cli.specs.Ending.{IsUnbuilt}
 use Rattle.walter_cli.specs.Handled.{came, FitsFrame, is_faulty}
 use Rattle.walter_cli.specs.Plays.{IsOfClients}
+use Rattle.walter_cli.specs.Racks.{HasCause}
 use Rattle.walter_cli.specs.Ties.{AreTied, IsTied}
 
 -- ---- the answer
@@ -265,3 +268,16 @@ module _ {D : Type 0} {g : Ghosts D} where
     ties = ap length free ∙ length-replicate (length s.clients) Free;
     lines = lines;
   }
+
+-- why no site was built, over an engine that was made of a disk with a journal without records
+pub unbuilt_by : {D : Type 0} {g : Ghosts D} (why : Unbuilt) (first : DiskState) (disk last : D) (old new : Engine D g) → (g.known disk).faults ≡ first.faults → disk_in old ≡ Some disk → disk_in new ≡ Some last
+    → 19 ≤ capacity_in old → (IsSome first.reads → Stands old (unmade (catalog_in old).sites)) → IsUnopened why old new → IsUnbuilt why first (g.known last)
+unbuilt_by {g = g} unbuilt.Failed first disk last old new faults is_old is_new fits stands fell =
+    let behind = subst (λ o. IfSome o (λ before. IfSome (disk_in new) (λ after. (g.known before).faults < (g.known after).faults))) is_old fell in
+    subst (λ n. n < (g.known last).faults) faults (subst (λ o. IfSome o (λ after. (g.known disk).faults < (g.known after).faults)) is_new behind)
+unbuilt_by (unbuilt.Journal cause) first disk last old new faults is_old is_new fits stands fell = by first.reads refl
+  where
+    by : (reads : Option (List ℕ)) → first.reads ≡ reads → IfSome reads (HasCause cause)
+    by None is = tt
+    by (Some bytes) is = absurd (fell fits (stands (ap is_some is)))
+unbuilt_by unbuilt.NoMemory first disk last old new faults is_old is_new fits stands fell = tt

@@ -32,11 +32,11 @@ use Rattle.walter_engine.specs.declared.engine.State.TheVariants.{Up, Down}
 use Rattle.walter_engine.specs.declared.engine.Tally.{Tally}
 use Rattle.walter_engine.specs.declared.restarting.Raised.{Raised}
 use Rattle.walter_engine.specs.Contents.{AreJournaled, CanBeJournaled}
-use Rattle.walter_engine.specs.Engines.{IsResting}
+use Rattle.walter_engine.specs.Engines.{IsResting, IsTallied}
 use Rattle.walter_engine.specs.Raises.{Boots, IsDown, IsCounted}
 use Rattle.walter_engine.proofs.Resting.{SizeIs, CountsNow, rests_under, rests_failed}
 use Rattle.walter_engine.proofs.Room.{need_is, left_is, fits, much}
-use Rattle.walter_engine.proofs.Standings.{journaled_more, journaled_same}
+use Rattle.walter_engine.proofs.Standings.{journaled_more, journaled_same, tallied}
 
 module _ (result : Result (Unit {0}) AppendFault) (need left : ℕ) (Same Rest End : Type 0) (full : left < need → (result ≡ Err (append.Full need left)) × Same)
     (failed : need ≤ left → OnErr result ((result ≡ Err append.Failed) × Rest × End)) where
@@ -80,15 +80,15 @@ raised_is : {D : Type 0} {g : Ghosts D} (result : Raised D g) (state : State D g
 raised_is result state answer tally is_state is_answer is_tally = sym (λ j. record { state = is_state j; answer = is_answer j; tally = is_tally j })
 
 -- where memory ran out, the site stands as before
-pub boots_no_memory : {D : Type 0} {g : Ghosts D} (catalog : Catalog) (capacity : ℕ) (i : SiteId) (S : Standing) (tally : Tally) → AreJournaled catalog i S → IsCounted tally S → (disk : D) → IsResting g S disk → (kept : Option Record)
+pub boots_no_memory : {D : Type 0} {g : Ghosts D} (catalog : Catalog) (capacity : ℕ) (i : SiteId) (S : Standing) (tally : Tally) → AreJournaled catalog i S → IsTallied tally S → (disk : D) → IsResting g S disk → (kept : Option Record)
     (result : Raised D g) → result.state ≡ Down disk → result.answer ≡ restarted.NoMemory kept → result.tally ≡ tally → Boots catalog capacity i S result
-boots_no_memory {D} {g} catalog capacity i S tally all counted disk resting kept result is_state is_answer is_tally =
+boots_no_memory {D} {g} catalog capacity i S tally all is_tallied disk resting kept result is_state is_answer is_tally =
     let down = resting.down in
     subst (λ (r : Raised D g). Boots catalog capacity i S r) (raised_is result _ _ _ is_state is_answer is_tally) (record {
       comes = inr (Comes.no_memory (subst (λ up. TakesMemory up Restart) (sym down) tt) refl);
       left = resting;
       journaled = journaled_same catalog i S (stands_after i S Restart (only Memory)) all refl refl all.in_flight (λ up. cc);
-      counted = counted;
+      tallied = is_tallied;
     })
 
 module _ {D : Type 0} {g : Ghosts D} (catalog : Catalog) (i : SiteId) (S : Standing) (tally : Tally) (down : IsDown S) (all : AreJournaled catalog i S) (counted : IsCounted tally S) (journal : Journal D g)
@@ -119,7 +119,7 @@ module _ {D : Type 0} {g : Ghosts D} (catalog : Catalog) (i : SiteId) (S : Stand
           stands = subst (λ bodies. StandsFor new bodies) (sym (map-append record_spelled S.records (Boot epoch ∷ []))) (appends.behind (map record_spelled S.records) stands);
         };
         journaled = journaled_more catalog i S T (Boot epoch) all can refl (lost_after i S.knows Restart Taken (Some (Boot epoch))) refl (λ up. omega (arith, next));
-        counted = record { count = omega (arith, is_count, counted.count, length-append S.records (Boot epoch ∷ [])); flight = refl };
+        tallied = tallied _ T (record { count = omega (arith, is_count, counted.count, length-append S.records (Boot epoch ∷ [])); flight = refl });
       })
 
   -- it met a fault of the disk
@@ -135,7 +135,7 @@ module _ {D : Type 0} {g : Ghosts D} (catalog : Catalog) (i : SiteId) (S : Stand
         comes = inr (Comes.met_fault (Boot epoch) wrote_is (fits catalog.sites S journal all.spelled stands (Boot epoch) tt enough) refl);
         left = rests_failed g size_is counts_now S.records (Boot epoch) T journal new stands fails run refl refl refl refl;
         journaled = journaled_same catalog i S T all refl refl (record { spelled = can.spelled; follows = next }) (λ up. cc);
-        counted = record { count = counted.count; flight = refl };
+        tallied = tallied _ T (record { count = counted.count; flight = refl });
       }))
 
   -- it found no place
@@ -152,5 +152,5 @@ module _ {D : Type 0} {g : Ghosts D} (catalog : Catalog) (i : SiteId) (S : Stand
         comes = inr (Comes.full (Boot epoch) wrote_is (much catalog.sites S journal all.spelled stands (Boot epoch) tt less) (λ j. only (Full (need_same j) (left_same j))));
         left = rests_under g size_is T journal down.down down.rests stands;
         journaled = journaled_same catalog i S T all refl refl tt (λ up. cc);
-        counted = record { count = counted.count; flight = refl };
+        tallied = tallied _ T (record { count = counted.count; flight = refl });
       }))

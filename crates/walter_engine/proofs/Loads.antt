@@ -1,5 +1,5 @@
 -- A restart from the disk of a site that is down.
-use Rattle.std.proofs.Common.{◌≡◌, ℕ, List, [], ◌∷◌, ◌++◌, map, false, Option, Some, None, refl, ap, sym, ◌∙◌, subst, inl, inr}
+use Rattle.std.proofs.Common.{◌≡◌, ℕ, List, [], ◌∷◌, ◌++◌, map, false, Option, Some, None, refl, ap, sym, ◌∙◌, subst, inl, inr, ⊎_elim}
 use Rattle.std.specs.Prelude.{IfSome, IsSome, is_some}
 use Rattle.walter_base.specs.declared.catalog.Catalog.{Catalog}
 use Rattle.walter_base.specs.declared.message.Record.{Record}
@@ -30,8 +30,8 @@ use Rattle.walter_engine.specs.declared.engine.State.TheVariants.{Up, Down}
 use Rattle.walter_engine.specs.declared.engine.Tally.{Tally}
 use Rattle.walter_engine.specs.declared.restarting.Raised.{Raised}
 use Rattle.walter_engine.specs.Contents.{AreJournaled, CanBeJournaled, MayHaveRecords, MayHaveBoot}
-use Rattle.walter_engine.specs.Engines.{disk_in, OfDisk, OfDisks, IsInState, IsResting}
-use Rattle.walter_engine.specs.Raises.{Raises, IsCounted, IsFoundIn, IsLast}
+use Rattle.walter_engine.specs.Engines.{disk_in, OfDisk, OfDisks, IsInState, IsResting, IsTallied}
+use Rattle.walter_engine.specs.Raises.{Raises, IsFoundIn, IsLast}
 use Rattle.walter_engine.specs.Restarts.{Restarts, unloaded_by}
 use Rattle.walter_engine.specs.States.{disk_of_state, disk_under, is_up_in, IsOf, IsOfState}
 use Rattle.walter_engine.specs.Steps.{came_of_restart, kept_of, IsRefusedOver, IsRefusedFor, IfRefused}
@@ -93,7 +93,6 @@ module _ {D : Type 0} {g : Ghosts D} where
       let of = subst (λ (r : Raised D g). IsOf engine.catalog engine.site engine.capacity r.state) (sym same) of_found in
       let raises = subst (λ (r : Raised D g). Raises engine.catalog engine.capacity engine.site S r) (sym same) found_raises in
       let T = stands_after engine.site (settled engine.site (kept_of raised.answer) S) Restart (came_of_restart raised.answer) in
-      let counted = subst (λ t. IsCounted t T) tally raises.boots.counted in
       record {
         found = raises.found;
         comes = raises.boots.comes;
@@ -101,8 +100,7 @@ module _ {D : Type 0} {g : Ghosts D} where
           journaled = raises.boots.journaled;
           of = subst (λ (s : Option (State D g)). IsOfState engine.catalog engine.site engine.capacity s) state (of_state engine.catalog engine.site engine.capacity raised.state of);
           state = subst (λ (s : Option (State D g)). IsInState T s) state raises.boots.left;
-          count = counted.count;
-          in_flight = counted.flight;
+          tallied = subst (λ t. IsTallied t T) tally raises.boots.tallied;
         };
         last = λ kept why is. subst (λ (a : Restarted). IfRefused a (IsLast (settled engine.site (kept_of a) S).knows)) is raises.last;
       }
@@ -118,7 +116,7 @@ module _ {D : Type 0} {g : Ghosts D} where
       (raises (subst (λ bodies. IsFoundIn S bodies) (sym same) found) (subst (λ bodies. StandsFor journal bodies) (sym same) stands))
 
 module _ {D : Type 0} {g : Ghosts D} (size_is : SizeIs g) (counts_now : CountsNow g) (not_foreign : NotForeign) (not_damaged : NotDamaged) (catalog : Catalog) (capacity : ℕ) (i : SiteId) (S : Standing) (tally : Tally)
-    (all : AreJournaled catalog i S) (counted : IsCounted tally S) (old new : D) (resting : IsResting g S old) (tells : is_some (g.known new).reads ≡ is_some (g.known old).reads)
+    (all : AreJournaled catalog i S) (is_tallied : IsTallied tally S) (old new : D) (resting : IsResting g S old) (tells : is_some (g.known new).reads ≡ is_some (g.known old).reads)
     (left : IsLeft (g.may_leave old) (g.known old) (g.known new)) (run : LeavesOnly g.moment g.left_since old new (g.may_leave old)) where
   still : IsResting g S new
   still = rests_on g size_is counts_now S old new resting tells left run
@@ -141,11 +139,11 @@ module _ {D : Type 0} {g : Ghosts D} (size_is : SizeIs g) (counts_now : CountsNo
           journaled = journaled_same catalog i S T all refl refl
               (if_some (CanBeJournaled catalog i S) (CanBeJournaled catalog i T) S.flight (λ rec can. record { spelled = can.spelled; follows = follows_lost catalog i S.knows rec can.follows }) all.in_flight)
               (λ up. cc);
-          counted = record { count = counted.count; flight = counted.flight };
+          tallied = record { in_flight = is_tallied.in_flight; count = ⊎_elim (λ up. absurd (cc)) (λ flies. is_tallied.count (inr flies)) };
         };
         last = tt;
       }
-  raises_unloaded fault.NoMemory cause = record { found = tt; boots = boots_no_memory catalog capacity i S tally all counted new still None _ refl refl refl; last = tt }
+  raises_unloaded fault.NoMemory cause = record { found = tt; boots = boots_no_memory catalog capacity i S tally all is_tallied new still None _ refl refl refl; last = tt }
   raises_unloaded fault.Foreign cause = absurd (wrong IsForeign not_foreign cause)
   raises_unloaded (fault.Damaged at claimed) cause = absurd (wrong (λ bytes. IsDamaged bytes at claimed) (λ bytes bodies. not_damaged bytes bodies at claimed) cause)
 

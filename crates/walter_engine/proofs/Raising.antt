@@ -37,7 +37,7 @@ use Rattle.walter_engine.proofs.Boots.{boots_no_memory}
 use Rattle.walter_engine.proofs.Crashes.{found_may_have, boot_may_have, unmoved}
 use Rattle.walter_trail.proofs.Replayed.{all_follow-push, replayed-push, lost_recorded, follows_lost}
 use Rattle.walter_engine.proofs.Resting.{SizeIs, OnlyNow, rests_by, leaves_bodies}
-use Rattle.walter_engine.proofs.Standings.{journaled_more}
+use Rattle.walter_engine.proofs.Standings.{journaled_more, tallied}
 
 module _ (catalog : Catalog) (i : SiteId) (S : Standing) (all : AreJournaled catalog i S) where
   -- the one in flight
@@ -122,7 +122,7 @@ pub raises_no_memory : {D : Type 0} {g : Ghosts D} (size_is : SizeIs g) (catalog
 raises_no_memory {D} {g} size_is catalog capacity i S tally bodies down all counted found journal stands result is_state is_answer is_tally = record {
   found = subst (λ (kept : Option Record). IfSome kept (IsFound S Restart)) (sym (ap kept_of is_answer)) tt;
   boots = subst (λ kept. Boots catalog capacity i (settled i kept S) result) (sym (ap kept_of is_answer))
-      (boots_no_memory {g = g} catalog capacity i S tally all counted (disk_of journal) (found_rests size_is S bodies down found journal stands) None result is_state is_answer is_tally);
+      (boots_no_memory {g = g} catalog capacity i S tally all (tallied tally S counted) (disk_of journal) (found_rests size_is S bodies down found journal stands) None result is_state is_answer is_tally);
   last = subst (λ (answer : Restarted). IfRefused answer (IsLast (settled i (kept_of answer) S).knows)) (sym is_answer) tt;
 }
 

@@ -1,19 +1,23 @@
 -- How a site stands behind a record more, and the records of its journal.
-use Rattle.std.proofs.Common.{◌≡◌, ℕ, ◌<◌, [], ◌∷◌, ◌++◌, Bool, true, Option, Some, None, Result, ap, sym, ◌∙◌, subst, if◌then◌else◌}
-use Rattle.std.specs.Prelude.{All, IfSome}
-use Rattle.std.proofs.lemmas.List.Elements.{All-push}
+use Rattle.std.proofs.Common.{◌≡◌, ℕ, ◌<◌, List, [], ◌∷◌, ◌++◌, length, Bool, true, false, Option, Some, None, Result, refl, ap, sym, ◌∙◌, subst, inl, inr, if◌then◌else◌}
+use Rattle.std.specs.Prelude.{All, IfSome, is_some}
+use Rattle.std.proofs.lemmas.List.{length-map}
+use Rattle.std.proofs.lemmas.List.Elements.{All-nil, All-push}
 use Rattle.walter_base.specs.declared.catalog.Catalog.{Catalog}
 use Rattle.walter_base.specs.declared.message.BadFrame.{BadFrame as Bad}
 use Rattle.walter_base.specs.declared.message.Record.{Record}
 use Rattle.walter_base.specs.declared.message.Request.{Request}
 use Rattle.walter_base.specs.declared.names.SiteId.{SiteId}
-use Rattle.walter_record.specs.Spelling.{HasRecordSpelling}
+use Rattle.walter_record.specs.Spelling.{record_spelled, HasRecordSpelling}
 use Rattle.walter_trail.specs.declared.trail.TrailEvent.TheVariants.{Call}
 use Rattle.walter_trail.specs.Knowledge.{session_of, fresh, recorded, lost}
 use Rattle.walter_trail.specs.Records.{CanFollow, CanAllFollow, replayed}
 use Rattle.walter_trail.specs.Rule.{rule, call_rule, if_told, down_rule}
-use Rattle.walter_trail.specs.Standing.{Standing}
+use Rattle.walter_trail.specs.Standing.{Standing, unmade}
+use Rattle.walter_engine.specs.declared.engine.Tally.{Tally}
 use Rattle.walter_engine.specs.Contents.{CanBeJournaled, AreJournaled}
+use Rattle.walter_engine.specs.Engines.{IsTallied}
+use Rattle.walter_engine.specs.Raises.{IsCounted, IsFoundIn}
 use Rattle.walter_trail.proofs.Replayed.{all_follow-push, replayed-push, follows_lost}
 
 -- at a site that is up a call is answered by the rule of calls, where the client is owed nothing
@@ -49,3 +53,27 @@ journaled_same catalog i S T all records knows flight booted = record {
   in_flight = flight;
   booted = booted;
 }
+
+-- the records of a site before its first event
+pub journaled_unmade : (catalog : Catalog) (i : SiteId) → AreJournaled catalog i (unmade catalog.sites)
+journaled_unmade catalog i = record { spelled = All-nil (HasRecordSpelling catalog.sites); follow = tt; tell = refl; in_flight = tt; booted = λ up. cc }
+
+-- what is counted
+
+pub tallied : (tally : Tally) (S : Standing) → IsCounted tally S → IsTallied tally S
+tallied tally S counted = record { in_flight = counted.flight; count = λ which. counted.count }
+
+pub counted_up : (tally : Tally) (S : Standing) → S.up ≡ true → IsTallied tally S → IsCounted tally S
+counted_up tally S up is = record { count = is.count (inl up); flight = is.in_flight }
+
+pub counted_over : (tally over : Tally) (S : Standing) (bodies : List (List ℕ)) (found : ℕ) → IsTallied tally S → IsFoundIn S bodies → found ≡ length bodies
+    → over ≡ (if tally.in_flight then tally else record { records = found; in_flight = false }) → IsCounted over S
+counted_over tally over S bodies found is in_journal is_found is_over = subst (λ (t : Tally). IsCounted t S) (sym is_over) (by tally.in_flight refl)
+  where
+    alone : is_some S.flight ≡ false → IsFoundIn S bodies → found ≡ length S.records
+    alone none (inl same) = is_found ∙ ap length same ∙ length-map S.records record_spelled
+    alone none (inr behind) = absurd (let some = ap is_some behind.1 in cc)
+
+    by : (b : Bool) → tally.in_flight ≡ b → IsCounted (if b then tally else record { records = found; in_flight = false }) S
+    by true flies = record { count = is.count (inr (sym is.in_flight ∙ flies)); flight = is.in_flight }
+    by false rests = let none = sym is.in_flight ∙ rests in record { count = alone none in_journal; flight = sym none }

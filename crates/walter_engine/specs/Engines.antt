@@ -1,11 +1,12 @@
 -- How an engine stands: what is known of its disk, and of the site that is up on it.
-use Rattle.std.specs.Prelude.{◌≡◌, ◌<◌, ℕ, Bool, true, false, List, map, length, Option, Some, None, is_some, IsSome, IfSome}
+use Rattle.std.specs.Prelude.{◌≡◌, ◌⊎◌, ◌<◌, ℕ, Bool, true, false, List, map, length, Option, Some, None, is_some, IsSome, IfSome}
 use Rattle.walter_base.specs.declared.catalog.Catalog.{Catalog}
 use Rattle.walter_base.specs.declared.names.SiteId.{SiteId}
 use Rattle.walter_disk.specs.declared.disk.Disk.{Ghosts}
 use Rattle.walter_engine.specs.declared.engine.Engine.{Engine}
 use Rattle.walter_engine.specs.declared.engine.State.{State}
 use Rattle.walter_engine.specs.declared.engine.State.TheVariants.{Up, Down}
+use Rattle.walter_engine.specs.declared.engine.Tally.{Tally}
 use Rattle.walter_engine.specs.Contents.{MayHaveRecords, AreJournaled}
 use Rattle.walter_engine.specs.States.{disk_under, is_up_in, IsOfState}
 use Rattle.walter_journal.specs.Journals.{StandsFor}
@@ -60,13 +61,17 @@ IsInState S None = ⊥
 IsInState S (Some (Up site journal)) = IsRunning S site journal
 IsInState {g = g} S (Some (Down disk)) = IsResting g S disk
 
+-- it is known whether a record is in flight; and where one is, or the site is up, how many records the journal has
+pub record IsTallied (tally : Tally) (S : Standing) : Type 0 where
+  pub in_flight : tally.in_flight ≡ is_some S.flight
+  pub count : (S.up ≡ true) ⊎ IsSome S.flight → tally.records ≡ length S.records
+
 -- the engine stands so
 pub record Stands {D : Type 0} {g : Ghosts D} (engine : Engine D g) (S : Standing) : Type 0 where
   pub journaled : AreJournaled engine.catalog engine.site S
   pub of : IsOfState engine.catalog engine.site engine.capacity engine.state
   pub state : IsInState S engine.state
-  pub count : engine.tally.records ≡ length S.records
-  pub in_flight : engine.tally.in_flight ≡ is_some S.flight
+  pub tallied : IsTallied engine.tally S
 
 -- of the same site
 pub record IsSameEngine {D : Type 0} {g : Ghosts D} (old new : Engine D g) : Type 0 where

@@ -11,7 +11,7 @@ use Rattle.walter_engine.specs.declared.answers.Restarted.TheVariants.{Refused}
 use Rattle.walter_engine.specs.declared.engine.Tally.{Tally}
 use Rattle.walter_engine.specs.declared.restarting.Raised.{Raised}
 use Rattle.walter_engine.specs.Contents.{AreJournaled}
-use Rattle.walter_engine.specs.Engines.{IsInState}
+use Rattle.walter_engine.specs.Engines.{IsInState, IsTallied}
 use Rattle.walter_engine.specs.States.{disk_of_state}
 use Rattle.walter_engine.specs.Steps.{came_of_restart, kept_of, IfRefused, IsFaultOfRestart}
 use Rattle.walter_record.specs.Spelling.{record_spelled}
@@ -25,7 +25,7 @@ pub record IsDown (S : Standing) : Type 0 where
   pub down : S.up ≡ false
   pub rests : lost S.knows ≡ S.knows
 
--- so many records are known to be in the journal, and one may be in flight
+-- it is known how many records the journal has, and whether one is in flight
 pub record IsCounted (tally : Tally) (S : Standing) : Type 0 where
   pub count : tally.records ≡ length S.records
   pub flight : tally.in_flight ≡ is_some S.flight
@@ -47,7 +47,7 @@ pub record Boots {D : Type 0} {g : Ghosts D} (catalog : Catalog) (capacity : ℕ
   pub comes : IsRefused result.answer ⊎ Comes catalog capacity i S Restart (came_of_restart result.answer)
   pub left : IsInState (stands_after i S Restart (came_of_restart result.answer)) (Some result.state)
   pub journaled : AreJournaled catalog i (stands_after i S Restart (came_of_restart result.answer))
-  pub counted : IsCounted result.tally (stands_after i S Restart (came_of_restart result.answer))
+  pub tallied : IsTallied result.tally (stands_after i S Restart (came_of_restart result.answer))
 
 -- a restart of a site that stood so
 pub record Raises {D : Type 0} {g : Ghosts D} (catalog : Catalog) (capacity : ℕ) (i : SiteId) (S : Standing) (result : Raised D g) : Type 0 where

@@ -1,4 +1,4 @@
-ghost use Rattle.std.specs.Prelude.{◌≡◌, ◌≢◌, ◌<◌, ◌≤◌, ◌++◌, ◌∷◌, [], ℕ, List, true, false, None, Some, is_some, IsSome, IfSome, IfOk, IfErr, OnOk, OnErr, option_map};
+ghost use Rattle.std.specs.Prelude.{◌≡◌, ◌≢◌, ◌<◌, ◌≤◌, ◌++◌, ◌∷◌, [], ℕ, List, true, false, None, Some, is_some, IsSome, IfSome, IfOk, IfErr, OnOk, OnErr, option_map, if◌then◌else◌};
 
 use crate::answers::{Restarted, Stepped};
 use crate::arming::arm_state;
@@ -20,11 +20,26 @@ pub(crate) enum State<D: Disk> {
     Down(D),
 }
 
-/// How many records a journal is known to have, and whether one more may be behind them.
+/// How many records the journal has, which is known while the site is up and where a record is in flight; and whether one is.
 #[derive(Clone, Copy, Drop)]
 pub(crate) struct Tally {
     pub records: u64,
     pub in_flight: bool,
+}
+
+impl Tally {
+    // What is known once a journal with so many records was read. Where one is in flight, it may be the last of them.
+    fn over(self, found: u64) -> Tally
+        ensures { result ≡ (if self.in_flight then self else record { records = found; in_flight = false }) }
+    {
+        if self.in_flight {
+            return self;
+        }
+        Tally {
+            records: found,
+            in_flight: false,
+        }
+    }
 }
 
 /// A site with its disk. Contracts say by `Stands` how it stands.
@@ -46,16 +61,17 @@ impl<D: Disk + Drop> Engine<D> {
     ghost use Rattle.walter_disk.specs.Images.{LeavesOnly};
     ghost use Rattle.walter_site.specs.Sites.{event_of, client_of};
     ghost use Rattle.walter_trail.specs.Rule.{rule};
-    ghost use Rattle.walter_trail.specs.Standing.{Standing, unmade, stands_after};
+    ghost use Rattle.walter_trail.specs.Knowledge.{lost};
+    ghost use Rattle.walter_trail.specs.Standing.{Standing, stands_after};
     ghost use Rattle.walter_trail.specs.Trails.{Comes, only};
     ghost use Rattle.walter_trail.specs.declared.trail.Outcome.TheVariants.{Taken};
     ghost use Rattle.walter_trail.specs.declared.trail.TrailEvent.TheVariants.{Stop};
-    ghost use Rattle.walter_engine.specs.Contents.{HasRecords, MayHaveRecords, MayHaveBoot};
+    ghost use Rattle.walter_engine.specs.Contents.{AreJournaled, HasRecords, MayHaveRecords, MayHaveBoot};
     ghost use Rattle.walter_engine.specs.Engines.{catalog_in, site_in, capacity_in, disk_in, is_up, OfDisk, OfDisks, IsSameEngine, Stands};
     ghost use Rattle.walter_engine.specs.Restarts.{Restarts};
     ghost use Rattle.walter_engine.specs.Steps.{came_of_step, IsSizedStep, IsSizedRestart, IsFaultOfStep, IsFaultOfRestart, IsRefusedFor, IfRefused, kept_of};
 
-    /// A site that is down, with a disk that nothing is known of. Where there is no memory the disk comes back.
+    /// A site that is down, with a disk that it knows nothing of. Where there is no memory the disk comes back.
     pub fn new(
         alloc: Global,
         disk: D,
@@ -71,10 +87,11 @@ impl<D: Disk + Drop> Engine<D> {
         ensures site { IfOk result (λ engine. site_in engine ≡ site) }
         ensures capacity { IfOk result (λ engine. capacity_in engine ≡ capacity) }
         ensures back { IfErr result (λ back. back ≡ disk) }
-        // over a journal that has no records yet
-        ensures stands { IsSome (D.known disk).reads → 0 < (D.known disk).size
-            → ((image : List ℕ) → D.may_leave disk image → HasRecords image [])
-            → IfOk result (λ engine. Stands engine (unmade catalog.now.sites)) }
+        // over a journal with the records of a site that is down
+        ensures stands { (S : Standing) → S.up ≡ false → lost S.knows ≡ S.knows → S.flight ≡ None → AreJournaled catalog.now site S
+            → IsSome (D.known disk).reads → 0 < (D.known disk).size
+            → ((image : List ℕ) → D.may_leave disk image → HasRecords image S.records)
+            → IfOk result (λ engine. Stands engine S) }
     {
         let Ok(copy) = catalog.clone() else {
             return Err(disk);
@@ -208,14 +225,11 @@ impl<D: Disk + Drop> Engine<D> {
             answer,
             tally,
         } = match load(self.alloc, disk, self.capacity) {
-            Ok((journal, bodies)) => raise(
-                self.alloc,
-                &self.catalog,
-                self.site,
-                journal,
-                bodies.as_slice(),
-                self.tally,
-            ),
+            Ok((journal, bodies)) => {
+                let bodies = bodies.as_slice();
+                let tally = self.tally.over(bodies.len() as u64);
+                raise(self.alloc, &self.catalog, self.site, journal, bodies, tally)
+            }
             Err((disk, fault)) => Raised {
                 state: State::Down(disk),
                 answer: unloaded(fault),

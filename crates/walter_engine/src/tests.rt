@@ -171,6 +171,37 @@ fn a_commit_outlives_a_stop(rt: HostRuntime) -> Result<(), Fail> {
 }
 
 #[test]
+fn a_new_engine_goes_on_from_the_journal_that_another_left(rt: HostRuntime) -> Result<(), Fail> {
+    let alloc = rt.alloc();
+    let left = play_up(alloc, CAPACITY, committing(alloc, Vec::new(alloc))?)?;
+    let acts = vec![in alloc;
+        Act::Restart,
+        Act::Ask(Request::Start),
+        Act::Ask(Request::Read(OBJECT)),
+    ]?;
+    let played = play(alloc, left.disk, CAPACITY, acts)?;
+    let [
+        Came::Restarted(
+            Restarted::Up {
+                kept: None,
+                wrote: Record::Boot(2),
+            },
+        ),
+        _,
+        Came::Answered(
+            Stepped::Done {
+                reply: Reply::Value(Some(_)),
+                ..
+            },
+        ),
+    ] = played.came.as_slice()
+    else {
+        panic!(rt; "other answers");
+    };
+    Ok(())
+}
+
+#[test]
 fn a_stop_ends_what_is_open(rt: HostRuntime) -> Result<(), Fail> {
     let alloc = rt.alloc();
     let acts = vec![in alloc;

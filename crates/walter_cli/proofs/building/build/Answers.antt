@@ -1,9 +1,16 @@
-use Rattle.std.proofs.Common.{◌≤◌, length, sym, ◌∙◌, subst}
+use Rattle.std.proofs.Common.{◌≡◌, ◌≤◌, length, refl, sym, ◌∙◌, subst}
 use Rattle.walter_base.specs.declared.catalog.Catalog.{Catalog}
+use Rattle.walter_disk.specs.declared.disk.Disk.{Ghosts}
+use Rattle.walter_engine.specs.declared.engine.Engine.{Engine}
 use Rattle.walter_engine.specs.Engines.{catalog_in, site_in, Stands}
+use Rattle.walter_engine.proofs.Standings.{journaled_unmade}
 use Rattle.walter_trail.specs.Standing.{unmade}
-use Rattle.walter_cli.proofs.Openings.{cell_built, known_built}
+use Rattle.walter_cli.proofs.Openings.{cell_built, known_built, unbuilt_by}
 use Rattle.walter_cli.proofs.building.build.Goals as goal
+
+-- in the words of the engine's own catalog
+stands_new : {D : Type 0} {g : Ghosts D} (catalog : Catalog) (engine : Engine D g) → catalog_in engine ≡ catalog → Stands engine (unmade catalog.sites) → Stands engine (unmade (catalog_in engine).sites)
+stands_new catalog engine same stands = subst (λ (k : Catalog). Stands engine (unmade k.sites)) (sym same) stands
 
 pub returns-in-Ok-open-clause-cell : goal.returns-in-Ok-open-clause-cell
 returns-in-Ok-open-clause-cell g c =
@@ -17,7 +24,20 @@ returns-in-Ok-open-clause-known g c told =
     let engine = c.in-Ok-new.engine in
     let fits = c.requires.capacity.0 in
     let capacity = c.in-Ok-new.ensures.capacity in
-    let stands = subst (λ (k : Catalog). Stands engine (unmade k.sites)) (sym c.in-Ok-new.ensures.catalog) (c.in-Ok-new.ensures.stands empty.told empty.begun empty.none) in
+    let catalog = c.args.scenario.now.catalog in
+    let new = c.in-Ok-new.ensures.stands (unmade catalog.sites) refl refl refl (journaled_unmade catalog _) empty.told empty.begun empty.none in
+    let stands = stands_new catalog engine c.in-Ok-new.ensures.catalog new in
     known_built c.args.scenario.now _ (catalog_in engine) (site_in engine) (length c.args.scenario.now.clients)
     c.in-Ok-new.ensures.catalog c.in-Ok-new.ensures.site fits
     (c.in-Ok-open.ensures.opens stands (subst (λ n. 19 ≤ n) (sym capacity) fits)) c.in-Ok-open.ensures.ties
+
+pub returns-in-Err-open-clause-fault : goal.returns-in-Err-open-clause-fault
+returns-in-Err-open-clause-fault g c =
+    let fits = subst (λ n. 19 ≤ n) (sym c.in-Ok-new.ensures.capacity) c.requires.capacity.0 in
+    unbuilt_by {g = g.D.Disk} c.in-Err-open.why (g.D.Disk.known c.args.disk) c.in-Ok.disk c.into_disk.result c.in-Ok-new.engine c.open.new.engine c.in-Ok.ensures.faultless
+    c.in-Ok-new.ensures.disk (sym c.into_disk.ensures) fits
+    (λ told. stands_new c.args.scenario.now.catalog c.in-Ok-new.engine c.in-Ok-new.ensures.catalog (
+    let empty = c.in-Ok.ensures.empty told in
+    c.in-Ok-new.ensures.stands (unmade c.args.scenario.now.catalog.sites) refl refl refl (journaled_unmade c.args.scenario.now.catalog _) empty.told empty.begun empty.none
+    ))
+    c.in-Err-open.ensures.failed

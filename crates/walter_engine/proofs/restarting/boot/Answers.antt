@@ -13,6 +13,7 @@ use Rattle.walter_engine.proofs.Resting.{rests_under}
 use Rattle.walter_engine.proofs.Room.{short_enough}
 use Rattle.walter_engine.proofs.restarting.boot.Given.{Over}
 use Rattle.walter_engine.proofs.restarting.boot.Goals.{After-append}
+use Rattle.walter_engine.proofs.Standings.{tallied}
 use Rattle.walter_engine.proofs.restarting.boot.Goals as goal
 
 pub returns-in_default-stage-clause-boots : goal.returns-in_default-stage-clause-boots
@@ -20,14 +21,14 @@ returns-in_default-stage-clause-boots g c S down knows all counted stands =
     let same = c.stage.ensures.same in
     let rest = c.rest-in_default-stage in
     let resting = rests_under g.D.Disk g.met.D.Disk.size_is S c.stage.new.journal down.down down.rests (same.stands _ stands) in
-    boots_no_memory {g = g.D.Disk} _ _ _ S c.args.tally all counted _ resting c.args.kept rest.result rest.ensures.state rest.ensures.answer rest.ensures.tally
+    boots_no_memory {g = g.D.Disk} _ _ _ S c.args.tally all (tallied c.args.tally S counted) _ resting c.args.kept rest.result rest.ensures.state rest.ensures.answer rest.ensures.tally
 
 pub returns-in_default-replay-clause-boots : goal.returns-in_default-replay-clause-boots
 returns-in_default-replay-clause-boots g c S down knows all counted stands =
     let same = c.stage.ensures.same in
     let rest = c.rest-in_default-replay in
     let resting = rests_under g.D.Disk g.met.D.Disk.size_is S c.stage.new.journal down.down down.rests (same.stands _ stands) in
-    boots_no_memory {g = g.D.Disk} _ _ _ S c.args.tally all counted _ resting c.args.kept rest.result rest.ensures.state rest.ensures.answer rest.ensures.tally
+    boots_no_memory {g = g.D.Disk} _ _ _ S c.args.tally all (tallied c.args.tally S counted) _ resting c.args.kept rest.result rest.ensures.state rest.ensures.answer rest.ensures.tally
 
 pub append-requires-clause-short : goal.append-requires-clause-short
 append-requires-clause-short g c =

@@ -10,6 +10,5 @@ returns-clause-stands g c = λ S stands.
       journaled = stands.journaled;
       of = c.arm_state-state.ensures.of c.args.self.now.catalog c.args.self.now.site c.args.self.now.capacity of;
       state = c.arm_state-state.ensures.stands S state;
-      count = stands.count;
-      in_flight = stands.in_flight;
+      tallied = stands.tallied;
     }
