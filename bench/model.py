@@ -1,8 +1,8 @@
 """A plain model of one site: what `walter play --trace` writes of a scenario.
 
-Written from docs/SITE.md and docs/FORMATS.md, and not from the program: it keeps the list of committed transactions and
-computes each answer anew from it, and its disk keeps the writes since the last sync. It takes scenarios that are right,
-and is no checker of them.
+It says again what docs/SITE.md and docs/FORMATS.md say, and shares nothing with the program: it keeps the list of
+committed transactions and computes each answer anew from it, and its disk keeps the writes since the last sync. It takes
+scenarios that are right, and is no checker of them.
 """
 
 import struct
