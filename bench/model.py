@@ -1,8 +1,8 @@
 """A plain model of one site: what `walter play --trace` writes of a scenario.
 
-It says again what docs/SITE.md and docs/FORMATS.md say, and shares nothing with the program: it keeps the list of
-committed transactions and computes each answer anew from it, and its disk keeps the writes since the last sync. It takes
-scenarios that are right, and is no checker of them.
+It says again what docs/SITE.md and docs/FORMATS.md say, and docs/DECISIONS.md of the disk, and shares nothing with the
+program: it keeps the list of committed transactions and computes each answer anew from it, and its disk keeps the writes
+since the last sync. It takes scenarios that are right, and is no checker of them.
 """
 
 import struct
@@ -178,7 +178,7 @@ class Site:
         self.entries.append((event, outcome, kept, wrote, flight))
 
     def fall(self):
-        self.gone.update((client, transaction) for client, transaction in self.open.items())
+        self.gone.update(self.open)
         self.open, self.up = {}, False
 
     def stop(self):
@@ -363,6 +363,8 @@ def play(scenario):
                 replies[number].append(site.call(number, request))
         elif word == "arm":
             site.disk.arm = tuple(rest)
+        elif word == "stop":
+            site.stop()
         else:
-            site.stop() if word == "stop" else site.restart()
+            site.restart()
     return report(site, clients, replies)

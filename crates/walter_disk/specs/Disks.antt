@@ -1,6 +1,6 @@
 -- A disk as the store sees it. Bytes that a write has put there are safe from a crash only behind a sync; after a fault
 -- the disk fails each call until it has settled.
-use Rattle.std.specs.Prelude.{◌≡◌, ◌+◌, ◌<◌, ◌≤◌, ℕ, max, Bool, true, List, ◌++◌, length, take, drop, Option, option_map}
+use Rattle.std.specs.Prelude.{◌≡◌, ◌+◌, ◌<◌, ◌≤◌, ℕ, max, Bool, true, List, ◌++◌, length, take, drop, Option, option_map, is_some}
 
 -- what is known of a disk, but for crashes
 pub record DiskState : Type 0 where
@@ -25,6 +25,14 @@ written at over disk = record disk { reads = option_map (laid at over) disk.read
 pub record Breaks (old new : DiskState) : Type 0 where
   pub rises : old.faults < new.faults
   pub same : new ≡ record old { broken = true; faults = new.faults }
+
+-- one of several calls failed
+pub record Fails (old new : DiskState) : Type 0 where
+  pub rises : old.faults < new.faults
+  pub broken : new.broken ≡ true
+  pub arms : new.arms ≡ old.arms
+  pub tells : is_some new.reads ≡ is_some old.reads
+  pub no_smaller : old.size ≤ new.size
 
 -- room was made: no less than before, and at least up to this end and for so many calls
 pub record MakesRoom (end calls old_end new_end old_calls new_calls : ℕ) : Type 0 where

@@ -5,7 +5,9 @@
 mod disk;
 mod fault;
 mod rack;
+mod step;
 
 pub use disk::Disk;
 pub use fault::{Failed, Mem, NoMemory};
 pub use rack::Rack;
+pub use step::write_and_sync;

@@ -1,7 +1,7 @@
 use super::*;
 use std::alloc::Global;
 use std::test::Fail;
-use walter_disk::{Disk, Failed, Mem, NoMemory, Rack};
+use walter_disk::{Disk, Failed, Mem, NoMemory, Rack, write_and_sync};
 
 const OLD: &[u8] = b"aaaabbbbcccc";
 
@@ -32,6 +32,16 @@ fn settle<D: Disk>(disk: &mut D) -> Result<bool, NoMemory> {
 fn read<D: Disk>(disk: &mut D) -> bool {
     let mut first = [0; 1];
     disk.size() > 0 && disk.read(0, &mut first).is_ok()
+}
+
+#[test]
+fn what_is_written_and_synced_is_read_behind_a_settle(rt: HostRuntime) -> Result<(), Fail> {
+    let mut disk = disk_of(rt.alloc(), OLD)?;
+    disk.reserve(8, 3)?;
+    write_and_sync(&mut disk, 4, b"1111")?;
+    disk.settle()?;
+    assert_eq!(rt; disk.bytes(), b"aaaa1111cccc".as_slice());
+    Ok(())
 }
 
 // A write over old bytes, a sync, a write past the end, a read and a sync, up to the first that fails.

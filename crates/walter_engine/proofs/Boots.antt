@@ -14,7 +14,7 @@ use Rattle.walter_journal.specs.declared.fault.AppendFault.TheVariants as append
 use Rattle.walter_journal.specs.declared.journal.Journal.{Journal}
 use Rattle.walter_journal.specs.Journals.{disk_of, capacity_of, left_of, need_of as body_need, StandsFor, Appends}
 use Rattle.walter_journal.specs.Layout.{IsBeforeOrBehind}
-use Rattle.walter_journal.specs.Steps.{Fails}
+use Rattle.walter_disk.specs.Disks.{Fails}
 use Rattle.walter_record.specs.Spelling.{record_spelled}
 use Rattle.walter_site.specs.declared.site.Site.{Site}
 use Rattle.walter_site.specs.Sites.{known}

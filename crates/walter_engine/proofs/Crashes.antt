@@ -9,7 +9,7 @@ use Rattle.walter_disk.specs.Images.{LeavesOnly}
 use Rattle.walter_journal.specs.declared.journal.Journal.{Journal}
 use Rattle.walter_journal.specs.Journals.{disk_of, StandsFor}
 use Rattle.walter_journal.specs.Layout.{HasContent, IsBeforeOrBehind}
-use Rattle.walter_journal.proofs.Moments.{weaker, joined}
+use Rattle.walter_disk.proofs.Moments.{weaker, joined}
 use Rattle.walter_record.specs.Spelling.{record_spelled}
 use Rattle.walter_trail.specs.Knowledge.{Knowledge}
 use Rattle.walter_trail.specs.Standing.{Standing, settled}

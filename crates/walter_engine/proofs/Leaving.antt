@@ -9,9 +9,9 @@ use Rattle.walter_disk.specs.Images.{LeavesOnly}
 use Rattle.walter_disk.specs.declared.disk.Disk.{Ghosts}
 use Rattle.walter_journal.specs.Journals.{disk_of, capacity_of, left_of, need_of as body_need, StandsFor, Appends}
 use Rattle.walter_journal.specs.Layout.{IsBeforeOrBehind}
-use Rattle.walter_journal.specs.Steps.{Fails}
+use Rattle.walter_disk.specs.Disks.{Fails}
 use Rattle.walter_journal.specs.declared.journal.Journal.{Journal}
-use Rattle.walter_journal.proofs.Moments.{weaker}
+use Rattle.walter_disk.proofs.Moments.{weaker}
 use Rattle.walter_record.specs.Spelling.{record_spelled}
 use Rattle.walter_site.specs.declared.plan.Input.{Input}
 use Rattle.walter_site.specs.declared.plan.Input.TheVariants.{Call}

@@ -14,7 +14,7 @@ use Rattle.walter_journal.specs.Faults.{HasCause, Finds}
 use Rattle.walter_journal.specs.Journals.{disk_of, capacity_of, StandsFor}
 use Rattle.walter_journal.specs.Layout.{HasContent, IsForeign, IsDamaged}
 use Rattle.walter_journal.specs.Steps.{IsLeft}
-use Rattle.walter_journal.proofs.Moments.{weaker, joined}
+use Rattle.walter_disk.proofs.Moments.{weaker, joined}
 use Rattle.walter_record.specs.Spelling.{record_spelled}
 use Rattle.walter_trail.specs.declared.trail.Outcome.TheVariants.{Failed}
 use Rattle.walter_trail.specs.declared.trail.TrailEvent.TheVariants.{Restart}

@@ -1,6 +1,6 @@
 -- What a restart finds in a journal, and what it leaves where its site is not booted.
-use Rattle.std.proofs.Common.{◌≡◌, ℕ, ◌+◌, ◌<◌, ◌≤◌, List, [], ◌∷◌, ◌++◌, length, map, true, false, Option, Some, None, refl, ap, sym, ◌∙◌, subst, inl, inr, ◌⊎◌, ⊎_elim, arith}
-use Rattle.std.specs.Prelude.{IfSome, is_some}
+use Rattle.std.proofs.Common.{◌≡◌, ℕ, ◌+◌, ◌<◌, ◌≤◌, List, [], ◌∷◌, ◌++◌, length, map, true, false, Option, Some, None, refl, ap, sym, ◌∙◌, subst, inl, inr, arith}
+use Rattle.std.specs.Prelude.{IfSome}
 use Rattle.std.proofs.lemmas.List.{length-append, length-map}
 use Rattle.std.proofs.lemmas.List.Elements.{All-push}
 use Rattle.walter_base.specs.declared.catalog.Catalog.{Catalog}
@@ -12,7 +12,7 @@ use Rattle.walter_disk.specs.Images.{LeavesOnly}
 use Rattle.walter_journal.specs.declared.journal.Journal.{Journal}
 use Rattle.walter_journal.specs.Journals.{disk_of, StandsFor}
 use Rattle.walter_journal.specs.Layout.{IsBeforeOrBehind}
-use Rattle.walter_journal.proofs.Moments.{weaker}
+use Rattle.walter_disk.proofs.Moments.{weaker}
 use Rattle.walter_record.specs.Spelling.{record_spelled, HasRecordSpelling}
 use Rattle.walter_trail.specs.declared.trail.TrailEvent.TheVariants.{Restart}
 use Rattle.walter_trail.specs.Knowledge.{Knowledge, fresh, recorded}
@@ -94,13 +94,9 @@ pub settled_counted : (i : SiteId) (S : Standing) (rec : Record) (bodies : List 
 settled_counted i S rec bodies count is_count is = record { count = is_count ∙ ap length is ∙ length-map (S.records ++ rec ∷ []) record_spelled; flight = refl }
 
 -- which was found, by the count
-pub found_alone : (tally : Tally) (S : Standing) (bodies : List (List ℕ)) → IsCounted tally S → IsFoundIn S bodies → (tally.in_flight ≡ false) ⊎ (length bodies ≤ tally.records) → bodies ≡ map record_spelled S.records
+pub found_alone : (tally : Tally) (S : Standing) (bodies : List (List ℕ)) → IsCounted tally S → IsFoundIn S bodies → length bodies ≤ tally.records → bodies ≡ map record_spelled S.records
 found_alone tally S bodies counted (inl is) few = is
-found_alone tally S bodies counted (inr behind) (inl none) =
-    let flight : is_some S.flight ≡ true = ap is_some behind.1 in
-    let counts = counted.flight in
-    absurd (cc)
-found_alone tally S bodies counted (inr behind) (inr few) =
+found_alone tally S bodies counted (inr behind) few =
     absurd (omega (arith, few, counted.count, ap length behind.2, length-map (S.records ++ behind.0 ∷ []) record_spelled, length-append S.records (behind.0 ∷ [])))
 
 pub found_behind : (tally : Tally) (S : Standing) (bodies : List (List ℕ)) → IsCounted tally S → IsFoundIn S bodies → tally.records < length bodies
@@ -153,10 +149,10 @@ module _ {D : Type 0} {g : Ghosts D} (catalog cat : Catalog) (capacity : ℕ) (i
       refused_so result.answer IsOverLast (IsLast (settled i (kept_of result.answer) S).knows)
       (λ why over. (over.0, ap (λ (k : Option Record). (settled i k S).knows.epoch) is ∙ sym (ap (λ (k : Knowledge). k.epoch) knows) ∙ over.1))
 
-  pub raises_alone : (tally.in_flight ≡ false) ⊎ (count ≤ tally.records) → WillBoot tally cat j → IfRefused result.answer IsOverLast → kept_of result.answer ≡ None
+  pub raises_alone : count ≤ tally.records → WillBoot tally cat j → IfRefused result.answer IsOverLast → kept_of result.answer ≡ None
       → Raises catalog capacity i S result
   raises_alone few boots over kept =
-      let is = found_alone tally S bodies counted found (⊎_elim (λ none. inl none) (λ less. inr (omega (arith, less, is_count))) few) in
+      let is = found_alone tally S bodies counted found (omega (arith, few, is_count)) in
       let knows = knows_alone catalog i S all bodies K down is tells in
       record {
         found = subst (λ (kept : Option Record). IfSome kept (IsFound S Restart)) (sym kept) tt;
@@ -196,9 +192,9 @@ module _ {D : Type 0} {g : Ghosts D} (catalog cat : Catalog) (capacity : ℕ) (i
       (weaker g.moment g.left_since (disk_of journal) (disk_of_state result.state) (IsBeforeOrBehind bodies (record_spelled (Boot (K.epoch + 1)))) (MayHaveBoot i S kept)
       (boot_may_have i S kept bodies K found is knows) run)
 
-  pub leaves_alone : (tally.in_flight ≡ false) ⊎ (count ≤ tally.records) → kept_of result.answer ≡ None → BootRun → Run (MayHaveBoot i S (kept_of result.answer))
+  pub leaves_alone : count ≤ tally.records → kept_of result.answer ≡ None → BootRun → Run (MayHaveBoot i S (kept_of result.answer))
   leaves_alone few kept run =
-      let is = found_alone tally S bodies counted found (⊎_elim (λ none. inl none) (λ less. inr (omega (arith, less, is_count))) few) in
+      let is = found_alone tally S bodies counted found (omega (arith, few, is_count)) in
       left None kept is (knows_alone catalog i S all bodies K down is tells) run
 
   pub leaves_behind : (last : Option Record) → tally.records < count → ((records : List Record) (rec : Record) → bodies ≡ map record_spelled (records ++ rec ∷ []) → HasRecordSpelling catalog.sites rec → last ≡ Some rec)

@@ -8,7 +8,8 @@ use Rattle.walter_disk.specs.Images.{IsImage, LeavesOnly}
 use Rattle.walter_journal.specs.declared.journal.Journal.{Journal}
 use Rattle.walter_journal.specs.Journals.{disk_of, StandsFor}
 use Rattle.walter_journal.specs.Layout.{HasContent, IsBeforeOrBehind}
-use Rattle.walter_journal.specs.Steps.{Fails, IsLeft}
+use Rattle.walter_disk.specs.Disks.{Fails}
+use Rattle.walter_journal.specs.Steps.{IsLeft}
 use Rattle.walter_record.specs.Spelling.{record_spelled}
 use Rattle.walter_trail.specs.Knowledge.{lost}
 use Rattle.walter_trail.specs.Standing.{Standing}

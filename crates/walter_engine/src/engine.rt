@@ -1,4 +1,4 @@
-ghost use Rattle.std.specs.Prelude.{◌≡◌, ◌≢◌, ◌<◌, ◌≤◌, ◌++◌, ◌∷◌, [], ℕ, List, true, false, None, Some, is_some, IsSome, IfSome, IfOk, IfErr, OnOk, OnErr, option_map, if◌then◌else◌};
+ghost use Rattle.std.specs.Prelude.{◌≡◌, ◌≢◌, ◌<◌, ◌≤◌, ◌++◌, ◌∷◌, [], true, false, None, Some, is_some, IfSome, IfOk, IfErr, OnOk, OnErr, option_map, if◌then◌else◌};
 
 use crate::answers::{Restarted, Stepped};
 use crate::arming::arm_state;
@@ -61,13 +61,12 @@ impl<D: Disk + Drop> Engine<D> {
     ghost use Rattle.walter_disk.specs.Images.{LeavesOnly};
     ghost use Rattle.walter_site.specs.Sites.{event_of, client_of};
     ghost use Rattle.walter_trail.specs.Rule.{rule};
-    ghost use Rattle.walter_trail.specs.Knowledge.{lost};
     ghost use Rattle.walter_trail.specs.Standing.{Standing, stands_after};
     ghost use Rattle.walter_trail.specs.Trails.{Comes, only};
     ghost use Rattle.walter_trail.specs.declared.trail.Outcome.TheVariants.{Taken};
     ghost use Rattle.walter_trail.specs.declared.trail.TrailEvent.TheVariants.{Stop};
-    ghost use Rattle.walter_engine.specs.Contents.{AreJournaled, HasRecords, MayHaveRecords, MayHaveBoot};
-    ghost use Rattle.walter_engine.specs.Engines.{catalog_in, site_in, capacity_in, disk_in, is_up, OfDisk, OfDisks, IsSameEngine, Stands};
+    ghost use Rattle.walter_engine.specs.Contents.{AreJournaled, MayHaveRecords, MayHaveBoot};
+    ghost use Rattle.walter_engine.specs.Engines.{catalog_in, site_in, capacity_in, disk_in, is_up, OfDisk, OfDisks, IsResting, IsSameEngine, Stands};
     ghost use Rattle.walter_engine.specs.Restarts.{Restarts};
     ghost use Rattle.walter_engine.specs.Steps.{came_of_step, IsSizedStep, IsSizedRestart, IsFaultOfStep, IsFaultOfRestart, IsRefusedFor, IfRefused, kept_of};
 
@@ -88,9 +87,7 @@ impl<D: Disk + Drop> Engine<D> {
         ensures capacity { IfOk result (λ engine. capacity_in engine ≡ capacity) }
         ensures back { IfErr result (λ back. back ≡ disk) }
         // over a journal with the records of a site that is down
-        ensures stands { (S : Standing) → S.up ≡ false → lost S.knows ≡ S.knows → S.flight ≡ None → AreJournaled catalog.now site S
-            → IsSome (D.known disk).reads → 0 < (D.known disk).size
-            → ((image : List ℕ) → D.may_leave disk image → HasRecords image S.records)
+        ensures stands { (S : Standing) → S.flight ≡ None → AreJournaled catalog.now site S → IsResting D.Disk S disk
             → IfOk result (λ engine. Stands engine S) }
     {
         let Ok(copy) = catalog.clone() else {

@@ -64,7 +64,7 @@ pub(crate) fn raise<D: Disk>(
             return rest(journal, tally, Restarted::NoMemory { kept: None });
         }
     };
-    if !tally.in_flight || bodies.len() as u64 <= tally.records {
+    if bodies.len() as u64 <= tally.records {
         return boot(alloc, site, journal, tally, None);
     }
     let Ok(kept) = last_record(alloc, bodies, catalog.sites) else {

@@ -8,7 +8,7 @@ use Rattle.walter_disk.specs.Images.{Torn, Only, IsDurable, LeavesOnly}
 use Rattle.walter_journal.specs.Layout.{header, record_of, records, end_behind, IsShort, HasContent, IsBeforeOrBehind}
 use Rattle.walter_journal.proofs.Gates.{laid_behind, laid_gate, torn_behind, torn_gate}
 use Rattle.walter_journal.proofs.Layouts.{records-push, end_is}
-use Rattle.walter_journal.proofs.Moments.{weaker, joined}
+use Rattle.walter_disk.proofs.Moments.{weaker, joined}
 
 -- a write behind the gate takes no body away, wherever it is cut short
 pub torn_content : (bodies : List (List ℕ)) (bytes image : List ℕ) (at count : ℕ) → HasContent bytes bodies → at ≡ end_behind bodies → Torn at count bytes image → HasContent image bodies

@@ -1,16 +1,8 @@
 -- What the steps of a load and of an append leave of the disk (docs/FORMATS.md, "Journal").
-use Rattle.std.specs.Prelude.{◌≡◌, ◌⊎◌, ◌<◌, ◌≤◌, ℕ, true, false, List, is_some, IfSome}
+use Rattle.std.specs.Prelude.{◌≡◌, ◌⊎◌, ◌≤◌, ℕ, false, List, IfSome}
 use Rattle.walter_disk.specs.Disks.{DiskState}
 use Rattle.walter_disk.specs.Images.{IsDurable, IsImage}
 use Rattle.walter_journal.specs.Layout.{HasContent, end_behind}
-
--- one of several calls failed
-pub record Fails (old new : DiskState) : Type 0 where
-  pub rises : old.faults < new.faults
-  pub broken : new.broken ≡ true
-  pub arms : new.arms ≡ old.arms
-  pub tells : is_some new.reads ≡ is_some old.reads
-  pub no_smaller : old.size ≤ new.size
 
 -- the disk has these bodies, where it tells, and each crash leaves them
 pub record IsReady (bodies : List (List ℕ)) (end : ℕ) (images : List ℕ → Type 0) (disk : DiskState) : Type 0 where

@@ -1,13 +1,12 @@
 ghost use Rattle.std.specs.Prelude.{◌≡◌, ◌+◌, ◌<◌, ◌≤◌, ◌++◌, ◌∷◌, [], ℕ, List, length, is_some, option_map, vec_capacity, true, Err, OnOk, OnErr};
+ghost use Rattle.walter_disk.specs.Disks.{Fails};
 ghost use Rattle.walter_disk.specs.Images.{Narrows, LeavesOnly};
 ghost use Rattle.walter_journal.specs.Layout.{record_of, IsBeforeOrBehind};
-ghost use Rattle.walter_journal.specs.Steps.{Fails};
 
 use crate::fault::AppendFault;
-use crate::step::write_and_sync;
 use byteorder::{BigEndian, ByteOrder};
 use std::alloc::Global;
-use walter_disk::{Disk, Mem, NoMemory};
+use walter_disk::{Disk, Mem, NoMemory, write_and_sync};
 
 /// A journal on a disk. Clauses see the lists of bodies that it stands for.
 #[derive(Drop)]

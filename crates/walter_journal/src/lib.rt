@@ -6,7 +6,6 @@ mod fault;
 mod journal;
 mod layout;
 mod loading;
-mod step;
 
 pub use bodies::Bodies;
 pub use fault::{AppendFault, JournalFault};

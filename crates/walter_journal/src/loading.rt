@@ -1,16 +1,15 @@
 ghost use Rattle.std.specs.Prelude.{◌≡◌, ◌<◌, [], length, is_some, false, IsSome, IfSome, IfOk, IfErr, OnOk};
 ghost use Rattle.walter_disk.specs.Images.{IsDurable, IsImage, LeavesOnly};
 ghost use Rattle.walter_journal.specs.Faults.{HasCause, IsDiskFault};
-ghost use Rattle.walter_journal.specs.Journals.{disk_of, capacity_of, disk_behind, StandsFor};
+ghost use Rattle.walter_journal.specs.Journals.{capacity_of, disk_behind, StandsFor};
 ghost use Rattle.walter_journal.specs.Steps.{IsReady, IsLeft};
 
 use crate::bodies::Bodies;
 use crate::fault::JournalFault;
 use crate::journal::Journal;
 use crate::layout::bodies_of;
-use crate::step::write_and_sync;
 use std::alloc::Global;
-use walter_disk::Disk;
+use walter_disk::{Disk, write_and_sync};
 
 /// A header and a closed gate.
 const EMPTY: [u8; 9] = *b"WALTERJ1\0";

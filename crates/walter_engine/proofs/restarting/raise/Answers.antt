@@ -1,6 +1,5 @@
-use Rattle.std.proofs.Common.{◌≡◌, ◌≤◌, ◌⊎◌, ℕ, map, length, Bool, true, false, refl, ap, sym, subst, inl, inr, arith}
+use Rattle.std.proofs.Common.{◌≡◌, ℕ, map, length, true, false, ap, sym, subst, arith}
 use Rattle.std.proofs.lemmas.List.{length-map}
-use Rattle.std.specs.Prelude.{not}
 use Rattle.walter_journal.specs.Journals.{disk_of, capacity_of}
 use Rattle.walter_engine.specs.declared.answers.Restarted.{Restarted}
 use Rattle.walter_engine.specs.Replays.{IsReadFault}
@@ -8,11 +7,6 @@ use Rattle.walter_engine.specs.States.{disk_of_state}
 use Rattle.walter_engine.specs.Steps.{IsUnreadable, IsRefusedOver, IfRefused}
 use Rattle.walter_engine.proofs.Raising.{found_readable, raises_no_memory, raises_alone, raises_behind, leaves_found, leaves_alone, leaves_behind, refused_so, refused_last}
 use Rattle.walter_engine.proofs.restarting.raise.Goals as goal
-use Rattle.walter_engine.proofs.restarting.raise.Goals.{then-not-tally-via-then-not-tally, then-not-tally-via-else-not-tally+then-bodies-tally}
-
-was_false : (b : Bool) → not b ≡ true → b ≡ false
-was_false true is = cc
-was_false false is = refl
 
 pub returns-in-Err-Unreadable-clause-raises : goal.returns-in-Err-Unreadable-clause-raises
 returns-in-Err-Unreadable-clause-raises g c S down all counted found stands =
@@ -30,15 +24,11 @@ returns-in_default-clause-raises g c S down all counted found stands =
     let rest = c.rest-in_default in
     raises_no_memory {g = g.D.Disk} g.met.D.Disk.size_is _ _ _ S c.args.tally _ down all counted found c.args.journal stands rest.result rest.ensures.state rest.ensures.answer rest.ensures.tally
 
-pub returns-then-not-tally-clause-raises : goal.returns-then-not-tally-clause-raises
-returns-then-not-tally-clause-raises g c S down all counted found stands =
+pub returns-then-bodies-tally-clause-raises : goal.returns-then-bodies-tally-clause-raises
+returns-then-bodies-tally-clause-raises g c S down all counted found stands =
     let bodies = map (λ body. body.items) c.args.bodies.now in
-    let few : (c.args.tally.in_flight ≡ false) ⊎ (length c.args.bodies.now ≤ c.args.tally.records) = elim c.then-not-tally.branch [
-      | then-not-tally-via-then-not-tally w ↦ inl (was_false _ w.if-not-tally.true)
-      | then-not-tally-via-else-not-tally+then-bodies-tally w ↦ inr (omega (arith, w.if-bodies-tally.true))
-    ] in
     raises_alone {g = g.D.Disk} _ _ _ _ _ S c.args.tally _ bodies c.in-Ok.ensures.catalog c.in-Ok.ensures.site c.in-Ok.ensures.told down all counted found c.args.journal stands c.boot.result
-    (length c.args.bodies.now) (sym (length-map c.args.bodies.now _)) few c.boot.ensures.boots c.boot.ensures.refused c.boot.ensures.kept
+    (length c.args.bodies.now) (sym (length-map c.args.bodies.now _)) (omega (arith, c.if-bodies-tally.true)) c.boot.ensures.boots c.boot.ensures.refused c.boot.ensures.kept
 
 pub returns-clause-raises : goal.returns-clause-raises
 returns-clause-raises g c S down all counted found stands =
@@ -56,8 +46,8 @@ returns-in-Err-Unreadable-clause-refused g c =
     subst (λ (a : Restarted). IfRefused a (λ why. IsRefusedOver c.args.catalog.now c.args.id bodies why × (disk_of_state c.rest.result.state ≡ disk_of c.args.journal))) (sym c.rest.ensures.answer)
     (subst (λ (n : ℕ). IsUnreadable c.args.catalog.now c.args.id bodies n) (sym why.index-is) bad, ap disk_of_state c.rest.ensures.state)
 
-pub returns-then-not-tally-clause-refused : goal.returns-then-not-tally-clause-refused
-returns-then-not-tally-clause-refused g c =
+pub returns-then-bodies-tally-clause-refused : goal.returns-then-bodies-tally-clause-refused
+returns-then-bodies-tally-clause-refused g c =
     refused_so c.boot.result.answer _ _ (refused_last c.args.catalog.now c.args.id _ _ _ c.in-Ok.ensures.told) c.boot.ensures.refused
 
 pub returns-clause-refused : goal.returns-clause-refused
@@ -78,15 +68,11 @@ pub returns-in_default-clause-any_moment : goal.returns-in_default-clause-any_mo
 returns-in_default-clause-any_moment g c S down all counted found stands =
     leaves_found {g = g.D.Disk} g.met.D.Disk.only_now c.args.id S _ found c.args.journal stands c.rest-in_default.result (ap disk_of_state c.rest-in_default.ensures.state)
 
-pub returns-then-not-tally-clause-any_moment : goal.returns-then-not-tally-clause-any_moment
-returns-then-not-tally-clause-any_moment g c S down all counted found stands =
+pub returns-then-bodies-tally-clause-any_moment : goal.returns-then-bodies-tally-clause-any_moment
+returns-then-bodies-tally-clause-any_moment g c S down all counted found stands =
     let bodies = map (λ body. body.items) c.args.bodies.now in
-    let few : (c.args.tally.in_flight ≡ false) ⊎ (length c.args.bodies.now ≤ c.args.tally.records) = elim c.then-not-tally.branch [
-      | then-not-tally-via-then-not-tally w ↦ inl (was_false _ w.if-not-tally.true)
-      | then-not-tally-via-else-not-tally+then-bodies-tally w ↦ inr (omega (arith, w.if-bodies-tally.true))
-    ] in
     leaves_alone {g = g.D.Disk} c.args.catalog.now _ (capacity_of c.args.journal) c.args.id _ S c.args.tally _ bodies c.in-Ok.ensures.catalog c.in-Ok.ensures.site c.in-Ok.ensures.told down all counted found c.args.journal stands c.boot.result
-    (length c.args.bodies.now) (sym (length-map c.args.bodies.now _)) few c.boot.ensures.kept (c.boot.ensures.any_moment bodies stands)
+    (length c.args.bodies.now) (sym (length-map c.args.bodies.now _)) (omega (arith, c.if-bodies-tally.true)) c.boot.ensures.kept (c.boot.ensures.any_moment bodies stands)
 
 pub returns-clause-any_moment : goal.returns-clause-any_moment
 returns-clause-any_moment g c S down all counted found stands =

@@ -1,12 +1,12 @@
 ghost use Rattle.std.specs.Prelude.{◌≡◌, ◌+◌, ◌≤◌, ℕ, List, length, false, OnOk, OnErr};
-ghost use Rattle.walter_disk.specs.Disks.{written, TakesRoom};
+ghost use Rattle.walter_disk.specs.Disks.{written, Fails, TakesRoom};
 ghost use Rattle.walter_disk.specs.Images.{Torn, Only, IsDurable, LeavesOnly};
-ghost use Rattle.walter_journal.specs.Steps.{Fails};
 
-use walter_disk::{Disk, Failed};
+use crate::disk::Disk;
+use crate::fault::Failed;
 
 /// Writes bytes and makes them safe.
-pub(crate) fn write_and_sync<D: Disk>(disk: &mut D, at: u64, from: &[u8]) -> Result<(), Failed>
+pub fn write_and_sync<D: Disk>(disk: &mut D, at: u64, from: &[u8]) -> Result<(), Failed>
     requires begins { at ≤ (D.known disk.old).size }
     requires end { at + length from.now ≤ D.room_end disk.old }
     requires calls { 2 ≤ D.room_calls disk.old }
