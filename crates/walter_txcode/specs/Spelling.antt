@@ -7,7 +7,7 @@ use Rattle.walter_base.specs.declared.transaction.Tx.{Tx}
 use Rattle.walter_base.specs.declared.update.Update.{Update}
 use Rattle.walter_base.specs.declared.update.Update.TheVariants.{Write, Add, Del}
 use Rattle.walter_fields.specs.Spellings.{number_spelled, block_spelled}
-use Rattle.walter_names.specs.Names.{object_spelled, tid_spelled, IsObject, IsTid, member_spelled}
+use Rattle.walter_names.specs.Names.{object_spelled, tid_spelled, member_spelled, IsObject, IsTid, IsMember}
 
 -- eight bytes for each number
 abbrev pub numbers_spelled : List ℕ → List ℕ
@@ -46,8 +46,8 @@ pub record AreFew (updates : List Update) : Type 0 where
 -- the numbers are in the ranges of their fields
 abbrev pub IsUpdate : Update → Type 0
 IsUpdate (Write oid bytes) = IsObject oid
-IsUpdate (Add oid id) = IsObject oid × (id < 2 ^ 64)
-IsUpdate (Del oid id) = IsObject oid × (id < 2 ^ 64)
+IsUpdate (Add oid id) = IsMember oid id
+IsUpdate (Del oid id) = IsMember oid id
 
 pub record IsInRange (tx : Tx) : Type 0 where
   pub tid : IsTid tx.tid

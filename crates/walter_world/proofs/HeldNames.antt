@@ -2,6 +2,7 @@
 use Rattle.std.proofs.Common.{◌≡◌, ℕ, ◌||◌, ◌&&◌, ◌⊎◌, Bool, true, false, List, [], ◌∷◌, map, refl, ap, sym, ◌∙◌, subst, inl, inr, nat_eq, nat_lt, nat_le}
 use Rattle.std.specs.Prelude.{Contains}
 use Rattle.std.proofs.lemmas.Bool.{eqb-true, ltb-true, leb-true}
+use Rattle.std.proofs.Math.Bool.{or-true}
 use Rattle.std.proofs.lemmas.List.Elements.{Contains-append_cases, Contains-append_right}
 use Rattle.walter_base.specs.declared.names.SiteId.{SiteId}
 use Rattle.walter_base.specs.declared.names.Tid.{Tid}
@@ -39,12 +40,8 @@ stands_held tid (x ∷ xs) stands = elim (Contains-append_cases (name_of x ∷ [
       let same : name_of x ≡ tid = Contains-one (name_of x) tid here in
       let passes : same_tid tid (name_of x) ≡ true = ap (same_tid tid) same ∙ same_tid_refl tid in
       ap (λ b. b || is_held tid xs) passes
-  | inr there ↦ ap (λ b. same_tid tid (name_of x) || b) (stands_held tid xs there) ∙ or_true (same_tid tid (name_of x))
+  | inr there ↦ ap (λ b. same_tid tid (name_of x) || b) (stands_held tid xs there) ∙ or-true (same_tid tid (name_of x))
 ]
-  where
-    or_true : (b : Bool) → (b || true) ≡ true
-    or_true true = refl
-    or_true false = refl
 
 module _ (epoch starts : ℕ) (committed : List ℕ) (held : List Held) (h : List Step) (is : IsTold epoch starts committed held h) where
   -- what is held is committed
