@@ -38,6 +38,9 @@ fn read<D: Disk>(disk: &mut D) -> bool {
 fn what_is_written_and_synced_is_read_behind_a_settle(rt: HostRuntime) -> Result<(), Fail> {
     let mut disk = disk_of(rt.alloc(), OLD)?;
     disk.reserve(8, 3)?;
+    if disk.size() < 4 {
+        return Err("the disk has its bytes".into());
+    }
     write_and_sync(&mut disk, 4, b"1111")?;
     disk.settle()?;
     assert_eq!(rt; disk.bytes(), b"aaaa1111cccc".as_slice());
