@@ -23,7 +23,7 @@ pub enum CatalogFault {
 #[derive(Debug, Drop)]
 pub struct Catalog {
     pub sites: u8,
-    pub faults: u8,
+    pub tolerated: u8,
     pub containers: Containers,
 }
 
@@ -32,14 +32,14 @@ impl Catalog {
     pub fn build(
         alloc: Global,
         sites: u8,
-        faults: u8,
+        tolerated: u8,
         items: &[(u32, Kind, SiteId)],
     ) -> Result<Catalog, CatalogFault>
         requires some { 0 < sites }
         requires most { sites ≤ 8 }
-        requires fewer { faults < sites }
+        requires fewer { tolerated < sites }
         ensures sites { IfOk result (λ catalog. catalog.sites ≡ sites) }
-        ensures faults { IfOk result (λ catalog. catalog.faults ≡ faults) }
+        ensures tolerated { IfOk result (λ catalog. catalog.tolerated ≡ tolerated) }
         ensures containers { IfOk result (λ catalog. catalog.containers ≡ containers_of items.now) }
         ensures right { OnOk result (AreRight sites items.now) }
         ensures fault { IfErr result (IsBuildFault sites items.now) }
@@ -58,7 +58,7 @@ impl Catalog {
         }
         Ok(Catalog {
             sites,
-            faults,
+            tolerated,
             containers,
         })
     }
@@ -88,7 +88,7 @@ impl Clone for Catalog {
     fn clone(&self) -> Result<Catalog, AllocError> {
         Ok(Catalog {
             sites: self.sites,
-            faults: self.faults,
+            tolerated: self.tolerated,
             containers: self.containers.clone()?,
         })
     }

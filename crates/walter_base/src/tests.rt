@@ -55,7 +55,7 @@ fn a_catalog_tells_kinds_and_preferred_sites(rt: HostRuntime) -> Result<(), Fail
         local: 5,
     };
     assert_eq!(rt; catalog.kind(other), None);
-    assert_eq!(rt; (catalog.sites, catalog.faults), (2, 0));
+    assert_eq!(rt; (catalog.sites, catalog.tolerated), (2, 0));
     let copy = catalog.clone()?;
     assert_eq!(rt; copy.kind(OBJECT), Some(Kind::Regular));
     assert_eq!(rt; copy.kind(other), None);

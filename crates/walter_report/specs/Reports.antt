@@ -51,7 +51,7 @@ client_lines number (client ∷ clients) trails =
 -- "sites <n> f <f> clients <c>"
 abbrev pub first_line : Scenario → List ℕ
 first_line s =
-    codes "sites " ++ decimal s.catalog.sites ++ codes " f " ++ decimal s.catalog.faults ++ codes " clients " ++ decimal (length s.clients) ++ line_feed
+    codes "sites " ++ decimal s.catalog.sites ++ codes " f " ++ decimal s.catalog.tolerated ++ codes " clients " ++ decimal (length s.clients) ++ line_feed
 
 -- a line for the run, one for each client, one for each site
 abbrev pub report_text : Scenario → List (List Entry) → List ℕ

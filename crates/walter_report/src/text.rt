@@ -26,9 +26,9 @@ fn push_first_line(text: &mut String, scenario: &Scenario) -> Mem<()>
     ensures { OnOk result (string_bytes text.new ≡ string_bytes text.old ++ first_line scenario.now) }
 {
     let sites = scenario.catalog.sites;
-    let faults = scenario.catalog.faults;
+    let tolerated = scenario.catalog.tolerated;
     let clients = scenario.clients.as_slice().len();
-    writeln!(text, "sites {sites} f {faults} clients {clients}")?;
+    writeln!(text, "sites {sites} f {tolerated} clients {clients}")?;
     Ok(())
 }
 

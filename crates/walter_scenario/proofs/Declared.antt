@@ -76,9 +76,9 @@ same_declared cs ds a b e = same_items container_spelled IsDeclared same_contain
 
 -- the catalog of all values
 pub is_catalog : (sites : ℕ) (value : Data) (values : List Data) (front : List Item) (catalog : Catalog) → value ≡ list values → IsFront values front
-    → length front ≡ length values → catalog.sites ≡ sites → catalog.faults ≡ 0 → catalog.containers ≡ containers_of front → AreRight sites front
+    → length front ≡ length values → catalog.sites ≡ sites → catalog.tolerated ≡ 0 → catalog.containers ≡ containers_of front → AreRight sites front
     → IsCatalog sites value catalog
-is_catalog sites value values front catalog e is n of_sites no_faults containers right = record {
+is_catalog sites value values front catalog e is n of_sites none_tolerated containers right = record {
   values = values;
   declared = front;
   spelled = e;
@@ -88,7 +88,7 @@ is_catalog sites value values front catalog e is n of_sites no_faults containers
     right = right;
   };
   of_sites = of_sites;
-  no_faults = no_faults;
+  none_tolerated = none_tolerated;
   containers = containers;
 }
 

@@ -12,12 +12,12 @@ use Rattle.walter_scenario.specs.Faults.{IsStepsFault}
 use Rattle.walter_scenario.specs.Fronts.{IsCatalog, ListsClients}
 use Rattle.walter_scenario.specs.Members.{seen, AreParts, IsFaultOf}
 use Rattle.walter_scenario.specs.Parts.{whole}
-use Rattle.walter_scenario.specs.Scenarios.{GivesCapacity, GivesArms, HasKeys, HasFaults, HasContainers, HasClients, HasArms, IsRefusedAt}
+use Rattle.walter_scenario.specs.Scenarios.{GivesCapacity, GivesArms, HasKeys, HasTolerated, HasContainers, HasClients, HasArms, IsRefusedAt}
 
 -- one site, of which none may be lost
 pub record HasNumbers (parts : Parts) : Type 0 where
   pub one : view parts.sites.now ≡ whole 1
-  pub none : view parts.faults.now ≡ whole 0
+  pub none : view parts.tolerated.now ≡ whole 0
 
 -- and what else was read: the containers, and the clients
 pub record HasRead (parts : Parts) (catalog : Catalog) (clients : List Client) : Type 0 where
@@ -31,16 +31,16 @@ pub record HasReadArms (parts : Parts) (catalog : Catalog) (clients : List Clien
   pub gives_capacity : GivesCapacity (seen parts.capacity) capacity
   pub gives_arms : GivesArms 1 (seen parts.arms) arms
 
-has_faults : (parts : Parts) (bytes : List ℕ) (ms : Members) → HasNumbers parts → HasKeys bytes ms → AreParts ms parts → HasFaults bytes ms
-has_faults parts bytes ms numbers keys are = record {
+has_tolerated : (parts : Parts) (bytes : List ℕ) (ms : Members) → HasNumbers parts → HasKeys bytes ms → AreParts ms parts → HasTolerated bytes ms
+has_tolerated parts bytes ms numbers keys are = record {
   has_sites = record { has_keys = keys; one = are.sites ∙ ap Some numbers.one };
-  none = are.faults ∙ ap Some numbers.none;
+  none = are.tolerated ∙ ap Some numbers.none;
 }
 
 has_containers : (parts : Parts) (catalog : Catalog) (bytes : List ℕ) (ms : Members) → HasNumbers parts → (is : IsCatalog 1 (view parts.containers.now) catalog)
     → HasKeys bytes ms → AreParts ms parts → HasContainers bytes ms is.declared
 has_containers parts catalog bytes ms numbers is keys are = record {
-  has_faults = has_faults parts bytes ms numbers keys are;
+  has_tolerated = has_tolerated parts bytes ms numbers keys are;
   values = is.values;
   spelled = are.containers ∙ ap Some is.spelled;
   are = is.are;

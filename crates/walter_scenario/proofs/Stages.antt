@@ -11,7 +11,7 @@ use Rattle.walter_scenario.specs.declared.scenario.Client.{Client}
 use Rattle.walter_scenario.specs.declared.scenario.Scenario.{Scenario}
 use Rattle.walter_scenario.specs.Faults.{HaveContainers, HaveClients, HaveArms, HaveSteps}
 use Rattle.walter_scenario.specs.Parts.{whole, list, arm_spelled, step_spelled, IsArm, IsStep, IsWrongAt}
-use Rattle.walter_scenario.specs.Scenarios.{HasMember, AreKeys, GivesCapacity, GivesArms, IsShort, IsObject, HasKeys, HasSites, HasFaults, HasContainers, HasClients, HasCapacity, HasArms, IsReading, IsRefusedAt}
+use Rattle.walter_scenario.specs.Scenarios.{HasMember, AreKeys, GivesCapacity, GivesArms, IsShort, IsObject, HasKeys, HasSites, HasTolerated, HasContainers, HasClients, HasCapacity, HasArms, IsReading, IsRefusedAt}
 use Rattle.walter_scenario.proofs.Declared.{containers_closed}
 use Rattle.walter_scenario.proofs.Scripts.{items_closed}
 use Rattle.walter_scenario.proofs.Sent.{clients_closed}
@@ -25,7 +25,7 @@ Passed (suc zero) bytes = IsShort bytes
 Passed (suc (suc zero)) bytes = IsShort bytes × ((members : Members) × IsObject bytes members)
 Passed (suc (suc (suc zero))) bytes = (members : Members) × HasKeys bytes members
 Passed (suc (suc (suc (suc zero)))) bytes = (members : Members) × HasSites bytes members
-Passed (suc (suc (suc (suc (suc zero))))) bytes = (members : Members) × HasFaults bytes members
+Passed (suc (suc (suc (suc (suc zero))))) bytes = (members : Members) × HasTolerated bytes members
 Passed (suc (suc (suc (suc (suc (suc zero)))))) bytes = (members : Members) × (declared : List Item) × HasContainers bytes members declared
 Passed (suc (suc (suc (suc (suc (suc (suc zero))))))) bytes =
     (members : Members) × (declared : List Item) × (clients : List Client) × HasClients bytes members declared clients
@@ -56,7 +56,7 @@ one_less bytes (suc zero) p = p.0
 one_less bytes (suc (suc zero)) p = (p.1.short, (p.0, p.1.is_object))
 one_less bytes (suc (suc (suc zero))) p = (p.0, p.1.has_keys)
 one_less bytes (suc (suc (suc (suc zero)))) p = (p.0, p.1.has_sites)
-one_less bytes (suc (suc (suc (suc (suc zero))))) p = (p.0, p.2.has_faults)
+one_less bytes (suc (suc (suc (suc (suc zero))))) p = (p.0, p.2.has_tolerated)
 one_less bytes (suc (suc (suc (suc (suc (suc zero)))))) p = (p.0, p.1, p.3.has_containers)
 one_less bytes (suc (suc (suc (suc (suc (suc (suc zero))))))) p = (p.0, p.1, p.2, p.4.has_clients)
 one_less bytes (suc (suc (suc (suc (suc (suc (suc (suc zero)))))))) p = (p.0, p.1, p.2, p.3, p.5.has_capacity)

@@ -24,7 +24,7 @@ pub one_list : (key : List ℕ) (m n : Members) (a b : List Data) → m ≡ n �
 one_list key m n a b same is other = list_of (list a) a b refl (one_value key m n (list a) (list b) same is other)
 
 pub containers_object : (bytes : List ℕ) (m : Members) (ds : List Item) → HasContainers bytes m ds → IsObject bytes m
-containers_object bytes m ds has = has.has_faults.has_sites.has_keys.is_object
+containers_object bytes m ds has = has.has_tolerated.has_sites.has_keys.is_object
 
 pub one_declared : (bytes : List ℕ) (m n : Members) (ds es : List Item) → HasContainers bytes m ds → HasContainers bytes n es → ds ≡ es
 one_declared bytes m n ds es a b =
@@ -59,7 +59,7 @@ one_scenario bytes s t a b =
     let in_t = b.has_arms.has_capacity in
     let same = one_object bytes a.members b.members (clients_object bytes a.members a.declared s.clients in_s.has_clients) (clients_object bytes b.members b.declared t.clients in_t.has_clients) in
     let sites : s.catalog.sites ≡ t.catalog.sites = a.sites ∙ sym b.sites in
-    let faults : s.catalog.faults ≡ t.catalog.faults = a.faults ∙ sym b.faults in
+    let tolerated : s.catalog.tolerated ≡ t.catalog.tolerated = a.tolerated ∙ sym b.tolerated in
     let declared = one_declared bytes a.members b.members a.declared b.declared in_s.has_clients.has_containers in_t.has_clients.has_containers in
     let containers = a.containers ∙ ap (λ ds. containers_of ds) declared ∙ sym b.containers in
     let clients = one_of_clients bytes a.members b.members a.declared b.declared s.clients t.clients in_s.has_clients in_t.has_clients in
@@ -69,7 +69,7 @@ one_scenario bytes s t a b =
     let are = subst (λ vs. AreSteps 1 (length s.clients) vs s.steps) values a.are in
     let steps = same_steps 1 (length t.clients) b.values s.steps t.steps (subst (λ cs. AreSteps 1 (length cs) b.values s.steps) clients are) b.are in
     λ i. record {
-      catalog = record { sites = sites i; faults = faults i; containers = containers i };
+      catalog = record { sites = sites i; tolerated = tolerated i; containers = containers i };
       clients = clients i;
       capacity = capacity i;
       arms = arms i;

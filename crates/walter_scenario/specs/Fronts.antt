@@ -31,7 +31,7 @@ pub record IsCatalog (sites : ℕ) (value : Data) (catalog : Catalog) : Type 0 w
   pub spelled : value ≡ list values
   pub are : AreContainers sites values declared
   pub of_sites : catalog.sites ≡ sites
-  pub no_faults : catalog.faults ≡ 0
+  pub none_tolerated : catalog.tolerated ≡ 0
   pub containers : catalog.containers ≡ containers_of declared
 
 -- the client may stand behind these: its site is there, and has room

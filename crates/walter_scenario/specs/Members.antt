@@ -17,7 +17,7 @@ seen found = option_map (λ value. view value.now) found
 -- the parts are the values of their keys
 pub record AreParts (members : Members) (parts : Parts) : Type 0 where
   pub sites : HasMember members (codes "sites") (view parts.sites.now)
-  pub faults : HasMember members (codes "f") (view parts.faults.now)
+  pub tolerated : HasMember members (codes "f") (view parts.tolerated.now)
   pub containers : HasMember members (codes "containers") (view parts.containers.now)
   pub clients : HasMember members (codes "clients") (view parts.clients.now)
   pub capacity : get_member (codes "capacity") members ≡ seen parts.capacity

@@ -68,13 +68,13 @@ pub record HasSites (bytes : List ℕ) (members : Members) : Type 0 where
   pub one : HasMember members (codes "sites") (whole 1)
 
 -- of which none may be lost
-pub record HasFaults (bytes : List ℕ) (members : Members) : Type 0 where
+pub record HasTolerated (bytes : List ℕ) (members : Members) : Type 0 where
   pub has_sites : HasSites bytes members
   pub none : HasMember members (codes "f") (whole 0)
 
 -- with these containers
 pub record HasContainers (bytes : List ℕ) (members : Members) (declared : List Item) : Type 0 where
-  pub has_faults : HasFaults bytes members
+  pub has_tolerated : HasTolerated bytes members
   pub values : List Data
   pub spelled : HasMember members (codes "containers") (list values)
   pub are : AreContainers 1 values declared
@@ -102,7 +102,7 @@ pub record IsReading (bytes : List ℕ) (s : Scenario) : Type 0 where
   pub declared : List Item
   pub has_arms : HasArms bytes members declared s.clients s.capacity s.arms
   pub sites : s.catalog.sites ≡ 1
-  pub faults : s.catalog.faults ≡ 0
+  pub tolerated : s.catalog.tolerated ≡ 0
   pub containers : s.catalog.containers ≡ containers_of declared
   pub values : List Data
   pub spelled : HasMember members (codes "steps") (list values)
@@ -116,7 +116,7 @@ IsRefusedAt bytes Key = IsShort bytes × ((members : Members) × IsObject bytes 
 IsRefusedAt bytes Sites = (members : Members) × HasKeys bytes members × ¬ HasMember members (codes "sites") (whole 1)
 IsRefusedAt bytes F = (members : Members) × HasSites bytes members × ¬ HasMember members (codes "f") (whole 0)
 IsRefusedAt bytes (Containers place) =
-    (members : Members) × (value : Data) × HasFaults bytes members × HasMember members (codes "containers") value
+    (members : Members) × (value : Data) × HasTolerated bytes members × HasMember members (codes "containers") value
     × IsWrongAt (λ values. (declared : List Item) × AreContainers 1 values declared) value place
 IsRefusedAt bytes (Clients place) =
     (members : Members) × (declared : List Item) × (value : Data) × HasContainers bytes members declared × HasMember members (codes "clients") value

@@ -10,7 +10,7 @@ use serde_json::{Map, Value};
 #[derive(Clone, Copy)]
 pub struct Parts<'a> {
     pub sites: &'a Value,
-    pub faults: &'a Value,
+    pub tolerated: &'a Value,
     pub containers: &'a Value,
     pub clients: &'a Value,
     pub capacity: Option<&'a Value>,
@@ -57,7 +57,7 @@ pub fn parts_of(members: &Map<String, Value>) -> Option<Parts<'_>>
     }
     Some(Parts {
         sites: member(members, "sites")?,
-        faults: member(members, "f")?,
+        tolerated: member(members, "f")?,
         containers: member(members, "containers")?,
         clients: member(members, "clients")?,
         capacity: member(members, "capacity"),

@@ -23,7 +23,7 @@ fn scenario_of(alloc: Global, parts: Parts<'_>) -> Result<Scenario, ReadFault>
     if !is_whole(parts.sites, 1) {
         return Err(ReadFault::from(Place::Sites));
     }
-    if !is_whole(parts.faults, 0) {
+    if !is_whole(parts.tolerated, 0) {
         return Err(ReadFault::from(Place::F));
     }
     let catalog = catalog_of(alloc, 1, parts.containers)?;
