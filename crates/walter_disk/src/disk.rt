@@ -20,6 +20,9 @@ pub trait Disk {
     /// The moment, as a number that doesn't fall.
     ghost moment: { Self → ℕ };
 
+    /// How many calls of `read`, `write_at` and `sync` were made of it, whatever they answered: an arm counts them.
+    ghost device_calls: { Self → ℕ };
+
     /// What a crash at some moment from that one on might have left, during a call or between two.
     ghost left_since: { Self → ℕ → List ℕ → Type 0 };
 
@@ -30,6 +33,7 @@ pub trait Disk {
     /// Makes room up to a place and for so many calls of `write_at`, `sync` and `settle`.
     fn reserve(&mut self, end: u64, calls: u64) -> Mem<()>
         ensures room { OnOk result (MakesRoom end calls (room_end self.old) (room_end self.new) (room_calls self.old) (room_calls self.new)) }
+        ensures device { device_calls self.new ≡ device_calls self.old }
         ensures same { known self.new ≡ known self.old }
         ensures crash { Narrows (may_leave self.old) (may_leave self.new) }
         ensures time { Elapses (moment self.old) (moment self.new) (left_since self.old) (left_since self.new) (may_leave self.new) };
@@ -42,6 +46,7 @@ pub trait Disk {
         ensures same { OnOk result (known self.new ≡ known self.old) }
         ensures failed { OnErr result (Breaks (known self.old) (known self.new)) }
         ensures room { TakesRoom 0 (room_end self.old) (room_end self.new) (room_calls self.old) (room_calls self.new) }
+        ensures device { device_calls self.new ≡ device_calls self.old + 1 }
         ensures crash { Narrows (may_leave self.old) (may_leave self.new) }
         ensures time { Elapses (moment self.old) (moment self.new) (left_since self.old) (left_since self.new) (may_leave self.new) };
 
@@ -55,6 +60,7 @@ pub trait Disk {
         ensures done { OnOk result (known self.new ≡ written at from.now (known self.old)) }
         ensures failed { OnErr result (Breaks (known self.old) (known self.new)) }
         ensures room { TakesRoom 1 (room_end self.old) (room_end self.new) (room_calls self.old) (room_calls self.new) }
+        ensures device { device_calls self.new ≡ device_calls self.old + 1 }
         ensures crash { Follows (Torn at (length from.now)) (may_leave self.old) (may_leave self.new) }
         ensures time { Elapses (moment self.old) (moment self.new) (left_since self.old) (left_since self.new) (may_leave self.new) };
 
@@ -66,6 +72,7 @@ pub trait Disk {
         ensures same { OnOk result (known self.new ≡ known self.old) }
         ensures failed { OnErr result (Breaks (known self.old) (known self.new)) }
         ensures room { TakesRoom 1 (room_end self.old) (room_end self.new) (room_calls self.old) (room_calls self.new) }
+        ensures device { device_calls self.new ≡ device_calls self.old + 1 }
         ensures crash { Narrows (may_leave self.old) (may_leave self.new) }
         ensures time { Elapses (moment self.old) (moment self.new) (left_since self.old) (left_since self.new) (may_leave self.new) };
 
@@ -79,6 +86,7 @@ pub trait Disk {
         ensures done { OnOk result (known self.new ≡ record (known self.old) { reads = (known self.new).reads; size = (known self.new).size; broken = false }) }
         ensures failed { OnErr result (Breaks (known self.old) (known self.new)) }
         ensures room { TakesRoom 1 (room_end self.old) (room_end self.new) (room_calls self.old) (room_calls self.new) }
+        ensures device { device_calls self.new ≡ device_calls self.old }
         ensures crash { Narrows (may_leave self.old) (may_leave self.new) }
         ensures time { Elapses (moment self.old) (moment self.new) (left_since self.old) (left_since self.new) (may_leave self.new) };
 
@@ -89,6 +97,7 @@ pub trait Disk {
         ensures armed { OnOk result (known self.new ≡ record (known self.old) { arms = option_map (λ arms. arms ++ (nth, choice) ∷ []) (known self.old).arms }) }
         ensures same { OnErr result (known self.new ≡ known self.old) }
         ensures room { TakesRoom 0 (room_end self.old) (room_end self.new) (room_calls self.old) (room_calls self.new) }
+        ensures device { device_calls self.new ≡ device_calls self.old }
         ensures crash { Narrows (may_leave self.old) (may_leave self.new) }
         ensures time { Elapses (moment self.old) (moment self.new) (left_since self.old) (left_since self.new) (may_leave self.new) };
 

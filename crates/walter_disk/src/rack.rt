@@ -1,4 +1,4 @@
-ghost use Rattle.std.specs.Prelude.{◌≡◌, ◌+◌, ◌<◌, ◌++◌, ◌∷◌, [], ℕ, List, Option, option_map, IfSome, IfOk, OnOk, OnErr};
+ghost use Rattle.std.specs.Prelude.{◌≡◌, ◌+◌, ◌<◌, ◌≤◌, ◌++◌, ◌∷◌, [], ℕ, List, Option, option_map, IsOk, IfSome, IfOk, OnOk, OnErr};
 ghost use Rattle.std.specs.Option.{option_copied};
 ghost use Rattle.walter_disk.specs.Racks.{IsFresh};
 
@@ -21,6 +21,9 @@ pub trait Rack {
     /// The disks that were given back, each with its site, in order, where the rack tells them.
     ghost given: { Self → Option (List (ℕ × Self.D)) };
 
+    /// So many of the following calls of `take` and `give` don't fail.
+    ghost unfailing: { Self → ℕ };
+
     /// Takes a site's disk.
     fn take(&mut self, site: u8, dir: Option<&str>) -> Result<Self::D, Failed>
         ensures disk { IfOk result (λ disk.
@@ -31,6 +34,7 @@ pub trait Rack {
         ensures same_taken { OnErr result (taken self.new ≡ taken self.old) }
         ensures same_given { given self.new ≡ given self.old }
         ensures faultless { OnOk result (faults self.new ≡ faults self.old) }
+        ensures sure { 0 < unfailing self.old → IsOk result × (unfailing self.old ≤ unfailing self.new + 1) }
         ensures cause { OnErr result (faults self.old < faults self.new) };
 
     /// Gives a site's disk back. After a fault the disk is gone, and nothing is known of it.
@@ -41,5 +45,6 @@ pub trait Rack {
         ensures same_taken { taken self.new ≡ taken self.old }
         ensures same_disks { disks self.new ≡ disks self.old }
         ensures faultless { OnOk result (faults self.new ≡ faults self.old) }
+        ensures sure { 0 < unfailing self.old → IsOk result × (unfailing self.old ≤ unfailing self.new + 1) }
         ensures cause { OnErr result (faults self.old < faults self.new) };
 }

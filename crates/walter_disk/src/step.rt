@@ -16,6 +16,8 @@ pub fn write_and_sync<D: Disk>(disk: &mut D, at: u64, from: &[u8]) -> Result<(),
     ensures failed { OnErr result (Fails (D.known disk.old) (D.known disk.new)) }
     ensures room { TakesRoom 2 (D.room_end disk.old) (D.room_end disk.new)
         (D.room_calls disk.old) (D.room_calls disk.new) }
+    ensures device { OnOk result (D.device_calls disk.new ≡ D.device_calls disk.old + 2) }
+    ensures at_most { D.device_calls disk.new ≤ D.device_calls disk.old + 2 }
 
     // A crash leaves what there was, with any bytes where these go.
     ensures any_moment { (bytes : List ℕ) → Only bytes (D.may_leave disk.old)

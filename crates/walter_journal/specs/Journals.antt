@@ -53,3 +53,7 @@ pub record Appends {D : Type 0} {g : Ghosts D} (old new : Journal D g) (body : L
 abbrev pub disk_behind : {D : Type 0} {g : Ghosts D} → Result (Journal D g × List (List ℕ)) (D × JournalFault) → D
 disk_behind (Ok loaded) = disk_of loaded.0
 disk_behind (Err left) = left.0
+
+-- how many reads, writes and syncs a load of a disk of this size makes
+abbrev pub calls_of_load : ℕ → ℕ
+calls_of_load size = if size == 0 then 2 else 1

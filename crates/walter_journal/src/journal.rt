@@ -55,6 +55,7 @@ impl<D: Disk> Journal<D> {
         ensures same { OnErr result (D.known (disk_of self.new) ≡ D.known (disk_of self.old)) }
         ensures capacity { capacity_of self.new ≡ capacity_of self.old }
         ensures end { end_of self.new ≡ end_of self.old }
+        ensures device { D.device_calls (disk_of self.new) ≡ D.device_calls (disk_of self.old) }
         ensures room { (n : ℕ) → HasRoom self.old n → HasRoom self.new n }
         ensures stands { (bodies : List (List ℕ))
             → StandsFor self.old bodies → StandsFor self.new bodies }
@@ -71,6 +72,7 @@ impl<D: Disk> Journal<D> {
         ensures same { D.known (disk_of self.new) ≡ D.known (disk_of self.old) }
         ensures capacity { capacity_of self.new ≡ capacity_of self.old }
         ensures end { end_of self.new ≡ end_of self.old }
+        ensures device { D.device_calls (disk_of self.new) ≡ D.device_calls (disk_of self.old) }
         ensures stands { (bodies : List (List ℕ))
             → StandsFor self.old bodies → StandsFor self.new bodies }
         ensures crash { Narrows (D.may_leave (disk_of self.old)) (D.may_leave (disk_of self.new)) }
@@ -111,6 +113,8 @@ impl<D: Disk> Journal<D> {
         ensures tells { is_some (D.known (disk_of self.new)).reads
             ≡ is_some (D.known (disk_of self.old)).reads }
         ensures capacity { capacity_of self.new ≡ capacity_of self.old }
+        ensures device { OnOk result (D.device_calls (disk_of self.new) ≡ D.device_calls (disk_of self.old) + 4) }
+        ensures at_most { D.device_calls (disk_of self.new) ≤ D.device_calls (disk_of self.old) + 4 }
     {
         let need = body.len() as u64 + 5;
         let left = self.capacity.saturating_sub(self.end);

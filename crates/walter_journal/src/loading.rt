@@ -27,6 +27,17 @@ pub fn load<D: Disk>(
     ensures image { 0 < (D.known disk).size
         → OnOk result (IsImage (D.known (disk_behind result)).reads (D.may_leave disk)) }
     ensures capacity { IfOk result (λ it. capacity_of it.0 ≡ capacity) }
+    ensures end { IfOk result (λ it. end_of it.0 ≡ end_behind it.1) }
+
+    // A new journal is the header and a closed gate. A crash while it is made leaves no more bytes than that.
+    ensures header { (D.known disk).size ≡ 0
+        → OnOk result (IfSome (D.known (disk_behind result)).reads (λ bytes. bytes ≡ header ++ 0 ∷ [])) }
+    ensures first { (D.known disk).size ≡ 0 → Only [] (D.may_leave disk)
+        → LeavesOnly D.moment D.left_since disk (disk_behind result) (λ image. length image ≤ 9) }
+
+    // How many calls an arm counts: a write and a sync on a disk of no bytes, and one read on another.
+    ensures device { OnOk result (D.device_calls (disk_behind result) ≡ D.device_calls disk + calls_of_load (D.known disk).size) }
+    ensures at_most { D.device_calls (disk_behind result) ≤ D.device_calls disk + calls_of_load (D.known disk).size }
 
     // Whatever it answers, the disk was not settled, or reads what a crash might have left.
     ensures settled { 0 < (D.known disk).size
