@@ -9,8 +9,8 @@ use Rattle.walter_engine.specs.Engines.{disk_in, OfDisk}
 use Rattle.walter_scenario.specs.declared.scenario.Arm.{Arm}
 use Rattle.walter_scenario.specs.declared.scenario.Scenario.{Scenario}
 use Rattle.walter_trail.specs.declared.trail.Entry.{Entry}
-use Rattle.walter_cli.specs.declared.cell.Cell.{Cell}
-use Rattle.walter_cli.specs.Cells.{IsCell, IsKnown}
+use Rattle.walter_cell.specs.declared.cell.Cell.{Cell}
+use Rattle.walter_cell.specs.Cells.{IsCell, IsKnown}
 use Rattle.walter_cli.specs.Headline.{IsDiskOf, IsRun, IsWholeRun}
 use Rattle.walter_cli.specs.Plays.{IsPlayed, AreArmed, ArmsMore, armed_by, all_arms, arms_of}
 use Rattle.walter_cli.specs.Racks.{GivesBack, IsToldBy, racked}

@@ -1,11 +1,4 @@
-pub mod Lines
 pub mod WordLines
-pub mod Openings
-pub mod Ties
-pub mod Losses
-pub mod Asked
-pub mod Grown
-pub mod Restarting
-pub mod Runs
 pub mod Turns
 pub mod Giving
+pub mod Runs

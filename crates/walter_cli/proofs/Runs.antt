@@ -31,15 +31,15 @@ use Rattle.walter_trail.specs.Trails.{standing, calls_of, IsRightTrail}
 use Rattle.walter_world.specs.Spelled.{the_site}
 use Rattle.walter_world.proofs.RulePromises.{right_named, right_answers}
 use Rattle.walter_world.proofs.SpelledRun.{one_site_legal}
-use Rattle.walter_cli.specs.declared.cell.Cell.{Cell}
+use Rattle.walter_cell.specs.declared.cell.Cell.{Cell}
 use Rattle.walter_cli.specs.declared.ended.Ended.{Ended}
 use Rattle.walter_cli.specs.declared.ended.Fault.{Fault}
 use Rattle.walter_cli.specs.declared.ended.Fault.TheVariants.{Usage, Scenario as ScenarioFault, Read, Write, Memory, Rack, Journal}
 use Rattle.walter_cli.specs.declared.ended.JournalCause.{JournalCause}
 use Rattle.walter_cli.specs.declared.ended.JournalCause.TheVariants.{Foreign, Damaged, Used}
-use Rattle.walter_cli.specs.Cells.{IsKnown, IsCell, IsSizedEntry}
+use Rattle.walter_cell.specs.Cells.{IsKnown, IsCell, IsSizedEntry}
 use Rattle.walter_cli.specs.Ending.{IsTaken, IsTakeFault, IsWriteFault, EndsRun}
-use Rattle.walter_cli.specs.Handled.{FitsFrame as OutcomeFits}
+use Rattle.walter_cell.specs.Handled.{FitsFrame as OutcomeFits}
 use Rattle.walter_cli.specs.Headline.{Outside, HasNoReading, IsDiskOf, IsTold, IsRun, IsWholeRun, Runs, RunsWhole, Promise}
 use Rattle.walter_cli.specs.Plays.{AreCallsOf, armed_by, all_arms, arms_of}
 use Rattle.walter_cli.specs.Racks.{Racked, GivesBack, HasCause}

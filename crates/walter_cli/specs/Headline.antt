@@ -1,7 +1,9 @@
 -- What a run of the program promises, on one page.
-use Rattle.std.specs.Prelude.{◌≡◌, ◌≢◌, ◌<◌, ◌≤◌, ◌↔◌, ◌⊎◌, ℕ, Bool, List, [], ◌∷◌, length, reverse, count_by, ◌++◌, Option, Some, IfSome, String}
+use Rattle.std.specs.Prelude.{◌≡◌, ◌≢◌, ◌<◌, ◌≤◌, ◌↔◌, ◌⊎◌, ℕ, Bool, List, [], ◌∷◌, length, reverse, count_by, ◌++◌, slice_get, Option, Some, IfSome, String}
 use Rattle.std.specs.Global.{Global}
 use Rattle.walter_disk.specs.Disks.{DiskState}
+use Rattle.walter_cell.specs.Entries.{HaveRisingStamps}
+use Rattle.walter_engine.specs.Begins.{HasNoRecord}
 use Rattle.walter_engine.specs.Contents.{MayHaveRecords}
 use Rattle.walter_psi.specs.Legal.{IsLegal}
 use Rattle.walter_scenario.specs.declared.place.Place.{Place}
@@ -11,15 +13,15 @@ use Rattle.walter_scenario.specs.Scenarios.{IsReading, IsRefusedAt}
 use Rattle.walter_stream.specs.Streams.{AtEnd, TakesFront, Appends, AppendsFront}
 use Rattle.walter_trail.specs.declared.trail.Entry.{Entry}
 use Rattle.walter_trail.specs.Merges.{merge}
-use Rattle.walter_trail.specs.Trails.{standing, IsRightTrail}
+use Rattle.walter_trail.specs.Trails.{standing, opening, IsRightTrail}
 use Rattle.walter_world.specs.Promises.{AreNamed, AnswersCommits}
 use Rattle.walter_world.specs.Spelled.{the_site, psi_of}
 use Rattle.walter_cli.specs.declared.ended.Ended.{Ended}
 use Rattle.walter_cli.specs.declared.ended.Fault.TheVariants as fault
 use Rattle.walter_cli.specs.declared.ended.JournalCause.{JournalCause}
-use Rattle.walter_cli.specs.Handled.{is_faulty}
+use Rattle.walter_cell.specs.Handled.{is_faulty}
 use Rattle.walter_cli.specs.Plays.{AreCallsOf, IsPlayed, all_arms}
-use Rattle.walter_cli.specs.Racks.{Racked, GivesBack, HasCause}
+use Rattle.walter_cli.specs.Racks.{Racked, GivesBack, IsUntouched, HasFailed, HasCause}
 use Rattle.walter_cli.specs.Statuses.{status_of}
 use Rattle.walter_cli.specs.Texts.{text_of}
 use Rattle.walter_cli.specs.Words.{IsPlayLine, IsLine}
@@ -63,20 +65,25 @@ pub record IsTold (s : Scenario) (trail : List Entry) : Type 0 where
   pub aborts_named : AreNamed s.catalog the_site (reverse trail)
   pub commits_answered : AnswersCommits s.catalog s.capacity the_site (reverse trail)
 
--- the trails of a run of a scenario: there is one site, each call is one of its client's, in order, and where its disk is told
--- all that the trail tells holds; the disk was given back, unless the rack failed
+-- the trails of a run of a scenario over a disk without records: there is one site, whose trail begins with the opening and has
+-- rising stamps; each call is one of its client's, in order; and where its disk is told all that the trail tells holds, and the
+-- disk was given back, unless the rack failed
 pub record IsRun (rack : Racked) (s : Scenario) (trails : List (List Entry)) : Type 0 where
   pub trail : List Entry
   pub one_site : trails ≡ trail ∷ []
+  pub begins : slice_get trail 0 ≡ Some opening
+  pub stamps_rise : HaveRisingStamps (reverse trail)
   pub whose_calls : AreCallsOf s.clients trail
+  pub no_record_before : rack.holds HasNoRecord
   pub told : rack.told → IsTold s trail
   pub disk_given_back : rack.told → rack.failed ⊎ rack.gives (IsDiskOf s trail)
 
--- it was driven by the steps of the scenario, to the last; and all that it arms is armed
+-- it was driven by the steps of the scenario, to the last; all that it arms is armed; and the disk was given back
 pub record IsWholeRun (rack : Racked) (s : Scenario) (trails : List (List Entry)) : Type 0 where
   pub run : IsRun rack s trails
   pub how_driven : IsPlayed s run.trail
   pub armed : rack.gives (λ known images. IfSome known.arms (λ arms. arms ≡ all_arms s))
+  pub given_back : rack.told → rack.gives (IsDiskOf s run.trail)
 
 -- the source's bytes are a reading of a scenario, and the trails a run of it
 pub record Runs (rack : Racked) (before after : Outside) (trails : List (List Entry)) : Type 0 where
@@ -113,20 +120,30 @@ pub record Promise (words : List (String Global)) (rack : Racked) (before after 
   -- 4: the sink failed, with a front of the report of a whole run written
   pub cut : ended.status ≡ 4 → RunsWhole rack words before after ended.trails.items (AppendsFront before.holds after.holds)
   pub failed : ended.status ≡ 4 → before.sink_faults < after.sink_faults
-  -- 6: the rack failed, or the disk before the site was up
-  pub unracked : ended.status ≡ 6 → rack.failed ⊎ rack.gives (λ known images. 0 < known.faults)
-  -- 7: the disk has what no new site can begin with, where it tells what it has
-  pub unfit : (site : ℕ) (cause : JournalCause) → ended.fault ≡ Some (fault.Journal site cause) → rack.told → rack.holds (HasCause cause)
-  -- whatever the status, each disk that was taken was given back, unless the rack failed
+  -- 6: the rack failed; or the disk did, before the site was up. The least such site is named.
+  pub unracked : ended.status ≡ 6 → rack.failed ⊎ ((ended.trails.items ≡ []) × rack.gives HasFailed)
+  pub unracked_site : (site : ℕ) → ended.fault ≡ Some (fault.Rack site) → site ≡ 0
+  -- 7: the disk of the least such site has what no new site can begin with, where it tells what it has
+  pub unfit : (site : ℕ) (cause : JournalCause) (place : ℕ) → ended.fault ≡ Some (fault.Journal site cause place)
+      → (site ≡ 0) × rack.holds (HasCause cause place)
+  -- and exactly then, where the source and the rack don't fail, and the disk doesn't before the site is up
+  pub unfit_named : (bytes : List ℕ) (s : Scenario) (cause : JournalCause) (place : ℕ) → IsLine words → before.left ≡ Some bytes → IsReading bytes s
+      → rack.told → rack.holds (HasCause cause place) → after.source_faults ≡ before.source_faults → ¬ rack.failed
+      → (ended.fault ≡ Some (fault.Journal 0 cause place)) ⊎ (ended.status ≡ 5) ⊎ ((ended.trails.items ≡ []) × rack.gives HasFailed)
+  -- whatever the status, each disk that was taken was given back, unless the rack failed; and one of which two calls don't fail
+  -- didn't
   pub given_back : GivesBack rack
+  pub unfailing : rack.unfailing → ¬ rack.failed
   -- but for 0 and 4 nothing is written
   pub silent : ended.status ≢ 0 → ended.status ≢ 4 → after.holds ≡ before.holds
-  -- whatever the status, the trails answered are none, or those of a run
-  pub legal_trails : (ended.trails.items ≡ []) ⊎ Runs rack before after ended.trails.items
-  -- where nothing fails, the source tells its bytes and the disk tells that it has none: if the bytes spell a scenario the status
-  -- is 0, and if they are wrong at a place it is 2 with this place; or it is 5 for want of memory
-  pub complete : (bytes : List ℕ) (s : Scenario) → IsLine words → before.left ≡ Some bytes → IsReading bytes s → rack.told → rack.holds (λ held. held ≡ [])
+  -- whatever the status, the trails answered are those of a run; or there are none, and then the disk is as no run has begun on it
+  pub legal_trails : ((ended.trails.items ≡ []) × IsUntouched rack) ⊎ Runs rack before after ended.trails.items
+  -- but for 0, 4, 5 and 6 there are none
+  pub no_trails : (ended.trails.items ≡ []) ⊎ (ended.status ≡ 0) ⊎ (ended.status ≡ 4) ⊎ (ended.status ≡ 5) ⊎ (ended.status ≡ 6)
+  -- where nothing fails, the source tells its bytes and the disk tells that it has no record: if the bytes spell a scenario the
+  -- status is 0, and if they are wrong at a place it is 2 with this place; or it is 5 for want of memory
+  pub complete : (bytes : List ℕ) (s : Scenario) → IsLine words → before.left ≡ Some bytes → IsReading bytes s → rack.told → rack.holds HasNoRecord
       → after.source_faults ≡ before.source_faults → after.sink_faults ≡ before.sink_faults → ¬ rack.failed
-      → (ended.status ≡ 0) ⊎ (ended.status ≡ 5) ⊎ ((ended.trails.items ≡ []) × rack.gives (λ known images. 0 < known.faults))
+      → (ended.status ≡ 0) ⊎ (ended.status ≡ 5) ⊎ ((ended.trails.items ≡ []) × rack.gives HasFailed)
   pub refuses : (bytes : List ℕ) (place : Place) → IsLine words → before.left ≡ Some bytes → IsRefusedAt bytes place
       → after.source_faults ≡ before.source_faults → (ended.fault ≡ Some (fault.Scenario place)) ⊎ (ended.status ≡ 5)

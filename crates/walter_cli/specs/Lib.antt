@@ -1,11 +1,7 @@
 pub mod Plays
-pub mod Ties
-pub mod Handled
-pub mod Cells
 pub mod Statuses
 pub mod Words
 pub mod Racks
 pub mod Texts
 pub mod Headline
 pub mod Ending
-pub mod Builds

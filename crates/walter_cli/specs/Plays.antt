@@ -12,12 +12,9 @@ use Rattle.walter_scenario.specs.declared.scenario.Step.TheVariants as step
 use Rattle.walter_trail.specs.declared.trail.Entry.{Entry}
 use Rattle.walter_trail.specs.declared.trail.TrailEvent.{TrailEvent}
 use Rattle.walter_trail.specs.declared.trail.TrailEvent.TheVariants as event
-use Rattle.walter_trail.specs.Trails.{calls_of}
-use Rattle.walter_cli.specs.declared.cell.Cell.{Cell}
-
--- a trail has no place for another entry
-abbrev pub IsSpent : List Entry → Type 0
-IsSpent trail = 100000 ≤ length trail
+use Rattle.walter_trail.specs.Trails.{calls_of, opening}
+use Rattle.walter_cell.specs.Entries.{IsSpent, IsOfClients}
+use Rattle.walter_cell.specs.declared.cell.Cell.{Cell}
 
 -- the turn of a client that sends these bytes: its next call comes to the trail; nothing does where it has made all its
 -- calls, or where the trail is spent
@@ -44,17 +41,9 @@ abbrev pub Plays : List Client → List Step → (old new : List Entry) → Type
 Plays clients [] old new = new ≡ old
 Plays clients (step ∷ steps) old new = (next : List Entry) × Takes clients step old next × Plays clients steps next new
 
--- so the trail of a run comes of that of a site that came up
-pub record IsPlayed (s : Scenario) (trail : List Entry) : Type 0 where
-  pub first : Entry
-  pub comes_up : first.event ≡ event.Restart
-  pub plays : Plays s.clients s.steps (first ∷ []) trail
-
--- a call is of one of so many clients
-abbrev pub IsOfClients : ℕ → TrailEvent → Type 0
-IsOfClients clients (event.Call client call) = client < clients
-IsOfClients clients event.Stop = Unit {0}
-IsOfClients clients event.Restart = Unit {0}
+-- so the trail of a run comes of the opening
+abbrev pub IsPlayed : Scenario → List Entry → Type 0
+IsPlayed s trail = Plays s.clients s.steps (opening ∷ []) trail
 
 -- each call in the trail is of a client of the scenario, and the calls of each client are the first ones of its bytes
 pub record AreCallsOf (clients : List Client) (trail : List Entry) : Type 0 where

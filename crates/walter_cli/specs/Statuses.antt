@@ -11,4 +11,4 @@ status_of (Some Read) = 3
 status_of (Some Write) = 4
 status_of (Some Memory) = 5
 status_of (Some (Rack site)) = 6
-status_of (Some (Journal site cause)) = 7
+status_of (Some (Journal site cause place)) = 7

@@ -10,8 +10,8 @@ use walter_trail::Trail;
 pub enum JournalCause {
     #[error("it has no journal")]
     Foreign,
-    #[error("its journal is damaged: behind the gate at {at} stands the length {length}")]
-    Damaged { at: u64, length: u32 },
+    #[error("its journal is damaged, since it claims a length of {length} behind a gate")]
+    Damaged { length: u32 },
     #[error("its journal has records")]
     Used,
 }
@@ -31,8 +31,13 @@ pub enum Fault {
     Memory,
     #[error("the disk of site {site} failed, or could not be taken or given back")]
     Rack { site: u8 },
-    #[error("site {site} cannot begin with its disk: {cause}")]
-    Journal { site: u8, cause: JournalCause },
+    /// At this place of the disk's bytes stands what is wrong: 0 of what is no journal, and else that of the gate.
+    #[error("site {site} cannot begin with its disk: {cause} (at place {place})")]
+    Journal {
+        site: u8,
+        cause: JournalCause,
+        place: u64,
+    },
 }
 
 /// How a call of the program ended: its status, the fault if the status isn't 0, and the trails of its run. There are

@@ -1,19 +1,19 @@
 ghost use Rattle.std.specs.Prelude.{◌≡◌, ◌++◌, [], ◌∷◌, ℕ, List, length, take, map, All, OnOk};
 ghost use Rattle.walter_scenario.specs.Parts.{IsArm, IsStep};
-ghost use Rattle.walter_cli.specs.Builds.{HasBegun};
-ghost use Rattle.walter_cli.specs.Cells.{IsCell, IsKnown};
+ghost use Rattle.walter_trail.specs.Trails.{opening};
+ghost use Rattle.walter_cell.specs.Cells.{IsCell, IsKnown};
 ghost use Rattle.walter_cli.specs.Plays.{Takes, IsPlayed, AreArmed, ArmsMore, arms_of};
 
-use crate::cell::Cell;
 use std::alloc::Global;
 use walter_base::Mem;
+use walter_cell::Cell;
 use walter_disk::Disk;
 use walter_scenario::{Arm, Scenario, Step};
 
 /// Arms the disk as the scenario says, and takes its steps in order. Where memory runs out, what was done so far stands.
 pub fn play<D: Disk + Drop>(alloc: Global, cell: &mut Cell<D>, scenario: &Scenario) -> Mem<()>
     requires cell { IsCell scenario.now cell.old }
-    requires begun { HasBegun cell.old.entries.items }
+    requires begun { cell.old.entries.items ≡ opening ∷ [] }
     requires arms { All (IsArm 1) scenario.now.arms }
     requires steps { All (IsStep 1 (length scenario.now.clients)) scenario.now.steps }
     ensures cell { IsCell scenario.now cell.new }

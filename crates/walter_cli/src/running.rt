@@ -1,19 +1,20 @@
-ghost use Rattle.std.specs.Prelude.{◌≡◌, ◌≤◌, length, All, IfOk, OnOk, IfErr};
+ghost use Rattle.std.specs.Prelude.{◌≡◌, ◌≤◌, ◌<◌, length, All, IfOk, OnOk, IfErr};
 ghost use Rattle.walter_report.specs.Reports.{HaveFrames};
 ghost use Rattle.walter_report.specs.Traces.{HaveSpellings};
 ghost use Rattle.walter_scenario.specs.Parts.{IsArm, IsStep, IsCapacity};
 ghost use Rattle.walter_stream.specs.Streams.{Appends};
-ghost use Rattle.walter_cli.specs.Ending.{EndsRun, IsWriteFault, fault_of};
+ghost use Rattle.walter_cli.specs.Ending.{EndsRun, EndsEarly, IsBuilt, IsWriteFault, fault_of};
 ghost use Rattle.walter_cli.specs.Racks.{GivesBack, racked};
 ghost use Rattle.walter_cli.specs.Statuses.{status_of};
 ghost use Rattle.walter_cli.specs.Texts.{text_of};
 
-use crate::building::{Unbuilt, build};
-use crate::ended::{Ended, Fault};
+use crate::ended::{Ended, Fault, JournalCause};
 use crate::play::play;
 use std::alloc::Global;
 use walter_base::Mem;
+use walter_cell::{Cell, build};
 use walter_disk::Rack;
+use walter_engine::Unbegun;
 use walter_report::{report, trace};
 use walter_scenario::Scenario;
 use walter_stream::{Sink, write_all};
@@ -33,23 +34,21 @@ pub fn run<K: Sink, R: Rack>(
     requires arms { All (IsArm 1) scenario.now.arms }
     requires steps { All (IsStep 1 (length scenario.now.clients)) scenario.now.steps }
     ensures status { result.status ≡ status_of result.fault }
-    ensures given_back { GivesBack (racked R.D.Disk (R.disks rack.old) (R.given rack.old) (R.given rack.new) (R.taken rack.old) (R.taken rack.new) (R.faults rack.old) (R.faults rack.new)) }
-    ensures run { EndsRun (racked R.D.Disk (R.disks rack.old) (R.given rack.old) (R.given rack.new) (R.taken rack.old) (R.taken rack.new) (R.faults rack.old) (R.faults rack.new))
+    ensures given_back { GivesBack (racked R.D.Disk
+        (record { disks = R.disks rack.old; given = R.given rack.old; taken = R.taken rack.old; faults = R.faults rack.old; unfailing = R.unfailing rack.old })
+        (record { disks = R.disks rack.new; given = R.given rack.new; taken = R.taken rack.new; faults = R.faults rack.new; unfailing = R.unfailing rack.new })) }
+    ensures unfailing { 2 ≤ R.unfailing rack.old → ¬ (R.faults rack.old < R.faults rack.new) }
+    ensures run { EndsRun (racked R.D.Disk
+        (record { disks = R.disks rack.old; given = R.given rack.old; taken = R.taken rack.old; faults = R.faults rack.old; unfailing = R.unfailing rack.old })
+        (record { disks = R.disks rack.new; given = R.given rack.new; taken = R.taken rack.new; faults = R.faults rack.new; unfailing = R.unfailing rack.new }))
         traced scenario.now (K.holds sink.old) (K.holds sink.new) (K.faults sink.old) (K.faults sink.new) result.trails.items result.fault }
 {
     let Ok(mut trails) = Vec::with_capacity(alloc, 1) else {
         return Ended::early(alloc, Fault::Memory);
     };
-    let Ok(disk) = rack.take(0, None) else {
-        return Ended::early(alloc, Fault::Rack { site: 0 });
-    };
-    let mut cell = match build(alloc, scenario, disk) {
+    let mut cell = match build_over(alloc, scenario, rack) {
         Ok(cell) => cell,
-        Err((disk, why)) => {
-            // The first cause decides the status.
-            let _ = rack.give(0, disk);
-            return Ended::early(alloc, unbuilt(why));
-        }
+        Err(fault) => return Ended::early(alloc, fault),
     };
     let played = play(alloc, &mut cell, scenario);
     let (disk, trail) = cell.into_parts();
@@ -67,14 +66,54 @@ pub fn run<K: Sink, R: Rack>(
     }
 }
 
-// The fault of a run whose site was not built.
-fn unbuilt(why: Unbuilt) -> Fault
+// The cell of the site over the rack's disk. Where none is built the disk is given back.
+fn build_over<R: Rack>(alloc: Global, scenario: &Scenario, rack: &mut R) -> Result<Cell<R::D>, Fault>
+    requires sites { scenario.now.catalog.sites ≡ 1 }
+    requires capacity { IsCapacity scenario.now.capacity }
+    ensures built { IfOk result (IsBuilt
+        (record { disks = R.disks rack.old; given = R.given rack.old; taken = R.taken rack.old; faults = R.faults rack.old; unfailing = R.unfailing rack.old })
+        (record { disks = R.disks rack.new; given = R.given rack.new; taken = R.taken rack.new; faults = R.faults rack.new; unfailing = R.unfailing rack.new })
+        scenario.now) }
+    ensures unbuilt { IfErr result (EndsEarly (racked R.D.Disk
+        (record { disks = R.disks rack.old; given = R.given rack.old; taken = R.taken rack.old; faults = R.faults rack.old; unfailing = R.unfailing rack.old })
+        (record { disks = R.disks rack.new; given = R.given rack.new; taken = R.taken rack.new; faults = R.faults rack.new; unfailing = R.unfailing rack.new }))) }
+{
+    let Ok(disk) = rack.take(0, None) else {
+        return Err(Fault::Rack { site: 0 });
+    };
+    match build(alloc, scenario, disk) {
+        Ok(cell) => Ok(cell),
+        Err((disk, why)) => {
+            // The first cause decides the status.
+            let _ = rack.give(0, disk);
+            Err(unbegun(why))
+        }
+    }
+}
+
+// The fault of a run whose site did not begin. The records of a journal stand behind its first gate.
+fn unbegun(why: Unbegun) -> Fault
     ensures { result ≡ fault_of why }
 {
+    let site = 0;
     match why {
-        Unbuilt::Failed => Fault::Rack { site: 0 },
-        Unbuilt::Journal(cause) => Fault::Journal { site: 0, cause },
-        Unbuilt::NoMemory => Fault::Memory,
+        Unbegun::Failed => Fault::Rack { site },
+        Unbegun::Foreign => Fault::Journal {
+            site,
+            cause: JournalCause::Foreign,
+            place: 0,
+        },
+        Unbegun::Damaged { at, length } => Fault::Journal {
+            site,
+            cause: JournalCause::Damaged { length },
+            place: at,
+        },
+        Unbegun::Used => Fault::Journal {
+            site,
+            cause: JournalCause::Used,
+            place: 8,
+        },
+        Unbegun::NoMemory => Fault::Memory,
     }
 }
 

@@ -1,0 +1,99 @@
+-- A cell whose site has come up for the first time.
+use Rattle.std.proofs.Common.{◌≡◌, ◌≤◌, ◌-◌, ℕ, List, [], ◌∷◌, length, refl, ap, sym, ◌∙◌, subst, arith, Option, Some, None, slice_get}
+use Rattle.std.specs.Prelude.{All, IfSome, replicate, reverse, count_by}
+use Rattle.std.proofs.lemmas.List.{length-replicate, get_or-replicate}
+use Rattle.std.proofs.lemmas.List.Elements.{All-nil, All-push}
+use Rattle.std.proofs.lemmas.Option.{slice_get_within, get_or_from_slice_get}
+use Rattle.walter_base.specs.declared.catalog.Catalog.{Catalog}
+use Rattle.walter_disk.specs.declared.disk.Disk.{Ghosts}
+use Rattle.walter_engine.specs.Engines.{catalog_in, site_in, capacity_in, disk_in, Stands}
+use Rattle.walter_scenario.specs.declared.scenario.Scenario.{Scenario}
+use Rattle.walter_trail.specs.declared.trail.Entry.{Entry}
+use Rattle.walter_trail.specs.Trails.{ruled, standing, clock, calls_of, opening, IsRightTrail}
+use Rattle.walter_world.specs.Spelled.{the_site}
+use Rattle.walter_cell.specs.declared.cell.Cell.{Cell}
+use Rattle.walter_cell.specs.declared.tie.Tie.{Tie}
+use Rattle.walter_cell.specs.declared.tie.Tie.TheVariants.{Free}
+use Rattle.walter_cell.specs.Builds.{AreFree, AreUnread}
+use Rattle.walter_conn.specs.Connections.{incoming}
+use Rattle.walter_cell.specs.Cells.{IsCell, IsSizedEntry, IsKnown, IsLine}
+use Rattle.walter_cell.specs.Entries.{HaveRisingStamps, IsOfClients}
+use Rattle.walter_cell.specs.Handled.{is_faulty}
+use Rattle.walter_cell.specs.Ties.{AreTied, IsTied}
+
+one_of_all : {X : Type 0} (P : X → Type 0) (x : X) → P x → All P (x ∷ [])
+one_of_all P x holds = All-push P [] x (All-nil P) holds
+
+-- clients that are tied to nothing
+all_free : (n client : ℕ) (tie : Tie) → slice_get (replicate n Free) client ≡ Some tie → tie ≡ Free
+all_free n client tie at =
+    let within = slice_get_within (replicate n Free) client tie at in
+    let long = length-replicate n Free in
+    sym (get_or_from_slice_get (replicate n Free) client tie tie at) ∙ get_or-replicate n client Free tie (omega (arith, within, long))
+
+free_tied : (catalog : Catalog) (n : ℕ) (ties : List Tie) → AreFree n ties → AreTied (standing catalog the_site (opening ∷ [])) ties
+free_tied catalog n ties free client tie at =
+    let is : tie ≡ Free = all_free n client tie (ap (λ ts. slice_get ts client) (sym free) ∙ at) in
+    subst (λ (t : Tie). IsTied (standing catalog the_site (opening ∷ [])) client t) (sym is) (refl, refl)
+
+opening_right : (catalog : Catalog) (capacity : ℕ) → 19 ≤ capacity → IsRightTrail catalog capacity the_site (opening ∷ [])
+opening_right catalog capacity fits =
+    let place : 10 ≤ capacity - 9 = omega (arith, fits) in
+    record { begins = refl; right = (tt, record { stamp = refl; kept = tt; comes = ruled place refl }) }
+
+of_some : {X : Type 0} (o : Option X) (P : X → Type 0) → ((x : X) → P x) → IfSome o P
+of_some None P all = tt
+of_some (Some x) P all = all x
+
+-- what holds of the disk that is found, holds of the disk
+pub from_found : {X : Type 0} (found : Option X) (x : X) (P : X → Type 0) → found ≡ Some x → IfSome found P → P x
+from_found found x P is holds = subst (λ o. IfSome o P) is holds
+
+pub to_found : {X : Type 0} (found : Option X) (x : X) (P : X → Type 0) → found ≡ Some x → P x → IfSome found P
+to_found found x P is holds = subst (λ o. IfSome o P) (sym is) holds
+
+-- what a call says of the disks of an engine before and after it, where one has this disk before
+pub from_old : {D : Type 0} (old new : Option D) (disk : D) (R : D → D → Type 0) → old ≡ Some disk → IfSome old (λ before. IfSome new (λ after. R before after))
+    → IfSome new (λ after. R disk after)
+from_old old new disk R is both = from_found old disk (λ before. IfSome new (λ after. R before after)) is both
+
+-- the same, told of an equal list
+module _ {X : Type 0} (P : List X → Type 0) where
+  of_one : (xs : List X) (x : X) → xs ≡ x ∷ [] → P (x ∷ []) → P xs
+  of_one xs x is holds = subst P (sym is) holds
+
+module _ {D : Type 0} {g : Ghosts D} (s : Scenario) (cell : Cell D g) (is : cell.entries.items ≡ opening ∷ []) where
+  -- where the engine stands as the opening says
+  pub known_built : 19 ≤ s.capacity → Stands cell.engine (standing s.catalog the_site (opening ∷ [])) → AreFree (length s.clients) cell.ties.items → IsKnown s cell
+  known_built fits stands free = record {
+    stands = of_one (λ (es : List Entry). Stands cell.engine (standing s.catalog the_site (reverse es))) cell.entries.items opening is stands;
+    right = of_one (λ (es : List Entry). IsRightTrail s.catalog s.capacity the_site es) cell.entries.items opening is (opening_right s.catalog s.capacity fits);
+    tied = of_one (λ (es : List Entry). AreTied (standing s.catalog the_site (reverse es)) cell.ties.items) cell.entries.items opening is
+        (free_tied s.catalog (length s.clients) cell.ties.items free);
+  }
+
+  -- whatever its disk tells
+  pub cell_built : catalog_in cell.engine ≡ s.catalog → site_in cell.engine ≡ the_site → capacity_in cell.engine ≡ s.capacity
+      → length cell.lines.items ≡ length s.clients → AreFree (length s.clients) cell.ties.items → AreUnread s.clients cell.lines.items → IsCell s cell
+  cell_built catalog site capacity long free unread = record {
+    site = record {
+      catalog = catalog;
+      site = site;
+      capacity = capacity;
+      begins = ap (λ es. slice_get es 0) is;
+      stamps = of_one (λ (es : List Entry). clock (reverse es) ≡ length es) cell.entries.items opening is refl;
+      rise = of_one (λ (es : List Entry). HaveRisingStamps (reverse es)) cell.entries.items opening is (omega arith, tt);
+      sized = of_one (λ (es : List Entry). All IsSizedEntry es) cell.entries.items opening is
+          (one_of_all IsSizedEntry opening (record { outcome = tt; kept = tt; wrote = omega arith; flight = tt }));
+      faults = of_some (disk_in cell.engine) (λ disk. count_by (λ (e : Entry). is_faulty e.outcome) cell.entries.items ≤ (g.known disk).faults)
+          (λ disk. let none = ap (λ (es : List Entry). count_by (λ (e : Entry). is_faulty e.outcome) es) is in omega (arith, none));
+    };
+    calls_within = of_one (λ (es : List Entry). All (λ (e : Entry). IsOfClients (length s.clients) e.event) es) cell.entries.items opening is
+        (one_of_all (λ (e : Entry). IsOfClients (length s.clients) e.event) opening tt);
+    long = long;
+    ties = ap length free ∙ length-replicate (length s.clients) Free;
+    lines = λ number client at.
+        let found = unread number client at in
+        let calls : calls_of number cell.entries.items ≡ [] = ap (λ (es : List Entry). calls_of number es) is in
+        (found.0, found.1, subst (λ xs. IsLine client.bytes xs (incoming found.0)) (sym calls) found.2);
+  }

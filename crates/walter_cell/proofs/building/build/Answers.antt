@@ -1,0 +1,47 @@
+use Rattle.std.proofs.Common.{◌∷◌, ◌++◌, [], List, length, sym, ap, ◌∙◌, subst}
+use Rattle.std.specs.Prelude.{IsSome}
+use Rattle.walter_base.specs.declared.catalog.Catalog.{Catalog}
+use Rattle.walter_base.specs.declared.names.SiteId.{SiteId}
+use Rattle.walter_disk.specs.Images.{LeavesOnly}
+use Rattle.walter_engine.specs.Begins.{HasOnly, MayHaveBegun}
+use Rattle.walter_engine.specs.Engines.{catalog_in, disk_in, Stands}
+use Rattle.walter_scenario.specs.declared.scenario.Client.{Client}
+use Rattle.walter_cell.specs.Builds.{AreFree, AreUnread}
+use Rattle.walter_trail.specs.declared.trail.Entry.{Entry}
+use Rattle.walter_trail.specs.Trails.{standing, opening}
+use Rattle.walter_world.specs.Spelled.{the_site}
+use Rattle.walter_cell.proofs.Openings.{cell_built, known_built, from_found, to_found, from_old}
+use Rattle.walter_cell.proofs.building.build.Goals as goal
+
+pub returns-in-Err-begin-clause-any_moment : goal.returns-in-Err-begin-clause-any_moment
+returns-in-Err-begin-clause-any_moment g c bytes only =
+    let is = c.in-Ok-new.ensures.disk in
+    from_found (disk_in c.begin.new.self) c.into_disk.result (λ now. LeavesOnly g.D.Disk.moment g.D.Disk.left_since c.args.disk now (MayHaveBegun bytes)) (sym c.into_disk.ensures)
+    (from_old (disk_in c.in-Ok-new.engine) (disk_in c.begin.new.self) c.args.disk (λ before after. LeavesOnly g.D.Disk.moment g.D.Disk.left_since before after (MayHaveBegun bytes)) is
+    (c.begin.ensures.any_moment bytes (to_found (disk_in c.in-Ok-new.engine) c.args.disk (HasOnly g.D.Disk bytes) is only)))
+
+pub returns-clause-any_moment : goal.returns-clause-any_moment
+returns-clause-any_moment g c bytes only =
+    let is = c.in-Ok-new.ensures.disk in
+    from_old (disk_in c.in-Ok-new.engine) (disk_in c.begin.new.self) c.args.disk (λ before after. LeavesOnly g.D.Disk.moment g.D.Disk.left_since before after (MayHaveBegun bytes)) is
+    (c.begin.ensures.any_moment bytes (to_found (disk_in c.in-Ok-new.engine) c.args.disk (HasOnly g.D.Disk bytes) is only))
+
+pub returns-clause-cell : goal.returns-clause-cell
+returns-clause-cell g c =
+    let same = c.begin.ensures.engine in
+    let new = c.in-Ok-new.ensures in
+    cell_built c.args.scenario.now _ (c.push_reserved.ensures.items ∙ (ap (λ (es : List Entry). es ++ c.opening.result ∷ []) c.in-Ok.ensures.entries ∙ ap (λ (e : Entry). e ∷ []) c.opening.ensures))
+    (same.catalog ∙ new.catalog) (same.site ∙ new.site) (same.capacity ∙ new.capacity)
+    (c.in-Ok.ensures.long ∙ ap length c.as_slice.ensures)
+    (subst (λ (cs : List Client). AreFree (length cs) c.in-Ok.ties.items) c.as_slice.ensures c.in-Ok.ensures.ties)
+    (subst (λ (cs : List Client). AreUnread cs c.in-Ok.lines.items) c.as_slice.ensures c.in-Ok.ensures.lines)
+
+pub returns-clause-known : goal.returns-clause-known
+returns-clause-known g c told =
+    let new = c.in-Ok-new.ensures in
+    let engine = c.in-Ok-new.engine in
+    let stands = (rw c.in_default-begin.is at c.begin.ensures.stands) (to_found (disk_in engine) c.args.disk (λ disk. IsSome (g.D.Disk.known disk).reads) new.disk told) in
+    let here = subst (λ (i : SiteId). Stands c.begin.new.self (standing (catalog_in engine) i (opening ∷ []))) new.site stands in
+    known_built c.args.scenario.now _ (c.push_reserved.ensures.items ∙ (ap (λ (es : List Entry). es ++ c.opening.result ∷ []) c.in-Ok.ensures.entries ∙ ap (λ (e : Entry). e ∷ []) c.opening.ensures))
+    c.requires.capacity.0 (subst (λ (k : Catalog). Stands c.begin.new.self (standing k the_site (opening ∷ []))) new.catalog here)
+    (subst (λ (cs : List Client). AreFree (length cs) c.in-Ok.ties.items) c.as_slice.ensures c.in-Ok.ensures.ties)

@@ -1,0 +1,102 @@
+ghost use Rattle.std.specs.Prelude.{◌≡◌, ◌<◌, ◌∷◌, [], ℕ, List, length, vec_capacity, IsSome, IfOk};
+ghost use Rattle.walter_disk.specs.Images.{LeavesOnly};
+ghost use Rattle.walter_engine.specs.Begins.{HasOnly, IsBegun, IsFaultOfBegin, MayHaveBegun};
+ghost use Rattle.walter_scenario.specs.Parts.{IsCapacity};
+ghost use Rattle.walter_trail.specs.Trails.{opening};
+ghost use Rattle.walter_cell.specs.Builds.{AreFree, AreUnread, OfBuilt, begun_by};
+ghost use Rattle.walter_cell.specs.Cells.{IsCell, IsKnown};
+
+use crate::cell::Cell;
+use crate::line::{Line, open_line};
+use crate::tie::Tie;
+use std::alloc::Global;
+use walter_base::{Mem, Record, SiteId};
+use walter_disk::Disk;
+use walter_engine::{Engine, Unbegun};
+use walter_scenario::{Client, Scenario};
+use walter_trail::{Entry, Outcome, TrailEvent};
+
+/// The cell of the one site over its disk, up in its first epoch, with the connections of the scenario's clients. Where
+/// none is built the disk comes back.
+pub fn build<D: Disk + Drop>(
+    alloc: Global,
+    scenario: &Scenario,
+    disk: D,
+) -> Result<Cell<D>, (D, Unbegun)>
+    requires sites { scenario.now.catalog.sites ≡ 1 }
+    requires capacity { IsCapacity scenario.now.capacity }
+    ensures cell { IfOk result (IsCell scenario.now) }
+    ensures known { IsSome (D.known disk).reads → IfOk result (IsKnown scenario.now) }
+    ensures opening { IfOk result (λ cell. cell.entries.items ≡ opening ∷ []) }
+
+    // What is answered, by the bytes that the disk has, where a crash leaves nothing else; and what a crash at any moment
+    // of it leaves.
+    ensures begins { (bytes : List ℕ) → HasOnly D.Disk bytes disk → IsBegun bytes (begun_by result) }
+    ensures any_moment { (bytes : List ℕ) → HasOnly D.Disk bytes disk
+        → OfBuilt result (λ now. LeavesOnly D.moment D.left_since disk now (MayHaveBegun bytes)) }
+    ensures faults { OfBuilt result (λ now. IsFaultOfBegin (begun_by result) (D.known disk).faults (D.known now).faults) }
+    ensures arms { OfBuilt result (λ now. (D.known now).arms ≡ (D.known disk).arms) }
+{
+    let Ok((lines, ties, mut entries)) = open(alloc, scenario.clients.as_slice()) else {
+        return Err((disk, Unbegun::NoMemory));
+    };
+    let mut engine = match Engine::new(
+        alloc,
+        disk,
+        &scenario.catalog,
+        SiteId(0),
+        scenario.capacity,
+    ) {
+        Ok(engine) => engine,
+        Err(disk) => return Err((disk, Unbegun::NoMemory)),
+    };
+    if let Err(why) = engine.begin() {
+        return Err((engine.into_disk(), why));
+    }
+    entries.push_reserved(opening());
+    Ok(Cell {
+        engine,
+        entries,
+        lines,
+        ties,
+    })
+}
+
+// The first entry of each trail.
+fn opening() -> Entry
+    ensures { result ≡ opening }
+{
+    Entry {
+        stamp: 1,
+        event: TrailEvent::Restart,
+        outcome: Outcome::Taken,
+        kept: None,
+        wrote: Some(Record::Boot(1)),
+        flight: None,
+    }
+}
+
+// The connections of the clients, what ties them, and an empty trail with a place for the first entry.
+fn open(alloc: Global, clients: &[Client]) -> Mem<(Vec<Line>, Vec<Tie>, Vec<Entry>)>
+    ensures long { IfOk result (λ parts. length parts.0.items ≡ length clients.now) }
+    ensures lines { IfOk result (λ parts. AreUnread clients.now parts.0.items) }
+    ensures ties { IfOk result (λ parts. AreFree (length clients.now) parts.1.items) }
+    ensures entries { IfOk result (λ parts. parts.2.items ≡ []) }
+    ensures place { IfOk result (λ parts. 0 < vec_capacity parts.2) }
+{
+    let lines = open_lines(alloc, clients)?;
+    let ties = vec![in alloc; Tie::Free; clients.len()]?;
+    Ok((lines, ties, Vec::with_capacity(alloc, 1)?))
+}
+
+// The connections of the clients.
+fn open_lines(alloc: Global, clients: &[Client]) -> Mem<Vec<Line>>
+    ensures long { IfOk result (λ lines. length lines.items ≡ length clients.now) }
+    ensures lines { IfOk result (λ lines. AreUnread clients.now lines.items) }
+{
+    let mut lines = Vec::new(alloc);
+    for client in clients {
+        lines.push(open_line(alloc, &client.bytes)?)?;
+    }
+    Ok(lines)
+}

@@ -1,0 +1,11 @@
+//! A cell: a site over its disk with its trail and the connections of its clients, which outlive a stop.
+#![tactic(auto)]
+
+mod building;
+mod cell;
+mod handling;
+mod line;
+mod tie;
+
+pub use building::build;
+pub use cell::{Acted, Cell, Serve};
