@@ -30,7 +30,7 @@ use Rattle.walter_engine.specs.declared.answers.Restarted.TheVariants as restart
 use Rattle.walter_engine.specs.declared.engine.State.{State}
 use Rattle.walter_engine.specs.declared.engine.State.TheVariants.{Up, Down}
 use Rattle.walter_engine.specs.declared.engine.Tally.{Tally}
-use Rattle.walter_engine.specs.declared.restarting.Raised.{Raised}
+use Rattle.walter_engine.specs.declared.restarting.AfterRestart.{AfterRestart}
 use Rattle.walter_engine.specs.Contents.{AreJournaled, CanBeJournaled}
 use Rattle.walter_engine.specs.Engines.{IsResting, IsTallied}
 use Rattle.walter_engine.specs.Raises.{Boots, IsDown, IsCounted}
@@ -75,20 +75,21 @@ boot_rule S = record { wrote = Some (Boot (S.knows.epoch + 1)); outcome = Taken 
 rule_down : (catalog : Catalog) (i : SiteId) (S : Standing) → S.up ≡ false → rule catalog i S Restart ≡ boot_rule S
 rule_down catalog i S down = ap (λ (up : Bool). if up then record { wrote = None; outcome = Passed } else boot_rule S) down
 
-raised_is : {D : Type 0} {g : Ghosts D} (result : Raised D g) (state : State D g) (answer : Restarted) (tally : Tally) → result.state ≡ state → result.answer ≡ answer → result.tally ≡ tally
+raised_is : {D : Type 0} {g : Ghosts D} (result : AfterRestart D g) (state : State D g) (answer : Restarted) (tally : Tally) → result.state ≡ state → result.answer ≡ answer → result.tally ≡ tally
     → record { state = state; answer = answer; tally = tally } ≡ result
 raised_is result state answer tally is_state is_answer is_tally = sym (λ j. record { state = is_state j; answer = is_answer j; tally = is_tally j })
 
 -- where memory ran out, the site stands as before
 pub boots_no_memory : {D : Type 0} {g : Ghosts D} (catalog : Catalog) (capacity : ℕ) (i : SiteId) (S : Standing) (tally : Tally) → AreJournaled catalog i S → IsTallied tally S → (disk : D) → IsResting g S disk → (kept : Option Record)
-    (result : Raised D g) → result.state ≡ Down disk → result.answer ≡ restarted.NoMemory kept → result.tally ≡ tally → Boots catalog capacity i S result
+    (result : AfterRestart D g) → result.state ≡ Down disk → result.answer ≡ restarted.NoMemory kept → result.tally ≡ tally → Boots catalog capacity i S result
 boots_no_memory {D} {g} catalog capacity i S tally all is_tallied disk resting kept result is_state is_answer is_tally =
     let down = resting.down in
-    subst (λ (r : Raised D g). Boots catalog capacity i S r) (raised_is result _ _ _ is_state is_answer is_tally) (record {
+    subst (λ (r : AfterRestart D g). Boots catalog capacity i S r) (raised_is result _ _ _ is_state is_answer is_tally) (record {
       comes = inr (Comes.no_memory (subst (λ up. TakesMemory up Restart) (sym down) tt) refl);
       left = resting;
       journaled = journaled_same catalog i S (stands_after i S Restart (only Memory)) all refl refl all.in_flight (λ up. cc);
       tallied = is_tallied;
+      takes_none = λ last. tt;
     })
 
 module _ {D : Type 0} {g : Ghosts D} (catalog : Catalog) (i : SiteId) (S : Standing) (tally : Tally) (down : IsDown S) (all : AreJournaled catalog i S) (counted : IsCounted tally S) (journal : Journal D g)
@@ -100,6 +101,10 @@ module _ {D : Type 0} {g : Ghosts D} (catalog : Catalog) (i : SiteId) (S : Stand
   can : CanBeJournaled catalog i S (Boot epoch)
   can = record { spelled = record { among = tt; sizes = tt; ranges = low }; follows = next }
 
+  -- there was an epoch to take
+  not_last : S.knows.epoch ≡ 4294967295 → ⊥
+  not_last last = omega (arith, last, next, low)
+
   -- its record is stable
   pub boots_up : (site : Site) (new : Journal D g) (count : ℕ) → known site ≡ recorded i (Some (Boot epoch)) S.knows → count ≡ tally.records + 1 → Appends journal new body
       → Boots catalog capacity i S (record { state = Up site new; answer = restarted.Up kept (Boot epoch); tally = record { records = count; in_flight = false } })
@@ -108,7 +113,7 @@ module _ {D : Type 0} {g : Ghosts D} (catalog : Catalog) (i : SiteId) (S : Stand
       let came : Came = record { wrote = Some (Boot epoch); outcome = Taken; flight = None } in
       let T = stands_after i S Restart came in
       let room : FitsIn (capacity_of journal) S (Boot epoch) = fits catalog.sites S journal all.spelled stands (Boot epoch) tt appends.fits in
-      let r : Raised D g = record { state = Up site new; answer = restarted.Up kept (Boot epoch); tally = record { records = count; in_flight = false } } in
+      let r : AfterRestart D g = record { state = Up site new; answer = restarted.Up kept (Boot epoch); tally = record { records = count; in_flight = false } } in
       subst (λ capacity. Boots catalog capacity i S r) capacity_is (record {
         comes = inr (Comes.ruled (subst (λ w. IfSome w (FitsIn (capacity_of journal) S)) (sym wrote_is) room)
             (ap (λ n. record { wrote = Some (Boot n); outcome = Taken; flight = None }) next ∙ sym (ap as_ruled (rule_down catalog i S down.down))));
@@ -120,27 +125,29 @@ module _ {D : Type 0} {g : Ghosts D} (catalog : Catalog) (i : SiteId) (S : Stand
         };
         journaled = journaled_more catalog i S T (Boot epoch) all can refl (lost_after i S.knows Restart Taken (Some (Boot epoch))) refl (λ up. omega (arith, next));
         tallied = tallied _ T (record { count = omega (arith, is_count, counted.count, length-append S.records (Boot epoch ∷ [])); flight = refl });
+        takes_none = λ last. absurd (not_last last);
       })
 
   -- it met a fault of the disk
   pub boots_failed : SizeIs g → CountsNow g → (new : Journal D g) → body_need body ≤ left_of journal → Fails (g.known (disk_of journal)) (g.known (disk_of new))
       → LeavesOnly g.moment g.left_since (disk_of journal) (disk_of new) (IsBeforeOrBehind (map record_spelled S.records) body)
-      → (result : Raised D g) → result.state ≡ Down (disk_of new) → result.answer ≡ restarted.Failed kept (Some (Boot epoch)) → result.tally ≡ record { records = tally.records; in_flight = true }
+      → (result : AfterRestart D g) → result.state ≡ Down (disk_of new) → result.answer ≡ restarted.Failed kept (Some (Boot epoch)) → result.tally ≡ record { records = tally.records; in_flight = true }
       → Boots catalog capacity i S result
   boots_failed size_is counts_now new has_room fails leaves result is_state is_answer is_tally =
       let T = stands_after i S Restart (record { wrote = None; outcome = Failed; flight = Some (Boot epoch) }) in
       let enough = subst (λ b. body_need b ≤ left_of journal) body_is has_room in
       let run = subst (λ b. LeavesOnly g.moment g.left_since (disk_of journal) (disk_of new) (IsBeforeOrBehind (map record_spelled S.records) b)) body_is leaves in
-      subst (λ capacity. Boots catalog capacity i S result) capacity_is (subst (λ (r : Raised D g). Boots catalog (capacity_of journal) i S r) (raised_is result _ _ _ is_state is_answer is_tally) (record {
+      subst (λ capacity. Boots catalog capacity i S result) capacity_is (subst (λ (r : AfterRestart D g). Boots catalog (capacity_of journal) i S r) (raised_is result _ _ _ is_state is_answer is_tally) (record {
         comes = inr (Comes.met_fault (Boot epoch) wrote_is (fits catalog.sites S journal all.spelled stands (Boot epoch) tt enough) refl);
         left = rests_failed g size_is counts_now S.records (Boot epoch) T journal new stands fails run refl refl refl refl;
         journaled = journaled_same catalog i S T all refl refl (record { spelled = can.spelled; follows = next }) (λ up. cc);
         tallied = tallied _ T (record { count = counted.count; flight = refl });
+        takes_none = λ last. absurd (not_last last);
       }))
 
   -- it found no place
   pub boots_full : SizeIs g → (new : Journal D g) (need left : ℕ) → left_of journal < body_need body → need ≡ body_need body → left ≡ left_of journal → new ≡ journal
-      → (result : Raised D g) → result.state ≡ Down (disk_of new) → result.answer ≡ restarted.Full kept need left → result.tally ≡ record { records = tally.records; in_flight = false }
+      → (result : AfterRestart D g) → result.state ≡ Down (disk_of new) → result.answer ≡ restarted.Full kept need left → result.tally ≡ record { records = tally.records; in_flight = false }
       → Boots catalog capacity i S result
   boots_full size_is new need left too_much needs is_left is_new result is_state is_answer is_tally =
       let T = stands_after i S Restart (only (Full need left)) in
@@ -148,9 +155,10 @@ module _ {D : Type 0} {g : Ghosts D} (catalog : Catalog) (i : SiteId) (S : Stand
       let is_need : need ≡ body_need (record_spelled (Boot epoch)) = needs ∙ ap body_need body_is in
       let need_same : need ≡ need_of (Boot epoch) = is_need ∙ need_is (Boot epoch) tt in
       let left_same : left ≡ left_behind (capacity_of journal) S.records = is_left ∙ left_is catalog.sites S journal all.spelled stands in
-      subst (λ capacity. Boots catalog capacity i S result) capacity_is (subst (λ (r : Raised D g). Boots catalog (capacity_of journal) i S r) (raised_is result _ _ _ (is_state ∙ ap (λ (j : Journal D g). Down (disk_of j)) is_new) is_answer is_tally) (record {
+      subst (λ capacity. Boots catalog capacity i S result) capacity_is (subst (λ (r : AfterRestart D g). Boots catalog (capacity_of journal) i S r) (raised_is result _ _ _ (is_state ∙ ap (λ (j : Journal D g). Down (disk_of j)) is_new) is_answer is_tally) (record {
         comes = inr (Comes.full (Boot epoch) wrote_is (much catalog.sites S journal all.spelled stands (Boot epoch) tt less) (λ j. only (Full (need_same j) (left_same j))));
         left = rests_under g size_is T journal down.down down.rests stands;
         journaled = journaled_same catalog i S T all refl refl tt (λ up. cc);
         tallied = tallied _ T (record { count = counted.count; flight = refl });
+        takes_none = λ last. absurd (not_last last);
       }))

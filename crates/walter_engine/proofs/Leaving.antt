@@ -24,8 +24,8 @@ use Rattle.walter_trail.specs.Rule.{rule, call_rule}
 use Rattle.walter_trail.specs.Standing.{Standing}
 use Rattle.walter_trail.specs.Trails.{need_of, left_behind}
 use Rattle.walter_engine.specs.declared.answers.Stepped.TheVariants.{Done, Failed, Full}
-use Rattle.walter_engine.specs.declared.stepping.Staged.{Staged}
-use Rattle.walter_engine.specs.Advances.{IsSameJournal, IsStaged, Advances}
+use Rattle.walter_engine.specs.declared.stepping.StagedRecord.{StagedRecord}
+use Rattle.walter_engine.specs.Advances.{IsSameJournal, IsStagedRecord, Advances}
 use Rattle.walter_engine.specs.Contents.{MayHaveRecords, AreJournaled}
 use Rattle.walter_engine.specs.Engines.{IsRunning}
 use Rattle.walter_engine.proofs.Advancing.{brings, answered_up, answered_knows, answered_comes, wrote_journaled, flew_comes, flew_up, flew_rests, flew_journaled, full_comes}
@@ -43,8 +43,8 @@ module _ {D : Type 0} {g : Ghosts D} (catalog : Catalog) (i : SiteId) (S : Stand
   stands_mid = same.stands (map record_spelled S.records) running.stands
 
   -- with a record, which was staged
-  module _ (input : Input) (rec : Record) (reply : Reply) (count : ℕ) (s : Staged) (nothing : S.gone (client_of input) ≡ None) (planned : IsPlanned catalog i (known site) input (Some rec) reply)
-      (staged : IsStaged mid count rec s) (among : IsRecordAmong catalog.sites rec) (follows : 0 < (known site).epoch → CanFollow catalog i (known site) rec) where
+  module _ (input : Input) (rec : Record) (reply : Reply) (count : ℕ) (s : StagedRecord) (nothing : S.gone (client_of input) ≡ None) (planned : IsPlanned catalog i (known site) input (Some rec) reply)
+      (staged : IsStagedRecord mid count rec s) (among : IsRecordAmong catalog.sites rec) (follows : 0 < (known site).epoch → CanFollow catalog i (known site) rec) where
     fits_in : body_need s.body ≤ left_of mid → need_of rec ≤ left_behind (capacity_of old) S.records
     fits_in enough =
         subst (λ (c : ℕ). need_of rec ≤ left_behind c S.records) same.capacity

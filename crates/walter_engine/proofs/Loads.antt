@@ -28,7 +28,7 @@ use Rattle.walter_engine.specs.declared.engine.Engine.{Engine}
 use Rattle.walter_engine.specs.declared.engine.State.{State}
 use Rattle.walter_engine.specs.declared.engine.State.TheVariants.{Up, Down}
 use Rattle.walter_engine.specs.declared.engine.Tally.{Tally}
-use Rattle.walter_engine.specs.declared.restarting.Raised.{Raised}
+use Rattle.walter_engine.specs.declared.restarting.AfterRestart.{AfterRestart}
 use Rattle.walter_engine.specs.Contents.{AreJournaled, CanBeJournaled, MayHaveRecords, MayHaveBoot}
 use Rattle.walter_engine.specs.Engines.{disk_in, OfDisk, OfDisks, IsInState, IsResting, IsTallied}
 use Rattle.walter_engine.specs.Raises.{Raises, IsFoundIn, IsLast}
@@ -86,12 +86,12 @@ module _ {D : Type 0} {g : Ghosts D} where
   of_state catalog i capacity (Down disk) of = tt
 
   -- an engine behind a restart
-  pub restarts_raised : (engine : Engine D g) (S : Standing) (raised found : Raised D g) → raised ≡ found → Some raised.state ≡ engine.state → raised.tally ≡ engine.tally
+  pub restarts_raised : (engine : Engine D g) (S : Standing) (raised found : AfterRestart D g) → raised ≡ found → Some raised.state ≡ engine.state → raised.tally ≡ engine.tally
       → IsOf engine.catalog engine.site engine.capacity found.state → Raises engine.catalog engine.capacity engine.site S found
       → Restarts engine.catalog engine.capacity engine.site S raised.answer engine
   restarts_raised engine S raised found same state tally of_found found_raises =
-      let of = subst (λ (r : Raised D g). IsOf engine.catalog engine.site engine.capacity r.state) (sym same) of_found in
-      let raises = subst (λ (r : Raised D g). Raises engine.catalog engine.capacity engine.site S r) (sym same) found_raises in
+      let of = subst (λ (r : AfterRestart D g). IsOf engine.catalog engine.site engine.capacity r.state) (sym same) of_found in
+      let raises = subst (λ (r : AfterRestart D g). Raises engine.catalog engine.capacity engine.site S r) (sym same) found_raises in
       let T = stands_after engine.site (settled engine.site (kept_of raised.answer) S) Restart (came_of_restart raised.answer) in
       record {
         found = raises.found;
@@ -103,11 +103,12 @@ module _ {D : Type 0} {g : Ghosts D} where
           tallied = subst (λ t. IsTallied t T) tally raises.boots.tallied;
         };
         last = λ kept why is. subst (λ (a : Restarted). IfRefused a (IsLast (settled engine.site (kept_of a) S).knows)) is raises.last;
+        takes_none = raises.boots.takes_none;
       }
 
   -- what a journal that was loaded has
   pub raises_loaded : OneContent → (catalog : Catalog) (capacity : ℕ) (i : SiteId) (S : Standing) (disk : D) (journal : Journal D g) (bodies slice : List (List ℕ)) → IsResting g S disk
-      → IsImage (g.known (disk_of journal)).reads (g.may_leave disk) → StandsFor journal bodies → slice ≡ bodies → capacity_of journal ≡ capacity → (result : Raised D g)
+      → IsImage (g.known (disk_of journal)).reads (g.may_leave disk) → StandsFor journal bodies → slice ≡ bodies → capacity_of journal ≡ capacity → (result : AfterRestart D g)
       → (IsFoundIn S slice → StandsFor journal slice → Raises catalog (capacity_of journal) i S result) → Raises catalog capacity i S result
   raises_loaded one catalog capacity i S disk journal bodies slice resting image stands same is_capacity result raises =
       let has = resting.images stands.bytes (subst (λ reads. IsImage reads (g.may_leave disk)) stands.told image) in
@@ -140,6 +141,7 @@ module _ {D : Type 0} {g : Ghosts D} (size_is : SizeIs g) (counts_now : CountsNo
               (if_some (CanBeJournaled catalog i S) (CanBeJournaled catalog i T) S.flight (λ rec can. record { spelled = can.spelled; follows = follows_lost catalog i S.knows rec can.follows }) all.in_flight)
               (λ up. cc);
           tallied = record { in_flight = is_tallied.in_flight; count = ⊎_elim (λ up. absurd (cc)) (λ flies. is_tallied.count (inr flies)) };
+          takes_none = λ last. tt;
         };
         last = tt;
       }
@@ -171,7 +173,7 @@ refused_unloaded catalog i fault.NoMemory images old new cause = always _ new.re
 module _ {D : Type 0} {g : Ghosts D} where
   -- one that was
   pub refused_loaded : (catalog : Catalog) (i : SiteId) (disk : D) (journal : Journal D g) (bodies slice : List (List ℕ)) → (IsSome (g.known disk).reads → StandsFor journal bodies) → slice ≡ bodies
-      → is_some (g.known (disk_of journal)).reads ≡ is_some (g.known disk).reads → (result : Raised D g)
+      → is_some (g.known (disk_of journal)).reads ≡ is_some (g.known disk).reads → (result : AfterRestart D g)
       → IfRefused result.answer (λ why. IsRefusedOver catalog i slice why × (disk_of_state result.state ≡ disk_of journal))
       → IfSome (g.known (disk_of_state result.state)).reads (λ bytes. IfRefused result.answer (IsRefusedFor catalog i bytes))
   refused_loaded catalog i disk journal bodies slice loaded same tells result over = at (g.known (disk_of_state result.state)).reads refl
@@ -187,19 +189,19 @@ module _ {D : Type 0} {g : Ghosts D} where
           refused_for catalog i bytes bodies why (subst (λ b. HasContent b bodies) same_bytes stands.content) (subst (λ b. IsRefusedOver catalog i b why) same cause.0)) over
 
   -- what is so of what was raised is so of the engine
-  pub refused_raised : (catalog : Catalog) (i : SiteId) (new : Engine D g) (raised found : Raised D g) → raised ≡ found → Some raised.state ≡ new.state
+  pub refused_raised : (catalog : Catalog) (i : SiteId) (new : Engine D g) (raised found : AfterRestart D g) → raised ≡ found → Some raised.state ≡ new.state
       → IfSome (g.known (disk_of_state found.state)).reads (λ bytes. IfRefused found.answer (IsRefusedFor catalog i bytes))
       → OfDisk new (λ disk. IfSome (g.known disk).reads (λ bytes. IfRefused raised.answer (IsRefusedFor catalog i bytes)))
   refused_raised catalog i new raised found same now is =
       subst (λ (s : Option (State D g)). IfSome (disk_under s) (λ disk. IfSome (g.known disk).reads (λ bytes. IfRefused raised.answer (IsRefusedFor catalog i bytes)))) now
-      (subst (λ (r : Raised D g). IfSome (g.known (disk_of_state r.state)).reads (λ bytes. IfRefused r.answer (IsRefusedFor catalog i bytes))) (sym same) is)
+      (subst (λ (r : AfterRestart D g). IfSome (g.known (disk_of_state r.state)).reads (λ bytes. IfRefused r.answer (IsRefusedFor catalog i bytes))) (sym same) is)
 
-  pub leaves_raised : (i : SiteId) (S : Standing) (old new : Engine D g) (state : State D g) (disk : D) (raised found : Raised D g) → old.state ≡ Some state → disk ≡ disk_of_state state
+  pub leaves_raised : (i : SiteId) (S : Standing) (old new : Engine D g) (state : State D g) (disk : D) (raised found : AfterRestart D g) → old.state ≡ Some state → disk ≡ disk_of_state state
       → raised ≡ found → Some raised.state ≡ new.state → LeavesOnly g.moment g.left_since disk (disk_of_state found.state) (MayHaveBoot i S (kept_of found.answer))
       → OfDisks old new (λ before after. LeavesOnly g.moment g.left_since before after (MayHaveBoot i S (kept_of raised.answer)))
   leaves_raised i S old new state disk raised found was is_disk same now run =
       let P : Option D → Option D → Type 0 = λ before after. IfSome before (λ b. IfSome after (λ a. LeavesOnly g.moment g.left_since b a (MayHaveBoot i S (kept_of raised.answer)))) in
-      let here = subst (λ (r : Raised D g). LeavesOnly g.moment g.left_since disk (disk_of_state r.state) (MayHaveBoot i S (kept_of r.answer))) (sym same) run in
+      let here = subst (λ (r : AfterRestart D g). LeavesOnly g.moment g.left_since disk (disk_of_state r.state) (MayHaveBoot i S (kept_of r.answer))) (sym same) run in
       subst (λ (s : Option (State D g)). P (disk_under s) (disk_in new)) (sym was)
       (subst (λ (s : Option (State D g)). P (Some (disk_of_state state)) (disk_under s)) now
       (subst (λ (d : D). P (Some d) (Some (disk_of_state raised.state))) is_disk here))
@@ -210,7 +212,7 @@ module _ {D : Type 0} {g : Ghosts D} where
       weaker g.moment g.left_since old new (g.may_leave old) (MayHaveBoot i S kept) (λ image left. inl (resting.images image left)) load
 
   pub leaves_loaded : OneContent → (i : SiteId) (S : Standing) (disk : D) (journal : Journal D g) (bodies slice : List (List ℕ)) → IsResting g S disk
-      → IsImage (g.known (disk_of journal)).reads (g.may_leave disk) → StandsFor journal bodies → slice ≡ bodies → LeavesOnly g.moment g.left_since disk (disk_of journal) (g.may_leave disk) → (result : Raised D g)
+      → IsImage (g.known (disk_of journal)).reads (g.may_leave disk) → StandsFor journal bodies → slice ≡ bodies → LeavesOnly g.moment g.left_since disk (disk_of journal) (g.may_leave disk) → (result : AfterRestart D g)
       → (IsFoundIn S slice → StandsFor journal slice → LeavesOnly g.moment g.left_since (disk_of journal) (disk_of_state result.state) (MayHaveBoot i S (kept_of result.answer)))
       → LeavesOnly g.moment g.left_since disk (disk_of_state result.state) (MayHaveBoot i S (kept_of result.answer))
   leaves_loaded one i S disk journal bodies slice resting image stands same load result raise =

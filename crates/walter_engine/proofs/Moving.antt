@@ -89,13 +89,13 @@ module _ {D : Type 0} {g : Ghosts D} (site : Site) (old : Journal D g) (input : 
     (crash : (S : Standing) → IsRunning S site old → AreJournaled (catalog_of site) (site_of site) S → S.gone (client_of input) ≡ None
     → LeavesOnly g.moment g.left_since (disk_of old) (disk_of new) (MayHaveRecords S.records (rule (catalog_of site) (site_of site) S (event_of input)).wrote))
     (kept_site : site_of now ≡ site_of site) (kept_catalog : catalog_of now ≡ catalog_of site) (kept_capacity : capacity_of new ≡ capacity_of old) where
-  abbrev Moved : Catalog → ℕ → SiteId → Standing → Type 0
-  Moved catalog capacity i S =
+  abbrev MovesTo : Catalog → ℕ → SiteId → Standing → Type 0
+  MovesTo catalog capacity i S =
       Moves catalog capacity i S (event_of input) (disk_of old)
       (record { state = state_after result now new; stepped = result; tally = record { records = count_after tally.records result; in_flight = flight_left result } })
 
   of_its_own : (S : Standing) → IsRunning S site old → AreJournaled (catalog_of site) (site_of site) S → IsCounted tally S → S.gone (client_of input) ≡ None
-      → Moved (catalog_of site) (capacity_of old) (site_of site) S
+      → MovesTo (catalog_of site) (capacity_of old) (site_of site) S
   of_its_own S running J counted nothing =
       let a = advances S running J nothing in
       record {
@@ -112,12 +112,12 @@ module _ {D : Type 0} {g : Ghosts D} (site : Site) (old : Journal D g) (input : 
       }
 
   pub moved : (catalog : Catalog) (capacity : ℕ) (i : SiteId) (S : Standing) → IsOf catalog i capacity (Up site old) → IsRunning S site old → AreJournaled catalog i S → IsCounted tally S
-      → S.gone (client_of input) ≡ None → Moved catalog capacity i S
+      → S.gone (client_of input) ≡ None → MovesTo catalog capacity i S
   moved catalog capacity i S of running J counted nothing =
       let here = subst (λ (c : Catalog). AreJournaled c (site_of site) S) (sym of.1) (subst (λ (k : SiteId). AreJournaled catalog k S) (sym of.0) J) in
-      subst (λ (k : ℕ). Moved catalog k i S) of.2
-      (subst (λ (c : Catalog). Moved c (capacity_of old) i S) of.1
-      (subst (λ (k : SiteId). Moved (catalog_of site) (capacity_of old) k S) of.0 (of_its_own S running here counted nothing)))
+      subst (λ (k : ℕ). MovesTo catalog k i S) of.2
+      (subst (λ (c : Catalog). MovesTo c (capacity_of old) i S) of.1
+      (subst (λ (k : SiteId). MovesTo (catalog_of site) (capacity_of old) k S) of.0 (of_its_own S running here counted nothing)))
 
 -- a step that didn't fail leaves the site up
 pub not_failed : {D : Type 0} {g : Ghosts D} (result : Stepped) (now : Site) (new : Journal D g) → ((rec : Record) → result ≡ Failed rec → ⊥) → state_after result now new ≡ Up now new

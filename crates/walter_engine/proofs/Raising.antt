@@ -25,7 +25,7 @@ use Rattle.walter_engine.specs.declared.answers.Restarted.{Restarted}
 use Rattle.walter_engine.specs.declared.answers.Restarted.TheVariants as restarted
 use Rattle.walter_engine.specs.declared.engine.State.TheVariants.{Down}
 use Rattle.walter_engine.specs.declared.engine.Tally.{Tally}
-use Rattle.walter_engine.specs.declared.restarting.Raised.{Raised}
+use Rattle.walter_engine.specs.declared.restarting.AfterRestart.{AfterRestart}
 use Rattle.walter_engine.specs.Contents.{AreJournaled, CanBeJournaled, MayHaveRecords, MayHaveBoot}
 use Rattle.walter_engine.specs.Engines.{IsResting}
 use Rattle.walter_engine.specs.Raises.{Boots, Raises, IsDown, IsCounted, IsFoundIn, IsLast}
@@ -114,7 +114,7 @@ module _ {D : Type 0} {g : Ghosts D} (size_is : SizeIs g) (S : Standing) (bodies
 
 -- where memory ran out
 pub raises_no_memory : {D : Type 0} {g : Ghosts D} (size_is : SizeIs g) (catalog : Catalog) (capacity : ℕ) (i : SiteId) (S : Standing) (tally : Tally) (bodies : List (List ℕ)) → IsDown S → AreJournaled catalog i S → IsCounted tally S
-    → IsFoundIn S bodies → (journal : Journal D g) → StandsFor journal bodies → (result : Raised D g) → result.state ≡ Down (disk_of journal) → result.answer ≡ restarted.NoMemory None → result.tally ≡ tally → Raises catalog capacity i S result
+    → IsFoundIn S bodies → (journal : Journal D g) → StandsFor journal bodies → (result : AfterRestart D g) → result.state ≡ Down (disk_of journal) → result.answer ≡ restarted.NoMemory None → result.tally ≡ tally → Raises catalog capacity i S result
 raises_no_memory {D} {g} size_is catalog capacity i S tally bodies down all counted found journal stands result is_state is_answer is_tally = record {
   found = subst (λ (kept : Option Record). IfSome kept (IsFound S Restart)) (sym (ap kept_of is_answer)) tt;
   boots = subst (λ kept. Boots catalog capacity i (settled i kept S) result) (sym (ap kept_of is_answer))
@@ -132,7 +132,7 @@ refused_so (restarted.NoMemory kept) P Q so is = tt
 
 -- a site that was booted
 module _ {D : Type 0} {g : Ghosts D} (catalog cat : Catalog) (capacity : ℕ) (i j : SiteId) (S : Standing) (tally : Tally) (K : Knowledge) (bodies : List (List ℕ)) (same_catalog : cat ≡ catalog) (same_site : j ≡ i)
-    (tells : Tells catalog i bodies K) (down : IsDown S) (all : AreJournaled catalog i S) (counted : IsCounted tally S) (found : IsFoundIn S bodies) (journal : Journal D g) (stands : StandsFor journal bodies) (result : Raised D g) (count : ℕ) (is_count : count ≡ length bodies) where
+    (tells : Tells catalog i bodies K) (down : IsDown S) (all : AreJournaled catalog i S) (counted : IsCounted tally S) (found : IsFoundIn S bodies) (journal : Journal D g) (stands : StandsFor journal bodies) (result : AfterRestart D g) (count : ℕ) (is_count : count ≡ length bodies) where
   abbrev WillBoot : Tally → Catalog → SiteId → Type 0
   WillBoot tally catalog i = (S : Standing) → IsDown S → K ≡ S.knows → AreJournaled catalog i S → IsCounted tally S → StandsFor journal (map record_spelled S.records) → Boots catalog capacity i S result
 
@@ -205,7 +205,7 @@ module _ {D : Type 0} {g : Ghosts D} (catalog cat : Catalog) (capacity : ℕ) (i
       left (Some behind.0) (kept_is ∙ is_last S.records behind.0 behind.2 can.spelled) behind.2 (knows_behind catalog i S all bodies K behind.0 down behind.1 behind.2 tells) run
 
 -- where it was not booted
-pub leaves_found : {D : Type 0} {g : Ghosts D} → OnlyNow g → (i : SiteId) (S : Standing) (bodies : List (List ℕ)) → IsFoundIn S bodies → (journal : Journal D g) → StandsFor journal bodies → (result : Raised D g)
+pub leaves_found : {D : Type 0} {g : Ghosts D} → OnlyNow g → (i : SiteId) (S : Standing) (bodies : List (List ℕ)) → IsFoundIn S bodies → (journal : Journal D g) → StandsFor journal bodies → (result : AfterRestart D g)
     → disk_of_state result.state ≡ disk_of journal
     → LeavesOnly g.moment g.left_since (disk_of journal) (disk_of_state result.state) (MayHaveBoot i S (kept_of result.answer))
 leaves_found {D} {g} only_now i S bodies found journal stands result is =

@@ -3,14 +3,14 @@ use Rattle.std.proofs.Common.{◌≡◌, ℕ, Option, Some, None, subst, refl}
 use Rattle.walter_base.specs.declared.message.Record.{Record}
 use Rattle.walter_disk.specs.declared.disk.Disk.{Ghosts}
 use Rattle.walter_journal.specs.declared.journal.Journal.{Journal}
-use Rattle.walter_engine.specs.declared.stepping.Staged.{Staged}
-use Rattle.walter_engine.specs.Advances.{IsStaged, AreStaged}
+use Rattle.walter_engine.specs.declared.stepping.StagedRecord.{StagedRecord}
+use Rattle.walter_engine.specs.Advances.{IsStagedRecord, IsStagedIfAny}
 
 -- the record that was staged
-pub staged_some : {D : Type 0} {g : Ghosts D} (journal : Journal D g) (count : ℕ) (rec : Option Record) (staged : Option Staged) (s : Staged)
-    → AreStaged journal count rec staged → staged ≡ Some s → (r : Record) × (rec ≡ Some r) × IsStaged journal count r s
-staged_some journal count rec staged s all is = at rec (subst (λ (o : Option Staged). AreStaged journal count rec o) is all)
+pub staged_some : {D : Type 0} {g : Ghosts D} (journal : Journal D g) (count : ℕ) (rec : Option Record) (staged : Option StagedRecord) (s : StagedRecord)
+    → IsStagedIfAny journal count rec staged → staged ≡ Some s → (r : Record) × (rec ≡ Some r) × IsStagedRecord journal count r s
+staged_some journal count rec staged s all is = at rec (subst (λ (o : Option StagedRecord). IsStagedIfAny journal count rec o) is all)
   where
-    at : (o : Option Record) → AreStaged journal count o (Some s) → (r : Record) × (o ≡ Some r) × IsStaged journal count r s
+    at : (o : Option Record) → IsStagedIfAny journal count o (Some s) → (r : Record) × (o ≡ Some r) × IsStagedRecord journal count r s
     at None a = absurd a
     at (Some r) a = (r, refl, a)

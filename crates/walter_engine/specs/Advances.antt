@@ -17,7 +17,7 @@ use Rattle.walter_trail.specs.Standing.{Standing, stands_after}
 use Rattle.walter_trail.specs.Trails.{Comes}
 use Rattle.walter_engine.specs.declared.answers.Stepped.{Stepped}
 use Rattle.walter_engine.specs.declared.answers.Stepped.TheVariants as stepped
-use Rattle.walter_engine.specs.declared.stepping.Staged.{Staged}
+use Rattle.walter_engine.specs.declared.stepping.StagedRecord.{StagedRecord}
 use Rattle.walter_engine.specs.Contents.{AreJournaled}
 use Rattle.walter_engine.specs.Engines.{IsRunning, IsResting}
 use Rattle.walter_engine.specs.Steps.{came_of_step}
@@ -31,7 +31,7 @@ pub record IsSameJournal {D : Type 0} {g : Ghosts D} (old new : Journal D g) : T
   pub any_moment : LeavesOnly g.moment g.left_since (disk_of old) (disk_of new) (g.may_leave (disk_of old))
 
 -- the record with its spelling, for which the journal has room
-pub record IsStaged {D : Type 0} {g : Ghosts D} (journal : Journal D g) (count : ℕ) (rec : Record) (s : Staged) : Type 0 where
+pub record IsStagedRecord {D : Type 0} {g : Ghosts D} (journal : Journal D g) (count : ℕ) (rec : Record) (s : StagedRecord) : Type 0 where
   pub rec_is : s.rec ≡ rec
   pub body_is : s.body ≡ record_spelled rec
   pub ranges : AreInRange rec
@@ -40,11 +40,11 @@ pub record IsStaged {D : Type 0} {g : Ghosts D} (journal : Journal D g) (count :
   pub room : HasRoom journal (length s.body)
 
 -- a record is staged exactly where there is one
-abbrev pub AreStaged : {D : Type 0} {g : Ghosts D} → Journal D g → ℕ → Option Record → Option Staged → Type 0
-AreStaged journal count None None = Unit {0}
-AreStaged journal count None (Some s) = ⊥
-AreStaged journal count (Some rec) None = ⊥
-AreStaged journal count (Some rec) (Some s) = IsStaged journal count rec s
+abbrev pub IsStagedIfAny : {D : Type 0} {g : Ghosts D} → Journal D g → ℕ → Option Record → Option StagedRecord → Type 0
+IsStagedIfAny journal count None None = Unit {0}
+IsStagedIfAny journal count None (Some s) = ⊥
+IsStagedIfAny journal count (Some rec) None = ⊥
+IsStagedIfAny journal count (Some rec) (Some s) = IsStagedRecord journal count rec s
 
 -- a reply whose copy may take memory
 abbrev pub TakesCopy : Reply → Type 0

@@ -8,7 +8,7 @@ use Rattle.walter_trail.specs.declared.trail.TrailEvent.{TrailEvent}
 use Rattle.walter_trail.specs.Rule.{rule}
 use Rattle.walter_trail.specs.Standing.{Standing, stands_after}
 use Rattle.walter_trail.specs.Trails.{Comes}
-use Rattle.walter_engine.specs.declared.stepping.Moved.{Moved}
+use Rattle.walter_engine.specs.declared.stepping.AfterStep.{AfterStep}
 use Rattle.walter_engine.specs.Contents.{MayHaveRecords, AreJournaled}
 use Rattle.walter_engine.specs.Engines.{IsInState}
 use Rattle.walter_engine.specs.Raises.{IsCounted}
@@ -16,7 +16,7 @@ use Rattle.walter_engine.specs.States.{IsOf, disk_of_state}
 use Rattle.walter_engine.specs.Steps.{came_of_step}
 
 -- it came to what it may, and the state, the records and their number are those behind it
-pub record Moves {D : Type 0} {g : Ghosts D} (catalog : Catalog) (capacity : ℕ) (i : SiteId) (S : Standing) (event : TrailEvent) (old : D) (result : Moved D g) : Type 0 where
+pub record Moves {D : Type 0} {g : Ghosts D} (catalog : Catalog) (capacity : ℕ) (i : SiteId) (S : Standing) (event : TrailEvent) (old : D) (result : AfterStep D g) : Type 0 where
   pub comes : Comes catalog capacity i S event (came_of_step event result.stepped)
   pub of : IsOf catalog i capacity result.state
   pub state : IsInState (stands_after i S event (came_of_step event result.stepped)) (Some result.state)

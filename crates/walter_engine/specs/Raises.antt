@@ -9,11 +9,11 @@ use Rattle.walter_engine.specs.declared.answers.RefusedRestart.TheVariants.{Last
 use Rattle.walter_engine.specs.declared.answers.Restarted.{Restarted}
 use Rattle.walter_engine.specs.declared.answers.Restarted.TheVariants.{Refused}
 use Rattle.walter_engine.specs.declared.engine.Tally.{Tally}
-use Rattle.walter_engine.specs.declared.restarting.Raised.{Raised}
+use Rattle.walter_engine.specs.declared.restarting.AfterRestart.{AfterRestart}
 use Rattle.walter_engine.specs.Contents.{AreJournaled}
 use Rattle.walter_engine.specs.Engines.{IsInState, IsTallied}
 use Rattle.walter_engine.specs.States.{disk_of_state}
-use Rattle.walter_engine.specs.Steps.{came_of_restart, kept_of, IfRefused, IsFaultOfRestart}
+use Rattle.walter_engine.specs.Steps.{came_of_restart, kept_of, IfRefused, TakesNoEpoch, IsFaultOfRestart}
 use Rattle.walter_record.specs.Spelling.{record_spelled}
 use Rattle.walter_trail.specs.declared.trail.TrailEvent.TheVariants.{Restart}
 use Rattle.walter_trail.specs.Knowledge.{Knowledge, lost}
@@ -43,20 +43,21 @@ abbrev pub IsLast : Knowledge → RefusedRestart → Type 0
 IsLast K why = (why ≡ LastEpoch) × (K.epoch ≡ 4294967295)
 
 -- a restart of a site that stood so, with this record found
-pub record Boots {D : Type 0} {g : Ghosts D} (catalog : Catalog) (capacity : ℕ) (i : SiteId) (S : Standing) (result : Raised D g) : Type 0 where
+pub record Boots {D : Type 0} {g : Ghosts D} (catalog : Catalog) (capacity : ℕ) (i : SiteId) (S : Standing) (result : AfterRestart D g) : Type 0 where
   pub comes : IsRefused result.answer ⊎ Comes catalog capacity i S Restart (came_of_restart result.answer)
   pub left : IsInState (stands_after i S Restart (came_of_restart result.answer)) (Some result.state)
   pub journaled : AreJournaled catalog i (stands_after i S Restart (came_of_restart result.answer))
   pub tallied : IsTallied result.tally (stands_after i S Restart (came_of_restart result.answer))
+  pub takes_none : S.knows.epoch ≡ 4294967295 → TakesNoEpoch result.answer
 
 -- a restart of a site that stood so
-pub record Raises {D : Type 0} {g : Ghosts D} (catalog : Catalog) (capacity : ℕ) (i : SiteId) (S : Standing) (result : Raised D g) : Type 0 where
+pub record Raises {D : Type 0} {g : Ghosts D} (catalog : Catalog) (capacity : ℕ) (i : SiteId) (S : Standing) (result : AfterRestart D g) : Type 0 where
   pub found : IfSome (kept_of result.answer) (IsFound S Restart)
   pub boots : Boots catalog capacity i (settled i (kept_of result.answer) S) result
   pub last : IfRefused result.answer (IsLast (settled i (kept_of result.answer) S).knows)
 
 -- what is told of the disk is told, its arms are as before, and its faults never fall
-pub record FromDisk {D : Type 0} {g : Ghosts D} (old : D) (result : Raised D g) : Type 0 where
+pub record FromDisk {D : Type 0} {g : Ghosts D} (old : D) (result : AfterRestart D g) : Type 0 where
   pub arms : (g.known (disk_of_state result.state)).arms ≡ (g.known old).arms
   pub tells : is_some (g.known (disk_of_state result.state)).reads ≡ is_some (g.known old).reads
   pub faults : IsFaultOfRestart result.answer (g.known old).faults (g.known (disk_of_state result.state)).faults

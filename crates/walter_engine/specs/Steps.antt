@@ -93,6 +93,15 @@ abbrev pub IfRefused : Restarted → (RefusedRestart → Type 0) → Type 0
 IfRefused (restarted.Refused kept why) P = P why
 IfRefused answer P = Unit {0}
 
+-- where a restart took no epoch: it is refused behind the last one, or didn't come so far
+abbrev pub TakesNoEpoch : Restarted → Type 0
+TakesNoEpoch (restarted.Up kept wrote) = ⊥
+TakesNoEpoch (restarted.Failed kept None) = Unit {0}
+TakesNoEpoch (restarted.Failed kept (Some flight)) = ⊥
+TakesNoEpoch (restarted.Full kept need left) = ⊥
+TakesNoEpoch (restarted.Refused kept why) = why ≡ LastEpoch
+TakesNoEpoch (restarted.NoMemory kept) = Unit {0}
+
 -- the disk's faults never fall, and a step that failed met one
 abbrev pub IsFaultOfStep : Stepped → ℕ → ℕ → Type 0
 IsFaultOfStep (Failed rec) old new = old < new

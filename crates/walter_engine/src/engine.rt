@@ -2,8 +2,8 @@ ghost use Rattle.std.specs.Prelude.{◌≡◌, ◌≢◌, ◌<◌, ◌≤◌, �
 
 use crate::answers::{Restarted, Stepped};
 use crate::arming::arm_state;
-use crate::restarting::{Raised, disk_of, raise, unloaded};
-use crate::stepping::{Moved, take};
+use crate::restarting::{AfterRestart, disk_of, raise, unloaded};
+use crate::stepping::{AfterStep, take};
 use std::alloc::Global;
 use std::mem;
 use walter_base::{Catalog, Mem, NoMemory, SiteId};
@@ -162,7 +162,7 @@ impl<D: Disk + Drop> Engine<D> {
         let Some(state) = mem::replace(&mut self.state, None) else {
             unreachable!()
         };
-        let Moved {
+        let AfterStep {
             state,
             stepped,
             tally,
@@ -176,6 +176,7 @@ impl<D: Disk + Drop> Engine<D> {
     pub fn stop(&mut self)
         ensures stands { (S : Standing) → Stands self.old S → S.up ≡ true
             → Stands self.new (stands_after (site_in self.old) S Stop (only Taken)) }
+        ensures rests { is_up self.old ≡ false → (S : Standing) → Stands self.old S → Stands self.new S }
         ensures down { is_up self.new ≡ false }
         ensures disk { disk_in self.new ≡ disk_in self.old }
         ensures engine { IsSameEngine self.old self.new }
@@ -188,6 +189,7 @@ impl<D: Disk + Drop> Engine<D> {
         ensures down { is_up self.new ≡ false }
         ensures disk { disk_in self.new ≡ disk_in self.old }
         ensures tally { self.new.tally ≡ self.old.tally }
+        ensures rests { is_up self.old ≡ false → (S : Standing) → Stands self.old S → Stands self.new S }
         ensures engine { IsSameEngine self.old self.new }
     {
         if let Some(state) = mem::replace(&mut self.state, None) {
@@ -217,7 +219,7 @@ impl<D: Disk + Drop> Engine<D> {
             unreachable!()
         };
         let disk = disk_of(state);
-        let Raised {
+        let AfterRestart {
             state,
             answer,
             tally,
@@ -227,7 +229,7 @@ impl<D: Disk + Drop> Engine<D> {
                 let tally = self.tally.over(bodies.len() as u64);
                 raise(self.alloc, &self.catalog, self.site, journal, bodies, tally)
             }
-            Err((disk, fault)) => Raised {
+            Err((disk, fault)) => AfterRestart {
                 state: State::Down(disk),
                 answer: unloaded(fault),
                 tally: self.tally,

@@ -10,12 +10,12 @@ ghost use Rattle.walter_engine.specs.Contents.{AreJournaled, MayHaveBoot};
 ghost use Rattle.walter_engine.specs.Raises.{Raises, Boots, IsDown, IsFoundIn, IsCounted, FromDisk};
 ghost use Rattle.walter_engine.specs.Restarts.{unloaded_by};
 ghost use Rattle.walter_engine.specs.States.{IsOf, disk_of_state};
-ghost use Rattle.walter_engine.specs.Steps.{IsSizedRestart, IsRefusedOver, IfRefused, kept_of};
+ghost use Rattle.walter_engine.specs.Steps.{IsSizedRestart, IsRefusedOver, IfRefused, TakesNoEpoch, kept_of};
 
 use crate::answers::{RefusedRestart, Restarted};
 use crate::engine::{State, Tally};
 use crate::replaying::{ReadFault, last_record, replay_all};
-use crate::stepping::{Staged, stage};
+use crate::stepping::{StagedRecord, stage};
 use std::alloc::Global;
 use walter_base::{Catalog, Record, SiteId};
 use walter_disk::Disk;
@@ -24,7 +24,7 @@ use walter_site::Site;
 
 /// What a restart leaves: the site or its disk, the answer, and what is known of the journal.
 #[derive(Drop)]
-pub(crate) struct Raised<D: Disk> {
+pub(crate) struct AfterRestart<D: Disk> {
     pub state: State<D>,
     pub answer: Restarted,
     pub tally: Tally,
@@ -39,7 +39,7 @@ pub(crate) fn raise<D: Disk>(
     journal: Journal<D>,
     bodies: &[Vec<u8>],
     tally: Tally,
-) -> Raised<D>
+) -> AfterRestart<D>
     requires here { id.0 < catalog.now.sites }
     requires most { catalog.now.sites ≤ 8 }
     ensures raises { (S : Standing) → IsDown S → AreJournaled catalog.now id S → IsCounted tally S
@@ -78,12 +78,12 @@ pub(crate) fn raise<D: Disk>(
 }
 
 // The site stays down.
-fn rest<D: Disk>(journal: Journal<D>, tally: Tally, answer: Restarted) -> Raised<D>
+fn rest<D: Disk>(journal: Journal<D>, tally: Tally, answer: Restarted) -> AfterRestart<D>
     ensures state { result.state ≡ State.Down (disk_of journal) }
     ensures answer { result.answer ≡ answer }
     ensures tally { result.tally ≡ tally }
 {
-    Raised {
+    AfterRestart {
         state: State::Down(journal.into_disk()),
         answer,
         tally,
@@ -97,7 +97,7 @@ fn boot<D: Disk>(
     mut journal: Journal<D>,
     tally: Tally,
     kept: Option<Record>,
-) -> Raised<D>
+) -> AfterRestart<D>
     requires sized { IfSome kept CanBeRecorded }
     ensures boots { (S : Standing) → IsDown S → known site ≡ S.knows → AreJournaled (catalog_of site) (site_of site) S → IsCounted tally S
         → StandsFor journal (map record_spelled S.records)
@@ -107,6 +107,7 @@ fn boot<D: Disk>(
     ensures any_moment { (bodies : List (List ℕ)) → StandsFor journal bodies
         → LeavesOnly D.moment D.left_since (disk_of journal) (disk_of_state result.state)
         (IsBeforeOrBehind bodies (record_spelled (Record.Boot ((known site).epoch + 1)))) }
+    ensures takes_none { (known site).epoch ≡ 4294967295 → TakesNoEpoch result.answer }
     ensures kept { kept_of result.answer ≡ kept }
     ensures sized { IsSizedRestart result.answer }
     ensures disk { FromDisk (disk_of journal) result }
@@ -117,14 +118,15 @@ fn boot<D: Disk>(
         return rest(journal, tally, Restarted::Refused { kept, why });
     };
     let rec = Record::Boot(epoch);
-    let Ok(Staged { body, count, .. }) = stage(alloc, &mut journal, tally.records, &rec) else {
+    let Ok(StagedRecord { body, count, .. }) = stage(alloc, &mut journal, tally.records, &rec)
+    else {
         return rest(journal, tally, Restarted::NoMemory { kept });
     };
     let Ok(()) = site.replay(Record::Boot(epoch)) else {
         return rest(journal, tally, Restarted::NoMemory { kept });
     };
     match journal.append(body.as_slice()) {
-        Ok(()) => Raised {
+        Ok(()) => AfterRestart {
             state: State::Up(site, journal),
             answer: Restarted::Up { kept, wrote: rec },
             tally: Tally {

@@ -14,7 +14,7 @@ ghost use Rattle.walter_engine.specs.Engines.{IsRunning, IsInState};
 ghost use Rattle.walter_engine.specs.Moves.{Moves};
 ghost use Rattle.walter_engine.specs.Raises.{IsCounted};
 ghost use Rattle.walter_engine.specs.States.{IsOf, is_up_state, disk_of_state};
-ghost use Rattle.walter_engine.specs.Advances.{IsSameJournal, IsStaged, AreStaged, TakesCopy, count_after, Advances};
+ghost use Rattle.walter_engine.specs.Advances.{IsSameJournal, IsStagedRecord, IsStagedIfAny, TakesCopy, count_after, Advances};
 ghost use Rattle.walter_engine.specs.Steps.{IsSizedStep, IsFaultOfStep};
 
 use crate::answers::Stepped;
@@ -27,7 +27,7 @@ use walter_site::{Input, Plan, Site};
 
 /// A record with its bytes, and the number of records that the journal will have then.
 #[derive(Drop)]
-pub(crate) struct Staged {
+pub(crate) struct StagedRecord {
     pub rec: Record,
     pub body: Bytes,
     pub count: u64,
@@ -35,22 +35,27 @@ pub(crate) struct Staged {
 
 /// A plan with a copy of its reply, and its record staged, where it has one.
 #[derive(Drop)]
-struct Ready {
+struct PreparedStep {
     plan: Plan,
     reply: Reply,
-    staged: Option<Staged>,
+    staged: Option<StagedRecord>,
 }
 
 /// What a step leaves: the site or its disk, the answer, and what is known of the journal.
 #[derive(Drop)]
-pub(crate) struct Moved<D: Disk> {
+pub(crate) struct AfterStep<D: Disk> {
     pub state: State<D>,
     pub stepped: Stepped,
     pub tally: Tally,
 }
 
 /// Gives a site in this state an input.
-pub(crate) fn take<D: Disk>(alloc: Global, state: State<D>, tally: Tally, input: &Input) -> Moved<D>
+pub(crate) fn take<D: Disk>(
+    alloc: Global,
+    state: State<D>,
+    tally: Tally,
+    input: &Input,
+) -> AfterStep<D>
     ensures down { is_up_state state ≡ false → (result.stepped ≡ Stepped.Down) × (result.state ≡ state) × (result.tally ≡ tally) }
     ensures up { is_up_state state ≡ true → result.stepped ≢ Stepped.Down }
     ensures moves { (catalog : Catalog) (capacity : ℕ) (i : SiteId) (S : Standing) → IsOf catalog i capacity state → IsInState S (Some state) → AreJournaled catalog i S → IsCounted tally S
@@ -64,7 +69,7 @@ pub(crate) fn take<D: Disk>(alloc: Global, state: State<D>, tally: Tally, input:
             let mut records = tally.records;
             let stepped = advance(alloc, &mut site, &mut journal, &mut records, input);
             if let Stepped::Failed { .. } = &stepped {
-                return Moved {
+                return AfterStep {
                     state: State::Down(journal.into_disk()),
                     stepped,
                     tally: Tally {
@@ -73,7 +78,7 @@ pub(crate) fn take<D: Disk>(alloc: Global, state: State<D>, tally: Tally, input:
                     },
                 };
             }
-            Moved {
+            AfterStep {
                 state: State::Up(site, journal),
                 stepped,
                 tally: Tally {
@@ -82,7 +87,7 @@ pub(crate) fn take<D: Disk>(alloc: Global, state: State<D>, tally: Tally, input:
                 },
             }
         }
-        State::Down(disk) => Moved {
+        State::Down(disk) => AfterStep {
             state: State::Down(disk),
             stepped: Stepped::Down,
             tally,
@@ -117,13 +122,13 @@ fn advance<D: Disk>(
     let Ok(ready) = prepare(alloc, site, journal, *count, input) else {
         return Stepped::NoMemory;
     };
-    let Ready {
+    let PreparedStep {
         plan,
         reply,
         staged,
     } = ready;
     let Some(
-        Staged {
+        StagedRecord {
             rec,
             body,
             count: next,
@@ -154,13 +159,13 @@ fn prepare<D: Disk>(
     journal: &mut Journal<D>,
     count: u64,
     input: &Input,
-) -> Mem<Ready>
+) -> Mem<PreparedStep>
     ensures plan { IfOk result (λ r. IsPlan (catalog_of site.old) (site_of site.old) (known site.old) input.now r.plan) }
     ensures room { IfOk result (λ r. HasRoom site.new r.plan) }
     ensures reply { IfOk result (λ r. r.reply ≡ r.plan.reply) }
     ensures short { IfOk result (λ r. IsShortReply r.reply) }
     ensures sure { IfOk result (λ r. (tid : Tid) → r.reply ≢ Reply.Unsure tid) }
-    ensures staged { IfOk result (λ r. AreStaged journal.new count r.plan.rec r.staged) }
+    ensures staged { IfOk result (λ r. IsStagedIfAny journal.new count r.plan.rec r.staged) }
     ensures follows { IfOk result (λ r. IfSome r.plan.rec (λ rec. 0 < (known site.old).epoch → CanFollow (catalog_of site.old) (site_of site.old) (known site.old) rec)) }
     ensures sizes { IfOk result (λ r. IfSome r.plan.rec (IsRecordAmong (catalog_of site.old).sites)) }
     ensures free { OnErr result (MayWant (call_of input.now)) }
@@ -172,7 +177,7 @@ fn prepare<D: Disk>(
     let plan = site.plan(input)?;
     let reply = copy_reply(&plan.reply)?;
     let staged = stage_if_any(alloc, journal, count, &plan.rec)?;
-    Ok(Ready {
+    Ok(PreparedStep {
         plan,
         reply,
         staged,
@@ -197,9 +202,9 @@ fn stage_if_any<D: Disk>(
     journal: &mut Journal<D>,
     count: u64,
     rec: &Option<Record>,
-) -> Mem<Option<Staged>>
+) -> Mem<Option<StagedRecord>>
     requires { IfSome rec.now CanBeRecorded }
-    ensures staged { IfOk result (AreStaged journal.new count rec.now) }
+    ensures staged { IfOk result (IsStagedIfAny journal.new count rec.now) }
     ensures free { OnErr result (is_some rec.now ≡ true) }
     ensures same { IsSameJournal journal.old journal.new }
 {
@@ -215,9 +220,9 @@ pub(crate) fn stage<D: Disk>(
     journal: &mut Journal<D>,
     count: u64,
     rec: &Record,
-) -> Mem<Staged>
+) -> Mem<StagedRecord>
     requires { CanBeRecorded rec.now }
-    ensures staged { IfOk result (IsStaged journal.new count rec.now) }
+    ensures staged { IfOk result (IsStagedRecord journal.new count rec.now) }
     ensures same { IsSameJournal journal.old journal.new }
 {
     // No memory holds so many records.
@@ -225,7 +230,7 @@ pub(crate) fn stage<D: Disk>(
     let body = walter_record::encode(alloc, rec)?;
     let rec = rec.clone()?;
     match journal.make_room(body.len() as u64) {
-        Ok(()) => Ok(Staged { rec, body, count }),
+        Ok(()) => Ok(StagedRecord { rec, body, count }),
         Err(_) => Err(NoMemory),
     }
 }

@@ -1,4 +1,5 @@
 mod Appending
+mod Beginning
 mod Gates
 mod Layouts
 mod Reading

@@ -1,7 +1,8 @@
-ghost use Rattle.std.specs.Prelude.{◌≡◌, ◌<◌, [], length, is_some, false, IsSome, IfSome, IfOk, IfErr, OnOk};
-ghost use Rattle.walter_disk.specs.Images.{IsDurable, IsImage, LeavesOnly};
+ghost use Rattle.std.specs.Prelude.{◌≡◌, ◌+◌, ◌<◌, ◌≤◌, ◌++◌, ◌∷◌, [], length, is_some, false, IsSome, IfSome, IfOk, IfErr, OnOk};
+ghost use Rattle.walter_disk.specs.Images.{Only, IsDurable, IsImage, LeavesOnly};
 ghost use Rattle.walter_journal.specs.Faults.{HasCause, IsDiskFault};
-ghost use Rattle.walter_journal.specs.Journals.{capacity_of, disk_behind, StandsFor};
+ghost use Rattle.walter_journal.specs.Journals.{end_of, capacity_of, calls_of_load, disk_behind, StandsFor};
+ghost use Rattle.walter_journal.specs.Layout.{header, end_behind};
 ghost use Rattle.walter_journal.specs.Steps.{IsReady, IsLeft};
 
 use crate::bodies::Bodies;
@@ -36,8 +37,10 @@ pub fn load<D: Disk>(
         → LeavesOnly D.moment D.left_since disk (disk_behind result) (λ image. length image ≤ 9) }
 
     // How many calls an arm counts: a write and a sync on a disk of no bytes, and one read on another.
-    ensures device { OnOk result (D.device_calls (disk_behind result) ≡ D.device_calls disk + calls_of_load (D.known disk).size) }
-    ensures at_most { D.device_calls (disk_behind result) ≤ D.device_calls disk + calls_of_load (D.known disk).size }
+    ensures device { OnOk result (D.device_calls (disk_behind result)
+        ≡ D.device_calls disk + calls_of_load (D.known disk).size) }
+    ensures at_most { D.device_calls (disk_behind result)
+        ≤ D.device_calls disk + calls_of_load (D.known disk).size }
 
     // Whatever it answers, the disk was not settled, or reads what a crash might have left.
     ensures settled { 0 < (D.known disk).size
@@ -78,6 +81,11 @@ fn begin<D: Disk>(alloc: Global, disk: &mut D) -> Result<(Bodies, u64), JournalF
         HasCause fault (D.may_leave disk.old) (D.known disk.old) (D.known disk.new)) }
     ensures arms { (D.known disk.new).arms ≡ (D.known disk.old).arms }
     ensures tells { is_some (D.known disk.new).reads ≡ is_some (D.known disk.old).reads }
+    ensures header { OnOk result (IfSome (D.known disk.new).reads (λ bytes. bytes ≡ header ++ 0 ∷ [])) }
+    ensures first { Only [] (D.may_leave disk.old)
+        → LeavesOnly D.moment D.left_since disk.old disk.new (λ image. length image ≤ 9) }
+    ensures device { OnOk result (D.device_calls disk.new ≡ D.device_calls disk.old + 2) }
+    ensures at_most { D.device_calls disk.new ≤ D.device_calls disk.old + 2 }
 {
     disk.reserve(EMPTY.len() as u64, 2)?;
     write_and_sync(disk, 0, &EMPTY)?;
@@ -97,6 +105,8 @@ fn resume<D: Disk>(alloc: Global, disk: &mut D) -> Result<(Bodies, u64), Journal
     ensures arms { (D.known disk.new).arms ≡ (D.known disk.old).arms }
     ensures tells { is_some (D.known disk.new).reads ≡ is_some (D.known disk.old).reads }
     ensures any_moment { LeavesOnly D.moment D.left_since disk.old disk.new (D.may_leave disk.old) }
+    ensures device { OnOk result (D.device_calls disk.new ≡ D.device_calls disk.old + 1) }
+    ensures at_most { D.device_calls disk.new ≤ D.device_calls disk.old + 1 }
 {
     let bytes = settle_and_read(alloc, disk)?;
     let (bodies, end) = bodies_of(alloc, &bytes)?;
@@ -117,6 +127,8 @@ fn settle_and_read<D: Disk>(alloc: Global, disk: &mut D) -> Result<Vec<u8>, Jour
     ensures arms { (D.known disk.new).arms ≡ (D.known disk.old).arms }
     ensures tells { is_some (D.known disk.new).reads ≡ is_some (D.known disk.old).reads }
     ensures any_moment { LeavesOnly D.moment D.left_since disk.old disk.new (D.may_leave disk.old) }
+    ensures device { OnOk result (D.device_calls disk.new ≡ D.device_calls disk.old + 1) }
+    ensures at_most { D.device_calls disk.new ≤ D.device_calls disk.old + 1 }
 {
     let size = disk.size();
     disk.reserve(size, 1)?;

@@ -1,4 +1,4 @@
-use Rattle.std.proofs.Common.{◌≡◌, ℕ, map, length, true, false, ap, sym, subst, arith}
+use Rattle.std.proofs.Common.{◌≡◌, ℕ, map, length, ap, sym, subst, arith}
 use Rattle.std.proofs.lemmas.List.{length-map}
 use Rattle.walter_journal.specs.Journals.{disk_of, capacity_of}
 use Rattle.walter_engine.specs.declared.answers.Restarted.{Restarted}

@@ -13,7 +13,7 @@ use Rattle.walter_trail.specs.Records.{CanFollow, IsRecordAmong}
 use Rattle.walter_trail.specs.Rule.{rule}
 use Rattle.walter_trail.specs.Standing.{Standing}
 use Rattle.walter_record.specs.Spelling.{record_spelled}
-use Rattle.walter_engine.specs.Advances.{IsStaged}
+use Rattle.walter_engine.specs.Advances.{IsStagedRecord}
 use Rattle.walter_engine.specs.Contents.{MayHaveRecords, AreJournaled}
 use Rattle.walter_engine.specs.Engines.{IsRunning}
 use Rattle.walter_engine.proofs.Leaving.{IsPlanned, wrote, filled, flew, crash_after}
@@ -30,7 +30,7 @@ append-requires-clause-short g c =
 
 -- behind the append of the record that was staged
 module _ (g : Over) (c : After-append g) where
-  found : (rec : Record) × (c.in-Ok.ready.plan.rec ≡ Some rec) × IsStaged c.prepare.new.journal c.args.count.now rec c.in-Some.field-0
+  found : (rec : Record) × (c.in-Ok.ready.plan.rec ≡ Some rec) × IsStagedRecord c.prepare.new.journal c.args.count.now rec c.in-Some.field-0
   found = staged_some c.prepare.new.journal c.args.count.now c.in-Ok.ready.plan.rec c.in-Ok.ready.staged c.in-Some.field-0 c.in-Ok.ensures.staged c.in-Some.is
 
   planned : IsPlanned (catalog_of c.args.site.now) (site_of c.args.site.now) (known c.args.site.now) c.args.input.now (Some found.0) c.in-Ok.ready.plan.reply
