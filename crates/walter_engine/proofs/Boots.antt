@@ -1,5 +1,5 @@
 -- What a restart leaves behind the record of the next epoch.
-use Rattle.std.proofs.Common.{◌≡◌, ℕ, ◌+◌, ◌^◌, ◌<◌, ◌≤◌, List, [], ◌∷◌, map, Bool, true, false, Option, Some, None, Result, Err, refl, ap, sym, ◌∙◌, subst, inl, inr, arith, if◌then◌else◌}
+use Rattle.std.proofs.Common.{◌≡◌, ℕ, ◌+◌, ◌^◌, ◌<◌, ◌≤◌, List, [], ◌∷◌, length, map, Bool, true, false, Option, Some, None, Result, Err, refl, ap, sym, ◌∙◌, subst, inl, inr, arith, if◌then◌else◌}
 use Rattle.std.specs.Prelude.{IfSome, OnErr}
 use Rattle.std.proofs.lemmas.Bool.{cases_lt}
 use Rattle.std.proofs.lemmas.List.{length-append, map-append}
@@ -16,6 +16,7 @@ use Rattle.walter_journal.specs.Journals.{disk_of, capacity_of, left_of, need_of
 use Rattle.walter_journal.specs.Layout.{IsBeforeOrBehind}
 use Rattle.walter_disk.specs.Disks.{Fails}
 use Rattle.walter_record.specs.Spelling.{record_spelled}
+use Rattle.walter_record.proofs.Records.{length-record_spelled}
 use Rattle.walter_site.specs.declared.site.Site.{Site}
 use Rattle.walter_site.specs.Sites.{known}
 use Rattle.walter_trail.specs.declared.trail.Outcome.TheVariants.{Taken, Passed, Failed, Full, Memory}
@@ -31,6 +32,7 @@ use Rattle.walter_engine.specs.declared.engine.State.{State}
 use Rattle.walter_engine.specs.declared.engine.State.TheVariants.{Up, Down}
 use Rattle.walter_engine.specs.declared.engine.Tally.{Tally}
 use Rattle.walter_engine.specs.declared.restarting.AfterRestart.{AfterRestart}
+use Rattle.walter_engine.specs.Advances.{IsSameJournal}
 use Rattle.walter_engine.specs.Contents.{AreJournaled, CanBeJournaled}
 use Rattle.walter_engine.specs.Engines.{IsResting, IsTallied}
 use Rattle.walter_engine.specs.Raises.{Boots, IsDown, IsCounted}
@@ -67,6 +69,11 @@ module _ (result : Result (Unit {0}) AppendFault) (need left : ℕ) (Same Rest E
             let here = subst (λ r. OnErr r ((result ≡ Err append.Failed) × Rest × End)) is (failed enough) in
             (enough, here.1)
       ]
+
+-- a journal that is full has less than 10 bytes left, which a Boot needs
+pub boot_needs : {D : Type 0} {g : Ghosts D} (old mid : Journal D g) → IsSameJournal old mid → (body : List ℕ) (epoch : ℕ) → body ≡ record_spelled (Boot epoch) → left_of mid < body_need body → left_of old < 10
+boot_needs old mid same body epoch is less =
+    omega (arith, less, same.capacity, same.end, ap length is, length-record_spelled (Boot epoch) tt)
 
 -- a site that is down brings its next epoch
 abbrev boot_rule : Standing → Expected

@@ -3,6 +3,7 @@ pub mod Bodies
 pub mod Boots
 pub mod Calls
 pub mod Crashes
+pub mod Firsts
 pub mod Leaving
 pub mod Loads
 pub mod Moving

@@ -27,6 +27,7 @@ pub record IsSameJournal {D : Type 0} {g : Ghosts D} (old new : Journal D g) : T
   pub disk : g.known (disk_of new) ≡ g.known (disk_of old)
   pub capacity : capacity_of new ≡ capacity_of old
   pub end : end_of new ≡ end_of old
+  pub device : g.device_calls (disk_of new) ≡ g.device_calls (disk_of old)
   pub stands : (bodies : List (List ℕ)) → StandsFor old bodies → StandsFor new bodies
   pub any_moment : LeavesOnly g.moment g.left_since (disk_of old) (disk_of new) (g.may_leave (disk_of old))
 

@@ -7,3 +7,5 @@ pub mod Advances
 pub mod Raises
 pub mod Restarts
 pub mod Moves
+pub mod Begins
+pub mod Firsts

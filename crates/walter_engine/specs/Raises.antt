@@ -1,5 +1,5 @@
 -- What a restart leaves of a site that is down.
-use Rattle.std.specs.Prelude.{◌≡◌, ◌⊎◌, ℕ, false, List, [], ◌∷◌, ◌++◌, map, length, Option, Some, is_some, IfSome}
+use Rattle.std.specs.Prelude.{◌≡◌, ◌⊎◌, ◌+◌, ◌≤◌, ℕ, false, List, [], ◌∷◌, ◌++◌, map, length, Option, Some, is_some, IfSome}
 use Rattle.walter_base.specs.declared.catalog.Catalog.{Catalog}
 use Rattle.walter_base.specs.declared.message.Record.{Record}
 use Rattle.walter_base.specs.declared.names.SiteId.{SiteId}
@@ -13,7 +13,7 @@ use Rattle.walter_engine.specs.declared.restarting.AfterRestart.{AfterRestart}
 use Rattle.walter_engine.specs.Contents.{AreJournaled}
 use Rattle.walter_engine.specs.Engines.{IsInState, IsTallied}
 use Rattle.walter_engine.specs.States.{disk_of_state}
-use Rattle.walter_engine.specs.Steps.{came_of_restart, kept_of, IfRefused, TakesNoEpoch, IsFaultOfRestart}
+use Rattle.walter_engine.specs.Steps.{came_of_restart, kept_of, IfRefused, IfUp, TakesNoEpoch, IsFaultOfRestart}
 use Rattle.walter_record.specs.Spelling.{record_spelled}
 use Rattle.walter_trail.specs.declared.trail.TrailEvent.TheVariants.{Restart}
 use Rattle.walter_trail.specs.Knowledge.{Knowledge, lost}
@@ -56,8 +56,11 @@ pub record Raises {D : Type 0} {g : Ghosts D} (catalog : Catalog) (capacity : �
   pub boots : Boots catalog capacity i (settled i (kept_of result.answer) S) result
   pub last : IfRefused result.answer (IsLast (settled i (kept_of result.answer) S).knows)
 
--- what is told of the disk is told, its arms are as before, and its faults never fall
+-- What is told of the disk is told, its arms are as before, and its faults never fall. A site that comes up made four calls
+-- of it, and another no more.
 pub record FromDisk {D : Type 0} {g : Ghosts D} (old : D) (result : AfterRestart D g) : Type 0 where
   pub arms : (g.known (disk_of_state result.state)).arms ≡ (g.known old).arms
   pub tells : is_some (g.known (disk_of_state result.state)).reads ≡ is_some (g.known old).reads
   pub faults : IsFaultOfRestart result.answer (g.known old).faults (g.known (disk_of_state result.state)).faults
+  pub device : IfUp result.answer (g.device_calls (disk_of_state result.state) ≡ g.device_calls old + 4)
+  pub at_most : g.device_calls (disk_of_state result.state) ≤ g.device_calls old + 4

@@ -1,5 +1,5 @@
 -- What a step and a restart come to, as an event of the site's trail.
-use Rattle.std.specs.Prelude.{◌≡◌, ◌≢◌, ◌<◌, ◌≤◌, ℕ, List, map, take, slice_get, Option, Some, None, All, IfSome}
+use Rattle.std.specs.Prelude.{◌≡◌, ◌≢◌, ◌+◌, ◌<◌, ◌≤◌, ℕ, Bool, List, map, take, slice_get, Option, Some, None, All, IfSome}
 use Rattle.walter_base.specs.declared.catalog.Catalog.{Catalog}
 use Rattle.walter_base.specs.declared.message.Record.{Record}
 use Rattle.walter_base.specs.declared.message.Refusal.TheVariants.{Down as IsDown}
@@ -11,9 +11,10 @@ use Rattle.walter_journal.specs.Layout.{HasContent, IsForeign, IsDamaged}
 use Rattle.walter_record.specs.Spelling.{record_spelled, HasRecordSpelling}
 use Rattle.walter_trail.specs.declared.trail.Outcome.TheVariants.{Replied, Taken, Failed as HasFailed, Full as IsFull, Memory, Refused as IsRefused}
 use Rattle.walter_trail.specs.declared.trail.TrailEvent.{TrailEvent}
+use Rattle.walter_trail.specs.declared.trail.TrailEvent.TheVariants.{Restart}
 use Rattle.walter_trail.specs.Knowledge.{fresh}
 use Rattle.walter_trail.specs.Records.{CanFollow, CanAllFollow, replayed}
-use Rattle.walter_trail.specs.Standing.{Came}
+use Rattle.walter_trail.specs.Standing.{Came, comes_up}
 use Rattle.walter_trail.specs.Trails.{failure, fullness, want, only}
 use Rattle.walter_engine.specs.declared.answers.RefusedRestart.{RefusedRestart}
 use Rattle.walter_engine.specs.declared.answers.RefusedRestart.TheVariants.{Foreign, Damaged, Unreadable, LastEpoch}
@@ -93,6 +94,19 @@ abbrev pub IfRefused : Restarted → (RefusedRestart → Type 0) → Type 0
 IfRefused (restarted.Refused kept why) P = P why
 IfRefused answer P = Unit {0}
 
+-- where it is full, or up
+abbrev pub IfFull : Restarted → Type 0 → Type 0
+IfFull (restarted.Full kept need left) P = P
+IfFull answer P = Unit {0}
+
+abbrev pub IfUp : Restarted → Type 0 → Type 0
+IfUp (restarted.Up kept wrote) P = P
+IfUp answer P = Unit {0}
+
+-- whether the site is up behind it
+abbrev pub brings_up : Restarted → Bool
+brings_up answer = comes_up Restart (came_of_restart answer).outcome
+
 -- where a restart took no epoch: it is refused behind the last one, or didn't come so far
 abbrev pub TakesNoEpoch : Restarted → Type 0
 TakesNoEpoch (restarted.Up kept wrote) = ⊥
@@ -110,7 +124,17 @@ IsFaultOfStep (Full need left) old new = old ≤ new
 IsFaultOfStep Down old new = old ≤ new
 IsFaultOfStep NoMemory old new = old ≤ new
 
--- so it is with a restart
+-- how many calls a step made of the disk that an arm counts: four where a record was written, and at most four where that
+-- failed
+abbrev pub AreCallsOfStep : Stepped → ℕ → ℕ → Type 0
+AreCallsOfStep (Done reply (Some rec)) old new = new ≡ old + 4
+AreCallsOfStep (Done reply None) old new = new ≡ old
+AreCallsOfStep (Failed rec) old new = new ≤ old + 4
+AreCallsOfStep (Full need left) old new = new ≡ old
+AreCallsOfStep Down old new = new ≡ old
+AreCallsOfStep NoMemory old new = new ≡ old
+
+-- so it is with the faults of a restart
 abbrev pub IsFaultOfRestart : Restarted → ℕ → ℕ → Type 0
 IsFaultOfRestart (restarted.Failed kept flight) old new = old < new
 IsFaultOfRestart (restarted.Up kept wrote) old new = old ≤ new

@@ -59,3 +59,18 @@ pub enum RefusedRestart {
     #[error("the site has had its last epoch")]
     LastEpoch,
 }
+
+/// Why a site did not begin.
+#[derive(Clone, Copy, Debug, PartialEq, Eq, Error)]
+pub enum Unbegun {
+    #[error("a call on the disk failed")]
+    Failed,
+    #[error("the disk has no journal")]
+    Foreign,
+    #[error("the journal is damaged: behind the gate at {at} stands the length {length}")]
+    Damaged { at: u64, length: u32 },
+    #[error("the journal has records")]
+    Used,
+    #[error("out of memory")]
+    NoMemory,
+}

@@ -1,7 +1,8 @@
-ghost use Rattle.std.specs.Prelude.{◌≡◌, ◌≢◌, ◌<◌, ◌≤◌, ◌++◌, ◌∷◌, [], true, false, None, Some, is_some, IfSome, IfOk, IfErr, OnOk, OnErr, option_map, if◌then◌else◌};
+ghost use Rattle.std.specs.Prelude.{◌≡◌, ◌≢◌, ◌+◌, ◌<◌, ◌≤◌, ℕ, List, ◌++◌, ◌∷◌, [], true, false, None, Some, is_ok, is_some, IsSome, IfSome, IfOk, IfErr, OnOk, OnErr, option_map, if◌then◌else◌};
 
-use crate::answers::{Restarted, Stepped};
+use crate::answers::{Restarted, Stepped, Unbegun};
 use crate::arming::arm_state;
+use crate::beginning::{AfterBegin, begin_on};
 use crate::restarting::{AfterRestart, disk_of, raise, unloaded};
 use crate::stepping::{AfterStep, take};
 use std::alloc::Global;
@@ -62,15 +63,19 @@ impl<D: Disk + Drop> Engine<D> {
     ghost use Rattle.walter_site.specs.Sites.{event_of, client_of};
     ghost use Rattle.walter_trail.specs.Rule.{rule};
     ghost use Rattle.walter_trail.specs.Standing.{Standing, stands_after};
-    ghost use Rattle.walter_trail.specs.Trails.{Comes, only};
+    ghost use Rattle.walter_trail.specs.Trails.{Comes, only, opening, standing};
     ghost use Rattle.walter_trail.specs.declared.trail.Outcome.TheVariants.{Taken};
     ghost use Rattle.walter_trail.specs.declared.trail.TrailEvent.TheVariants.{Stop};
+    ghost use Rattle.walter_journal.specs.Journals.{calls_of_load};
+    ghost use Rattle.walter_engine.specs.Begins.{HasOnly, MayHaveBegun, IsBegun, IsFaultOfBegin};
     ghost use Rattle.walter_engine.specs.Contents.{AreJournaled, MayHaveRecords, MayHaveBoot};
     ghost use Rattle.walter_engine.specs.Engines.{catalog_in, site_in, capacity_in, disk_in, is_up, OfDisk, OfDisks, IsResting, IsSameEngine, Stands};
     ghost use Rattle.walter_engine.specs.Restarts.{Restarts};
-    ghost use Rattle.walter_engine.specs.Steps.{came_of_step, IsSizedStep, IsSizedRestart, IsFaultOfStep, IsFaultOfRestart, IsRefusedFor, IfRefused, kept_of};
+    ghost use Rattle.walter_engine.specs.Steps.{came_of_step, IsSizedStep, IsSizedRestart, IsFaultOfStep, IsFaultOfRestart, AreCallsOfStep, IsRefusedFor, IfRefused, IfUp, brings_up, kept_of};
 
-    /// A site that is down, with a disk that it knows nothing of. Where there is no memory the disk comes back.
+    /// A site that is down, with a disk that it knows nothing of. Where there is no memory the disk comes back. Over a
+    /// journal with records it stands as these tell. How it goes on over another disk, as one of no bytes, `begin` says by
+    /// the disk alone.
     pub fn new(
         alloc: Global,
         disk: D,
@@ -129,6 +134,7 @@ impl<D: Disk + Drop> Engine<D> {
         ensures armed { OnOk result (OfDisks self.old self.new (λ old new.
             D.known new ≡ record (D.known old) { arms = option_map (λ arms. arms ++ (nth, choice) ∷ []) (D.known old).arms })) }
         ensures same { OnErr result (OfDisks self.old self.new (λ old new. D.known new ≡ D.known old)) }
+        ensures device { OfDisks self.old self.new (λ old new. D.device_calls new ≡ D.device_calls old) }
         ensures engine { IsSameEngine self.old self.new }
         ensures up { is_up self.new ≡ is_up self.old }
         ensures stands { (S : Standing) → Stands self.old S → Stands self.new S }
@@ -156,6 +162,7 @@ impl<D: Disk + Drop> Engine<D> {
             (MayHaveRecords S.records (rule (catalog_in self.old) (site_in self.old) S (event_of input.now)).wrote)) }
         ensures sized { IsSizedStep result }
         ensures faults { OfDisks self.old self.new (λ old new. IsFaultOfStep result (D.known old).faults (D.known new).faults) }
+        ensures device { OfDisks self.old self.new (λ old new. AreCallsOfStep result (D.device_calls old) (D.device_calls new)) }
         ensures arms { OfDisks self.old self.new (λ old new. (D.known new).arms ≡ (D.known old).arms) }
         ensures engine { IsSameEngine self.old self.new }
     {
@@ -197,11 +204,54 @@ impl<D: Disk + Drop> Engine<D> {
         }
     }
 
+    /// The first restart of a site: over a disk of no bytes, which gets its journal, or over a journal without records.
+    /// The journal is loaded once. One that has records is left as it is.
+    pub fn begin(&mut self) -> Result<(), Unbegun>
+        requires down { is_up self.old ≡ false }
+        requires place { 19 ≤ capacity_in self.old }
+        ensures up { is_up self.new ≡ is_ok result }
+        // where the disk tells what it holds
+        ensures stands { OfDisk self.old (λ disk. IsSome (D.known disk).reads)
+            → OnOk result (Stands self.new (standing (catalog_in self.old) (site_in self.old) (opening ∷ []))) }
+        // what it answers, by the bytes that the disk has, where a crash leaves nothing else
+        ensures begins { (bytes : List ℕ) → OfDisk self.old (HasOnly D.Disk bytes) → IsBegun bytes result }
+        // and what a crash at any moment of it leaves
+        ensures any_moment { (bytes : List ℕ) → OfDisk self.old (HasOnly D.Disk bytes)
+            → OfDisks self.old self.new (λ old new. LeavesOnly D.moment D.left_since old new (MayHaveBegun bytes)) }
+        ensures faults { OfDisks self.old self.new (λ old new. IsFaultOfBegin result (D.known old).faults (D.known new).faults) }
+        ensures device { OnOk result (OfDisks self.old self.new (λ old new.
+            D.device_calls new ≡ D.device_calls old + calls_of_load (D.known old).size + 4)) }
+        ensures at_most { OfDisks self.old self.new (λ old new.
+            D.device_calls new ≤ D.device_calls old + calls_of_load (D.known old).size + 4) }
+        ensures arms { OfDisks self.old self.new (λ old new. (D.known new).arms ≡ (D.known old).arms) }
+        ensures engine { IsSameEngine self.old self.new }
+    {
+        let Some(state) = mem::replace(&mut self.state, None) else {
+            unreachable!()
+        };
+        let AfterBegin {
+            state,
+            answer,
+            tally,
+        } = begin_on(
+            self.alloc,
+            &self.catalog,
+            self.site,
+            disk_of(state),
+            self.capacity,
+            self.tally,
+        );
+        self.state = Some(state);
+        self.tally = tally;
+        answer
+    }
+
     /// Makes the site anew from its journal.
     pub fn restart(&mut self) -> Restarted
         requires { is_up self.old ≡ false }
         ensures restarts { (S : Standing) → Stands self.old S
             → Restarts (catalog_in self.old) (capacity_in self.old) (site_in self.old) S result self.new }
+        ensures up { is_up self.new ≡ brings_up result }
         // a crash at any moment of it leaves the records from before, or those that it found with the next epoch behind them
         ensures any_moment { (S : Standing) → Stands self.old S
             → OfDisks self.old self.new (λ old new. LeavesOnly D.moment D.left_since old new (MayHaveBoot (site_in self.old) S (kept_of result))) }
@@ -210,6 +260,11 @@ impl<D: Disk + Drop> Engine<D> {
             IfRefused result (IsRefusedFor (catalog_in self.old) (site_in self.old) bytes))) }
         ensures sized { IsSizedRestart result }
         ensures faults { OfDisks self.old self.new (λ old new. IsFaultOfRestart result (D.known old).faults (D.known new).faults) }
+        // how many calls of the disk an arm counts: those of the load and, where the site comes up, four more
+        ensures device { IfUp result (OfDisks self.old self.new (λ old new.
+            D.device_calls new ≡ D.device_calls old + calls_of_load (D.known old).size + 4)) }
+        ensures at_most { OfDisks self.old self.new (λ old new.
+            D.device_calls new ≤ D.device_calls old + calls_of_load (D.known old).size + 4) }
         ensures arms { OfDisks self.old self.new (λ old new. (D.known new).arms ≡ (D.known old).arms) }
         ensures engine { IsSameEngine self.old self.new }
     {

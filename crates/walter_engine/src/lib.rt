@@ -3,12 +3,13 @@
 
 mod answers;
 mod arming;
+mod beginning;
 mod engine;
 mod replaying;
 mod restarting;
 mod stepping;
 
-pub use answers::{RefusedRestart, Restarted, Stepped};
+pub use answers::{RefusedRestart, Restarted, Stepped, Unbegun};
 pub use engine::Engine;
 
 #[cfg(test)]

@@ -1,7 +1,7 @@
 ghost use Rattle.std.specs.Prelude.{◌≡◌, ◌≤◌, ◌<◌, ◌+◌, List, ℕ, map, IfSome};
 ghost use Rattle.walter_base.specs.Sizes.{CanBeRecorded};
 ghost use Rattle.walter_disk.specs.Images.{LeavesOnly};
-ghost use Rattle.walter_journal.specs.Journals.{disk_of, capacity_of, StandsFor};
+ghost use Rattle.walter_journal.specs.Journals.{disk_of, capacity_of, left_of, StandsFor};
 ghost use Rattle.walter_journal.specs.Layout.{IsBeforeOrBehind};
 ghost use Rattle.walter_record.specs.Spelling.{record_spelled};
 ghost use Rattle.walter_site.specs.Sites.{known, site_of, catalog_of};
@@ -9,8 +9,8 @@ ghost use Rattle.walter_trail.specs.Standing.{Standing};
 ghost use Rattle.walter_engine.specs.Contents.{AreJournaled, MayHaveBoot};
 ghost use Rattle.walter_engine.specs.Raises.{Raises, Boots, IsDown, IsFoundIn, IsCounted, FromDisk};
 ghost use Rattle.walter_engine.specs.Restarts.{unloaded_by};
-ghost use Rattle.walter_engine.specs.States.{IsOf, disk_of_state};
-ghost use Rattle.walter_engine.specs.Steps.{IsSizedRestart, IsRefusedOver, IfRefused, TakesNoEpoch, kept_of};
+ghost use Rattle.walter_engine.specs.States.{IsOf, disk_of_state, is_up_state};
+ghost use Rattle.walter_engine.specs.Steps.{IsSizedRestart, IsRefusedOver, IfRefused, IfFull, TakesNoEpoch, brings_up, kept_of};
 
 use crate::answers::{RefusedRestart, Restarted};
 use crate::engine::{State, Tally};
@@ -51,6 +51,8 @@ pub(crate) fn raise<D: Disk>(
         → IsFoundIn S (map (λ body. body.items) bodies.now) → StandsFor journal (map (λ body. body.items) bodies.now)
         → LeavesOnly D.moment D.left_since (disk_of journal) (disk_of_state result.state) (MayHaveBoot id S (kept_of result.answer)) }
     ensures sized { IsSizedRestart result.answer }
+    ensures up { is_up_state result.state ≡ brings_up result.answer }
+    ensures full { IfFull result.answer (left_of journal < 10) }
     ensures disk { FromDisk (disk_of journal) result }
     ensures of { IsOf catalog.now id (capacity_of journal) result.state }
 {
@@ -110,6 +112,9 @@ fn boot<D: Disk>(
     ensures takes_none { (known site).epoch ≡ 4294967295 → TakesNoEpoch result.answer }
     ensures kept { kept_of result.answer ≡ kept }
     ensures sized { IsSizedRestart result.answer }
+    ensures up { is_up_state result.state ≡ brings_up result.answer }
+    // a Boot needs 10 bytes
+    ensures full { IfFull result.answer (left_of journal < 10) }
     ensures disk { FromDisk (disk_of journal) result }
     ensures of { IsOf (catalog_of site) (site_of site) (capacity_of journal) result.state }
 {

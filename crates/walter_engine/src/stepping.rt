@@ -15,7 +15,7 @@ ghost use Rattle.walter_engine.specs.Moves.{Moves};
 ghost use Rattle.walter_engine.specs.Raises.{IsCounted};
 ghost use Rattle.walter_engine.specs.States.{IsOf, is_up_state, disk_of_state};
 ghost use Rattle.walter_engine.specs.Advances.{IsSameJournal, IsStagedRecord, IsStagedIfAny, TakesCopy, count_after, Advances};
-ghost use Rattle.walter_engine.specs.Steps.{IsSizedStep, IsFaultOfStep};
+ghost use Rattle.walter_engine.specs.Steps.{IsSizedStep, IsFaultOfStep, AreCallsOfStep};
 
 use crate::answers::Stepped;
 use crate::engine::{State, Tally};
@@ -63,6 +63,7 @@ pub(crate) fn take<D: Disk>(
     ensures sized { IsSizedStep result.stepped }
     ensures faults { IsFaultOfStep result.stepped (D.known (disk_of_state state)).faults (D.known (disk_of_state result.state)).faults }
     ensures arms { (D.known (disk_of_state result.state)).arms ≡ (D.known (disk_of_state state)).arms }
+    ensures device { AreCallsOfStep result.stepped (D.device_calls (disk_of_state state)) (D.device_calls (disk_of_state result.state)) }
 {
     match state {
         State::Up(mut site, mut journal) => {
@@ -114,6 +115,7 @@ fn advance<D: Disk>(
     ensures sized { IsSizedStep result }
     ensures faults { IsFaultOfStep result (D.known (disk_of journal.old)).faults (D.known (disk_of journal.new)).faults }
     ensures arms { (D.known (disk_of journal.new)).arms ≡ (D.known (disk_of journal.old)).arms }
+    ensures device { AreCallsOfStep result (D.device_calls (disk_of journal.old)) (D.device_calls (disk_of journal.new)) }
     ensures tells { is_some (D.known (disk_of journal.new)).reads ≡ is_some (D.known (disk_of journal.old)).reads }
     ensures capacity { capacity_of journal.new ≡ capacity_of journal.old }
     ensures site { site_of site.new ≡ site_of site.old }

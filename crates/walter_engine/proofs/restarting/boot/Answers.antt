@@ -1,4 +1,4 @@
-use Rattle.std.proofs.Common.{◌≡◌, ℕ, ◌+◌, List, ap, ◌∙◌, length, Some, map, refl, inl, arith}
+use Rattle.std.proofs.Common.{◌≡◌, ℕ, ◌+◌, ◌<◌, List, ap, sym, subst, ◌∙◌, length, Some, map, refl, inl, arith}
 use Rattle.walter_base.specs.declared.message.Record.TheVariants.{Boot}
 use Rattle.walter_disk.specs.Images.{LeavesOnly}
 use Rattle.walter_journal.specs.Journals.{disk_of, left_of, need_of, StandsFor}
@@ -6,8 +6,10 @@ use Rattle.walter_journal.specs.Layout.{IsBeforeOrBehind}
 use Rattle.walter_record.specs.Spelling.{record_spelled}
 use Rattle.walter_site.specs.Sites.{known, site_of, catalog_of}
 use Rattle.walter_trail.specs.Knowledge.{recorded}
+use Rattle.walter_engine.specs.declared.answers.Restarted.{Restarted}
 use Rattle.walter_engine.specs.States.{disk_of_state}
-use Rattle.walter_engine.proofs.Boots.{boots_no_memory, boots_up, boots_failed, boots_full, full_is, failed_is}
+use Rattle.walter_engine.specs.Steps.{IfFull}
+use Rattle.walter_engine.proofs.Boots.{boots_no_memory, boots_up, boots_failed, boots_full, boot_needs, full_is, failed_is}
 use Rattle.walter_engine.proofs.Crashes.{unmoved, made_room, room_and_append}
 use Rattle.walter_engine.proofs.Resting.{rests_under}
 use Rattle.walter_engine.proofs.Room.{short_enough}
@@ -72,6 +74,12 @@ returns-clause-boots g c S down knows all counted stands =
     c.as_slice.result.now (c.as_slice.ensures ∙ staged.body_is) _ same.capacity
     g.met.D.Disk.size_is c.append.new.self c.in-Err-Full.need c.in-Err-Full.left full.0 full.1 full.2 full.3
     c.rest-in-Err-Full.result rest.state rest.answer rest.tally
+
+pub returns-clause-full : goal.returns-clause-full
+returns-clause-full g c =
+    let full = full_is c.append.result (need_of c.as_slice.result.now) (left_of c.stage.new.journal) _ _ _ c.append.ensures.full c.append.ensures.failed c.in-Err-Full.field-0 c.in-Err-Full.need c.in-Err-Full.left c.in-Err-Full.is c.in-Err-Full.field-0-is in
+    subst (λ (a : Restarted). IfFull a (left_of c.args.journal < 10)) (sym c.rest-in-Err-Full.ensures.answer)
+    (boot_needs {g = g.D.Disk} c.args.journal c.stage.new.journal c.in-Ok.ensures.same c.as_slice.result.now c.in-Some.epoch (c.as_slice.ensures ∙ c.in-Ok.ensures.staged.body_is) full.0)
 
 -- ---- what a crash leaves
 
