@@ -25,7 +25,7 @@ pub struct Conn<S: Source + Drop, K: Sink + Drop> {
     // The frame of a reply.
     output: Appender,
     state: State,
-    // A whole frame is held, since there was no memory for its request.
+    // A whole frame is held, since there was no memory for the bytes of its Write.
     whole: bool,
     ghost room: { vec_len input.buffer ≡ 65540 },
     ghost output_room: { length output.bytes + output.room ≡ 65540 },
@@ -43,7 +43,7 @@ fn zeros(alloc: Global, count: usize) -> Mem<Vec<u8>>
 }
 
 impl<S: Source + Drop, K: Sink + Drop> Conn<S, K> {
-    ghost use Rattle.walter_conn.specs.Connections.{source_of, sink_of, incoming, holds_frame};
+    ghost use Rattle.walter_conn.specs.Connections.{source_of, sink_of, incoming, holds_frame, HoldsWrite};
 
     /// Takes the memory for a frame of the client, and for one to it. Where there is none, the source and the sink come back.
     pub fn new(alloc: Global, source: S, sink: K) -> Result<Conn<S, K>, (S, K)>
@@ -78,7 +78,7 @@ impl<S: Source + Drop, K: Sink + Drop> Conn<S, K> {
         (source, sink)
     }
 
-    /// What the client sent next. Only a request's own bytes take memory: where there is none for them the frame is
+    /// What the client sent next. Only the bytes of a Write take memory: where there is none for them its frame is
     /// held, and the next call reads it anew.
     #[tactic(auto, using(crate::proofs::InputLemmas::unread_none))]
     pub fn next(&mut self, alloc: Global) -> Mem<Next>
@@ -92,6 +92,7 @@ impl<S: Source + Drop, K: Sink + Drop> Conn<S, K> {
         ensures exact { (call : Call) → result ≡ Ok (Next.Frame call)
             → S.left (source_of self.new) ≡ (incoming self.new).unread }
         ensures whole { OnErr result (holds_frame self.new ≡ true) }
+        ensures write { OnErr result (HoldsWrite self.new) }
         ensures anew { holds_frame self.old ≡ true → source_of self.new ≡ source_of self.old }
     {
         match self.state {

@@ -1,15 +1,17 @@
-ghost use Rattle.std.specs.Prelude.{◌≤◌, length, IfOk};
+ghost use Rattle.std.specs.Prelude.{◌≤◌, length, IfOk, OnErr};
 ghost use Rattle.walter_conn.specs.Frames.{IsCallOf};
+ghost use Rattle.walter_request.specs.Requests.{SpellsWrite};
 
 use std::alloc::Global;
 use walter_base::{BadFrame, Call};
 use walter_fields::{Mem, NoMemory};
 use walter_request::{RequestFault, decode};
 
-/// What the body of a frame calls for.
+/// What the body of a frame calls for. Only the bytes of a Write take memory.
 pub(crate) fn read_call(alloc: Global, body: &[u8]) -> Mem<Call>
     requires { length body.now ≤ 65536 }
-    ensures { IfOk result (λ call. IsCallOf body.now call) }
+    ensures call { IfOk result (λ call. IsCallOf body.now call) }
+    ensures write { OnErr result (SpellsWrite body.now) }
 {
     match decode(alloc, body) {
         Ok(request) => Ok(Ok(request)),

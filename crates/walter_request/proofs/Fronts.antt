@@ -1,17 +1,17 @@
 -- Bytes that end within a request are the front of a spelling.
-use Rattle.std.proofs.Common.{◌≡◌, ◌≢◌, ℕ, ◌<◌, List, [], ◌++◌, length, refl, sym, ap, subst, ◌∙◌, append_assoc, arith}
+use Rattle.std.proofs.Common.{◌≡◌, ◌≢◌, ℕ, ◌^◌, ◌<◌, List, [], ◌++◌, length, refl, sym, ap, subst, ◌∙◌, append_assoc, arith}
 use Rattle.std.proofs.lemmas.List.{length-append, nil_from_length}
 use Rattle.walter_base.specs.declared.message.Request.{Request}
 use Rattle.walter_base.specs.declared.message.Request.TheVariants.{Start, Read, Write, SetRead, Level}
 use Rattle.walter_base.specs.declared.names.ObjId.{ObjId}
-use Rattle.walter_fields.specs.Cursors.{LacksBlock}
+use Rattle.walter_fields.specs.Cursors.{Unread, Takes, LacksBlock}
 use Rattle.walter_fields.specs.Spellings.{IsBytes, number_spelled, block_spelled}
 use Rattle.walter_fields.proofs.Numbers.{length-number_spelled, number_spelled-byte}
-use Rattle.walter_fields.proofs.Readings.{IsBytes-behind}
+use Rattle.walter_fields.proofs.Readings.{IsBytes-behind, Takes-then}
 use Rattle.walter_names.specs.Names.{object_spelled, tid_spelled, IsObject, member_spelled, IsMember}
 use Rattle.walter_names.proofs.Cuts.{cut_object, cut_tid, cut_member, cut_block}
 use Rattle.walter_request.specs.Requests.{request_spelled, IsRequest, IsOperation}
-use Rattle.walter_request.specs.Stops.{IsFront, StartsUnknown}
+use Rattle.walter_request.specs.Stops.{IsFront, StartsUnknown, LeavesSome, with_operation}
 
 empty_is_front : IsFront []
 empty_is_front = record { more = number_spelled 1 1; request = Start; some = λ e. omega (arith, ap length e, length-number_spelled 1 1); spells = record { ranges = tt; is = refl } }
@@ -68,3 +68,19 @@ cut_operation left few = rw (nil_from_length left (omega (arith, few))) empty_is
 
 pub unknown_operation : (operation : ℕ) (left : List ℕ) → operation < 256 → ¬ IsOperation operation → StartsUnknown (number_spelled 1 operation ++ left)
 unknown_operation operation left low not = record { byte = operation; rest = left; is = ap (λ t. t ++ left) (number_spelled-byte operation low); unknown = not }
+
+-- ---- bytes behind a Write
+
+pub leaves_write : (old mid new : Unread) (oid : ObjId) (bytes : List ℕ) → IsObject oid → length bytes < 2 ^ 32 → Takes old mid (object_spelled oid) → Takes mid new (block_spelled bytes) → new.left ≢ []
+    → LeavesSome (with_operation 3 old) new
+leaves_write old mid new oid bytes fits short object block some =
+    let fields = Takes-then old mid new (object_spelled oid) (block_spelled bytes) object block in
+    record {
+      request = Write oid bytes;
+      ranges = (fits, short);
+      taken = record {
+        front = ap (λ t. number_spelled 1 3 ++ t) fields.front ∙ sym (append_assoc (number_spelled 1 3) (object_spelled oid ++ block_spelled bytes) new.left);
+        same = fields.same;
+      };
+      some = some;
+    }

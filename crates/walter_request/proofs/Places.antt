@@ -3,12 +3,12 @@ use Rattle.std.proofs.Common.{◌≡◌, ◌≢◌, ℕ, ◌+◌, List, [], ◌�
 use Rattle.std.proofs.lemmas.List.{append-nil, length-append}
 use Rattle.walter_base.specs.declared.message.Request.{Request}
 use Rattle.walter_base.specs.declared.message.Request.TheVariants.{Start, Read, Write, SetAdd, SetDel, SetRead, SetReadId, Commit, Abort, Level}
-use Rattle.walter_fields.specs.Cursors.{Unread, Takes, whole_of}
+use Rattle.walter_fields.specs.Cursors.{Unread, whole_of}
 use Rattle.walter_fields.specs.Spellings.{IsBytes}
 use Rattle.walter_fields.proofs.Longest.{IsLongest, one_longest}
 use Rattle.walter_fields.proofs.Readings.{left_of_whole}
-use Rattle.walter_request.specs.Requests.{request_spelled, IsRequest, Spells, IsOperation, IsBadFrame, empty, unknown, short, behind}
-use Rattle.walter_request.specs.Stops.{IsFront, StartsUnknown}
+use Rattle.walter_request.specs.Requests.{request_spelled, Spells, SpellsWrite, IsOperation, IsBadFrame, empty, unknown, short, behind}
+use Rattle.walter_request.specs.Stops.{IsFront, StartsUnknown, LeavesSome}
 use Rattle.walter_request.proofs.Fronts.{cut_operation}
 use Rattle.walter_request.proofs.Prefixes.{operation_of, fields_spelled, whole_spelling, not_empty, nothing_behind}
 
@@ -24,12 +24,15 @@ bad_cut cursor body whole bytes stop = let is = left_of_whole cursor body whole 
 pub bad_start : (cursor : Unread) (body : List ℕ) → cursor ≡ whole_of body → StartsUnknown cursor.left → IsBadFrame body 0
 bad_start cursor body whole start = unknown start.byte start.rest (sym (left_of_whole cursor body whole) ∙ start.is) start.unknown refl
 
-pub bad_rest : (cursor after : Unread) (body : List ℕ) (request : Request) (at : ℕ) → cursor ≡ whole_of body → IsRequest request → Takes cursor after (request_spelled request) → after.left ≢ []
-    → at + length after.left ≡ after.end → IsBadFrame body at
-bad_rest cursor after body request at whole fits taken some place =
-    let is : body ≡ request_spelled request ++ after.left = sym (left_of_whole cursor body whole) ∙ taken.front in
-    let end : after.end ≡ length body = taken.same ∙ ap (λ (c : Unread). c.end) whole in
-    behind (request_spelled request) after.left request is some (record { ranges = fits; is = refl }) (omega (arith, place, end, ap length is, length-append (request_spelled request) after.left))
+pub bad_rest : (cursor after : Unread) (body : List ℕ) (at : ℕ) → cursor ≡ whole_of body → LeavesSome cursor after → at + length after.left ≡ after.end → IsBadFrame body at
+bad_rest cursor after body at whole leaves place =
+    let front = request_spelled leaves.request in
+    let is : body ≡ front ++ after.left = sym (left_of_whole cursor body whole) ∙ leaves.taken.front in
+    let end : after.end ≡ length body = leaves.taken.same ∙ ap (λ (c : Unread). c.end) whole in
+    behind front after.left leaves.request is leaves.some (record { ranges = leaves.ranges; is = refl }) (omega (arith, place, end, ap length is, length-append front after.left))
+
+pub whole_write : (cursor : Unread) (body : List ℕ) → cursor ≡ whole_of body → SpellsWrite cursor.left → SpellsWrite body
+whole_write cursor body whole write = subst SpellsWrite (left_of_whole cursor body whole) write
 
 -- ---- no two readings
 

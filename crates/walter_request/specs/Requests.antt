@@ -1,6 +1,7 @@
 -- How requests are spelled, and what is wrong with bytes that spell none (docs/FORMATS.md, "Frames of a client").
 use Rattle.std.specs.Prelude.{◌≡◌, ◌≢◌, ◌<◌, ◌≤◌, ◌^◌, ◌+◌, ℕ, List, [], ◌∷◌, ◌++◌, length}
 use Rattle.walter_base.specs.declared.message.Request.{Request}
+use Rattle.walter_base.specs.declared.names.ObjId.{ObjId}
 use Rattle.walter_base.specs.declared.message.Request.TheVariants.{Start, Read, Write, SetAdd, SetDel, SetRead, SetReadId, Commit, Abort, Level}
 use Rattle.walter_fields.specs.Spellings.{number_spelled, block_spelled}
 use Rattle.walter_names.specs.Names.{object_spelled, tid_spelled, member_spelled, IsObject, IsTid, IsMember}
@@ -66,7 +67,13 @@ pub data IsBadFrame (body : List ℕ) (at : ℕ) : Type 0 where
   short : (more : List ℕ) (request : Request) → body ≢ [] → more ≢ [] → Spells (body ++ more) request → at ≡ length body → IsBadFrame body at
   behind : (front rest : List ℕ) (request : Request) → body ≡ front ++ rest → rest ≢ [] → Spells front request → at ≡ length front → IsBadFrame body at
 
+-- the body spells a Write, the one request that has bytes of its own
+pub record SpellsWrite (body : List ℕ) : Type 0 where
+  pub oid : ObjId
+  pub bytes : List ℕ
+  pub spells : Spells body (Write oid bytes)
+
 -- what a fault says of the body
 abbrev pub IsFaultOf : List ℕ → RequestFault → Type 0
 IsFaultOf body (BadFrame at) = IsBadFrame body at
-IsFaultOf body NoMemory = Unit {0}
+IsFaultOf body NoMemory = SpellsWrite body

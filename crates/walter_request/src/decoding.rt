@@ -1,7 +1,7 @@
-ghost use Rattle.std.specs.Prelude.{◌≤◌, ◌<◌, length, IfOk, IfErr};
-ghost use Rattle.walter_fields.specs.Cursors.{Takes};
-ghost use Rattle.walter_request.specs.Requests.{request_spelled, IsRequest, Spells, IsFaultOf};
+ghost use Rattle.std.specs.Prelude.{◌≡◌, ◌≢◌, ◌≤◌, ◌<◌, [], length, OnOk, IfOk, IfErr};
+ghost use Rattle.walter_request.specs.Requests.{Spells, IsFaultOf};
 ghost use Rattle.walter_request.specs.Stops.{EndsWith, StopsBehind, StopsAt};
+ghost use Rattle.walter_request.specs.declared.fault.Stop.TheVariants.{Behind};
 
 use crate::fault::{RequestFault, Stop};
 use std::alloc::Global;
@@ -9,28 +9,41 @@ use walter_base::{Bytes, Request};
 use walter_fields::Cursor;
 use walter_names::{read_member, read_object, read_tid};
 
+/// Nothing stands behind what was read.
+fn expect_end(cursor: &Cursor) -> Result<(), Stop>
+    ensures end { OnOk result (cursor.now.left ≡ []) }
+    ensures stop { IfErr result (λ stop. (stop ≡ Behind) × (cursor.now.left ≢ [])) }
+{
+    if cursor.is_at_end() {
+        Ok(())
+    } else {
+        Err(Stop::Behind)
+    }
+}
+
 /// What stands behind the operation Read.
 fn read_read(cursor: &mut Cursor) -> Result<Request, Stop>
     ensures ends { IfOk result (EndsWith 2 cursor.old cursor.new) }
-    ensures stop { IfErr result (StopsBehind 2 cursor.old.left) }
+    ensures stop { IfErr result (StopsBehind 2 cursor.old cursor.new) }
 {
     Ok(Request::Read(read_object(cursor)?))
 }
 
-/// What stands behind the operation Write.
+/// What stands behind the operation Write. Its bytes take memory, so the end is looked for before.
 fn read_write(alloc: Global, cursor: &mut Cursor) -> Result<Request, Stop>
     ensures ends { IfOk result (EndsWith 3 cursor.old cursor.new) }
-    ensures stop { IfErr result (StopsBehind 3 cursor.old.left) }
+    ensures stop { IfErr result (StopsBehind 3 cursor.old cursor.new) }
 {
     let oid = read_object(cursor)?;
     let bytes = cursor.block()?;
+    expect_end(cursor)?;
     Ok(Request::Write(oid, Bytes::from_slice(alloc, bytes)?))
 }
 
 /// What stands behind the operation SetAdd.
 fn read_set_add(cursor: &mut Cursor) -> Result<Request, Stop>
     ensures ends { IfOk result (EndsWith 4 cursor.old cursor.new) }
-    ensures stop { IfErr result (StopsBehind 4 cursor.old.left) }
+    ensures stop { IfErr result (StopsBehind 4 cursor.old cursor.new) }
 {
     let (oid, id) = read_member(cursor)?;
     Ok(Request::SetAdd(oid, id))
@@ -39,7 +52,7 @@ fn read_set_add(cursor: &mut Cursor) -> Result<Request, Stop>
 /// What stands behind the operation SetDel.
 fn read_set_del(cursor: &mut Cursor) -> Result<Request, Stop>
     ensures ends { IfOk result (EndsWith 5 cursor.old cursor.new) }
-    ensures stop { IfErr result (StopsBehind 5 cursor.old.left) }
+    ensures stop { IfErr result (StopsBehind 5 cursor.old cursor.new) }
 {
     let (oid, id) = read_member(cursor)?;
     Ok(Request::SetDel(oid, id))
@@ -48,7 +61,7 @@ fn read_set_del(cursor: &mut Cursor) -> Result<Request, Stop>
 /// What stands behind the operation SetRead.
 fn read_set_read(cursor: &mut Cursor) -> Result<Request, Stop>
     ensures ends { IfOk result (EndsWith 6 cursor.old cursor.new) }
-    ensures stop { IfErr result (StopsBehind 6 cursor.old.left) }
+    ensures stop { IfErr result (StopsBehind 6 cursor.old cursor.new) }
 {
     Ok(Request::SetRead(read_object(cursor)?))
 }
@@ -56,7 +69,7 @@ fn read_set_read(cursor: &mut Cursor) -> Result<Request, Stop>
 /// What stands behind the operation SetReadId.
 fn read_set_read_id(cursor: &mut Cursor) -> Result<Request, Stop>
     ensures ends { IfOk result (EndsWith 7 cursor.old cursor.new) }
-    ensures stop { IfErr result (StopsBehind 7 cursor.old.left) }
+    ensures stop { IfErr result (StopsBehind 7 cursor.old cursor.new) }
 {
     let (oid, id) = read_member(cursor)?;
     Ok(Request::SetReadId(oid, id))
@@ -65,7 +78,7 @@ fn read_set_read_id(cursor: &mut Cursor) -> Result<Request, Stop>
 /// What stands behind the operation Level.
 fn read_level(cursor: &mut Cursor) -> Result<Request, Stop>
     ensures ends { IfOk result (EndsWith 10 cursor.old cursor.new) }
-    ensures stop { IfErr result (StopsBehind 10 cursor.old.left) }
+    ensures stop { IfErr result (StopsBehind 10 cursor.old cursor.new) }
 {
     Ok(Request::Level(read_tid(cursor)?))
 }
@@ -73,7 +86,7 @@ fn read_level(cursor: &mut Cursor) -> Result<Request, Stop>
 /// What stands behind the operation.
 fn read_fields(alloc: Global, cursor: &mut Cursor, operation: u8) -> Result<Request, Stop>
     ensures ends { IfOk result (EndsWith operation cursor.old cursor.new) }
-    ensures stop { IfErr result (StopsBehind operation cursor.old.left) }
+    ensures stop { IfErr result (StopsBehind operation cursor.old cursor.new) }
 {
     match operation {
         1 => Ok(Request::Start),
@@ -90,16 +103,18 @@ fn read_fields(alloc: Global, cursor: &mut Cursor, operation: u8) -> Result<Requ
     }
 }
 
+/// The request that the bytes that are left spell, all of them.
 fn read_request(alloc: Global, cursor: &mut Cursor) -> Result<Request, Stop>
-    ensures taken { IfOk result (λ request. Takes cursor.old cursor.new (request_spelled request)) }
-    ensures range { IfOk result IsRequest }
-    ensures stop { IfErr result (StopsAt cursor.old.left) }
+    ensures spelled { IfOk result (λ request. Spells cursor.old.left request) }
+    ensures stop { IfErr result (StopsAt cursor.old cursor.new) }
 {
     let operation = cursor.u8()?;
-    read_fields(alloc, cursor, operation)
+    let request = read_fields(alloc, cursor, operation)?;
+    expect_end(cursor)?;
+    Ok(request)
 }
 
-/// The request that the body of a frame spells.
+/// The request that the body of a frame spells. Only the bytes of a Write take memory.
 pub fn decode(alloc: Global, body: &[u8]) -> Result<Request, RequestFault>
     requires { length body.now ≤ 65536 }
     ensures spelled { IfOk result (λ request. Spells body.now request) }
@@ -107,18 +122,14 @@ pub fn decode(alloc: Global, body: &[u8]) -> Result<Request, RequestFault>
 {
     let mut cursor = Cursor::new(body);
     match read_request(alloc, &mut cursor) {
-        Ok(request) => {
-            if !cursor.is_at_end() {
-                return Err(RequestFault::BadFrame {
-                    at: cursor.place() as u32,
-                });
-            }
-            Ok(request)
-        }
+        Ok(request) => Ok(request),
         Err(Stop::Cut) => Err(RequestFault::BadFrame {
             at: body.len() as u32,
         }),
         Err(Stop::Unknown) => Err(RequestFault::BadFrame { at: 0 }),
+        Err(Stop::Behind) => Err(RequestFault::BadFrame {
+            at: cursor.place() as u32,
+        }),
         Err(Stop::NoMemory) => Err(RequestFault::NoMemory),
     }
 }

@@ -22,7 +22,9 @@ pub(crate) enum Stop {
     Cut,
     /// The first byte is no operation.
     Unknown,
-    /// Memory ran out.
+    /// Bytes stand behind the request.
+    Behind,
+    /// The request is a Write, and there is no memory for its bytes.
     NoMemory,
 }
 

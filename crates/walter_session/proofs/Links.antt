@@ -1,15 +1,16 @@
 -- What a change of one slot, and of one client's key, leaves of what is kept of the clients.
-use Rattle.std.proofs.Common.{◌≡◌, ◌≢◌, ℕ, zero, suc, ◌≤◌, true, false, cond, not, nat_eq, List, [], ◌∷◌, ◌++◌, All, Option, Some, None, refl, ap, sym, ◌∙◌, subst, option_map, is_some, length, if◌then◌else◌, inl, inr, arith}
+use Rattle.std.proofs.Common.{◌≡◌, ◌≢◌, ℕ, zero, suc, ◌+◌, ◌≤◌, true, false, cond, not, nat_eq, List, [], ◌∷◌, ◌++◌, All, Option, Some, None, refl, ap, sym, ◌∙◌, subst, option_map, is_some, length, if◌then◌else◌, inl, inr, arith}
 use Rattle.std.specs.Prelude.{slice_get, slice_index_or}
-use Rattle.std.specs.List.{cons_option}
+use Rattle.std.specs.List.{cons_option, count_by}
 use Rattle.std.specs.Option.{option_and_then}
 use Rattle.std.specs.Map.{lookup, remove_entry}
 use Rattle.std.proofs.lemmas.Bool.{eqb-true, eq-eqb}
-use Rattle.std.proofs.lemmas.List.{length-map}
+use Rattle.std.proofs.lemmas.List.{length-map, length-append}
 use Rattle.std.proofs.lemmas.List.Elements.{All-nil, All-cons, All-head, All-tail, All-push, filter_map-append}
+use Rattle.std.proofs.lemmas.Grind.{common_steps}
 use Rattle.std.proofs.lemmas.Map.Made.{lookup-map_values}
 use Rattle.std.proofs.lemmas.Option.{slice_get_cases, slice_get_past, slice_get_within, get_or_from_slice_get}
-use Rattle.slab.specs.Slab.{Slab, get, with_value, Updates}
+use Rattle.slab.specs.Slab.{Slab, get, slab_len, with_value, Updates}
 use Rattle.slab.proofs.SlabLemmas.{Updates-with_value}
 use Rattle.walter_session.specs.declared.slot.Slot.{Slot}
 use Rattle.walter_base.specs.ByClient.{AreApart, changed, without}
@@ -95,10 +96,11 @@ module _ (old new : Slab Slot) (client key : ℕ) (slot : Option Slot) (only : I
       ∙ ap (λ s. clients_in old keys ++ with_slot client s []) (updates.changed ∙ is)
 
   pub put_linked : (keys : List (ℕ × ℕ)) (now : Slot) → slot ≡ Some now → now.client ≡ client → AreLinked keys old → lookup (nat_eq client) keys ≡ None
-      → AreLinked (keys ++ (client, key) ∷ []) new
-  put_linked keys now is same linked none = record {
+      → slab_len new ≡ slab_len old + 1 → AreLinked (keys ++ (client, key) ∷ []) new
+  put_linked keys now is same linked none more = record {
     each = All-push (IsKeyOf new) keys (client, key) (others_linked keys linked.each none) (now, updates.changed ∙ is, same);
     apart = apart_behind client key keys linked.apart none;
+    counted = omega (arith, more, linked.counted, length-append keys ((client, key) ∷ []));
   }
 
   -- the slot of the client's key changes
@@ -127,9 +129,9 @@ module _ (old new : Slab Slot) (client key : ℕ) (slot : Option Slot) (only : I
           ] refl at)
           ∙ sym before
 
-  pub write_linked : (was now : Slot) → slot ≡ Some now → get old key ≡ Some was → now.client ≡ was.client
+  pub write_linked : (was now : Slot) → slot ≡ Some now → get old key ≡ Some was → now.client ≡ was.client → slab_len new ≡ slab_len old
       → (keys : List (ℕ × ℕ)) → AreLinked keys old → lookup (nat_eq client) keys ≡ Some key → AreLinked keys new
-  write_linked was now is here same keys linked at = record { each = by keys linked.each linked.apart at; apart = linked.apart }
+  write_linked was now is here same count keys linked at = record { each = by keys linked.each linked.apart at; apart = linked.apart; counted = count ∙ linked.counted }
     where
       by : (keys : List (ℕ × ℕ)) → All (IsKeyOf old) keys → AreApart keys → lookup (nat_eq client) keys ≡ Some key → All (IsKeyOf new) keys
       by [] each apart at = All-nil (IsKeyOf new)
@@ -166,8 +168,8 @@ module _ (old new : Slab Slot) (client key : ℕ) (slot : Option Slot) (only : I
           ] refl)
           ∙ sym before
 
-  pub end_linked : (keys : List (ℕ × ℕ)) → AreLinked keys old → AreLinked (remove_entry (nat_eq client) keys) new
-  end_linked keys linked = record { each = by keys linked.each linked.apart; apart = apart_left client keys linked.apart }
+  pub end_linked : (keys : List (ℕ × ℕ)) → AreLinked keys old → slab_len new ≡ length (remove_entry (nat_eq client) keys) → AreLinked (remove_entry (nat_eq client) keys) new
+  end_linked keys linked count = record { each = by keys linked.each linked.apart; apart = apart_left client keys linked.apart; counted = count }
     where
       by : (keys : List (ℕ × ℕ)) → All (IsKeyOf old) keys → AreApart keys → All (IsKeyOf new) (remove_entry (nat_eq client) keys)
       by [] each apart = All-nil (IsKeyOf new)
@@ -237,21 +239,23 @@ pub same_linked : (slots other : Slab Slot) (keys also : List (ℕ × ℕ)) → 
 same_linked slots other keys also same values linked = record {
   each = subst (All (IsKeyOf other)) (sym same) (λ k d lt. let own = linked.each k d lt in (own.0, ap (λ vs. slice_index_or vs (let e : ℕ × ℕ = slice_index_or keys k d in e.1) None) values ∙ own.1, own.2));
   apart = subst AreApart (sym same) linked.apart;
+  counted = ap (count_by is_some) values ∙ linked.counted ∙ ap length (sym same);
 }
 
-abbrev pub table_in : Slab Slot → List (ℕ × ℕ) → ℕ → Table
-table_in slots keys starts = record { clients = clients_in slots keys; starts = starts }
+-- a table of what the slots keep, whatever room there is
+abbrev pub table_in : Slab Slot → List (ℕ × ℕ) → Table
+table_in slots keys = record { clients = clients_in slots keys; slots = 0; keys = 0 }
 
 -- the session of a client is in the slot under its key
-pub session_found : (slots : Slab Slot) (keys : List (ℕ × ℕ)) (starts client : ℕ) → All (IsKeyOf slots) keys
-    → session_of (table_in slots keys starts) client ≡ option_map (λ k. k.session) (kept_at slots (lookup (nat_eq client) keys))
-session_found slots keys starts client each =
+pub session_found : (slots : Slab Slot) (keys : List (ℕ × ℕ)) (client : ℕ) → All (IsKeyOf slots) keys
+    → session_of (table_in slots keys) client ≡ option_map (λ k. k.session) (kept_at slots (lookup (nat_eq client) keys))
+session_found slots keys client each =
     lookup-map_values (λ (k : Kept). k.session) (nat_eq client) (clients_in slots keys) ∙ ap (option_map (λ k. k.session)) (kept_found slots keys client each)
 
 -- a client has a session exactly where it has a key
-pub found : (slots : Slab Slot) (keys : List (ℕ × ℕ)) (starts client : ℕ) → All (IsKeyOf slots) keys
-    → is_some (session_of (table_in slots keys starts) client) ≡ is_some (lookup (nat_eq client) keys)
-found slots keys starts client each = ap is_some (session_found slots keys starts client each) ∙ by (lookup (nat_eq client) keys) refl
+pub found : (slots : Slab Slot) (keys : List (ℕ × ℕ)) (client : ℕ) → All (IsKeyOf slots) keys
+    → is_some (session_of (table_in slots keys) client) ≡ is_some (lookup (nat_eq client) keys)
+found slots keys client each = ap is_some (session_found slots keys client each) ∙ by (lookup (nat_eq client) keys) refl
   where
     by : (o : Option ℕ) → lookup (nat_eq client) keys ≡ o → is_some (option_map (λ (k : Kept). k.session) (kept_at slots o)) ≡ is_some o
     by None at = refl
@@ -261,14 +265,14 @@ none_of : {X : Type 0} (o : Option X) → is_some o ≡ false → o ≡ None
 none_of None is = refl
 none_of (Some x) is = absurd (cc)
 
-pub no_session : (slots : Slab Slot) (keys : List (ℕ × ℕ)) (starts client : ℕ) → All (IsKeyOf slots) keys → is_some (lookup (nat_eq client) keys) ≡ false → session_of (table_in slots keys starts) client ≡ None
-no_session slots keys starts client each none = none_of (session_of (table_in slots keys starts) client) (found slots keys starts client each ∙ none)
+pub no_session : (slots : Slab Slot) (keys : List (ℕ × ℕ)) (client : ℕ) → All (IsKeyOf slots) keys → is_some (lookup (nat_eq client) keys) ≡ false → session_of (table_in slots keys) client ≡ None
+no_session slots keys client each none = none_of (session_of (table_in slots keys) client) (found slots keys client each ∙ none)
 
-pub no_key_of : (slots : Slab Slot) (keys : List (ℕ × ℕ)) (starts client : ℕ) → All (IsKeyOf slots) keys → session_of (table_in slots keys starts) client ≡ None → lookup (nat_eq client) keys ≡ None
-no_key_of slots keys starts client each none = none_of (lookup (nat_eq client) keys) (sym (found slots keys starts client each) ∙ ap is_some none)
+pub no_key_of : (slots : Slab Slot) (keys : List (ℕ × ℕ)) (client : ℕ) → All (IsKeyOf slots) keys → session_of (table_in slots keys) client ≡ None → lookup (nat_eq client) keys ≡ None
+no_key_of slots keys client each none = none_of (lookup (nat_eq client) keys) (sym (found slots keys client each) ∙ ap is_some none)
 
-pub sessions_count : (slots : Slab Slot) (keys : List (ℕ × ℕ)) (starts : ℕ) → All (IsKeyOf slots) keys → length (sessions_of (table_in slots keys starts)) ≡ length keys
-sessions_count slots keys starts each = length-map (clients_in slots keys) (λ (e : ℕ × Kept). (e.0, e.1.session)) ∙ clients_count slots keys each
+pub sessions_count : (slots : Slab Slot) (keys : List (ℕ × ℕ)) → All (IsKeyOf slots) keys → length (sessions_of (table_in slots keys)) ≡ length keys
+sessions_count slots keys each = length-map (clients_in slots keys) (λ (e : ℕ × Kept). (e.0, e.1.session)) ∙ clients_count slots keys each
 
 -- what is kept of a client whose key and slot are known
 pub kept_is : (slots : Slab Slot) (keys : List (ℕ × ℕ)) (client key : ℕ) (slot : Slot) → All (IsKeyOf slots) keys
@@ -278,6 +282,10 @@ kept_is slots keys client key slot each at here = kept_found slots keys client e
 pub nothing_kept : (slots : Slab Slot) (keys : List (ℕ × ℕ)) (client : ℕ) → All (IsKeyOf slots) keys → lookup (nat_eq client) keys ≡ None → lookup (nat_eq client) (clients_in slots keys) ≡ None
 nothing_kept slots keys client each none = kept_found slots keys client each ∙ ap (kept_at slots) none
 
+-- a change of a slot leaves as many
+slab_len-with_value : (slots : Slab Slot) (key : ℕ) (was now : Slot) → get slots key ≡ Some was → slab_len (with_value slots key now) ≡ slab_len slots
+slab_len-with_value slots key was now here = grind (arith, common_steps)
+
 -- the change of a slot that a look-up lends
 module _ (slots : Slab Slot) (keys : List (ℕ × ℕ)) (client key : ℕ) (was now : Slot) (linked : AreLinked keys slots)
     (at : lookup (nat_eq client) keys ≡ Some key) (here : get slots key ≡ Some was) where
@@ -285,7 +293,8 @@ module _ (slots : Slab Slot) (keys : List (ℕ × ℕ)) (client key : ℕ) (was 
   wrote = Updates-with_value slots key now (ap is_some here)
 
   pub lent_linked : now.client ≡ was.client → AreLinked keys (with_value slots key now)
-  lent_linked same = write_linked slots (with_value slots key now) client key (Some now) (only_own slots keys client key linked.each at) wrote was now refl here same keys linked at
+  lent_linked same = write_linked slots (with_value slots key now) client key (Some now) (only_own slots keys client key linked.each at) wrote was now refl here same
+      (slab_len-with_value slots key was now here) keys linked at
 
   -- a table of what was kept before
   module _ (before : Table) (view : clients_in slots keys ≡ before.clients) where

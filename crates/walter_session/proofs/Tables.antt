@@ -1,5 +1,5 @@
 -- What follows where what is kept of one client changes, and what is kept of each other stays.
-use Rattle.std.proofs.Common.{◌≡◌, ℕ, ◌+◌, ◌≤◌, Bool, true, false, cond, nat_eq, List, [], ◌∷◌, ◌++◌, map, Option, Some, None, refl, ap, sym, ◌∙◌, subst, arith, option_map, Result, Ok, Err, IsOk, OnOk, if◌then◌else◌}
+use Rattle.std.proofs.Common.{◌≡◌, ℕ, ◌+◌, ◌≤◌, Bool, true, false, cond, nat_eq, List, [], ◌∷◌, ◌++◌, map, Option, Some, None, refl, ap, sym, ◌∙◌, subst, arith, option_map, Result, Ok, Err, IsOk, OnOk, OnSome, if◌then◌else◌}
 use Rattle.std.specs.Prelude.{slice_get}
 use Rattle.std.specs.Option.{option_map_or}
 use Rattle.std.specs.Map.{lookup}
@@ -86,3 +86,7 @@ from_ok (Err e) P is p = absurd (cc)
 pub given_ok : {T E : Type 0} (r : Result T E) (P Q : Type 0) → (P → Q) → OnOk r P → OnOk r Q
 given_ok (Ok x) P Q f p = f p
 given_ok (Err e) P Q f p = tt
+
+pub from_some : {T : Type 0} (o : Option T) (x : T) (P : Type 0) → o ≡ Some x → OnSome o P → P
+from_some (Some y) x P is p = p
+from_some None x P is p = absurd (cc)

@@ -1,5 +1,5 @@
 -- Sessions with the numbers of their clients, in the order of their starts.
-use Rattle.std.specs.Prelude.{◌≡◌, ◌<◌, ◌≤◌, ◌-◌, ◌++◌, ℕ, min, List, [], ◌∷◌, map, filter_map, length, All, Option, Some, None, IsSome, option_map, vec_len, vec_capacity}
+use Rattle.std.specs.Prelude.{◌≡◌, ◌<◌, ◌≤◌, ◌-◌, ◌++◌, ℕ, List, [], ◌∷◌, map, filter_map, length, All, Option, Some, None, IsSome, option_map, vec_len, vec_capacity}
 use Rattle.std.specs.Option.{option_map_or}
 use Rattle.slab.specs.Slab.{Slab, get, slab_len}
 use Rattle.walter_base.specs.declared.names.Tid.{Tid}
@@ -27,11 +27,12 @@ pub record Kept : Type 0 where
   pub session : Seen
   pub room : ℕ
 
--- what is kept of each client that has a session, in the order of the starts, and how many more sessions can start
--- without memory
+-- what is kept of each client that has a session, in the order of the starts; and for how many more sessions there are
+-- slots, and keys, without memory
 pub record Table : Type 0 where
   pub clients : List (ℕ × Kept)
-  pub starts : ℕ
+  pub slots : ℕ
+  pub keys : ℕ
 
 -- the sessions with their clients, in the order of their starts
 abbrev pub sessions_of : Table → List (ℕ × Seen)
@@ -47,7 +48,7 @@ room_of table client = option_map_or (λ kept. kept.room) (of_client client tabl
 
 -- one more session can start without memory
 abbrev pub CanStart : Table → Type 0
-CanStart table = 0 < table.starts
+CanStart table = (0 < table.slots) × (0 < table.keys)
 
 -- a session as it starts
 abbrev pub started : Tid → List ℕ → Seen
@@ -73,15 +74,16 @@ kept_in slot = record { session = seen slot.session; room = vec_capacity slot.se
 abbrev pub clients_in : Slab Slot → List (ℕ × ℕ) → List (ℕ × Kept)
 clients_in slots keys = filter_map (λ e. option_map (λ slot. (e.0, kept_in slot)) (get slots e.1)) keys
 
--- how many more slots there is room for, where so many more keys fit
-abbrev pub starts_in : Slab Slot → ℕ → ℕ
-starts_in slots keys = min (slots.capacity - slab_len slots) keys
+-- how many more slots there is room for
+abbrev pub slots_left : Slab Slot → ℕ
+slots_left slots = slots.capacity - slab_len slots
 
 -- the key is that of a slot of this client
 abbrev pub IsKeyOf : Slab Slot → ℕ × ℕ → Type 0
 IsKeyOf slots e = (slot : Slot) × (get slots e.1 ≡ Some slot) × (slot.client ≡ e.0)
 
--- the key of each client is that of a slot of this client, and each client has one key at most
+-- the key of each client is that of a slot of this client, each client has one key at most, and there is no other slot
 pub record AreLinked (keys : List (ℕ × ℕ)) (slots : Slab Slot) : Type 0 where
   pub each : All (IsKeyOf slots) keys
   pub apart : AreApart keys
+  pub counted : slab_len slots ≡ length keys

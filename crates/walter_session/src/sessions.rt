@@ -1,4 +1,4 @@
-ghost use Rattle.std.specs.Prelude.{◌≡◌, ◌<◌, ◌≤◌, ◌+◌, ◌++◌, ◌∷◌, ◌↔◌, [], ℕ, nat_eq, length, slice_get, false, None, IsSome, IsOk, IsTrue, OnOk, OnErr, IfErr, option_map, if◌then◌else◌};
+ghost use Rattle.std.specs.Prelude.{◌≡◌, ◌<◌, ◌≤◌, ◌+◌, ◌++◌, ◌∷◌, ◌↔◌, [], ℕ, nat_eq, length, slice_get, false, None, IsSome, is_some, IsOk, IsTrue, OnOk, OnErr, IfErr, option_map, if◌then◌else◌};
 ghost use Rattle.std.specs.List.{list_any};
 ghost use Rattle.std.specs.Option.{option_copied, option_map_or};
 ghost use Rattle.walter_base.specs.ByClient.{AreApart, changed, without};
@@ -27,11 +27,11 @@ pub struct Sessions {
 
 impl Model for Sessions {
     ghost use Rattle.indexmap.specs.IndexMap.{spare};
-    ghost use Rattle.walter_session.specs.Sessions.{Table, clients_in, starts_in, AreLinked};
+    ghost use Rattle.walter_session.specs.Sessions.{Table, clients_in, slots_left, AreLinked};
 
     ghost Value = { Table };
 
-    ghost view = { λ s. record { clients = clients_in s.slots s.keys.entries; starts = starts_in s.slots (spare s.keys) } };
+    ghost view = { λ s. record { clients = clients_in s.slots s.keys.entries; slots = slots_left s.slots; keys = spare s.keys } };
 
     ghost invariant = { λ s. AreLinked s.keys.entries s.slots };
 }
@@ -206,10 +206,12 @@ impl Sessions {
         }
     }
 
-    /// Ends the session of a client, where it has one. The order of the others stays.
+    /// Ends the session of a client, where it has one, and frees its slot. The order of the others stays.
     pub fn end(&mut self, client: u32)
         ensures sessions { sessions_of self.new ≡ without client (sessions_of self.old) }
         ensures room { (other : ℕ) → room_of self.new other ≡ (if nat_eq client other then 0 else room_of self.old other) }
+        ensures freed { self.new.slots ≡ self.old.slots + (if is_some (session_of self.old client) then 1 else 0) }
+        ensures keys { self.old.keys ≤ self.new.keys }
         ensures starts { CanStart self.old → CanStart self.new }
     {
         // There are 256 keys at most to be shifted.

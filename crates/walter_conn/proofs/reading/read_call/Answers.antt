@@ -2,5 +2,5 @@ use Rattle.std.proofs.Common.{subst}
 use Rattle.walter_request.specs.Requests.{IsFaultOf}
 use Rattle.walter_conn.proofs.reading.read_call.Goals as goal
 
-pub returns-in-Err-BadFrame : goal.returns-in-Err-BadFrame
-returns-in-Err-BadFrame c = subst (IsFaultOf c.args.body.now) c.in-Err-BadFrame.field-0-is c.in-Err-BadFrame.ensures.fault
+pub returns-in-Err-BadFrame-clause-call : goal.returns-in-Err-BadFrame-clause-call
+returns-in-Err-BadFrame-clause-call c = subst (IsFaultOf c.args.body.now) c.in-Err-BadFrame.field-0-is c.in-Err-BadFrame.ensures.fault

@@ -6,7 +6,7 @@ use Rattle.walter_session.proofs.sessions.Sessions.get.Goals as goal
 
 pub returns-in_default : goal.returns-in_default
 returns-in_default c =
-    let none = session_found c.self.inside.slots c.self.inside.keys.entries 0 c.args.client c.self.invariant.each
+    let none = session_found c.self.inside.slots c.self.inside.keys.entries c.args.client c.self.invariant.each
     ∙ ap (λ key. option_map (λ (k : Kept). k.session) (kept_at c.self.inside.slots key)) (sym c.get.ensures.value ∙ sym c.copied.ensures ∙ c.in_default.is) in
     sym none ∙ ap (λ table. session_of table c.args.client) c.self.view_is
 
@@ -18,7 +18,7 @@ returns-in_err-slot c =
 pub returns : goal.returns
 returns c =
     let at = sym c.get.ensures.value ∙ sym c.copied.ensures ∙ c.in-Some.is in
-    let here = session_found c.self.inside.slots c.self.inside.keys.entries 0 c.args.client c.self.invariant.each
+    let here = session_found c.self.inside.slots c.self.inside.keys.entries c.args.client c.self.invariant.each
     ∙ ap (λ key. option_map (λ (k : Kept). k.session) (kept_at c.self.inside.slots key)) at
     ∙ ap (λ slot. option_map (λ (k : Kept). k.session) (option_map kept_in slot)) (sym c.in_ok-slot.ensures) in
     sym here ∙ ap (λ table. session_of table c.args.client) c.self.view_is

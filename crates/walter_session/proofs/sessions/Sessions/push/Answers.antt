@@ -43,7 +43,7 @@ returns c =
     let here = sym c.in-Some-get_mut.ensures.value in
     let kept = lent_kept slots entries client key was now c.self.invariant at here before view in
     let wrote = lent_clients slots entries client key was now c.self.invariant at here before view f c.push.ensures.session in
-    let sets = changed_sets before (table_in (with_value slots key now) entries 0) client (moved f (kept_in now).room) (kept_in was) wrote kept in
+    let sets = changed_sets before (table_in (with_value slots key now) entries) client (moved f (kept_in now).room) (kept_in was) wrote kept in
     let seen = ap seen_of wrote ∙ seen-changed client (kept_in now).room f before.clients in
     record {
       added = seen;

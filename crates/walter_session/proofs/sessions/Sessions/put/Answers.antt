@@ -15,10 +15,10 @@ invariant_of-self c =
     let client = c.args.client in
     let made = c.insert_reserved-key.ensures in
     let can = subst CanStart (sym c.self.view_is) c.requires.room in
-    let absent = no_key_of slots entries 0 client c.self.invariant.each (ap (λ table. session_of table client) c.self.view_is ∙ c.requires.none) in
+    let absent = no_key_of slots entries client c.self.invariant.each (ap (λ table. session_of table client) c.self.view_is ∙ c.requires.none) in
     let all = from_ok c.insert.result _ (c.insert.ensures.succeeds (omega (arith, can))) c.insert.ensures.entries ∙ insert_entry-new nat_eq c.self.inside.keys client c.insert_reserved-key.result absent in
     subst (λ keys. AreLinked keys c.insert_reserved-key.new.self) (sym all)
-    (put_linked slots c.insert_reserved-key.new.self client c.insert_reserved-key.result _ (λ slot is. absurd (cc (made.was_vacant))) made.updates entries _ refl refl c.self.invariant absent)
+    (put_linked slots c.insert_reserved-key.new.self client c.insert_reserved-key.result _ (λ slot is. absurd (cc (made.was_vacant))) made.updates entries _ refl refl c.self.invariant absent made.len)
 
 pub returns : goal.returns
 returns c =
@@ -28,7 +28,7 @@ returns c =
     let key = c.insert_reserved-key.result in
     let made = c.insert_reserved-key.ensures in
     let can = subst CanStart (sym c.self.view_is) c.requires.room in
-    let absent = no_key_of slots entries 0 client c.self.invariant.each (ap (λ table. session_of table client) c.self.view_is ∙ c.requires.none) in
+    let absent = no_key_of slots entries client c.self.invariant.each (ap (λ table. session_of table client) c.self.view_is ∙ c.requires.none) in
     let all = from_ok c.insert.result _ (c.insert.ensures.succeeds (omega (arith, can))) c.insert.ensures.entries ∙ insert_entry-new nat_eq c.self.inside.keys client key absent in
     let clients = ap (clients_in c.insert_reserved-key.new.self) all
     ∙ put_clients slots c.insert_reserved-key.new.self client key _ (λ slot is. absurd (cc (made.was_vacant))) made.updates entries _ refl c.self.invariant.each absent in
@@ -38,5 +38,5 @@ returns c =
     record {
       started = ap seen_of behind ∙ map-append (λ (e : ℕ × Kept). (e.0, e.1.session)) c.args.self.now.clients ((client, kept_in slot) ∷ [])
           ∙ ap (λ us. sessions_of c.args.self.now ++ (client, record { tid = c.args.tid; snapshot = c.args.snapshot; updates = us; stage = Open }) ∷ []) c.new.ensures.items;
-      room = rooms_behind c.args.self.now (table_in c.insert_reserved-key.new.self c.insert.new.self.entries 0) client (kept_in slot) behind fresh;
+      room = rooms_behind c.args.self.now (table_in c.insert_reserved-key.new.self c.insert.new.self.entries) client (kept_in slot) behind fresh;
     }

@@ -17,7 +17,7 @@ invariant_of-self-2 c =
 pub returns-in_default-clause-enough : goal.returns-in_default-clause-enough
 returns-in_default-clause-enough c is =
     let none = ap (λ table. is_some (session_of table c.args.client)) (sym c.self.view_is)
-    ∙ found c.self.inside.slots c.self.inside.keys.entries 0 c.args.client c.self.invariant.each ∙ ap is_some (sym c.get.ensures.value ∙ sym c.copied.ensures ∙ c.in_default.is) in
+    ∙ found c.self.inside.slots c.self.inside.keys.entries c.args.client c.self.invariant.each ∙ ap is_some (sym c.get.ensures.value ∙ sym c.copied.ensures ∙ c.in_default.is) in
     absurd (cc (none, is))
 
 pub returns-in_default-get_mut : goal.returns-in_default-get_mut
@@ -40,7 +40,7 @@ returns c =
     let here = sym c.in-Some-get_mut.ensures.value in
     let kept = lent_kept slots entries client key was now c.self.invariant at here before view in
     let wrote = lent_clients slots entries client key was now c.self.invariant at here before view same c.make_room.ensures.session in
-    let sets = changed_sets before (table_in (with_value slots key now) entries 0) client (moved same (kept_in now).room) (kept_in was) wrote kept in
+    let sets = changed_sets before (table_in (with_value slots key now) entries) client (moved same (kept_in now).room) (kept_in was) wrote kept in
     let seen = ap seen_of wrote ∙ seen-changed client (kept_in now).room same before.clients in
     let more = c.make_room.ensures.more in
     record {
