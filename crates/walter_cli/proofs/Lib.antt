@@ -1,4 +1,2 @@
 pub mod WordLines
 pub mod Turns
-pub mod Giving
-pub mod Runs

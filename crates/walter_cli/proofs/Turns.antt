@@ -23,7 +23,8 @@ use Rattle.walter_cell.specs.declared.cell.Cell.{Cell}
 use Rattle.walter_cell.specs.declared.cell.Serve.{Serve}
 use Rattle.walter_cell.specs.declared.cell.Serve.TheVariants as serve
 use Rattle.walter_cell.specs.Cells.{IsSite, IsCell, IsLineAt, Grows, IsCallOf, TurnsTo, Acts, IsTiedAsMany}
-use Rattle.walter_cli.specs.Plays.{IsTurn, IsEvent, Takes, Plays, IsOfClients, AreArmed, ArmsMore, armed_by, arms_of, arms_by, spent, over, served, came}
+use Rattle.walter_cell.specs.Entries.{IsOfClients}
+use Rattle.walter_cli.specs.Plays.{IsTurn, IsEvent, Takes, Plays, AreArmed, ArmsMore, armed_by, arms_of, arms_by, spent, over, served, came}
 use Rattle.walter_cell.proofs.Asked.{of_disks_so}
 use Rattle.walter_cell.proofs.Lines.{calls_same}
 
