@@ -5,6 +5,7 @@ use Rattle.std.proofs.lemmas.List.{length-replicate, get_or-replicate}
 use Rattle.std.proofs.lemmas.List.Elements.{All-nil, All-push}
 use Rattle.std.proofs.lemmas.Option.{slice_get_within, get_or_from_slice_get}
 use Rattle.walter_base.specs.declared.catalog.Catalog.{Catalog}
+use Rattle.walter_disk.specs.Images.{LeavesOnly}
 use Rattle.walter_disk.specs.declared.disk.Disk.{Ghosts}
 use Rattle.walter_engine.specs.Engines.{catalog_in, site_in, capacity_in, disk_in, Stands}
 use Rattle.walter_scenario.specs.declared.scenario.Scenario.{Scenario}
@@ -52,10 +53,15 @@ from_found found x P is holds = subst (λ o. IfSome o P) is holds
 pub to_found : {X : Type 0} (found : Option X) (x : X) (P : X → Type 0) → found ≡ Some x → P x → IfSome found P
 to_found found x P is holds = subst (λ o. IfSome o P) (sym is) holds
 
--- what a call says of the disks of an engine before and after it, where one has this disk before
-pub from_old : {D : Type 0} (old new : Option D) (disk : D) (R : D → D → Type 0) → old ≡ Some disk → IfSome old (λ before. IfSome new (λ after. R before after))
-    → IfSome new (λ after. R disk after)
-from_old old new disk R is both = from_found old disk (λ before. IfSome new (λ after. R before after)) is both
+-- what a crash now leaves of the disk in an engine, by what one leaves at any moment of a call
+pub leaves_now : {D : Type 0} (g : Ghosts D) → ((disk : D) (t : ℕ) (image : List ℕ) → t ≤ g.moment disk → g.may_leave disk image → g.left_since disk t image)
+    → (old new : Option D) (disk : D) (P : List ℕ → Type 0) → old ≡ Some disk → IfSome old (λ before. IfSome new (λ after. LeavesOnly g.moment g.left_since before after P))
+    → IfSome new (λ after. (image : List ℕ) → g.may_leave after image → P image)
+leaves_now {D = D} g counts_now old new disk P is both = by new (from_found old disk (λ before. IfSome new (λ after. LeavesOnly g.moment g.left_since before after P)) is both)
+  where
+    by : (found : Option D) → IfSome found (λ after. LeavesOnly g.moment g.left_since disk after P) → IfSome found (λ after. (image : List ℕ) → g.may_leave after image → P image)
+    by None leaves = tt
+    by (Some after) leaves = λ image left. leaves.each image (counts_now after (g.moment disk) image leaves.later left)
 
 -- the same, told of an equal list
 module _ {X : Type 0} (P : List X → Type 0) where

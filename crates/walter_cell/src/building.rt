@@ -1,5 +1,4 @@
 ghost use Rattle.std.specs.Prelude.{◌≡◌, ◌<◌, ◌∷◌, [], ℕ, List, length, vec_capacity, IsSome, IfOk};
-ghost use Rattle.walter_disk.specs.Images.{LeavesOnly};
 ghost use Rattle.walter_engine.specs.Begins.{HasOnly, IsBegun, IsFaultOfBegin, MayHaveBegun};
 ghost use Rattle.walter_scenario.specs.Parts.{IsCapacity};
 ghost use Rattle.walter_trail.specs.Trails.{opening};
@@ -29,11 +28,10 @@ pub fn build<D: Disk + Drop>(
     ensures known { IsSome (D.known disk).reads → IfOk result (IsKnown scenario.now) }
     ensures opening { IfOk result (λ cell. cell.entries.items ≡ opening ∷ []) }
 
-    // What is answered, by the bytes that the disk has, where a crash leaves nothing else; and what a crash at any moment
-    // of it leaves.
+    // What is answered, by the bytes that the disk has, where a crash leaves nothing else; and what one leaves then.
     ensures begins { (bytes : List ℕ) → HasOnly D.Disk bytes disk → IsBegun bytes (begun_by result) }
-    ensures any_moment { (bytes : List ℕ) → HasOnly D.Disk bytes disk
-        → OfBuilt result (λ now. LeavesOnly D.moment D.left_since disk now (MayHaveBegun bytes)) }
+    ensures leaves { (bytes : List ℕ) → HasOnly D.Disk bytes disk
+        → OfBuilt result (λ now. (image : List ℕ) → D.may_leave now image → MayHaveBegun bytes image) }
     ensures faults { OfBuilt result (λ now. IsFaultOfBegin (begun_by result) (D.known disk).faults (D.known now).faults) }
     ensures arms { OfBuilt result (λ now. (D.known now).arms ≡ (D.known disk).arms) }
 {

@@ -1,2 +1,4 @@
 pub mod WordLines
 pub mod Turns
+pub mod Giving
+pub mod Early
