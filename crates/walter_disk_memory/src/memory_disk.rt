@@ -144,7 +144,7 @@ impl MemoryDisk {
     }
 }
 
-/// A disk without an arm has never failed, and none of its calls is to fail. A law of what a disk is, which does nothing.
+/// A disk without an arm has never failed, and none of its calls is to fail. A law of each disk, which does nothing.
 pub fn unarmed_never_failed(disk: &MemoryDisk)
     ensures { FailsOnlyIfArmed disk.now }
 {

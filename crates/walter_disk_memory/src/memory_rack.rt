@@ -88,7 +88,7 @@ impl MemoryRack {
         &self.given
     }
 
-    /// Those that were given back without an arm have never failed. A law of what a rack is, which does nothing.
+    /// Those that were given back without an arm have never failed. A law of each rack, which does nothing.
     pub fn given_unarmed_never_failed(&self)
         ensures { All (λ it. FailsOnlyIfArmed it.1) self.now.given }
     {

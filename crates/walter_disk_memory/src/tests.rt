@@ -1,7 +1,8 @@
 use super::*;
 use std::alloc::Global;
+use std::process::Abort;
 use std::test::Fail;
-use walter_disk::{Disk, Failed, Mem, NoMemory, Rack, write_and_sync};
+use walter_disk::{Disk, Failed, Mem, NoMemory, Rack};
 
 const OLD: &[u8] = b"aaaabbbbcccc";
 
@@ -9,125 +10,175 @@ fn disk_of(alloc: Global, bytes: &[u8]) -> Mem<MemoryDisk> {
     MemoryDisk::holding(alloc, bytes.to_vec(alloc)?)
 }
 
-// Writes four bytes, with room for it.
-fn write<D: Disk>(disk: &mut D, at: u8, bytes: &[u8; 4]) -> Result<bool, NoMemory> {
-    let at = u64::from(at);
-    disk.reserve(at + 4, 1)?;
-    if at > disk.size() {
-        return Ok(false);
+// A call on a disk. A write is of four such bytes.
+#[derive(Clone, Copy)]
+enum Step {
+    Arm(u64, u64),
+    Write(u8, u8),
+    Read,
+    Sync,
+    Settle,
+}
+
+// Makes the call, with room for it, and says whether it went well.
+fn goes_well<D: Disk>(disk: &mut D, step: Step) -> Result<bool, NoMemory> {
+    match step {
+        Step::Arm(nth, choice) => Ok(nth != 0 && disk.arm(nth, choice).is_ok()),
+        Step::Write(at, byte) => writes(disk, u64::from(at), byte),
+        Step::Read => Ok(reads(disk)),
+        Step::Sync => syncs(disk),
+        Step::Settle => settles(disk),
     }
-    Ok(disk.write_at(at, bytes).is_ok())
 }
 
-fn sync<D: Disk>(disk: &mut D) -> Result<bool, NoMemory> {
-    disk.reserve(0, 1)?;
-    Ok(disk.sync().is_ok())
+fn writes<D: Disk>(disk: &mut D, at: u64, byte: u8) -> Result<bool, NoMemory> {
+    let end = at.checked_add(4).ok_or(NoMemory)?;
+    disk.reserve(end, 1)?;
+    Ok(at <= disk.size() && disk.write_at(at, &[byte; 4]).is_ok())
 }
 
-fn settle<D: Disk>(disk: &mut D) -> Result<bool, NoMemory> {
-    disk.reserve(0, 1)?;
-    Ok(disk.settle().is_ok())
-}
-
-fn read<D: Disk>(disk: &mut D) -> bool {
+fn reads<D: Disk>(disk: &mut D) -> bool {
     let mut first = [0; 1];
     disk.size() > 0 && disk.read(0, &mut first).is_ok()
 }
 
-#[test]
-fn what_is_written_and_synced_is_read_behind_a_settle(rt: HostRuntime) -> Result<(), Fail> {
-    let mut disk = disk_of(rt.alloc(), OLD)?;
-    disk.reserve(8, 3)?;
-    if disk.size() < 4 {
-        return Err("the disk has its bytes".into());
+fn syncs<D: Disk>(disk: &mut D) -> Result<bool, NoMemory> {
+    disk.reserve(0, 1)?;
+    Ok(disk.sync().is_ok())
+}
+
+fn settles<D: Disk>(disk: &mut D) -> Result<bool, NoMemory> {
+    disk.reserve(0, 1)?;
+    Ok(disk.settle().is_ok())
+}
+
+// A write over old bytes, a sync, a write past the end, a read and a sync.
+const RUN: [Step; 5] = [
+    Step::Write(4, b'1'),
+    Step::Sync,
+    Step::Write(10, b'2'),
+    Step::Read,
+    Step::Sync,
+];
+
+// Whether a run that fails first at this call of it finds these bytes by this choice.
+fn finds(alloc: Global, stop: usize, choice: u64, left: &[u8]) -> Mem<bool> {
+    let mut disk = disk_of(alloc, OLD)?;
+    goes_well(&mut disk, Step::Arm(stop as u64, choice))?;
+    let mut first = 0;
+    for (made, step) in RUN.iter().enumerate() {
+        if !goes_well(&mut disk, *step)? {
+            first = made + 1;
+            break;
+        }
     }
-    write_and_sync(&mut disk, 4, b"1111")?;
-    disk.settle()?;
-    assert_eq!(rt; disk.bytes(), b"aaaa1111cccc".as_slice());
+    Ok(first == stop && settles(&mut disk)? && disk.bytes() == left)
+}
+
+#[test]
+fn a_stop_finds_what_its_choice_says(rt: HostRuntime) -> Result<(), Fail> {
+    // The choice, and what it leaves of a stop before the first sync and of one behind it.
+    let rows: [(u64, &[u8], &[u8]); 5] = [
+        (0, b"aaaabbbbcccc", b"aaaa1111cccc"),
+        (1, b"aaaa1111cccc", b"aaaa1111cc2222"),
+        (
+            7,
+            b"aaaa\x07\x07\x07\x07cccc",
+            b"aaaa1111cc\x07\x07\x07\x07",
+        ),
+        (
+            256,
+            b"aaaa\x00\x00\x00\x00cccc",
+            b"aaaa1111cc\x00\x00\x00\x00",
+        ),
+        (
+            257,
+            b"aaaa\x01\x01\x01\x01cccc",
+            b"aaaa1111cc\x01\x01\x01\x01",
+        ),
+    ];
+    for (choice, before, behind) in rows {
+        for (stop, left) in [
+            (1, before),
+            (2, before),
+            (3, behind),
+            (4, behind),
+            (5, behind),
+        ] {
+            assert!(rt;
+                finds(rt.alloc(), stop, choice, left)?,
+                "call {stop}, choice {choice}"
+            );
+        }
+    }
     Ok(())
 }
 
-// A write over old bytes, a sync, a write past the end, a read and a sync, up to the first that fails.
-fn run<D: Disk>(disk: &mut D) -> Result<u8, NoMemory> {
-    if !write(disk, 4, b"1111")? {
-        return Ok(1);
-    }
-    if !sync(disk)? {
-        return Ok(2);
-    }
-    if !write(disk, 10, b"2222")? {
-        return Ok(3);
-    }
-    if !read(disk) {
-        return Ok(4);
-    }
-    if !sync(disk)? {
-        return Ok(5);
-    }
-    Ok(0)
-}
-
-// Whether a run that stops at one of these calls finds these bytes by this choice.
-fn finds(alloc: Global, stops: &[u8], choice: u64, left: &[u8]) -> Mem<bool> {
-    for stop in stops {
-        if !finds_at(alloc, *stop, choice, left)? {
+// Whether these calls go as it is said beside each, and leave these bytes.
+fn goes_as(alloc: Global, steps: &[(Step, bool)], left: &[u8]) -> Mem<bool> {
+    let mut disk = disk_of(alloc, OLD)?;
+    for (step, well) in steps {
+        if goes_well(&mut disk, *step)? != *well {
             return Ok(false);
         }
     }
-    Ok(true)
-}
-
-fn finds_at(alloc: Global, stop: u8, choice: u64, left: &[u8]) -> Mem<bool> {
-    if stop == 0 {
-        return Ok(false);
-    }
-    let mut disk = disk_of(alloc, OLD)?;
-    disk.arm(u64::from(stop), choice)?;
-    Ok(run(&mut disk)? == stop && settle(&mut disk)? && disk.bytes() == left)
+    unarmed_never_failed(&disk);
+    Ok(disk.bytes() == left)
 }
 
 #[test]
-fn a_stop_before_a_sync_finds_what_its_choice_says(rt: HostRuntime) -> Result<(), Fail> {
+fn calls_fail_as_they_are_armed(rt: HostRuntime) -> Result<(), Fail> {
     let alloc = rt.alloc();
-    assert!(rt; finds(alloc, &[1, 2], 0, b"aaaabbbbcccc")?);
-    assert!(rt; finds(alloc, &[1, 2], 1, b"aaaa1111cccc")?);
-    assert!(rt; finds(alloc, &[1, 2], 7, b"aaaa\x07\x07\x07\x07cccc")?);
-    assert!(rt; finds(alloc, &[1, 2], 256, b"aaaa\x00\x00\x00\x00cccc")?);
-    assert!(rt; finds(alloc, &[1, 2], 257, b"aaaa\x01\x01\x01\x01cccc")?);
-    Ok(())
+    // Without an arm no call fails, and a settle drops what pends.
+    let unarmed = [
+        (Step::Write(4, b'1'), true),
+        (Step::Sync, true),
+        (Step::Write(0, b'2'), true),
+        (Step::Settle, true),
+    ];
+    assert!(rt; goes_as(alloc, &unarmed[..3], b"22221111cccc")?);
+    assert!(rt; goes_as(alloc, &unarmed, b"aaaa1111cccc")?);
+    // A broken disk fails until it has settled.
+    let broken = [
+        (Step::Arm(1, 1), true),
+        (Step::Sync, false),
+        (Step::Write(0, b'1'), false),
+        (Step::Read, false),
+        (Step::Settle, true),
+        (Step::Read, true),
+    ];
+    assert!(rt; goes_as(alloc, &broken[..4], OLD)?);
+    assert!(rt; goes_as(alloc, &broken, b"1111bbbbcccc")?);
+    later_arms(&rt)
 }
 
-#[test]
-fn a_stop_behind_a_sync_keeps_what_was_synced(rt: HostRuntime) -> Result<(), Fail> {
+fn later_arms<R: Abort + AllocGlobal>(rt: &R) -> Result<(), Fail> {
     let alloc = rt.alloc();
-    assert!(rt; finds(alloc, &[3, 4, 5], 0, b"aaaa1111cccc")?);
-    assert!(rt; finds(alloc, &[3, 4, 5], 1, b"aaaa1111cc2222")?);
-    assert!(rt; finds(alloc, &[3, 4, 5], 7, b"aaaa1111cc\x07\x07\x07\x07")?);
-    assert!(rt; finds(alloc, &[3, 4, 5], 256, b"aaaa1111cc\x00\x00\x00\x00")?);
-    assert!(rt; finds(alloc, &[3, 4, 5], 257, b"aaaa1111cc\x01\x01\x01\x01")?);
+    // An arm beyond stays through a settle.
+    let beyond = [
+        (Step::Arm(3, 1), true),
+        (Step::Write(0, b'1'), true),
+        (Step::Settle, true),
+        (Step::Read, true),
+        (Step::Write(0, b'2'), false),
+        (Step::Settle, true),
+    ];
+    assert!(rt; goes_as(alloc, &beyond[..3], OLD)?);
+    assert!(rt; goes_as(alloc, &beyond, b"2222bbbbcccc")?);
+    // A later arm takes the place of one to come, and one that came keeps its choice.
+    let replaced = [
+        (Step::Arm(1, 7), true),
+        (Step::Arm(2, 0), true),
+        (Step::Write(0, b'1'), true),
+        (Step::Read, false),
+        (Step::Arm(1, 1), true),
+        (Step::Settle, true),
+        (Step::Write(0, b'3'), false),
+        (Step::Settle, true),
+    ];
+    assert!(rt; goes_as(alloc, &replaced[..6], OLD)?);
+    assert!(rt; goes_as(alloc, &replaced, b"3333bbbbcccc")?);
     Ok(())
-}
-
-#[test]
-fn without_an_arm_no_call_fails_and_a_settle_drops_what_pends(rt: HostRuntime) -> Result<(), Fail> {
-    let mut disk = MemoryDisk::new(rt.alloc());
-    assert!(rt; write(&mut disk, 0, b"aaaa")?);
-    assert!(rt; sync(&mut disk)?);
-    assert!(rt; write(&mut disk, 2, b"bbbb")?);
-    assert_eq!(rt; disk.bytes(), b"aabbbb".as_slice());
-    assert!(rt; settle(&mut disk)?);
-    assert_eq!(rt; disk.bytes(), b"aaaa".as_slice());
-    Ok(())
-}
-
-// Writes four bytes behind the others and makes them safe.
-fn append<D: Disk>(disk: &mut D, bytes: &[u8; 4]) -> Result<bool, NoMemory> {
-    let at = disk.size();
-    let Some(end) = at.checked_add(4) else {
-        return Ok(false);
-    };
-    disk.reserve(end, 1)?;
-    Ok(disk.write_at(at, bytes).is_ok() && sync(disk)?)
 }
 
 #[test]
@@ -138,59 +189,14 @@ fn a_big_disk_has_room_for_many_small_writes(rt: HostRuntime) -> Result<(), Fail
     // A copy of the disk for each call would be two terabytes.
     disk.reserve(2_000_000, 1_000_000)?;
     for _ in 0..2000 {
-        assert!(rt; append(&mut disk, b"1234")?);
+        let end = disk.size();
+        assert!(rt; writes(&mut disk, end, b'1')? && syncs(&mut disk)?);
     }
-    assert!(rt; write(&mut disk, 0, b"gone")?);
-    assert!(rt; settle(&mut disk)?);
+    assert!(rt; writes(&mut disk, 0, b'2')? && settles(&mut disk)?);
     assert_eq!(rt; disk.bytes().len(), big + 8000);
     assert!(rt; disk.bytes().starts_with(b"oooo"));
     assert_eq!(rt; disk.bytes()[big - 1], b'o');
-    assert!(rt; disk.bytes().ends_with(b"12341234"));
-    Ok(())
-}
-
-#[test]
-fn a_broken_disk_fails_until_it_has_settled(rt: HostRuntime) -> Result<(), Fail> {
-    let mut disk = disk_of(rt.alloc(), OLD)?;
-    disk.arm(1, 1)?;
-    assert!(rt; !sync(&mut disk)?);
-    assert!(rt; !write(&mut disk, 0, b"1111")?);
-    assert!(rt; !read(&mut disk));
-    assert_eq!(rt; disk.bytes(), OLD);
-    assert!(rt; settle(&mut disk)?);
-    assert!(rt; read(&mut disk));
-    assert_eq!(rt; disk.bytes(), b"1111bbbbcccc".as_slice());
-    Ok(())
-}
-
-#[test]
-fn an_arm_beyond_stays_through_a_settle(rt: HostRuntime) -> Result<(), Fail> {
-    let mut disk = disk_of(rt.alloc(), OLD)?;
-    disk.arm(3, 1)?;
-    assert!(rt; write(&mut disk, 0, b"1111")?);
-    assert!(rt; settle(&mut disk)?);
-    assert_eq!(rt; disk.bytes(), OLD);
-    assert!(rt; read(&mut disk));
-    assert!(rt; !write(&mut disk, 0, b"2222")?);
-    assert!(rt; settle(&mut disk)?);
-    assert_eq!(rt; disk.bytes(), b"2222bbbbcccc".as_slice());
-    Ok(())
-}
-
-#[test]
-fn a_later_arm_takes_the_place_of_one_to_come(rt: HostRuntime) -> Result<(), Fail> {
-    let mut disk = disk_of(rt.alloc(), OLD)?;
-    disk.arm(1, 7)?;
-    disk.arm(2, 0)?;
-    assert!(rt; write(&mut disk, 0, b"1111")?);
-    assert!(rt; !read(&mut disk));
-    // One that came keeps its choice.
-    disk.arm(1, 1)?;
-    assert!(rt; settle(&mut disk)?);
-    assert_eq!(rt; disk.bytes(), OLD);
-    assert!(rt; !write(&mut disk, 0, b"3333")?);
-    assert!(rt; settle(&mut disk)?);
-    assert_eq!(rt; disk.bytes(), b"3333bbbbcccc".as_slice());
+    assert!(rt; disk.bytes().ends_with(b"11111111"));
     Ok(())
 }
 
@@ -217,24 +223,17 @@ fn a_rack_hands_out_what_it_holds_and_keeps_what_is_given(rt: HostRuntime) -> Re
     contents.push(b"zero".to_vec(alloc)?)?;
     contents.push(b"one".to_vec(alloc)?)?;
     let mut rack = MemoryRack::holding(alloc, contents);
-    assert!(rt; take_and_give(&mut rack, 1).is_ok());
-    assert!(rt; take_and_give(&mut rack, 0).is_ok());
-    assert!(rt; take_and_give(&mut rack, 2).is_ok());
-    assert_eq!(rt; rack.given().len(), 3);
-    assert!(rt; was_given(&rack, 0, 1, b"one"));
-    assert!(rt; was_given(&rack, 1, 0, b"zero"));
-    assert!(rt; was_given(&rack, 2, 2, b""));
-    Ok(())
-}
-
-#[test]
-fn a_rack_fails_at_the_calls_that_are_listed(rt: HostRuntime) -> Result<(), Fail> {
-    let alloc = rt.alloc();
-    let mut rack = MemoryRack::new(alloc);
+    let rows: [(u8, &[u8]); 3] = [(1, b"one"), (0, b"zero"), (2, b"")];
+    for (place, (site, bytes)) in rows.into_iter().enumerate() {
+        assert!(rt; take_and_give(&mut rack, site).is_ok());
+        assert!(rt; was_given(&rack, place, site, bytes));
+    }
+    let mut rack = MemoryRack::with_room(alloc, 1)?;
     rack.set_failing([2, 3].to_vec(alloc)?);
-    assert!(rt; take_and_give(&mut rack, 0).is_err());
-    assert!(rt; take_and_give(&mut rack, 0).is_err());
-    assert!(rt; take_and_give(&mut rack, 0).is_ok());
+    for well in [false, false, true] {
+        assert_eq!(rt; take_and_give(&mut rack, 0).is_ok(), well);
+    }
     assert_eq!(rt; rack.given().len(), 1);
+    rack.given_unarmed_never_failed();
     Ok(())
 }

@@ -1,4 +1,4 @@
-//! Faults of what may fail: how many there were, and, where a test plans them, which calls they come at. And what counts
+//! Faults of what may fail: how many there were, and, where a test plans them, which calls they come at. They are counted
 //! in proofs alone.
 #![tactic(auto)]
 

@@ -51,7 +51,9 @@ impl<D: Disk> Journal<D> {
     pub fn arm(&mut self, nth: u64, choice: u64) -> Mem<()>
         requires { 0 < nth }
         ensures armed { let old = D.known (disk_of self.old) in
-            OnOk result (D.known (disk_of self.new) ≡ record old { arms = option_map (λ arms. arms ++ (nth, choice) ∷ []) old.arms }) }
+            OnOk result (D.known (disk_of self.new) ≡ record old {
+              arms = option_map (λ arms. arms ++ (nth, choice) ∷ []) old.arms;
+            }) }
         ensures same { OnErr result (D.known (disk_of self.new) ≡ D.known (disk_of self.old)) }
         ensures capacity { capacity_of self.new ≡ capacity_of self.old }
         ensures end { end_of self.new ≡ end_of self.old }
