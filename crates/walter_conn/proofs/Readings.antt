@@ -6,11 +6,11 @@ use Rattle.walter_fields.proofs.Numbers.{length-number_spelled, same_number}
 use Rattle.walter_fields.proofs.Readings.{same_block}
 use Rattle.walter_request.proofs.Places.{no_bad_frame, one_place}
 use Rattle.walter_request.proofs.Prefixes.{one_request}
-use Rattle.walter_conn.specs.Frames.{frame, Call, IsCallOf, IsFrontOfFrame, IsBegun}
+use Rattle.walter_conn.specs.Frames.{frame, Call, CallsFor, IsFrontOfFrame, IsBegun}
 use Rattle.walter_conn.specs.Sequences.{BeginsWith, BeginsTooLong}
 
 -- a body calls for one thing
-one_call : (body : List ℕ) (a b : Call) → IsCallOf body a → IsCallOf body b → a ≡ b
+one_call : (body : List ℕ) (a b : Call) → CallsFor body a → CallsFor body b → a ≡ b
 one_call body (Ok a) (Ok b) is_a is_b = let same = one_request body a b is_a is_b in λ i. Ok (same i)
 one_call body (Ok a) (Err b) is_a is_b = absurd (no_bad_frame body a b.at is_a is_b)
 one_call body (Err a) (Ok b) is_a is_b = absurd (no_bad_frame body b a.at is_b is_a)
@@ -23,7 +23,7 @@ same_frame a b x y short_a short_b e = same_block a b x y (omega (arith, short_a
 pub one_begin : (bytes : List ℕ) (a b : Call) (x y : List ℕ) → BeginsWith bytes a x → BeginsWith bytes b y → (a ≡ b) × (x ≡ y)
 one_begin bytes a b x y one other =
     let same = same_frame one.body other.body x y one.short other.short (sym one.is ∙ other.is) in
-    (one_call other.body a b (subst (λ t. IsCallOf t a) same.0 one.is_call) other.is_call, same.1)
+    (one_call other.body a b (subst (λ t. CallsFor t a) same.0 one.is_call) other.is_call, same.1)
 
 -- a length that no frame has begins no frame
 pub too_long_stops : (bytes : List ℕ) (a b : Call) (x y : List ℕ) → BeginsTooLong bytes b y → ¬ BeginsWith bytes a x

@@ -2,9 +2,9 @@
 use Rattle.std.proofs.Common.{◌≡◌, ◌≢◌, ℕ, List, [], ◌∷◌, ◌++◌, Option, Some, None, refl, sym, subst, ◌∙◌, inl, inr, arith}
 use Rattle.std.proofs.lemmas.Option.{none-some, same_Some}
 use Rattle.walter_stream.specs.Streams.{AtEnd, TakesFront}
-use Rattle.walter_conn.specs.Calls.{opened, Incoming, TakesCall, TakesFrame, TakesTooLong, IsOver, Breaks, before, fault, cut}
+use Rattle.walter_conn.specs.Calls.{fresh_incoming, Incoming, TakesCall, TakesFrame, TakesTooLong, IsEnded, IsBroken, before, fault, cut}
 use Rattle.walter_conn.specs.Frames.{frame, Call, EndsInFrame}
-use Rattle.walter_conn.specs.Sequences.{BeginsWith, AreFrames, EndTooLong, AreCalls, AreAllCalls, AreRead, Stands}
+use Rattle.walter_conn.specs.Sequences.{BeginsWith, AreFrames, EndTooLong, AreCalls, AreAllCalls, AreRead, HasCalled}
 use Rattle.walter_conn.specs.Sequences as all
 use Rattle.walter_conn.specs.declared.state.State.{State}
 use Rattle.walter_conn.specs.declared.state.State.TheVariants.{Open, Closed, Broken}
@@ -19,25 +19,25 @@ one_more bytes [] rest call left frames begins = (left, subst (λ t. BeginsWith 
 one_more bytes (x ∷ xs) rest call left frames begins = (frames.0, frames.1, one_more frames.0 xs rest call left frames.2 begins)
 
 -- what was read, in a state that is known
-read_in : (bytes : List ℕ) (calls : List Call) (incoming : Incoming) (state : State) (stands : Stands bytes calls incoming) → incoming.state ≡ state → AreRead bytes calls stands.rest state
+read_in : (bytes : List ℕ) (calls : List Call) (incoming : Incoming) (state : State) (stands : HasCalled bytes calls incoming) → incoming.state ≡ state → AreRead bytes calls stands.rest state
 read_in bytes calls incoming state stands is = subst (AreRead bytes calls stands.rest) is stands.read
 
-pub at_the_start : (bytes : List ℕ) (faults : ℕ) → Stands bytes [] (opened (Some bytes) faults)
+pub at_the_start : (bytes : List ℕ) (faults : ℕ) → HasCalled bytes [] (fresh_incoming (Some bytes) faults)
 at_the_start bytes faults = record { rest = bytes; unread = refl; read = refl }
 
-pub one_more_call : (bytes : List ℕ) (calls : List Call) (old new : Incoming) (call : Call) → Stands bytes calls old → TakesCall old new call → Stands bytes (calls ++ (call ∷ [])) new
+pub one_more_call : (bytes : List ℕ) (calls : List Call) (old new : Incoming) (call : Call) → HasCalled bytes calls old → TakesCall old new call → HasCalled bytes (calls ++ (call ∷ [])) new
 one_more_call bytes calls old new call stands takes = elim takes.takes [ inl whole ↦ by_frame whole | inr long ↦ by_length long ]
   where
     frames : AreFrames bytes calls stands.rest
     frames = read_in bytes calls old Open stands takes.was_open
 
-    by_frame : TakesFrame old new call → Stands bytes (calls ++ (call ∷ [])) new
+    by_frame : TakesFrame old new call → HasCalled bytes (calls ++ (call ∷ [])) new
     by_frame whole =
         let left = told old.unread new.unread (frame whole.body) stands.rest whole.taken stands.unread in
         let begins : BeginsWith stands.rest call left.0 = record { body = whole.body; short = whole.short; is_call = whole.is_call; is = left.2 } in
         record { rest = left.0; unread = left.1; read = subst (AreRead bytes (calls ++ (call ∷ [])) left.0) (sym whole.still_open) (one_more bytes calls stands.rest call left.0 frames begins) }
 
-    by_length : TakesTooLong old new call → Stands bytes (calls ++ (call ∷ [])) new
+    by_length : TakesTooLong old new call → HasCalled bytes (calls ++ (call ∷ [])) new
     by_length long =
         let left = told old.unread new.unread long.front stands.rest long.taken stands.unread in
         let end : EndTooLong bytes (calls ++ (call ∷ [])) left.0 = record {
@@ -50,10 +50,10 @@ one_more_call bytes calls old new call stands takes = elim takes.takes [ inl who
         } in
         record { rest = left.0; unread = left.1; read = subst (AreRead bytes (calls ++ (call ∷ [])) left.0) (sym long.closed) end }
 
-pub over_keeps : (bytes : List ℕ) (calls : List Call) (old new : Incoming) → Stands bytes calls old → IsOver old new → Stands bytes calls new
-over_keeps bytes calls old new stands over = subst (Stands bytes calls) (sym over.same) stands
+pub over_keeps : (bytes : List ℕ) (calls : List Call) (old new : Incoming) → HasCalled bytes calls old → IsEnded old new → HasCalled bytes calls new
+over_keeps bytes calls old new stands over = subst (HasCalled bytes calls) (sym over.same) stands
 
-pub over_all : (bytes : List ℕ) (calls : List Call) (old new : Incoming) → Stands bytes calls old → IsOver old new → AreAllCalls bytes calls
+pub over_all : (bytes : List ℕ) (calls : List Call) (old new : Incoming) → HasCalled bytes calls old → IsEnded old new → AreAllCalls bytes calls
 over_all bytes calls old new stands over = elim over.cause [
   | inl closed ↦ all.too_long stands.rest (read_in bytes calls old Closed stands closed)
   | inr end ↦ all.ended (subst (λ t. AreFrames bytes calls t) (subst AtEnd stands.unread end.1) (read_in bytes calls old Open stands end.0))
@@ -64,22 +64,22 @@ are_calls bytes calls rest Open read = inl read
 are_calls bytes calls rest Closed read = inr read
 are_calls bytes calls rest Broken read = read
 
-pub lost_keeps : (bytes : List ℕ) (calls : List Call) (old : Incoming) → Stands bytes calls old → Stands bytes calls (record old { state = Broken })
+pub lost_keeps : (bytes : List ℕ) (calls : List Call) (old : Incoming) → HasCalled bytes calls old → HasCalled bytes calls (record old { state = Broken })
 lost_keeps bytes calls old stands = record { rest = stands.rest; unread = stands.unread; read = are_calls bytes calls stands.rest old.state stands.read }
 
-pub breaks_keeps : (bytes : List ℕ) (calls : List Call) (old new : Incoming) → Stands bytes calls old → Breaks old new → Stands bytes calls new
-breaks_keeps bytes calls old new stands (before was same) = subst (Stands bytes calls) (sym same) stands
+pub breaks_keeps : (bytes : List ℕ) (calls : List Call) (old new : Incoming) → HasCalled bytes calls old → IsBroken old new → HasCalled bytes calls new
+breaks_keeps bytes calls old new stands (before was same) = subst (HasCalled bytes calls) (sym same) stands
 breaks_keeps bytes calls old new stands (fault was rose same broken) = record {
   rest = stands.rest;
   unread = same ∙ stands.unread;
   read = subst (AreRead bytes calls stands.rest) (sym broken) (are_calls bytes calls stands.rest old.state stands.read);
 }
-breaks_keeps bytes calls old new stands (cut was ends is) = subst (Stands bytes calls) (sym is) (lost_keeps bytes calls old stands)
+breaks_keeps bytes calls old new stands (cut was ends is) = subst (HasCalled bytes calls) (sym is) (lost_keeps bytes calls old stands)
 
-pub breaks_all : (bytes : List ℕ) (calls : List Call) (old new : Incoming) → Stands bytes calls old → Breaks old new → old.state ≢ Broken → new.faults ≡ old.faults → AreAllCalls bytes calls
+pub breaks_all : (bytes : List ℕ) (calls : List Call) (old new : Incoming) → HasCalled bytes calls old → IsBroken old new → old.state ≢ Broken → new.faults ≡ old.faults → AreAllCalls bytes calls
 breaks_all bytes calls old new stands (before was same) used faultless = absurd (used was)
 breaks_all bytes calls old new stands (fault was rose same broken) used faultless = absurd (omega (arith, rose, faultless))
 breaks_all bytes calls old new stands (cut was ends is) used faultless = all.cut stands.rest (read_in bytes calls old Open stands was) (subst EndsInFrame stands.unread ends)
 
-pub calls_of : (bytes : List ℕ) (calls : List Call) (incoming : Incoming) (rest : List ℕ) → Stands bytes calls incoming → incoming.unread ≡ Some rest → AreCalls bytes calls rest
+pub calls_of : (bytes : List ℕ) (calls : List Call) (incoming : Incoming) (rest : List ℕ) → HasCalled bytes calls incoming → incoming.unread ≡ Some rest → AreCalls bytes calls rest
 calls_of bytes calls incoming rest stands told = subst (AreCalls bytes calls) (same_Some stands.rest rest (sym stands.unread ∙ told)) (are_calls bytes calls stands.rest incoming.state stands.read)

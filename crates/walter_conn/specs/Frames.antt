@@ -13,9 +13,9 @@ abbrev pub frame : List ℕ → List ℕ
 frame body = block_spelled body
 
 -- what a body calls for: the request that it spells, or the place of what is wrong with it
-abbrev pub IsCallOf : List ℕ → Call → Type 0
-IsCallOf body (Ok request) = Spells body request
-IsCallOf body (Err bad) = IsBadFrame body bad.at
+abbrev pub CallsFor : List ℕ → Call → Type 0
+CallsFor body (Ok request) = Spells body request
+CallsFor body (Err bad) = IsBadFrame body bad.at
 
 -- four bytes that spell a length that no frame has
 pub record IsTooLong (bytes : List ℕ) : Type 0 where

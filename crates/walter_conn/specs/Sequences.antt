@@ -1,7 +1,7 @@
 -- What a client's bytes call for, in order, and how far they were read (docs/FORMATS.md, "Frames of a client").
 use Rattle.std.specs.Prelude.{◌≡◌, ◌⊎◌, ◌≤◌, ℕ, List, [], ◌∷◌, ◌++◌, length, Some, Err}
 use Rattle.walter_conn.specs.Calls.{Incoming}
-use Rattle.walter_conn.specs.Frames.{frame, Call, IsCallOf, IsTooLong, IsBegun}
+use Rattle.walter_conn.specs.Frames.{frame, Call, CallsFor, IsTooLong, IsBegun}
 use Rattle.walter_conn.specs.declared.state.State.{State}
 use Rattle.walter_conn.specs.declared.state.State.TheVariants.{Open, Closed, Broken}
 
@@ -9,7 +9,7 @@ use Rattle.walter_conn.specs.declared.state.State.TheVariants.{Open, Closed, Bro
 pub record BeginsWith (bytes : List ℕ) (call : Call) (rest : List ℕ) : Type 0 where
   pub body : List ℕ
   pub short : length body ≤ 65536
-  pub is_call : IsCallOf body call
+  pub is_call : CallsFor body call
   pub is : bytes ≡ frame body ++ rest
 
 -- a length that no frame has stands at the front, which is a bad frame; the rest is behind it
@@ -53,7 +53,7 @@ AreRead bytes calls rest Closed = EndTooLong bytes calls rest
 AreRead bytes calls rest Broken = AreCalls bytes calls rest
 
 -- of all the bytes that the client sends these calls were read, and what is behind them is unread
-pub record Stands (bytes : List ℕ) (calls : List Call) (incoming : Incoming) : Type 0 where
+pub record HasCalled (bytes : List ℕ) (calls : List Call) (incoming : Incoming) : Type 0 where
   pub rest : List ℕ
   pub unread : incoming.unread ≡ Some rest
   pub read : AreRead bytes calls rest incoming.state

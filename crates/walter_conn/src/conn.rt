@@ -1,5 +1,5 @@
 ghost use Rattle.std.specs.Prelude.{◌≡◌, ◌≢◌, ◌+◌, ◌≤◌, length, vec_len, true, false, Ok, IfOk, IfErr, OnOk, OnErr};
-ghost use Rattle.walter_conn.specs.Calls.{opened, Answers};
+ghost use Rattle.walter_conn.specs.Calls.{fresh_incoming, Answers};
 ghost use Rattle.walter_conn.specs.Frames.{frame, Call};
 ghost use Rattle.walter_conn.specs.Inputs.{held_by, body_of};
 ghost use Rattle.walter_conn.specs.Outputs.{IsLost};
@@ -7,8 +7,8 @@ ghost use Rattle.walter_conn.specs.declared.state.State.TheVariants.{Open};
 ghost use Rattle.walter_reply.specs.Replies.{reply_spelled, FitsFrame};
 ghost use Rattle.walter_stream.specs.Streams.{Appends};
 
-use crate::input::{Arrival, Input, LONGEST};
-use crate::next::{Broken, Next};
+use crate::input::{Arrival, FrameInput, LONGEST};
+use crate::next::{BrokenConn, Next};
 use crate::output::write_frame;
 use crate::reading::read_call;
 use crate::state::State;
@@ -20,7 +20,7 @@ use walter_stream::{Sink, Source, write_all};
 /// A connection with a client, over where its bytes come from and where they go.
 #[derive(Drop)]
 pub struct Conn<S: Source + Drop, K: Sink + Drop> {
-    input: Input<S>,
+    input: FrameInput<S>,
     sink: K,
     // The frame of a reply.
     output: Appender,
@@ -48,7 +48,7 @@ impl<S: Source + Drop, K: Sink + Drop> Conn<S, K> {
     /// Takes the memory for a frame of the client, and for one to it. Where there is none, the source and the sink come back.
     pub fn new(alloc: Global, source: S, sink: K) -> Result<Conn<S, K>, (S, K)>
         ensures incoming { IfOk result (λ conn.
-            incoming conn ≡ opened (S.left source) (S.faults source)) }
+            incoming conn ≡ fresh_incoming (S.left source) (S.faults source)) }
         ensures source { IfOk result (λ conn. source_of conn ≡ source) }
         ensures sink { IfOk result (λ conn. sink_of conn ≡ sink) }
         ensures back { IfErr result (λ parts. (parts.0 ≡ source) × (parts.1 ≡ sink)) }
@@ -60,7 +60,7 @@ impl<S: Source + Drop, K: Sink + Drop> Conn<S, K> {
             return Err((source, sink));
         };
         Ok(Conn {
-            input: Input::new(source, buffer),
+            input: FrameInput::new(source, buffer),
             sink,
             output,
             state: State::Open,
@@ -74,7 +74,7 @@ impl<S: Source + Drop, K: Sink + Drop> Conn<S, K> {
         ensures sink { result.1 ≡ sink_of self }
     {
         let Conn { input, sink, .. } = self;
-        let Input { source, .. } = input;
+        let FrameInput { source, .. } = input;
         (source, sink)
     }
 
@@ -124,7 +124,7 @@ impl<S: Source + Drop, K: Sink + Drop> Conn<S, K> {
     }
 
     /// Writes the frame of a reply. It takes no memory. What the client sends stays as it was.
-    pub fn put(&mut self, reply: &Reply) -> Result<(), Broken>
+    pub fn put(&mut self, reply: &Reply) -> Result<(), BrokenConn>
         requires { FitsFrame reply.now }
         ensures whole { OnOk result (Appends (K.holds (sink_of self.old)) (K.holds (sink_of self.new))
             (frame (reply_spelled reply.now))) }
@@ -139,12 +139,12 @@ impl<S: Source + Drop, K: Sink + Drop> Conn<S, K> {
         ensures held { holds_frame self.new ≡ holds_frame self.old }
     {
         if let State::Broken = self.state {
-            return Err(Broken);
+            return Err(BrokenConn);
         }
         write_frame(&mut self.output, reply);
         if write_all(&mut self.sink, self.output.as_slice()).is_err() {
             self.state = State::Broken;
-            return Err(Broken);
+            return Err(BrokenConn);
         }
         Ok(())
     }

@@ -24,25 +24,25 @@ pub(crate) enum Arrival {
 
 /// A source, and the bytes of the next frame that were taken from it.
 #[derive(Drop)]
-pub(crate) struct Input<S: Source + Drop> {
+pub(crate) struct FrameInput<S: Source + Drop> {
     pub source: S,
     pub buffer: Vec<u8>,
     // How many bytes of the buffer are held.
     pub held: usize,
 }
 
-impl<S: Source + Drop> Input<S> {
+impl<S: Source + Drop> FrameInput<S> {
     ghost use Rattle.walter_conn.specs.Inputs.{held_by, unread_by, body_of, HoldsFrame};
 
     /// None of the bytes is held.
     #[tactic(auto, using(crate::proofs::InputLemmas::unread_none))]
-    pub(crate) fn new(source: S, buffer: Vec<u8>) -> Input<S>
+    pub(crate) fn new(source: S, buffer: Vec<u8>) -> FrameInput<S>
         ensures source { result.source ≡ source }
         ensures buffer { result.buffer ≡ buffer }
         ensures held { result.held ≡ 0 }
         ensures unread { unread_by S.left result ≡ S.left source }
     {
-        Input {
+        FrameInput {
             source,
             buffer,
             held: 0,

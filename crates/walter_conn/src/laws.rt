@@ -1,7 +1,7 @@
 ghost use Rattle.std.specs.Prelude.{◌≡◌, ◌≢◌, ◌⊎◌, ◌++◌, ◌∷◌, ℕ, List, [], Some};
-ghost use Rattle.walter_conn.specs.Calls.{opened, Incoming, TakesCall, IsOver, Breaks};
+ghost use Rattle.walter_conn.specs.Calls.{fresh_incoming, Incoming, TakesCall, IsEnded, IsBroken};
 ghost use Rattle.walter_conn.specs.Frames.{Call};
-ghost use Rattle.walter_conn.specs.Sequences.{AreCalls, AreAllCalls, IsFrontOf, Stands};
+ghost use Rattle.walter_conn.specs.Sequences.{AreCalls, AreAllCalls, IsFrontOf, HasCalled};
 ghost use Rattle.walter_conn.specs.declared.state.State.TheVariants.{Broken};
 
 /// Bytes call for one list of calls at most, in one order.
@@ -17,24 +17,24 @@ pub fn calls_in_order()
 
 /// What `Conn::next` and `Conn::put` answer tells which of the client's calls were read, where the source tells its bytes.
 pub fn what_was_called()
-    ensures opens { (bytes : List ℕ) (faults : ℕ) → Stands bytes [] (opened (Some bytes) faults) }
+    ensures opens { (bytes : List ℕ) (faults : ℕ) → HasCalled bytes [] (fresh_incoming (Some bytes) faults) }
     ensures frame { (bytes : List ℕ) (calls : List Call) (old new : Incoming) (call : Call)
-        → Stands bytes calls old → TakesCall old new call → Stands bytes (calls ++ (call ∷ [])) new }
+        → HasCalled bytes calls old → TakesCall old new call → HasCalled bytes (calls ++ (call ∷ [])) new }
     ensures over { (bytes : List ℕ) (calls : List Call) (old new : Incoming)
-        → Stands bytes calls old → IsOver old new → Stands bytes calls new }
+        → HasCalled bytes calls old → IsEnded old new → HasCalled bytes calls new }
     ensures ended { (bytes : List ℕ) (calls : List Call) (old new : Incoming)
-        → Stands bytes calls old → IsOver old new → AreAllCalls bytes calls }
+        → HasCalled bytes calls old → IsEnded old new → AreAllCalls bytes calls }
     ensures breaks { (bytes : List ℕ) (calls : List Call) (old new : Incoming)
-        → Stands bytes calls old → Breaks old new → Stands bytes calls new }
+        → HasCalled bytes calls old → IsBroken old new → HasCalled bytes calls new }
 
     // Where it was not broken before and no call on the source failed, the bytes end inside a frame.
     ensures cut { (bytes : List ℕ) (calls : List Call) (old new : Incoming)
-        → Stands bytes calls old → Breaks old new → old.state ≢ Broken → new.faults ≡ old.faults
+        → HasCalled bytes calls old → IsBroken old new → old.state ≢ Broken → new.faults ≡ old.faults
         → AreAllCalls bytes calls }
 
     // A reply that was lost breaks the connection.
     ensures lost { (bytes : List ℕ) (calls : List Call) (old : Incoming)
-        → Stands bytes calls old → Stands bytes calls (record old { state = Broken }) }
+        → HasCalled bytes calls old → HasCalled bytes calls (record old { state = Broken }) }
     ensures calls { (bytes : List ℕ) (calls : List Call) (incoming : Incoming) (rest : List ℕ)
-        → Stands bytes calls incoming → incoming.unread ≡ Some rest → AreCalls bytes calls rest }
+        → HasCalled bytes calls incoming → incoming.unread ≡ Some rest → AreCalls bytes calls rest }
 {}

@@ -11,7 +11,7 @@ mod state;
 
 pub use conn::Conn;
 pub use laws::{calls_in_order, what_was_called};
-pub use next::{Broken, Next};
+pub use next::{BrokenConn, Next};
 
 #[cfg(test)]
 mod tests;

@@ -15,4 +15,4 @@ pub enum Next {
 /// A connection that isn't used on.
 #[derive(Clone, Copy, Debug, PartialEq, Eq, Error)]
 #[error("the connection is broken")]
-pub struct Broken;
+pub struct BrokenConn;

@@ -1,5 +1,5 @@
 ghost use Rattle.std.specs.Prelude.{◌≤◌, length, IfOk, OnErr};
-ghost use Rattle.walter_conn.specs.Frames.{IsCallOf};
+ghost use Rattle.walter_conn.specs.Frames.{CallsFor};
 ghost use Rattle.walter_request.specs.Requests.{SpellsWrite};
 
 use std::alloc::Global;
@@ -10,7 +10,7 @@ use walter_request::{RequestFault, decode};
 /// What the body of a frame calls for. Only the bytes of a Write take memory.
 pub(crate) fn read_call(alloc: Global, body: &[u8]) -> Mem<Call>
     requires { length body.now ≤ 65536 }
-    ensures call { IfOk result (λ call. IsCallOf body.now call) }
+    ensures call { IfOk result (λ call. CallsFor body.now call) }
     ensures write { OnErr result (SpellsWrite body.now) }
 {
     match decode(alloc, body) {

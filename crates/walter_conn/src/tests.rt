@@ -1,7 +1,7 @@
 ghost use Rattle.std.specs.Prelude.{◌≡◌, ◌<◌, ◌≤◌, length, take, Some, Ok, IfOk, OnOk, OnErr};
 ghost use Rattle.walter_stream.specs.Streams.{AtEnd, TakesFront};
 
-use crate::{Broken, Conn, Next};
+use crate::{BrokenConn, Conn, Next};
 use std::alloc::Global;
 use std::test::Fail;
 use walter_base::{BadFrame, Bytes, Cause, ObjId, Refusal, Reply, Request, SiteId, Version};
@@ -154,8 +154,8 @@ fn replies_are_written_in_frames(rt: HostRuntime) -> Result<(), Fail> {
 fn a_reply_that_is_lost_breaks(rt: HostRuntime) -> Result<(), Fail> {
     let mut conn = conn_to(rt.alloc(), &[0, 0, 0, 1, 1], 7)?;
     assert_eq!(rt; conn.put(&Reply::Done), Ok(()));
-    assert_eq!(rt; conn.put(&Reply::Ended), Err(Broken));
-    assert_eq!(rt; conn.put(&Reply::Done), Err(Broken));
+    assert_eq!(rt; conn.put(&Reply::Ended), Err(BrokenConn));
+    assert_eq!(rt; conn.put(&Reply::Done), Err(BrokenConn));
     assert!(rt; matches!(&conn.next(rt.alloc())?, Next::Broken));
     let (_, sink) = conn.into_parts();
     assert_eq!(rt; sink.as_slice(), [0, 0, 0, 1, 0x82, 0, 0].as_slice());

@@ -9,8 +9,8 @@ abbrev pub number_at : BTreeMap ℕ ℤ → ℕ → ℤ
 number_at tally id = unwrap_or (get nat_cmp tally id) (pos 0)
 
 -- each number can rise or fall by one
-abbrev pub HasRoom : BTreeMap ℕ ℤ → Type 0
-HasRoom tally = (id : ℕ) → ((pos 0 -ℤ pos (2 ^ 63)) <ℤ number_at tally id) × (number_at tally id <ℤ pos (2 ^ 63 - 1))
+abbrev pub CanTally : BTreeMap ℕ ℤ → Type 0
+CanTally tally = (id : ℕ) → ((pos 0 -ℤ pos (2 ^ 63)) <ℤ number_at tally id) × (number_at tally id <ℤ pos (2 ^ 63 - 1))
 
 -- the ids with a number other than 0, by rising id
 pub record AreNumbers (number : ℕ → ℤ) (counts : List (ℕ × ℤ)) : Type 0 where

@@ -2,7 +2,7 @@
 ghost use Rattle.std.specs.Prelude.{◌≡◌, ◌^◌, ◌≤ℤ◌, ◌<ℤ◌, ◌-ℤ◌, ◌+ℤ◌, pos, ℕ, nat_eq, [], ◌∷◌, if◌then◌else◌, OnOk, IfOk};
 ghost use Rattle.std.specs.Ordering.{nat_cmp};
 ghost use Rattle.walter_base.specs.Values.{count_of};
-ghost use Rattle.walter_cset.specs.Tallies.{number_at, HasRoom, AreNumbers};
+ghost use Rattle.walter_cset.specs.Tallies.{number_at, CanTally, AreNumbers};
 
 use std::alloc::Global;
 use std::collections::BTreeMap;
@@ -32,7 +32,7 @@ fn raise(tally: &mut BTreeMap<u64, i64>, id: u64, by: i64) -> Mem<()>
 
 /// Takes the update into the count of its id, and leaves each other one. After want of memory nothing is known of the tally.
 pub fn take_in(tally: &mut BTreeMap<u64, i64>, update: &Update, oid: ObjId) -> Mem<()>
-    requires { HasRoom tally.old }
+    requires { CanTally tally.old }
     ensures { OnOk result ((id : ℕ) → number_at tally.new id ≡ number_at tally.old id +ℤ count_of oid id (update.now ∷ [])) }
 {
     match update {

@@ -6,7 +6,7 @@ use Rattle.std.specs.List.{IsSplitAt}
 use Rattle.std.specs.Prelude.{FitsSigned}
 use Rattle.std.specs.Int.{w64, cast_signed, cast_unsigned}
 use Rattle.std.proofs.lemmas.Int.{ints, to_z-of_z}
-use Rattle.walter_fields.specs.Cursors.{Unread, Takes, LacksBlock, whole_of}
+use Rattle.walter_fields.specs.Cursors.{Remainder, Takes, LacksBlock, whole_of}
 use Rattle.walter_fields.specs.Spellings.{IsBytes, number_spelled, number_read, signed_spelled, block_spelled}
 use Rattle.walter_fields.proofs.Numbers.{length-number_spelled, number_spelled-read, number_read-spelled, number_read-append, same_number}
 
@@ -74,9 +74,9 @@ same_signed a b x y fits_a fits_b e =
     (sym (to_z-of_z w64 a fits_a) ∙ ap (cast_signed w64) numbers.0 ∙ to_z-of_z w64 b fits_b, numbers.1)
 
 -- one spelling is read, and then another
-pub Takes-then : (a b c : Unread) (x y : List ℕ) → Takes a b x → Takes b c y → Takes a c (x ++ y)
+pub Takes-then : (a b c : Remainder) (x y : List ℕ) → Takes a b x → Takes b c y → Takes a c (x ++ y)
 Takes-then a b c x y first second = record { front = first.front ∙ ap (λ t. x ++ t) second.front ∙ sym (append_assoc x y c.left); same = second.same ∙ first.same }
 
 -- at the start all is left
-pub left_of_whole : (cursor : Unread) (body : List ℕ) → cursor ≡ whole_of body → cursor.left ≡ body
-left_of_whole cursor body whole = ap (λ (c : Unread). c.left) whole
+pub left_of_whole : (cursor : Remainder) (body : List ℕ) → cursor ≡ whole_of body → cursor.left ≡ body
+left_of_whole cursor body whole = ap (λ (c : Remainder). c.left) whole

@@ -4,21 +4,21 @@ use Rattle.walter_fields.specs.Spellings.{number_read}
 use Rattle.walter_fields.specs.declared.short.Short.{Short}
 
 -- the bytes that are left, and how many there are in all
-pub record Unread : Type 0 where
+pub record Remainder : Type 0 where
   pub left : List ℕ
   pub end : ℕ
 
 -- bytes of which none was read
-abbrev pub whole_of : List ℕ → Unread
+abbrev pub whole_of : List ℕ → Remainder
 whole_of bytes = record { left = bytes; end = length bytes }
 
 -- the spelling began the bytes that were left, and was read
-pub record Takes (old new : Unread) (spelling : List ℕ) : Type 0 where
+pub record Takes (old new : Remainder) (spelling : List ℕ) : Type 0 where
   pub front : old.left ≡ spelling ++ new.left
   pub same : new.end ≡ old.end
 
 -- nothing was read, and the byte behind the last is wanting
-pub record IsShort (old new : Unread) (short : Short) : Type 0 where
+pub record IsWanting (old new : Remainder) (short : Short) : Type 0 where
   pub wanting : short.at ≡ old.end
   pub unread : new ≡ old
 

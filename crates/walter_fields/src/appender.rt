@@ -14,9 +14,9 @@ pub struct Appender {
 
 impl Model for Appender {
     ghost use Rattle.std.specs.Prelude.{◌≤◌, ◌+◌, vec_len, vec_capacity};
-    ghost use Rattle.walter_fields.specs.Appenders.{Written};
+    ghost use Rattle.walter_fields.specs.Appenders.{BytesWithRoom};
 
-    ghost Value = { Written };
+    ghost Value = { BytesWithRoom };
 
     ghost view = { λ a. record { bytes = a.bytes.items; room = a.room } };
 

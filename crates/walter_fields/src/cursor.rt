@@ -1,5 +1,5 @@
 ghost use Rattle.std.specs.Prelude.{◌≡◌, ◌↔◌, ◌+◌, ◌<◌, ◌^◌, ◌++◌, ℕ, List, [], length, IsErr, IsTrue, IfOk, IfErr, Ok};
-ghost use Rattle.walter_fields.specs.Cursors.{Takes, IsShort, LacksBlock, whole_of};
+ghost use Rattle.walter_fields.specs.Cursors.{Takes, IsWanting, LacksBlock, whole_of};
 ghost use Rattle.walter_fields.specs.Spellings.{number_read, number_spelled, signed_spelled, block_spelled};
 
 use crate::short::Short;
@@ -15,10 +15,10 @@ pub struct Cursor<'a> {
 
 impl<'a> Model for Cursor<'a> {
     ghost use Rattle.std.specs.Prelude.{◌≤◌, length};
-    ghost use Rattle.walter_fields.specs.Cursors.{Unread};
+    ghost use Rattle.walter_fields.specs.Cursors.{Remainder};
     ghost use Rattle.walter_fields.specs.Spellings.{IsBytes};
 
-    ghost Value = { Unread };
+    ghost Value = { Remainder };
 
     ghost view = { λ c. record { left = c.left.now; end = c.end } };
 
@@ -62,7 +62,7 @@ impl<'a> Cursor<'a> {
         ensures number { IfOk result
             (λ front. Takes self.old self.new (number_spelled count (number_read count front.now))) }
         ensures short { IsErr result ↔ (length self.old.left < count) }
-        ensures err { IfErr result (IsShort self.old self.new) }
+        ensures err { IfErr result (IsWanting self.old self.new) }
     {
         let Some((front, rest)) = self.left.split_at_checked(count) else {
             return Err(Short { at: self.end });
@@ -75,7 +75,7 @@ impl<'a> Cursor<'a> {
     pub fn u8(&mut self) -> Result<u8, Short>
         ensures taken { IfOk result (λ n. Takes self.old self.new (number_spelled 1 n)) }
         ensures short { IsErr result ↔ (length self.old.left < 1) }
-        ensures err { IfErr result (IsShort self.old self.new) }
+        ensures err { IfErr result (IsWanting self.old self.new) }
     {
         Ok(self.take(1)?[0])
     }
@@ -84,7 +84,7 @@ impl<'a> Cursor<'a> {
     pub fn u16(&mut self) -> Result<u16, Short>
         ensures taken { IfOk result (λ n. Takes self.old self.new (number_spelled 2 n)) }
         ensures short { IsErr result ↔ (length self.old.left < 2) }
-        ensures err { IfErr result (IsShort self.old self.new) }
+        ensures err { IfErr result (IsWanting self.old self.new) }
     {
         Ok(BigEndian::read_u16(self.take(2)?))
     }
@@ -93,7 +93,7 @@ impl<'a> Cursor<'a> {
     pub fn u32(&mut self) -> Result<u32, Short>
         ensures taken { IfOk result (λ n. Takes self.old self.new (number_spelled 4 n)) }
         ensures short { IsErr result ↔ (length self.old.left < 4) }
-        ensures err { IfErr result (IsShort self.old self.new) }
+        ensures err { IfErr result (IsWanting self.old self.new) }
     {
         Ok(BigEndian::read_u32(self.take(4)?))
     }
@@ -102,7 +102,7 @@ impl<'a> Cursor<'a> {
     pub fn u64(&mut self) -> Result<u64, Short>
         ensures taken { IfOk result (λ n. Takes self.old self.new (number_spelled 8 n)) }
         ensures short { IsErr result ↔ (length self.old.left < 8) }
-        ensures err { IfErr result (IsShort self.old self.new) }
+        ensures err { IfErr result (IsWanting self.old self.new) }
     {
         Ok(BigEndian::read_u64(self.take(8)?))
     }
@@ -110,7 +110,7 @@ impl<'a> Cursor<'a> {
     pub fn i64(&mut self) -> Result<i64, Short>
         ensures taken { IfOk result (λ z. Takes self.old self.new (signed_spelled z)) }
         ensures short { IsErr result ↔ (length self.old.left < 8) }
-        ensures err { IfErr result (IsShort self.old self.new) }
+        ensures err { IfErr result (IsWanting self.old self.new) }
     {
         Ok(self.u64()?.cast_signed())
     }
@@ -120,7 +120,7 @@ impl<'a> Cursor<'a> {
         ensures taken { IfOk result (λ bytes. Takes self.old self.new (block_spelled bytes.now)) }
         ensures counted { IfOk result (λ bytes. length bytes.now < 2 ^ 32) }
         ensures short { IsErr result ↔ LacksBlock self.old.left }
-        ensures err { IfErr result (IsShort self.old self.new) }
+        ensures err { IfErr result (IsWanting self.old self.new) }
     {
         let short = Short { at: self.end };
         let Some((length, rest)) = self.left.split_at_checked(4) else {

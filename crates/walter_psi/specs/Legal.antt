@@ -12,8 +12,8 @@ use Rattle.walter_base.specs.Values.{value_of, count_of, AreCounts, write_set, D
 use Rattle.walter_psi.specs.declared.step.Answer.{Answer}
 use Rattle.walter_psi.specs.declared.step.Answer.TheVariants.{Value, Counts, Count}
 use Rattle.walter_psi.specs.declared.step.Level.TheVariants.{NotCommitted, Committed, Durable, Visible}
-use Rattle.walter_psi.specs.declared.step.Told.{Told as Notice}
-use Rattle.walter_psi.specs.declared.step.Told.TheVariants.{Version as OfVersion, Level as OfLevel}
+use Rattle.walter_psi.specs.declared.step.Notice.{Notice}
+use Rattle.walter_psi.specs.declared.step.Notice.TheVariants.{Version as OfVersion, Level as OfLevel}
 use Rattle.walter_psi.specs.declared.step.Step.{Step}
 use Rattle.walter_psi.specs.declared.step.Step.TheVariants.{Start, Op, Read, Commit, Arrive, Abort, Told}
 use Rattle.walter_psi.specs.Histories.{log, commits, snapshot, own_updates, committed_updates, seen_updates, IsStarted, IsCommitted}
@@ -47,10 +47,10 @@ IsOutside x steps oid version =
     (y : Tid) × IsVersionOf steps version y × Contains (write_set (committed_updates steps y)) oid × ¬ Contains (snapshot x steps) y
 
 -- the cause of an abort was there
-abbrev pub IsCause : Tid → List Step → Cause → Type 0
-IsCause x steps Asked = Unit {0}
-IsCause x steps (Modified oid version) = Contains (write_set (own_updates x steps)) oid × IsOutside x steps oid version
-IsCause x steps (Locked oid owner) = Contains (write_set (own_updates x steps)) oid × (owner ≢ x)
+abbrev pub IsCauseOfAbort : Tid → List Step → Cause → Type 0
+IsCauseOfAbort x steps Asked = Unit {0}
+IsCauseOfAbort x steps (Modified oid version) = Contains (write_set (own_updates x steps)) oid × IsOutside x steps oid version
+IsCauseOfAbort x steps (Locked oid owner) = Contains (write_set (own_updates x steps)) oid × (owner ≢ x)
 
 -- what was told of a transaction is so
 abbrev pub IsTrueNotice : Tid → List Step → Notice → Type 0
@@ -80,7 +80,7 @@ IsLegalStep steps (Op x update) = IsRunning x steps
 IsLegalStep steps (Read x oid answer) = IsRunning x steps × IsAnswer oid (seen_updates x steps) answer
 IsLegalStep steps (Commit x updates) = IsLegalCommit x updates steps
 IsLegalStep steps (Arrive x site) = IsLegalArrival x site steps
-IsLegalStep steps (Abort x cause) = IsRunning x steps × IsCause x steps cause
+IsLegalStep steps (Abort x cause) = IsRunning x steps × IsCauseOfAbort x steps cause
 IsLegalStep steps (Told x what) = IsTrueNotice x steps what
 
 -- each step may follow the steps before it

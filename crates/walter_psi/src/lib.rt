@@ -12,4 +12,4 @@ mod tests;
 pub use checker::first_illegal;
 pub use laws::{one_more_step, state_after_step};
 pub use properties::{causality, no_concurrent_writers, snapshot_reads, timestamps};
-pub use step::{Answer, Level, Step, Told};
+pub use step::{Answer, Level, Notice, Step};

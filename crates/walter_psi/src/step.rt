@@ -22,7 +22,7 @@ pub enum Level {
 
 /// What a client is told of a transaction that is over.
 #[derive(Clone, Copy, Debug, PartialEq, Eq)]
-pub enum Told {
+pub enum Notice {
     /// It is committed, as this version.
     Version(Version),
     /// It has come this far.
@@ -45,5 +45,5 @@ pub enum Step {
     /// It is aborted, for this cause.
     Abort(Tid, Cause),
     /// A client is told of it.
-    Told(Tid, Told),
+    Told(Tid, Notice),
 }

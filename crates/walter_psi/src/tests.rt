@@ -1,5 +1,5 @@
 //! Worked histories, with what the paper says of each.
-use super::{Answer, Level, Step, Told, first_illegal};
+use super::{Answer, Level, Notice, Step, first_illegal};
 use std::alloc::Global;
 use std::process::Abort;
 use std::test::Fail;
@@ -20,7 +20,7 @@ enum Move<'a> {
     CommitNothing(Tid),
     Arrive(Tid, SiteId),
     Abort(Tid, Cause),
-    Told(Tid, Told),
+    Told(Tid, Notice),
 }
 
 use Move::*;
@@ -153,7 +153,7 @@ fn reads_see_the_snapshot_and_what_the_transaction_did_itself(rt: HostRuntime) -
             Write(A, X, b'x'),
             Read(A, X, Some(b'x')),
             Commit(A),
-            Told(A, Told::Version(FIRST)),
+            Told(A, Notice::Version(FIRST)),
         ],
         None,
     )?;
@@ -399,7 +399,7 @@ fn what_is_told_is_so(rt: HostRuntime) -> Result<(), Fail> {
         &[
             Start(A),
             Write(A, X, b'x'),
-            Told(A, Told::Level(Level::NotCommitted)),
+            Told(A, Notice::Level(Level::NotCommitted)),
             Commit(A),
         ],
         Some(3),
@@ -411,7 +411,7 @@ fn what_is_told_is_so(rt: HostRuntime) -> Result<(), Fail> {
             Start(A),
             Write(A, X, b'x'),
             Commit(A),
-            Told(A, Told::Version(SECOND)),
+            Told(A, Notice::Version(SECOND)),
         ],
         Some(3),
     )?;
@@ -422,7 +422,7 @@ fn what_is_told_is_so(rt: HostRuntime) -> Result<(), Fail> {
             Start(A),
             Write(A, X, b'x'),
             Commit(A),
-            Told(A, Told::Version(NONE_YET)),
+            Told(A, Notice::Version(NONE_YET)),
         ],
         Some(3),
     )?;
@@ -433,17 +433,17 @@ fn what_is_told_is_so(rt: HostRuntime) -> Result<(), Fail> {
             Start(A),
             Write(A, X, b'x'),
             Commit(A),
-            Told(A, Told::Level(Level::Committed)),
-            Told(A, Told::Level(Level::Durable)),
-            Told(A, Told::Level(Level::Visible)),
-            Told(A, Told::Level(Level::NotCommitted)),
+            Told(A, Notice::Level(Level::Committed)),
+            Told(A, Notice::Level(Level::Durable)),
+            Told(A, Notice::Level(Level::Visible)),
+            Told(A, Notice::Level(Level::NotCommitted)),
         ],
         Some(6),
     )?;
     row(
         &rt,
         "a level of what isn't committed",
-        &[Start(A), Told(A, Told::Level(Level::Durable))],
+        &[Start(A), Told(A, Notice::Level(Level::Durable))],
         Some(1),
     )
 }

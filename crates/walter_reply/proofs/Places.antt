@@ -7,7 +7,7 @@ use Rattle.walter_base.specs.declared.message.Refusal.{Refusal}
 use Rattle.walter_base.specs.declared.message.Reply.{Reply}
 use Rattle.walter_base.specs.declared.message.Reply.TheVariants.{Started, Value, Done, Set, Count, Committed, Aborted, Level, Ended, Unsure, Refused}
 use Rattle.walter_base.specs.declared.transaction.Cause.{Cause}
-use Rattle.walter_fields.specs.Cursors.{Unread, Takes, whole_of}
+use Rattle.walter_fields.specs.Cursors.{Remainder, Takes, whole_of}
 use Rattle.walter_fields.specs.Spellings.{IsBytes, number_spelled, block_spelled}
 use Rattle.walter_fields.proofs.Longest.{IsLongest, one_longest}
 use Rattle.walter_fields.proofs.Numbers.{number_spelled-byte}
@@ -25,17 +25,17 @@ bad_front : (body : List ℕ) → IsFront body → IsBadFrame body (length body)
 bad_front [] cut = empty refl refl
 bad_front (byte ∷ body) cut = short cut.more cut.reply (λ e. cc) cut.some cut.spells refl
 
-pub bad_cut : (cursor : Unread) (body : List ℕ) → cursor ≡ whole_of body → IsBytes body → (IsBytes cursor.left → IsFront cursor.left) → IsBadFrame body (length body)
+pub bad_cut : (cursor : Remainder) (body : List ℕ) → cursor ≡ whole_of body → IsBytes body → (IsBytes cursor.left → IsFront cursor.left) → IsBadFrame body (length body)
 bad_cut cursor body whole bytes stop = let is = left_of_whole cursor body whole in bad_front body (subst IsFront is (stop (subst IsBytes (sym is) bytes)))
 
-pub bad_byte : (cursor : Unread) (body : List ℕ) (at : ℕ) → cursor ≡ whole_of body → IsUnknown cursor.left at → IsBadFrame body at
+pub bad_byte : (cursor : Remainder) (body : List ℕ) (at : ℕ) → cursor ≡ whole_of body → IsUnknown cursor.left at → IsBadFrame body at
 bad_byte cursor body at whole is = unknown (subst (λ t. IsUnknown t at) (left_of_whole cursor body whole) is)
 
-pub bad_rest : (cursor after : Unread) (body : List ℕ) (reply : Reply) (at : ℕ) → cursor ≡ whole_of body → IsReply reply → Takes cursor after (reply_spelled reply) → after.left ≢ []
+pub bad_rest : (cursor after : Remainder) (body : List ℕ) (reply : Reply) (at : ℕ) → cursor ≡ whole_of body → IsReply reply → Takes cursor after (reply_spelled reply) → after.left ≢ []
     → at + length after.left ≡ after.end → IsBadFrame body at
 bad_rest cursor after body reply at whole fits taken some place =
     let is : body ≡ reply_spelled reply ++ after.left = sym (left_of_whole cursor body whole) ∙ taken.front in
-    let end : after.end ≡ length body = taken.same ∙ ap (λ (c : Unread). c.end) whole in
+    let end : after.end ≡ length body = taken.same ∙ ap (λ (c : Remainder). c.end) whole in
     behind (reply_spelled reply) after.left reply is some (record { ranges = fits; is = refl }) (omega (arith, place, end, ap length is, length-append (reply_spelled reply) after.left))
 
 -- ---- no two readings

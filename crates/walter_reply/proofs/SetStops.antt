@@ -11,7 +11,7 @@ use Rattle.walter_fields.proofs.Numbers.{length-number_spelled, number_spelled-b
 use Rattle.std.proofs.lemmas.List.{flat_map_more}
 use Rattle.std.proofs.lemmas.List.Elements.{All-push}
 use Rattle.std.proofs.lemmas.List.Quantifiers.{all_pairs_push}
-use Rattle.walter_fields.specs.Cursors.{Unread, Takes}
+use Rattle.walter_fields.specs.Cursors.{Remainder, Takes}
 use Rattle.walter_fields.proofs.Readings.{Takes-then}
 use Rattle.walter_reply.specs.Stops.{StopsBehind}
 use Rattle.walter_reply.specs.declared.fault.Stop.{Stop}
@@ -105,7 +105,7 @@ more_entries entries next are fits above some = record {
   counted = All-push (λ e. e.1 ≢ pos 0) entries next are.counted some;
 }
 
-pub takes_more : (old mid new : Unread) (entries : List (ℕ × ℤ)) (next : ℕ × ℤ) → Takes old mid (flat_map entry_spelled entries) → Takes mid new (entry_spelled next) → Takes old new (flat_map entry_spelled (entries ++ next ∷ []))
+pub takes_more : (old mid new : Remainder) (entries : List (ℕ × ℤ)) (next : ℕ × ℤ) → Takes old mid (flat_map entry_spelled entries) → Takes mid new (entry_spelled next) → Takes old new (flat_map entry_spelled (entries ++ next ∷ []))
 takes_more old mid new entries next first second = subst (Takes old new) (flat_map_more entry_spelled [] entries next) (Takes-then old mid new (flat_map entry_spelled entries) (entry_spelled next) first second)
 
 -- behind entries that were read

@@ -1,14 +1,14 @@
 -- What a reader of replies has taken, and why it stopped (docs/FORMATS.md, "Frames of a client").
 use Rattle.std.specs.Prelude.{◌≡◌, ◌≢◌, ℕ, List, [], ◌++◌, length}
 use Rattle.walter_base.specs.declared.message.Reply.{Reply}
-use Rattle.walter_fields.specs.Cursors.{Unread}
+use Rattle.walter_fields.specs.Cursors.{Remainder}
 use Rattle.walter_fields.specs.Spellings.{IsBytes, number_spelled}
 use Rattle.walter_reply.specs.Replies.{reply_spelled, IsReply, Spells, IsUnknown, IsBadSet}
 use Rattle.walter_reply.specs.declared.fault.Stop.{Stop}
 use Rattle.walter_reply.specs.declared.fault.Stop.TheVariants.{Cut, Unknown, CutSet, BadSet, NoMemory}
 
 -- what was taken ends the spelling of the reply, which the first byte begins
-pub record EndsWith (kind : ℕ) (old new : Unread) (reply : Reply) : Type 0 where
+pub record EndsWith (kind : ℕ) (old new : Remainder) (reply : Reply) : Type 0 where
   pub ranges : IsReply reply
   pub front : number_spelled 1 kind ++ old.left ≡ reply_spelled reply ++ new.left
   pub same : new.end ≡ old.end

@@ -44,8 +44,8 @@ abbrev pub own_numbers : List Record → List ℕ
 own_numbers recs = flat_map own_number recs
 
 -- a commit in the log: "<site>:<number>"
-abbrev pub logged : ℕ → ℕ → List ℕ
-logged site seq = decimal site ++ codes ":" ++ decimal seq
+abbrev pub commit_text : ℕ → ℕ → List ℕ
+commit_text site seq = decimal site ++ codes ":" ++ decimal seq
 
 -- "site <i> <up|down> epoch <e> events <n> records <r>"
 abbrev pub events_part : ℕ → List Entry → List ℕ
@@ -57,7 +57,7 @@ events_part site trail =
 abbrev pub commits_part : ℕ → List ℕ → List ℕ
 commits_part site numbers =
     codes " got " ++ decimal (length numbers) ++ codes " committed " ++ decimal (length numbers)
-    ++ codes " log " ++ or_dash (join_with_byte comma (map (logged site) numbers)) ++ line_feed
+    ++ codes " log " ++ or_dash (join_with_byte comma (map (commit_text site) numbers)) ++ line_feed
 
 abbrev pub site_line : ℕ → List Entry → List ℕ
 site_line site trail = events_part site trail ++ commits_part site (own_numbers (records trail))

@@ -1,7 +1,7 @@
 ghost use Rattle.std.specs.Prelude.{◌≡◌, ◌++◌, false, length, map, OnOk, IfOk};
 ghost use Rattle.std.specs.List.{join_with_byte};
 ghost use Rattle.std.specs.String.{string_bytes};
-ghost use Rattle.walter_report.specs.Sites.{record_in, records, last_epoch, own_numbers, up_from, logged, events_part, commits_part, site_line, site_lines};
+ghost use Rattle.walter_report.specs.Sites.{record_in, records, last_epoch, own_numbers, up_from, commit_text, events_part, commits_part, site_line, site_lines};
 ghost use Rattle.walter_report.specs.Words.{comma};
 ghost use Rattle.walter_trail.specs.Knowledge.{epoch_after};
 ghost use Rattle.walter_trail.specs.Standing.{up_after};
@@ -129,7 +129,7 @@ fn push_number(numbers: &mut Vec<u64>, stable: &Option<Record>) -> Mem<()>
 }
 
 fn log_of(alloc: Global, site: usize, numbers: &[u64]) -> Mem<String>
-    ensures { IfOk result (λ log. string_bytes log ≡ join_with_byte comma (map (logged site) numbers.now)) }
+    ensures { IfOk result (λ log. string_bytes log ≡ join_with_byte comma (map (commit_text site) numbers.now)) }
 {
     let mut log = String::new(alloc);
     for (index, number) in numbers.iter().enumerate() {
@@ -142,7 +142,7 @@ fn log_of(alloc: Global, site: usize, numbers: &[u64]) -> Mem<String>
 }
 
 fn push_logged(log: &mut String, site: usize, number: u64) -> Mem<()>
-    ensures { OnOk result (string_bytes log.new ≡ string_bytes log.old ++ logged site number) }
+    ensures { OnOk result (string_bytes log.new ≡ string_bytes log.old ++ commit_text site number) }
 {
     write!(log, "{site}:{number}")?;
     Ok(())

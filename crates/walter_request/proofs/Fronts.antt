@@ -4,7 +4,7 @@ use Rattle.std.proofs.lemmas.List.{length-append, nil_from_length}
 use Rattle.walter_base.specs.declared.message.Request.{Request}
 use Rattle.walter_base.specs.declared.message.Request.TheVariants.{Start, Read, Write, SetRead, Level}
 use Rattle.walter_base.specs.declared.names.ObjId.{ObjId}
-use Rattle.walter_fields.specs.Cursors.{Unread, Takes, LacksBlock}
+use Rattle.walter_fields.specs.Cursors.{Remainder, Takes, LacksBlock}
 use Rattle.walter_fields.specs.Spellings.{IsBytes, number_spelled, block_spelled}
 use Rattle.walter_fields.proofs.Numbers.{length-number_spelled, number_spelled-byte}
 use Rattle.walter_fields.proofs.Readings.{IsBytes-behind, Takes-then}
@@ -71,7 +71,7 @@ unknown_operation operation left low not = record { byte = operation; rest = lef
 
 -- ---- bytes behind a Write
 
-pub leaves_write : (old mid new : Unread) (oid : ObjId) (bytes : List ℕ) → IsObject oid → length bytes < 2 ^ 32 → Takes old mid (object_spelled oid) → Takes mid new (block_spelled bytes) → new.left ≢ []
+pub leaves_write : (old mid new : Remainder) (oid : ObjId) (bytes : List ℕ) → IsObject oid → length bytes < 2 ^ 32 → Takes old mid (object_spelled oid) → Takes mid new (block_spelled bytes) → new.left ≢ []
     → LeavesSome (with_operation 3 old) new
 leaves_write old mid new oid bytes fits short object block some =
     let fields = Takes-then old mid new (object_spelled oid) (block_spelled bytes) object block in

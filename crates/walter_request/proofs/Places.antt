@@ -3,7 +3,7 @@ use Rattle.std.proofs.Common.{◌≡◌, ◌≢◌, ℕ, ◌+◌, List, [], ◌�
 use Rattle.std.proofs.lemmas.List.{append-nil, length-append}
 use Rattle.walter_base.specs.declared.message.Request.{Request}
 use Rattle.walter_base.specs.declared.message.Request.TheVariants.{Start, Read, Write, SetAdd, SetDel, SetRead, SetReadId, Commit, Abort, Level}
-use Rattle.walter_fields.specs.Cursors.{Unread, whole_of}
+use Rattle.walter_fields.specs.Cursors.{Remainder, whole_of}
 use Rattle.walter_fields.specs.Spellings.{IsBytes}
 use Rattle.walter_fields.proofs.Longest.{IsLongest, one_longest}
 use Rattle.walter_fields.proofs.Readings.{left_of_whole}
@@ -18,20 +18,20 @@ bad_front : (body : List ℕ) → IsFront body → IsBadFrame body (length body)
 bad_front [] cut = empty refl refl
 bad_front (byte ∷ body) cut = short cut.more cut.request (λ e. cc) cut.some cut.spells refl
 
-pub bad_cut : (cursor : Unread) (body : List ℕ) → cursor ≡ whole_of body → IsBytes body → (IsBytes cursor.left → IsFront cursor.left) → IsBadFrame body (length body)
+pub bad_cut : (cursor : Remainder) (body : List ℕ) → cursor ≡ whole_of body → IsBytes body → (IsBytes cursor.left → IsFront cursor.left) → IsBadFrame body (length body)
 bad_cut cursor body whole bytes stop = let is = left_of_whole cursor body whole in bad_front body (subst IsFront is (stop (subst IsBytes (sym is) bytes)))
 
-pub bad_start : (cursor : Unread) (body : List ℕ) → cursor ≡ whole_of body → StartsUnknown cursor.left → IsBadFrame body 0
+pub bad_start : (cursor : Remainder) (body : List ℕ) → cursor ≡ whole_of body → StartsUnknown cursor.left → IsBadFrame body 0
 bad_start cursor body whole start = unknown start.byte start.rest (sym (left_of_whole cursor body whole) ∙ start.is) start.unknown refl
 
-pub bad_rest : (cursor after : Unread) (body : List ℕ) (at : ℕ) → cursor ≡ whole_of body → LeavesSome cursor after → at + length after.left ≡ after.end → IsBadFrame body at
+pub bad_rest : (cursor after : Remainder) (body : List ℕ) (at : ℕ) → cursor ≡ whole_of body → LeavesSome cursor after → at + length after.left ≡ after.end → IsBadFrame body at
 bad_rest cursor after body at whole leaves place =
     let front = request_spelled leaves.request in
     let is : body ≡ front ++ after.left = sym (left_of_whole cursor body whole) ∙ leaves.taken.front in
-    let end : after.end ≡ length body = leaves.taken.same ∙ ap (λ (c : Unread). c.end) whole in
+    let end : after.end ≡ length body = leaves.taken.same ∙ ap (λ (c : Remainder). c.end) whole in
     behind front after.left leaves.request is leaves.some (record { ranges = leaves.ranges; is = refl }) (omega (arith, place, end, ap length is, length-append front after.left))
 
-pub whole_write : (cursor : Unread) (body : List ℕ) → cursor ≡ whole_of body → SpellsWrite cursor.left → SpellsWrite body
+pub whole_write : (cursor : Remainder) (body : List ℕ) → cursor ≡ whole_of body → SpellsWrite cursor.left → SpellsWrite body
 whole_write cursor body whole write = subst SpellsWrite (left_of_whole cursor body whole) write
 
 -- ---- no two readings

@@ -12,7 +12,7 @@ use Rattle.walter_base.specs.declared.names.Kind.TheVariants.{Regular, Cset}
 use Rattle.walter_base.specs.Catalogs.{Item, IsWrong, too_many, falls, nowhere, AreRight, AreRightBelow, containers_of}
 use Rattle.walter_scenario.specs.declared.place.Place.TheVariants.{Containers}
 use Rattle.walter_scenario.specs.Faults.{IsItem, HaveContainers}
-use Rattle.walter_scenario.specs.Fronts.{IsDeclared, IsFront, IsCatalog}
+use Rattle.walter_scenario.specs.Fronts.{IsContainer, IsFront, IsCatalog}
 use Rattle.walter_scenario.specs.Parts.{list, kind_word, container_spelled}
 use Rattle.walter_scenario.proofs.Spelling.{no_more, same_items, spelled_front}
 use Rattle.walter_scenario.proofs.Wrong.{first_wrong}
@@ -43,7 +43,7 @@ right_front sites items n end h right place within wrong =
 
 -- what may be declared, of a site that fits
 abbrev Fits : Item → Type 0
-Fits c = IsDeclared c × (c.2.0 < 256)
+Fits c = IsContainer c × (c.2.0 < 256)
 
 site_fits : (sites : ℕ) → sites ≤ 8 → (cs : List Item) (k : ℕ) (d : Item) → k < length cs → AreRight sites cs → (get_or cs k d).2.0 < 256
 site_fits sites few cs k d h right =
@@ -52,7 +52,7 @@ site_fits sites few cs k d h right =
       | inr le ↦ absurd (right k h (nowhere (get_or cs k d) (slice_get-get_or cs k d h) le))
     ]
 
-right_fit : (sites : ℕ) → sites ≤ 8 → (cs : List Item) → All IsDeclared cs → AreRight sites cs → All Fits cs
+right_fit : (sites : ℕ) → sites ≤ 8 → (cs : List Item) → All IsContainer cs → AreRight sites cs → All Fits cs
 right_fit sites few cs declared right k d h = (declared k d h, site_fits sites few cs k d h right)
 
 -- no word is that of two kinds
@@ -62,7 +62,7 @@ same_kind Regular Cset e = cc
 same_kind Cset Regular e = cc
 same_kind Cset Cset e = refl
 
-same_container : (c d : Item) → IsDeclared c → IsDeclared d → container_spelled c ≡ container_spelled d → c ≡ d
+same_container : (c d : Item) → IsContainer c → IsContainer d → container_spelled c ≡ container_spelled d → c ≡ d
 same_container c d a b e =
     let number : c.0 ≡ d.0 = cc in
     let word : kind_word c.1 ≡ kind_word d.1 = cc in
@@ -71,8 +71,8 @@ same_container c d a b e =
     λ i. (number i, kind i, record { 0 = site i })
 
 -- values spell one list of containers
-pub same_declared : (cs ds : List Item) → All IsDeclared cs → All IsDeclared ds → map container_spelled cs ≡ map container_spelled ds → cs ≡ ds
-same_declared cs ds a b e = same_items container_spelled IsDeclared same_container cs ds a b e
+pub same_declared : (cs ds : List Item) → All IsContainer cs → All IsContainer ds → map container_spelled cs ≡ map container_spelled ds → cs ≡ ds
+same_declared cs ds a b e = same_items container_spelled IsContainer same_container cs ds a b e
 
 -- the catalog of all values
 pub is_catalog : (sites : ℕ) (value : Data) (values : List Data) (front : List Item) (catalog : Catalog) → value ≡ list values → IsFront values front
@@ -119,10 +119,10 @@ bad_container sites value values front index e is h wrong right =
       named = refl;
       wrong = first_wrong (HaveContainers sites) value values index e (omega arith) (
         take index front,
-        record { spelled = before; numbers = All-take IsDeclared index front is.declared; right = right_front sites front index index (omega arith) right },
+        record { spelled = before; numbers = All-take IsContainer index front is.declared; right = right_front sites front index index (omega arith) right },
       )
           (λ more.
-          let same = same_declared more.0 (take (index + 1) front) more.1.numbers (All-take IsDeclared (index + 1) front is.declared) (sym more.1.spelled ∙ to) in
+          let same = same_declared more.0 (take (index + 1) front) more.1.numbers (All-take IsContainer (index + 1) front is.declared) (sym more.1.spelled ∙ to) in
           let there : AreRight sites (take (index + 1) front) = subst (AreRight sites) same more.1.right in
           there index (omega (arith, length-take (index + 1) front)) (wrong_in_front sites front index (index + 1) (omega arith) wrong));
     }
@@ -132,7 +132,7 @@ containers_closed sites n values have = (
   take n have.0,
   record {
     spelled = ap (λ vs. take n vs) have.1.spelled ∙ take-map container_spelled n have.0;
-    numbers = All-take IsDeclared n have.0 have.1.numbers;
+    numbers = All-take IsContainer n have.0 have.1.numbers;
     right = λ place within wrong.
         let size = length-take n have.0 in
         have.1.right place (omega (arith, size)) (wrong_behind_front sites have.0 place n (omega (arith, size)) wrong);

@@ -10,7 +10,7 @@ use Rattle.walter_scenario.specs.declared.scenario.Arm.{Arm}
 use Rattle.walter_scenario.specs.declared.scenario.Client.{Client}
 use Rattle.walter_scenario.specs.Faults.{IsStepsFault}
 use Rattle.walter_scenario.specs.Fronts.{IsCatalog, ListsClients}
-use Rattle.walter_scenario.specs.Members.{seen, AreParts, IsFaultOf}
+use Rattle.walter_scenario.specs.Members.{data_in, AreParts, IsFaultOf}
 use Rattle.walter_scenario.specs.Parts.{whole}
 use Rattle.walter_scenario.specs.Scenarios.{GivesCapacity, GivesArms, HasKeys, HasTolerated, HasContainers, HasClients, HasArms, IsRefusedAt}
 
@@ -28,8 +28,8 @@ pub record HasRead (parts : Parts) (catalog : Catalog) (clients : List Client) :
 -- and the capacity, and the arms
 pub record HasReadArms (parts : Parts) (catalog : Catalog) (clients : List Client) (capacity : ℕ) (arms : List Arm) : Type 0 where
   pub read : HasRead parts catalog clients
-  pub gives_capacity : GivesCapacity (seen parts.capacity) capacity
-  pub gives_arms : GivesArms 1 (seen parts.arms) arms
+  pub gives_capacity : GivesCapacity (data_in parts.capacity) capacity
+  pub gives_arms : GivesArms 1 (data_in parts.arms) arms
 
 has_tolerated : (parts : Parts) (bytes : List ℕ) (ms : Members) → HasNumbers parts → HasKeys bytes ms → AreParts ms parts → HasTolerated bytes ms
 has_tolerated parts bytes ms numbers keys are = record {

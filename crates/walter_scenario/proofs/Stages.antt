@@ -11,7 +11,7 @@ use Rattle.walter_scenario.specs.declared.scenario.Client.{Client}
 use Rattle.walter_scenario.specs.declared.scenario.Scenario.{Scenario}
 use Rattle.walter_scenario.specs.Faults.{HaveContainers, HaveClients, HaveArms, HaveSteps}
 use Rattle.walter_scenario.specs.Parts.{whole, list, arm_spelled, step_spelled, IsArm, IsStep, IsWrongAt}
-use Rattle.walter_scenario.specs.Scenarios.{HasMember, AreKeys, GivesCapacity, GivesArms, IsShort, IsObject, HasKeys, HasSites, HasTolerated, HasContainers, HasClients, HasCapacity, HasArms, IsReading, IsRefusedAt}
+use Rattle.walter_scenario.specs.Scenarios.{HasMember, AreKeys, GivesCapacity, GivesArms, IsWithinLimit, IsJsonObject, HasKeys, HasSites, HasTolerated, HasContainers, HasClients, HasCapacity, HasArms, IsReading, IsRefusedAt}
 use Rattle.walter_scenario.proofs.Declared.{containers_closed}
 use Rattle.walter_scenario.proofs.Scripts.{items_closed}
 use Rattle.walter_scenario.proofs.Sent.{clients_closed}
@@ -21,8 +21,8 @@ use Rattle.walter_scenario.proofs.Wrong.{right_nowhere, one_place}
 -- the bytes are right in so many stages
 abbrev Passed : ℕ → List ℕ → Type 0
 Passed zero bytes = Unit {0}
-Passed (suc zero) bytes = IsShort bytes
-Passed (suc (suc zero)) bytes = IsShort bytes × ((members : Members) × IsObject bytes members)
+Passed (suc zero) bytes = IsWithinLimit bytes
+Passed (suc (suc zero)) bytes = IsWithinLimit bytes × ((members : Members) × IsJsonObject bytes members)
 Passed (suc (suc (suc zero))) bytes = (members : Members) × HasKeys bytes members
 Passed (suc (suc (suc (suc zero)))) bytes = (members : Members) × HasSites bytes members
 Passed (suc (suc (suc (suc (suc zero))))) bytes = (members : Members) × HasTolerated bytes members

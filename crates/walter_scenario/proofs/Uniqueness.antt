@@ -8,13 +8,13 @@ use Rattle.walter_scenario.specs.declared.scenario.Arm.{Arm}
 use Rattle.walter_scenario.specs.declared.scenario.Client.{Client}
 use Rattle.walter_scenario.specs.declared.scenario.Scenario.{Scenario}
 use Rattle.walter_scenario.specs.Parts.{whole, list, SpellClients, AreArms, AreSteps}
-use Rattle.walter_scenario.specs.Scenarios.{HasMember, IsObject, GivesCapacity, GivesArms, HasContainers, HasClients, HasArms, IsReading}
+use Rattle.walter_scenario.specs.Scenarios.{HasMember, IsJsonObject, GivesCapacity, GivesArms, HasContainers, HasClients, HasArms, IsReading}
 use Rattle.walter_scenario.proofs.Declared.{same_declared}
 use Rattle.walter_scenario.proofs.Scripts.{same_arms, same_steps}
 use Rattle.walter_scenario.proofs.Sent.{same_clients}
 use Rattle.walter_scenario.proofs.Wrong.{list_of}
 
-pub one_object : (bytes : List ℕ) (m n : Members) → IsObject bytes m → IsObject bytes n → m ≡ n
+pub one_object : (bytes : List ℕ) (m n : Members) → IsJsonObject bytes m → IsJsonObject bytes n → m ≡ n
 one_object bytes m n a b = cc
 
 pub one_value : (key : List ℕ) (m n : Members) (a b : Data) → m ≡ n → HasMember m key a → HasMember n key b → a ≡ b
@@ -23,7 +23,7 @@ one_value key m n a b same is other = same_Some a b (sym is ∙ ap (λ ms. get_m
 pub one_list : (key : List ℕ) (m n : Members) (a b : List Data) → m ≡ n → HasMember m key (list a) → HasMember n key (list b) → a ≡ b
 one_list key m n a b same is other = list_of (list a) a b refl (one_value key m n (list a) (list b) same is other)
 
-pub containers_object : (bytes : List ℕ) (m : Members) (ds : List Item) → HasContainers bytes m ds → IsObject bytes m
+pub containers_object : (bytes : List ℕ) (m : Members) (ds : List Item) → HasContainers bytes m ds → IsJsonObject bytes m
 containers_object bytes m ds has = has.has_tolerated.has_sites.has_keys.is_object
 
 pub one_declared : (bytes : List ℕ) (m n : Members) (ds es : List Item) → HasContainers bytes m ds → HasContainers bytes n es → ds ≡ es
@@ -39,10 +39,10 @@ one_of_clients bytes m n ds es cs others a b =
     let values = one_list (codes "clients") m n a.values b.values same a.spelled b.spelled in
     same_clients b.values cs others (subst (λ vs. SpellClients vs cs) values a.are.spelled) b.are.spelled
 
-pub clients_object : (bytes : List ℕ) (m : Members) (ds : List Item) (cs : List Client) → HasClients bytes m ds cs → IsObject bytes m
+pub clients_object : (bytes : List ℕ) (m : Members) (ds : List Item) (cs : List Client) → HasClients bytes m ds cs → IsJsonObject bytes m
 clients_object bytes m ds cs has = containers_object bytes m ds has.has_containers
 
-pub arms_object : (bytes : List ℕ) (m : Members) (ds : List Item) (cs : List Client) (capacity : ℕ) (arms : List Arm) → HasArms bytes m ds cs capacity arms → IsObject bytes m
+pub arms_object : (bytes : List ℕ) (m : Members) (ds : List Item) (cs : List Client) (capacity : ℕ) (arms : List Arm) → HasArms bytes m ds cs capacity arms → IsJsonObject bytes m
 arms_object bytes m ds cs capacity arms has = clients_object bytes m ds cs has.has_capacity.has_clients
 
 pub one_capacity : (given : Option Data) (m n : ℕ) → GivesCapacity given m → GivesCapacity given n → m ≡ n

@@ -12,9 +12,9 @@ use Rattle.walter_scenario.specs.declared.scenario.Step.{Step}
 use Rattle.walter_scenario.specs.Parts.{AreContainers, AreClients, AreArms, AreSteps, IsWrongAt}
 
 -- the place that is named is so
-abbrev pub IfRefused : (Place → Type 0) → ReadFault → Type 0
-IfRefused P (Refused place) = P place
-IfRefused P NoMemory = Unit {0}
+abbrev pub IfRefusedAt : (Place → Type 0) → ReadFault → Type 0
+IfRefusedAt P (Refused place) = P place
+IfRefusedAt P NoMemory = Unit {0}
 
 -- the place is that of the first wrong item
 pub record IsItem (name : ℕ → Place) (Right : List Data → Type 0) (value : Data) (place : Place) : Type 0 where
@@ -35,17 +35,17 @@ abbrev pub HaveSteps : ℕ → ℕ → List Data → Type 0
 HaveSteps sites clients values = (steps : List Step) × AreSteps sites clients values steps
 
 abbrev pub IsContainersFault : ℕ → Data → ReadFault → Type 0
-IsContainersFault sites value = IfRefused (IsItem Containers (HaveContainers sites) value)
+IsContainersFault sites value = IfRefusedAt (IsItem Containers (HaveContainers sites) value)
 
 abbrev pub IsClientsFault : ℕ → Data → ReadFault → Type 0
-IsClientsFault sites value = IfRefused (IsItem Clients (HaveClients sites) value)
+IsClientsFault sites value = IfRefusedAt (IsItem Clients (HaveClients sites) value)
 
 abbrev pub IsArmsFault : ℕ → Data → ReadFault → Type 0
-IsArmsFault sites value = IfRefused (IsItem Arms (HaveArms sites) value)
+IsArmsFault sites value = IfRefusedAt (IsItem Arms (HaveArms sites) value)
 
 -- of a key that may be absent
 abbrev pub IsGivenArmsFault : ℕ → Option Data → ReadFault → Type 0
-IsGivenArmsFault sites given = IfRefused (λ place. (value : Data) × (given ≡ Some value) × IsItem Arms (HaveArms sites) value place)
+IsGivenArmsFault sites given = IfRefusedAt (λ place. (value : Data) × (given ≡ Some value) × IsItem Arms (HaveArms sites) value place)
 
 abbrev pub IsStepsFault : ℕ → ℕ → Data → ReadFault → Type 0
-IsStepsFault sites clients value = IfRefused (IsItem Steps (HaveSteps sites clients) value)
+IsStepsFault sites clients value = IfRefusedAt (IsItem Steps (HaveSteps sites clients) value)

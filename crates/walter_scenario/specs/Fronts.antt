@@ -10,19 +10,19 @@ use Rattle.walter_scenario.specs.declared.scenario.Step.{Step}
 use Rattle.walter_scenario.specs.Parts.{list, container_spelled, AreContainers, AreClients, AreArms, AreSteps}
 
 -- a container whose number fits
-abbrev pub IsDeclared : Item → Type 0
-IsDeclared c = c.0 < 2 ^ 32
+abbrev pub IsContainer : Item → Type 0
+IsContainer c = c.0 < 2 ^ 32
 
 -- no container of a site that fits is spelled so
-abbrev pub SpellsNone : Data → Type 0
-SpellsNone value = (c : Item) → IsDeclared c → c.2.0 < 256 → value ≢ container_spelled c
+abbrev pub SpellsNoContainer : Data → Type 0
+SpellsNoContainer value = (c : Item) → IsContainer c → c.2.0 < 256 → value ≢ container_spelled c
 
 -- the values in front spell these containers, and then there is no value, or one that spells none
 pub record IsFront (values : List Data) (front : List Item) : Type 0 where
   pub within : length front ≤ length values
   pub spelled : take (length front) values ≡ map container_spelled front
-  pub declared : All IsDeclared front
-  pub ends : length front < length values → HoldsAt SpellsNone values (length front)
+  pub declared : All IsContainer front
+  pub ends : length front < length values → HoldsAt SpellsNoContainer values (length front)
 
 -- the catalog of the containers that the value spells
 pub record IsCatalog (sites : ℕ) (value : Data) (catalog : Catalog) : Type 0 where

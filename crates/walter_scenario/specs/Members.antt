@@ -11,8 +11,8 @@ use Rattle.walter_scenario.specs.declared.scenario.Scenario.{Scenario}
 use Rattle.walter_scenario.specs.Scenarios.{HasMember, HasKeys, IsReading, IsReadFault}
 
 -- the data of a value that may be absent
-abbrev pub seen : Option (Bor Value) → Option Data
-seen found = option_map (λ value. view value.now) found
+abbrev pub data_in : Option (Bor Value) → Option Data
+data_in found = option_map (λ value. view value.now) found
 
 -- the parts are the values of their keys
 pub record AreParts (members : Members) (parts : Parts) : Type 0 where
@@ -20,8 +20,8 @@ pub record AreParts (members : Members) (parts : Parts) : Type 0 where
   pub tolerated : HasMember members (codes "f") (view parts.tolerated.now)
   pub containers : HasMember members (codes "containers") (view parts.containers.now)
   pub clients : HasMember members (codes "clients") (view parts.clients.now)
-  pub capacity : get_member (codes "capacity") members ≡ seen parts.capacity
-  pub arms : get_member (codes "arms") members ≡ seen parts.arms
+  pub capacity : get_member (codes "capacity") members ≡ data_in parts.capacity
+  pub arms : get_member (codes "arms") members ≡ data_in parts.arms
   pub steps : HasMember members (codes "steps") (view parts.steps.now)
 
 -- the scenario of all bytes whose object has these parts

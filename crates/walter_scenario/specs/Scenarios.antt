@@ -48,18 +48,18 @@ GivesArms sites None arms = arms ≡ []
 GivesArms sites (Some value) arms = (values : List Data) × (value ≡ list values) × AreArms sites values arms
 
 -- the bytes are not too long
-abbrev pub IsShort : List ℕ → Type 0
-IsShort bytes = length bytes ≤ 16777216
+abbrev pub IsWithinLimit : List ℕ → Type 0
+IsWithinLimit bytes = length bytes ≤ 16777216
 
 -- they are JSON, whose outermost value is an object
-pub record IsObject (bytes : List ℕ) (members : Members) : Type 0 where
+pub record IsJsonObject (bytes : List ℕ) (members : Members) : Type 0 where
   pub text : IsUtf8 bytes
   pub json : read bytes ≡ Some (object members)
 
 -- its keys are those of a scenario
 pub record HasKeys (bytes : List ℕ) (members : Members) : Type 0 where
-  pub short : IsShort bytes
-  pub is_object : IsObject bytes members
+  pub short : IsWithinLimit bytes
+  pub is_object : IsJsonObject bytes members
   pub keys : AreKeys members
 
 -- there is one site
@@ -111,8 +111,8 @@ pub record IsReading (bytes : List ℕ) (s : Scenario) : Type 0 where
 -- the place is the first that is wrong: what comes before it is right, and it isn't
 abbrev pub IsRefusedAt : List ℕ → Place → Type 0
 IsRefusedAt bytes TooLong = 16777216 < length bytes
-IsRefusedAt bytes Json = IsShort bytes × ((members : Members) → ¬ IsObject bytes members)
-IsRefusedAt bytes Key = IsShort bytes × ((members : Members) × IsObject bytes members × ¬ AreKeys members)
+IsRefusedAt bytes Json = IsWithinLimit bytes × ((members : Members) → ¬ IsJsonObject bytes members)
+IsRefusedAt bytes Key = IsWithinLimit bytes × ((members : Members) × IsJsonObject bytes members × ¬ AreKeys members)
 IsRefusedAt bytes Sites = (members : Members) × HasKeys bytes members × ¬ HasMember members (codes "sites") (whole 1)
 IsRefusedAt bytes F = (members : Members) × HasSites bytes members × ¬ HasMember members (codes "f") (whole 0)
 IsRefusedAt bytes (Containers place) =

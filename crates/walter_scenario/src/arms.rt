@@ -3,7 +3,7 @@ ghost use Rattle.serde_json.specs.View.{view};
 ghost use Rattle.walter_scenario.specs.declared.scenario.Arm.{Arm};
 ghost use Rattle.walter_scenario.specs.Faults.{IsArmsFault, IsGivenArmsFault};
 ghost use Rattle.walter_scenario.specs.Fronts.{ListsArms};
-ghost use Rattle.walter_scenario.specs.Members.{seen};
+ghost use Rattle.walter_scenario.specs.Members.{data_in};
 ghost use Rattle.walter_scenario.specs.Parts.{IsArm, arm_items, arm_spelled};
 ghost use Rattle.walter_scenario.specs.Scenarios.{GivesArms};
 
@@ -56,8 +56,8 @@ fn arms_of(alloc: Global, sites: u8, value: &Value) -> Result<Vec<Arm>, ReadFaul
 
 /// The arms that the value of their key gives.
 pub fn given_arms(alloc: Global, sites: u8, given: Option<&Value>) -> Result<Vec<Arm>, ReadFault>
-    ensures ok { IfOk result (λ arms. GivesArms sites (seen given.entry) arms.items) }
-    ensures fault { IfErr result (IsGivenArmsFault sites (seen given.entry)) }
+    ensures ok { IfOk result (λ arms. GivesArms sites (data_in given.entry) arms.items) }
+    ensures fault { IfErr result (IsGivenArmsFault sites (data_in given.entry)) }
 {
     match given {
         Some(value) => arms_of(alloc, sites, value),

@@ -1,5 +1,5 @@
 ghost use Rattle.std.specs.Prelude.{ℕ, IfSome, IfNone};
-ghost use Rattle.walter_scenario.specs.Members.{seen};
+ghost use Rattle.walter_scenario.specs.Members.{data_in};
 ghost use Rattle.walter_scenario.specs.Scenarios.{GivesCapacity};
 
 use crate::scenario::{COMMON_CAPACITY, GREATEST_CAPACITY, LEAST_CAPACITY};
@@ -8,8 +8,8 @@ use serde_json::Value;
 
 /// The capacity that the value of its key gives.
 pub fn capacity_of(given: Option<&Value>) -> Option<u64>
-    ensures some { IfSome result (GivesCapacity (seen given.entry)) }
-    ensures none { IfNone result ((capacity : ℕ) → ¬ GivesCapacity (seen given.entry) capacity) }
+    ensures some { IfSome result (GivesCapacity (data_in given.entry)) }
+    ensures none { IfNone result ((capacity : ℕ) → ¬ GivesCapacity (data_in given.entry) capacity) }
 {
     let Some(value) = given else {
         return Some(COMMON_CAPACITY);

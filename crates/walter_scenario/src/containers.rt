@@ -3,7 +3,7 @@ ghost use Rattle.serde_json.specs.Data.{string};
 ghost use Rattle.serde_json.specs.View.{view};
 ghost use Rattle.walter_base.specs.declared.names.Kind.{Kind};
 ghost use Rattle.walter_scenario.specs.Faults.{IsContainersFault};
-ghost use Rattle.walter_scenario.specs.Fronts.{IsDeclared, SpellsNone, IsFront, IsCatalog};
+ghost use Rattle.walter_scenario.specs.Fronts.{IsContainer, SpellsNoContainer, IsFront, IsCatalog};
 ghost use Rattle.walter_scenario.specs.Parts.{kind_word, container_spelled};
 
 use crate::place::{Place, ReadFault};
@@ -26,8 +26,8 @@ fn kind_of(value: &Value) -> Option<Kind>
 
 /// The container that the value spells.
 fn container_of(value: &Value) -> Option<(u32, Kind, SiteId)>
-    ensures some { IfSome result (λ c. IsDeclared c × (view value.now ≡ container_spelled c)) }
-    ensures none { IfNone result (SpellsNone (view value.now)) }
+    ensures some { IfSome result (λ c. IsContainer c × (view value.now ≡ container_spelled c)) }
+    ensures none { IfNone result (SpellsNoContainer (view value.now)) }
 {
     let (number, kind, site) = triple_of(value)?;
     let number = u32::try_from(whole_of(number)?).ok()?;

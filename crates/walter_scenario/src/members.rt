@@ -1,7 +1,7 @@
 ghost use Rattle.std.specs.Prelude.{◌≡◌, ◌↔◌, IsTrue, IfSome, IfNone};
 ghost use Rattle.serde_json.specs.Find.{get_member};
 ghost use Rattle.serde_json.specs.View.{members_view};
-ghost use Rattle.walter_scenario.specs.Members.{seen, AreParts};
+ghost use Rattle.walter_scenario.specs.Members.{data_in, AreParts};
 ghost use Rattle.walter_scenario.specs.Scenarios.{IsKey, AreKnown, AreKeys};
 
 use serde_json::{Map, Value};
@@ -41,7 +41,7 @@ fn are_known(members: &Map<String, Value>) -> bool
 
 /// The value of the key, where it is there.
 fn member<'a>(members: &'a Map<String, Value>, key: &str) -> Option<&'a Value>
-    ensures { get_member key.now (members_view members.now.entries) ≡ seen result }
+    ensures { get_member key.now (members_view members.now.entries) ≡ data_in result }
 {
     members.get(key)
 }

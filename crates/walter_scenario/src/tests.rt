@@ -63,7 +63,10 @@ fn clients(alloc: Global, count: usize) -> Result<String, Fail> {
 fn a_good_scenario_is_read(rt: HostRuntime) -> Result<(), Fail> {
     one_reading();
     let scenario = read(rt.alloc(), GOOD.as_bytes())?;
-    assert_eq!(rt; (scenario.catalog.sites, scenario.catalog.tolerated), (1, 0));
+    assert_eq!(rt;
+        (scenario.catalog.sites, scenario.catalog.tolerated),
+        (1, 0)
+    );
     for (container, kind) in [
         (0, None),
         (1, Some(Kind::Regular)),

@@ -2,7 +2,7 @@ ghost use Rattle.std.specs.Prelude.{◌≡◌, ◌≢◌, IsUtf8, IfOk, IfErr, I
 ghost use Rattle.serde_json.specs.Data.{Data, Members, object};
 ghost use Rattle.serde_json.specs.Read.{read as reading};
 ghost use Rattle.serde_json.specs.View.{view, members_view};
-ghost use Rattle.walter_scenario.specs.Faults.{IfRefused};
+ghost use Rattle.walter_scenario.specs.Faults.{IfRefusedAt};
 
 use crate::place::{Place, ReadFault};
 use serde_json::{Map, Value};
@@ -12,7 +12,7 @@ use std::alloc::Global;
 fn json_of(alloc: Global, text: &str) -> Result<Value, ReadFault>
     ensures ok { IfOk result (λ value. reading text.now ≡ Some (view value)) }
     ensures fault { IfErr result
-        (IfRefused (λ place. (place ≡ Place.Json) × (reading text.now ≡ None))) }
+        (IfRefusedAt (λ place. (place ≡ Place.Json) × (reading text.now ≡ None))) }
 {
     match Value::from_str(alloc, text) {
         Ok(value) => Ok(value),
@@ -25,7 +25,7 @@ fn json_of(alloc: Global, text: &str) -> Result<Value, ReadFault>
 pub fn value_of(alloc: Global, bytes: &[u8]) -> Result<Value, ReadFault>
     ensures ok { IfOk result
         (λ value. IsUtf8 bytes.now × (reading bytes.now ≡ Some (view value))) }
-    ensures fault { IfErr result (IfRefused (λ place. (place ≡ Place.Json)
+    ensures fault { IfErr result (IfRefusedAt (λ place. (place ≡ Place.Json)
         × ((value : Data) → IsUtf8 bytes.now → reading bytes.now ≢ Some value))) }
 {
     let text = str::from_utf8(bytes).ok().ok_or(Place::Json)?;

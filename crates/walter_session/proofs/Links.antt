@@ -14,16 +14,16 @@ use Rattle.slab.specs.Slab.{Slab, get, slab_len, with_value, Updates}
 use Rattle.slab.proofs.SlabLemmas.{Updates-with_value}
 use Rattle.walter_session.specs.declared.slot.Slot.{Slot}
 use Rattle.walter_base.specs.ByClient.{AreApart, changed, without}
-use Rattle.walter_session.specs.Sessions.{Seen, Kept, Table, sessions_of, session_of, kept_in, clients_in, IsKeyOf, AreLinked}
+use Rattle.walter_session.specs.Sessions.{SessionView, SessionWithRoom, Table, sessions_of, session_of, kept_in, clients_in, IsKeyOf, AreLinked}
 use Rattle.walter_session.proofs.Tables.{moved}
 use Rattle.walter_base.proofs.ByClient.{absent_head, absent_tail, changed-absent, without-absent, apart_behind, apart_left}
 
 -- what the slots keep under a key, if there is one
-abbrev pub kept_at : Slab Slot → Option ℕ → Option Kept
+abbrev pub kept_at : Slab Slot → Option ℕ → Option SessionWithRoom
 kept_at slots key = option_and_then (λ k. option_map kept_in (get slots k)) key
 
 -- what is kept in a slot, before the rest, where there is a slot
-abbrev pub with_slot : ℕ → Option Slot → List (ℕ × Kept) → List (ℕ × Kept)
+abbrev pub with_slot : ℕ → Option Slot → List (ℕ × SessionWithRoom) → List (ℕ × SessionWithRoom)
 with_slot client slot rest = cons_option (option_map (λ s. (client, kept_in s)) slot) rest
 
 -- the slot under this key is of the client, if there is one
@@ -104,7 +104,7 @@ module _ (old new : Slab Slot) (client key : ℕ) (slot : Option Slot) (only : I
   }
 
   -- the slot of the client's key changes
-  pub write_clients : (f : Kept → Kept) (was now : Slot) → slot ≡ Some now → get old key ≡ Some was → f (kept_in was) ≡ kept_in now
+  pub write_clients : (f : SessionWithRoom → SessionWithRoom) (was now : Slot) → slot ≡ Some now → get old key ≡ Some was → f (kept_in was) ≡ kept_in now
       → (keys : List (ℕ × ℕ)) → AreLinked keys old → lookup (nat_eq client) keys ≡ Some key → clients_in new keys ≡ changed client f (clients_in old keys)
   write_clients f was now is here shows keys linked at = by keys linked.each linked.apart at
     where
@@ -250,16 +250,16 @@ table_in slots keys = record { clients = clients_in slots keys; slots = 0; keys 
 pub session_found : (slots : Slab Slot) (keys : List (ℕ × ℕ)) (client : ℕ) → All (IsKeyOf slots) keys
     → session_of (table_in slots keys) client ≡ option_map (λ k. k.session) (kept_at slots (lookup (nat_eq client) keys))
 session_found slots keys client each =
-    lookup-map_values (λ (k : Kept). k.session) (nat_eq client) (clients_in slots keys) ∙ ap (option_map (λ k. k.session)) (kept_found slots keys client each)
+    lookup-map_values (λ (k : SessionWithRoom). k.session) (nat_eq client) (clients_in slots keys) ∙ ap (option_map (λ k. k.session)) (kept_found slots keys client each)
 
 -- a client has a session exactly where it has a key
 pub found : (slots : Slab Slot) (keys : List (ℕ × ℕ)) (client : ℕ) → All (IsKeyOf slots) keys
     → is_some (session_of (table_in slots keys) client) ≡ is_some (lookup (nat_eq client) keys)
 found slots keys client each = ap is_some (session_found slots keys client each) ∙ by (lookup (nat_eq client) keys) refl
   where
-    by : (o : Option ℕ) → lookup (nat_eq client) keys ≡ o → is_some (option_map (λ (k : Kept). k.session) (kept_at slots o)) ≡ is_some o
+    by : (o : Option ℕ) → lookup (nat_eq client) keys ≡ o → is_some (option_map (λ (k : SessionWithRoom). k.session) (kept_at slots o)) ≡ is_some o
     by None at = refl
-    by (Some key) at = ap (λ s. is_some (option_map (λ (k : Kept). k.session) (option_map kept_in s))) (own_slot slots keys client key each at).1
+    by (Some key) at = ap (λ s. is_some (option_map (λ (k : SessionWithRoom). k.session) (option_map kept_in s))) (own_slot slots keys client key each at).1
 
 none_of : {X : Type 0} (o : Option X) → is_some o ≡ false → o ≡ None
 none_of None is = refl
@@ -272,7 +272,7 @@ pub no_key_of : (slots : Slab Slot) (keys : List (ℕ × ℕ)) (client : ℕ) �
 no_key_of slots keys client each none = none_of (lookup (nat_eq client) keys) (sym (found slots keys client each) ∙ ap is_some none)
 
 pub sessions_count : (slots : Slab Slot) (keys : List (ℕ × ℕ)) → All (IsKeyOf slots) keys → length (sessions_of (table_in slots keys)) ≡ length keys
-sessions_count slots keys each = length-map (clients_in slots keys) (λ (e : ℕ × Kept). (e.0, e.1.session)) ∙ clients_count slots keys each
+sessions_count slots keys each = length-map (clients_in slots keys) (λ (e : ℕ × SessionWithRoom). (e.0, e.1.session)) ∙ clients_count slots keys each
 
 -- what is kept of a client whose key and slot are known
 pub kept_is : (slots : Slab Slot) (keys : List (ℕ × ℕ)) (client key : ℕ) (slot : Slot) → All (IsKeyOf slots) keys
@@ -298,7 +298,7 @@ module _ (slots : Slab Slot) (keys : List (ℕ × ℕ)) (client key : ℕ) (was 
 
   -- a table of what was kept before
   module _ (before : Table) (view : clients_in slots keys ≡ before.clients) where
-    pub lent_clients : (f : Seen → Seen) → (kept_in now).session ≡ f (kept_in was).session
+    pub lent_clients : (f : SessionView → SessionView) → (kept_in now).session ≡ f (kept_in was).session
         → clients_in (with_value slots key now) keys ≡ changed client (moved f (kept_in now).room) before.clients
     lent_clients f is =
         write_clients slots (with_value slots key now) client key (Some now) (only_own slots keys client key linked.each at) wrote (moved f (kept_in now).room) was now refl here

@@ -7,34 +7,34 @@ use Rattle.std.proofs.lemmas.Bool.{eqb-true}
 use Rattle.std.proofs.lemmas.Option.{slice_get-map}
 use Rattle.walter_base.specs.ByClient.{changed, without}
 use Rattle.walter_base.proofs.ByClient.{lookup-changed_into, lookup-without, seen-changed as changed_in_view}
-use Rattle.walter_session.specs.Sessions.{Seen, Kept, Table, room_of}
+use Rattle.walter_session.specs.Sessions.{SessionView, SessionWithRoom, Table, room_of}
 
-abbrev pub kept_of : Table → ℕ → Option Kept
+abbrev pub kept_of : Table → ℕ → Option SessionWithRoom
 kept_of table client = lookup (nat_eq client) table.clients
 
-abbrev pub room_in : Option Kept → ℕ
+abbrev pub room_in : Option SessionWithRoom → ℕ
 room_in kept = option_map_or (λ k. k.room) kept 0
 
 -- what is kept, as it is seen
-abbrev pub seen_of : List (ℕ × Kept) → List (ℕ × Seen)
+abbrev pub seen_of : List (ℕ × SessionWithRoom) → List (ℕ × SessionView)
 seen_of clients = map (λ e. (e.0, e.1.session)) clients
 
 -- what is seen at a place
-pub seen_at : (clients : List (ℕ × Kept)) (place : ℕ) (kept : Option (ℕ × Kept)) → slice_get clients place ≡ kept → slice_get (seen_of clients) place ≡ option_map (λ e. (e.0, e.1.session)) kept
-seen_at clients place kept at = slice_get-map (λ (e : ℕ × Kept). (e.0, e.1.session)) clients place ∙ ap (option_map (λ e. (e.0, e.1.session))) at
+pub seen_at : (clients : List (ℕ × SessionWithRoom)) (place : ℕ) (kept : Option (ℕ × SessionWithRoom)) → slice_get clients place ≡ kept → slice_get (seen_of clients) place ≡ option_map (λ e. (e.0, e.1.session)) kept
+seen_at clients place kept at = slice_get-map (λ (e : ℕ × SessionWithRoom). (e.0, e.1.session)) clients place ∙ ap (option_map (λ e. (e.0, e.1.session))) at
 
 -- another session with this room
-abbrev pub moved : (Seen → Seen) → ℕ → Kept → Kept
+abbrev pub moved : (SessionView → SessionView) → ℕ → SessionWithRoom → SessionWithRoom
 moved f room kept = record { session = f kept.session; room = room }
 
-pub seen-changed : (client room : ℕ) (f : Seen → Seen) (clients : List (ℕ × Kept)) → seen_of (changed client (moved f room) clients) ≡ changed client f (seen_of clients)
-seen-changed client room f clients = changed_in_view (λ (k : Kept). k.session) client (moved f room) f clients (λ k. refl)
+pub seen-changed : (client room : ℕ) (f : SessionView → SessionView) (clients : List (ℕ × SessionWithRoom)) → seen_of (changed client (moved f room) clients) ≡ changed client f (seen_of clients)
+seen-changed client room f clients = changed_in_view (λ (k : SessionWithRoom). k.session) client (moved f room) f clients (λ k. refl)
 
 -- what is kept of the client is this now
-pub record Sets (old new : Table) (client : ℕ) (kept : Option Kept) : Type 0 where
+pub record Sets (old new : Table) (client : ℕ) (kept : Option SessionWithRoom) : Type 0 where
   pub at : (other : ℕ) → kept_of new other ≡ (if nat_eq client other then kept else kept_of old other)
 
-pub changed_sets : (old new : Table) (client : ℕ) (f : Kept → Kept) (was : Kept) → new.clients ≡ changed client f old.clients → kept_of old client ≡ Some was → Sets old new client (Some (f was))
+pub changed_sets : (old new : Table) (client : ℕ) (f : SessionWithRoom → SessionWithRoom) (was : SessionWithRoom) → new.clients ≡ changed client f old.clients → kept_of old client ≡ Some was → Sets old new client (Some (f was))
 changed_sets old new client f was are here = record {
   at = λ other. ap (lookup (nat_eq other)) are ∙ lookup-changed_into client other f (f was) old.clients (ap (option_map f) here);
 }
@@ -43,21 +43,21 @@ pub without_sets : (old new : Table) (client : ℕ) → new.clients ≡ without 
 without_sets old new client are = record { at = λ other. ap (lookup (nat_eq other)) are ∙ lookup-without client other old.clients }
 
 -- one that starts has no room
-pub rooms_behind : (old new : Table) (client : ℕ) (kept : Kept) → new.clients ≡ old.clients ++ (client, kept) ∷ [] → kept.room ≡ 0 → (other : ℕ) → room_of new other ≡ room_of old other
+pub rooms_behind : (old new : Table) (client : ℕ) (kept : SessionWithRoom) → new.clients ≡ old.clients ++ (client, kept) ∷ [] → kept.room ≡ 0 → (other : ℕ) → room_of new other ≡ room_of old other
 rooms_behind old new client kept are none other = ap (λ es. room_in (lookup (nat_eq other) es)) are ∙ by old.clients
   where
-    by : (es : List (ℕ × Kept)) → room_in (lookup (nat_eq other) (es ++ (client, kept) ∷ [])) ≡ room_in (lookup (nat_eq other) es)
+    by : (es : List (ℕ × SessionWithRoom)) → room_in (lookup (nat_eq other) (es ++ (client, kept) ∷ [])) ≡ room_in (lookup (nat_eq other) es)
     by [] = elim (nat_eq other client) as (λ b. room_in (cond b (Some kept) None) ≡ 0) [ true ↦ none | false ↦ refl ]
     by (e ∷ es) = elim (nat_eq other e.0) as (λ b. room_in (cond b (Some e.1) (lookup (nat_eq other) (es ++ (client, kept) ∷ []))) ≡ room_in (cond b (Some e.1) (lookup (nat_eq other) es))) [
       | true ↦ refl
       | false ↦ by es
     ]
 
-inside : {X : Type 0} (f : Option Kept → X) (b : Bool) (kept held : Option Kept) → f (if b then kept else held) ≡ (if b then f kept else f held)
+inside : {X : Type 0} (f : Option SessionWithRoom → X) (b : Bool) (kept held : Option SessionWithRoom) → f (if b then kept else held) ≡ (if b then f kept else f held)
 inside f true kept held = refl
 inside f false kept held = refl
 
-module _ (old new : Table) (client : ℕ) (kept : Option Kept) (sets : Sets old new client kept) where
+module _ (old new : Table) (client : ℕ) (kept : Option SessionWithRoom) (sets : Sets old new client kept) where
   pub rooms : (other : ℕ) → room_of new other ≡ (if nat_eq client other then room_in kept else room_of old other)
   rooms other = ap room_in (sets.at other) ∙ inside room_in (nat_eq client other) kept (kept_of old other)
 

@@ -13,33 +13,33 @@ use Rattle.walter_session.specs.declared.session.StartFault.TheVariants.{TxOpen,
 use Rattle.walter_session.specs.declared.slot.Slot.{Slot}
 
 -- a session as it is seen: its updates are a list
-pub record Seen : Type 0 where
+pub record SessionView : Type 0 where
   pub tid : Tid
   pub snapshot : List ℕ
   pub updates : List Update
   pub stage : Stage
 
-abbrev pub seen : Session → Seen
-seen s = record { tid = s.tid; snapshot = s.snapshot; updates = s.updates.items; stage = s.stage }
+abbrev pub session_view : Session → SessionView
+session_view s = record { tid = s.tid; snapshot = s.snapshot; updates = s.updates.items; stage = s.stage }
 
 -- a session, and how many updates can be added without memory
-pub record Kept : Type 0 where
-  pub session : Seen
+pub record SessionWithRoom : Type 0 where
+  pub session : SessionView
   pub room : ℕ
 
 -- what is kept of each client that has a session, in the order of the starts; and for how many more sessions there are
 -- slots, and keys, without memory
 pub record Table : Type 0 where
-  pub clients : List (ℕ × Kept)
+  pub clients : List (ℕ × SessionWithRoom)
   pub slots : ℕ
   pub keys : ℕ
 
 -- the sessions with their clients, in the order of their starts
-abbrev pub sessions_of : Table → List (ℕ × Seen)
+abbrev pub sessions_of : Table → List (ℕ × SessionView)
 sessions_of table = map (λ e. (e.0, e.1.session)) table.clients
 
 -- the session of a client, if it has one
-abbrev pub session_of : Table → ℕ → Option Seen
+abbrev pub session_of : Table → ℕ → Option SessionView
 session_of table client = of_client client (sessions_of table)
 
 -- how many updates can be added to the client's session without memory; 0 where it has none
@@ -51,13 +51,13 @@ abbrev pub CanStart : Table → Type 0
 CanStart table = (0 < table.slots) × (0 < table.keys)
 
 -- a session as it starts
-abbrev pub started : Tid → List ℕ → Seen
+abbrev pub started : Tid → List ℕ → SessionView
 started tid snapshot = record { tid = tid; snapshot = snapshot; updates = []; stage = Open }
 
-abbrev pub with_update : Update → Seen → Seen
+abbrev pub with_update : Update → SessionView → SessionView
 with_update update s = record s { updates = s.updates ++ update ∷ [] }
 
-abbrev pub with_stage : Stage → Seen → Seen
+abbrev pub with_stage : Stage → SessionView → SessionView
 with_stage stage s = record s { stage = stage }
 
 -- why no session starts: the client has one; else there are as many as there may be; else there is no memory
@@ -67,11 +67,11 @@ IsStartFault table client SessionsFull = (session_of table client ≡ None) × (
 IsStartFault table client NoMemory = (session_of table client ≡ None) × (length (sessions_of table) < 256) × ¬ CanStart table
 
 -- what a slot keeps
-abbrev pub kept_in : Slot → Kept
-kept_in slot = record { session = seen slot.session; room = vec_capacity slot.session.updates - vec_len slot.session.updates }
+abbrev pub kept_in : Slot → SessionWithRoom
+kept_in slot = record { session = session_view slot.session; room = vec_capacity slot.session.updates - vec_len slot.session.updates }
 
 -- what the slots keep of each client, by the key of its slot
-abbrev pub clients_in : Slab Slot → List (ℕ × ℕ) → List (ℕ × Kept)
+abbrev pub clients_in : Slab Slot → List (ℕ × ℕ) → List (ℕ × SessionWithRoom)
 clients_in slots keys = filter_map (λ e. option_map (λ slot. (e.0, kept_in slot)) (get slots e.1)) keys
 
 -- how many more slots there is room for

@@ -3,7 +3,7 @@ ghost use Rattle.std.specs.List.{list_any};
 ghost use Rattle.std.specs.Option.{option_copied, option_map_or};
 ghost use Rattle.walter_base.specs.ByClient.{AreApart, changed, without};
 ghost use Rattle.walter_base.specs.Names.{same_tid};
-ghost use Rattle.walter_session.specs.Sessions.{seen, sessions_of, session_of, room_of, CanStart, started, with_update, with_stage, IsStartFault};
+ghost use Rattle.walter_session.specs.Sessions.{session_view, sessions_of, session_of, room_of, CanStart, started, with_update, with_stage, IsStartFault};
 
 use crate::session::{Session, Stage, StartFault};
 use crate::slot::Slot;
@@ -172,7 +172,7 @@ impl Sessions {
 
     /// The session of a client.
     pub fn get(&self, client: u32) -> Option<&Session>
-        ensures { option_map seen (option_copied result) ≡ session_of self.entry.now client }
+        ensures { option_map session_view (option_copied result) ≡ session_of self.entry.now client }
     {
         let Some(key) = self.keys.get(&client).copied() else {
             return None;

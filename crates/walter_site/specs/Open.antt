@@ -5,18 +5,18 @@ use Rattle.walter_base.specs.declared.names.SiteId.{SiteId}
 use Rattle.walter_base.specs.declared.update.Update.{Update}
 use Rattle.walter_base.specs.ByClient.{AreApart}
 use Rattle.walter_base.specs.Sizes.{HasShortValue, AreSmall}
-use Rattle.walter_session.specs.declared.session.Session.{Session as Kept}
-use Rattle.walter_session.specs.Sessions.{Seen, Table, seen, sessions_of}
+use Rattle.walter_session.specs.declared.session.Session.{Session as SessionWithRoom}
+use Rattle.walter_session.specs.Sessions.{SessionView, Table, session_view, sessions_of}
 use Rattle.walter_trail.specs.declared.held.Held.{Held}
 use Rattle.walter_trail.specs.Knowledge.{Open, Session, with_update}
 use Rattle.walter_trail.specs.Records.{IsDeclared}
 
 -- an open transaction as a trail knows it
-abbrev pub as_known : Seen → Session
+abbrev pub as_known : SessionView → Session
 as_known s = record { tid = s.tid; snapshot = s.snapshot; updates = s.updates }
 
-abbrev pub as_session : Kept → Session
-as_session s = as_known (seen s)
+abbrev pub as_session : SessionWithRoom → Session
+as_session s = as_known (session_view s)
 
 -- the open transactions with their clients, in the order of their starts
 abbrev pub opens_of : Table → List Open

@@ -12,8 +12,8 @@ use Rattle.walter_fields.specs.Cursors.{LacksBlock}
 use Rattle.walter_fields.specs.Spellings.{number_spelled, block_spelled}
 use Rattle.walter_fields.proofs.Numbers.{length-number_spelled, same_number}
 use Rattle.walter_fields.proofs.Readings.{LacksBlock-no_block, same_block}
-use Rattle.walter_txcode.specs.declared.fault.Fault.{Fault}
-use Rattle.walter_txcode.specs.declared.fault.Fault.TheVariants.{Unspelled, NoMemory}
+use Rattle.walter_txcode.specs.declared.fault.TxFault.{TxFault}
+use Rattle.walter_txcode.specs.declared.fault.TxFault.TheVariants.{Unspelled, NoMemory}
 use Rattle.walter_txcode.specs.Faults.{IfUnspelled}
 use Rattle.walter_names.specs.Names.{object_spelled, tid_spelled, IsObject, IsTid, member_spelled}
 use Rattle.walter_base.specs.Sizes.{HasShortValue}
@@ -23,16 +23,16 @@ use Rattle.walter_txcode.proofs.Lengths.{length-numbers_spelled, length-value_sp
 use Rattle.walter_names.proofs.Prefixes.{same_object, same_tid}
 use Rattle.walter_txcode.proofs.Prefixes.{few_of, same_numbers, vector_parts, kind_of, fields_spelled, behind_kind, same_update, AreSpellable, AreSpellable-from_both, each_spelled, each_parts, HasHead, same_head, same_updates, first_two}
 
-pub IfUnspelled-weaker : (fault : Fault) {P Q : Type 0} → (P → Q) → IfUnspelled fault P → IfUnspelled fault Q
+pub IfUnspelled-weaker : (fault : TxFault) {P Q : Type 0} → (P → Q) → IfUnspelled fault P → IfUnspelled fault Q
 IfUnspelled-weaker Unspelled f h = f h
 IfUnspelled-weaker NoMemory f h = tt
 
 -- the exit of a `?` on a field that is short, and on another fault
-pub is_unspelled : {T P : Type 0} (r : Result T Fault) → IsErrAnd r (λ fault. fault ≡ Unspelled) → P → IfErr r (λ fault. IfUnspelled fault P)
+pub is_unspelled : {T P : Type 0} (r : Result T TxFault) → IsErrAnd r (λ fault. fault ≡ Unspelled) → P → IfErr r (λ fault. IfUnspelled fault P)
 is_unspelled (Ok x) is p = tt
 is_unspelled {P = P} (Err fault) is p = subst (λ f. IfUnspelled f P) (sym is) p
 
-pub is_fault : {T : Type 0} (P : Type 0) (r : Result T Fault) (given : Fault) → IsErrAnd r (λ fault. fault ≡ given) → IfUnspelled given P → IfErr r (λ fault. IfUnspelled fault P)
+pub is_fault : {T : Type 0} (P : Type 0) (r : Result T TxFault) (given : TxFault) → IsErrAnd r (λ fault. fault ≡ given) → IfUnspelled given P → IfErr r (λ fault. IfUnspelled fault P)
 is_fault P (Ok x) given is p = tt
 is_fault P (Err fault) given is p = subst (λ f. IfUnspelled f P) (sym is) p
 

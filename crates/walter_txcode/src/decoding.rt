@@ -6,7 +6,7 @@ ghost use Rattle.walter_txcode.specs.Faults.{IfUnspelled};
 ghost use Rattle.walter_names.specs.Names.{IsTid};
 ghost use Rattle.walter_txcode.specs.Spelling.{head_spelled, spelling, HasSpelling};
 
-use crate::fault::Fault;
+use crate::fault::TxFault;
 use crate::updates::read_updates;
 use crate::vectors::read_vector;
 use std::alloc::Global;
@@ -18,7 +18,7 @@ use walter_names::read_tid;
 const LONGEST: usize = 60_000;
 
 /// What stands before the updates.
-fn read_head(cursor: &mut Cursor, sites: u8) -> Result<(Tid, u64, Vts), Fault>
+fn read_head(cursor: &mut Cursor, sites: u8) -> Result<(Tid, u64, Vts), TxFault>
     requires { sites ≤ 8 }
     ensures taken { IfOk result
         (λ head. Takes cursor.old cursor.new (head_spelled head.0 head.1 head.2)) }
@@ -37,20 +37,20 @@ fn read_head(cursor: &mut Cursor, sites: u8) -> Result<(Tid, u64, Vts), Fault>
     Ok((tid, slow, start))
 }
 
-fn read_transaction(alloc: Global, bytes: &[u8], sites: u8) -> Result<Tx, Fault>
+fn read_transaction(alloc: Global, bytes: &[u8], sites: u8) -> Result<Tx, TxFault>
     requires { sites ≤ 8 }
     ensures ok { IfOk result (λ tx. HasSpelling sites tx × (bytes.now ≡ spelling tx)) }
     ensures fault { IfErr result (λ fault. IfUnspelled fault
         ((tx : Tx) → HasSpelling sites tx → bytes.now ≢ spelling tx)) }
 {
     if bytes.len() > LONGEST {
-        return Err(Fault::Unspelled);
+        return Err(TxFault::Unspelled);
     }
     let mut cursor = Cursor::new(bytes);
     let (tid, slow, start) = read_head(&mut cursor, sites)?;
     let updates = read_updates(alloc, &mut cursor)?;
     if !cursor.is_at_end() {
-        return Err(Fault::Unspelled);
+        return Err(TxFault::Unspelled);
     }
     Ok(Tx {
         tid,
@@ -70,7 +70,7 @@ pub fn decode(alloc: Global, bytes: &[u8], sites: u8) -> Mem<Option<Tx>>
 {
     match read_transaction(alloc, bytes, sites) {
         Ok(tx) => Ok(Some(tx)),
-        Err(Fault::Unspelled) => Ok(None),
-        Err(Fault::NoMemory) => Err(NoMemory),
+        Err(TxFault::Unspelled) => Ok(None),
+        Err(TxFault::NoMemory) => Err(NoMemory),
     }
 }

@@ -3,7 +3,7 @@ ghost use Rattle.walter_fields.specs.Cursors.{Takes};
 ghost use Rattle.walter_txcode.specs.Faults.{IfUnspelled};
 ghost use Rattle.walter_txcode.specs.Spelling.{numbers_spelled, vector_spelled};
 
-use crate::fault::Fault;
+use crate::fault::TxFault;
 use walter_base::{SiteId, Vts};
 use walter_fields::{Appender, Cursor, Short};
 
@@ -23,21 +23,21 @@ fn read_numbers(cursor: &mut Cursor, count: u8) -> Result<Vts, Short>
 }
 
 /// So many times the number 0.
-fn read_zeros(cursor: &mut Cursor, count: u8) -> Result<(), Fault>
+fn read_zeros(cursor: &mut Cursor, count: u8) -> Result<(), TxFault>
     ensures ok { IfOk result (λ _. Takes cursor.old cursor.new (numbers_spelled (replicate count 0))) }
     ensures fault { IfErr result (λ fault. IfUnspelled fault
         ((rest : List ℕ) → cursor.old.left ≢ numbers_spelled (replicate count 0) ++ rest)) }
 {
     for _ in 0..count {
         if cursor.u64()? != 0 {
-            return Err(Fault::Unspelled);
+            return Err(TxFault::Unspelled);
         }
     }
     Ok(())
 }
 
 /// A vector of so many sites.
-pub(crate) fn read_vector(cursor: &mut Cursor, sites: u8) -> Result<Vts, Fault>
+pub(crate) fn read_vector(cursor: &mut Cursor, sites: u8) -> Result<Vts, TxFault>
     requires { sites ≤ 8 }
     ensures taken { IfOk result (λ v. Takes cursor.old cursor.new (vector_spelled v)) }
     ensures counted { IfOk result (λ v. length v ≡ sites) }

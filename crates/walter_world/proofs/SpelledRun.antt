@@ -34,9 +34,9 @@ use Rattle.walter_psi.specs.declared.step.Answer.TheVariants.{Value as ValueIs, 
 use Rattle.walter_psi.specs.declared.step.Level.TheVariants.{NotCommitted as ToldNotCommitted, Visible as ToldVisible}
 use Rattle.walter_psi.specs.declared.step.Step.{Step}
 use Rattle.walter_psi.specs.declared.step.Step.TheVariants.{Op, Read as ReadStep, Commit as CommitStep, Told}
-use Rattle.walter_psi.specs.declared.step.Told.TheVariants.{Version as OfVersion, Level as OfLevel}
+use Rattle.walter_psi.specs.declared.step.Notice.TheVariants.{Version as OfVersion, Level as OfLevel}
 use Rattle.walter_psi.specs.Histories.{IsCommitted}
-use Rattle.walter_psi.specs.Legal.{IsLegal, IsAnswer, IsCause}
+use Rattle.walter_psi.specs.Legal.{IsLegal, IsAnswer, IsCauseOfAbort}
 use Rattle.walter_base.proofs.ByClient.{lookup-behind, lookup-changed_into, lookup-without}
 use Rattle.walter_psi.proofs.Lists.{Contains-nil}
 use Rattle.walter_trail.specs.declared.held.Held.{Held}
@@ -219,7 +219,7 @@ module _ (catalog : Catalog) (K : Knowledge) (records : List Record) (gone : ℕ
       either (Call client (Ok request)) (has_place s.updates update) _ _ (wrote client request update s has changes spells) still
 
   -- a transaction is aborted, for a cause that was there
-  aborts : (client : ℕ) (request : Request) (s : Session) (cause : Cause) → session_of K client ≡ Some s → IsCause s.tid h cause
+  aborts : (client : ℕ) (request : Request) (s : Session) (cause : Cause) → session_of K client ≡ Some s → IsCauseOfAbort s.tid h cause
       → HoldsAfter site h (Call client (Ok request)) (as_ruled (answers (Aborted cause)))
   aborts client request s cause has there =
       let next : Knowledge = after the_site K (Call client (Ok request)) (Replied (Aborted cause)) None in

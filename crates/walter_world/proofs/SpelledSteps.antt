@@ -17,12 +17,12 @@ use Rattle.walter_base.specs.Values.{write_set}
 use Rattle.walter_base.specs.Vectors.{entry_at}
 use Rattle.walter_psi.specs.declared.step.Answer.{Answer}
 use Rattle.walter_psi.specs.declared.step.Level.TheVariants.{NotCommitted}
-use Rattle.walter_psi.specs.declared.step.Told.{Told as Notice}
-use Rattle.walter_psi.specs.declared.step.Told.TheVariants.{Level as OfLevel}
+use Rattle.walter_psi.specs.declared.step.Notice.{Notice}
+use Rattle.walter_psi.specs.declared.step.Notice.TheVariants.{Level as OfLevel}
 use Rattle.walter_psi.specs.declared.step.Step.{Step}
 use Rattle.walter_psi.specs.declared.step.Step.TheVariants.{Start, Op, Read, Commit, Abort, Told}
 use Rattle.walter_psi.specs.Histories.{log, logged, commits, commit_of, snapshot, own_updates, done, committed_updates, given, seen_updates, IsStarted, IsCommitted}
-use Rattle.walter_psi.specs.Legal.{IsLegal, IsLegalStep, IsLegalCommit, IsOver, IsRunning, IsBlocked, IsAnswer, IsCause, IsVersionOf, IsTrueNotice}
+use Rattle.walter_psi.specs.Legal.{IsLegal, IsLegalStep, IsLegalCommit, IsOver, IsRunning, IsBlocked, IsAnswer, IsCauseOfAbort, IsVersionOf, IsTrueNotice}
 use Rattle.walter_psi.proofs.Lists.{place_of, contains_at, slice_get-push, slice_get-take, slice_get-take_within, Contains-take, flat_map_agree}
 use Rattle.walter_psi.proofs.StepFacts.{logged_commit, commit_of_commit, done_op, done_none, given_commit}
 use Rattle.walter_psi.proofs.OneMore.{legal_snoc, log_snoc, commits_snoc, own_updates_snoc, committed_updates_snoc, started_kept, started_here, started_snoc, committed_snoc}
@@ -363,7 +363,7 @@ module _ (epoch starts : ℕ) (committed : List ℕ) (held : List Held) (h : Lis
 
   -- its transaction is aborted, for a cause that was there
   pub abort_step : (session : ℕ → Option Session) (client : ℕ) (s : Session) (cause : Cause) → AreOpen held h session → session client ≡ Some s
-      → IsCause s.tid h cause
+      → IsCauseOfAbort s.tid h cause
       → IsTold epoch starts committed held (h ++ Abort s.tid cause ∷ []) × AreOpen held (h ++ Abort s.tid cause ∷ []) (with_one client None session)
   abort_step session client s cause are has there =
       let step : Step = Abort s.tid cause in (
@@ -383,7 +383,7 @@ module _ (epoch starts : ℕ) (committed : List ℕ) (held : List Held) (h : Lis
 
   -- a conflict's version is that of a transaction that wrote the object, and isn't in the snapshot
   pub conflict_cause : (s : Session) (oid : ObjId) (version : Version) → IsOpen held h s → IsConflict held s.snapshot s.updates oid version
-      → IsCause s.tid h (Modified oid version)
+      → IsCauseOfAbort s.tid h (Modified oid version)
   conflict_cause s oid version opened conflict =
       let found = some_outside s.snapshot oid held version conflict.first in
       let y = found.0 in

@@ -20,7 +20,7 @@ use Rattle.walter_psi.specs.declared.step.Answer.TheVariants.{Value as ValueIs}
 use Rattle.walter_psi.specs.declared.step.Level.TheVariants.{Visible as ToldVisible}
 use Rattle.walter_psi.specs.declared.step.Step.{Step}
 use Rattle.walter_psi.specs.declared.step.Step.TheVariants.{Start, Op, Read, Commit, Told}
-use Rattle.walter_psi.specs.declared.step.Told.TheVariants.{Version as OfVersion, Level as OfLevel}
+use Rattle.walter_psi.specs.declared.step.Notice.TheVariants.{Version as OfVersion, Level as OfLevel}
 use Rattle.walter_trail.specs.declared.trail.Entry.{Entry}
 use Rattle.walter_trail.specs.declared.trail.Outcome.TheVariants.{Replied, Taken}
 use Rattle.walter_trail.specs.declared.trail.TrailEvent.TheVariants.{Call, Restart}

@@ -5,7 +5,7 @@ ghost use Rattle.walter_psi.specs.Histories.{IsStarted, IsCommitted};
 ghost use Rattle.walter_psi.specs.Legal.{IsRunning};
 ghost use Rattle.walter_psi.specs.Checking.{IsStartOf, IsCommitOf, IsAbortOf};
 
-use crate::step::{Level, Step, Told};
+use crate::step::{Level, Notice, Step};
 use walter_base::Tid;
 
 /// Whether the step starts the transaction.
@@ -28,9 +28,9 @@ fn is_abort_of(step: &Step, x: Tid) -> bool
 }
 
 fn tells_uncommitted(step: &Step, x: Tid) -> bool
-    ensures { IsTrue result ↔ (step.now ≡ Step.Told x (Told.Level Level.NotCommitted)) }
+    ensures { IsTrue result ↔ (step.now ≡ Step.Told x (Notice.Level Level.NotCommitted)) }
 {
-    matches!(step, Step::Told(y, Told::Level(Level::NotCommitted)) if *y == x)
+    matches!(step, Step::Told(y, Notice::Level(Level::NotCommitted)) if *y == x)
 }
 
 /// Whether the transaction starts among the steps.
@@ -63,7 +63,7 @@ pub(super) fn is_running(steps: &[Step], x: Tid) -> bool
 
 /// Whether somebody was told that it isn't committed.
 pub(super) fn was_told_uncommitted(steps: &[Step], x: Tid) -> bool
-    ensures { IsTrue result ↔ Contains steps.now (Step.Told x (Told.Level Level.NotCommitted)) }
+    ensures { IsTrue result ↔ Contains steps.now (Step.Told x (Notice.Level Level.NotCommitted)) }
 {
     steps.iter().any(|step| tells_uncommitted(step, x))
 }

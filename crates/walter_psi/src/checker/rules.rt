@@ -4,14 +4,14 @@ ghost use Rattle.walter_base.specs.declared.names.Tid.{Tid};
 ghost use Rattle.walter_base.specs.declared.names.ObjId.{ObjId};
 ghost use Rattle.walter_base.specs.Values.{written, write_set, DoConflict};
 ghost use Rattle.walter_psi.specs.Histories.{log, snapshot, committed_updates};
-ghost use Rattle.walter_psi.specs.Legal.{IsBlocked, IsVersionOf, IsOutside, IsCause, IsTrueNotice, IsLegalCommit, IsLegalArrival, IsLegalStep};
+ghost use Rattle.walter_psi.specs.Legal.{IsBlocked, IsVersionOf, IsOutside, IsCauseOfAbort, IsTrueNotice, IsLegalCommit, IsLegalArrival, IsLegalStep};
 ghost use Rattle.walter_psi.specs.Checking.{Blocks, IsUnseenWriter};
 
 use super::answers::is_answer;
 use super::logs::{commits_of, is_among, log_of, snapshot_of};
 use super::marks::{is_committed, is_running, is_started, was_told_uncommitted};
 use super::updates::{committed_updates_of, own_updates_of, seen_updates_of};
-use crate::step::{Answer, Level, Step, Told};
+use crate::step::{Answer, Level, Notice, Step};
 use std::alloc::Global;
 use walter_base::{Cause, Mem, ObjId, SiteId, Tid, Update, Version};
 
@@ -139,7 +139,7 @@ fn is_outside(alloc: Global, steps: &[Step], x: Tid, oid: ObjId, version: Versio
 }
 
 fn is_cause(alloc: Global, steps: &[Step], x: Tid, cause: Cause) -> Mem<bool>
-    ensures { IfOk result (λ is. IsTrue is ↔ IsCause x steps.now cause) }
+    ensures { IfOk result (λ is. IsTrue is ↔ IsCauseOfAbort x steps.now cause) }
 {
     let own = own_updates_of(alloc, steps, x)?;
     match cause {
@@ -172,13 +172,13 @@ fn is_version_of(alloc: Global, steps: &[Step], version: Version, x: Tid) -> Mem
     }
 }
 
-fn is_true_notice(alloc: Global, steps: &[Step], x: Tid, told: Told) -> Mem<bool>
+fn is_true_notice(alloc: Global, steps: &[Step], x: Tid, told: Notice) -> Mem<bool>
     ensures { IfOk result (λ is. IsTrue is ↔ IsTrueNotice x steps.now told) }
 {
     match told {
-        Told::Version(version) => is_version_of(alloc, steps, version, x),
-        Told::Level(Level::NotCommitted) => Ok(!is_committed(steps, x)),
-        Told::Level(Level::Committed | Level::Durable | Level::Visible) => {
+        Notice::Version(version) => is_version_of(alloc, steps, version, x),
+        Notice::Level(Level::NotCommitted) => Ok(!is_committed(steps, x)),
+        Notice::Level(Level::Committed | Level::Durable | Level::Visible) => {
             Ok(is_committed(steps, x))
         }
     }

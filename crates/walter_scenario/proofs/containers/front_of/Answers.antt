@@ -3,7 +3,7 @@ use Rattle.std.proofs.lemmas.List.{length-map}
 use Rattle.std.proofs.lemmas.List.{length_push}
 use Rattle.std.proofs.lemmas.List.Elements.{All-push}
 use Rattle.serde_json.specs.View.{view}
-use Rattle.walter_scenario.specs.Fronts.{IsDeclared}
+use Rattle.walter_scenario.specs.Fronts.{IsContainer}
 use Rattle.walter_scenario.specs.Parts.{container_spelled}
 use Rattle.walter_scenario.proofs.Spelling.{seen_at, one_more}
 use Rattle.walter_scenario.proofs.containers.front_of.Goals as goal
@@ -20,5 +20,5 @@ loop-value-preserved c =
     (record {
       count = omega (arith, kept.count, length_push front container);
       spelled = one_more container_spelled (map view values) i front container (omega (arith, length-map values view)) kept.spelled at;
-      declared = All-push IsDeclared front container kept.declared c.in-Some.ensures.some.0;
+      declared = All-push IsContainer front container kept.declared c.in-Some.ensures.some.0;
     })

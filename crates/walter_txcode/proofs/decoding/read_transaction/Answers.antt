@@ -1,6 +1,6 @@
 use Rattle.std.proofs.Common.{refl, ap, sym, ◌∙◌}
 use Rattle.std.specs.Prelude.{IsTrue, false}
-use Rattle.walter_fields.specs.Cursors.{Unread}
+use Rattle.walter_fields.specs.Cursors.{Remainder}
 use Rattle.walter_txcode.proofs.Failures.{IfUnspelled-weaker, is_fault, Begins, too_long, no_transaction, more_behind, is_whole}
 use Rattle.walter_txcode.proofs.decoding.read_transaction.Goals as goal
 
@@ -13,7 +13,7 @@ returns-in_err-updates-clause-fault c =
     let head = c.in_ok-tid in
     let begins : Begins c.args.sites head.tid head.slow head.start c.args.bytes.now c.read_head.new.cursor.left = record {
       head = record { counted = head.ensures.counted; name = head.ensures.tid; number = head.ensures.slow; numbers = head.ensures.start };
-      front = ap (λ (x : Unread). x.left) (sym c.new-cursor.ensures) ∙ head.ensures.taken.front;
+      front = ap (λ (x : Remainder). x.left) (sym c.new-cursor.ensures) ∙ head.ensures.taken.front;
     } in
     let exit = c.from_residual-in_err-updates in
     let fault = c.in_err-updates in
@@ -25,7 +25,7 @@ returns-then-not-is_at_end-clause-fault c =
     let head = c.in_ok-tid in
     let begins : Begins c.args.sites head.tid head.slow head.start c.args.bytes.now c.read_head.new.cursor.left = record {
       head = record { counted = head.ensures.counted; name = head.ensures.tid; number = head.ensures.slow; numbers = head.ensures.start };
-      front = ap (λ (x : Unread). x.left) (sym c.new-cursor.ensures) ∙ head.ensures.taken.front;
+      front = ap (λ (x : Remainder). x.left) (sym c.new-cursor.ensures) ∙ head.ensures.taken.front;
     } in
     let found = c.in_ok-updates in
     more_behind c.args.sites head.tid head.slow head.start c.args.bytes.now c.read_head.new.cursor.left c.read_updates.new.cursor.left found.updates begins found.ensures.taken.front found.ensures.range found.ensures.few (λ ended. absurd (let true_is : IsTrue false = c.if-not-is_at_end.ensures.1 ended in cc))
@@ -35,7 +35,7 @@ returns-clause-ok c =
     let head = c.in_ok-tid in
     let begins : Begins c.args.sites head.tid head.slow head.start c.args.bytes.now c.read_head.new.cursor.left = record {
       head = record { counted = head.ensures.counted; name = head.ensures.tid; number = head.ensures.slow; numbers = head.ensures.start };
-      front = ap (λ (x : Unread). x.left) (sym c.new-cursor.ensures) ∙ head.ensures.taken.front;
+      front = ap (λ (x : Remainder). x.left) (sym c.new-cursor.ensures) ∙ head.ensures.taken.front;
     } in
     let found = c.in_ok-updates in
     let e = c.if-not-is_at_end.ensures in

@@ -1,7 +1,7 @@
 use Rattle.std.proofs.Common.{◌≡◌, ◌+◌, ◌∙◌, ℕ, Bool, true, false, None, is_some, if◌then◌else◌, length, nat_eq, ap, sym, refl, subst, arith}
 use Rattle.std.specs.Map.{remove_entry}
 use Rattle.slab.specs.Slab.{slab_len}
-use Rattle.walter_session.specs.Sessions.{Table, AreLinked, Kept, clients_in, session_of, slots_left}
+use Rattle.walter_session.specs.Sessions.{Table, AreLinked, SessionWithRoom, clients_in, session_of, slots_left}
 use Rattle.walter_base.specs.ByClient.{without}
 use Rattle.walter_base.proofs.ByClient.{removed-absent, seen-without}
 use Rattle.walter_session.proofs.Tables.{seen_of, without_sets, rooms, from_some}
@@ -45,7 +45,7 @@ returns-in_default c =
     let same = ap (λ (t : Table). t.slots) c.self.view_is in
     let keys = ap (λ (t : Table). t.keys) c.self.view_is in
     record {
-      sessions = ap seen_of clients ∙ seen-without (λ (k : Kept). k.session) client before.clients;
+      sessions = ap seen_of clients ∙ seen-without (λ (k : SessionWithRoom). k.session) client before.clients;
       room = rooms before _ client None (without_sets before (table_in slots c.shift_remove.new.self.entries) client clients);
       freed = freed_of _ false _ before.slots had (omega (arith, same));
       keys = omega (arith, keys, c.shift_remove.ensures.room.0);
@@ -72,7 +72,7 @@ returns c =
     let keys = ap (λ (t : Table). t.keys) c.self.view_is in
     let more : slots_left c.try_remove.new.self ≡ before.slots + 1 = omega (arith, less, within, same, c.try_remove.ensures.capacity) in
     record {
-      sessions = ap seen_of clients ∙ seen-without (λ (k : Kept). k.session) client before.clients;
+      sessions = ap seen_of clients ∙ seen-without (λ (k : SessionWithRoom). k.session) client before.clients;
       room = rooms before _ client None (without_sets before (table_in c.try_remove.new.self c.shift_remove.new.self.entries) client clients);
       freed = freed_of _ true _ before.slots had more;
       keys = omega (arith, keys, c.shift_remove.ensures.room.0);

@@ -2,7 +2,7 @@ use Rattle.std.proofs.Common.{◌≡◌, ◌∙◌, length, sym, ap, subst, arit
 use Rattle.std.proofs.lemmas.Bool.Decides.{nat_tests}
 use Rattle.walter_base.specs.ByClient.{AreApart}
 use Rattle.walter_base.proofs.ByClient.{seen-apart}
-use Rattle.walter_session.specs.Sessions.{Kept, sessions_of, clients_in}
+use Rattle.walter_session.specs.Sessions.{SessionWithRoom, sessions_of, clients_in}
 use Rattle.walter_session.proofs.Links.{sessions_count, kept_apart}
 use Rattle.walter_session.proofs.sessions.Sessions.is_full.Goals as goal
 
@@ -15,4 +15,4 @@ returns-clause-full c =
 pub returns-clause-apart : goal.returns-clause-apart
 returns-clause-apart c =
     let clients = clients_in c.self.inside.slots c.self.inside.keys.entries in
-    subst (λ table. AreApart (sessions_of table)) c.self.view_is (seen-apart (λ (k : Kept). k.session) clients (kept_apart c.self.inside.slots c.self.inside.keys.entries c.self.invariant.each c.self.invariant.apart))
+    subst (λ table. AreApart (sessions_of table)) c.self.view_is (seen-apart (λ (k : SessionWithRoom). k.session) clients (kept_apart c.self.inside.slots c.self.inside.keys.entries c.self.invariant.each c.self.invariant.apart))

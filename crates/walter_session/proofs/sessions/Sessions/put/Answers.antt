@@ -3,7 +3,7 @@ use Rattle.std.proofs.lemmas.List.{map-append}
 use Rattle.indexmap.proofs.CallerLemmas.{insert_entry-new}
 use Rattle.walter_session.specs.declared.session.Stage.TheVariants.{Open}
 use Rattle.walter_session.specs.declared.slot.Slot.{Slot}
-use Rattle.walter_session.specs.Sessions.{Kept, Table, session_of, sessions_of, CanStart, AreLinked, clients_in, kept_in}
+use Rattle.walter_session.specs.Sessions.{SessionWithRoom, Table, session_of, sessions_of, CanStart, AreLinked, clients_in, kept_in}
 use Rattle.walter_session.proofs.Tables.{seen_of, rooms_behind, from_ok}
 use Rattle.walter_session.proofs.Links.{table_in, no_key_of, put_clients, put_linked}
 use Rattle.walter_session.proofs.sessions.Sessions.put.Goals as goal
@@ -36,7 +36,7 @@ returns c =
     let behind = clients ∙ ap (λ (table : Table). table.clients ++ (client, kept_in slot) ∷ []) c.self.view_is in
     let fresh : vec_capacity c.new.result - vec_len c.new.result ≡ 0 = omega (arith, c.new.ensures.len, c.new.ensures.capacity) in
     record {
-      started = ap seen_of behind ∙ map-append (λ (e : ℕ × Kept). (e.0, e.1.session)) c.args.self.now.clients ((client, kept_in slot) ∷ [])
+      started = ap seen_of behind ∙ map-append (λ (e : ℕ × SessionWithRoom). (e.0, e.1.session)) c.args.self.now.clients ((client, kept_in slot) ∷ [])
           ∙ ap (λ us. sessions_of c.args.self.now ++ (client, record { tid = c.args.tid; snapshot = c.args.snapshot; updates = us; stage = Open }) ∷ []) c.new.ensures.items;
       room = rooms_behind c.args.self.now (table_in c.insert_reserved-key.new.self c.insert.new.self.entries) client (kept_in slot) behind fresh;
     }

@@ -3,7 +3,7 @@ use Rattle.std.proofs.lemmas.Bool.{eq-eqb}
 use Rattle.std.proofs.lemmas.Grind.{common_steps}
 use Rattle.std.proofs.Common.{arith, if◌then◌else◌}
 use Rattle.slab.specs.Slab.{with_value}
-use Rattle.walter_session.specs.Sessions.{Table, Seen, room_of, session_of, sessions_of, kept_in}
+use Rattle.walter_session.specs.Sessions.{Table, SessionView, room_of, session_of, sessions_of, kept_in}
 use Rattle.walter_base.proofs.ByClient.{changed-same}
 use Rattle.walter_session.proofs.Tables.{room_in, moved, seen_of, seen-changed, changed_sets, rooms, rooms_more, given_ok}
 use Rattle.walter_session.proofs.Links.{table_in, never_vacant, found, lent_linked, lent_clients, lent_kept}
@@ -27,7 +27,7 @@ returns-in_default-get_mut c =
 
 pub returns : goal.returns
 returns c =
-    let same = λ (s : Seen). s in
+    let same = λ (s : SessionView). s in
     let slots = c.self.inside.slots in
     let entries = c.self.inside.keys.entries in
     let client = c.args.client in

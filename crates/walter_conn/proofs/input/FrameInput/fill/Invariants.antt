@@ -1,6 +1,6 @@
 use Rattle.std.proofs.Common.{◌≡◌, ◌-◌, ◌≤◌, take, vec_len}
 use Rattle.walter_conn.specs.Inputs.{held_by, unread_by}
-use Rattle.walter_conn.proofs.input.Input.fill.Given as goal
+use Rattle.walter_conn.proofs.input.FrameInput.fill.Given as goal
 
 abbrev pub invariant-loop-self : goal.invariant-loop-self
 invariant-loop-self g l = record {

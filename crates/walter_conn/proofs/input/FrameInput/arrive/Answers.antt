@@ -2,7 +2,7 @@ use Rattle.std.proofs.Common.{◌≡◌, ◌+◌, ◌<◌, ◌≤◌, length, su
 use Rattle.walter_conn.specs.Frames.{EndsInFrame}
 use Rattle.walter_conn.specs.Inputs.{held_by}
 use Rattle.walter_conn.proofs.InputLemmas.{EndsInFrame-unread, IsBegun-cut, first_kept, frame_held}
-use Rattle.walter_conn.proofs.input.Input.arrive.Goals as goal
+use Rattle.walter_conn.proofs.input.FrameInput.arrive.Goals as goal
 
 pub returns-then-not-branch-2-clause-cut : goal.returns-then-not-branch-2-clause-cut
 returns-then-not-branch-2-clause-cut g c =

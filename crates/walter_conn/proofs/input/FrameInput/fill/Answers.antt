@@ -1,7 +1,7 @@
 use Rattle.std.proofs.Common.{◌+◌, ◌≤◌, ◌++◌, List, ℕ, take, length, option_map, ap, ◌∙◌, arith}
 use Rattle.std.proofs.lemmas.Grind.{common_steps}
 use Rattle.walter_conn.proofs.InputLemmas.{take-filled, take-kept, unread_more}
-use Rattle.walter_conn.proofs.input.Input.fill.Goals as goal
+use Rattle.walter_conn.proofs.input.FrameInput.fill.Goals as goal
 
 pub loop-self-preserved : goal.loop-self-preserved
 loop-self-preserved g c =
