@@ -4,7 +4,7 @@ use Rattle.walter_base.specs.Sizes.{CanBeRecorded}
 use Rattle.walter_conn.specs.Calls.{Incoming}
 use Rattle.walter_conn.specs.Connections.{incoming}
 use Rattle.walter_conn.specs.Frames.{Call}
-use Rattle.walter_conn.specs.Sequences.{AreCalls, AreAllCalls, Stands as StandsAt}
+use Rattle.walter_conn.specs.Sequences.{AreCalls, AreAllCalls, HasCalled}
 use Rattle.walter_conn.specs.declared.conn.Conn.{Conn}
 use Rattle.walter_conn.specs.declared.next.Next.{Next}
 use Rattle.walter_conn.specs.declared.next.Next.TheVariants.{Frame, Ended, Broken}
@@ -33,7 +33,7 @@ use Rattle.walter_cell.specs.Ties.{AreTied}
 
 -- of the bytes of a client these calls were read; a connection that is broken has read all that there are
 pub record IsLine (bytes : List ℕ) (calls : List Call) (now : Incoming) : Type 0 where
-  pub stands : StandsAt bytes calls now
+  pub stands : HasCalled bytes calls now
   pub broken : now.state ≡ state.Broken → AreAllCalls bytes calls
 
 -- so it is with the connection at this place

@@ -7,7 +7,7 @@ ghost use Rattle.walter_cell.specs.Handled.{FitsFrame};
 
 use std::alloc::Global;
 use walter_base::{Bytes, Mem, NoMemory};
-use walter_conn::{Broken, Conn, Next};
+use walter_conn::{BrokenConn, Conn, Next};
 use walter_stream::{BytesSource, NullSink};
 use walter_trail::Outcome;
 
@@ -39,7 +39,7 @@ pub fn next_call(line: &mut Line, alloc: Global) -> Mem<Next>
 }
 
 /// Writes the reply of an outcome, where it has one.
-pub fn put_reply(line: &mut Line, outcome: &Outcome) -> Result<(), Broken>
+pub fn put_reply(line: &mut Line, outcome: &Outcome) -> Result<(), BrokenConn>
     requires fits { FitsFrame outcome.now }
     requires open { (incoming line.old).state ≢ state.Broken }
     ensures written { result ≡ Ok tt }

@@ -1,5 +1,5 @@
 -- What is left of a rack where no cell was built over its disk.
-use Rattle.std.proofs.Common.{◌≡◌, ◌≢◌, ℕ, ◌+◌, ◌<◌, ◌≤◌, List, [], ◌∷◌, ◌++◌, length, Option, Some, None, option_map, ap, sym, ◌∙◌, refl, subst, arith, inl, inr, ◌⊎◌}
+use Rattle.std.proofs.Common.{◌≡◌, ℕ, ◌+◌, ◌<◌, ◌≤◌, List, [], ◌∷◌, ◌++◌, Option, None, option_map, ap, sym, ◌∙◌, refl, subst, arith, inl, inr, ◌⊎◌}
 use Rattle.std.specs.Prelude.{Result, Ok, Err, OnOk, OnErr, IsOk, IfSome}
 use Rattle.walter_disk.specs.Disks.{DiskState}
 use Rattle.walter_disk.specs.Racks.{IsFresh}
@@ -10,7 +10,7 @@ use Rattle.walter_engine.specs.declared.answers.Unbegun.TheVariants as unbegun
 use Rattle.walter_cli.specs.Ending.{EndsEarly, IsUnbuilt, fault_of}
 use Rattle.walter_cli.specs.declared.ended.JournalCause.TheVariants.{Foreign, Damaged, Used}
 use Rattle.walter_cli.specs.Racks.{RackAt, Racked, IsUntouched, IsUnarmed, HasFailed, HasCause, racked}
-use Rattle.walter_cli.proofs.Giving.{GivesOne, GivesNone, one_part, gives_one, each_one, each_none, one_taken, holds_taken, of_reads}
+use Rattle.walter_cli.proofs.Giving.{GivesOne, GivesNone, gives_one, each_one, each_none, one_taken, holds_taken, of_reads}
 
 -- where one of two calls of a rack may still fail, the second doesn't
 pub still_unfailing : {T E : Type 0} (n m : ℕ) (r : Result T E) → (0 < n → n ≤ m + 1) → (0 < m → IsOk r) → 2 ≤ n → IsOk r
@@ -98,9 +98,12 @@ module _ {D : Type 0} (g : Ghosts D) (before mid after : RackAt D) (first back :
           (of_reads (g.known first).reads (g.may_leave first) P is.fresh.durable (λ bytes told only. so bytes (begins bytes (record { told = told; only = only }))))
 
       unbuilt : (w : Unbegun) → why ≡ w → IsUnbuilt rack (fault_of w)
-      unbuilt unbegun.Failed same = (refl, gives_back HasFailed
-          (let rose : (g.known first).faults < (g.known back).faults = subst (λ (x : Unbegun). IsFaultOfBegin (Err x) (g.known first).faults (g.known back).faults) same faults in
-          omega (arith, rose)))
+      unbuilt unbegun.Failed same = (
+        refl,
+        gives_back HasFailed
+            (let rose : (g.known first).faults < (g.known back).faults = subst (λ (x : Unbegun). IsFaultOfBegin (Err x) (g.known first).faults (g.known back).faults) same faults in
+            omega (arith, rose)),
+      )
       unbuilt unbegun.Foreign same =
           (refl, held (HasCause Foreign 0) (λ bytes begun. let is_so = subst (λ (x : Unbegun). IsBegun bytes (Err x)) same begun in (refl, is_so.0, is_so.1)))
       unbuilt (unbegun.Damaged at length_) same = (refl, held (HasCause (Damaged length_) at) (λ bytes begun. subst (λ (x : Unbegun). IsBegun bytes (Err x)) same begun))

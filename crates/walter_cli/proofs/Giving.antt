@@ -1,13 +1,13 @@
 -- What of a rack's disk holds behind a call: it was taken, and given back or lost.
-use Rattle.std.proofs.Common.{◌≡◌, ◌≢◌, ℕ, ◌+◌, ◌<◌, ◌≤◌, List, [], ◌∷◌, ◌++◌, length, map, Option, Some, None, option_map, ap, sym, ◌∙◌, refl, subst, arith, inl, inr, ◌⊎◌}
-use Rattle.std.specs.Prelude.{Result, Ok, Err, OnOk, OnErr, IsOk, IfSome, IsSome, All, true, false}
+use Rattle.std.proofs.Common.{◌≡◌, ℕ, ◌+◌, List, [], ◌∷◌, ◌++◌, length, Option, Some, None, option_map, ap, sym, ◌∙◌, refl, subst, arith, inl, inr, ◌⊎◌}
+use Rattle.std.specs.Prelude.{Result, Ok, Err, OnOk, OnErr, IfSome, IsSome, All, true, false}
 use Rattle.std.specs.Result.{is_err}
 use Rattle.std.proofs.lemmas.List.{length-append, append-nil}
 use Rattle.std.proofs.lemmas.List.Elements.{All-nil, All-push}
-use Rattle.walter_disk.specs.Disks.{DiskState}
-use Rattle.walter_disk.specs.Images.{Only, IsDurable, LeavesOnly}
+use Rattle.walter_disk.specs.Images.{Only, IsDurable}
 use Rattle.walter_disk.specs.declared.disk.Disk.{Ghosts}
-use Rattle.walter_cli.specs.Racks.{OfADisk, RackAt, Racked, GivesBack, IsToldBy, IsGiven, racked}
+use Rattle.walter_engine.specs.Begins.{MayHaveBegun}
+use Rattle.walter_cli.specs.Racks.{OfADisk, RackAt, Racked, IsToldBy, IsGiven, IsUntouched, IsUnarmed, racked}
 
 -- what holds of a result that is Err, holds of one that is no Ok; and the other way round
 pub err_part : {T E : Type 0} (r : Result T E) (P : Type 0) → OnErr r P → is_err r ≡ true → P
@@ -79,6 +79,25 @@ module _ {D : Type 0} (g : Ghosts D) (before after : RackAt D) where
       (λ more is. subst (λ (xs : List (ℕ × D)). All (λ (it : ℕ × D). P (g.known it.1) (g.may_leave it.1)) xs) (sym is) (All-nil (λ (it : ℕ × D). P (g.known it.1) (g.may_leave it.1))))
       (given_none none)
 
+  -- where no call was made of it, it is as no run has begun
+  pub untouched_before : GivesNone before after → IsUntouched rack
+  untouched_before none = record {
+    unarmed = each_none IsUnarmed none;
+    kept = holds_any (λ bytes. rack.each (λ known images. (image : List ℕ) → images image → MayHaveBegun bytes image))
+        (λ bytes. each_none (λ known images. (image : List ℕ) → images image → MayHaveBegun bytes image) none);
+  }
+    where
+      of_any : (reads : Option (List ℕ)) (P : List ℕ → Type 0) → ((bytes : List ℕ) → P bytes) → IfSome reads P
+      of_any None P all = tt
+      of_any (Some bytes) P all = all bytes
+
+      holds_any : (P : List ℕ → Type 0) → ((bytes : List ℕ) → P bytes) → rack.holds P
+      holds_any P all = by before.disks
+        where
+          by : (disks : Option (Option (List ℕ) → ℕ → D)) → IfSome disks (λ take. IfSome (g.known (take None 0)).reads P)
+          by None = tt
+          by (Some take) = of_any (g.known (take None 0)).reads P all
+
   -- where no disk was taken, none is to be given back
   pub none_taken : GivesNone before after → after.taken ≡ before.taken → rack.balanced
   none_taken none level = by before.given after.given none
@@ -114,17 +133,17 @@ module _ {D : Type 0} (g : Ghosts D) (before after : RackAt D) where
       by None taken = tt
       by (Some take) taken = subst (λ (d : D). IfSome (g.known d).reads P) taken holds
 
-  -- one that is told holds no bytes of which two things are so that exclude each other
-  pub holds_one : (P Q : List ℕ → Type 0) → ((bytes : List ℕ) → P bytes → Q bytes → ⊥) → rack.told → rack.holds P → rack.holds Q → ⊥
-  holds_one P Q apart told p q = by before.disks told p q
+  -- what two things come to that hold of the bytes of one that is told
+  pub holds_both : (P Q : List ℕ → Type 0) (R : Type 0) → ((bytes : List ℕ) → P bytes → Q bytes → R) → rack.told → rack.holds P → rack.holds Q → R
+  holds_both P Q R so told p q = by before.disks told p q
     where
-      in_reads : (reads : Option (List ℕ)) → IsSome reads → IfSome reads P → IfSome reads Q → ⊥
+      in_reads : (reads : Option (List ℕ)) → IsSome reads → IfSome reads P → IfSome reads Q → R
       in_reads None told p q = absurd cc
-      in_reads (Some bytes) told p q = apart bytes p q
+      in_reads (Some bytes) told p q = so bytes p q
 
       by : (disks : Option (Option (List ℕ) → ℕ → D)) → IsToldBy g disks → IfSome disks (λ take. IfSome (g.known (take None 0)).reads P)
-          → IfSome disks (λ take. IfSome (g.known (take None 0)).reads Q) → ⊥
-      by None told p q = told
+          → IfSome disks (λ take. IfSome (g.known (take None 0)).reads Q) → R
+      by None told p q = absurd told
       by (Some take) told p q = in_reads (g.known (take None 0)).reads told p q
 
 -- of bytes that are told, where a crash leaves nothing else

@@ -1,4 +1,7 @@
 pub mod WordLines
 pub mod Turns
 pub mod Giving
+pub mod Causes
 pub mod Early
+pub mod Played
+pub mod Runs

@@ -17,7 +17,7 @@ use Rattle.walter_cli.specs.declared.ended.Fault.{Fault}
 use Rattle.walter_cli.specs.declared.ended.Fault.TheVariants.{Usage, Scenario as ScenarioFault, Read, Write, Memory, Rack, Journal}
 use Rattle.walter_cli.specs.declared.ended.JournalCause.TheVariants.{Foreign, Damaged, Used}
 use Rattle.walter_cli.specs.Headline.{IsSource, HasNoReading, IsRun, IsWholeRun}
-use Rattle.walter_cli.specs.Racks.{RackAt, Racked, IsUntouched, HasFailed, HasCause, racked}
+use Rattle.walter_cli.specs.Racks.{RackAt, Racked, IsUntouched, HasFailed, HasCause}
 use Rattle.walter_cli.specs.Texts.{text_of}
 
 -- the scenario is a reading of the bytes of the source
@@ -54,7 +54,7 @@ pub record IsBuilt {D : Type 0} {g : Ghosts D} (before after : RackAt D) (s : Sc
   pub one_taken : after.taken ≡ before.taken + 1
   pub same_given : after.given ≡ before.given
   pub same_faults : after.faults ≡ before.faults
-  pub unfailing : 2 ≤ before.unfailing → 0 < after.unfailing
+  pub unfailing : 0 < before.unfailing → before.unfailing ≤ after.unfailing + 1
 
 -- why no cell was built over the disk of a rack: the rack failed, or the disk did, or it has what no site can begin with; or
 -- memory ran out

@@ -1,5 +1,5 @@
 -- How a run is driven: by the steps of the scenario, in order.
-use Rattle.std.specs.Prelude.{◌≡◌, ◌<◌, ◌≤◌, ℕ, List, [], ◌∷◌, ◌++◌, length, slice_get, flat_map, map, Some, option_map, All}
+use Rattle.std.specs.Prelude.{◌≡◌, ◌<◌, ℕ, List, [], ◌∷◌, ◌++◌, length, slice_get, flat_map, map, Some, option_map, All}
 use Rattle.walter_conn.specs.Frames.{Call}
 use Rattle.walter_conn.specs.Sequences.{AreCalls, AreAllCalls}
 use Rattle.walter_disk.specs.declared.disk.Disk.{Ghosts}

@@ -22,7 +22,9 @@ pub enum Fault {
     #[error("usage: walter play [--trace], with a scenario on standard input; the report comes on standard output")]
     Usage,
     #[error("the scenario has no reading: {place}")]
-    Scenario { place: Place },
+    Scenario {
+        place: Place,
+    },
     #[error("the scenario could not be read to its end")]
     Read,
     #[error("the report could not be written to its end")]
@@ -30,7 +32,9 @@ pub enum Fault {
     #[error("out of memory")]
     Memory,
     #[error("the disk of site {site} failed, or could not be taken or given back")]
-    Rack { site: u8 },
+    Rack {
+        site: u8,
+    },
     /// At this place of the disk's bytes stands what is wrong: 0 of what is no journal, and else that of the gate.
     #[error("site {site} cannot begin with its disk: {cause} (at place {place})")]
     Journal {

@@ -67,7 +67,11 @@ pub fn run<K: Sink, R: Rack>(
 }
 
 // The cell of the site over the rack's disk. Where none is built the disk is given back.
-fn build_over<R: Rack>(alloc: Global, scenario: &Scenario, rack: &mut R) -> Result<Cell<R::D>, Fault>
+fn build_over<R: Rack>(
+    alloc: Global,
+    scenario: &Scenario,
+    rack: &mut R,
+) -> Result<Cell<R::D>, Fault>
     requires sites { scenario.now.catalog.sites ≡ 1 }
     requires capacity { IsCapacity scenario.now.capacity }
     ensures built { IfOk result (IsBuilt

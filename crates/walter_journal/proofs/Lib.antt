@@ -1,6 +1,6 @@
 mod Appending
 mod Beginning
 mod Gates
-mod Layouts
+pub mod Layouts
 mod Reading
 mod Told

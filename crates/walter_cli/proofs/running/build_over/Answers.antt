@@ -1,5 +1,5 @@
-use Rattle.std.proofs.Common.{refl, sym, subst}
-use Rattle.walter_cli.specs.Ending.{EndsEarly, fault_of}
+use Rattle.std.proofs.Common.{sym, subst}
+use Rattle.walter_cli.specs.Ending.{EndsEarly}
 use Rattle.walter_cli.specs.Racks.{RackAt, racked}
 use Rattle.walter_cli.specs.declared.ended.Fault.{Fault}
 use Rattle.walter_cli.proofs.Early.{ends_early}

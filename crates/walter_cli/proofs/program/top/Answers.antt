@@ -1,0 +1,33 @@
+use Rattle.std.proofs.Common.{refl, ap, sym, ◌∙◌, arith, inr}
+use Rattle.walter_cli.specs.Racks.{RackAt, racked}
+use Rattle.walter_cli.specs.Statuses.{status_of}
+use Rattle.walter_cli.proofs.Giving.{none_taken, untouched_before, holds_both}
+use Rattle.walter_cli.proofs.Runs.{promise_run, promise_fault, promise_usage}
+use Rattle.walter_cli.proofs.program.top.Goals as goal
+
+-- the words ask for nothing
+pub returns-in_default : goal.returns-in_default
+returns-in_default g c =
+    let R = g.R.Rack in
+    let at : RackAt g.row.R-D.Denot = record { disks = R.disks c.args.rack.now; given = R.given c.args.rack.now; taken = R.taken c.args.rack.now; faults = R.faults c.args.rack.now; unfailing = R.unfailing c.args.rack.now } in
+    let ended = c.early.ensures in
+    promise_usage c.args.words.now (racked g.R.D.Disk at at) _ _ c.early.result (ended.status ∙ ap status_of (sym ended.fault)) (inr (none_taken g.R.D.Disk at at refl refl))
+    (λ two rose. omega (arith, rose)) (holds_both g.R.D.Disk at at) c.in_default.ensures.none ended.fault ended.trails (untouched_before g.R.D.Disk at at refl) refl
+
+pub returns-in-Ok : goal.returns-in-Ok
+returns-in-Ok g c =
+    let R = g.R.Rack in
+    let before : RackAt g.row.R-D.Denot = record { disks = R.disks c.args.rack.now; given = R.given c.args.rack.now; taken = R.taken c.args.rack.now; faults = R.faults c.args.rack.now; unfailing = R.unfailing c.args.rack.now } in
+    let after : RackAt g.row.R-D.Denot = record { disks = R.disks c.run.new.rack; given = R.given c.run.new.rack; taken = R.taken c.run.new.rack; faults = R.faults c.run.new.rack; unfailing = R.unfailing c.run.new.rack } in
+    promise_run c.args.words.now (racked g.R.D.Disk before after) _ _ c.run.result c.run.ensures.status c.run.ensures.given_back c.run.ensures.unfailing (holds_both g.R.D.Disk before after)
+    c.in-Some.command.trace c.in-Some.ensures.some c.in-Ok.scenario c.run.result.fault refl c.in-Ok.ensures.ok c.run.ensures.run
+
+-- no scenario was taken
+pub returns-in-Err : goal.returns-in-Err
+returns-in-Err g c =
+    let R = g.R.Rack in
+    let at : RackAt g.row.R-D.Denot = record { disks = R.disks c.args.rack.now; given = R.given c.args.rack.now; taken = R.taken c.args.rack.now; faults = R.faults c.args.rack.now; unfailing = R.unfailing c.args.rack.now } in
+    let ended = c.early-in-Err.ensures in
+    promise_fault c.args.words.now (racked g.R.D.Disk at at) _ _ c.early-in-Err.result (ended.status ∙ ap status_of (sym ended.fault)) (inr (none_taken g.R.D.Disk at at refl refl))
+    (λ two rose. omega (arith, rose)) (holds_both g.R.D.Disk at at)
+    c.in-Some.command.trace c.in-Some.ensures.some c.in-Err.fault ended.fault ended.trails (untouched_before g.R.D.Disk at at refl) refl c.in-Err.ensures.fault
