@@ -3,7 +3,7 @@ use Rattle.std.specs.Prelude.{◌-◌, ℕ, max, List, [], ◌∷◌, ◌++◌, 
 use Rattle.walter_disk.specs.Disks.{DiskState}
 use Rattle.walter_disk.specs.Images.{Elapses}
 use Rattle.walter_disk_memory.specs.Contents.{Call, Content, at_rest, replayed, MayLeave, MightHaveLeft}
-use Rattle.walter_disk_memory.specs.Stops.{Stops, unarmed, passed, failed, mended}
+use Rattle.walter_disk_memory.specs.Stops.{Stops, unarmed, passed, failed, mended, FailOnlyIfArmed}
 
 pub record MemoryState : Type 0 where
   pub first : List ℕ
@@ -62,3 +62,7 @@ after_mend disk = record disk { stops = mended disk.stops }
 -- the disk with room up to an end and for so many calls
 abbrev pub with_room : ℕ → ℕ → MemoryState → MemoryState
 with_room end calls disk = record disk { room_end = max disk.room_end end; room_calls = max disk.room_calls calls }
+
+-- without an arm no call of it has failed, and none is to fail
+abbrev pub FailsOnlyIfArmed : MemoryState → Type 0
+FailsOnlyIfArmed disk = FailOnlyIfArmed disk.stops

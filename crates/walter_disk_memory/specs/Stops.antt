@@ -1,5 +1,5 @@
 -- Calls that fail: from the call on that an arm has named, until the disk has settled.
-use Rattle.std.specs.Prelude.{◌+◌, ◌-◌, ◌==◌, ◌||◌, ℕ, Bool, false, List, [], ◌∷◌, ◌++◌, Option, Some, None, is_some, unwrap_or, if◌then◌else◌}
+use Rattle.std.specs.Prelude.{◌≡◌, ◌+◌, ◌-◌, ◌==◌, ◌||◌, ℕ, Bool, false, List, [], ◌∷◌, ◌++◌, Option, Some, None, is_some, unwrap_or, if◌then◌else◌}
 
 pub record Stops : Type 0 where
   -- each arm: which of the calls behind it fails, counted from 1, and its choice
@@ -8,12 +8,13 @@ pub record Stops : Type 0 where
   pub due : Option (ℕ × ℕ)
   -- the choice of the arm that came, where the disk is broken
   pub came : Option ℕ
-  -- how many calls have failed
+  -- how many calls were made, and how many of them have failed
+  pub made : ℕ
   pub faults : ℕ
 
 -- no call was made
 abbrev pub unarmed : Stops
-unarmed = record { arms = []; due = None; came = None; faults = 0 }
+unarmed = record { arms = []; due = None; came = None; made = 0; faults = 0 }
 
 -- the arm comes at the next call
 abbrev pub is_next : Option (ℕ × ℕ) → Bool
@@ -31,7 +32,7 @@ nearer (Some arm) = Some (arm.0 - 1, arm.1)
 
 -- after a call that did not fail
 abbrev pub passed : Stops → Stops
-passed stops = record stops { due = nearer stops.due }
+passed stops = record stops { due = nearer stops.due; made = stops.made + 1 }
 
 -- the choice of the arm that is to come
 abbrev pub choice_of : Option (ℕ × ℕ) → ℕ
@@ -43,6 +44,7 @@ abbrev pub failed : Stops → Stops
 failed stops = record stops {
   due = if is_some stops.came then stops.due else None;
   came = Some (unwrap_or stops.came (choice_of stops.due));
+  made = stops.made + 1;
   faults = stops.faults + 1;
 }
 
@@ -57,3 +59,7 @@ choice_made stops = unwrap_or stops.came 0
 -- the disk is broken no more
 abbrev pub mended : Stops → Stops
 mended stops = record stops { came = None }
+
+-- without an arm none is due, none came, and no call has failed
+abbrev pub FailOnlyIfArmed : Stops → Type 0
+FailOnlyIfArmed stops = stops.arms ≡ [] → (stops.due ≡ None) × (stops.came ≡ None) × (stops.faults ≡ 0)

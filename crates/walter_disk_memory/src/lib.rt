@@ -11,5 +11,5 @@ mod stops;
 #[cfg(test)]
 mod tests;
 
-pub use memory_disk::MemoryDisk;
+pub use memory_disk::{MemoryDisk, unarmed_never_failed};
 pub use memory_rack::MemoryRack;

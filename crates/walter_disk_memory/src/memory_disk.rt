@@ -1,6 +1,6 @@
 ghost use Rattle.std.specs.Prelude.{◌≡◌, ◌+◌, ◌<◌, ◌≤◌, [], length, take, drop, is_err, IsOk, IfOk, OnOk, OnErr};
 ghost use Rattle.walter_disk_memory.specs.Contents.{Write, FailedWrite, Sync, Settle, settled};
-ghost use Rattle.walter_disk_memory.specs.MemoryDisks.{holding, content_of, called, after_pass, after_fault, after_mend, with_room};
+ghost use Rattle.walter_disk_memory.specs.MemoryDisks.{holding, content_of, called, after_pass, after_fault, after_mend, with_room, FailsOnlyIfArmed};
 ghost use Rattle.walter_disk_memory.specs.Stops.{fails, armed, choice_made};
 
 use crate::change::Change;
@@ -144,6 +144,13 @@ impl MemoryDisk {
     }
 }
 
+/// A disk without an arm has never failed, and none of its calls is to fail. A law of what a disk is, which does nothing.
+pub fn unarmed_never_failed(disk: &MemoryDisk)
+    ensures { FailsOnlyIfArmed disk.now }
+{
+    disk.stops.fail_only_if_armed();
+}
+
 impl Disk for MemoryDisk {
     ghost use Rattle.std.specs.Prelude.{◌++◌, ◌∷◌, refl, false, is_some, option_map};
     ghost use Rattle.walter_disk.specs.Disks.{written, Breaks, MakesRoom, TakesRoom};
@@ -160,6 +167,8 @@ impl Disk for MemoryDisk {
     ghost may_leave = { may_leave_of };
 
     ghost moment = { moment_of };
+
+    ghost device_calls = { λ d. d.stops.made };
 
     ghost left_since = { left_since_of };
 
@@ -179,6 +188,7 @@ impl Disk for MemoryDisk {
         ensures room { OnOk result (MakesRoom end calls
             self.old.room_end self.new.room_end self.old.room_calls self.new.room_calls) }
         ensures same { known_of self.new ≡ known_of self.old }
+        ensures device { self.new.stops.made ≡ self.old.stops.made }
         ensures crash { Narrows (may_leave_of self.old) (may_leave_of self.new) }
         ensures time { GoesOn self.old self.new }
 
@@ -198,6 +208,7 @@ impl Disk for MemoryDisk {
         ensures failed { OnErr result (Breaks (known_of self.old) (known_of self.new)) }
         ensures room { TakesRoom 0
             self.old.room_end self.new.room_end self.old.room_calls self.new.room_calls }
+        ensures device { self.new.stops.made ≡ self.old.stops.made + 1 }
         ensures crash { Narrows (may_leave_of self.old) (may_leave_of self.new) }
         ensures time { GoesOn self.old self.new }
 
@@ -218,6 +229,7 @@ impl Disk for MemoryDisk {
         ensures failed { OnErr result (Breaks (known_of self.old) (known_of self.new)) }
         ensures room { TakesRoom 1
             self.old.room_end self.new.room_end self.old.room_calls self.new.room_calls }
+        ensures device { self.new.stops.made ≡ self.old.stops.made + 1 }
         ensures crash { Follows (Torn at (length from.now)) (may_leave_of self.old) (may_leave_of self.new) }
         ensures time { GoesOn self.old self.new }
 
@@ -237,6 +249,7 @@ impl Disk for MemoryDisk {
         ensures failed { OnErr result (Breaks (known_of self.old) (known_of self.new)) }
         ensures room { TakesRoom 1
             self.old.room_end self.new.room_end self.old.room_calls self.new.room_calls }
+        ensures device { self.new.stops.made ≡ self.old.stops.made + 1 }
         ensures crash { Narrows (may_leave_of self.old) (may_leave_of self.new) }
         ensures time { GoesOn self.old self.new }
 
@@ -261,6 +274,7 @@ impl Disk for MemoryDisk {
         ensures failed { OnErr result (Breaks (known_of self.old) (known_of self.new)) }
         ensures room { TakesRoom 1
             self.old.room_end self.new.room_end self.old.room_calls self.new.room_calls }
+        ensures device { self.new.stops.made ≡ self.old.stops.made }
         ensures crash { Narrows (may_leave_of self.old) (may_leave_of self.new) }
         ensures time { GoesOn self.old self.new }
 
@@ -281,6 +295,7 @@ impl Disk for MemoryDisk {
         ensures same { OnErr result (known_of self.new ≡ known_of self.old) }
         ensures room { TakesRoom 0
             self.old.room_end self.new.room_end self.old.room_calls self.new.room_calls }
+        ensures device { self.new.stops.made ≡ self.old.stops.made }
         ensures crash { Narrows (may_leave_of self.old) (may_leave_of self.new) }
         ensures time { GoesOn self.old self.new }
 

@@ -1,12 +1,13 @@
-ghost use Rattle.std.specs.Prelude.{◌≡◌, ◌+◌, ◌<◌, ◌++◌, ◌∷◌, [], IsErr, IfOk, OnOk, OnErr};
-ghost use Rattle.walter_disk_memory.specs.MemoryRacks.{contents_of, disk_of};
+ghost use Rattle.std.specs.Prelude.{◌≡◌, ◌+◌, ◌<◌, ◌≤◌, ◌++◌, ◌∷◌, [], length, All, IsOk, IsErr, IfOk, OnOk, OnErr};
+ghost use Rattle.walter_disk_memory.specs.MemoryDisks.{FailsOnlyIfArmed};
+ghost use Rattle.walter_disk_memory.specs.MemoryRacks.{contents_of, disk_of, rack_of, unfailing_of, HandsOutNoBytes};
 ghost use Rattle.walter_faults.specs.Schedules.{planned, NextFails, AddsCall};
 
-use crate::memory_disk::MemoryDisk;
+use crate::memory_disk::{MemoryDisk, unarmed_never_failed};
 use std::alloc::Global;
 use std::marker::Model;
 use walter_disk::{Failed, Mem, Rack};
-use walter_faults::Schedule;
+use walter_faults::{GhostCount, Schedule};
 
 /// A rack of disks in memory, some of whose calls fail. It hands out the same disks for every folder, as often as
 /// they are asked for, and keeps those that are given back.
@@ -14,40 +15,58 @@ use walter_faults::Schedule;
 pub struct MemoryRack {
     alloc: Global,
     contents: Vec<Vec<u8>>,
-    taken: u64,
+    taken: GhostCount,
     given: Vec<(u8, MemoryDisk)>,
     schedule: Schedule,
 }
 
 impl Model for MemoryRack {
+    ghost use Rattle.std.specs.Prelude.{◌-◌, All, vec_len, vec_capacity};
+    ghost use Rattle.walter_disk_memory.specs.MemoryDisks.{FailsOnlyIfArmed};
     ghost use Rattle.walter_disk_memory.specs.MemoryRacks.{RackState, contents_of};
 
     ghost Value = { RackState };
 
-    ghost view = { λ s. record { contents = contents_of s.contents.items; taken = s.taken; given = s.given.items; schedule = s.schedule } };
+    ghost view = { λ s. record {
+      contents = contents_of s.contents.items;
+      taken = s.taken.count;
+      given = s.given.items;
+      room = vec_capacity s.given - vec_len s.given;
+      schedule = s.schedule;
+    } };
+
+    ghost invariant = { λ s. All (λ it. FailsOnlyIfArmed it.1) s.given.items };
 }
 
 impl MemoryRack {
     /// A rack of empty disks.
     pub fn new(alloc: Global) -> MemoryRack
-        ensures { result ≡ record { contents = []; taken = 0; given = []; schedule = planned [] } }
+        ensures rack { result ≡ rack_of [] 0 }
+        ensures no_bytes { HandsOutNoBytes result }
     {
         MemoryRack::holding(alloc, Vec::new(alloc))
     }
 
+    /// A rack of empty disks, with room for so many of them to be given back.
+    pub fn with_room(alloc: Global, gives: usize) -> Mem<MemoryRack>
+        ensures rack { IfOk result (λ rack. rack ≡ rack_of [] gives) }
+        ensures no_bytes { IfOk result (λ rack. HandsOutNoBytes rack) }
+    {
+        let given = Vec::with_capacity(alloc, gives)?;
+        Ok(MemoryRack {
+            given,
+            ..MemoryRack::new(alloc)
+        })
+    }
+
     /// A rack of disks that hold these bytes, from site 0 on. The disks behind them are empty.
     pub fn holding(alloc: Global, contents: Vec<Vec<u8>>) -> MemoryRack
-        ensures { result ≡ record {
-          contents = contents_of contents.items;
-          taken = 0;
-          given = [];
-          schedule = planned [];
-        } }
+        ensures { result ≡ rack_of (contents_of contents.items) 0 }
     {
         MemoryRack {
             alloc,
             contents,
-            taken: 0,
+            taken: GhostCount::zero(),
             given: Vec::new(alloc),
             schedule: Schedule::new(Vec::new(alloc)),
         }
@@ -69,8 +88,16 @@ impl MemoryRack {
         &self.given
     }
 
+    /// Those that were given back without an arm have never failed. A law of what a rack is, which does nothing.
+    pub fn given_unarmed_never_failed(&self)
+        ensures { All (λ it. FailsOnlyIfArmed it.1) self.now.given }
+    {
+        let _given = &self.given;
+    }
+
     fn disk_of(&self, site: u8) -> Mem<MemoryDisk>
-        ensures { IfOk result (λ disk. disk ≡ disk_of self.now.contents site) }
+        ensures disk { IfOk result (λ disk. disk ≡ disk_of self.now.contents site) }
+        ensures sure { length self.now.contents ≤ site → IsOk result }
     {
         match self.contents.get(site as usize) {
             Some(bytes) => MemoryDisk::holding(self.alloc, bytes.to_vec(self.alloc)?),
@@ -94,51 +121,61 @@ impl Rack for MemoryRack {
 
     ghost given = { λ r. Some r.given };
 
-    /// Takes memory for the disk. Want of it is a fault, and so is a count of takes that can't rise.
+    ghost unfailing = { unfailing_of };
+
+    /// Takes memory for a disk that holds bytes. Want of it is a fault.
     fn take(&mut self, site: u8, _dir: Option<&str>) -> Result<MemoryDisk, Failed>
         ensures disk { IfOk result (λ disk. disk ≡ disk_of self.old.contents site) }
         ensures fresh { IfOk result (λ disk. IsFresh (known_of disk) (may_leave_of disk)) }
         ensures taken { OnOk result (self.new.taken ≡ self.old.taken + 1) }
         ensures same_taken { OnErr result (self.new.taken ≡ self.old.taken) }
         ensures faultless { OnOk result (self.new.schedule.faults ≡ self.old.schedule.faults) }
+        ensures sure { 0 < unfailing_of self.old
+            → IsOk result × (unfailing_of self.old ≤ unfailing_of self.new + 1) }
         ensures cause { OnErr result (self.old.schedule.faults < self.new.schedule.faults) }
 
-        // It fails where it is planned, and changes nothing else but the number of calls.
+        // It fails where it is planned, and not otherwise where the disk is empty. It takes no room.
         ensures fails { NextFails self.old.schedule → IsErr result }
+        ensures never { ¬ NextFails self.old.schedule → length self.old.contents ≤ site → IsOk result }
         ensures calls { AddsCall self.old.schedule self.new.schedule }
         ensures same { self.new ≡ record self.old { taken = self.new.taken; schedule = self.new.schedule } }
     {
         if self.schedule.fails() {
             return Err(Failed);
         }
-        match (self.disk_of(site), self.taken.checked_add(1)) {
-            (Ok(disk), Some(taken)) => {
-                self.taken = taken;
+        match self.disk_of(site) {
+            Ok(disk) => {
+                self.taken = self.taken.next();
                 Ok(disk)
             }
-            _ => {
+            Err(_) => {
                 self.schedule.add_fault();
                 Err(Failed)
             }
         }
     }
 
-    /// Takes memory to keep the disk. Want of it is a fault.
+    /// Takes memory to keep the disk where no room is left. Want of it is a fault.
     fn give(&mut self, site: u8, disk: MemoryDisk) -> Result<(), Failed>
         ensures given { OnOk result (self.new.given ≡ self.old.given ++ (site, disk) ∷ []) }
         ensures same_given { OnErr result (self.new.given ≡ self.old.given) }
         ensures same_taken { self.new.taken ≡ self.old.taken }
         ensures same_disks { self.new.contents ≡ self.old.contents }
         ensures faultless { OnOk result (self.new.schedule.faults ≡ self.old.schedule.faults) }
+        ensures sure { 0 < unfailing_of self.old
+            → IsOk result × (unfailing_of self.old ≤ unfailing_of self.new + 1) }
         ensures cause { OnErr result (self.old.schedule.faults < self.new.schedule.faults) }
 
-        // It fails where it is planned.
+        // It fails where it is planned, and not otherwise where there is room. It takes the room of one disk at most.
         ensures fails { NextFails self.old.schedule → IsErr result }
+        ensures never { ¬ NextFails self.old.schedule → 0 < self.old.room → IsOk result }
         ensures calls { AddsCall self.old.schedule self.new.schedule }
+        ensures room { self.old.room ≤ self.new.room + 1 }
     {
         if self.schedule.fails() {
             return Err(Failed);
         }
+        unarmed_never_failed(&disk);
         match self.given.push((site, disk)) {
             Ok(()) => Ok(()),
             Err(_) => {

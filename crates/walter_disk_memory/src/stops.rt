@@ -1,10 +1,10 @@
 ghost use Rattle.std.specs.Prelude.{◌≡◌, ◌<◌, is_err, OnOk, OnErr};
-ghost use Rattle.walter_disk_memory.specs.Stops.{unarmed, fails, passed, failed, armed, choice_made, mended};
+ghost use Rattle.walter_disk_memory.specs.Stops.{unarmed, fails, passed, failed, armed, choice_made, mended, FailOnlyIfArmed};
 
 use std::alloc::Global;
 use std::marker::Model;
 use walter_disk::{Failed, Mem};
-use walter_faults::FaultCount;
+use walter_faults::GhostCount;
 
 /// Which calls fail.
 #[derive(Drop)]
@@ -12,19 +12,28 @@ pub(crate) struct Stops {
     arms: Vec<(u64, u64)>,
     due: Option<(u64, u64)>,
     came: Option<u64>,
-    faults: FaultCount,
+    made: GhostCount,
+    faults: GhostCount,
 }
 
 impl Model for Stops {
-    ghost use Rattle.std.specs.Prelude.{◌<◌};
+    ghost use Rattle.std.specs.Prelude.{◌≡◌, ◌<◌, [], None};
     ghost use Rattle.std.specs.Option.{ForSome};
     ghost use Rattle.walter_disk_memory.specs.Stops.{Stops};
 
     ghost Value = { Stops };
 
-    ghost view = { λ s. record { arms = s.arms.items; due = s.due; came = s.came; faults = s.faults.count } };
+    ghost view = { λ s. record {
+      arms = s.arms.items;
+      due = s.due;
+      came = s.came;
+      made = s.made.count;
+      faults = s.faults.count;
+    } };
 
-    ghost invariant = { λ s. ForSome s.due (λ arm. 0 < arm.0) };
+    ghost invariant = { λ s.
+        ForSome s.due (λ arm. 0 < arm.0)
+        × (s.arms.items ≡ [] → (s.due ≡ None) × (s.came ≡ None) × (s.faults.count ≡ 0)) };
 }
 
 impl Stops {
@@ -35,7 +44,8 @@ impl Stops {
             arms: Vec::new(alloc),
             due: None,
             came: None,
-            faults: FaultCount::zero(),
+            made: GhostCount::zero(),
+            faults: GhostCount::zero(),
         }
     }
 
@@ -45,6 +55,7 @@ impl Stops {
         ensures ok { OnOk result (self.new ≡ passed self.old) }
         ensures err { OnErr result (self.new ≡ failed self.old) }
     {
+        self.made = self.made.next();
         if self.came.is_some() {
             self.faults = self.faults.next();
             return Err(Failed);
@@ -62,6 +73,13 @@ impl Stops {
             }
             None => Ok(()),
         }
+    }
+
+    /// Without an arm no call has failed. It does nothing.
+    pub(crate) fn fail_only_if_armed(&self)
+        ensures { FailOnlyIfArmed self.now }
+    {
+        let _arms = &self.arms;
     }
 
     pub(crate) fn arm(&mut self, nth: u64, choice: u64) -> Mem<()>

@@ -1,10 +1,11 @@
-//! Faults of what may fail: how many there were, and, where a test plans them, which calls they come at.
+//! Faults of what may fail: how many there were, and, where a test plans them, which calls they come at. And what counts
+//! in proofs alone.
 #![tactic(auto)]
 
-mod fault_count;
+mod ghost_count;
 mod schedule;
 #[cfg(test)]
 mod tests;
 
-pub use fault_count::FaultCount;
+pub use ghost_count::GhostCount;
 pub use schedule::Schedule;

@@ -1,7 +1,7 @@
 ghost use Rattle.std.specs.Prelude.{◌≡◌, ◌↔◌, ◌+◌, IsTrue, true, false};
 ghost use Rattle.walter_faults.specs.Schedules.{planned, NextFails, AddsCall};
 
-use crate::fault_count::FaultCount;
+use crate::ghost_count::GhostCount;
 use std::marker::Model;
 
 /// Which calls fail: those whose numbers are listed, counted from 1. And how many have failed.
@@ -9,7 +9,7 @@ use std::marker::Model;
 pub struct Schedule {
     failing: Vec<u64>,
     made: u64,
-    faults: FaultCount,
+    faults: GhostCount,
 }
 
 impl Model for Schedule {
@@ -31,7 +31,7 @@ impl Schedule {
         Schedule {
             failing,
             made: 0,
-            faults: FaultCount::zero(),
+            faults: GhostCount::zero(),
         }
     }
 

@@ -5,13 +5,13 @@ ghost use Rattle.walter_stream.specs.StdSink.{writer_of, faults_of};
 use crate::sink::Sink;
 use crate::source::Failed;
 use std::io::Write;
-use walter_faults::FaultCount;
+use walter_faults::GhostCount;
 
 /// A sink over a writer of std. It tells no bytes, since no one can know what a file or a socket holds.
 #[derive(Drop)]
 pub struct StdSink<W: Write + Drop> {
     writer: W,
-    faults: FaultCount,
+    faults: GhostCount,
 }
 
 impl<W: Write + Drop> StdSink<W> {
@@ -20,7 +20,7 @@ impl<W: Write + Drop> StdSink<W> {
     {
         StdSink {
             writer,
-            faults: FaultCount::zero(),
+            faults: GhostCount::zero(),
         }
     }
 

@@ -4,13 +4,13 @@ ghost use Rattle.walter_stream.specs.StdSource.{reader_of, faults_of};
 
 use crate::source::{Failed, Source};
 use std::io::Read;
-use walter_faults::FaultCount;
+use walter_faults::GhostCount;
 
 /// A source over a reader of std. It tells no bytes, since no one can know what a file or a socket holds.
 #[derive(Drop)]
 pub struct StdSource<R: Read + Drop> {
     reader: R,
-    faults: FaultCount,
+    faults: GhostCount,
 }
 
 impl<R: Read + Drop> StdSource<R> {
@@ -19,7 +19,7 @@ impl<R: Read + Drop> StdSource<R> {
     {
         StdSource {
             reader,
-            faults: FaultCount::zero(),
+            faults: GhostCount::zero(),
         }
     }
 }

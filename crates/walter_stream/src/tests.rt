@@ -2,6 +2,7 @@ use super::*;
 use std::alloc::{AllocError, Global};
 use std::io;
 use std::io::{ErrorKind, Read, Write};
+use std::process::Abort;
 use std::test::Fail;
 
 fn source_over(alloc: Global, text: &str, failing: &[u64]) -> Result<MemorySource, AllocError> {
@@ -48,105 +49,121 @@ impl Write for FullWriter {
     }
 }
 
-#[test]
-fn a_source_of_bytes_gives_them_all(rt: HostRuntime) -> Result<(), Fail> {
-    let mut source = BytesSource::from(b"walter".to_vec(rt.alloc())?);
-    let mut piece = [0; 4];
-    assert_eq!(rt; source.read(&mut piece), Ok(4));
-    assert_eq!(rt; piece.as_slice(), b"walt".as_slice());
-    assert_eq!(rt; source.read(&mut piece), Ok(2));
-    assert_eq!(rt; source.read(&mut piece), Ok(0));
+// Reads by four bytes come to these counts, and to these bytes together.
+fn reads_as<R: Abort + AllocGlobal, S: Source>(
+    rt: &R,
+    source: &mut S,
+    counts: &[Result<usize, Failed>],
+    all: &[u8],
+) -> Result<(), Fail> {
+    let mut bytes = Vec::new(rt.alloc());
+    for wanted in counts {
+        let mut piece = [0; 4];
+        let found = source.read(&mut piece);
+        assert_eq!(rt; found, *wanted);
+        if let Ok(count) = found {
+            bytes.extend_from_slice(&piece[..count])?;
+        }
+    }
+    assert_eq!(rt; bytes.as_slice(), all);
     Ok(())
 }
 
-#[test]
-fn a_source_fails_where_it_is_planned(rt: HostRuntime) -> Result<(), Fail> {
-    let mut source = source_over(rt.alloc(), "walter", &[2])?;
-    let mut piece = [0; 4];
-    assert_eq!(rt; source.read(&mut piece), Ok(4));
-    assert_eq!(rt; piece.as_slice(), b"walt".as_slice());
-    assert_eq!(rt; source.read(&mut piece), Err(Failed));
-    assert_eq!(rt; source.read(&mut piece), Ok(2));
-    assert_eq!(rt; piece.as_slice(), b"erlt".as_slice());
-    assert_eq!(rt; source.read(&mut piece), Ok(0));
-    Ok(())
+// What a read to the end comes to: so many bytes, or the fault.
+fn ends_as<R: Abort + AllocGlobal, S: Source>(
+    rt: &R,
+    source: &mut S,
+    limit: usize,
+    wanted: Result<usize, ReadError>,
+) {
+    let found = match read_to_end(rt.alloc(), source, limit) {
+        Ok(bytes) => Ok(bytes.len()),
+        Err(fault) => Err(fault),
+    };
+    assert_eq!(rt; found, wanted);
+}
+
+// What a write comes to, and one of all bytes.
+fn takes<R: Abort, S: Sink>(rt: &R, sink: &mut S, from: &[u8], wanted: Result<usize, Failed>) {
+    assert_eq!(rt; sink.write(from), wanted);
+}
+
+fn takes_all<R: Abort, S: Sink>(rt: &R, sink: &mut S, from: &[u8], wanted: Result<(), Failed>) {
+    assert_eq!(rt; write_all(sink, from), wanted);
 }
 
 #[test]
-fn reads_to_the_end_within_a_limit(rt: HostRuntime) -> Result<(), Fail> {
-    let text = "where bytes come from";
-    let mut source = source_over(rt.alloc(), text, &[])?;
-    let bytes = read_to_end(rt.alloc(), &mut source, 21)?;
-    assert_eq!(rt; bytes.as_slice(), text.as_bytes());
-    let mut source = source_over(rt.alloc(), text, &[])?;
-    let too_long = read_to_end(rt.alloc(), &mut source, 20);
-    assert_eq!(rt; too_long.err(), Some(ReadError::TooLong));
-    Ok(())
+fn a_source_gives_its_bytes_and_fails_where_it_is_planned(rt: HostRuntime) -> Result<(), Fail> {
+    let alloc = rt.alloc();
+    let mut source = BytesSource::from(b"walter".to_vec(alloc)?);
+    reads_as(&rt, &mut source, &[Ok(4), Ok(2), Ok(0)], b"walter")?;
+    let mut source = source_over(alloc, "walter", &[2])?;
+    reads_as(
+        &rt,
+        &mut source,
+        &[Ok(4), Err(Failed), Ok(2), Ok(0)],
+        b"walter",
+    )?;
+    reads_end_within_their_limits(&rt)
 }
 
-#[test]
-fn a_fault_in_mid_stream_is_no_end(rt: HostRuntime) -> Result<(), Fail> {
+fn reads_end_within_their_limits<R: Abort + AllocGlobal>(rt: &R) -> Result<(), Fail> {
+    for (limit, wanted) in [(6, Ok(6)), (5, Err(ReadError::TooLong))] {
+        ends_as(
+            rt,
+            &mut source_over(rt.alloc(), "walter", &[])?,
+            limit,
+            wanted,
+        );
+    }
+    // A fault in mid-stream is no end: the rest is still read behind it.
     let bytes = vec![in rt.alloc(); 7; 20000]?;
     let mut source = MemorySource::new(bytes, [2].to_vec(rt.alloc())?);
-    let failed = read_to_end(rt.alloc(), &mut source, 20000);
-    assert_eq!(rt; failed.err(), Some(ReadError::Failed));
-    let rest = read_to_end(rt.alloc(), &mut source, 20000)?;
-    assert_eq!(rt; rest.len(), 20000 - 8192);
+    for wanted in [Err(ReadError::Failed), Ok(20000 - 8192)] {
+        ends_as(rt, &mut source, 20000, wanted);
+    }
     Ok(())
 }
 
 #[test]
-fn a_sink_takes_what_fits(rt: HostRuntime) -> Result<(), Fail> {
+fn a_sink_takes_what_fits_and_fails_where_it_is_planned(rt: HostRuntime) -> Result<(), Fail> {
     let mut sink = sink_with_room(rt.alloc(), 5, &[2])?;
-    assert_eq!(rt; sink.write(b"abc"), Ok(3));
-    assert_eq!(rt; sink.write(b"def"), Err(Failed));
-    assert_eq!(rt; sink.write(b"def"), Ok(2));
-    assert_eq!(rt; sink.write(b"f"), Err(Failed));
-    assert_eq!(rt; sink.write(b""), Ok(0));
+    takes(&rt, &mut sink, b"abc", Ok(3));
+    for wanted in [Err(Failed), Ok(2), Err(Failed)] {
+        takes(&rt, &mut sink, b"def", wanted);
+    }
+    takes(&rt, &mut sink, b"", Ok(0));
     assert_eq!(rt; sink.as_slice(), b"abcde".as_slice());
-    Ok(())
-}
-
-#[test]
-fn writes_all(rt: HostRuntime) -> Result<(), Fail> {
     let mut sink = sink_with_room(rt.alloc(), 8, &[])?;
-    assert_eq!(rt; write_all(&mut sink, b"front "), Ok(()));
-    assert_eq!(rt; write_all(&mut sink, b"back"), Err(Failed));
-    assert_eq!(rt; sink.as_slice(), b"front ba".as_slice());
-    assert_eq!(rt; write_all(&mut NullSink, b"nothing"), Ok(()));
-    Ok(())
-}
-
-#[test]
-fn reads_and_writes_by_std(rt: HostRuntime) -> Result<(), Fail> {
-    let mut source = StdSource::new(b"over std".as_slice());
-    let bytes = read_to_end(rt.alloc(), &mut source, 100)?;
-    let mut sink = StdSink::new(Vec::<u8>::new(rt.alloc()));
-    assert_eq!(rt; write_all(&mut sink, &bytes), Ok(()));
-    assert_eq!(rt; sink.into_inner().as_slice(), b"over std".as_slice());
-    Ok(())
-}
-
-#[test]
-fn a_fault_of_std_is_a_fault(rt: HostRuntime) -> Result<(), Fail> {
-    let failed = read_to_end(rt.alloc(), &mut StdSource::new(BrokenReader), 100);
-    assert_eq!(rt; failed.err(), Some(ReadError::Failed));
-    let mut sink = StdSink::new(BrokenWriter);
-    assert_eq!(rt; write_all(&mut sink, b"lost"), Err(Failed));
-    assert_eq!(rt;
-        write_all(&mut StdSink::new(FullWriter), b"lost"),
-        Err(Failed)
-    );
+    for wanted in [Ok(()), Err(Failed)] {
+        takes_all(&rt, &mut sink, b"front ", wanted);
+    }
+    assert_eq!(rt; sink.as_slice(), b"front fr".as_slice());
     Ok(())
 }
 
 fn goes_to_a_thread<T: Send>(_value: &T) {}
 
 #[test]
-fn streams_go_to_threads(rt: HostRuntime) -> Result<(), Fail> {
+fn streams_go_over_std_and_to_threads(rt: HostRuntime) -> Result<(), Fail> {
+    let mut source = StdSource::new(b"over std".as_slice());
+    reads_as(&rt, &mut source, &[Ok(4), Ok(4), Ok(0)], b"over std")?;
+    let mut sink = StdSink::new(Vec::<u8>::new(rt.alloc()));
+    takes_all(&rt, &mut sink, b"over std", Ok(()));
+    assert_eq!(rt; sink.into_inner().as_slice(), b"over std".as_slice());
     goes_to_a_thread(&source_over(rt.alloc(), "", &[])?);
     goes_to_a_thread(&sink_with_room(rt.alloc(), 0, &[])?);
-    goes_to_a_thread(&StdSource::new(BrokenReader));
-    goes_to_a_thread(&StdSink::new(BrokenWriter));
+    a_fault_of_std_is_a_fault(&rt);
     Ok(())
+}
+
+fn a_fault_of_std_is_a_fault<R: Abort + AllocGlobal>(rt: &R) {
+    let mut source = StdSource::new(BrokenReader);
+    ends_as(rt, &mut source, 100, Err(ReadError::Failed));
+    goes_to_a_thread(&source);
+    let mut sink = StdSink::new(BrokenWriter);
+    takes_all(rt, &mut sink, b"lost", Err(Failed));
+    goes_to_a_thread(&sink);
+    takes_all(rt, &mut StdSink::new(FullWriter), b"lost", Err(Failed));
+    takes_all(rt, &mut NullSink, b"nothing", Ok(()));
 }

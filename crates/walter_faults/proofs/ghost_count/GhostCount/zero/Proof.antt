@@ -21,11 +21,11 @@ use denote.Triple.Entry.{on_entry, alive}
 use denote.Triple.Spec.{Meets, triple_of}
 use denote.Triple.Table.{entered}
 use denote.Triple.Walked.{says, Stays, walk_of, Walks, ends_at, walked, walk_Meets}
-use Rattle.walter_faults.specs.contracts.fault_count.FaultCount.zero.Key.{name as key}
-use Rattle.walter_faults.specs.contracts.fault_count.FaultCount.zero as f
-use Rattle.walter_faults.proofs.fault_count.FaultCount.zero.Statement as stated
-use Rattle.walter_faults.proofs.fault_count.FaultCount.zero.Code as code
-use Rattle.walter_faults.specs.contracts.fault_count.FaultCount as made
+use Rattle.walter_faults.specs.contracts.ghost_count.GhostCount.zero.Key.{name as key}
+use Rattle.walter_faults.specs.contracts.ghost_count.GhostCount.zero as f
+use Rattle.walter_faults.proofs.ghost_count.GhostCount.zero.Statement as stated
+use Rattle.walter_faults.proofs.ghost_count.GhostCount.zero.Code as code
+use Rattle.walter_faults.specs.contracts.ghost_count.GhostCount as made
 
 abbrev stayed : Stays (f.ended).signature.params (f.ended).kept
 stayed = tt

@@ -28,11 +28,11 @@ use denote.Triple.Entry.{on_entry, alive, Args}
 use denote.Triple.Spec.{Meets, triple_of}
 use denote.Triple.Table.{entered}
 use denote.Triple.Walked.{says, stay_none_ref, Stays, walk_of, Walks, ends_at, walked, Goes-none_ref, walk_Meets}
-use Rattle.walter_faults.specs.contracts.fault_count.FaultCount.next.Key.{name as key}
-use Rattle.walter_faults.specs.contracts.fault_count.FaultCount.next as f
-use Rattle.walter_faults.proofs.fault_count.FaultCount.next.Statement as stated
-use Rattle.walter_faults.proofs.fault_count.FaultCount.next.Code as code
-use Rattle.walter_faults.specs.contracts.fault_count.FaultCount as made
+use Rattle.walter_faults.specs.contracts.ghost_count.GhostCount.next.Key.{name as key}
+use Rattle.walter_faults.specs.contracts.ghost_count.GhostCount.next as f
+use Rattle.walter_faults.proofs.ghost_count.GhostCount.next.Statement as stated
+use Rattle.walter_faults.proofs.ghost_count.GhostCount.next.Code as code
+use Rattle.walter_faults.specs.contracts.ghost_count.GhostCount as made
 
 abbrev stayed : Stays (f.ended).signature.params (f.ended).kept
 stayed = (stay_none_ref (0 ∷ []) tt (plain (λ _. made.the_row)) yes, tt)
