@@ -39,7 +39,8 @@ pub(crate) fn begin_on<D: Disk>(
     ensures begins { (bytes : List ℕ) → HasOnly D.Disk bytes disk → IsBegun bytes result.answer }
     ensures any_moment { (bytes : List ℕ) → HasOnly D.Disk bytes disk
         → LeavesOnly D.moment D.left_since disk (disk_of_state result.state) (MayHaveBegun bytes) }
-    ensures faults { IsFaultOfBegin result.answer (D.known disk).faults (D.known (disk_of_state result.state)).faults }
+    ensures faults { IsFaultOfBegin result.answer
+        (D.known disk).faults (D.known (disk_of_state result.state)).faults }
     ensures device { OnOk result.answer (D.device_calls (disk_of_state result.state)
         ≡ D.device_calls disk + calls_of_load (D.known disk).size + 4) }
     ensures at_most { D.device_calls (disk_of_state result.state)
@@ -77,8 +78,10 @@ fn begin_over<D: Disk>(
     ensures any_moment { (stands : StandsFor journal (map (λ body. body.items) bodies.now))
         → LeavesOnly D.moment D.left_since (disk_of journal) (disk_of_state result.state)
         (MayHaveFirst stands.bytes (map (λ body. body.items) bodies.now)) }
-    ensures faults { IsFaultOfBegin result.answer (D.known (disk_of journal)).faults (D.known (disk_of_state result.state)).faults }
-    ensures device { OnOk result.answer (D.device_calls (disk_of_state result.state) ≡ D.device_calls (disk_of journal) + 4) }
+    ensures faults { IsFaultOfBegin result.answer
+        (D.known (disk_of journal)).faults (D.known (disk_of_state result.state)).faults }
+    ensures device { OnOk result.answer
+        (D.device_calls (disk_of_state result.state) ≡ D.device_calls (disk_of journal) + 4) }
     ensures at_most { D.device_calls (disk_of_state result.state) ≤ D.device_calls (disk_of journal) + 4 }
     ensures arms { (D.known (disk_of_state result.state)).arms ≡ (D.known (disk_of journal)).arms }
 {
