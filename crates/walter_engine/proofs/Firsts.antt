@@ -23,7 +23,7 @@ use Rattle.walter_engine.specs.declared.restarting.AfterRestart.{AfterRestart}
 use Rattle.walter_engine.specs.Begins.{HasOnly, MayHaveBegun}
 use Rattle.walter_engine.specs.Contents.{AreJournaled, MayHaveBoot}
 use Rattle.walter_engine.specs.Engines.{IsInState, IsTallied}
-use Rattle.walter_engine.specs.Firsts.{HasBegun, IsAnswered, MayHaveFirst}
+use Rattle.walter_engine.specs.Firsts.{HasFirstEpoch, IsAnswerTo, MayHaveFirst}
 use Rattle.walter_engine.specs.Raises.{Boots, Raises, IsDown, IsCounted, IsRefused}
 use Rattle.walter_engine.specs.States.{IsOf, disk_of_state}
 use Rattle.walter_engine.specs.Steps.{came_of_restart, kept_of}
@@ -75,12 +75,12 @@ module _ {D : Type 0} {g : Ghosts D} (catalog : Catalog) (capacity : ℕ) (i : S
       let comes = subst (λ (a : Restarted). IsRefused a ⊎ Comes catalog capacity i (unmade catalog.sites) Restart (came_of_restart a)) is boots_new.comes in
       ap came_of_restart is ∙ ap (λ (rec : Record). record { wrote = Some rec; outcome = Taken; flight = None }) (first_is catalog capacity i kept wrote comes)
 
-  -- where it comes up, the site has begun
-  pub has_begun : (answer : Result (Unit {0}) Unbegun) → IsAnswered after.answer answer → IsOf catalog i capacity after.state
-      → OnOk answer (HasBegun {g = g} catalog capacity i (record { state = after.state; answer = answer; tally = after.tally }))
-  has_begun answer answered of = at after.answer refl answered
+  -- where it comes up, it is in its first epoch
+  pub has_first_epoch : (answer : Result (Unit {0}) Unbegun) → IsAnswerTo after.answer answer → IsOf catalog i capacity after.state
+      → OnOk answer (HasFirstEpoch {g = g} catalog capacity i (record { state = after.state; answer = answer; tally = after.tally }))
+  has_first_epoch answer answered of = at after.answer refl answered
     where
-      at : (a : Restarted) → after.answer ≡ a → IsAnswered a answer → OnOk answer (HasBegun {g = g} catalog capacity i (record { state = after.state; answer = answer; tally = after.tally }))
+      at : (a : Restarted) → after.answer ≡ a → IsAnswerTo a answer → OnOk answer (HasFirstEpoch {g = g} catalog capacity i (record { state = after.state; answer = answer; tally = after.tally }))
       at (restarted.Up kept wrote) is answered =
           let same = came_as_opened kept wrote is in
           on_ok answer _ (record {

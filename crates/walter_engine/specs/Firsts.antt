@@ -18,23 +18,23 @@ use Rattle.walter_trail.specs.Standing.{Standing}
 use Rattle.walter_trail.specs.Trails.{standing, opening}
 
 -- how a site stands behind its first entry
-abbrev pub begun : Catalog → SiteId → Standing
-begun catalog i = standing catalog i (opening ∷ [])
+abbrev pub first_standing : Catalog → SiteId → Standing
+first_standing catalog i = standing catalog i (opening ∷ [])
 
--- the site has begun
-pub record HasBegun {D : Type 0} {g : Ghosts D} (catalog : Catalog) (capacity : ℕ) (i : SiteId) (result : AfterBegin D g) : Type 0 where
-  pub journaled : AreJournaled catalog i (begun catalog i)
+-- the site is up in its first epoch
+pub record HasFirstEpoch {D : Type 0} {g : Ghosts D} (catalog : Catalog) (capacity : ℕ) (i : SiteId) (result : AfterBegin D g) : Type 0 where
+  pub journaled : AreJournaled catalog i (first_standing catalog i)
   pub of : IsOf catalog i capacity result.state
-  pub state : IsInState (begun catalog i) (Some result.state)
-  pub tallied : IsTallied result.tally (begun catalog i)
+  pub state : IsInState (first_standing catalog i) (Some result.state)
+  pub tallied : IsTallied result.tally (first_standing catalog i)
 
 -- what it answers where the restart over no records came to this
-abbrev pub IsAnswered : Restarted → Result (Unit {0}) Unbegun → Type 0
-IsAnswered (restarted.Up kept wrote) answer = answer ≡ Ok tt
-IsAnswered (restarted.Failed kept flight) answer = answer ≡ Err unbegun.Failed
-IsAnswered (restarted.Full kept need left) answer = ⊥
-IsAnswered (restarted.Refused kept why) answer = ⊥
-IsAnswered (restarted.NoMemory kept) answer = answer ≡ Err unbegun.NoMemory
+abbrev pub IsAnswerTo : Restarted → Result (Unit {0}) Unbegun → Type 0
+IsAnswerTo (restarted.Up kept wrote) answer = answer ≡ Ok tt
+IsAnswerTo (restarted.Failed kept flight) answer = answer ≡ Err unbegun.Failed
+IsAnswerTo (restarted.Full kept need left) answer = ⊥
+IsAnswerTo (restarted.Refused kept why) answer = ⊥
+IsAnswerTo (restarted.NoMemory kept) answer = answer ≡ Err unbegun.NoMemory
 
 -- what it answers over these bodies
 abbrev pub IsBegunOver : List (List ℕ) → Result (Unit {0}) Unbegun → Type 0

@@ -12,11 +12,13 @@ use walter_disk::Disk;
 /// Arms the disk, bare or under a journal.
 pub(crate) fn arm_state<D: Disk>(state: State<D>, nth: u64, choice: u64) -> (State<D>, Mem<()>)
     requires { 0 < nth }
-    ensures armed { OnOk result.1 (D.known (disk_of_state result.0) ≡ record (D.known (disk_of_state state)) { arms = option_map (λ arms. arms ++ (nth, choice) ∷ []) (D.known (disk_of_state state)).arms }) }
+    ensures armed { let old = D.known (disk_of_state state) in OnOk result.1 (D.known (disk_of_state result.0)
+        ≡ record old { arms = option_map (λ arms. arms ++ (nth, choice) ∷ []) old.arms }) }
     ensures same { OnErr result.1 (D.known (disk_of_state result.0) ≡ D.known (disk_of_state state)) }
     ensures device { D.device_calls (disk_of_state result.0) ≡ D.device_calls (disk_of_state state) }
     ensures up { is_up_state result.0 ≡ is_up_state state }
-    ensures of { (catalog : Catalog) (i : SiteId) (capacity : ℕ) → IsOf catalog i capacity state → IsOf catalog i capacity result.0 }
+    ensures of { (catalog : Catalog) (i : SiteId) (capacity : ℕ) → IsOf catalog i capacity state
+        → IsOf catalog i capacity result.0 }
     ensures stands { (S : Standing) → IsInState S (Some state) → IsInState S (Some result.0) }
 {
     match state {

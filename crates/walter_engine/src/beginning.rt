@@ -2,7 +2,7 @@ ghost use Rattle.std.specs.Prelude.{◌≡◌, ◌≢◌, ◌+◌, ◌<◌, ◌�
 ghost use Rattle.walter_disk.specs.Images.{LeavesOnly};
 ghost use Rattle.walter_journal.specs.Journals.{calls_of_load, disk_of, capacity_of, left_of, StandsFor};
 ghost use Rattle.walter_engine.specs.Begins.{HasOnly, MayHaveBegun, IsBegun, IsFaultOfBegin};
-ghost use Rattle.walter_engine.specs.Firsts.{HasBegun, IsAnswered, IsBegunOver, MayHaveFirst, not_loaded_by};
+ghost use Rattle.walter_engine.specs.Firsts.{HasFirstEpoch, IsAnswerTo, IsBegunOver, MayHaveFirst, not_loaded_by};
 ghost use Rattle.walter_engine.specs.States.{disk_of_state, is_up_state};
 ghost use Rattle.walter_engine.specs.Steps.{IfFull, IfRefused};
 
@@ -35,11 +35,12 @@ pub(crate) fn begin_on<D: Disk>(
     requires most { catalog.now.sites ≤ 8 }
     requires place { 19 ≤ capacity }
     ensures up { is_up_state result.state ≡ is_ok result.answer }
-    ensures stands { IsSome (D.known disk).reads → OnOk result.answer (HasBegun catalog.now capacity id result) }
+    ensures stands { IsSome (D.known disk).reads → OnOk result.answer (HasFirstEpoch catalog.now capacity id result) }
     ensures begins { (bytes : List ℕ) → HasOnly D.Disk bytes disk → IsBegun bytes result.answer }
     ensures any_moment { (bytes : List ℕ) → HasOnly D.Disk bytes disk
         → LeavesOnly D.moment D.left_since disk (disk_of_state result.state) (MayHaveBegun bytes) }
-    ensures faults { IsFaultOfBegin result.answer (D.known disk).faults (D.known (disk_of_state result.state)).faults }
+    ensures faults { IsFaultOfBegin result.answer
+        (D.known disk).faults (D.known (disk_of_state result.state)).faults }
     ensures device { OnOk result.answer (D.device_calls (disk_of_state result.state)
         ≡ D.device_calls disk + calls_of_load (D.known disk).size + 4) }
     ensures at_most { D.device_calls (disk_of_state result.state)
@@ -72,13 +73,15 @@ fn begin_over<D: Disk>(
     requires place { bodies.now ≡ [] → 10 ≤ left_of journal }
     ensures up { is_up_state result.state ≡ is_ok result.answer }
     ensures stands { StandsFor journal (map (λ body. body.items) bodies.now)
-        → OnOk result.answer (HasBegun catalog.now (capacity_of journal) id result) }
+        → OnOk result.answer (HasFirstEpoch catalog.now (capacity_of journal) id result) }
     ensures begins { IsBegunOver (map (λ body. body.items) bodies.now) result.answer }
     ensures any_moment { (stands : StandsFor journal (map (λ body. body.items) bodies.now))
         → LeavesOnly D.moment D.left_since (disk_of journal) (disk_of_state result.state)
         (MayHaveFirst stands.bytes (map (λ body. body.items) bodies.now)) }
-    ensures faults { IsFaultOfBegin result.answer (D.known (disk_of journal)).faults (D.known (disk_of_state result.state)).faults }
-    ensures device { OnOk result.answer (D.device_calls (disk_of_state result.state) ≡ D.device_calls (disk_of journal) + 4) }
+    ensures faults { IsFaultOfBegin result.answer
+        (D.known (disk_of journal)).faults (D.known (disk_of_state result.state)).faults }
+    ensures device { OnOk result.answer
+        (D.device_calls (disk_of_state result.state) ≡ D.device_calls (disk_of journal) + 4) }
     ensures at_most { D.device_calls (disk_of_state result.state) ≤ D.device_calls (disk_of journal) + 4 }
     ensures arms { (D.known (disk_of_state result.state)).arms ≡ (D.known (disk_of journal)).arms }
 {
@@ -109,7 +112,7 @@ fn begin_over<D: Disk>(
 fn answer_to(answer: &Restarted) -> Result<(), Unbegun>
     requires full { IfFull answer.now ⊥ }
     requires refused { IfRefused answer.now (λ why. ⊥) }
-    ensures { IsAnswered answer.now result }
+    ensures { IsAnswerTo answer.now result }
 {
     match answer {
         Restarted::Up { .. } => Ok(()),

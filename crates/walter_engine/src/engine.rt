@@ -21,7 +21,8 @@ pub(crate) enum State<D: Disk> {
     Down(D),
 }
 
-/// How many records the journal has, which is known while the site is up and where a record is in flight; and whether one is.
+/// How many records the journal has, which is known while the site is up and where a record is in flight; and whether
+/// one is.
 #[derive(Clone, Copy, Drop)]
 pub(crate) struct Tally {
     pub records: u64,
@@ -74,8 +75,8 @@ impl<D: Disk + Drop> Engine<D> {
     ghost use Rattle.walter_engine.specs.Steps.{came_of_step, IsSizedStep, IsSizedRestart, IsFaultOfStep, IsFaultOfRestart, AreCallsOfStep, IsRefusedFor, IfRefused, IfUp, brings_up, kept_of};
 
     /// A site that is down, with a disk that it knows nothing of. Where there is no memory the disk comes back. Over a
-    /// journal with records it stands as these tell. How it goes on over another disk, as one of no bytes, `begin` says by
-    /// the disk alone.
+    /// journal with the records of a site it stands as these tell. How a new site goes on, over a disk of no bytes or a
+    /// journal without records, `begin` says by the disk alone.
     pub fn new(
         alloc: Global,
         disk: D,
@@ -131,8 +132,8 @@ impl<D: Disk + Drop> Engine<D> {
     /// Does to the disk what `Disk::arm` does.
     pub fn arm(&mut self, nth: u64, choice: u64) -> Mem<()>
         requires { 0 < nth }
-        ensures armed { OnOk result (OfDisks self.old self.new (λ old new.
-            D.known new ≡ record (D.known old) { arms = option_map (λ arms. arms ++ (nth, choice) ∷ []) (D.known old).arms })) }
+        ensures armed { OnOk result (OfDisks self.old self.new (λ old new. D.known new
+            ≡ record (D.known old) { arms = option_map (λ arms. arms ++ (nth, choice) ∷ []) (D.known old).arms })) }
         ensures same { OnErr result (OfDisks self.old self.new (λ old new. D.known new ≡ D.known old)) }
         ensures device { OfDisks self.old self.new (λ old new. D.device_calls new ≡ D.device_calls old) }
         ensures engine { IsSameEngine self.old self.new }
@@ -153,16 +154,22 @@ impl<D: Disk + Drop> Engine<D> {
         ensures rests { is_up self.old ≡ false → (S : Standing) → Stands self.old S → Stands self.new S }
         ensures up { is_up self.old ≡ true → result ≢ Stepped.Down }
         ensures comes { (S : Standing) → Stands self.old S → S.up ≡ true → S.gone (client_of input.now) ≡ None
-            → Comes (catalog_in self.old) (capacity_in self.old) (site_in self.old) S (event_of input.now) (came_of_step (event_of input.now) result) }
+            → Comes (catalog_in self.old) (capacity_in self.old) (site_in self.old) S (event_of input.now)
+            (came_of_step (event_of input.now) result) }
         ensures stands { (S : Standing) → Stands self.old S → S.up ≡ true → S.gone (client_of input.now) ≡ None
-            → Stands self.new (stands_after (site_in self.old) S (event_of input.now) (came_of_step (event_of input.now) result)) }
-        // a crash at any moment of it leaves the records from before, with the one that the rule brings behind them or without
+            → Stands self.new (stands_after (site_in self.old) S (event_of input.now)
+            (came_of_step (event_of input.now) result)) }
+        // a crash at any moment of it leaves the records from before, with the one that the rule brings behind them or
+        // without
         ensures any_moment { (S : Standing) → Stands self.old S → S.up ≡ true → S.gone (client_of input.now) ≡ None
             → OfDisks self.old self.new (λ old new. LeavesOnly D.moment D.left_since old new
             (MayHaveRecords S.records (rule (catalog_in self.old) (site_in self.old) S (event_of input.now)).wrote)) }
         ensures sized { IsSizedStep result }
-        ensures faults { OfDisks self.old self.new (λ old new. IsFaultOfStep result (D.known old).faults (D.known new).faults) }
-        ensures device { OfDisks self.old self.new (λ old new. AreCallsOfStep result (D.device_calls old) (D.device_calls new)) }
+        ensures faults { OfDisks self.old self.new (λ old new.
+            IsFaultOfStep result (D.known old).faults (D.known new).faults) }
+        // how many calls of the disk an arm counts
+        ensures device { OfDisks self.old self.new (λ old new.
+            AreCallsOfStep result (D.device_calls old) (D.device_calls new)) }
         ensures arms { OfDisks self.old self.new (λ old new. (D.known new).arms ≡ (D.known old).arms) }
         ensures engine { IsSameEngine self.old self.new }
     {
@@ -218,7 +225,9 @@ impl<D: Disk + Drop> Engine<D> {
         // and what a crash at any moment of it leaves
         ensures any_moment { (bytes : List ℕ) → OfDisk self.old (HasOnly D.Disk bytes)
             → OfDisks self.old self.new (λ old new. LeavesOnly D.moment D.left_since old new (MayHaveBegun bytes)) }
-        ensures faults { OfDisks self.old self.new (λ old new. IsFaultOfBegin result (D.known old).faults (D.known new).faults) }
+        ensures faults { OfDisks self.old self.new (λ old new.
+            IsFaultOfBegin result (D.known old).faults (D.known new).faults) }
+        // how many calls of the disk an arm counts
         ensures device { OnOk result (OfDisks self.old self.new (λ old new.
             D.device_calls new ≡ D.device_calls old + calls_of_load (D.known old).size + 4)) }
         ensures at_most { OfDisks self.old self.new (λ old new.
@@ -252,14 +261,17 @@ impl<D: Disk + Drop> Engine<D> {
         ensures restarts { (S : Standing) → Stands self.old S
             → Restarts (catalog_in self.old) (capacity_in self.old) (site_in self.old) S result self.new }
         ensures up { is_up self.new ≡ brings_up result }
-        // a crash at any moment of it leaves the records from before, or those that it found with the next epoch behind them
+        // a crash at any moment of it leaves the records from before, or those that it found with the next epoch behind
+        // them
         ensures any_moment { (S : Standing) → Stands self.old S
-            → OfDisks self.old self.new (λ old new. LeavesOnly D.moment D.left_since old new (MayHaveBoot (site_in self.old) S (kept_of result))) }
+            → OfDisks self.old self.new (λ old new.
+            LeavesOnly D.moment D.left_since old new (MayHaveBoot (site_in self.old) S (kept_of result))) }
         // where it is refused, the bytes that the disk has are the cause
         ensures refused { OfDisk self.new (λ disk. IfSome (D.known disk).reads (λ bytes.
             IfRefused result (IsRefusedFor (catalog_in self.old) (site_in self.old) bytes))) }
         ensures sized { IsSizedRestart result }
-        ensures faults { OfDisks self.old self.new (λ old new. IsFaultOfRestart result (D.known old).faults (D.known new).faults) }
+        ensures faults { OfDisks self.old self.new (λ old new.
+            IsFaultOfRestart result (D.known old).faults (D.known new).faults) }
         // how many calls of the disk an arm counts: those of the load and, where the site comes up, four more
         ensures device { IfUp result (OfDisks self.old self.new (λ old new.
             D.device_calls new ≡ D.device_calls old + calls_of_load (D.known old).size + 4)) }

@@ -53,7 +53,8 @@ pub(crate) fn replay_all(
 fn replay_body(alloc: Global, site: &mut Site, body: &[u8], sites: u8) -> Result<(), ReplayFault>
     requires sites { (catalog_of site.old).sites ≡ sites }
     requires most { sites ≤ 8 }
-    ensures taken { OnOk result (Takes (catalog_of site.old) (site_of site.old) (known site.old) body.now (known site.new)) }
+    ensures taken { OnOk result (Takes (catalog_of site.old) (site_of site.old) (known site.old) body.now
+        (known site.new)) }
     ensures unfit { IfErr result (IsUnfit (catalog_of site.old) (site_of site.old) (known site.old) body.now) }
     ensures site { site_of site.new ≡ site_of site.old }
     ensures catalog { catalog_of site.new ≡ catalog_of site.old }
@@ -69,7 +70,8 @@ fn replay_body(alloc: Global, site: &mut Site, body: &[u8], sites: u8) -> Result
 pub(crate) fn last_record(alloc: Global, bodies: &[Vec<u8>], sites: u8) -> Mem<Option<Record>>
     requires most { sites ≤ 8 }
     ensures sized { IfOk result (λ rec. IfSome rec CanBeRecorded) }
-    ensures last { (records : List Record) (rec : Record) → map (λ body. body.items) bodies.now ≡ map record_spelled (records ++ rec ∷ [])
+    ensures last { (records : List Record) (rec : Record)
+        → map (λ body. body.items) bodies.now ≡ map record_spelled (records ++ rec ∷ [])
         → HasRecordSpelling sites rec → IfOk result (λ last. last ≡ Some rec) }
 {
     match bodies.last() {

@@ -30,8 +30,8 @@ pub(crate) struct AfterRestart<D: Disk> {
     pub tally: Tally,
 }
 
-/// Makes the site that the bodies of its journal tell, and journals its next epoch. Where a record was in flight, the one
-/// behind those that were known is that one.
+/// Makes the site that the bodies of its journal tell, and journals its next epoch. Where a record was in flight, the
+/// one behind those that were known is that one.
 pub(crate) fn raise<D: Disk>(
     alloc: Global,
     catalog: &Catalog,
@@ -46,10 +46,12 @@ pub(crate) fn raise<D: Disk>(
         → IsFoundIn S (map (λ body. body.items) bodies.now) → StandsFor journal (map (λ body. body.items) bodies.now)
         → Raises catalog.now (capacity_of journal) id S result }
     ensures refused { IfRefused result.answer (λ why.
-        IsRefusedOver catalog.now id (map (λ body. body.items) bodies.now) why × (disk_of_state result.state ≡ disk_of journal)) }
+        IsRefusedOver catalog.now id (map (λ body. body.items) bodies.now) why
+        × (disk_of_state result.state ≡ disk_of journal)) }
     ensures any_moment { (S : Standing) → IsDown S → AreJournaled catalog.now id S → IsCounted tally S
         → IsFoundIn S (map (λ body. body.items) bodies.now) → StandsFor journal (map (λ body. body.items) bodies.now)
-        → LeavesOnly D.moment D.left_since (disk_of journal) (disk_of_state result.state) (MayHaveBoot id S (kept_of result.answer)) }
+        → LeavesOnly D.moment D.left_since (disk_of journal) (disk_of_state result.state)
+        (MayHaveBoot id S (kept_of result.answer)) }
     ensures sized { IsSizedRestart result.answer }
     ensures up { is_up_state result.state ≡ brings_up result.answer }
     ensures full { IfFull result.answer (left_of journal < 10) }
@@ -101,11 +103,13 @@ fn boot<D: Disk>(
     kept: Option<Record>,
 ) -> AfterRestart<D>
     requires sized { IfSome kept CanBeRecorded }
-    ensures boots { (S : Standing) → IsDown S → known site ≡ S.knows → AreJournaled (catalog_of site) (site_of site) S → IsCounted tally S
+    ensures boots { (S : Standing) → IsDown S → known site ≡ S.knows
+        → AreJournaled (catalog_of site) (site_of site) S → IsCounted tally S
         → StandsFor journal (map record_spelled S.records)
         → Boots (catalog_of site) (capacity_of journal) (site_of site) S result }
     ensures refused { IfRefused result.answer (λ why.
-        (why ≡ RefusedRestart.LastEpoch) × ((known site).epoch ≡ 4294967295) × (disk_of_state result.state ≡ disk_of journal)) }
+        (why ≡ RefusedRestart.LastEpoch) × ((known site).epoch ≡ 4294967295)
+        × (disk_of_state result.state ≡ disk_of journal)) }
     ensures any_moment { (bodies : List (List ℕ)) → StandsFor journal bodies
         → LeavesOnly D.moment D.left_since (disk_of journal) (disk_of_state result.state)
         (IsBeforeOrBehind bodies (record_spelled (Record.Boot ((known site).epoch + 1)))) }

@@ -56,14 +56,19 @@ pub(crate) fn take<D: Disk>(
     tally: Tally,
     input: &Input,
 ) -> AfterStep<D>
-    ensures down { is_up_state state ≡ false → (result.stepped ≡ Stepped.Down) × (result.state ≡ state) × (result.tally ≡ tally) }
+    ensures down { is_up_state state ≡ false → (result.stepped ≡ Stepped.Down) × (result.state ≡ state)
+        × (result.tally ≡ tally) }
     ensures up { is_up_state state ≡ true → result.stepped ≢ Stepped.Down }
-    ensures moves { (catalog : Catalog) (capacity : ℕ) (i : SiteId) (S : Standing) → IsOf catalog i capacity state → IsInState S (Some state) → AreJournaled catalog i S → IsCounted tally S
-        → S.up ≡ true → S.gone (client_of input.now) ≡ None → Moves catalog capacity i S (event_of input.now) (disk_of_state state) result }
+    ensures moves { (catalog : Catalog) (capacity : ℕ) (i : SiteId) (S : Standing) → IsOf catalog i capacity state
+        → IsInState S (Some state) → AreJournaled catalog i S → IsCounted tally S
+        → S.up ≡ true → S.gone (client_of input.now) ≡ None
+        → Moves catalog capacity i S (event_of input.now) (disk_of_state state) result }
     ensures sized { IsSizedStep result.stepped }
-    ensures faults { IsFaultOfStep result.stepped (D.known (disk_of_state state)).faults (D.known (disk_of_state result.state)).faults }
+    ensures faults { IsFaultOfStep result.stepped
+        (D.known (disk_of_state state)).faults (D.known (disk_of_state result.state)).faults }
     ensures arms { (D.known (disk_of_state result.state)).arms ≡ (D.known (disk_of_state state)).arms }
-    ensures device { AreCallsOfStep result.stepped (D.device_calls (disk_of_state state)) (D.device_calls (disk_of_state result.state)) }
+    ensures device { AreCallsOfStep result.stepped
+        (D.device_calls (disk_of_state state)) (D.device_calls (disk_of_state result.state)) }
 {
     match state {
         State::Up(mut site, mut journal) => {
@@ -96,8 +101,8 @@ pub(crate) fn take<D: Disk>(
     }
 }
 
-// Gives a site that is up an input. All the memory that this takes is taken before the journal is written to, and what is
-// answered stands behind a stable record. `count` is how many records the journal has.
+// Gives a site that is up an input. All the memory that this takes is taken before the journal is written to, and what
+// is answered stands behind a stable record. `count` is how many records the journal has.
 fn advance<D: Disk>(
     alloc: Global,
     site: &mut Site,
@@ -105,17 +110,22 @@ fn advance<D: Disk>(
     count: &mut u64,
     input: &Input,
 ) -> Stepped
-    ensures advances { (S : Standing) → IsRunning S site.old journal.old → AreJournaled (catalog_of site.old) (site_of site.old) S → S.gone (client_of input.now) ≡ None
-        → Advances (catalog_of site.old) (capacity_of journal.old) (site_of site.old) S (event_of input.now) result site.new journal.new }
-    ensures any_moment { (S : Standing) → IsRunning S site.old journal.old → AreJournaled (catalog_of site.old) (site_of site.old) S → S.gone (client_of input.now) ≡ None
+    ensures advances { (S : Standing) → IsRunning S site.old journal.old
+        → AreJournaled (catalog_of site.old) (site_of site.old) S → S.gone (client_of input.now) ≡ None
+        → Advances (catalog_of site.old) (capacity_of journal.old) (site_of site.old) S
+        (event_of input.now) result site.new journal.new }
+    ensures any_moment { (S : Standing) → IsRunning S site.old journal.old
+        → AreJournaled (catalog_of site.old) (site_of site.old) S → S.gone (client_of input.now) ≡ None
         → LeavesOnly D.moment D.left_since (disk_of journal.old) (disk_of journal.new)
         (MayHaveRecords S.records (rule (catalog_of site.old) (site_of site.old) S (event_of input.now)).wrote) }
     ensures up { result ≢ Stepped.Down }
     ensures count { count.new ≡ count_after count.old result }
     ensures sized { IsSizedStep result }
-    ensures faults { IsFaultOfStep result (D.known (disk_of journal.old)).faults (D.known (disk_of journal.new)).faults }
+    ensures faults { IsFaultOfStep result
+        (D.known (disk_of journal.old)).faults (D.known (disk_of journal.new)).faults }
     ensures arms { (D.known (disk_of journal.new)).arms ≡ (D.known (disk_of journal.old)).arms }
-    ensures device { AreCallsOfStep result (D.device_calls (disk_of journal.old)) (D.device_calls (disk_of journal.new)) }
+    ensures device { AreCallsOfStep result
+        (D.device_calls (disk_of journal.old)) (D.device_calls (disk_of journal.new)) }
     ensures tells { is_some (D.known (disk_of journal.new)).reads ≡ is_some (D.known (disk_of journal.old)).reads }
     ensures capacity { capacity_of journal.new ≡ capacity_of journal.old }
     ensures site { site_of site.new ≡ site_of site.old }
@@ -162,13 +172,15 @@ fn prepare<D: Disk>(
     count: u64,
     input: &Input,
 ) -> Mem<PreparedStep>
-    ensures plan { IfOk result (λ r. IsPlan (catalog_of site.old) (site_of site.old) (known site.old) input.now r.plan) }
+    ensures plan { IfOk result (λ r. IsPlan (catalog_of site.old) (site_of site.old)
+        (known site.old) input.now r.plan) }
     ensures room { IfOk result (λ r. HasRoom site.new r.plan) }
     ensures reply { IfOk result (λ r. r.reply ≡ r.plan.reply) }
     ensures short { IfOk result (λ r. IsShortReply r.reply) }
     ensures sure { IfOk result (λ r. (tid : Tid) → r.reply ≢ Reply.Unsure tid) }
     ensures staged { IfOk result (λ r. IsStagedIfAny journal.new count r.plan.rec r.staged) }
-    ensures follows { IfOk result (λ r. IfSome r.plan.rec (λ rec. 0 < (known site.old).epoch → CanFollow (catalog_of site.old) (site_of site.old) (known site.old) rec)) }
+    ensures follows { IfOk result (λ r. IfSome r.plan.rec (λ rec. 0 < (known site.old).epoch
+        → CanFollow (catalog_of site.old) (site_of site.old) (known site.old) rec)) }
     ensures sizes { IfOk result (λ r. IfSome r.plan.rec (IsRecordAmong (catalog_of site.old).sites)) }
     ensures free { OnErr result (MayWant (call_of input.now)) }
     ensures journal { IsSameJournal journal.old journal.new }

@@ -1,4 +1,7 @@
-use crate::{Engine, RefusedRestart, Restarted, Stepped};
+ghost use Rattle.std.specs.Prelude.{◌≡◌, false, IfOk};
+ghost use Rattle.walter_engine.specs.Engines.{capacity_in, is_up};
+
+use crate::{Engine, RefusedRestart, Restarted, Stepped, Unbegun};
 use std::alloc::Global;
 use std::test::Fail;
 use walter_base::{Bytes, Catalog, Kind, Mem, ObjId, Record, Refusal, Reply, Request, SiteId};
@@ -15,32 +18,47 @@ const CAPACITY: u64 = 1000;
 const FIRST_EPOCH: &[u8] = b"WALTERJ1\x01\0\0\0\x05\x01\0\0\0\x01\0";
 
 /// What is done to an engine.
-#[derive(Drop)]
+#[derive(Clone, Copy)]
 enum Act {
-    Ask(Request),
+    Start,
+    Write,
+    Read,
+    Commit,
     Stop,
     Restart,
+    /// Another engine goes on over the disk.
+    Replace,
     /// Lets the disk's call behind so many fail, with this choice.
     ArmBehind(u32, u64),
 }
 
-/// What came of it.
-#[derive(Drop)]
+/// What came of it, in short.
+#[derive(Clone, Copy, Debug, PartialEq, Eq)]
 enum Came {
-    Answered(Stepped),
-    Restarted(Restarted),
     Nothing,
-}
-
-/// What came of each act, and what the disk holds behind them.
-#[derive(Drop)]
-struct Played {
-    came: Vec<Came>,
-    disk: MemoryDisk,
+    Answered,
+    /// A value was read, or none.
+    HasRead(bool),
+    /// A transaction was committed, with this number.
+    HasCommitted(u64),
+    IsRefused(Refusal),
+    IsDown,
+    IsFull(u64, u64),
+    /// The disk failed in a step, and a record is in flight.
+    HasFailed,
+    NoMemory,
+    /// The site came up in this epoch, and what was in flight was kept or not.
+    IsUp(bool, u32),
+    /// The disk failed in a restart, and a record is in flight or not.
+    IsNotUp(bool),
+    HasNoSite(RefusedRestart),
 }
 
 // The site 0, alone, over this disk.
-fn over(alloc: Global, disk: MemoryDisk, capacity: u64) -> Result<Engine<MemoryDisk>, Fail> {
+fn over(alloc: Global, disk: MemoryDisk, capacity: u64) -> Result<Engine<MemoryDisk>, Fail>
+    ensures down { IfOk result (λ engine. is_up engine ≡ false) }
+    ensures capacity { IfOk result (λ engine. capacity_in engine ≡ capacity) }
+{
     let catalog = Catalog::build(alloc, 1, 0, &[(1, Kind::Regular, SiteId(0))])?;
     let Ok(engine) = Engine::new(alloc, disk, &catalog, SiteId(0), capacity) else {
         return Err("there is no memory".into());
@@ -48,372 +66,289 @@ fn over(alloc: Global, disk: MemoryDisk, capacity: u64) -> Result<Engine<MemoryD
     Ok(engine)
 }
 
-// A site that is up is not restarted.
-fn done(engine: &mut Engine<MemoryDisk>, act: Act) -> Mem<Came> {
-    match act {
-        Act::Ask(request) => {
-            let call = Ok(request);
-            Ok(Came::Answered(engine.step(&Input::Call { client: 0, call })))
-        }
-        Act::Stop => {
-            engine.stop();
-            Ok(Came::Nothing)
-        }
-        Act::Restart if engine.is_up() => Ok(Came::Nothing),
-        Act::Restart => Ok(Came::Restarted(engine.restart())),
-        Act::ArmBehind(passing, choice) => {
-            engine.arm(u64::from(passing) + 1, choice)?;
-            Ok(Came::Nothing)
-        }
+fn asked(engine: &mut Engine<MemoryDisk>, request: Request) -> Came {
+    let call = Ok(request);
+    match engine.step(&Input::Call { client: 0, call }) {
+        Stepped::Done {
+            wrote: Some(Record::Own(seq, _)),
+            ..
+        } => Came::HasCommitted(seq),
+        Stepped::Done { reply, .. } => match reply {
+            Reply::Value(value) => Came::HasRead(value.is_some()),
+            Reply::Refused(refusal) => Came::IsRefused(refusal),
+            _ => Came::Answered,
+        },
+        Stepped::Failed { .. } => Came::HasFailed,
+        Stepped::Full { need, left } => Came::IsFull(need, left),
+        Stepped::Down => Came::IsDown,
+        Stepped::NoMemory => Came::NoMemory,
     }
 }
 
-fn play(alloc: Global, disk: MemoryDisk, capacity: u64, acts: Vec<Act>) -> Result<Played, Fail> {
+// A site that is up is not restarted.
+fn restarted(engine: &mut Engine<MemoryDisk>) -> Came {
+    if engine.is_up() {
+        return Came::Nothing;
+    }
+    let restarted = engine.restart();
+    match &restarted {
+        Restarted::Up {
+            kept,
+            wrote: Record::Boot(epoch),
+        } => Came::IsUp(kept.is_some(), *epoch),
+        Restarted::Failed { flight, .. } => Came::IsNotUp(flight.is_some()),
+        Restarted::Full { need, left, .. } => Came::IsFull(*need, *left),
+        Restarted::Refused { why, .. } => Came::HasNoSite(*why),
+        _ => Came::NoMemory,
+    }
+}
+
+fn done(alloc: Global, engine: &mut Engine<MemoryDisk>, act: Act) -> Mem<Came> {
+    let came = match act {
+        Act::Start => asked(engine, Request::Start),
+        Act::Write => {
+            let hello = Bytes::from_slice(alloc, b"hello")?;
+            asked(engine, Request::Write(OBJECT, hello))
+        }
+        Act::Read => asked(engine, Request::Read(OBJECT)),
+        Act::Commit => asked(engine, Request::Commit),
+        Act::Stop => {
+            engine.stop();
+            Came::Nothing
+        }
+        Act::Restart => restarted(engine),
+        Act::Replace => Came::Nothing,
+        Act::ArmBehind(passing, choice) => {
+            engine.arm(u64::from(passing) + 1, choice)?;
+            Came::Nothing
+        }
+    };
+    Ok(came)
+}
+
+// What comes of each act, over a disk with these bytes; and the disk behind them.
+fn play(
+    alloc: Global,
+    bytes: &[u8],
+    capacity: u64,
+    acts: &[Act],
+) -> Result<(Vec<Came>, MemoryDisk), Fail> {
+    let disk = MemoryDisk::holding(alloc, bytes.to_vec(alloc)?)?;
     let mut engine = over(alloc, disk, capacity)?;
     let mut came = Vec::new(alloc);
     for act in acts {
-        came.push(done(&mut engine, act)?)?;
+        if let Act::Replace = act {
+            engine = over(alloc, engine.into_disk(), capacity)?;
+        }
+        came.push(done(alloc, &mut engine, *act)?)?;
     }
-    let disk = engine.into_disk();
-    Ok(Played { came, disk })
-}
-
-// The same over a new disk, of a site that comes up first.
-fn play_up(alloc: Global, capacity: u64, acts: Vec<Act>) -> Result<Played, Fail> {
-    let mut all = vec![in alloc; Act::Restart]?;
-    for act in acts {
-        all.push(act)?;
-    }
-    play(alloc, MemoryDisk::new(alloc), capacity, all)
-}
-
-// A transaction that writes the object and commits, and then these acts.
-fn committing(alloc: Global, acts: Vec<Act>) -> Mem<Vec<Act>> {
-    let hello = Bytes::from_slice(alloc, b"hello")?;
-    let mut all = vec![in alloc;
-        Act::Ask(Request::Start),
-        Act::Ask(Request::Write(OBJECT, hello)),
-        Act::Ask(Request::Commit),
-    ]?;
-    for act in acts {
-        all.push(act)?;
-    }
-    Ok(all)
+    Ok((came, engine.into_disk()))
 }
 
 #[test]
-fn a_new_site_is_down_and_says_so(rt: HostRuntime) -> Result<(), Fail> {
-    let alloc = rt.alloc();
-    let acts = vec![in alloc; Act::Ask(Request::Start)]?;
-    let played = play(alloc, MemoryDisk::new(alloc), CAPACITY, acts)?;
-    assert!(rt; matches!(played.came.as_slice(), [Came::Answered(Stepped::Down)]));
-    Ok(())
-}
-
-#[test]
-fn the_first_restart_brings_the_first_epoch(rt: HostRuntime) -> Result<(), Fail> {
-    let alloc = rt.alloc();
-    let played = play_up(alloc, CAPACITY, Vec::new(alloc))?;
-    let [
-        Came::Restarted(
-            Restarted::Up {
-                kept: None,
-                wrote: Record::Boot(1),
-            },
-        ),
-    ] = played.came.as_slice()
-    else {
-        panic!(rt; "another answer");
+fn acts_come_to_this(rt: HostRuntime) -> Result<(), Fail> {
+    use Act::{ArmBehind, Commit, Read, Replace, Restart, Start, Stop, Write};
+    use Came::{
+        Answered, HasCommitted, HasFailed, HasRead, IsDown, IsFull, IsNotUp, IsRefused, IsUp,
+        Nothing,
     };
-    assert_eq!(rt; played.disk.bytes(), FIRST_EPOCH);
-    Ok(())
-}
-
-#[test]
-fn a_commit_outlives_a_stop(rt: HostRuntime) -> Result<(), Fail> {
-    let alloc = rt.alloc();
-    let behind = vec![in alloc;
-        Act::Stop,
-        Act::Restart,
-        Act::Ask(Request::Start),
-        Act::Ask(Request::Read(OBJECT)),
-    ]?;
-    let played = play_up(alloc, CAPACITY, committing(alloc, behind)?)?;
-    let [
-        _,
-        _,
-        _,
-        Came::Answered(
-            Stepped::Done {
-                reply: Reply::Committed(_),
-                wrote: Some(Record::Own(1, _)),
-            },
+    let (first, second) = (IsUp(false, 1), IsUp(false, 2));
+    let table: [(&[u8], u64, &[Act], &[Came]); 13] = [
+        (b"", CAPACITY, &[Start], &[IsDown]),
+        // What is committed outlives a stop, and the engine; what is open doesn't.
+        (
+            b"",
+            CAPACITY,
+            &[Restart, Start, Write, Commit, Stop, Restart, Start, Read],
+            &[
+                first,
+                Answered,
+                Answered,
+                HasCommitted(1),
+                Nothing,
+                second,
+                Answered,
+                HasRead(true),
+            ],
         ),
-        _,
-        Came::Restarted(
-            Restarted::Up {
-                kept: None,
-                wrote: Record::Boot(2),
-            },
+        (
+            b"",
+            CAPACITY,
+            &[Restart, Start, Write, Commit, Replace, Restart, Start, Read],
+            &[
+                first,
+                Answered,
+                Answered,
+                HasCommitted(1),
+                Nothing,
+                second,
+                Answered,
+                HasRead(true),
+            ],
         ),
-        _,
-        Came::Answered(
-            Stepped::Done {
-                reply: Reply::Value(Some(_)),
-                ..
-            },
+        (
+            b"",
+            CAPACITY,
+            &[Restart, Start, Stop, Commit, Restart, Commit],
+            &[
+                first,
+                Answered,
+                Nothing,
+                IsDown,
+                second,
+                IsRefused(Refusal::NoTx),
+            ],
         ),
-    ] = played.came.as_slice()
-    else {
-        panic!(rt; "other answers");
-    };
-    Ok(())
-}
-
-#[test]
-fn a_new_engine_goes_on_from_the_journal_that_another_left(rt: HostRuntime) -> Result<(), Fail> {
-    let alloc = rt.alloc();
-    let left = play_up(alloc, CAPACITY, committing(alloc, Vec::new(alloc))?)?;
-    let acts = vec![in alloc;
-        Act::Restart,
-        Act::Ask(Request::Start),
-        Act::Ask(Request::Read(OBJECT)),
-    ]?;
-    let played = play(alloc, left.disk, CAPACITY, acts)?;
-    let [
-        Came::Restarted(
-            Restarted::Up {
-                kept: None,
-                wrote: Record::Boot(2),
-            },
+        // A commit in flight is kept where its gate is found open.
+        (
+            b"",
+            CAPACITY,
+            &[
+                Restart,
+                ArmBehind(2, 1),
+                Start,
+                Write,
+                Commit,
+                Restart,
+                Start,
+                Read,
+            ],
+            &[
+                first,
+                Nothing,
+                Answered,
+                Answered,
+                HasFailed,
+                IsUp(true, 2),
+                Answered,
+                HasRead(true),
+            ],
         ),
-        _,
-        Came::Answered(
-            Stepped::Done {
-                reply: Reply::Value(Some(_)),
-                ..
-            },
+        (
+            b"",
+            CAPACITY,
+            &[
+                Restart,
+                ArmBehind(2, 0),
+                Start,
+                Write,
+                Commit,
+                Restart,
+                Start,
+                Read,
+            ],
+            &[
+                first,
+                Nothing,
+                Answered,
+                Answered,
+                HasFailed,
+                second,
+                Answered,
+                HasRead(false),
+            ],
         ),
-    ] = played.came.as_slice()
-    else {
-        panic!(rt; "other answers");
-    };
-    Ok(())
-}
-
-#[test]
-fn a_stop_ends_what_is_open(rt: HostRuntime) -> Result<(), Fail> {
-    let alloc = rt.alloc();
-    let acts = vec![in alloc;
-        Act::Ask(Request::Start),
-        Act::Stop,
-        Act::Ask(Request::Commit),
-        Act::Restart,
-        Act::Ask(Request::Commit),
-    ]?;
-    let played = play_up(alloc, CAPACITY, acts)?;
-    let [
-        ..,
-        Came::Answered(Stepped::Down),
-        _,
-        Came::Answered(
-            Stepped::Done {
-                reply: Reply::Refused(Refusal::NoTx),
-                ..
-            },
+        (
+            b"",
+            CAPACITY,
+            &[
+                Restart,
+                ArmBehind(2, 7),
+                Start,
+                Write,
+                Commit,
+                Restart,
+                Start,
+                Read,
+            ],
+            &[
+                first,
+                Nothing,
+                Answered,
+                Answered,
+                HasFailed,
+                second,
+                Answered,
+                HasRead(false),
+            ],
         ),
-    ] = played.came.as_slice()
-    else {
-        panic!(rt; "other answers");
-    };
-    Ok(())
-}
-
-// Whether a restart keeps a commit whose gate met a fault, where the disk then holds what the choice says.
-fn is_kept(alloc: Global, choice: u64) -> Result<bool, Fail> {
-    let behind = vec![in alloc;
-        Act::Restart,
-        Act::Ask(Request::Start),
-        Act::Ask(Request::Read(OBJECT)),
-    ]?;
-    let mut acts = vec![in alloc; Act::ArmBehind(2, choice)]?;
-    for act in committing(alloc, behind)? {
-        acts.push(act)?;
-    }
-    let played = play_up(alloc, CAPACITY, acts)?;
-    let [
-        ..,
-        Came::Answered(
-            Stepped::Failed {
-                flight: Record::Own(1, _),
-            },
+        // An epoch in flight is used up. A journal that isn't read has nothing in flight.
+        (
+            b"",
+            CAPACITY,
+            &[ArmBehind(4, 1), Restart, Restart],
+            &[Nothing, IsNotUp(true), IsUp(true, 2)],
         ),
-        Came::Restarted(
-            Restarted::Up {
-                kept,
-                wrote: Record::Boot(2),
-            },
+        (
+            FIRST_EPOCH,
+            CAPACITY,
+            &[ArmBehind(0, 1), Restart, Restart],
+            &[Nothing, IsNotUp(false), second],
         ),
-        _,
-        Came::Answered(
-            Stepped::Done {
-                reply: Reply::Value(value),
-                ..
-            },
+        // A record has place to the last byte.
+        (
+            b"",
+            142,
+            &[Restart, Start, Write, Commit],
+            &[first, Answered, Answered, HasCommitted(1)],
         ),
-    ] = played.came.as_slice()
-    else {
-        return Err("other answers".into());
-    };
-    if kept.is_some() != value.is_some() {
-        return Err("a commit is seen exactly where it is kept".into());
-    }
-    Ok(kept.is_some())
-}
-
-#[test]
-fn a_commit_in_flight_is_kept_where_its_gate_is_open(rt: HostRuntime) -> Result<(), Fail> {
-    let alloc = rt.alloc();
-    for (choice, kept) in [(1, true), (0, false), (7, false)] {
-        assert_eq!(rt; is_kept(alloc, choice)?, kept);
+        (
+            b"",
+            141,
+            &[Restart, Start, Write, Commit],
+            &[first, Answered, Answered, IsFull(123, 122)],
+        ),
+        (b"", 19, &[Restart], &[first]),
+        (b"", 18, &[Restart, Start], &[IsFull(10, 9), IsDown]),
+    ];
+    for (bytes, capacity, acts, wanted) in table {
+        let (came, _disk) = play(rt.alloc(), bytes, capacity, acts)?;
+        assert_eq!(rt; came.as_slice(), wanted);
     }
     Ok(())
 }
 
 #[test]
-fn an_epoch_in_flight_is_not_given_again(rt: HostRuntime) -> Result<(), Fail> {
+fn a_restart_and_a_first_one_go_by_the_bytes(rt: HostRuntime) -> Result<(), Fail> {
     let alloc = rt.alloc();
-    let acts = vec![in alloc; Act::ArmBehind(4, 1), Act::Restart, Act::Restart]?;
-    let played = play(alloc, MemoryDisk::new(alloc), CAPACITY, acts)?;
-    let [
-        _,
-        Came::Restarted(
-            Restarted::Failed {
-                kept: None,
-                flight: Some(Record::Boot(1)),
-            },
+    let damaged = RefusedRestart::Damaged { at: 8, length: 0 };
+    let unreadable = Came::HasNoSite(RefusedRestart::Unreadable { index: 0 });
+    let table: [(&[u8], Came, Result<(), Unbegun>); 7] = [
+        (b"", Came::IsUp(false, 1), Ok(())),
+        (b"WALTERJ1\0", Came::IsUp(false, 1), Ok(())),
+        (FIRST_EPOCH, Came::IsUp(false, 2), Err(Unbegun::Used)),
+        (
+            b"NOTWALTER",
+            Came::HasNoSite(RefusedRestart::Foreign),
+            Err(Unbegun::Foreign),
         ),
-        Came::Restarted(
-            Restarted::Up {
-                kept: Some(Record::Boot(1)),
-                wrote: Record::Boot(2),
-            },
-        ),
-    ] = played.came.as_slice()
-    else {
-        panic!(rt; "other answers");
-    };
-    Ok(())
-}
-
-#[test]
-fn a_journal_that_is_not_read_has_nothing_in_flight(rt: HostRuntime) -> Result<(), Fail> {
-    let alloc = rt.alloc();
-    let disk = MemoryDisk::holding(alloc, FIRST_EPOCH.to_vec(alloc)?)?;
-    let acts = vec![in alloc; Act::ArmBehind(0, 1), Act::Restart, Act::Restart]?;
-    let played = play(alloc, disk, CAPACITY, acts)?;
-    let [
-        _,
-        Came::Restarted(
-            Restarted::Failed {
-                kept: None,
-                flight: None,
-            },
-        ),
-        Came::Restarted(
-            Restarted::Up {
-                kept: None,
-                wrote: Record::Boot(2),
-            },
-        ),
-    ] = played.came.as_slice()
-    else {
-        panic!(rt; "other answers");
-    };
-    Ok(())
-}
-
-#[test]
-fn a_commit_is_refused_where_one_byte_is_missing(rt: HostRuntime) -> Result<(), Fail> {
-    let alloc = rt.alloc();
-    let wider = play_up(alloc, 142, committing(alloc, Vec::new(alloc))?)?;
-    let [
-        ..,
-        Came::Answered(
-            Stepped::Done {
-                reply: Reply::Committed(_),
-                ..
-            },
-        ),
-    ] = wider.came.as_slice()
-    else {
-        panic!(rt; "the commit has place");
-    };
-    let narrow = play_up(alloc, 141, committing(alloc, Vec::new(alloc))?)?;
-    let [
-        ..,
-        Came::Answered(
-            Stepped::Full {
-                need: 123,
-                left: 122,
-            },
-        ),
-    ] = narrow.came.as_slice()
-    else {
-        panic!(rt; "the journal is full");
-    };
-    Ok(())
-}
-
-#[test]
-fn a_restart_is_refused_where_one_byte_is_missing(rt: HostRuntime) -> Result<(), Fail> {
-    let alloc = rt.alloc();
-    let narrow = play_up(alloc, 18, vec![in alloc; Act::Ask(Request::Start)]?)?;
-    let [
-        Came::Restarted(
-            Restarted::Full {
-                kept: None,
-                need: 10,
-                left: 9,
-            },
-        ),
-        Came::Answered(Stepped::Down),
-    ] = narrow.came.as_slice()
-    else {
-        panic!(rt; "the journal is full");
-    };
-    let wider = play_up(alloc, 19, Vec::new(alloc))?;
-    assert!(rt;
-        matches!(
-            wider.came.as_slice(),
-            [Came::Restarted(Restarted::Up { .. })]
-        )
-    );
-    Ok(())
-}
-
-#[test]
-fn bytes_that_no_such_site_left_are_refused(rt: HostRuntime) -> Result<(), Fail> {
-    let alloc = rt.alloc();
-    let first = RefusedRestart::Unreadable { index: 0 };
-    let table: [(&[u8], RefusedRestart); 4] = [
-        (b"NOTWALTER", RefusedRestart::Foreign),
         (
             b"WALTERJ1\x01\0",
-            RefusedRestart::Damaged { at: 8, length: 0 },
+            Came::HasNoSite(damaged),
+            Err(Unbegun::Damaged { at: 8, length: 0 }),
         ),
-        (b"WALTERJ1\x01\0\0\0\x01\x07\0", first),
-        (b"WALTERJ1\x01\0\0\0\x05\x01\0\0\0\x02\0", first),
+        (
+            b"WALTERJ1\x01\0\0\0\x01\x07\0",
+            unreadable,
+            Err(Unbegun::Used),
+        ),
+        (
+            b"WALTERJ1\x01\0\0\0\x05\x01\0\0\0\x02\0",
+            unreadable,
+            Err(Unbegun::Used),
+        ),
     ];
-    for (bytes, expected) in table {
+    for (bytes, wanted, begun) in table {
+        let (came, disk) = play(alloc, bytes, CAPACITY, &[Act::Restart])?;
+        assert_eq!(rt; came.as_slice(), [wanted].as_slice());
+        if let Came::HasNoSite(_) = wanted {
+            assert_eq!(rt; disk.bytes(), bytes);
+        }
         let disk = MemoryDisk::holding(alloc, bytes.to_vec(alloc)?)?;
-        let played = play(alloc, disk, CAPACITY, vec![in alloc; Act::Restart]?)?;
-        let [Came::Restarted(Restarted::Refused { kept: None, why })] = played.came.as_slice()
-        else {
-            panic!(rt; "the restart is refused");
-        };
-        assert_eq!(rt; *why, expected);
-        assert_eq!(rt; played.disk.bytes(), bytes);
+        let mut engine = over(alloc, disk, CAPACITY)?;
+        assert_eq!(rt; engine.begin(), begun);
+        let left = if begun.is_ok() { FIRST_EPOCH } else { bytes };
+        assert_eq!(rt; engine.into_disk().bytes(), left);
     }
     Ok(())
 }

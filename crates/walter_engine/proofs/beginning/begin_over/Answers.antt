@@ -3,7 +3,7 @@ use Rattle.std.proofs.lemmas.Bool.Decides.{nat_tests}
 use Rattle.walter_journal.specs.Journals.{capacity_of, StandsFor}
 use Rattle.walter_trail.specs.Standing.{unmade}
 use Rattle.walter_engine.specs.Raises.{Raises}
-use Rattle.walter_engine.proofs.Firsts.{no_bodies, has_begun, leaves_first, counts_none, rests_new}
+use Rattle.walter_engine.proofs.Firsts.{no_bodies, has_first_epoch, leaves_first, counts_none, rests_new}
 use Rattle.walter_engine.proofs.Standings.{journaled_unmade}
 use Rattle.walter_engine.proofs.beginning.begin_over.Given.{Over}
 use Rattle.walter_engine.proofs.beginning.begin_over.Goals.{Joined-answer}
@@ -19,7 +19,7 @@ module _ (g : Over) (c : Joined-answer g) (stands : StandsFor {g = g.D.Disk} c.a
   raised = c.raise-state.ensures.raises (unmade c.args.catalog.now.sites) (rests_new c.args.catalog.now.sites) (journaled_unmade c.args.catalog.now c.args.id) (counts_none c.args.catalog.now.sites) (inl none) stands
 
 pub returns-clause-stands : goal.returns-clause-stands
-returns-clause-stands g c stands = has_begun {g = g.D.Disk} _ _ _ c.raise-state.result (raised g c stands) _ c.answer_to.ensures c.raise-state.ensures.of
+returns-clause-stands g c stands = has_first_epoch {g = g.D.Disk} _ _ _ c.raise-state.result (raised g c stands) _ c.answer_to.ensures c.raise-state.ensures.of
 
 pub returns-clause-any_moment : goal.returns-clause-any_moment
 returns-clause-any_moment g c stands =
