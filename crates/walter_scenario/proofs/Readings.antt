@@ -70,7 +70,7 @@ has_arms parts catalog clients capacity arms bytes ms all keys are = record {
 pub steps_fault : (parts : Parts) (catalog : Catalog) (clients : List Client) (capacity : ℕ) (arms : List Arm) (fault : ReadFault)
     → HasReadArms parts catalog clients capacity arms → IsStepsFault 1 (length clients) (view parts.steps.now) fault → IsFaultOf parts fault
 steps_fault parts catalog clients capacity arms NoMemory all wrong bytes ms keys are = tt
-steps_fault parts catalog clients capacity arms (Refused place) all wrong bytes ms keys are =
+steps_fault parts catalog clients capacity arms (Refused place detail) all wrong bytes ms keys are =
     subst (IsRefusedAt bytes) (sym wrong.named) (
       ms,
       all.read.containers.declared,

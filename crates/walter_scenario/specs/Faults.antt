@@ -11,9 +11,9 @@ use Rattle.walter_scenario.specs.declared.scenario.Client.{Client}
 use Rattle.walter_scenario.specs.declared.scenario.Step.{Step}
 use Rattle.walter_scenario.specs.Parts.{AreContainers, AreClients, AreArms, AreSteps, IsWrongAt}
 
--- the place that is named is so
+-- the place that is named is so, whatever the detail
 abbrev pub IfRefusedAt : (Place → Type 0) → ReadFault → Type 0
-IfRefusedAt P (Refused place) = P place
+IfRefusedAt P (Refused place detail) = P place
 IfRefusedAt P NoMemory = Unit {0}
 
 -- the place is that of the first wrong item

@@ -133,5 +133,5 @@ IsRefusedAt bytes (Steps place) =
     × IsWrongAt (λ values. (steps : List Step) × AreSteps 1 (length clients) values steps) value place
 
 abbrev pub IsReadFault : List ℕ → ReadFault → Type 0
-IsReadFault bytes (Refused place) = IsRefusedAt bytes place
+IsReadFault bytes (Refused place detail) = IsRefusedAt bytes place
 IsReadFault bytes NoMemory = Unit {0}

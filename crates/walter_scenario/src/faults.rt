@@ -1,15 +1,19 @@
 ghost use Rattle.std.specs.Prelude.{◌≡◌};
+ghost use Rattle.walter_scenario.specs.declared.place.Detail.TheVariants.{None as no_detail};
 ghost use Rattle.walter_scenario.specs.declared.place.ReadFault.TheVariants.{Refused, NoMemory as no_memory};
 
-use crate::place::{Place, ReadFault};
+use crate::place::{Detail, Place, ReadFault};
 use std::alloc::{AllocError, AllocFailed};
 use walter_base::NoMemory;
 
 impl From<Place> for ReadFault {
-    ghost from_gives = { λ place fault. fault ≡ Refused place };
+    ghost from_gives = { λ place fault. fault ≡ Refused place no_detail };
 
     fn from(place: Place) -> ReadFault {
-        ReadFault::Refused { place }
+        ReadFault::Refused {
+            place,
+            detail: Detail::None,
+        }
     }
 }
 

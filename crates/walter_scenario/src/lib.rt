@@ -18,7 +18,7 @@ mod values;
 
 pub use laws::one_reading;
 pub use lists::{Arms, Clients, Steps};
-pub use place::{Place, ReadFault};
+pub use place::{Detail, Place, ReadFault, Refusal};
 pub use reading::read;
 pub use scenario::{
     Arm, COMMON_CAPACITY, Client, GREATEST_CAPACITY, LAST_ARMED, LEAST_CAPACITY, LONGEST_TEXT,

@@ -4,7 +4,9 @@ ghost use Rattle.serde_json.specs.View.{members_view};
 ghost use Rattle.walter_scenario.specs.Members.{data_in, AreParts};
 ghost use Rattle.walter_scenario.specs.Scenarios.{IsKey, AreKnown, AreKeys};
 
+use crate::place::Detail;
 use serde_json::{Map, Value};
+use std::alloc::Global;
 
 /// The values of the keys. Two keys may be absent.
 #[derive(Clone, Copy)]
@@ -37,6 +39,16 @@ fn are_known(members: &Map<String, Value>) -> bool
         }
     }
     true
+}
+
+/// The first key that a scenario hasn't; none where there is no memory for its copy.
+pub fn other_key(alloc: Global, members: &Map<String, Value>) -> Detail {
+    for (name, _) in members {
+        if !is_key(name) {
+            return String::from_str(alloc, name).map_or(Detail::None, Detail::Key);
+        }
+    }
+    Detail::None
 }
 
 /// The value of the key, where it is there.

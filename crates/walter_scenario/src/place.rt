@@ -1,42 +1,73 @@
+use std::fmt::{self, Display, Formatter, Write};
 use thiserror::Error;
 
-/// The place of a scenario that is wrong. Places are tried in this order, and the first that is wrong is named.
+/// The place of a scenario that is wrong. Places are tried in this order, and the first that is wrong is named. The text
+/// of a place says what is wanted there.
 #[derive(Clone, Copy, Debug, PartialEq, Eq, Error)]
 pub enum Place {
     /// There are more bytes than a scenario may have.
-    #[error("the text is too long")]
+    #[error("the text: wants at most 16777216 bytes")]
     TooLong,
     /// The bytes aren't JSON, or its outermost value is no object.
-    #[error("the text is no JSON object")]
+    #[error("the text: wants JSON in UTF-8, an object outermost")]
     Json,
     /// A key is none of a scenario's, or one is wanting.
-    #[error("the keys aren't those of a scenario")]
+    #[error("the keys: wants sites, f, containers, clients and steps, and takes capacity and arms besides")]
     Key,
-    #[error("the number of sites")]
+    #[error("the number of sites: wants 1")]
     Sites,
-    #[error("the number of faults")]
+    #[error("f: wants 0")]
     F,
     /// The first wrong container; 0 where the value is no list.
-    #[error("container {0}")]
+    #[error(r#"container {0}: wants [number, "regular" or "cset", site] in a list, numbers below 2^32 that rise, a site below 1, at most 256"#)]
     Containers(usize),
     /// The first wrong client; 0 where the value is no list.
-    #[error("client {0}")]
+    #[error("client {0}: wants [site, bytes] in a list, a site below 1, an even number of hex digits, at most 1024")]
     Clients(usize),
-    #[error("the capacity")]
+    #[error("the capacity: wants a whole number from 19 to 1099511627776")]
     Capacity,
     /// The first wrong arm; 0 where the value is no list.
-    #[error("arm {0}")]
+    #[error("arm {0}: wants [site, nth, choice] in a list, a site below 1, an nth from 1 to 1000000, a choice below 2^64")]
     Arms(usize),
     /// The first wrong step; 0 where the value is no list.
-    #[error("step {0}")]
+    #[error(r#"step {0}: wants ["call", client], ["stop", site], ["restart", site] or ["arm", site, nth, choice] in a list, a client of the scenario, a site below 1, an nth from 1 to 1000000, a choice below 2^64"#)]
     Steps(usize),
 }
 
+/// More of what is wrong, for a reader. No clause speaks of it.
+#[derive(Debug, Drop, PartialEq, Eq)]
+pub enum Detail {
+    None,
+    /// Where JSON can't be read, as `serde_json` tells it.
+    At { line: usize, column: usize },
+    /// The key that a scenario hasn't.
+    Key(String),
+}
+
+/// What is wrong, in words: the detail where there is one, else the place.
+#[derive(Clone, Copy)]
+pub struct Refusal<'a> {
+    pub place: Place,
+    pub detail: &'a Detail,
+}
+
+impl Display for Refusal<'_> {
+    fn fmt<W: Write>(&self, f: &mut Formatter<W>) -> fmt::Result {
+        match self.detail {
+            Detail::None => write!(f, "{}", self.place),
+            Detail::At { line, column } => {
+                write!(f, "the text is no JSON: line {line}, column {column}")
+            }
+            Detail::Key(key) => write!(f, "key {key:?}: a scenario has none"),
+        }
+    }
+}
+
 /// Why bytes gave no scenario.
-#[derive(Clone, Copy, Debug, PartialEq, Eq, Error)]
+#[derive(Debug, Drop, PartialEq, Eq, Error)]
 pub enum ReadFault {
-    #[error("the scenario has no reading: {place}")]
-    Refused { place: Place },
+    #[error("{}", Refusal {place: *.place, detail: .detail})]
+    Refused { place: Place, detail: Detail },
     #[error("out of memory")]
     NoMemory,
 }

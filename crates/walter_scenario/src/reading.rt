@@ -7,7 +7,7 @@ use crate::capacity::capacity_of;
 use crate::clients::clients_of;
 use crate::containers::catalog_of;
 use crate::lists::{Arms, Clients, Steps};
-use crate::members::{Parts, parts_of};
+use crate::members::{Parts, other_key, parts_of};
 use crate::place::{Place, ReadFault};
 use crate::scenario::{LONGEST_TEXT, Scenario};
 use crate::steps::steps_of;
@@ -50,7 +50,12 @@ pub fn read(alloc: Global, bytes: &[u8]) -> Result<Scenario, ReadFault>
     }
     let value = value_of(alloc, bytes)?;
     let members = members_of(&value).ok_or(Place::Json)?;
-    let parts = parts_of(members).ok_or(Place::Key)?;
+    let Some(parts) = parts_of(members) else {
+        return Err(ReadFault::Refused {
+            place: Place::Key,
+            detail: other_key(alloc, members),
+        });
+    };
     let scenario = scenario_of(alloc, parts)?;
     Ok(scenario)
 }

@@ -25,7 +25,7 @@ fn changed(alloc: Global, old: &str, new: &str) -> Result<String, Fail> {
 fn place_of(alloc: Global, bytes: &[u8]) -> Result<Option<Place>, Fail> {
     match read(alloc, bytes) {
         Ok(_) => Ok(None),
-        Err(ReadFault::Refused { place }) => Ok(Some(place)),
+        Err(ReadFault::Refused { place, .. }) => Ok(Some(place)),
         Err(ReadFault::NoMemory) => Err("memory ran out".into()),
     }
 }
@@ -323,18 +323,77 @@ fn of_equal_keys_the_last_stands(rt: HostRuntime) -> Result<(), Fail> {
     Ok(())
 }
 
+/// The text of the fault of the bytes.
+fn fault_text(alloc: Global, bytes: &[u8]) -> Result<String, Fail> {
+    match read(alloc, bytes) {
+        Ok(_) => Err("a scenario".into()),
+        Err(fault) => Ok(format!(in alloc; "{fault}")?),
+    }
+}
+
 #[test]
 fn faults_have_texts(rt: HostRuntime) -> Result<(), Fail> {
+    let alloc = rt.alloc();
+    for (old, new, text) in [
+        (
+            GOOD,
+            "[]",
+            "the text: wants JSON in UTF-8, an object outermost",
+        ),
+        (GOOD, "\n[", "the text is no JSON: line 2, column 1"),
+        (
+            "\"f\":0,",
+            "",
+            "the keys: wants sites, f, containers, clients and steps, and takes capacity and arms besides",
+        ),
+        (
+            "\"f\":0,",
+            "\"f\":0,\"seed\":0,",
+            "key \"seed\": a scenario has none",
+        ),
+        ("\"sites\":1", "\"sites\":2", "the number of sites: wants 1"),
+        ("\"f\":0", "\"f\":1", "f: wants 0"),
+        (
+            "4294967295",
+            "1",
+            "container 1: wants [number, \"regular\" or \"cset\", site] in a list, numbers below 2^32 that rise, a site below 1, at most 256",
+        ),
+        (
+            "00fFAb",
+            "0",
+            "client 1: wants [site, bytes] in a list, a site below 1, an even number of hex digits, at most 1024",
+        ),
+        (
+            "\"f\":0",
+            "\"f\":0,\"capacity\":18",
+            "the capacity: wants a whole number from 19 to 1099511627776",
+        ),
+        (
+            "\"f\":0",
+            "\"f\":0,\"arms\":{}",
+            "arm 0: wants [site, nth, choice] in a list, a site below 1, an nth from 1 to 1000000, a choice below 2^64",
+        ),
+        (
+            "[\"call\",0]",
+            "[]",
+            "step 1: wants [\"call\", client], [\"stop\", site], [\"restart\", site] or [\"arm\", site, nth, choice] in a list, a client of the scenario, a site below 1, an nth from 1 to 1000000, a choice below 2^64",
+        ),
+    ] {
+        let scenario = changed(alloc, old, new)?;
+        assert_eq!(rt;
+            fault_text(alloc, scenario.as_bytes())?.as_str(),
+            text,
+            "{new}"
+        );
+    }
     for (fault, text) in [
         (
-            ReadFault::Refused {
-                place: Place::Steps(3),
-            },
-            "the scenario has no reading: step 3",
+            ReadFault::from(Place::TooLong),
+            "the text: wants at most 16777216 bytes",
         ),
         (ReadFault::NoMemory, "out of memory"),
     ] {
-        assert_eq!(rt; format!(in rt.alloc(); "{fault}")?.as_str(), text);
+        assert_eq!(rt; format!(in alloc; "{fault}")?.as_str(), text);
     }
     Ok(())
 }

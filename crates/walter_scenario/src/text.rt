@@ -4,7 +4,7 @@ ghost use Rattle.serde_json.specs.Read.{read as reading};
 ghost use Rattle.serde_json.specs.View.{view, members_view};
 ghost use Rattle.walter_scenario.specs.Faults.{IfRefusedAt};
 
-use crate::place::{Place, ReadFault};
+use crate::place::{Detail, Place, ReadFault};
 use serde_json::{Map, Value};
 use std::alloc::Global;
 
@@ -17,7 +17,13 @@ fn json_of(alloc: Global, text: &str) -> Result<Value, ReadFault>
     match Value::from_str(alloc, text) {
         Ok(value) => Ok(value),
         Err(error) if error.is_memory() => Err(ReadFault::NoMemory),
-        Err(_) => Err(ReadFault::from(Place::Json)),
+        Err(error) => Err(ReadFault::Refused {
+            place: Place::Json,
+            detail: Detail::At {
+                line: error.line(),
+                column: error.column(),
+            },
+        }),
     }
 }
 
