@@ -178,7 +178,7 @@ pub ends_cut : (rack : Racked) (trace : Bool) (s : Scenario) (holds holds' : Opt
 ends_cut rack trace s holds holds' faults faults' trails Write run why = (run, why.0, why.1)
 ends_cut rack trace s holds holds' faults faults' trails Memory run why = (inr run.run, why)
 ends_cut rack trace s holds holds' faults faults' trails Usage run why = absurd why
-ends_cut rack trace s holds holds' faults faults' trails (ScenarioFault place) run why = absurd why
+ends_cut rack trace s holds holds' faults faults' trails (ScenarioFault place detail) run why = absurd why
 ends_cut rack trace s holds holds' faults faults' trails Read run why = absurd why
 ends_cut rack trace s holds holds' faults faults' trails (Rack site) run why = absurd why
 ends_cut rack trace s holds holds' faults faults' trails (Journal site cause place) run why = absurd why

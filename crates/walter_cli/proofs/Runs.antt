@@ -4,6 +4,7 @@ use Rattle.std.specs.Prelude.{String}
 use Rattle.std.specs.Global.{Global}
 use Rattle.std.proofs.lemmas.List.{append-nil, length-append}
 use Rattle.walter_engine.specs.Begins.{HasNoRecord}
+use Rattle.walter_scenario.specs.declared.place.Detail.{Detail}
 use Rattle.walter_scenario.specs.declared.place.Place.{Place}
 use Rattle.walter_scenario.specs.declared.place.Place.TheVariants.{TooLong}
 use Rattle.walter_scenario.specs.declared.scenario.Scenario.{Scenario}
@@ -82,7 +83,7 @@ module _ (words : List (String Global)) (rack : Racked) (before after : Outside)
     abbrev Tells : Option Fault → Type 0
     Tells None = RunsWhole rack words before after ended.trails.items (Appends before.holds after.holds)
     Tells (Some Usage) = ⊥
-    Tells (Some (ScenarioFault place)) = HasNoReading before.left after.left place × (ended.trails.items ≡ [])
+    Tells (Some (ScenarioFault place detail)) = HasNoReading before.left after.left place × (ended.trails.items ≡ [])
     Tells (Some Read) = (before.source_faults < after.source_faults) × (ended.trails.items ≡ [])
     Tells (Some Write) = RunsWhole rack words before after ended.trails.items (AppendsFront before.holds after.holds) × (before.sink_faults < after.sink_faults)
     Tells (Some Memory) = Unit {0}
@@ -117,7 +118,7 @@ module _ (words : List (String Global)) (rack : Racked) (before after : Outside)
         → (ended.trails.items ≡ []) ⊎ (ended.status ≡ 0) ⊎ (ended.status ≡ 4) ⊎ (ended.status ≡ 5) ⊎ (ended.status ≡ 6)
     no_trails None told is = inr (inl is)
     no_trails (Some Usage) told is = absurd told
-    no_trails (Some (ScenarioFault place)) told is = inl told.1
+    no_trails (Some (ScenarioFault place detail)) told is = inl told.1
     no_trails (Some Read) told is = inl told.1
     no_trails (Some Write) told is = inr (inr (inl is))
     no_trails (Some Memory) told is = inr (inr (inr (inl is)))
@@ -134,7 +135,7 @@ module _ (words : List (String Global)) (rack : Racked) (before after : Outside)
         → (ended.status ≡ 0) ⊎ (ended.status ≡ 5) ⊎ DiskFailed
     completes None is told bytes s left reading known new source sink ok = inl is
     completes (Some Usage) is told bytes s left reading known new source sink ok = absurd told
-    completes (Some (ScenarioFault place)) is told bytes s left reading known new source sink ok =
+    completes (Some (ScenarioFault place detail)) is told bytes s left reading known new source sink ok =
         absurd (read_nowhere_refused bytes s place reading (none_wrong before.left after.left bytes place told.0 left))
     completes (Some Read) is told bytes s left reading known new source sink ok = absurd (let rose = told.0 in omega (arith, rose, source))
     completes (Some Write) is told bytes s left reading known new source sink ok = absurd (let rose = told.1 in omega (arith, rose, sink))
@@ -149,7 +150,7 @@ module _ (words : List (String Global)) (rack : Racked) (before after : Outside)
         → (ended.fault ≡ Some (Journal 0 cause place)) ⊎ (ended.status ≡ 5) ⊎ DiskFailed
     names None named is told bytes s cause place left reading known why source ok = absurd (run_has_none told.scenario cause place told.run.run known why)
     names (Some Usage) named is told bytes s cause place left reading known why source ok = absurd told
-    names (Some (ScenarioFault p)) named is told bytes s cause place left reading known why source ok =
+    names (Some (ScenarioFault p detail)) named is told bytes s cause place left reading known why source ok =
         absurd (read_nowhere_refused bytes s p reading (none_wrong before.left after.left bytes p told.0 left))
     names (Some Read) named is told bytes s cause place left reading known why source ok = absurd (let rose = told.0 in omega (arith, rose, source))
     names (Some Write) named is told bytes s cause place left reading known why source ok = absurd (run_has_none told.0.scenario cause place told.0.run.run known why)
@@ -162,7 +163,7 @@ module _ (words : List (String Global)) (rack : Racked) (before after : Outside)
     -- where the bytes are wrong at a place, it is named, or memory ran out
     abbrev Refuses : Type 0
     Refuses = (bytes : List ℕ) (place : Place) → before.left ≡ Some bytes → IsRefusedAt bytes place → after.source_faults ≡ before.source_faults
-        → (ended.fault ≡ Some (ScenarioFault place)) ⊎ (ended.status ≡ 5)
+        → ((detail : Detail) × (ended.fault ≡ Some (ScenarioFault place detail))) ⊎ (ended.status ≡ 5)
 
     -- all that is promised, by what is so with the fault
     promise : (fault : Option Fault) → ended.fault ≡ fault → Tells fault → (ended.status ≢ 0 → ended.status ≢ 4 → after.holds ≡ before.holds)
@@ -173,7 +174,7 @@ module _ (words : List (String Global)) (rack : Racked) (before after : Outside)
           status = status;
           written = λ h. at_done fault told (sym is ∙ h);
           usage = (λ h. absurd (at_usage fault told (sym is ∙ h)), λ other. absurd (other asked));
-          unreadable = λ place h. (subst (λ (f : Option Fault). Tells f) (sym named ∙ h) told).0;
+          unreadable = λ place detail h. (subst (λ (f : Option Fault). Tells f) (sym named ∙ h) told).0;
           unread = λ h. at_unread fault told (sym is ∙ h);
           cut = λ h. (at_cut fault told (sym is ∙ h)).0;
           failed = λ h. (at_cut fault told (sym is ∙ h)).1;
@@ -208,15 +209,15 @@ module _ (words : List (String Global)) (rack : Racked) (before after : Outside)
     promise_run s (Some (Journal site cause place)) named taken ends =
         promise (Some (Journal site cause place)) named (ends.2, ends.3, ends.0.0) (λ not_done not_cut. ends.1) (inl ends.0) (never s taken)
     promise_run s (Some Usage) named taken ends = absurd ends
-    promise_run s (Some (ScenarioFault place)) named taken ends = absurd ends
+    promise_run s (Some (ScenarioFault place detail)) named taken ends = absurd ends
     promise_run s (Some Read) named taken ends = absurd ends
 
     -- no scenario was taken
     pub promise_fault : (fault : Fault) → ended.fault ≡ Some fault → ended.trails.items ≡ [] → IsUntouched rack → after.holds ≡ before.holds
         → IsTakeFault before.left after.left before.source_faults after.source_faults fault → Promise words rack before after ended
-    promise_fault (ScenarioFault place) named none untouched same why =
-        promise (Some (ScenarioFault place)) named (why, none) (λ not_done not_cut. same) (inl (none, untouched)) (λ bytes other left wrong source.
-        inl (named ∙ ap (λ (p : Place). Some (ScenarioFault p)) (one_refused bytes place other (none_wrong before.left after.left bytes place why left) wrong)))
+    promise_fault (ScenarioFault place detail) named none untouched same why =
+        promise (Some (ScenarioFault place detail)) named (why, none) (λ not_done not_cut. same) (inl (none, untouched)) (λ bytes other left wrong source.
+        inl (detail, named ∙ ap (λ (p : Place). Some (ScenarioFault p detail)) (one_refused bytes place other (none_wrong before.left after.left bytes place why left) wrong)))
     promise_fault Read named none untouched same why =
         promise (Some Read) named (why, none) (λ not_done not_cut. same) (inl (none, untouched)) (λ bytes place left wrong source. absurd (omega (arith, why, source)))
     promise_fault Memory named none untouched same why =
@@ -234,7 +235,7 @@ module _ (words : List (String Global)) (rack : Racked) (before after : Outside)
         status = status;
         written = λ h. absurd (omega (arith, is, h));
         usage = (λ h. other, λ no. is);
-        unreadable = λ place h. absurd (let e = sym named ∙ h in cc);
+        unreadable = λ place detail h. absurd (let e = sym named ∙ h in cc);
         unread = λ h. absurd (omega (arith, is, h));
         cut = λ h. absurd (omega (arith, is, h));
         failed = λ h. absurd (omega (arith, is, h));

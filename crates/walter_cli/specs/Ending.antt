@@ -28,7 +28,7 @@ pub record IsTaken (before after : Option (List ℕ)) (s : Scenario) : Type 0 wh
 
 -- why no scenario was taken from a source that had failed so often, and has now
 abbrev pub IsTakeFault : Option (List ℕ) → Option (List ℕ) → ℕ → ℕ → Fault → Type 0
-IsTakeFault before after faults faults' (ScenarioFault place) = HasNoReading before after place
+IsTakeFault before after faults faults' (ScenarioFault place detail) = HasNoReading before after place
 IsTakeFault before after faults faults' Read = faults < faults'
 IsTakeFault before after faults faults' Memory = Unit {0}
 IsTakeFault before after faults faults' fault = ⊥
@@ -85,7 +85,7 @@ EndsRun rack trace s holds holds' faults faults' trails (Some (Rack site)) =
 EndsRun rack trace s holds holds' faults faults' trails (Some (Journal site cause place)) =
     ((trails ≡ []) × IsUntouched rack) × (holds' ≡ holds) × (site ≡ 0) × rack.holds (HasCause cause place)
 EndsRun rack trace s holds holds' faults faults' trails (Some Usage) = ⊥
-EndsRun rack trace s holds holds' faults faults' trails (Some (ScenarioFault place)) = ⊥
+EndsRun rack trace s holds holds' faults faults' trails (Some (ScenarioFault place detail)) = ⊥
 EndsRun rack trace s holds holds' faults faults' trails (Some Read) = ⊥
 
 -- why a text was not written whole

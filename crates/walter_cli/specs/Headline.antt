@@ -6,6 +6,7 @@ use Rattle.walter_cell.specs.Entries.{HaveRisingStamps}
 use Rattle.walter_engine.specs.Begins.{HasNoRecord}
 use Rattle.walter_engine.specs.Contents.{MayHaveRecords}
 use Rattle.walter_psi.specs.Legal.{IsLegal}
+use Rattle.walter_scenario.specs.declared.place.Detail.{Detail}
 use Rattle.walter_scenario.specs.declared.place.Place.{Place}
 use Rattle.walter_scenario.specs.declared.place.Place.TheVariants.{TooLong}
 use Rattle.walter_scenario.specs.declared.scenario.Scenario.{Scenario}
@@ -114,7 +115,7 @@ pub record Promise (words : List (String Global)) (rack : Racked) (before after 
   -- 1: exactly where the words are neither "play" nor "play --trace"
   pub usage : (ended.status ≡ 1) ↔ (¬ IsLine words)
   -- 2: the bytes spell no scenario, and the place that is named is the first that is wrong
-  pub unreadable : (place : Place) → ended.fault ≡ Some (fault.Scenario place) → HasNoReading before.left after.left place
+  pub unreadable : (place : Place) (detail : Detail) → ended.fault ≡ Some (fault.Scenario place detail) → HasNoReading before.left after.left place
   -- 3: the source failed
   pub unread : ended.status ≡ 3 → before.source_faults < after.source_faults
   -- 4: the sink failed, with a front of the report of a whole run written
@@ -146,4 +147,4 @@ pub record Promise (words : List (String Global)) (rack : Racked) (before after 
       → after.source_faults ≡ before.source_faults → after.sink_faults ≡ before.sink_faults → ¬ rack.failed
       → (ended.status ≡ 0) ⊎ (ended.status ≡ 5) ⊎ ((ended.trails.items ≡ []) × rack.gives HasFailed)
   pub refuses : (bytes : List ℕ) (place : Place) → IsLine words → before.left ≡ Some bytes → IsRefusedAt bytes place
-      → after.source_faults ≡ before.source_faults → (ended.fault ≡ Some (fault.Scenario place)) ⊎ (ended.status ≡ 5)
+      → after.source_faults ≡ before.source_faults → ((detail : Detail) × (ended.fault ≡ Some (fault.Scenario place detail))) ⊎ (ended.status ≡ 5)

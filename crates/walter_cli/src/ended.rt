@@ -2,7 +2,7 @@ ghost use Rattle.std.specs.Prelude.{◌≡◌, [], Some};
 
 use std::alloc::Global;
 use thiserror::Error;
-use walter_scenario::Place;
+use walter_scenario::{Detail, Place, Refusal};
 use walter_trail::Trail;
 
 /// Why no site can begin with what a disk has.
@@ -17,14 +17,12 @@ pub enum JournalCause {
 }
 
 /// Why a run wrote no whole report.
-#[derive(Clone, Copy, Debug, PartialEq, Eq, Error)]
+#[derive(Debug, Drop, PartialEq, Eq, Error)]
 pub enum Fault {
     #[error("usage: walter play [--trace], with a scenario on standard input; the report comes on standard output")]
     Usage,
-    #[error("the scenario has no reading: {place}")]
-    Scenario {
-        place: Place,
-    },
+    #[error("the scenario has no reading: {}", Refusal { place: *.place, detail: .detail })]
+    Scenario { place: Place, detail: Detail },
     #[error("the scenario could not be read to its end")]
     Read,
     #[error("the report could not be written to its end")]
@@ -71,7 +69,7 @@ impl Ended {
         ensures fault { result.fault ≡ fault }
         ensures trails { result.trails ≡ trails }
     {
-        let status = match fault {
+        let status = match &fault {
             None => 0,
             Some(Fault::Usage) => 1,
             Some(Fault::Scenario { .. }) => 2,

@@ -11,5 +11,5 @@ mod words;
 pub use ended::{Ended, Fault, JournalCause};
 pub use program::top;
 
-#[cfg(test)]
-mod tests;
+
+

@@ -3,7 +3,7 @@ ghost use Rattle.walter_cli.specs.Ending.{IsTaken, IsTakeFault};
 
 use crate::ended::Fault;
 use std::alloc::Global;
-use walter_scenario::{LONGEST_TEXT, Place, ReadFault, Scenario, read};
+use walter_scenario::{Detail, LONGEST_TEXT, Place, ReadFault, Scenario, read};
 use walter_stream::{ReadError, Source, read_to_end};
 
 /// The scenario that the bytes of the source spell, read to their end.
@@ -16,6 +16,7 @@ pub fn take_scenario<S: Source>(alloc: Global, source: &mut S) -> Result<Scenari
         Err(ReadError::TooLong) => {
             return Err(Fault::Scenario {
                 place: Place::TooLong,
+                detail: Detail::None,
             });
         }
         Err(ReadError::Failed) => return Err(Fault::Read),
@@ -23,7 +24,7 @@ pub fn take_scenario<S: Source>(alloc: Global, source: &mut S) -> Result<Scenari
     };
     match read(alloc, &bytes) {
         Ok(scenario) => Ok(scenario),
-        Err(ReadFault::Refused { place }) => Err(Fault::Scenario { place }),
+        Err(ReadFault::Refused { place, detail }) => Err(Fault::Scenario { place, detail }),
         Err(ReadFault::NoMemory) => Err(Fault::Memory),
     }
 }
