@@ -1,11 +1,10 @@
-//! The program `walter`: `top` over standard input, standard output, a disk in memory and the process.
+//! The program `walter`: `top_in_memory` over standard input, standard output and the process.
 #![tactic(auto)]
 
 use std::env;
 use std::io::{self, ErrorKind};
 use std::process::ExitCode;
-use walter_cli::{Ended, Fault, top};
-use walter_disk_memory::MemoryRack;
+use walter_cli::{Ended, Fault, top_in_memory};
 use walter_stream::{StdSink, StdSource};
 
 // The words behind the program's name. A word that is no text is none of any line.
@@ -28,8 +27,7 @@ fn run(rt: &HostRuntime) -> Ended {
     };
     let mut source = StdSource::new(rt.reader());
     let mut sink = StdSink::new(io::writer(rt));
-    let mut rack = MemoryRack::new(rt.alloc());
-    top(rt, &words, &mut source, &mut sink, &mut rack)
+    top_in_memory(rt, &words, &mut source, &mut sink)
 }
 
 fn main(rt: HostRuntime) -> ExitCode {

@@ -5,3 +5,4 @@ pub mod Causes
 pub mod Early
 pub mod Played
 pub mod Runs
+pub mod Sure

@@ -5,3 +5,4 @@ pub mod Racks
 pub mod Texts
 pub mod Headline
 pub mod Ending
+pub mod Assurance

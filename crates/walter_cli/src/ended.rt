@@ -21,8 +21,11 @@ pub enum JournalCause {
 pub enum Fault {
     #[error("usage: walter play [--trace], with a scenario on standard input; the report comes on standard output")]
     Usage,
-    #[error("the scenario has no reading: {}", Refusal { place: *.place, detail: .detail })]
-    Scenario { place: Place, detail: Detail },
+    #[error("the scenario has no reading: {}", Refusal {place: *.place, detail: .detail})]
+    Scenario {
+        place: Place,
+        detail: Detail,
+    },
     #[error("the scenario could not be read to its end")]
     Read,
     #[error("the report could not be written to its end")]

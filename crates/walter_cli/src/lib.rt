@@ -2,6 +2,7 @@
 #![tactic(auto)]
 
 mod ended;
+mod memory;
 mod play;
 mod program;
 mod running;
@@ -9,7 +10,5 @@ mod taking;
 mod words;
 
 pub use ended::{Ended, Fault, JournalCause};
+pub use memory::top_in_memory;
 pub use program::top;
-
-
-

@@ -1,0 +1,34 @@
+ghost use Rattle.walter_cli.specs.Assurance.{Assures};
+ghost use Rattle.walter_cli.specs.Headline.{Outside};
+
+use crate::ended::{Ended, Fault};
+use crate::program::top;
+use crate::words::command_of;
+use walter_disk_memory::MemoryRack;
+use walter_stream::{Sink, Source};
+
+/// The program over a disk in memory that has no bytes: `top` over a rack that is made here, and let go.
+pub fn top_in_memory<X: AllocGlobal, S: Source, K: Sink>(
+    rt: &X,
+    words: &[String],
+    source: &mut S,
+    sink: &mut K,
+) -> Ended
+    ensures { Assures words.now
+        (record { left = S.left source.old; source_faults = S.faults source.old; holds = K.holds sink.old; sink_faults = K.faults sink.old })
+        (record { left = S.left source.new; source_faults = S.faults source.new; holds = K.holds sink.new; sink_faults = K.faults sink.new })
+        result }
+{
+    let alloc = rt.alloc();
+    // Other words than the program's are told before memory is asked for.
+    let Some(_) = command_of(words) else {
+        return Ended::early(alloc, Fault::Usage);
+    };
+    // One disk is taken and given back.
+    let Ok(mut rack) = MemoryRack::with_room(alloc, 2) else {
+        return Ended::early(alloc, Fault::Memory);
+    };
+    let ended = top(rt, words, source, sink, &mut rack);
+    rack.given_unarmed_never_failed();
+    ended
+}
