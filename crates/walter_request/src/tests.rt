@@ -1,4 +1,5 @@
 use crate::{RequestFault, decode, encode};
+use std::alloc::Global;
 use std::test::Fail;
 use walter_base::{Bytes, ObjId, Request, SiteId, Tid};
 
@@ -49,6 +50,34 @@ const GREATEST: Tid = Tid {
     number: 0xFFFF_FFFF_FFFF_FFFF,
 };
 
+/// Whether the requests are one.
+fn are_same(one: &Request, other: &Request) -> bool {
+    match (one, other) {
+        (Request::Start, Request::Start)
+        | (Request::Commit, Request::Commit)
+        | (Request::Abort, Request::Abort) => true,
+        (Request::Read(a), Request::Read(b)) | (Request::SetRead(a), Request::SetRead(b)) => a == b,
+        (Request::SetAdd(a, m), Request::SetAdd(b, n))
+        | (Request::SetDel(a, m), Request::SetDel(b, n))
+        | (Request::SetReadId(a, m), Request::SetReadId(b, n)) => a == b && m == n,
+        (Request::Level(a), Request::Level(b)) => a == b,
+        (Request::Write(a, v), Request::Write(b, w)) => a == b && v.as_slice() == w.as_slice(),
+        _ => false,
+    }
+}
+
+/// Whether the bytes spell the request, and are what is written of it.
+fn is_spelling(alloc: Global, request: &Request, spelling: &[u8]) -> Result<bool, Fail> {
+    if spelling.len() > 40 {
+        return Err("a row is short".into());
+    }
+    let Ok(again) = decode(alloc, spelling) else {
+        return Err("the bytes spell a request".into());
+    };
+    let written = encode(alloc, &again)?;
+    Ok(are_same(request, &again) && written.as_slice() == spelling)
+}
+
 #[test]
 fn each_request_has_its_spelling(rt: HostRuntime) -> Result<(), Fail> {
     let hello = Bytes::from_slice(rt.alloc(), b"hello")?;
@@ -79,32 +108,20 @@ fn each_request_has_its_spelling(rt: HostRuntime) -> Result<(), Fail> {
         ),
     ];
     for (request, spelling) in &table {
-        let Ok(again) = decode(rt.alloc(), spelling) else {
-            return Err("the bytes spell a request".into());
-        };
-        assert_eq!(rt; encode(rt.alloc(), &again)?.as_slice(), *spelling);
-        match (request, &again) {
-            (Request::Start, Request::Start)
-            | (Request::Commit, Request::Commit)
-            | (Request::Abort, Request::Abort) => {}
-            (Request::Read(a), Request::Read(b)) | (Request::SetRead(a), Request::SetRead(b)) => {
-                assert_eq!(rt; a, b);
-            }
-            (Request::SetAdd(a, m), Request::SetAdd(b, n))
-            | (Request::SetDel(a, m), Request::SetDel(b, n))
-            | (Request::SetReadId(a, m), Request::SetReadId(b, n)) => {
-                assert_eq!(rt; a, b);
-                assert_eq!(rt; m, n);
-            }
-            (Request::Level(a), Request::Level(b)) => assert_eq!(rt; a, b),
-            (Request::Write(a, v), Request::Write(b, w)) => {
-                assert_eq!(rt; a, b);
-                assert_eq!(rt; v.as_slice(), w.as_slice());
-            }
-            _ => return Err("it is this request".into()),
-        }
+        assert!(rt; is_spelling(rt.alloc(), request, spelling)?);
     }
     Ok(())
+}
+
+/// The place of what is wrong with a body that spells no request.
+fn wrong_place(alloc: Global, body: &[u8]) -> Option<u32> {
+    if body.len() > 40 {
+        return None;
+    }
+    match decode(alloc, body) {
+        Err(RequestFault::BadFrame { at }) => Some(at),
+        Err(RequestFault::NoMemory) | Ok(_) => None,
+    }
 }
 
 #[test]
@@ -138,16 +155,8 @@ fn a_bad_frame_has_its_place(rt: HostRuntime) -> Result<(), Fail> {
         (&[10, 1, 0, 0, 0, 2, 0, 0, 0, 0, 0, 0, 0, 3, 0], 14),
     ];
     for (body, at) in table {
-        match decode(rt.alloc(), body) {
-            Err(fault) => assert_eq!(rt; fault, RequestFault::BadFrame { at }),
-            Ok(_) => return Err("the frame spells no request".into()),
-        }
+        assert_eq!(rt; wrong_place(rt.alloc(), body), Some(at));
     }
-    Ok(())
-}
-
-#[test]
-fn faults_have_texts(rt: HostRuntime) -> Result<(), Fail> {
     let bad = RequestFault::BadFrame { at: 7 };
     assert_eq!(rt;
         format!(in rt.alloc(); "{bad}")?.as_str(),

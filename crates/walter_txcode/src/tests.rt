@@ -65,55 +65,61 @@ fn a_spelling_is_read_and_written_again(rt: HostRuntime) -> Result<(), Fail> {
     Ok(())
 }
 
-fn replace(bytes: &mut [u8], place: usize, byte: u8) {
+/// The bytes of a transaction that writes `hello`, with one of them replaced and a 0 behind them, cut off at a length.
+fn replaced(alloc: Global, place: usize, byte: u8, length: usize) -> Result<Vec<u8>, AllocError> {
+    let mut bytes = head(alloc, 1)?;
+    bytes.extend_from_slice(&HELLO)?;
+    bytes.extend_from_slice(&[0])?;
     if let Some(old) = bytes.get_mut(place) {
         *old = byte;
     }
+    bytes.truncate(length);
+    Ok(bytes)
+}
+
+/// The bytes of so many additions; or of so many writes of 4,096 bytes and one of a length.
+fn large(alloc: Global, additions: u16, writes: u16, length: u16) -> Result<Vec<u8>, AllocError> {
+    if additions > 0 {
+        let mut bytes = head(alloc, additions)?;
+        for _ in 0..additions {
+            bytes.extend_from_slice(&ADD)?;
+        }
+        return Ok(bytes);
+    }
+    let mut bytes = head(alloc, writes.saturating_add(1))?;
+    for _ in 0..writes {
+        push_write(&mut bytes, 4_096)?;
+    }
+    push_write(&mut bytes, length)?;
+    Ok(bytes)
 }
 
 #[test]
 fn what_is_no_spelling_is_refused(rt: HostRuntime) -> Result<(), Fail> {
-    let mut bytes = head(rt.alloc(), 1)?;
-    bytes.extend_from_slice(&HELLO)?;
-    assert!(rt; decode(rt.alloc(), &bytes, 1)?.is_some());
-    bytes.push(0)?;
-    assert!(rt; decode(rt.alloc(), &bytes, 1)?.is_none());
-    bytes.pop();
-    replace(&mut bytes, 36, 1);
-    assert!(rt; decode(rt.alloc(), &bytes, 1)?.is_none());
-    assert!(rt; decode(rt.alloc(), &bytes, 2)?.is_some());
-    replace(&mut bytes, 87, 4);
-    assert!(rt; decode(rt.alloc(), &bytes, 2)?.is_none());
-    replace(&mut bytes, 87, 1);
-    for _ in 0..109 {
-        bytes.pop();
-        assert!(rt; decode(rt.alloc(), &bytes, 2)?.is_none());
+    for (place, byte, length, sites, is_taken) in [
+        (0, 0, 109, 1, true),
+        (0, 0, 110, 1, false),
+        (0, 0, 108, 1, false),
+        (0, 0, 87, 1, false),
+        (0, 0, 0, 1, false),
+        (36, 1, 109, 1, false),
+        (36, 1, 109, 2, true),
+        (86, 0, 87, 1, false),
+        (87, 4, 109, 2, false),
+    ] {
+        let bytes = replaced(rt.alloc(), place, byte, length)?;
+        assert_eq!(rt; decode(rt.alloc(), &bytes, sites)?.is_some(), is_taken);
     }
-    assert!(rt; decode(rt.alloc(), &head(rt.alloc(), 0)?, 1)?.is_none());
-    Ok(())
-}
-
-#[test]
-fn updates_and_values_are_limited(rt: HostRuntime) -> Result<(), Fail> {
-    for (count, taken) in [(256, true), (257, false)] {
-        let mut bytes = head(rt.alloc(), count)?;
-        for _ in 0..count {
-            bytes.extend_from_slice(&ADD)?;
-        }
-        assert_eq!(rt; decode(rt.alloc(), &bytes, 1)?.is_some(), taken);
-    }
-    for (length, taken) in [(4_096, true), (4_097, false)] {
-        let mut bytes = head(rt.alloc(), 1)?;
-        push_write(&mut bytes, length)?;
-        assert_eq!(rt; decode(rt.alloc(), &bytes, 1)?.is_some(), taken);
-    }
-    for (length, taken) in [(2_314, true), (2_315, false)] {
-        let mut bytes = head(rt.alloc(), 15)?;
-        for _ in 0..14 {
-            push_write(&mut bytes, 4_096)?;
-        }
-        push_write(&mut bytes, length)?;
-        assert_eq!(rt; decode(rt.alloc(), &bytes, 1)?.is_some(), taken);
+    for (additions, writes, length, is_taken) in [
+        (256, 0, 0, true),
+        (257, 0, 0, false),
+        (0, 0, 4_096, true),
+        (0, 0, 4_097, false),
+        (0, 14, 2_314, true),
+        (0, 14, 2_315, false),
+    ] {
+        let bytes = large(rt.alloc(), additions, writes, length)?;
+        assert_eq!(rt; decode(rt.alloc(), &bytes, 1)?.is_some(), is_taken);
     }
     Ok(())
 }
