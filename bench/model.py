@@ -2,10 +2,12 @@
 
 It says again what docs/SITE.md and docs/FORMATS.md say, and docs/DECISIONS.md of the disk, and shares nothing with the
 program: it keeps the list of committed transactions and computes each answer anew from it, and its disk keeps the writes
-since the last sync. It takes scenarios that are right, and is no checker of them.
+since the last sync. It takes scenarios that are right, and is no checker of them. Nor does it know want of memory, or the
+end of a trail at 100,000 entries.
 """
 
 import struct
+from collections import Counter
 
 NAMES = ["start", "read", "write", "setadd", "setdel", "setread", "setreadid", "commit", "abort", "level"]
 START, READ, WRITE, SET_ADD, SET_DEL, SET_READ, SET_READ_ID, COMMIT, ABORT, LEVEL = range(1, 11)
@@ -101,19 +103,20 @@ class Journal:
 
 
 class Transaction:
-    """Its name, how many commits its snapshot sees, and its updates: (operation, object, bytes or id)."""
+    """Its name, how many commits its snapshot sees, its updates: (operation, object, bytes or id), and its size."""
 
     def __init__(self, tid, snapshot):
-        self.tid, self.snapshot, self.updates = tid, snapshot, []
+        self.tid, self.snapshot, self.updates, self.size = tid, snapshot, [], 87
+
+    def add(self, update):
+        self.updates.append(update)
+        self.size += len(spelled(update))
 
     def name(self):
         return struct.pack(">BIQ", *self.tid)
 
     def writes(self, oid):
         return any(update[0] == WRITE and update[1] == oid for update in self.updates)
-
-    def size(self):
-        return 87 + sum(len(spelled(update)) for update in self.updates)
 
     def record(self, number):
         vector = struct.pack(">8Q", self.snapshot, *[0] * 7)
@@ -149,10 +152,17 @@ def request_of(body):
     return operation, fields[:2], *fields[2:]
 
 
-def calls_of(sent):
+def meet(met, what, number, limit):
+    """Counts where a number stands at its limit, and where it is one above."""
+    if number in (limit, limit + 1):
+        met[f"{what} {number:,}"] += 1
+
+
+def calls_of(sent, met):
     """The calls of a client's bytes: requests, or None with a place."""
     while len(sent) >= 4:
         (length,) = struct.unpack_from(">I", sent)
+        meet(met, "bytes of a frame", length, 65536)
         if length > 65536:
             yield None, 0
             return
@@ -163,7 +173,8 @@ def calls_of(sent):
 
 
 class Site:
-    def __init__(self, scenario):
+    def __init__(self, scenario, met):
+        self.met = met
         self.kinds = {number: kind for number, kind, _ in scenario["containers"]}
         self.capacity = scenario.get("capacity", 16777216)
         self.disk, self.journal = Disk(), None
@@ -295,11 +306,12 @@ class Site:
         if operation in (WRITE, SET_ADD, SET_DEL):
             return self.update(transaction, (operation, oid, what))
         seen = [update for other in self.committed[: transaction.snapshot] for update in other.updates]
-        return read_of(operation, oid, what, seen + transaction.updates)
+        return self.read(operation, oid, what, seen + transaction.updates)
 
     def start(self, client):
         if client in self.open:
             return refusal(6)
+        meet(self.met, "open transactions", len(self.open) + 1, 256)
         if len(self.open) >= 256:
             return refusal(12)
         self.starts += 1
@@ -307,29 +319,33 @@ class Site:
         return bytes([STARTED]) + self.open[client].name()
 
     def update(self, transaction, update):
-        if update[0] == WRITE and len(update[2]) > 4096:
-            return refusal(4)
-        if len(transaction.updates) >= 256 or transaction.size() + len(spelled(update)) > 60000:
+        if update[0] == WRITE:
+            meet(self.met, "bytes of a value", len(update[2]), 4096)
+            if len(update[2]) > 4096:
+                return refusal(4)
+        meet(self.met, "updates of a transaction", len(transaction.updates) + 1, 256)
+        meet(self.met, "bytes of a transaction", transaction.size + len(spelled(update)), 60000)
+        if len(transaction.updates) >= 256 or transaction.size + len(spelled(update)) > 60000:
             return refusal(3)
-        transaction.updates.append(update)
+        transaction.add(update)
         return bytes([DONE])
 
-
-def read_of(operation, oid, what, updates):
-    own = [update for update in updates if update[1] == oid]
-    if operation == READ:
-        if not own:
-            return bytes([VALUE, 0])
-        return struct.pack(">BBI", VALUE, 1, len(own[-1][2])) + own[-1][2]
-    counts = {}
-    for kind, _, number in own:
-        counts[number] = counts.get(number, 0) + (1 if kind == SET_ADD else -1)
-    if operation == SET_READ_ID:
-        return struct.pack(">Bq", COUNT, counts.get(what, 0))
-    shown = sorted(item for item in counts.items() if item[1] != 0)
-    if len(shown) > 4095:
-        return refusal(11)
-    return struct.pack(">BI", SET, len(shown)) + b"".join(struct.pack(">Qq", *item) for item in shown)
+    def read(self, operation, oid, what, updates):
+        of_object = [update for update in updates if update[1] == oid]
+        if operation == READ:
+            if not of_object:
+                return bytes([VALUE, 0])
+            return struct.pack(">BBI", VALUE, 1, len(of_object[-1][2])) + of_object[-1][2]
+        counts = Counter()
+        for kind, _, number in of_object:
+            counts[number] += 1 if kind == SET_ADD else -1
+        if operation == SET_READ_ID:
+            return struct.pack(">Bq", COUNT, counts[what])
+        shown = sorted(item for item in counts.items() if item[1] != 0)
+        meet(self.met, "ids of a set", len(shown), 4095)
+        if len(shown) > 4095:
+            return refusal(11)
+        return struct.pack(">BI", SET, len(shown)) + b"".join(struct.pack(">Qq", *item) for item in shown)
 
 
 def report(site, clients, replies):
@@ -348,11 +364,11 @@ def report(site, clients, replies):
     return "\n".join(lines) + "\n"
 
 
-def play(scenario):
-    """What `walter play --trace` writes of the scenario."""
-    site = Site(scenario)
+def play(scenario, met):
+    """What `walter play --trace` writes of the scenario. Counts in `met` the limits that the run came to."""
+    site = Site(scenario, met)
     clients = scenario["clients"]
-    calls = [calls_of(bytes.fromhex(sent)) for _, sent in clients]
+    calls = [calls_of(bytes.fromhex(sent), met) for _, sent in clients]
     replies = [[] for _ in clients]
     for _, nth, choice in scenario.get("arms", []):
         site.disk.arm = (nth, choice)
