@@ -41,7 +41,7 @@ fn are_known(members: &Map<String, Value>) -> bool
     true
 }
 
-/// The first key that a scenario hasn't; none where there is no memory for its copy.
+/// The least key that a scenario hasn't; none where there is no memory for its copy.
 pub fn other_key(alloc: Global, members: &Map<String, Value>) -> Detail {
     for (name, _) in members {
         if !is_key(name) {
