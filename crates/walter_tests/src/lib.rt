@@ -4,4 +4,6 @@
 #[cfg(test)]
 mod journals;
 #[cfg(test)]
+mod program;
+#[cfg(test)]
 mod rows;

@@ -1,36 +1,67 @@
 //! What is refused before the first step, and disks, racks, sources and sinks that fail.
-use super::{EMPTY_JOURNAL, EMPTY_SITE, FIRST_RUN, ended, ended_on, is_legal};
-use crate::{Fault, JournalCause};
+use super::{EMPTY_JOURNAL, EMPTY_SITE, FIRST_RUN, Run, is_legal, run_over};
+use std::alloc::Global;
 use std::process::Abort;
 use std::test::Fail;
+use walter_base::Mem;
+use walter_cli::{Fault, JournalCause};
 use walter_disk_memory::MemoryRack;
-use walter_scenario::Place;
+use walter_scenario::{Detail, Place};
+use walter_stream::MemorySource;
+
+// What is given to the program.
+#[derive(Clone, Copy)]
+struct Given<'a> {
+    line: &'a str,
+    scenario: &'a str,
+    disk: &'a [u8],
+    // The numbers of the reads, the writes and the calls of the rack that fail. The disk is taken by the first of
+    // these, and given back by the second.
+    reads: &'a [u64],
+    writes: &'a [u64],
+    racks: &'a [u64],
+}
+
+// A scenario, and an empty disk.
+fn playing(scenario: &str) -> Given<'_> {
+    Given {
+        line: "play",
+        scenario,
+        disk: b"",
+        reads: &[],
+        writes: &[],
+        racks: &[],
+    }
+}
+
+fn rack_of(alloc: Global, given: Given) -> Mem<MemoryRack> {
+    let contents = vec![in alloc; given.disk.to_vec(alloc)?]?;
+    let mut rack = MemoryRack::holding(alloc, contents);
+    rack.set_failing(given.racks.to_vec(alloc)?);
+    Ok(rack)
+}
+
+fn source_of(alloc: Global, given: Given) -> Mem<MemorySource> {
+    let bytes = given.scenario.as_bytes().to_vec(alloc)?;
+    Ok(MemorySource::new(bytes, given.reads.to_vec(alloc)?))
+}
+
+// What comes of it, and the rack behind it.
+fn run(rt: &impl AllocGlobal, given: Given) -> Result<(Run, MemoryRack), Fail> {
+    let mut source = source_of(rt.alloc(), given)?;
+    let mut rack = rack_of(rt.alloc(), given)?;
+    let run = run_over(rt, given.line, &mut source, given.writes, &mut rack)?;
+    Ok((run, rack))
+}
 
 // Bytes that spell no scenario are refused at this place, and nothing is written.
 fn refuses(rt: &(impl Abort + AllocGlobal), scenario: &str, place: Place) -> Result<(), Fail> {
-    let (ended, text) = ended(rt, "play", scenario, &[], &[])?;
-    assert_eq!(rt;
-        (ended.status, ended.fault),
-        (2, Some(Fault::Scenario { place })),
-        "{scenario}"
-    );
-    assert!(rt; text.is_empty());
-    Ok(())
-}
-
-#[test]
-fn other_words_are_no_line(rt: HostRuntime) -> Result<(), Fail> {
-    for words in [
-        "play --fast",
-        "",
-        "run",
-        "play play",
-        "play --trace --trace",
-    ] {
-        let (ended, text) = ended(&rt, words, FIRST_RUN, &[], &[])?;
-        assert_eq!(rt; (ended.status, ended.fault), (1, Some(Fault::Usage)));
-        assert!(rt; text.is_empty());
-    }
+    let (Run { ended, text }, _rack) = run(rt, playing(scenario))?;
+    assert_eq!(rt; (ended.status, ended.trails.len(), text.len()), (2, 0, 0));
+    let Some(Fault::Scenario { place: found, .. }) = ended.fault else {
+        return Err(Fail::from("another fault"));
+    };
+    assert_eq!(rt; found, place);
     Ok(())
 }
 
@@ -38,7 +69,9 @@ fn other_words_are_no_line(rt: HostRuntime) -> Result<(), Fail> {
 fn bytes_that_spell_no_scenario_are_refused_at_their_first_wrong_place(
     rt: HostRuntime,
 ) -> Result<(), Fail> {
+    let too_long = vec![in rt.alloc(); b' '; 16_777_217]?;
     let table = [
+        (str::from_utf8(&too_long)?, Place::TooLong),
         ("[", Place::Json),
         ("[]", Place::Json),
         (
@@ -92,81 +125,203 @@ fn bytes_that_spell_no_scenario_are_refused_at_their_first_wrong_place(
     Ok(())
 }
 
-#[test]
-fn a_source_that_fails_is_told(rt: HostRuntime) -> Result<(), Fail> {
-    let (ended, text) = ended(&rt, "play", FIRST_RUN, &[2], &[])?;
-    assert_eq!(rt; (ended.status, ended.fault), (3, Some(Fault::Read)));
-    assert!(rt; text.is_empty());
+// A call ends with this status and this fault, and writes nothing. So many trails are answered, and as many disks are
+// given back.
+fn ends(
+    rt: &(impl Abort + AllocGlobal),
+    given: Given,
+    status: u8,
+    fault: Fault,
+    counts: (usize, usize),
+) -> Result<(), Fail> {
+    let (Run { ended, text }, rack) = run(rt, given)?;
+    assert_eq!(rt; (ended.status, text.len()), (status, 0));
+    assert_eq!(rt; ended.fault, Some(fault));
+    assert_eq!(rt; (ended.trails.len(), rack.given().len()), counts);
     Ok(())
 }
 
-#[test]
-fn a_sink_that_fails_is_told(rt: HostRuntime) -> Result<(), Fail> {
-    let (ended, text) = ended(&rt, "play", FIRST_RUN, &[], &[1])?;
-    assert_eq!(rt; (ended.status, ended.fault), (4, Some(Fault::Write)));
-    assert_eq!(rt; ended.trails.len(), 1);
-    assert!(rt; text.is_empty());
-    Ok(())
-}
-
-#[test]
-fn faults_are_lines_that_a_person_understands(rt: HostRuntime) -> Result<(), Fail> {
-    let place = Place::Containers(3);
-    let line = format!(in rt.alloc(); "{}", Fault::Scenario { place })?;
-    assert_eq!(rt; line.as_str(), "the scenario has no reading: container 3");
-    Ok(())
-}
-
-#[test]
-fn a_site_begins_with_no_other_disk_than_a_new_one(rt: HostRuntime) -> Result<(), Fail> {
-    let damaged = JournalCause::Damaged {
-        at: 8,
-        length: 4_294_967_295,
+// No site begins with these bytes.
+fn begins_not(
+    rt: &(impl Abort + AllocGlobal),
+    disk: &[u8],
+    cause: JournalCause,
+    place: u64,
+) -> Result<(), Fail> {
+    let given = Given {
+        disk,
+        ..playing(EMPTY_SITE)
     };
-    let table: [(&[u8], JournalCause); 3] = [
-        (b"NOTWALTER", JournalCause::Foreign),
-        (b"WALTERJ1\x01\xff\xff\xff\xff\0", damaged),
-        (EMPTY_JOURNAL, JournalCause::Used),
+    let site = 0;
+    let fault = Fault::Journal { site, cause, place };
+    ends(rt, given, 7, fault, (0, 1))
+}
+
+#[test]
+fn what_fails_is_told(rt: HostRuntime) -> Result<(), Fail> {
+    let first = playing(FIRST_RUN);
+    for line in [
+        "play --fast",
+        "",
+        "run",
+        "play play",
+        "play --trace --trace",
+    ] {
+        ends(&rt, Given { line, ..first }, 1, Fault::Usage, (0, 0))?;
+    }
+    let reads = &[2];
+    ends(&rt, Given { reads, ..first }, 3, Fault::Read, (0, 0))?;
+    let writes = &[1];
+    ends(&rt, Given { writes, ..first }, 4, Fault::Write, (1, 1))?;
+    for (racks, trails) in [(&[1], 0), (&[2], 1)] {
+        let fault = Fault::Rack { site: 0 };
+        ends(&rt, Given { racks, ..first }, 6, fault, (trails, 0))?;
+    }
+    let length = 4_294_967_295;
+    begins_not(&rt, b"NOTWALTER", JournalCause::Foreign, 0)?;
+    begins_not(
+        &rt,
+        b"WALTERJ1\x01\xff\xff\xff\xff\0",
+        JournalCause::Damaged { length },
+        8,
+    )?;
+    begins_not(&rt, EMPTY_JOURNAL, JournalCause::Used, 8)
+}
+
+// A site that begins with these bytes and does nothing leaves the journal of its opening, and writes this.
+fn begins(
+    rt: &(impl Abort + AllocGlobal),
+    line: &str,
+    disk: &[u8],
+    written: &str,
+) -> Result<(), Fail> {
+    let given = Given {
+        line,
+        disk,
+        ..playing(EMPTY_SITE)
+    };
+    let (Run { ended, text }, rack) = run(rt, given)?;
+    is_legal(rt, &ended)?;
+    assert_eq!(rt; text.as_str(), written);
+    let [(site, disk)] = rack.given() else {
+        return Err(Fail::from("not one disk"));
+    };
+    assert_eq!(rt; (*site, disk.bytes()), (0, EMPTY_JOURNAL));
+    Ok(())
+}
+
+#[test]
+fn a_site_begins_with_a_disk_without_records(rt: HostRuntime) -> Result<(), Fail> {
+    let report =
+        "sites 1 f 0 clients 0\nsite 0 up epoch 1 events 1 records 1 got 0 committed 0 log -\n";
+    let traced =
+        "sites 1 f 0 clients 0\nsite 0 up epoch 1 events 1 records 1 got 0 committed 0 log -\ne 1 0 restart taken - 0100000001 - - 0\n";
+    let table: [(&str, &[u8], &str); 4] = [
+        ("play", b"", report),
+        ("play", b"WALTERJ1\0", report),
+        ("play", b"WALTERJ1\x07", report),
+        ("play --trace", b"", traced),
     ];
-    let alloc = rt.alloc();
-    for (bytes, cause) in table {
-        let contents = vec![in alloc; Vec::from_slice(alloc, bytes)?]?;
-        let mut rack = MemoryRack::holding(alloc, contents);
-        let (ended, text) = ended_on(&rt, "play", EMPTY_SITE, &mut rack)?;
-        let fault = Fault::Journal { site: 0, cause };
-        assert_eq!(rt; (ended.status, ended.fault), (7, Some(fault)));
-        assert_eq!(rt; (ended.trails.len(), text.len()), (0, 0));
-        assert_eq!(rt; rack.given().len(), 1);
+    for (line, disk, written) in table {
+        begins(&rt, line, disk, written)?;
     }
     Ok(())
 }
 
-#[test]
-fn a_journal_without_records_is_as_good_as_a_new_disk(rt: HostRuntime) -> Result<(), Fail> {
-    let alloc = rt.alloc();
-    let contents = vec![in alloc; Vec::from_slice(alloc, b"WALTERJ1\x07")?]?;
-    let mut rack = MemoryRack::holding(alloc, contents);
-    let (ended, _text) = ended_on(&rt, "play", EMPTY_SITE, &mut rack)?;
-    is_legal(&rt, &ended)?;
-    let [(_site, disk)] = rack.given() else {
-        return Err(Fail::from("not one disk"));
-    };
-    assert_eq!(rt; disk.bytes(), EMPTY_JOURNAL);
-    Ok(())
+// The fault of a scenario that is wrong at this place.
+fn wrong(place: Place) -> Fault {
+    let detail = Detail::None;
+    Fault::Scenario { place, detail }
+}
+
+// The fault of a site that doesn't begin with its disk.
+fn unbegun(cause: JournalCause, place: u64) -> Fault {
+    let site = 0;
+    Fault::Journal { site, cause, place }
 }
 
 #[test]
-fn a_rack_that_fails_is_told(rt: HostRuntime) -> Result<(), Fail> {
-    // The disk is taken by the first call, and given back by the second.
-    for (failing, trails) in [(1, 0), (2, 1)] {
-        let mut rack = MemoryRack::new(rt.alloc());
-        rack.set_failing(vec![in rt.alloc(); failing]?);
-        let (ended, text) = ended_on(&rt, "play", FIRST_RUN, &mut rack)?;
-        assert_eq!(rt;
-            (ended.status, ended.fault),
-            (6, Some(Fault::Rack { site: 0 }))
-        );
-        assert_eq!(rt; (ended.trails.len(), text.len()), (trails, 0));
+fn faults_are_lines_that_a_person_understands(rt: HostRuntime) -> Result<(), Fail> {
+    let key = Detail::Key(String::from_str(rt.alloc(), "speed")?);
+    let table = [
+        (
+            Fault::Usage,
+            "usage: walter play [--trace], with a scenario on standard input; the report comes on standard output",
+        ),
+        (Fault::Read, "the scenario could not be read to its end"),
+        (Fault::Write, "the report could not be written to its end"),
+        (Fault::Memory, "out of memory"),
+        (
+            Fault::Rack { site: 0 },
+            "the disk of site 0 failed, or could not be taken or given back",
+        ),
+        (
+            unbegun(JournalCause::Foreign, 0),
+            "site 0 cannot begin with its disk: it has no journal (at place 0)",
+        ),
+        (
+            unbegun(JournalCause::Damaged { length: 0 }, 31),
+            "site 0 cannot begin with its disk: its journal is damaged, since it claims a length of 0 behind a gate (at place 31)",
+        ),
+        (
+            unbegun(JournalCause::Used, 8),
+            "site 0 cannot begin with its disk: its journal has records (at place 8)",
+        ),
+        (
+            wrong(Place::TooLong),
+            "the scenario has no reading: the text: wants at most 16777216 bytes",
+        ),
+        (
+            wrong(Place::Json),
+            "the scenario has no reading: the text: wants JSON in UTF-8, an object outermost",
+        ),
+        (
+            wrong(Place::Key),
+            "the scenario has no reading: the keys: wants sites, f, containers, clients and steps, and takes capacity and arms besides",
+        ),
+        (
+            wrong(Place::Sites),
+            "the scenario has no reading: the number of sites: wants 1",
+        ),
+        (wrong(Place::F), "the scenario has no reading: f: wants 0"),
+        (
+            wrong(Place::Containers(3)),
+            "the scenario has no reading: container 3: wants [number, \"regular\" or \"cset\", site] in a list, numbers below 2^32 that rise, a site below 1, at most 256",
+        ),
+        (
+            wrong(Place::Clients(0)),
+            "the scenario has no reading: client 0: wants [site, bytes] in a list, a site below 1, an even number of hex digits, at most 1024",
+        ),
+        (
+            wrong(Place::Capacity),
+            "the scenario has no reading: the capacity: wants a whole number from 19 to 1099511627776",
+        ),
+        (
+            wrong(Place::Arms(1)),
+            "the scenario has no reading: arm 1: wants [site, nth, choice] in a list, a site below 1, an nth from 1 to 1000000, a choice below 2^64",
+        ),
+        (
+            wrong(Place::Steps(100_000)),
+            "the scenario has no reading: step 100000: wants [\"call\", client], [\"stop\", site], [\"restart\", site] or [\"arm\", site, nth, choice] in a list, a client of the scenario, a site below 1, an nth from 1 to 1000000, a choice below 2^64",
+        ),
+        (
+            Fault::Scenario {
+                place: Place::Json,
+                detail: Detail::At { line: 2, column: 7 },
+            },
+            "the scenario has no reading: the text is no JSON: line 2, column 7",
+        ),
+        (
+            Fault::Scenario {
+                place: Place::Key,
+                detail: key,
+            },
+            "the scenario has no reading: key \"speed\": a scenario has none",
+        ),
+    ];
+    for (fault, text) in &table {
+        let line = format!(in rt.alloc(); "{fault}")?;
+        assert_eq!(rt; line.as_str(), *text);
     }
     Ok(())
 }

@@ -1,17 +1,17 @@
 //! The history that a trail spells, as code, for the checker.
 use std::alloc::Global;
 use walter_base::{Level as HowFar, Mem, Record, Reply, Request, Tid, Update};
-use walter_psi::{Answer, Level, Step, Told};
+use walter_psi::{Answer, Level, Notice, Step};
 use walter_trail::{Entry, Outcome, TrailEvent};
 
 // What a client was told by this level. Of a transaction that is open there is nothing to tell.
-fn told_level(level: HowFar) -> Option<Told> {
+fn told_level(level: HowFar) -> Option<Notice> {
     match level {
-        HowFar::NotCommitted => Some(Told::Level(Level::NotCommitted)),
+        HowFar::NotCommitted => Some(Notice::Level(Level::NotCommitted)),
         HowFar::Running => None,
-        HowFar::Committed => Some(Told::Level(Level::Committed)),
-        HowFar::Durable => Some(Told::Level(Level::Durable)),
-        HowFar::Visible => Some(Told::Level(Level::Visible)),
+        HowFar::Committed => Some(Notice::Level(Level::Committed)),
+        HowFar::Durable => Some(Notice::Level(Level::Durable)),
+        HowFar::Visible => Some(Notice::Level(Level::Visible)),
     }
 }
 
@@ -48,7 +48,7 @@ fn step_of(request: &Request, reply: &Reply, open: Option<Tid>) -> Mem<Option<St
             Some(Step::Read(tid, *oid, Answer::Count(*id, *count)))
         }
         (Request::Commit, Reply::Committed(version)) => {
-            Some(Step::Told(tid, Told::Version(*version)))
+            Some(Step::Told(tid, Notice::Version(*version)))
         }
         (_, Reply::Aborted(cause)) => Some(Step::Abort(tid, *cause)),
         _ => free_step(request, reply),

@@ -1,16 +1,17 @@
-//! What a stop at a call of the device leaves.
-ghost use Rattle.std.specs.Prelude.{None};
-
-use super::{COMMIT, LEVEL, READ, START, WRITE, ended_on, is_legal, line_of, scenario_of};
+//! What a stop at a call of the disk leaves.
+use super::{
+    COMMIT, LEVEL, READ, Run, START, WRITE, concat, is_legal, line_in, report_of, run_on,
+    scenario_of,
+};
 use std::alloc::Global;
 use std::process::Abort;
 use std::test::Fail;
-use walter_base::{Mem, Record};
+use walter_base::{Mem, NoMemory};
 use walter_disk::{Disk, Failed, Rack};
 use walter_disk_memory::{MemoryDisk, MemoryRack};
 use walter_journal::load;
 use walter_record::decode;
-use walter_trail::{Outcome, Trail};
+use walter_trail::{Entry, Outcome, Trail};
 
 /// A rack from which the disk that was given back can be taken again.
 #[derive(Drop)]
@@ -22,6 +23,8 @@ struct OpenRack {
 impl Rack for OpenRack {
     type D = MemoryDisk;
 
+    ghost use Rattle.std.specs.Prelude.{None};
+
     ghost faults = { λ r. r.rack.schedule.faults };
 
     ghost disks = { λ _. None };
@@ -29,6 +32,8 @@ impl Rack for OpenRack {
     ghost taken = { λ r. r.rack.taken };
 
     ghost given = { λ _. None };
+
+    ghost unfailing = { λ _. 0 };
 
     fn take(&mut self, site: u8, dir: Option<&str>) -> Result<MemoryDisk, Failed> {
         self.rack.take(site, dir)
@@ -40,59 +45,91 @@ impl Rack for OpenRack {
     }
 }
 
-// The records of a trail.
+// The records of a trail as a text, and that of the record in flight.
 #[derive(Drop)]
 struct Told {
-    records: Vec<Record>,
-    flight: Option<Record>,
+    records: String,
+    flight: String,
+}
+
+impl Told {
+    // Goes on with what an entry tells.
+    fn take(&mut self, alloc: Global, entry: &Entry) -> Mem<()> {
+        for stable in [&entry.kept, &entry.wrote] {
+            if let Some(stable) = stable {
+                let text = format!(in alloc; "{stable:?};")?;
+                self.records.push_str(&text)?;
+                self.flight.clear();
+            }
+        }
+        if let Outcome::Full { .. } = entry.outcome {
+            self.flight.clear();
+        }
+        if let Some(flight) = &entry.flight {
+            self.flight = format!(in alloc; "{flight:?};")?;
+        }
+        Ok(())
+    }
+
+    // Whether it tells these records, with the one in flight or without.
+    fn tells(&self, found: &str) -> bool {
+        match found.strip_prefix(self.records.as_str()) {
+            Some(more) => more.is_empty() || more == self.flight.as_str(),
+            None => false,
+        }
+    }
 }
 
 fn told_by(alloc: Global, trail: &Trail) -> Mem<Told> {
     let mut told = Told {
-        records: Vec::new(alloc),
-        flight: None,
+        records: String::new(alloc),
+        flight: String::new(alloc),
     };
     for entry in trail.as_slice() {
-        for stable in [&entry.kept, &entry.wrote] {
-            if let Some(stable) = stable {
-                told.records.push(stable.clone()?)?;
-                told.flight = None;
-            }
-        }
-        if let Outcome::Full { .. } = entry.outcome {
-            told.flight = None;
-        }
-        if let Some(flight) = &entry.flight {
-            told.flight = Some(flight.clone()?);
-        }
+        told.take(alloc, entry)?;
     }
     Ok(told)
 }
 
-// The records of the journal of a disk. An arm that hasn't come is put off.
-fn journaled(alloc: Global, mut disk: MemoryDisk) -> Result<Vec<Record>, Fail> {
-    disk.arm(1_000_000, 0)?;
+// The records of the journal of a disk as a text. An arm that hasn't come is put off.
+fn journaled(alloc: Global, mut disk: MemoryDisk) -> Mem<String> {
+    let mut records = String::new(alloc);
+    if disk.arm(1_000_000, 0).is_err() {
+        return Err(NoMemory);
+    }
     let Ok((_journal, bodies)) = load(alloc, disk, 16_777_216) else {
-        return Err(Fail::from("no journal"));
+        records.push_str("no journal")?;
+        return Ok(records);
     };
-    let mut records = Vec::new(alloc);
     for body in bodies.as_slice() {
-        match decode(alloc, body, 1)? {
-            Some(journaled) => records.push(journaled)?,
-            None => return Err(Fail::from("a body that spells no record")),
-        }
+        let text = match decode(alloc, body, 1)? {
+            Some(journaled) => format!(in alloc; "{journaled:?};")?,
+            None => String::from_str(alloc, "no record")?,
+        };
+        records.push_str(&text)?;
     }
     Ok(records)
 }
 
-fn shown(alloc: Global, records: &[Record]) -> Mem<String> {
-    Ok(format!(in alloc; "{records:?}")?)
+// The scenario of the first commit, over a disk that is armed so.
+fn armed(alloc: Global, nth: u64, choice: u64, words: &str) -> Mem<String> {
+    let arms = format!(in alloc; r#""arms":[[0,{nth},{choice}]],"#)?;
+    let sent = concat(alloc, &[START, WRITE, READ, COMMIT, LEVEL])?;
+    scenario_of(alloc, &arms, &sent, words)
 }
 
-// The scenario of the first commit, over a disk that is armed so.
-fn armed(rt: &impl AllocGlobal, nth: u64, choice: u64, words: &str) -> Result<String, Fail> {
-    let arms = format!(in rt.alloc(); r#""arms":[[0,{nth},{choice}]],"#)?;
-    scenario_of(rt, &arms, &[START, WRITE, READ, COMMIT, LEVEL], words)
+// What comes of a scenario, which ends well, and the disk that is given back.
+fn run_and_disk(
+    rt: &(impl Abort + AllocGlobal),
+    scenario: &str,
+) -> Result<(Run, Option<MemoryDisk>), Fail> {
+    let mut rack = OpenRack {
+        rack: MemoryRack::new(rt.alloc()),
+        given: None,
+    };
+    let run = run_on(rt, scenario, &mut rack)?;
+    is_legal(rt, &run.ended)?;
+    Ok((run, rack.given))
 }
 
 // The disk that is given back has the records that the trail tells, with the one in flight or without.
@@ -102,32 +139,19 @@ fn leaves_what_is_told(
     choice: u64,
     words: &str,
 ) -> Result<(), Fail> {
-    let alloc = rt.alloc();
-    let mut rack = OpenRack {
-        rack: MemoryRack::new(alloc),
-        given: None,
-    };
-    let scenario = armed(rt, nth, choice, words)?;
-    let (ended, _text) = ended_on(rt, "play", &scenario, &mut rack)?;
-    is_legal(rt, &ended)?;
-    let OpenRack { given, .. } = rack;
-    let Some(disk) = given else {
+    let scenario = armed(rt.alloc(), nth, choice, words)?;
+    let (run, Some(disk)) = run_and_disk(rt, &scenario)? else {
         return Err(Fail::from("no disk"));
     };
-    let [trail] = ended.trails.as_slice() else {
+    let [trail] = run.ended.trails.as_slice() else {
         return Err(Fail::from("no trail"));
     };
-    let found = shown(alloc, &journaled(alloc, disk)?)?;
-    let Told {
-        mut records,
-        flight,
-    } = told_by(alloc, trail)?;
-    let mut is_told = shown(alloc, &records)? == found;
-    if let Some(flight) = flight {
-        records.push(flight)?;
-        is_told = is_told || shown(alloc, &records)? == found;
-    }
-    assert!(rt; is_told, "call {nth}, choice {choice}, {words}: {found}");
+    let told = told_by(rt.alloc(), trail)?;
+    let found = journaled(rt.alloc(), disk)?;
+    assert!(rt;
+        told.tells(&found),
+        "call {nth}, choice {choice}, {words}: {found}"
+    );
     Ok(())
 }
 
@@ -137,7 +161,7 @@ const CHOICES: [u64; 5] = [0, 1, 7, 256, 257];
 fn a_stop_at_each_call_of_a_commit_and_of_a_restart_leaves_what_is_told(
     rt: HostRuntime,
 ) -> Result<(), Fail> {
-    // A commit has four calls of the device, and a restart five.
+    // A commit has four calls of the disk, and a restart five.
     for nth in 1..10 {
         for choice in CHOICES {
             for words in [
@@ -158,8 +182,6 @@ fn the_level_of_a_commit_that_met_a_stop_is_that_of_its_record(
 ) -> Result<(), Fail> {
     for nth in 1..5 {
         for choice in CHOICES {
-            let scenario = armed(&rt, nth, choice, "call call call call restart call")?;
-            let line = line_of(&rt, &scenario, 0)?;
             // The gate is the third call, and open where its byte is 1.
             let is_open = nth >= 3 && choice % 256 == 1;
             let level = if is_open {
@@ -167,8 +189,11 @@ fn the_level_of_a_commit_that_met_a_stop_is_that_of_its_record(
             } else {
                 "000000028800"
             };
+            let scenario = armed(rt.alloc(), nth, choice, "call call call call restart call")?;
+            let report = report_of(&rt, &scenario)?;
+            let line = line_in(&report, 0);
             assert!(rt;
-                line.as_str().ends_with(level),
+                line.ends_with(level),
                 "call {nth}, choice {choice}: {line}"
             );
         }
