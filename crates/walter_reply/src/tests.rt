@@ -1,5 +1,3 @@
-ghost use Rattle.std.specs.Prelude.{◌≤◌, length};
-
 use crate::{ReplyFault, append, decode, encode, size_of};
 use std::alloc::Global;
 use std::test::Fail;
@@ -86,9 +84,10 @@ fn are_same(one: &Reply, other: &Reply) -> bool {
 }
 
 /// Whether the bytes spell the reply, and are what is written of it.
-fn is_spelling(alloc: Global, reply: &Reply, spelling: &[u8]) -> Result<bool, Fail>
-    requires { length spelling.now ≤ 65536 }
-{
+fn is_spelling(alloc: Global, reply: &Reply, spelling: &[u8]) -> Result<bool, Fail> {
+    if spelling.len() > 40 {
+        return Err("a row is short".into());
+    }
     let Ok(again) = decode(alloc, spelling) else {
         return Err("the bytes spell a reply".into());
     };
@@ -103,7 +102,14 @@ fn is_spelling(alloc: Global, reply: &Reply, spelling: &[u8]) -> Result<bool, Fa
 #[test]
 fn each_reply_has_its_spelling(rt: HostRuntime) -> Result<(), Fail> {
     let hello = Bytes::from_slice(rt.alloc(), b"hello")?;
-    let table: [(Reply, &[u8]); 10] = [
+    let none = Counts::from(Vec::new(rt.alloc()));
+    let one = Counts::from(vec![in rt.alloc(); (9, -1)]?);
+    let two = Counts::from(vec![in rt.alloc(); (2, 1), (9, -2)]?);
+    let full = Refusal::JournalFull {
+        need: 123,
+        left: 122,
+    };
+    let table: [(Reply, &[u8]); 36] = [
         (
             Reply::Started(TID),
             &[0x80, 1, 0, 0, 0, 2, 0, 0, 0, 0, 0, 0, 0, 3],
@@ -133,19 +139,6 @@ fn each_reply_has_its_spelling(rt: HostRuntime) -> Result<(), Fail> {
             Reply::Unsure(TID),
             &[0x8A, 1, 0, 0, 0, 2, 0, 0, 0, 0, 0, 0, 0, 3],
         ),
-    ];
-    for (reply, spelling) in &table {
-        assert!(rt; is_spelling(rt.alloc(), reply, spelling)?);
-    }
-    Ok(())
-}
-
-#[test]
-fn counts_have_their_spelling(rt: HostRuntime) -> Result<(), Fail> {
-    let none = Counts::from(Vec::new(rt.alloc()));
-    let one = Counts::from(vec![in rt.alloc(); (9, -1)]?);
-    let two = Counts::from(vec![in rt.alloc(); (2, 1), (9, -2)]?);
-    let table: [(Reply, &[u8]); 6] = [
         (Reply::Set(none), &[0x83, 0, 0, 0, 0]),
         (Reply::Set(one), &SET),
         (Reply::Set(two), &TWO),
@@ -155,67 +148,38 @@ fn counts_have_their_spelling(rt: HostRuntime) -> Result<(), Fail> {
             Reply::Count(-9_223_372_036_854_775_808),
             &[0x84, 128, 0, 0, 0, 0, 0, 0, 0],
         ),
+        (
+            Reply::Refused(Refusal::Gone { tid: TID }),
+            &[0xE0, 7, 1, 0, 0, 0, 2, 0, 0, 0, 0, 0, 0, 0, 3],
+        ),
+        (
+            Reply::Refused(Refusal::BadFrame { at: 1 }),
+            &[0xE0, 8, 0, 0, 0, 1],
+        ),
+        (
+            Reply::Refused(full),
+            &[0xE0, 10, 0, 0, 0, 0, 0, 0, 0, 123, 0, 0, 0, 0, 0, 0, 0, 122],
+        ),
+        (Reply::Level(Level::NotCommitted), &[0x88, 0]),
+        (Reply::Level(Level::Running), &[0x88, 1]),
+        (Reply::Level(Level::Committed), &[0x88, 3]),
+        (Reply::Level(Level::Durable), &[0x88, 4]),
+        (Reply::Level(Level::Visible), &[0x88, 5]),
+        (Reply::Refused(Refusal::UnknownContainer), &[0xE0, 1]),
+        (Reply::Refused(Refusal::WrongKind), &[0xE0, 2]),
+        (Reply::Refused(Refusal::TxFull), &[0xE0, 3]),
+        (Reply::Refused(Refusal::TooLong), &[0xE0, 4]),
+        (Reply::Refused(Refusal::NoTx), &[0xE0, 5]),
+        (Reply::Refused(Refusal::TxOpen), &[0xE0, 6]),
+        (Reply::Refused(Refusal::Down), &[0xE0, 9]),
+        (Reply::Refused(Refusal::SetTooWide), &[0xE0, 11]),
+        (Reply::Refused(Refusal::SessionsFull), &[0xE0, 12]),
+        (Reply::Refused(Refusal::Memory), &[0xE0, 13]),
+        (Reply::Refused(Refusal::WrongSite), &[0xE0, 14]),
+        (Reply::Refused(Refusal::NotIssued), &[0xE0, 15]),
     ];
     for (reply, spelling) in &table {
         assert!(rt; is_spelling(rt.alloc(), reply, spelling)?);
-    }
-    Ok(())
-}
-
-#[test]
-fn each_level_has_its_number(rt: HostRuntime) -> Result<(), Fail> {
-    for (level, number) in [
-        (Level::NotCommitted, 0),
-        (Level::Running, 1),
-        (Level::Committed, 3),
-        (Level::Durable, 4),
-        (Level::Visible, 5),
-    ] {
-        assert!(rt; is_spelling(rt.alloc(), &Reply::Level(level), &[0x88, number])?);
-    }
-    Ok(())
-}
-
-#[test]
-fn each_refusal_has_its_number(rt: HostRuntime) -> Result<(), Fail> {
-    for (refusal, number) in [
-        (Refusal::UnknownContainer, 1),
-        (Refusal::WrongKind, 2),
-        (Refusal::TxFull, 3),
-        (Refusal::TooLong, 4),
-        (Refusal::NoTx, 5),
-        (Refusal::TxOpen, 6),
-        (Refusal::Down, 9),
-        (Refusal::SetTooWide, 11),
-        (Refusal::SessionsFull, 12),
-        (Refusal::Memory, 13),
-        (Refusal::WrongSite, 14),
-        (Refusal::NotIssued, 15),
-    ] {
-        assert!(rt; is_spelling(rt.alloc(), &Reply::Refused(refusal), &[0xE0, number])?);
-    }
-    Ok(())
-}
-
-#[test]
-fn refusals_have_fields(rt: HostRuntime) -> Result<(), Fail> {
-    let full = Refusal::JournalFull {
-        need: 123,
-        left: 122,
-    };
-    let table: [(Refusal, &[u8]); 3] = [
-        (
-            Refusal::Gone { tid: TID },
-            &[0xE0, 7, 1, 0, 0, 0, 2, 0, 0, 0, 0, 0, 0, 0, 3],
-        ),
-        (Refusal::BadFrame { at: 1 }, &[0xE0, 8, 0, 0, 0, 1]),
-        (
-            full,
-            &[0xE0, 10, 0, 0, 0, 0, 0, 0, 0, 123, 0, 0, 0, 0, 0, 0, 0, 122],
-        ),
-    ];
-    for (refusal, spelling) in &table {
-        assert!(rt; is_spelling(rt.alloc(), &Reply::Refused(*refusal), spelling)?);
     }
     Ok(())
 }
@@ -230,9 +194,20 @@ fn replies_are_written_one_behind_another(rt: HostRuntime) -> Result<(), Fail> {
     Ok(())
 }
 
+/// The place of what is wrong with a body that spells no reply.
+fn wrong_place(alloc: Global, body: &[u8]) -> Option<u32> {
+    if body.len() > 40 {
+        return None;
+    }
+    match decode(alloc, body) {
+        Err(ReplyFault::BadFrame { at }) => Some(at),
+        Err(ReplyFault::NoMemory) | Ok(_) => None,
+    }
+}
+
 #[test]
 fn a_bad_frame_has_its_place(rt: HostRuntime) -> Result<(), Fail> {
-    let table: [(&[u8], u32); 24] = [
+    let table: [(&[u8], u32); 39] = [
         (&[], 0),
         (&[1], 0),
         (&[0x87, 0x82], 0),
@@ -257,19 +232,6 @@ fn a_bad_frame_has_its_place(rt: HostRuntime) -> Result<(), Fail> {
         (&[0x81, 0, 7], 2),
         (&[0x85, 1, 0], 3),
         (&HELLO[..10], 10),
-    ];
-    for (body, at) in table {
-        match decode(rt.alloc(), body) {
-            Err(fault) => assert_eq!(rt; fault, ReplyFault::BadFrame { at }),
-            Ok(_) => return Err("the frame spells no reply".into()),
-        }
-    }
-    Ok(())
-}
-
-#[test]
-fn a_bad_set_has_its_place(rt: HostRuntime) -> Result<(), Fail> {
-    let table: [(&[u8], u32); 9] = [
         (&[0x83], 1),
         (&[0x83, 0, 0, 16], 4),
         (&[0x83, 0, 0, 16, 0], 1),
@@ -279,19 +241,6 @@ fn a_bad_set_has_its_place(rt: HostRuntime) -> Result<(), Fail> {
         (&ZERO, 29),
         (&[0x84, 0, 0], 3),
         (&[0x84, 0, 0, 0, 0, 0, 0, 0, 1, 0], 9),
-    ];
-    for (body, at) in table {
-        match decode(rt.alloc(), body) {
-            Err(fault) => assert_eq!(rt; fault, ReplyFault::BadFrame { at }),
-            Ok(_) => return Err("the frame spells no reply".into()),
-        }
-    }
-    Ok(())
-}
-
-#[test]
-fn a_set_that_is_cut_off_has_its_place(rt: HostRuntime) -> Result<(), Fail> {
-    let table: [(&[u8], u32); 6] = [
         (&SET[..20], 20),
         (&TWO[..21], 21),
         (&TWO[..36], 36),
@@ -300,16 +249,8 @@ fn a_set_that_is_cut_off_has_its_place(rt: HostRuntime) -> Result<(), Fail> {
         (&ZERO[..36], 36),
     ];
     for (body, at) in table {
-        match decode(rt.alloc(), body) {
-            Err(fault) => assert_eq!(rt; fault, ReplyFault::BadFrame { at }),
-            Ok(_) => return Err("the frame spells no reply".into()),
-        }
+        assert_eq!(rt; wrong_place(rt.alloc(), body), Some(at));
     }
-    Ok(())
-}
-
-#[test]
-fn faults_have_texts(rt: HostRuntime) -> Result<(), Fail> {
     let bad = ReplyFault::BadFrame { at: 7 };
     assert_eq!(rt;
         format!(in rt.alloc(); "{bad}")?.as_str(),

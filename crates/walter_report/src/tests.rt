@@ -33,29 +33,26 @@ fn scenario(alloc: Global, clients: usize) -> Result<Scenario, Fail> {
     })
 }
 
-fn opened(alloc: Global) -> Mem<Vec<Entry>> {
-    let mut entries = Vec::new(alloc);
-    entries.push(Entry {
-        stamp: 1,
-        event: TrailEvent::Restart,
-        outcome: Outcome::Taken,
-        kept: None,
-        wrote: Some(Record::Boot(1)),
-        flight: None,
-    })?;
-    Ok(entries)
-}
-
-/// An entry that isn't a call.
-fn happened(stamp: u64, event: TrailEvent, outcome: Outcome) -> Entry {
+/// An entry that isn't a call, with the epochs of the boots that it kept, wrote and left in flight.
+fn happened(stamp: u64, event: TrailEvent, outcome: Outcome, boots: [Option<u32>; 3]) -> Entry {
+    let [kept, wrote, flight] = boots;
     Entry {
         stamp,
         event,
         outcome,
-        kept: None,
-        wrote: None,
-        flight: None,
+        kept: kept.map(Record::Boot),
+        wrote: wrote.map(Record::Boot),
+        flight: flight.map(Record::Boot),
     }
+}
+
+fn opening() -> Entry {
+    happened(
+        1,
+        TrailEvent::Restart,
+        Outcome::Taken,
+        [None, Some(1), None],
+    )
 }
 
 fn answered(client: u32, call: Call, reply: Reply, wrote: Option<Record>) -> Entry {
@@ -128,23 +125,24 @@ fn have_spellings(trails: &[Trail]) -> bool
     trails.iter().all(all_have_spellings)
 }
 
-#[test]
-fn without_clients_there_is_a_line_for_the_run_and_one_for_the_site(
-    rt: HostRuntime,
-) -> Result<(), Fail> {
-    let alloc = rt.alloc();
-    let trails = vec![in alloc; Trail::from(opened(alloc)?)]?;
-    assert!(rt; have_frames(&trails));
-    let text = report(alloc, &scenario(alloc, 0)?, &trails)?;
-    assert_eq!(rt;
-        str::from_utf8(text.as_slice())?,
-        "sites 1 f 0 clients 0\nsite 0 up epoch 1 events 1 records 1 got 0 committed 0 log -\n"
-    );
-    Ok(())
+/// Whether this is the report of a scenario with so many clients and of a trail.
+fn is_reported(
+    alloc: Global,
+    clients: usize,
+    entries: Vec<Entry>,
+    text: &str,
+) -> Result<bool, Fail> {
+    let trails = vec![in alloc; Trail::from(entries)]?;
+    if !have_frames(&trails) {
+        return Err("each reply has a frame".into());
+    }
+    let reported = report(alloc, &scenario(alloc, clients)?, &trails)?;
+    Ok(reported.as_slice() == text.as_bytes())
 }
 
 #[test]
-fn each_client_has_a_line_with_the_frames_of_its_replies(rt: HostRuntime) -> Result<(), Fail> {
+fn a_report_has_a_line_for_each_client_and_site(rt: HostRuntime) -> Result<(), Fail> {
+    as_it_stands();
     let alloc = rt.alloc();
     let tid = Tid {
         site: SITE,
@@ -161,157 +159,92 @@ fn each_client_has_a_line_with_the_frames_of_its_replies(rt: HostRuntime) -> Res
     let hello = Reply::Value(Some(Bytes::from_slice(alloc, b"hello")?));
     let bad = Reply::Refused(Refusal::BadFrame { at: 1 });
     let own = Some(Record::Own(1, tx));
-    let mut entries = opened(alloc)?;
-    entries.push(answered(1, Ok(Request::Start), Reply::Started(tid), None))?;
-    entries.push(answered(0, Err(BadFrame { at: 1 }), bad, None))?;
-    entries.push(answered(1, Ok(Request::Start), hello, None))?;
-    entries.push(answered(1, Ok(Request::Commit), Reply::Committed(version), own))?;
-    let trails = vec![in alloc; Trail::from(entries)]?;
-    assert!(rt; have_frames(&trails));
-    let text = report(alloc, &scenario(alloc, 3)?, &trails)?;
-    assert_eq!(rt;
-        str::from_utf8(text.as_slice())?,
-        "sites 1 f 0 clients 3\n\
+    let entries = vec![in alloc;
+        opening(),
+        answered(1, Ok(Request::Start), Reply::Started(tid), None),
+        answered(0, Err(BadFrame { at: 1 }), bad, None),
+        answered(1, Ok(Request::Start), hello, None),
+        answered(1, Ok(Request::Commit), Reply::Committed(version), own),
+    ]?;
+    let text = "sites 1 f 0 clients 3\n\
         client 0 site 0 replies 1 00000006e00800000001\n\
         client 1 site 0 replies 3 0000000e800000000001000000000000000\
         10000000b81010000000568656c6c6f0000000a85000000000000000001\n\
         client 2 site 0 replies 0 -\n\
-        site 0 up epoch 1 events 5 records 2 got 1 committed 1 log 0:1\n"
-    );
+        site 0 up epoch 1 events 5 records 2 got 1 committed 1 log 0:1\n";
+    assert!(rt; is_reported(alloc, 3, entries, text)?);
+    let entries = vec![in alloc;
+        opening(),
+        happened(2, TrailEvent::Stop, Outcome::Taken, [None; 3]),
+        happened(3, TrailEvent::Restart, Outcome::Failed, [None; 3]),
+        happened(4, TrailEvent::Stop, Outcome::Down, [None; 3]),
+    ]?;
+    let text =
+        "sites 1 f 0 clients 0\nsite 0 down epoch 1 events 4 records 1 got 0 committed 0 log -\n";
+    assert!(rt; is_reported(alloc, 0, entries, text)?, "behind a stop");
+    let entries = vec![in alloc;
+        opening(),
+        happened(2, TrailEvent::Stop, Outcome::Taken, [None; 3]),
+        happened(
+            3,
+            TrailEvent::Restart,
+            Outcome::Taken,
+            [Some(2), Some(3), None]
+        ),
+        happened(4, TrailEvent::Restart, Outcome::Passed, [None; 3]),
+    ]?;
+    let text =
+        "sites 1 f 0 clients 0\nsite 0 up epoch 3 events 4 records 3 got 0 committed 0 log -\n";
+    assert!(rt; is_reported(alloc, 0, entries, text)?, "behind a restart");
+    let unsure = answered(0, Ok(Request::Commit), Reply::Unsure(tid), None);
+    let text =
+        "sites 1 f 0 clients 0\nsite 0 down epoch 1 events 2 records 1 got 0 committed 0 log -\n";
+    let entries = vec![in alloc; opening(), unsure]?;
+    assert!(rt; is_reported(alloc, 0, entries, text)?, "behind a fault");
     Ok(())
 }
 
 #[test]
-fn a_site_is_down_behind_a_stop_and_up_behind_a_restart(rt: HostRuntime) -> Result<(), Fail> {
-    as_it_stands();
-    let alloc = rt.alloc();
-    let mut entries = opened(alloc)?;
-    entries.push(happened(2, TrailEvent::Stop, Outcome::Taken))?;
-    entries.push(happened(3, TrailEvent::Restart, Outcome::Failed))?;
-    entries.push(happened(4, TrailEvent::Stop, Outcome::Down))?;
-    let trails = vec![in alloc; Trail::from(entries)]?;
-    assert!(rt; have_frames(&trails));
-    let text = report(alloc, &scenario(alloc, 0)?, &trails)?;
-    assert_eq!(rt;
-        str::from_utf8(text.as_slice())?,
-        "sites 1 f 0 clients 0\nsite 0 down epoch 1 events 4 records 1 got 0 committed 0 log -\n"
-    );
-    let mut entries = opened(alloc)?;
-    entries.push(happened(2, TrailEvent::Stop, Outcome::Taken))?;
-    entries.push(Entry {
-        stamp: 3,
-        event: TrailEvent::Restart,
-        outcome: Outcome::Taken,
-        kept: Some(Record::Boot(2)),
-        wrote: Some(Record::Boot(3)),
-        flight: None,
-    })?;
-    entries.push(happened(4, TrailEvent::Restart, Outcome::Passed))?;
-    let trails = vec![in alloc; Trail::from(entries)]?;
-    assert!(rt; have_frames(&trails));
-    let text = report(alloc, &scenario(alloc, 0)?, &trails)?;
-    assert_eq!(rt;
-        str::from_utf8(text.as_slice())?,
-        "sites 1 f 0 clients 0\nsite 0 up epoch 3 events 4 records 3 got 0 committed 0 log -\n"
-    );
-    Ok(())
-}
-
-#[test]
-fn a_site_whose_commit_met_a_fault_is_down(rt: HostRuntime) -> Result<(), Fail> {
-    let alloc = rt.alloc();
-    let tid = Tid {
-        site: SITE,
-        epoch: 1,
-        number: 1,
-    };
-    let mut entries = opened(alloc)?;
-    entries.push(answered(0, Ok(Request::Commit), Reply::Unsure(tid), None))?;
-    let trails = vec![in alloc; Trail::from(entries)]?;
-    assert!(rt; have_frames(&trails));
-    let text = report(alloc, &scenario(alloc, 0)?, &trails)?;
-    assert_eq!(rt;
-        str::from_utf8(text.as_slice())?,
-        "sites 1 f 0 clients 0\nsite 0 down epoch 1 events 2 records 1 got 0 committed 0 log -\n"
-    );
-    Ok(())
-}
-
-#[test]
-fn the_trace_of_an_opening_is_one_line(rt: HostRuntime) -> Result<(), Fail> {
-    let alloc = rt.alloc();
-    let trails = vec![in alloc; Trail::from(opened(alloc)?)]?;
-    assert!(rt; have_frames(&trails));
-    assert!(rt; have_spellings(&trails));
-    let text = trace(alloc, &trails)?;
-    assert_eq!(rt;
-        str::from_utf8(text.as_slice())?,
-        "e 1 0 restart taken - 0100000001 - - 0\n"
-    );
-    Ok(())
-}
-
-#[test]
-fn each_call_of_a_set_has_its_name_in_the_trace(rt: HostRuntime) -> Result<(), Fail> {
+fn a_trace_has_a_line_for_each_entry(rt: HostRuntime) -> Result<(), Fail> {
     let alloc = rt.alloc();
     let set = ObjId {
         container: 2,
         local: 5,
     };
-    let mut entries = opened(alloc)?;
-    entries.push(answered(0, Ok(Request::SetAdd(set, 9)), Reply::Done, None))?;
-    entries.push(answered(0, Ok(Request::SetDel(set, 9)), Reply::Done, None))?;
-    entries.push(answered(0, Ok(Request::SetRead(set)), Reply::Ended, None))?;
-    entries.push(answered(0, Ok(Request::SetReadId(set, 9)), Reply::Ended, None))?;
-    let trails = vec![in alloc; Trail::from(entries)]?;
-    assert!(rt; have_frames(&trails));
-    assert!(rt; have_spellings(&trails));
-    let text = trace(alloc, &trails)?;
-    assert_eq!(rt;
-        str::from_utf8(text.as_slice())?,
-        "e 1 0 restart taken - 0100000001 - - 0\n\
-        e 2 0 call:0:setadd reply:0000000182 - - - - 0\n\
-        e 2 0 call:0:setdel reply:0000000182 - - - - 0\n\
-        e 2 0 call:0:setread reply:0000000189 - - - - 0\n\
-        e 2 0 call:0:setreadid reply:0000000189 - - - - 0\n"
-    );
-    Ok(())
-}
-
-#[test]
-fn each_entry_has_a_line_in_the_trace(rt: HostRuntime) -> Result<(), Fail> {
-    let alloc = rt.alloc();
-    let bad = Reply::Refused(Refusal::BadFrame { at: 1 });
-    let full = Outcome::Full { need: 10, left: 9 };
-    let level = Reply::Refused(Refusal::NotIssued);
     let tid = Tid {
         site: SITE,
         epoch: 1,
         number: 1,
     };
-    let mut entries = opened(alloc)?;
-    entries.push(answered(7, Err(BadFrame { at: 1 }), bad, None))?;
-    entries.push(answered(0, Ok(Request::Level(tid)), level, None))?;
-    entries.push(happened(4, TrailEvent::Stop, Outcome::Taken))?;
-    entries.push(happened(5, TrailEvent::Stop, Outcome::Down))?;
-    entries.push(happened(6, TrailEvent::Restart, full))?;
-    entries.push(Entry {
-        stamp: 7,
-        event: TrailEvent::Restart,
-        outcome: Outcome::Failed,
-        kept: Some(Record::Boot(2)),
-        wrote: None,
-        flight: Some(Record::Boot(3)),
-    })?;
+    let bad = Reply::Refused(Refusal::BadFrame { at: 1 });
+    let full = Outcome::Full { need: 10, left: 9 };
+    let level = Reply::Refused(Refusal::NotIssued);
+    let boots = [Some(2), None, Some(3)];
+    let entries = vec![in alloc;
+        opening(),
+        answered(7, Err(BadFrame { at: 1 }), bad, None),
+        answered(0, Ok(Request::Level(tid)), level, None),
+        answered(0, Ok(Request::SetAdd(set, 9)), Reply::Done, None),
+        answered(0, Ok(Request::SetDel(set, 9)), Reply::Done, None),
+        answered(0, Ok(Request::SetRead(set)), Reply::Ended, None),
+        answered(0, Ok(Request::SetReadId(set, 9)), Reply::Ended, None),
+        happened(4, TrailEvent::Stop, Outcome::Taken, [None; 3]),
+        happened(5, TrailEvent::Stop, Outcome::Down, [None; 3]),
+        happened(6, TrailEvent::Restart, full, [None; 3]),
+        happened(7, TrailEvent::Restart, Outcome::Failed, boots),
+    ]?;
     let trails = vec![in alloc; Trail::from(entries)]?;
-    assert!(rt; have_frames(&trails));
-    assert!(rt; have_spellings(&trails));
+    assert!(rt; have_frames(&trails) && have_spellings(&trails));
     let text = trace(alloc, &trails)?;
     assert_eq!(rt;
         str::from_utf8(text.as_slice())?,
         "e 1 0 restart taken - 0100000001 - - 0\n\
         e 2 0 call:7:bad reply:00000006e00800000001 - - - - 0\n\
         e 2 0 call:0:level reply:00000002e00f - - - - 0\n\
+        e 2 0 call:0:setadd reply:0000000182 - - - - 0\n\
+        e 2 0 call:0:setdel reply:0000000182 - - - - 0\n\
+        e 2 0 call:0:setread reply:0000000189 - - - - 0\n\
+        e 2 0 call:0:setreadid reply:0000000189 - - - - 0\n\
         e 4 0 stop taken - - - - 0\n\
         e 5 0 stop down - - - - 0\n\
         e 6 0 restart full:10:9 - - - - 0\n\

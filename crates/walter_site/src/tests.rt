@@ -24,6 +24,41 @@ const LATER: ObjId = ObjId {
     local: 9,
 };
 
+/// What a client sends; the value of a Write has one byte.
+#[derive(Clone, Copy)]
+enum Ask {
+    Start,
+    Read(ObjId),
+    Write(ObjId, u8),
+    SetAdd(ObjId, u64),
+    SetDel(ObjId, u64),
+    SetRead(ObjId),
+    SetReadId(ObjId, u64),
+    Commit,
+    Abort,
+    /// Of the transaction of this epoch and number.
+    Level(u32, u64),
+    Bad(u32),
+}
+
+/// What it is answered; a Set has two counts at most.
+#[derive(Clone, Copy)]
+enum Answer {
+    /// Of this epoch and number.
+    Started(u32, u64),
+    Value(Option<u8>),
+    Done,
+    Set(Option<(u64, i64)>, Option<(u64, i64)>),
+    Count(i64),
+    Committed(u64),
+    /// Over this version of the object.
+    Modified(u64),
+    Asked,
+    Visible,
+    Ended,
+    Refused(Refusal),
+}
+
 // The site 0, alone, with the container 1 and a container 3 of sets.
 fn unmade(alloc: Global) -> Result<Site, Fail> {
     let items = [(1, Kind::Regular, SiteId(0)), (3, Kind::Cset, SiteId(0))];
@@ -36,66 +71,6 @@ fn alone(alloc: Global) -> Result<Site, Fail> {
     let mut site = unmade(alloc)?;
     site.replay(Record::Boot(1))?;
     Ok(site)
-}
-
-fn ask(client: u32, request: Request) -> (u32, Call) {
-    (client, Ok(request))
-}
-
-fn ask_to_write(alloc: Global, client: u32, oid: ObjId, bytes: &[u8]) -> Mem<(u32, Call)> {
-    let bytes = Bytes::from_slice(alloc, bytes)?;
-    Ok(ask(client, Request::Write(oid, bytes)))
-}
-
-// What the site answers to a call, which it then applies.
-fn served(site: &mut Site, client: u32, call: Call) -> Mem<Reply> {
-    let plan = site.plan(&Input::Call { client, call })?;
-    let reply = plan.reply.clone()?;
-    site.apply(plan);
-    Ok(reply)
-}
-
-// What the site answers to the calls of these clients, one behind the other.
-fn answers_of(alloc: Global, mut site: Site, calls: Vec<(u32, Call)>) -> Mem<Vec<Reply>> {
-    let mut replies = Vec::new(alloc);
-    for (client, call) in calls {
-        replies.push(served(&mut site, client, call)?)?;
-    }
-    Ok(replies)
-}
-
-// What a new site answers.
-fn answers(alloc: Global, calls: Vec<(u32, Call)>) -> Result<Vec<Reply>, Fail> {
-    Ok(answers_of(alloc, alone(alloc)?, calls)?)
-}
-
-// The record of a transaction with this update.
-fn record_of(site: &mut Site, update: Request) -> Mem<Option<Record>>
-    ensures { IfOk result (λ rec. IfSome rec CanBeRecorded) }
-{
-    served(site, 0, Ok(Request::Start))?;
-    served(site, 0, Ok(update))?;
-    let plan = site.plan(&Input::Call {
-        client: 0,
-        call: Ok(Request::Commit),
-    })?;
-    let rec = plan.rec.clone()?;
-    site.apply(plan);
-    Ok(rec)
-}
-
-// A site made anew from the records of transactions with these updates, in its second epoch.
-fn made_anew(alloc: Global, updates: Vec<Request>) -> Result<Site, Fail> {
-    let mut site = alone(alloc)?;
-    let mut copy = alone(alloc)?;
-    for update in updates {
-        let Some(rec) = record_of(&mut site, update)? else {
-            return Err(Fail::from("the transaction commits"));
-        };
-        copy.replay(rec)?;
-    }
-    copy.replay(Record::Boot(2))?;
-    Ok(copy)
 }
 
 fn tid(epoch: u32, number: u64) -> Tid {
@@ -113,289 +88,259 @@ fn version(seq: u64) -> Version {
     }
 }
 
-#[test]
-fn a_transaction_reads_its_own_write_and_commits(rt: HostRuntime) -> Result<(), Fail> {
-    let alloc = rt.alloc();
-    let calls = vec![in alloc;
-        ask(0, Request::Read(OBJECT)),
-        ask(0, Request::Start),
-        ask(0, Request::Start),
-        ask_to_write(alloc, 0, OBJECT, b"hello")?,
-        ask(0, Request::Read(OBJECT)),
-        ask(0, Request::Commit),
-        ask(0, Request::Start),
-        ask(0, Request::Read(OBJECT)),
-        ask(0, Request::Commit),
-    ]?;
-    let replies = answers(alloc, calls)?;
-    let [
-        Reply::Refused(Refusal::NoTx),
-        Reply::Started(_),
-        Reply::Refused(Refusal::TxOpen),
-        Reply::Done,
-        Reply::Value(Some(own)),
-        Reply::Committed(_),
-        Reply::Started(_),
-        Reply::Value(Some(committed)),
-        Reply::Ended,
-    ] = replies.as_slice()
-    else {
-        panic!(rt; "other replies");
-    };
-    assert_eq!(rt; own.as_slice(), b"hello".as_slice());
-    assert_eq!(rt; committed.as_slice(), b"hello".as_slice());
-    Ok(())
-}
-
-#[test]
-fn a_snapshot_leaves_out_what_commits_later(rt: HostRuntime) -> Result<(), Fail> {
-    let alloc = rt.alloc();
-    let calls = vec![in alloc;
-        ask(1, Request::Start),
-        ask(0, Request::Start),
-        ask_to_write(alloc, 0, OBJECT, b"x")?,
-        ask(0, Request::Commit),
-        ask(1, Request::Read(OBJECT)),
-    ]?;
-    let replies = answers(alloc, calls)?;
-    assert!(rt; matches!(replies.last(), Some(Reply::Value(None))));
-    Ok(())
-}
-
-#[test]
-fn the_first_of_two_writers_commits(rt: HostRuntime) -> Result<(), Fail> {
-    let alloc = rt.alloc();
-    let calls = vec![in alloc;
-        ask(0, Request::Start),
-        ask_to_write(alloc, 0, OBJECT, b"x")?,
-        ask(1, Request::Start),
-        ask_to_write(alloc, 1, OBJECT, b"x")?,
-        ask(0, Request::Commit),
-        ask(1, Request::Commit),
-        ask(1, Request::Commit),
-    ]?;
-    let replies = answers(alloc, calls)?;
-    let [
-        _,
-        _,
-        _,
-        _,
-        Reply::Committed(first),
-        Reply::Aborted(cause),
-        Reply::Refused(Refusal::NoTx),
-    ] = replies.as_slice()
-    else {
-        panic!(rt; "other replies");
-    };
-    assert_eq!(rt; *first, version(1));
-    let modified = Cause::Modified {
+fn modified(seq: u64) -> Cause {
+    Cause::Modified {
         oid: OBJECT,
-        version: version(1),
-    };
-    assert_eq!(rt; *cause, modified);
-    Ok(())
-}
-
-#[test]
-fn a_conflict_names_the_first_object_and_its_first_version(rt: HostRuntime) -> Result<(), Fail> {
-    let alloc = rt.alloc();
-    let mut calls = vec![in alloc; ask(0, Request::Start)]?;
-    for oid in [LATER, OBJECT, OBJECT] {
-        calls.push(ask(1, Request::Start))?;
-        calls.push(ask_to_write(alloc, 1, oid, b"x")?)?;
-        calls.push(ask(1, Request::Commit))?;
+        version: version(seq),
     }
-    for oid in [LATER, OBJECT] {
-        calls.push(ask_to_write(alloc, 0, oid, b"y")?)?;
+}
+
+fn call_of(alloc: Global, ask: Ask) -> Mem<Call> {
+    Ok(match ask {
+        Ask::Start => Ok(Request::Start),
+        Ask::Read(oid) => Ok(Request::Read(oid)),
+        Ask::Write(oid, byte) => Ok(Request::Write(oid, Bytes::from_slice(alloc, &[byte])?)),
+        Ask::SetAdd(oid, id) => Ok(Request::SetAdd(oid, id)),
+        Ask::SetDel(oid, id) => Ok(Request::SetDel(oid, id)),
+        Ask::SetRead(oid) => Ok(Request::SetRead(oid)),
+        Ask::SetReadId(oid, id) => Ok(Request::SetReadId(oid, id)),
+        Ask::Commit => Ok(Request::Commit),
+        Ask::Abort => Ok(Request::Abort),
+        Ask::Level(epoch, number) => Ok(Request::Level(tid(epoch, number))),
+        Ask::Bad(at) => Err(BadFrame { at }),
+    })
+}
+
+fn are_counts(
+    counts: &[(u64, i64)],
+    first: Option<(u64, i64)>,
+    second: Option<(u64, i64)>,
+) -> bool {
+    counts.len() <= 2 && counts.first().copied() == first && counts.get(1).copied() == second
+}
+
+fn is_answer(reply: &Reply, answer: Answer) -> bool {
+    match (reply, answer) {
+        (Reply::Started(a), Answer::Started(epoch, number)) => *a == tid(epoch, number),
+        (Reply::Value(Some(v)), Answer::Value(Some(b))) => v.as_slice() == [b].as_slice(),
+        (Reply::Set(counts), Answer::Set(a, b)) => are_counts(counts.as_slice(), a, b),
+        (Reply::Count(a), Answer::Count(b)) => *a == b,
+        (Reply::Committed(a), Answer::Committed(seq)) => *a == version(seq),
+        (Reply::Aborted(a), Answer::Modified(seq)) => *a == modified(seq),
+        (Reply::Aborted(a), Answer::Asked) => *a == Cause::Asked,
+        (Reply::Refused(a), Answer::Refused(b)) => *a == b,
+        (Reply::Value(None), Answer::Value(None))
+        | (Reply::Done, Answer::Done)
+        | (Reply::Level(Level::Visible), Answer::Visible)
+        | (Reply::Ended, Answer::Ended) => true,
+        _ => false,
     }
-    calls.push(ask(0, Request::Commit))?;
-    let replies = answers(alloc, calls)?;
-    let Some(Reply::Aborted(cause)) = replies.last() else {
-        panic!(rt; "both objects have later versions");
-    };
-    let modified = Cause::Modified {
-        oid: OBJECT,
-        version: version(2),
-    };
-    assert_eq!(rt; *cause, modified);
-    Ok(())
 }
 
-#[test]
-fn an_abort_ends_the_transaction_and_changes_nothing(rt: HostRuntime) -> Result<(), Fail> {
-    let alloc = rt.alloc();
-    let calls = vec![in alloc;
-        ask(0, Request::Abort),
-        ask(0, Request::Start),
-        ask_to_write(alloc, 0, OBJECT, b"x")?,
-        ask(0, Request::Abort),
-        ask(0, Request::Start),
-        ask(0, Request::Read(OBJECT)),
-    ]?;
-    let replies = answers(alloc, calls)?;
-    let [
-        Reply::Refused(Refusal::NoTx),
-        _,
-        _,
-        Reply::Aborted(Cause::Asked),
-        _,
-        Reply::Value(None),
-    ] = replies.as_slice()
-    else {
-        panic!(rt; "other replies");
-    };
-    Ok(())
+// What the site answers to a call, which it then applies.
+fn served(site: &mut Site, client: u32, call: Call) -> Mem<Reply> {
+    let plan = site.plan(&Input::Call { client, call })?;
+    let reply = plan.reply.clone()?;
+    site.apply(plan);
+    Ok(reply)
 }
 
-#[test]
-fn a_bad_frame_is_refused_in_any_state(rt: HostRuntime) -> Result<(), Fail> {
-    let alloc = rt.alloc();
-    let calls = vec![in alloc;
-        (0, Err(BadFrame { at: 3 })),
-        ask(0, Request::Start),
-        (0, Err(BadFrame { at: 5 })),
-    ]?;
-    let replies = answers(alloc, calls)?;
-    let [
-        Reply::Refused(Refusal::BadFrame { at: 3 }),
-        _,
-        Reply::Refused(Refusal::BadFrame { at: 5 }),
-    ] = replies.as_slice()
-    else {
-        panic!(rt; "other replies");
-    };
-    Ok(())
+// The place of the first of these calls that is answered otherwise.
+fn wrong_place(alloc: Global, site: &mut Site, rows: &[(u32, Ask, Answer)]) -> Mem<Option<usize>> {
+    for (place, (client, ask, answer)) in rows.iter().enumerate() {
+        let reply = served(site, *client, call_of(alloc, *ask)?)?;
+        if !is_answer(&reply, *answer) {
+            return Ok(Some(place));
+        }
+    }
+    Ok(None)
 }
 
+// The record of the commit of client 0, which is applied.
+fn committed(site: &mut Site) -> Mem<Option<Record>>
+    ensures { IfOk result (λ rec. IfSome rec CanBeRecorded) }
+{
+    let plan = site.plan(&Input::Call {
+        client: 0,
+        call: Ok(Request::Commit),
+    })?;
+    let rec = plan.rec.clone()?;
+    site.apply(plan);
+    Ok(rec)
+}
+
+// A site made anew from the records of transactions with these updates, in its second epoch.
+fn made_anew(alloc: Global, updates: &[Ask]) -> Result<Site, Fail> {
+    let mut site = alone(alloc)?;
+    let mut copy = alone(alloc)?;
+    for update in updates {
+        served(&mut site, 0, Ok(Request::Start))?;
+        served(&mut site, 0, call_of(alloc, *update)?)?;
+        let Some(rec) = committed(&mut site)? else {
+            return Err(Fail::from("the transaction commits"));
+        };
+        copy.replay(rec)?;
+    }
+    copy.replay(Record::Boot(2))?;
+    Ok(copy)
+}
+
+/// A transaction reads its own write, and the next what it committed.
+const OWN_WRITE: [(u32, Ask, Answer); 9] = [
+    (0, Ask::Read(OBJECT), Answer::Refused(Refusal::NoTx)),
+    (0, Ask::Start, Answer::Started(1, 1)),
+    (0, Ask::Start, Answer::Refused(Refusal::TxOpen)),
+    (0, Ask::Write(OBJECT, b'h'), Answer::Done),
+    (0, Ask::Read(OBJECT), Answer::Value(Some(b'h'))),
+    (0, Ask::Commit, Answer::Committed(1)),
+    (0, Ask::Start, Answer::Started(1, 2)),
+    (0, Ask::Read(OBJECT), Answer::Value(Some(b'h'))),
+    (0, Ask::Commit, Answer::Ended),
+];
+
+/// A snapshot leaves out what commits later.
+const SNAPSHOT: [(u32, Ask, Answer); 5] = [
+    (1, Ask::Start, Answer::Started(1, 1)),
+    (0, Ask::Start, Answer::Started(1, 2)),
+    (0, Ask::Write(OBJECT, b'x'), Answer::Done),
+    (0, Ask::Commit, Answer::Committed(1)),
+    (1, Ask::Read(OBJECT), Answer::Value(None)),
+];
+
+/// The first of two writers commits.
+const FIRST_WRITER: [(u32, Ask, Answer); 7] = [
+    (0, Ask::Start, Answer::Started(1, 1)),
+    (0, Ask::Write(OBJECT, b'x'), Answer::Done),
+    (1, Ask::Start, Answer::Started(1, 2)),
+    (1, Ask::Write(OBJECT, b'x'), Answer::Done),
+    (0, Ask::Commit, Answer::Committed(1)),
+    (1, Ask::Commit, Answer::Modified(1)),
+    (1, Ask::Commit, Answer::Refused(Refusal::NoTx)),
+];
+
+/// A conflict names the first object and its first version.
+const FIRST_CONFLICT: [(u32, Ask, Answer); 13] = [
+    (0, Ask::Start, Answer::Started(1, 1)),
+    (1, Ask::Start, Answer::Started(1, 2)),
+    (1, Ask::Write(LATER, b'x'), Answer::Done),
+    (1, Ask::Commit, Answer::Committed(1)),
+    (1, Ask::Start, Answer::Started(1, 3)),
+    (1, Ask::Write(OBJECT, b'x'), Answer::Done),
+    (1, Ask::Commit, Answer::Committed(2)),
+    (1, Ask::Start, Answer::Started(1, 4)),
+    (1, Ask::Write(OBJECT, b'x'), Answer::Done),
+    (1, Ask::Commit, Answer::Committed(3)),
+    (0, Ask::Write(LATER, b'y'), Answer::Done),
+    (0, Ask::Write(OBJECT, b'y'), Answer::Done),
+    (0, Ask::Commit, Answer::Modified(2)),
+];
+
+/// An abort ends the transaction and changes nothing.
+const ABORT: [(u32, Ask, Answer); 7] = [
+    (0, Ask::Abort, Answer::Refused(Refusal::NoTx)),
+    (0, Ask::Start, Answer::Started(1, 1)),
+    (0, Ask::Write(OBJECT, b'x'), Answer::Done),
+    (0, Ask::Abort, Answer::Asked),
+    (0, Ask::Start, Answer::Started(1, 2)),
+    (0, Ask::Read(OBJECT), Answer::Value(None)),
+    (0, Ask::Bad(5), Answer::Refused(Refusal::BadFrame { at: 5 })),
+];
+
+/// A set counts what is added and taken.
+const COUNTS: [(u32, Ask, Answer); 10] = [
+    (0, Ask::Start, Answer::Started(1, 1)),
+    (0, Ask::Read(SET), Answer::Refused(Refusal::WrongKind)),
+    (0, Ask::SetRead(OBJECT), Answer::Refused(Refusal::WrongKind)),
+    (0, Ask::SetAdd(SET, 9), Answer::Done),
+    (0, Ask::SetAdd(SET, 7), Answer::Done),
+    (0, Ask::SetDel(SET, 7), Answer::Done),
+    (0, Ask::SetRead(SET), Answer::Set(Some((9, 1)), None)),
+    (0, Ask::SetReadId(SET, 7), Answer::Count(0)),
+    (0, Ask::Commit, Answer::Committed(1)),
+    (0, Ask::Level(1, 1), Answer::Visible),
+];
+
 #[test]
-fn a_set_counts_what_is_added_and_taken(rt: HostRuntime) -> Result<(), Fail> {
-    let alloc = rt.alloc();
-    let calls = vec![in alloc;
-        ask(0, Request::Start),
-        ask(0, Request::Read(SET)),
-        ask(0, Request::SetRead(OBJECT)),
-        ask(0, Request::SetAdd(SET, 9)),
-        ask(0, Request::SetAdd(SET, 7)),
-        ask(0, Request::SetDel(SET, 7)),
-        ask(0, Request::SetRead(SET)),
-        ask(0, Request::SetReadId(SET, 7)),
-        ask(0, Request::Commit),
-        ask(0, Request::Level(tid(1, 1))),
-    ]?;
-    let replies = answers(alloc, calls)?;
-    let [
-        _,
-        Reply::Refused(Refusal::WrongKind),
-        Reply::Refused(Refusal::WrongKind),
-        Reply::Done,
-        Reply::Done,
-        Reply::Done,
-        Reply::Set(counts),
-        Reply::Count(0),
-        Reply::Committed(_),
-        Reply::Level(Level::Visible),
-    ] = replies.as_slice()
-    else {
-        panic!(rt; "other replies");
-    };
-    assert_eq!(rt; counts.as_slice(), [(9, 1)].as_slice());
+fn calls_are_answered(rt: HostRuntime) -> Result<(), Fail> {
+    let table: [&[(u32, Ask, Answer)]; 6] = [
+        &OWN_WRITE,
+        &SNAPSHOT,
+        &FIRST_WRITER,
+        &FIRST_CONFLICT,
+        &ABORT,
+        &COUNTS,
+    ];
+    for rows in table {
+        let mut site = alone(rt.alloc())?;
+        assert_eq!(rt; wrong_place(rt.alloc(), &mut site, rows)?, None);
+    }
     Ok(())
 }
 
 #[test]
 fn a_site_is_made_anew_from_its_records(rt: HostRuntime) -> Result<(), Fail> {
     let alloc = rt.alloc();
-    let updates = vec![in alloc;
-        Request::Write(OBJECT, Bytes::from_slice(alloc, b"x")?),
-        Request::SetAdd(SET, 7),
-        Request::SetDel(SET, 9),
-        Request::SetAdd(SET, 7),
-    ]?;
-    let calls = vec![in alloc;
-        ask(0, Request::Start),
-        ask(0, Request::Read(OBJECT)),
-        ask(0, Request::SetRead(SET)),
-        ask(0, Request::SetAdd(SET, 1)),
-        ask(0, Request::Commit),
-        ask(0, Request::Level(tid(1, 4))),
-    ]?;
-    let replies = answers_of(alloc, made_anew(alloc, updates)?, calls)?;
-    let [
-        Reply::Started(first),
-        Reply::Value(Some(value)),
-        Reply::Set(counts),
-        Reply::Done,
-        Reply::Committed(fifth),
-        Reply::Level(Level::Visible),
-    ] = replies.as_slice()
-    else {
-        panic!(rt; "other replies");
-    };
-    assert_eq!(rt; (*first, *fifth), (tid(2, 1), version(5)));
-    assert_eq!(rt; value.as_slice(), b"x".as_slice());
-    assert_eq!(rt; counts.as_slice(), [(7, 2), (9, -1)].as_slice());
-    Ok(())
-}
-
-#[test]
-fn a_record_that_cannot_follow_is_unfit(rt: HostRuntime) -> Result<(), Fail> {
-    let mut site = alone(rt.alloc())?;
-    for epoch in [0, 1, 3] {
+    let mut site = made_anew(
+        alloc,
+        &[
+            Ask::Write(OBJECT, b'x'),
+            Ask::SetAdd(SET, 7),
+            Ask::SetDel(SET, 9),
+            Ask::SetAdd(SET, 7),
+        ],
+    )?;
+    for epoch in [0, 2, 4] {
         let fault = site.replay(Record::Boot(epoch)).err();
         assert_eq!(rt; fault, Some(ReplayFault::Unfit));
     }
-    assert_eq!(rt; site.epoch(), 1);
-    Ok(())
-}
-
-#[test]
-fn an_unapplied_plan_changes_nothing(rt: HostRuntime) -> Result<(), Fail> {
-    let mut site = alone(rt.alloc())?;
+    assert_eq!(rt; site.epoch(), 2);
     let start = Input::Call {
         client: 0,
         call: Ok(Request::Start),
     };
-    for _ in 0..2 {
-        let Plan { reply, .. } = site.plan(&start)?;
-        let Reply::Started(tid) = reply else {
-            panic!(rt; "no transaction is open");
-        };
-        assert_eq!(rt; tid.number, 1);
-    }
+    let Plan { reply, .. } = site.plan(&start)?;
+    assert!(rt;
+        is_answer(&reply, Answer::Started(2, 1)),
+        "a plan that isn't applied"
+    );
+    let rows = [
+        (0, Ask::Start, Answer::Started(2, 1)),
+        (0, Ask::Read(OBJECT), Answer::Value(Some(b'x'))),
+        (
+            0,
+            Ask::SetRead(SET),
+            Answer::Set(Some((7, 2)), Some((9, -1))),
+        ),
+        (0, Ask::SetAdd(SET, 1), Answer::Done),
+        (0, Ask::Commit, Answer::Committed(5)),
+        (0, Ask::Level(1, 4), Answer::Visible),
+    ];
+    assert_eq!(rt; wrong_place(alloc, &mut site, &rows)?, None);
     Ok(())
 }
 
 #[test]
 fn a_site_has_256_transactions_open_at_most(rt: HostRuntime) -> Result<(), Fail> {
     let alloc = rt.alloc();
-    let mut calls = Vec::new(alloc);
-    for client in 0..257 {
-        calls.push(ask(client, Request::Start))?;
+    let mut site = alone(alloc)?;
+    for client in 0..256 {
+        served(&mut site, client, Ok(Request::Start))?;
     }
-    calls.push(ask(255, Request::Start))?;
-    calls.push(ask(7, Request::Abort))?;
-    calls.push(ask(256, Request::Start))?;
-    let replies = answers(alloc, calls)?;
-    let [
-        ..,
-        Reply::Started(last),
-        Reply::Refused(Refusal::SessionsFull),
-        Reply::Refused(Refusal::TxOpen),
-        Reply::Aborted(Cause::Asked),
-        Reply::Started(next),
-    ] = replies.as_slice()
-    else {
-        panic!(rt; "other replies");
-    };
-    assert_eq!(rt; (last.number, next.number), (256, 257));
-    Ok(())
-}
-
-#[test]
-fn replay_faults_have_texts(rt: HostRuntime) -> Result<(), Fail> {
-    let unfit = format!(in rt.alloc(); "{}", ReplayFault::Unfit)?;
-    assert_eq!(rt; unfit.as_str(), "the record can't follow those before it");
-    let memory = format!(in rt.alloc(); "{}", ReplayFault::NoMemory)?;
-    assert_eq!(rt; memory.as_str(), "out of memory");
+    let rows = [
+        (256, Ask::Start, Answer::Refused(Refusal::SessionsFull)),
+        (255, Ask::Start, Answer::Refused(Refusal::TxOpen)),
+        (7, Ask::Abort, Answer::Asked),
+        (256, Ask::Start, Answer::Started(1, 257)),
+    ];
+    assert_eq!(rt; wrong_place(alloc, &mut site, &rows)?, None);
+    for (fault, text) in [
+        (
+            ReplayFault::Unfit,
+            "the record can't follow those before it",
+        ),
+        (ReplayFault::NoMemory, "out of memory"),
+    ] {
+        assert_eq!(rt; format!(in alloc; "{fault}")?.as_str(), text);
+    }
     Ok(())
 }
