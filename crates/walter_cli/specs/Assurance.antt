@@ -1,5 +1,5 @@
--- What a user of the program may rest on: a call over a disk in memory, which tells what it holds and fails only where the
--- scenario arms it. Nothing here has a premise on the disk.
+-- What a user of the program may rest on: a call over a disk in memory, which tells what it holds and fails only
+-- where the scenario arms it. Nothing here has a premise on the disk.
 use Rattle.std.specs.Prelude.{◌≡◌, ◌≢◌, ◌<◌, ◌↔◌, ◌⊎◌, ℕ, Bool, List, [], ◌∷◌, count_by, Some, String}
 use Rattle.std.specs.Global.{Global}
 use Rattle.walter_cell.specs.Handled.{is_faulty}
@@ -17,8 +17,8 @@ use Rattle.walter_cli.specs.Statuses.{status_of}
 use Rattle.walter_cli.specs.Texts.{text_of}
 use Rattle.walter_cli.specs.Words.{IsPlayLine, IsLine}
 
--- one trail, of the scenario that the source's bytes spell: it is right, and spells a legal history; each call is one of its
--- client's, in order; and where the scenario arms nothing no call of the disk failed in it
+-- one trail, of the scenario that the source's bytes spell: it is right, and spells a legal history; each call is one
+-- of its client's, in order; and where the scenario arms nothing no call of the disk failed in it
 pub record IsSureRun (before after : Outside) (trails : List (List Entry)) : Type 0 where
   pub bytes : List ℕ
   pub source : IsSource before.left after.left bytes
@@ -31,7 +31,8 @@ pub record IsSureRun (before after : Outside) (trails : List (List Entry)) : Typ
   pub unarmed : all_arms scenario ≡ [] → count_by (λ e. is_faulty e.outcome) trail ≡ 0
 
 -- it was driven by the steps of the scenario, to the last, and this was written of its report
-pub record IsSureReport (words : List (String Global)) (before after : Outside) (trails : List (List Entry)) (Written : List ℕ → Type 0) : Type 0 where
+pub record IsSureReport (words : List (String Global)) (before after : Outside) (trails : List (List Entry))
+    (Written : List ℕ → Type 0) : Type 0 where
   pub run : IsSureRun before after trails
   pub how_driven : IsPlayed run.scenario run.trail
   pub trace : Bool
@@ -45,19 +46,23 @@ pub record Assures (words : List (String Global)) (before after : Outside) (ende
   -- 1: exactly where the words are neither "play" nor "play --trace"
   pub usage : (ended.status ≡ 1) ↔ (¬ IsLine words)
   -- 2: the bytes spell no scenario, and the place that is named is the first that is wrong
-  pub unreadable : (place : Place) (detail : Detail) → ended.fault ≡ Some (fault.Scenario place detail) → HasNoReading before.left after.left place
+  pub unreadable : (place : Place) (detail : Detail) → ended.fault ≡ Some (fault.Scenario place detail)
+      → HasNoReading before.left after.left place
   -- 3: the source failed. 4: the sink did, with a front of the report of a whole run written
   pub unread : ended.status ≡ 3 → before.source_faults < after.source_faults
-  pub cut : ended.status ≡ 4 → IsSureReport words before after ended.trails.items (AppendsFront before.holds after.holds) × (before.sink_faults < after.sink_faults)
+  pub cut : ended.status ≡ 4 → IsSureReport words before after ended.trails.items (AppendsFront before.holds after.holds)
+      × (before.sink_faults < after.sink_faults)
   -- 6 and 7 never come: a disk in memory begins, and is given back
   pub never_unracked : ended.status ≢ 6
   pub never_unfit : ended.status ≢ 7
   -- whatever the status, there are no trails or those of a run, and but for 0 and 4 nothing is written
   pub legal_trails : (ended.trails.items ≡ []) ⊎ IsSureRun before after ended.trails.items
   pub silent : ended.status ≢ 0 → ended.status ≢ 4 → after.holds ≡ before.holds
-  -- where source and sink don't fail, bytes that spell a scenario are played, and those that don't are refused at their place;
-  -- or it is 5, for want of memory
+  -- where source and sink don't fail, bytes that spell a scenario are played, and those that don't are refused at
+  -- their place; or it is 5, for want of memory
   pub complete : (bytes : List ℕ) (s : Scenario) → IsLine words → before.left ≡ Some bytes → IsReading bytes s
-      → after.source_faults ≡ before.source_faults → after.sink_faults ≡ before.sink_faults → (ended.status ≡ 0) ⊎ (ended.status ≡ 5)
+      → after.source_faults ≡ before.source_faults → after.sink_faults ≡ before.sink_faults
+      → (ended.status ≡ 0) ⊎ (ended.status ≡ 5)
   pub refuses : (bytes : List ℕ) (place : Place) → IsLine words → before.left ≡ Some bytes → IsRefusedAt bytes place
-      → after.source_faults ≡ before.source_faults → ((detail : Detail) × (ended.fault ≡ Some (fault.Scenario place detail))) ⊎ (ended.status ≡ 5)
+      → after.source_faults ≡ before.source_faults
+      → ((detail : Detail) × (ended.fault ≡ Some (fault.Scenario place detail))) ⊎ (ended.status ≡ 5)

@@ -56,8 +56,8 @@ pub record IsBuilt {D : Type 0} {g : Ghosts D} (before after : RackAt D) (s : Sc
   pub same_faults : after.faults ≡ before.faults
   pub unfailing : 0 < before.unfailing → before.unfailing ≤ after.unfailing + 1
 
--- why no cell was built over the disk of a rack: the rack failed, or the disk did, or it has what no site can begin with; or
--- memory ran out
+-- why no cell was built over the disk of a rack: the rack failed, or the disk did, or it has what no site can begin
+-- with; or memory ran out
 abbrev pub IsUnbuilt : Racked → Fault → Type 0
 IsUnbuilt rack Memory = Unit {0}
 IsUnbuilt rack (Rack site) = (site ≡ 0) × (rack.failed ⊎ rack.gives HasFailed)

@@ -66,9 +66,9 @@ pub record IsTold (s : Scenario) (trail : List Entry) : Type 0 where
   pub aborts_named : AreNamed s.catalog the_site (reverse trail)
   pub commits_answered : AnswersCommits s.catalog s.capacity the_site (reverse trail)
 
--- the trails of a run of a scenario over a disk without records: there is one site, whose trail begins with the opening and has
--- rising stamps; each call is one of its client's, in order; and where its disk is told all that the trail tells holds, and the
--- disk was given back, unless the rack failed
+-- the trails of a run of a scenario over a disk without records: there is one site, whose trail begins with the opening
+-- and has rising stamps; each call is one of its client's, in order; and where its disk is told all that the trail tells
+-- holds, and the disk was given back, unless the rack failed
 pub record IsRun (rack : Racked) (s : Scenario) (trails : List (List Entry)) : Type 0 where
   pub trail : List Entry
   pub one_site : trails ≡ trail ∷ []
@@ -115,7 +115,8 @@ pub record Promise (words : List (String Global)) (rack : Racked) (before after 
   -- 1: exactly where the words are neither "play" nor "play --trace"
   pub usage : (ended.status ≡ 1) ↔ (¬ IsLine words)
   -- 2: the bytes spell no scenario, and the place that is named is the first that is wrong
-  pub unreadable : (place : Place) (detail : Detail) → ended.fault ≡ Some (fault.Scenario place detail) → HasNoReading before.left after.left place
+  pub unreadable : (place : Place) (detail : Detail) → ended.fault ≡ Some (fault.Scenario place detail)
+      → HasNoReading before.left after.left place
   -- 3: the source failed
   pub unread : ended.status ≡ 3 → before.source_faults < after.source_faults
   -- 4: the sink failed, with a front of the report of a whole run written
@@ -128,23 +129,28 @@ pub record Promise (words : List (String Global)) (rack : Racked) (before after 
   pub unfit : (site : ℕ) (cause : JournalCause) (place : ℕ) → ended.fault ≡ Some (fault.Journal site cause place)
       → (site ≡ 0) × rack.holds (HasCause cause place)
   -- and exactly then, where the source and the rack don't fail, and the disk doesn't before the site is up
-  pub unfit_named : (bytes : List ℕ) (s : Scenario) (cause : JournalCause) (place : ℕ) → IsLine words → before.left ≡ Some bytes → IsReading bytes s
-      → rack.told → rack.holds (HasCause cause place) → after.source_faults ≡ before.source_faults → ¬ rack.failed
-      → (ended.fault ≡ Some (fault.Journal 0 cause place)) ⊎ (ended.status ≡ 5) ⊎ ((ended.trails.items ≡ []) × rack.gives HasFailed)
-  -- whatever the status, each disk that was taken was given back, unless the rack failed; and one of which two calls don't fail
-  -- didn't
+  pub unfit_named : (bytes : List ℕ) (s : Scenario) (cause : JournalCause) (place : ℕ) → IsLine words
+      → before.left ≡ Some bytes → IsReading bytes s → rack.told → rack.holds (HasCause cause place) → after.source_faults ≡ before.source_faults → ¬ rack.failed
+      → (ended.fault ≡ Some (fault.Journal 0 cause place)) ⊎ (ended.status ≡ 5)
+      ⊎ ((ended.trails.items ≡ []) × rack.gives HasFailed)
+  -- whatever the status, each disk that was taken was given back, unless the rack failed; and one of which two calls
+  -- don't fail didn't
   pub given_back : GivesBack rack
   pub unfailing : rack.unfailing → ¬ rack.failed
   -- but for 0 and 4 nothing is written
   pub silent : ended.status ≢ 0 → ended.status ≢ 4 → after.holds ≡ before.holds
-  -- whatever the status, the trails answered are those of a run; or there are none, and then the disk is as no run has begun on it
+  -- whatever the status, the trails answered are those of a run; or there are none, and then the disk is as no run has
+  -- begun on it
   pub legal_trails : ((ended.trails.items ≡ []) × IsUntouched rack) ⊎ Runs rack before after ended.trails.items
   -- but for 0, 4, 5 and 6 there are none
-  pub no_trails : (ended.trails.items ≡ []) ⊎ (ended.status ≡ 0) ⊎ (ended.status ≡ 4) ⊎ (ended.status ≡ 5) ⊎ (ended.status ≡ 6)
-  -- where nothing fails, the source tells its bytes and the disk tells that it has no record: if the bytes spell a scenario the
-  -- status is 0, and if they are wrong at a place it is 2 with this place; or it is 5 for want of memory
-  pub complete : (bytes : List ℕ) (s : Scenario) → IsLine words → before.left ≡ Some bytes → IsReading bytes s → rack.told → rack.holds HasNoRecord
+  pub no_trails : (ended.trails.items ≡ []) ⊎ (ended.status ≡ 0) ⊎ (ended.status ≡ 4) ⊎ (ended.status ≡ 5)
+      ⊎ (ended.status ≡ 6)
+  -- where nothing fails, the source tells its bytes and the disk tells that it has no record: if the bytes spell a
+  -- scenario the status is 0, and if they are wrong at a place it is 2 with this place; or it is 5 for want of memory
+  pub complete : (bytes : List ℕ) (s : Scenario) → IsLine words → before.left ≡ Some bytes → IsReading bytes s
+      → rack.told → rack.holds HasNoRecord
       → after.source_faults ≡ before.source_faults → after.sink_faults ≡ before.sink_faults → ¬ rack.failed
       → (ended.status ≡ 0) ⊎ (ended.status ≡ 5) ⊎ ((ended.trails.items ≡ []) × rack.gives HasFailed)
   pub refuses : (bytes : List ℕ) (place : Place) → IsLine words → before.left ≡ Some bytes → IsRefusedAt bytes place
-      → after.source_faults ≡ before.source_faults → ((detail : Detail) × (ended.fault ≡ Some (fault.Scenario place detail))) ⊎ (ended.status ≡ 5)
+      → after.source_faults ≡ before.source_faults
+      → ((detail : Detail) × (ended.fault ≡ Some (fault.Scenario place detail))) ⊎ (ended.status ≡ 5)

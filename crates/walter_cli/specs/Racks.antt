@@ -48,7 +48,8 @@ IsToldBy g (Some take) = IsSome (g.known (take None 0)).reads
 
 -- the disks that a rack was given between two moments, where it tells them
 abbrev pub IsGiven : {D : Type 0} → (before after : RackAt D) → (List (ℕ × D) → Type 0) → Type 0
-IsGiven {D = D} before after P = IfSome before.given (λ old. (more : List (ℕ × D)) × (after.given ≡ Some (old ++ more)) × P more)
+IsGiven {D = D} before after P =
+    IfSome before.given (λ old. (more : List (ℕ × D)) × (after.given ≡ Some (old ++ more)) × P more)
 
 -- by what is known of the rack before the call and after it
 abbrev pub racked : {D : Type 0} (g : Ghosts D) → (before after : RackAt D) → Racked
@@ -74,14 +75,14 @@ IsUnarmed known images = IfSome known.arms (λ arms. arms ≡ [])
 abbrev pub HasFailed : OfADisk
 HasFailed known images = 0 < known.faults
 
--- where no run began, each disk that was given back has no arm, and a crash leaves on it what it held; where it held no record,
--- at most the first bytes of a journal, or the first epoch
+-- where no run began, each disk that was given back has no arm, and a crash leaves on it what it held; where it held no
+-- record, at most the first bytes of a journal, or the first epoch
 pub record IsUntouched (rack : Racked) : Type 0 where
   pub unarmed : rack.each IsUnarmed
   pub kept : rack.holds (λ bytes. rack.each (λ known images. (image : List ℕ) → images image → MayHaveBegun bytes image))
 
--- why no new site can begin with these bytes, and at which place that stands: they are no journal, or a damaged one, or one
--- with records, behind the first gate
+-- why no new site can begin with these bytes, and at which place that stands: they are no journal, or a damaged one, or
+-- one with records, behind the first gate
 abbrev pub HasCause : JournalCause → ℕ → List ℕ → Type 0
 HasCause Foreign place bytes = (place ≡ 0) × IsForeign bytes × (bytes ≢ [])
 HasCause (Damaged claimed) place bytes = IsDamaged bytes place claimed

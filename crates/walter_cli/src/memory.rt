@@ -15,8 +15,18 @@ pub fn top_in_memory<X: AllocGlobal, S: Source, K: Sink>(
     sink: &mut K,
 ) -> Ended
     ensures { Assures words.now
-        (record { left = S.left source.old; source_faults = S.faults source.old; holds = K.holds sink.old; sink_faults = K.faults sink.old })
-        (record { left = S.left source.new; source_faults = S.faults source.new; holds = K.holds sink.new; sink_faults = K.faults sink.new })
+        (record {
+          left = S.left source.old;
+          source_faults = S.faults source.old;
+          holds = K.holds sink.old;
+          sink_faults = K.faults sink.old;
+        })
+        (record {
+          left = S.left source.new;
+          source_faults = S.faults source.new;
+          holds = K.holds sink.new;
+          sink_faults = K.faults sink.new;
+        })
         result }
 {
     let alloc = rt.alloc();

@@ -19,8 +19,20 @@ pub fn top<X: AllocGlobal, S: Source, K: Sink, R: Rack>(
 ) -> Ended
     ensures { Promise words.now
         (racked R.D.Disk
-        (record { disks = R.disks rack.old; given = R.given rack.old; taken = R.taken rack.old; faults = R.faults rack.old; unfailing = R.unfailing rack.old })
-        (record { disks = R.disks rack.new; given = R.given rack.new; taken = R.taken rack.new; faults = R.faults rack.new; unfailing = R.unfailing rack.new }))
+        (record {
+          disks = R.disks rack.old;
+          given = R.given rack.old;
+          taken = R.taken rack.old;
+          faults = R.faults rack.old;
+          unfailing = R.unfailing rack.old;
+        })
+        (record {
+          disks = R.disks rack.new;
+          given = R.given rack.new;
+          taken = R.taken rack.new;
+          faults = R.faults rack.new;
+          unfailing = R.unfailing rack.new;
+        }))
         (record { left = S.left source.old; source_faults = S.faults source.old; holds = K.holds sink.old; sink_faults = K.faults sink.old })
         (record { left = S.left source.new; source_faults = S.faults source.new; holds = K.holds sink.new; sink_faults = K.faults sink.new })
         result }

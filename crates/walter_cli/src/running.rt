@@ -35,12 +35,36 @@ pub fn run<K: Sink, R: Rack>(
     requires steps { All (IsStep 1 (length scenario.now.clients)) scenario.now.steps }
     ensures status { result.status ≡ status_of result.fault }
     ensures given_back { GivesBack (racked R.D.Disk
-        (record { disks = R.disks rack.old; given = R.given rack.old; taken = R.taken rack.old; faults = R.faults rack.old; unfailing = R.unfailing rack.old })
-        (record { disks = R.disks rack.new; given = R.given rack.new; taken = R.taken rack.new; faults = R.faults rack.new; unfailing = R.unfailing rack.new })) }
+        (record {
+          disks = R.disks rack.old;
+          given = R.given rack.old;
+          taken = R.taken rack.old;
+          faults = R.faults rack.old;
+          unfailing = R.unfailing rack.old;
+        })
+        (record {
+          disks = R.disks rack.new;
+          given = R.given rack.new;
+          taken = R.taken rack.new;
+          faults = R.faults rack.new;
+          unfailing = R.unfailing rack.new;
+        })) }
     ensures unfailing { 2 ≤ R.unfailing rack.old → ¬ (R.faults rack.old < R.faults rack.new) }
     ensures run { EndsRun (racked R.D.Disk
-        (record { disks = R.disks rack.old; given = R.given rack.old; taken = R.taken rack.old; faults = R.faults rack.old; unfailing = R.unfailing rack.old })
-        (record { disks = R.disks rack.new; given = R.given rack.new; taken = R.taken rack.new; faults = R.faults rack.new; unfailing = R.unfailing rack.new }))
+        (record {
+          disks = R.disks rack.old;
+          given = R.given rack.old;
+          taken = R.taken rack.old;
+          faults = R.faults rack.old;
+          unfailing = R.unfailing rack.old;
+        })
+        (record {
+          disks = R.disks rack.new;
+          given = R.given rack.new;
+          taken = R.taken rack.new;
+          faults = R.faults rack.new;
+          unfailing = R.unfailing rack.new;
+        }))
         traced scenario.now (K.holds sink.old) (K.holds sink.new) (K.faults sink.old) (K.faults sink.new) result.trails.items result.fault }
 {
     let Ok(mut trails) = Vec::with_capacity(alloc, 1) else {
@@ -75,12 +99,36 @@ fn build_over<R: Rack>(
     requires sites { scenario.now.catalog.sites ≡ 1 }
     requires capacity { IsCapacity scenario.now.capacity }
     ensures built { IfOk result (IsBuilt
-        (record { disks = R.disks rack.old; given = R.given rack.old; taken = R.taken rack.old; faults = R.faults rack.old; unfailing = R.unfailing rack.old })
-        (record { disks = R.disks rack.new; given = R.given rack.new; taken = R.taken rack.new; faults = R.faults rack.new; unfailing = R.unfailing rack.new })
+        (record {
+          disks = R.disks rack.old;
+          given = R.given rack.old;
+          taken = R.taken rack.old;
+          faults = R.faults rack.old;
+          unfailing = R.unfailing rack.old;
+        })
+        (record {
+          disks = R.disks rack.new;
+          given = R.given rack.new;
+          taken = R.taken rack.new;
+          faults = R.faults rack.new;
+          unfailing = R.unfailing rack.new;
+        })
         scenario.now) }
     ensures unbuilt { IfErr result (EndsEarly (racked R.D.Disk
-        (record { disks = R.disks rack.old; given = R.given rack.old; taken = R.taken rack.old; faults = R.faults rack.old; unfailing = R.unfailing rack.old })
-        (record { disks = R.disks rack.new; given = R.given rack.new; taken = R.taken rack.new; faults = R.faults rack.new; unfailing = R.unfailing rack.new }))) }
+        (record {
+          disks = R.disks rack.old;
+          given = R.given rack.old;
+          taken = R.taken rack.old;
+          faults = R.faults rack.old;
+          unfailing = R.unfailing rack.old;
+        })
+        (record {
+          disks = R.disks rack.new;
+          given = R.given rack.new;
+          taken = R.taken rack.new;
+          faults = R.faults rack.new;
+          unfailing = R.unfailing rack.new;
+        }))) }
 {
     let Ok(disk) = rack.take(0, None) else {
         return Err(Fault::Rack { site: 0 });
