@@ -6,4 +6,6 @@ pub mod Catalogs
 pub mod Values
 pub mod Sizes
 pub mod Counting
+pub mod Conflicts
+pub mod Sending
 pub mod ByClient

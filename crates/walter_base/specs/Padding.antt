@@ -2,7 +2,7 @@
 use Rattle.std.proofs.Common.{◌≡◌, ℕ, zero, suc, ◌+◌, ◌-◌, ◌≤◌, List, [], ◌∷◌, ◌++◌, length, take, replicate, refl, ap, sym, ◌∙◌, arith}
 use Rattle.std.specs.Prelude.{slice_index}
 use Rattle.std.proofs.lemmas.List.{length-take-le}
-use Rattle.walter_base.specs.Vectors.{NoneFrom}
+use Rattle.walter_base.specs.Vectors.{most_sites, NoneFrom}
 
 -- without its first element
 rest_none : (n x : ℕ) (es : List ℕ) → NoneFrom (suc n) (x ∷ es) → NoneFrom n es
@@ -21,11 +21,11 @@ padded zero missing es none is = ap (λ k. replicate k 0) (omega (arith, is)) �
 padded (suc n) missing [] none is = absurd (omega (arith, is))
 padded (suc n) missing (x ∷ es) none is = ap (λ t. x ∷ t) (padded n missing es (rest_none n x es none) (omega (arith, is)))
 
--- the front of a list of eight, filled up to eight
-pub filled : (n : ℕ) (es : List ℕ) → n ≤ 8 → length es ≡ 8 → NoneFrom n es → take n es ++ replicate (8 - length (take n es)) 0 ≡ es
+-- the front of a list of a number for each site that there may be, filled up
+pub filled : (n : ℕ) (es : List ℕ) → n ≤ most_sites → length es ≡ most_sites → NoneFrom n es → take n es ++ replicate (most_sites - length (take n es)) 0 ≡ es
 filled n es le all none =
     let front : length (take n es) ≡ n = length-take-le n es (omega (arith, all)) in
-    padded n (8 - length (take n es)) es none (omega (arith, front, all, le))
+    padded n (most_sites - length (take n es)) es none (omega (arith, front, all, le))
 
 -- an entry of the front is that of the list
 pub at_front : (n : ℕ) (es : List ℕ) (k : ℕ) → NoneFrom n es → slice_index (take n es) k ≡ slice_index es k

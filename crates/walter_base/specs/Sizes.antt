@@ -1,13 +1,21 @@
--- How many bytes spell a transaction and a record (docs/FORMATS.md, "Transaction" and "Record"), and which transactions
--- are small enough to be spelled.
-use Rattle.std.specs.Prelude.{ℕ, ◌+◌, ◌≤◌, List, length, sum_by, All, Some}
+-- How many bytes spell a transaction, a record and a packet (docs/FORMATS.md, "Transaction", "Record" and "Packet"), and
+-- which are small enough to be spelled.
+use Rattle.std.specs.Prelude.{ℕ, ◌+◌, ◌*◌, ◌≤◌, List, length, sum_by, All, Some}
 use Rattle.walter_base.specs.declared.message.Record.{Record}
-use Rattle.walter_base.specs.declared.message.Record.TheVariants.{Boot, Own}
+use Rattle.walter_base.specs.declared.message.Record.TheVariants.{Boot, Own, Got, Seen, Prepared, Released, SlowBegin, SlowEnd, Marks}
+use Rattle.walter_base.specs.declared.names.ObjId.{ObjId}
+use Rattle.walter_base.specs.declared.packet.Packet.{Packet}
+use Rattle.walter_base.specs.declared.packet.Packet.TheVariants.{Propagate, Ack, Dsmark, Visible, Prepare, Vote, Release, Released as ReleasedSaid}
+use Rattle.walter_base.specs.declared.packet.Answer.TheVariants.{Yes, No}
+use Rattle.walter_base.specs.declared.transaction.Conflict.{Conflict}
+use Rattle.walter_base.specs.declared.transaction.Conflict.TheVariants.{Modified, Locked, Dead}
 use Rattle.walter_base.specs.declared.message.Reply.{Reply}
 use Rattle.walter_base.specs.declared.message.Reply.TheVariants.{Value, Set}
 use Rattle.walter_base.specs.declared.transaction.Tx.{Tx}
 use Rattle.walter_base.specs.declared.update.Update.{Update}
 use Rattle.walter_base.specs.declared.update.Update.TheVariants.{Write, Add, Del}
+use Rattle.walter_base.specs.Names.{AreRising}
+use Rattle.walter_base.specs.Vectors.{most_sites}
 
 abbrev pub size_of_update : Update → ℕ
 size_of_update (Write oid bytes) = 17 + length bytes
@@ -24,6 +32,29 @@ size_of tx = size_of_updates tx.updates
 abbrev pub size_of_record : Record → ℕ
 size_of_record (Boot epoch) = 5
 size_of_record (Own seq tx) = 9 + size_of tx
+size_of_record (Got site seq tx) = 10 + size_of tx
+size_of_record (Seen site seq) = 10
+size_of_record (Prepared site slow tid objects) = 25 + 12 * length objects
+size_of_record (Released site slow) = 10
+size_of_record (SlowBegin slow tx) = 9 + size_of tx
+size_of_record (SlowEnd slow) = 9
+size_of_record (Marks durable visible) = 17
+
+abbrev pub size_of_conflict : Conflict → ℕ
+size_of_conflict (Modified oid version) = 22
+size_of_conflict (Locked oid owner) = 26
+size_of_conflict Dead = 1
+
+abbrev pub size_of_packet : Packet → ℕ
+size_of_packet (Propagate seq tx) = 9 + size_of tx
+size_of_packet (Ack got) = 9
+size_of_packet (Dsmark durable) = 9
+size_of_packet (Visible committed) = 9
+size_of_packet (Prepare slow tid start objects) = 88 + 12 * length objects
+size_of_packet (Vote slow Yes) = 10
+size_of_packet (Vote slow (No conflict)) = 10 + size_of_conflict conflict
+size_of_packet (Release slow) = 9
+size_of_packet (ReleasedSaid slow) = 9
 
 -- a value of at most 4,096 bytes
 abbrev pub HasShortValue : Update → Type 0
@@ -39,14 +70,38 @@ pub record AreSmall (updates : List Update) : Type 0 where
 
 -- the sizes of a transaction that has a spelling
 pub record CanBeSpelled (tx : Tx) : Type 0 where
-  pub sites : length tx.start ≤ 8
+  pub sites : length tx.start ≤ most_sites
   pub some : 1 ≤ length tx.updates
   pub updates : AreSmall tx.updates
+
+-- from 1 to 256 objects, that rise
+pub record CanBeListed (objects : List ObjId) : Type 0 where
+  pub some : 1 ≤ length objects
+  pub few : length objects ≤ 256
+  pub rising : AreRising objects
 
 -- the sizes of a record that has a spelling
 abbrev pub CanBeRecorded : Record → Type 0
 CanBeRecorded (Boot epoch) = Unit {0}
 CanBeRecorded (Own seq tx) = CanBeSpelled tx
+CanBeRecorded (Got site seq tx) = CanBeSpelled tx
+CanBeRecorded (Seen site seq) = Unit {0}
+CanBeRecorded (Prepared site slow tid objects) = CanBeListed objects
+CanBeRecorded (Released site slow) = Unit {0}
+CanBeRecorded (SlowBegin slow tx) = CanBeSpelled tx
+CanBeRecorded (SlowEnd slow) = Unit {0}
+CanBeRecorded (Marks durable visible) = Unit {0}
+
+-- the sizes of a packet that has a spelling
+abbrev pub CanBeSent : Packet → Type 0
+CanBeSent (Propagate seq tx) = CanBeSpelled tx
+CanBeSent (Ack got) = Unit {0}
+CanBeSent (Dsmark durable) = Unit {0}
+CanBeSent (Visible committed) = Unit {0}
+CanBeSent (Prepare slow tid start objects) = (length start ≤ most_sites) × CanBeListed objects
+CanBeSent (Vote slow answer) = Unit {0}
+CanBeSent (Release slow) = Unit {0}
+CanBeSent (ReleasedSaid slow) = Unit {0}
 
 -- the value in a reply is short, and so are the counts
 abbrev pub IsShortReply : Reply → Type 0

@@ -2,6 +2,11 @@
 use Rattle.std.specs.Prelude.{◌≡◌, ◌≤◌, ℕ, List, slice_index}
 use Rattle.walter_base.specs.declared.names.SiteId.{SiteId}
 use Rattle.walter_base.specs.declared.names.Version.{Version}
+use Rattle.walter_base.specs.declared.vts.TheConstants.{MOST_SITES}
+
+-- how many sites there may be
+abbrev pub most_sites : ℕ
+most_sites = MOST_SITES
 
 -- the number of a site
 abbrev pub entry_at : List ℕ → SiteId → ℕ

@@ -1,6 +1,7 @@
 ghost use Rattle.std.specs.Prelude.{◌≡◌, ◌<◌, ◌≤◌, ℕ, Some, OnOk, IfOk, IfErr, option_map};
 ghost use Rattle.std.specs.FinMap as map;
 ghost use Rattle.walter_base.specs.Catalogs.{containers_of, AreRight, IsBuildFault};
+ghost use Rattle.walter_base.specs.Vectors.{most_sites};
 
 use crate::containers::{Container, Containers};
 use crate::names::{Kind, ObjId, SiteId};
@@ -36,7 +37,7 @@ impl Catalog {
         items: &[(u32, Kind, SiteId)],
     ) -> Result<Catalog, CatalogFault>
         requires some { 0 < sites }
-        requires most { sites ≤ 8 }
+        requires most { sites ≤ most_sites }
         requires fewer { tolerated < sites }
         ensures sites { IfOk result (λ catalog. catalog.sites ≡ sites) }
         ensures tolerated { IfOk result (λ catalog. catalog.tolerated ≡ tolerated) }

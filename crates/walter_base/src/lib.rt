@@ -1,5 +1,5 @@
-//! The values of the store: names of sites, objects and transactions, versions, updates, vectors, the catalog, and
-//! what is asked, answered and journaled.
+//! The values of the store: names of sites, objects and transactions, versions, updates, vectors, the catalog, what is
+//! asked, answered, journaled and sent; and the trait of a site's objects.
 #![tactic(auto)]
 
 mod bytes;
@@ -7,9 +7,12 @@ mod catalog;
 mod containers;
 mod counts;
 mod laws;
+mod lists;
 mod memory;
 mod message;
 mod names;
+mod packet;
+mod rows;
 mod transaction;
 mod update;
 mod vts;
@@ -19,12 +22,15 @@ pub use catalog::{Catalog, CatalogFault};
 pub use containers::{Container, Containers};
 pub use counts::Counts;
 pub use laws::counts_are_one_list;
+pub use lists::{Objects, Sites};
 pub use memory::{Mem, NoMemory};
 pub use message::{BadFrame, Call, Level, Record, Refusal, Reply, Request};
 pub use names::{Kind, ObjId, SiteId, Tid, Version};
+pub use packet::{Answer, Packet, Sends};
+pub use rows::Rows;
 pub use transaction::{Cause, Conflict, Tx};
 pub use update::{Row, Update, Updates, size_of_updates};
-pub use vts::Vts;
+pub use vts::{MOST_SITES, Vts};
 
 #[cfg(test)]
 mod tests;

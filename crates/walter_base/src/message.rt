@@ -2,7 +2,8 @@ ghost use Rattle.std.specs.Prelude.{◌≡◌};
 
 use crate::bytes::Bytes;
 use crate::counts::Counts;
-use crate::names::{ObjId, Tid, Version};
+use crate::lists::Objects;
+use crate::names::{ObjId, SiteId, Tid, Version};
 use crate::transaction::{Cause, Tx};
 use std::alloc::AllocError;
 use thiserror::Error;
@@ -79,6 +80,8 @@ pub enum Reply {
     Committed(Version),
     /// The transaction is aborted, for this cause.
     Aborted(Cause),
+    /// The transaction's slow commit is being decided. The next Commit asks again.
+    Deciding(Tid),
     /// The transaction has come this far.
     Level(Level),
     /// The transaction had no updates, and is over.
@@ -102,6 +105,7 @@ impl Clone for Reply {
             Reply::Count(count) => Ok(Reply::Count(*count)),
             Reply::Committed(version) => Ok(Reply::Committed(*version)),
             Reply::Aborted(cause) => Ok(Reply::Aborted(*cause)),
+            Reply::Deciding(tid) => Ok(Reply::Deciding(*tid)),
             Reply::Level(level) => Ok(Reply::Level(*level)),
             Reply::Ended => Ok(Reply::Ended),
             Reply::Unsure(tid) => Ok(Reply::Unsure(*tid)),
@@ -117,6 +121,8 @@ pub enum Level {
     NotCommitted,
     /// It is open.
     Running,
+    /// Its slow commit is being decided.
+    Deciding,
     /// It is committed at its own site.
     Committed,
     /// It is held by so many sites that it outlives the loss of those that may be lost.
@@ -167,6 +173,20 @@ pub enum Record {
     Boot(u32),
     /// The site's own commit of this number.
     Own(u64, Tx),
+    /// The commit of this number of another site, received here.
+    Got(SiteId, u64, Tx),
+    /// The commit of this number of another site, committed here.
+    Seen(SiteId, u64),
+    /// The objects are locked for the slow commit of this number of another site, of this transaction.
+    Prepared(SiteId, u64, Tid, Objects),
+    /// What was locked for the slow commit of this number of another site is free, and the slow commit is over here.
+    Released(SiteId, u64),
+    /// The site's own slow commit of this number is begun.
+    SlowBegin(u64, Tx),
+    /// The site's own slow commit of this number is over, without a commit.
+    SlowEnd(u64),
+    /// So many of the site's own commits are durable, and so many visible, from the first on.
+    Marks(u64, u64),
 }
 
 impl Clone for Record {
@@ -176,6 +196,15 @@ impl Clone for Record {
         match self {
             Record::Boot(epoch) => Ok(Record::Boot(*epoch)),
             Record::Own(seq, tx) => Ok(Record::Own(*seq, tx.clone()?)),
+            Record::Got(site, seq, tx) => Ok(Record::Got(*site, *seq, tx.clone()?)),
+            Record::Seen(site, seq) => Ok(Record::Seen(*site, *seq)),
+            Record::Prepared(site, slow, tid, objects) => {
+                Ok(Record::Prepared(*site, *slow, *tid, objects.clone()?))
+            }
+            Record::Released(site, slow) => Ok(Record::Released(*site, *slow)),
+            Record::SlowBegin(slow, tx) => Ok(Record::SlowBegin(*slow, tx.clone()?)),
+            Record::SlowEnd(slow) => Ok(Record::SlowEnd(*slow)),
+            Record::Marks(durable, visible) => Ok(Record::Marks(*durable, *visible)),
         }
     }
 }

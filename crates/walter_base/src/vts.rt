@@ -1,5 +1,5 @@
 ghost use Rattle.std.specs.Prelude.{◌≡◌, ◌<◌, ◌≤◌, ◌↔◌, IsTrue, ℕ, max, replicate, length, slice_set};
-ghost use Rattle.walter_base.specs.Vectors.{entry_at, IsSeenBy, Covers, NoneFrom};
+ghost use Rattle.walter_base.specs.Vectors.{most_sites, entry_at, IsSeenBy, Covers, NoneFrom};
 
 use crate::names::{SiteId, Version};
 use std::marker::Model;
@@ -11,23 +11,23 @@ pub const MOST_SITES: usize = 8;
 #[derive(Clone, Copy, Debug)]
 pub struct Vts {
     sites: u8,
-    entries: [u64; 8],
+    entries: [u64; MOST_SITES],
 }
 
 impl Model for Vts {
     ghost use Rattle.std.specs.Prelude.{◌≡◌, ◌+◌, ◌-◌, ◌≤◌, ◌++◌, ℕ, List, take, length, replicate};
     ghost use Rattle.std.proofs.Common.{sym, subst};
     ghost use Rattle.std.proofs.lemmas.List.{length-take-le};
-    ghost use Rattle.walter_base.specs.Vectors.{NoneFrom};
+    ghost use Rattle.walter_base.specs.Vectors.{most_sites, NoneFrom};
     ghost use Rattle.walter_base.specs.Padding.{filled};
 
     ghost Value = { List ℕ };
 
     ghost view = { λ v. take v.sites v.entries };
 
-    ghost invariant = { λ v. (v.sites ≤ 8) × (length v.entries ≡ 8) × NoneFrom v.sites v.entries };
+    ghost invariant = { λ v. (v.sites ≤ most_sites) × (length v.entries ≡ most_sites) × NoneFrom v.sites v.entries };
 
-    ghost inverse = { λ xs. record { sites = length xs; entries = xs ++ replicate (8 - length xs) 0 } };
+    ghost inverse = { λ xs. record { sites = length xs; entries = xs ++ replicate (most_sites - length xs) 0 } };
 
     ghost inverse_ok = { λ a h. λ i. record { sites = length-take-le a.sites a.entries (subst (λ n. a.sites ≤ n) (sym h.1) h.0) i; entries = filled a.sites a.entries h.0 h.1 h.2 i } };
 }
@@ -35,12 +35,12 @@ impl Model for Vts {
 impl Vts {
     /// No commit of any site.
     pub fn zero(sites: u8) -> Vts
-        requires { sites ≤ 8 }
+        requires { sites ≤ most_sites }
         ensures { result ≡ replicate sites 0 }
     {
         Vts {
             sites,
-            entries: [0; 8],
+            entries: [0; MOST_SITES],
         }
     }
 
