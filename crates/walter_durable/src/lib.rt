@@ -1,0 +1,9 @@
+//! How far the own commits of a site are durable, and how far visible.
+#![tactic(auto)]
+
+mod durable;
+
+pub use durable::Durable;
+
+#[cfg(test)]
+mod tests;

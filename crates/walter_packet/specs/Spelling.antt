@@ -1,0 +1,34 @@
+-- How a packet is spelled, and which packets have a spelling (docs/FORMATS.md, "Packet").
+use Rattle.std.specs.Prelude.{◌≡◌, ◌<◌, ◌^◌, ℕ, List, ◌++◌, length, All}
+use Rattle.walter_base.specs.Sizes.{CanBeSent}
+use Rattle.walter_base.specs.declared.packet.Answer.{Answer}
+use Rattle.walter_base.specs.declared.packet.Answer.TheVariants.{Yes, No}
+use Rattle.walter_base.specs.declared.packet.Packet.{Packet}
+use Rattle.walter_base.specs.declared.packet.Packet.TheVariants.{Propagate, Ack, Dsmark, Visible, Prepare, Vote, Release, Released}
+use Rattle.walter_base.specs.declared.transaction.Conflict.{Conflict}
+use Rattle.walter_base.specs.declared.transaction.Conflict.TheVariants.{Modified, Locked, Dead}
+use Rattle.walter_fields.specs.Spellings.{number_spelled}
+use Rattle.walter_names.specs.Names.{object_spelled, tid_spelled, version_spelled, IsObject, IsTid, IsVersion}
+use Rattle.walter_txcode.specs.Spelling.{spelling, vector_spelled, objects_spelled, IsInRange}
+
+abbrev pub conflict_spelled : Conflict → List ℕ
+conflict_spelled (Modified oid version) = number_spelled 1 1 ++ object_spelled oid ++ version_spelled version
+conflict_spelled (Locked oid owner) = number_spelled 1 2 ++ object_spelled oid ++ tid_spelled owner
+conflict_spelled Dead = number_spelled 1 4
+
+abbrev pub answer_spelled : Answer → List ℕ
+answer_spelled Yes = number_spelled 1 1
+answer_spelled (No conflict) = number_spelled 1 0 ++ conflict_spelled conflict
+
+abbrev pub packet_spelled : Packet → List ℕ
+packet_spelled (Propagate seq tx) = number_spelled 1 1 ++ (number_spelled 8 seq ++ spelling tx)
+packet_spelled (Ack got) = number_spelled 1 2 ++ number_spelled 8 got
+packet_spelled (Dsmark durable) = number_spelled 1 3 ++ number_spelled 8 durable
+packet_spelled (Visible committed) = number_spelled 1 4 ++ number_spelled 8 committed
+packet_spelled (Prepare slow tid start objects) =
+    number_spelled 1 5 ++ (number_spelled 8 slow ++ (tid_spelled tid ++ (vector_spelled start ++ objects_spelled objects)))
+packet_spelled (Vote slow answer) = number_spelled 1 6 ++ (number_spelled 8 slow ++ answer_spelled answer)
+packet_spelled (Release slow) = number_spelled 1 7 ++ number_spelled 8 slow
+packet_spelled (Released slow) = number_spelled 1 8 ++ number_spelled 8 slow
+
+-- AreInRange, IsAmong, HasPacketSpelling as those of records (walter_record/specs/Spelling.antt)
