@@ -4,11 +4,11 @@ use Rattle.std.specs.Prelude.{IfSome}
 use Rattle.walter_base.specs.declared.catalog.Catalog.{Catalog}
 use Rattle.walter_base.specs.declared.message.BadFrame.{BadFrame as Bad}
 use Rattle.walter_base.specs.declared.message.Record.{Record}
-use Rattle.walter_base.specs.declared.message.Record.TheVariants.{Boot, Own}
+use Rattle.walter_base.specs.declared.message.Record.TheVariants.{Boot, Own, Got, Seen, Prepared, Released, SlowBegin, SlowEnd, Marks}
 use Rattle.walter_base.specs.declared.message.Refusal.{Refusal}
 use Rattle.walter_base.specs.declared.message.Refusal.TheVariants.{BadFrame, Down as IsDown, Gone as IsGone}
 use Rattle.walter_base.specs.declared.message.Reply.{Reply}
-use Rattle.walter_base.specs.declared.message.Reply.TheVariants.{Started, Value, Done as DoneReply, Set, Count, Committed, Aborted, Level, Ended, Unsure, Refused}
+use Rattle.walter_base.specs.declared.message.Reply.TheVariants.{Started, Value, Done as DoneReply, Set, Count, Committed, Aborted, Deciding, Level, Ended, Unsure, Refused}
 use Rattle.walter_base.specs.declared.message.Request.{Request}
 use Rattle.walter_base.specs.declared.message.Request.TheVariants.{Start, Read, Write, SetAdd, SetDel, SetRead, SetReadId, Commit, Abort, Level as LevelAsked}
 use Rattle.walter_base.specs.declared.names.SiteId.{SiteId}
@@ -218,6 +218,13 @@ step_sized : (client : ℕ) (call : Result Request Bad) (answer : Stepped) → I
 step_sized client call (Done reply wrote) sized = (sized.0, sized.1, tt)
 step_sized client call (Failed (Own seq tx)) sized = (tt, tt, sized)
 step_sized client call (Failed (Boot epoch)) sized = (tt, tt, sized)
+step_sized client call (Failed (Got from seq tx)) sized = (tt, tt, sized)
+step_sized client call (Failed (Seen from seq)) sized = (tt, tt, sized)
+step_sized client call (Failed (Prepared from slow tid objects)) sized = (tt, tt, sized)
+step_sized client call (Failed (Released from slow)) sized = (tt, tt, sized)
+step_sized client call (Failed (SlowBegin slow tx)) sized = (tt, tt, sized)
+step_sized client call (Failed (SlowEnd slow)) sized = (tt, tt, sized)
+step_sized client call (Failed (Marks durable visible)) sized = (tt, tt, sized)
 step_sized client call (Full need left) sized = (tt, tt, tt)
 step_sized client call Down sized = (tt, tt, tt)
 step_sized client call NoMemory sized = (tt, tt, tt)
@@ -241,6 +248,7 @@ reply_rises (Committed version) old new sure rises = rises
 reply_rises (Aborted cause) old new sure rises = rises
 reply_rises (Level level) old new sure rises = rises
 reply_rises Ended old new sure rises = rises
+reply_rises (Deciding tid) old new sure rises = rises
 reply_rises (Unsure tid) old new sure rises = absurd (sure tid refl)
 reply_rises (Refused refusal) old new sure rises = rises
 
@@ -249,6 +257,13 @@ step_rises : (client : ℕ) (call : Result Request Bad) (answer : Stepped) (old 
 step_rises client call (Done reply wrote) old new sized rises = reply_rises reply old new sized.2 rises
 step_rises client call (Failed (Own seq tx)) old new sized rises = rises
 step_rises client call (Failed (Boot epoch)) old new sized rises = rises
+step_rises client call (Failed (Got from seq tx)) old new sized rises = rises
+step_rises client call (Failed (Seen from seq)) old new sized rises = rises
+step_rises client call (Failed (Prepared from slow tid objects)) old new sized rises = rises
+step_rises client call (Failed (Released from slow)) old new sized rises = rises
+step_rises client call (Failed (SlowBegin slow tx)) old new sized rises = rises
+step_rises client call (Failed (SlowEnd slow)) old new sized rises = rises
+step_rises client call (Failed (Marks durable visible)) old new sized rises = rises
 step_rises client call (Full need left) old new sized rises = rises
 step_rises client call Down old new sized rises = rises
 step_rises client call NoMemory old new sized rises = rises

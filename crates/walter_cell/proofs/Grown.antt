@@ -7,7 +7,7 @@ use Rattle.std.proofs.lemmas.List.Elements.{All-push}
 use Rattle.std.proofs.lemmas.Option.{slice_get_within, slice_get-get_or}
 use Rattle.walter_base.specs.declared.catalog.Catalog.{Catalog}
 use Rattle.walter_base.specs.declared.message.Record.{Record}
-use Rattle.walter_base.specs.declared.message.Record.TheVariants.{Boot, Own}
+use Rattle.walter_base.specs.declared.message.Record.TheVariants.{Boot, Own, Got, Seen, Prepared, Released, SlowBegin, SlowEnd, Marks}
 use Rattle.walter_base.specs.declared.names.SiteId.{SiteId}
 use Rattle.walter_disk.specs.declared.disk.Disk.{Ghosts}
 use Rattle.walter_engine.specs.declared.engine.Engine.{Engine}
@@ -161,6 +161,13 @@ epoch_few : (catalog : Catalog) (i : SiteId) (K : Knowledge) (records : List Rec
 epoch_few catalog i K [] follow = omega arith
 epoch_few catalog i K (Boot epoch ∷ records) follow = let rest = epoch_few catalog i (recorded i (Some (Boot epoch)) K) records follow.1 in let next = follow.0 in omega (arith, rest, next)
 epoch_few catalog i K (Own seq tx ∷ records) follow = let rest = epoch_few catalog i (recorded i (Some (Own seq tx)) K) records follow.1 in omega (arith, rest)
+epoch_few catalog i K ((Got from seq tx) ∷ records) follow = absurd (follow.0)
+epoch_few catalog i K ((Seen from seq) ∷ records) follow = absurd (follow.0)
+epoch_few catalog i K ((Prepared from slow tid objects) ∷ records) follow = absurd (follow.0)
+epoch_few catalog i K ((Released from slow) ∷ records) follow = absurd (follow.0)
+epoch_few catalog i K ((SlowBegin slow tx) ∷ records) follow = absurd (follow.0)
+epoch_few catalog i K ((SlowEnd slow) ∷ records) follow = absurd (follow.0)
+epoch_few catalog i K ((Marks durable visible) ∷ records) follow = absurd (follow.0)
 
 records_one : (i : SiteId) (kept : Option Record) (S : Standing) → length (settled i kept S).records ≤ length S.records + 1
 records_one i None S = omega arith

@@ -7,10 +7,10 @@ use Rattle.walter_base.specs.declared.catalog.Catalog.{Catalog}
 use Rattle.walter_base.specs.declared.containers.Container.{Container}
 use Rattle.walter_base.specs.declared.message.BadFrame.{BadFrame as Bad}
 use Rattle.walter_base.specs.declared.message.Record.{Record}
-use Rattle.walter_base.specs.declared.message.Record.TheVariants.{Boot, Own}
+use Rattle.walter_base.specs.declared.message.Record.TheVariants.{Boot, Own, Got, Seen, Prepared, Released, SlowBegin, SlowEnd, Marks}
 use Rattle.walter_base.specs.declared.message.Refusal.TheVariants.{Gone as IsGone, UnknownContainer, WrongKind, TooLong, TxFull, NoTx, TxOpen, BadFrame, Down as IsDown, JournalFull, SetTooWide, SessionsFull, Memory as NoMemory, WrongSite, NotIssued}
 use Rattle.walter_base.specs.declared.message.Reply.{Reply}
-use Rattle.walter_base.specs.declared.message.Reply.TheVariants.{Started, Value, Done, Set, Count, Committed, Aborted, Level, Ended, Unsure, Refused}
+use Rattle.walter_base.specs.declared.message.Reply.TheVariants.{Started, Value, Done, Set, Count, Committed, Aborted, Deciding, Level, Ended, Unsure, Refused}
 use Rattle.walter_base.specs.declared.message.Request.{Request}
 use Rattle.walter_base.specs.declared.message.Request.TheVariants.{Start, Read, Write, SetAdd, SetDel, SetRead, SetReadId, Commit, Abort, Level as LevelAsked}
 use Rattle.walter_base.specs.declared.names.Kind.{Kind}
@@ -236,6 +236,7 @@ module _ (client : ℕ) (call : Result Request Bad) (S : Standing) (tie : Tie) (
   own_reply (Committed version) tells = (closed_here client sessions, tells)
   own_reply (Aborted cause) tells = (closed_here client sessions, tells)
   own_reply (Level level) tells = is
+  own_reply (Deciding tid) tells = is
   own_reply Ended tells = (closed_here client sessions, tells)
   own_reply (Unsure tid) tells = (closed_here client sessions, tells)
   own_reply (Refused (IsGone tid)) tells =
@@ -271,6 +272,7 @@ module _ (client other : ℕ) (apart : client ≢ other) (call : Result Request 
   other_reply (Committed version) tells = same_binds (session_in client all) _ (S.gone client) (S.gone client) tie (closed_there client other all apart) refl is
   other_reply (Aborted cause) tells = same_binds (session_in client all) _ (S.gone client) (S.gone client) tie (closed_there client other all apart) refl is
   other_reply (Level level) tells = is
+  other_reply (Deciding tid) tells = is
   other_reply Ended tells = same_binds (session_in client all) _ (S.gone client) (S.gone client) tie (closed_there client other all apart) refl is
   other_reply (Unsure tid) tells = same_binds (session_in client all) _ (S.gone client) (S.gone client) tie (closed_there client other all apart) refl is
   other_reply (Refused (IsGone tid)) tells = same_binds (session_in client all) _ (S.gone client) _ tie refl
@@ -320,6 +322,7 @@ module _ (i : SiteId) (S : Standing) (other : ℕ) (call : Result Request Bad) (
   replied wrote flight (Committed version) tells = any_reply client other call S tie (Committed version) is tells (nat_eq client other) refl
   replied wrote flight (Aborted cause) tells = any_reply client other call S tie (Aborted cause) is tells (nat_eq client other) refl
   replied wrote flight (Level level) tells = any_reply client other call S tie (Level level) is tells (nat_eq client other) refl
+  replied wrote flight (Deciding tid) tells = any_reply client other call S tie (Deciding tid) is tells (nat_eq client other) refl
   replied wrote flight Ended tells = any_reply client other call S tie Ended is tells (nat_eq client other) refl
   replied wrote flight (Refused refusal) tells = any_reply client other call S tie (Refused refusal) is tells (nat_eq client other) refl
 
@@ -395,6 +398,20 @@ module _ (catalog : Catalog) (capacity : ℕ) (i : SiteId) (S : Standing) (clien
       (outcome i S other call client tie is None (Some (Own seq tx)) (Replied (Unsure tx.tid)) (rule_writes catalog i S other call (Own seq tx) brings))
   tied_after (Call other call) came (met_fault (Boot epoch) brings fits same) =
       subst (λ (c : Came). After (Call other call) c) (sym same) (outcome i S other call client tie is None (Some (Boot epoch)) Failed tt)
+  tied_after (Call other call) came (met_fault (Got from seq tx) brings fits same) =
+      subst (λ (c : Came). After (Call other call) c) (sym same) (outcome i S other call client tie is None (Some (Got from seq tx)) Failed tt)
+  tied_after (Call other call) came (met_fault (Seen from seq) brings fits same) =
+      subst (λ (c : Came). After (Call other call) c) (sym same) (outcome i S other call client tie is None (Some (Seen from seq)) Failed tt)
+  tied_after (Call other call) came (met_fault (Prepared from slow tid objects) brings fits same) =
+      subst (λ (c : Came). After (Call other call) c) (sym same) (outcome i S other call client tie is None (Some (Prepared from slow tid objects)) Failed tt)
+  tied_after (Call other call) came (met_fault (Released from slow) brings fits same) =
+      subst (λ (c : Came). After (Call other call) c) (sym same) (outcome i S other call client tie is None (Some (Released from slow)) Failed tt)
+  tied_after (Call other call) came (met_fault (SlowBegin slow tx) brings fits same) =
+      subst (λ (c : Came). After (Call other call) c) (sym same) (outcome i S other call client tie is None (Some (SlowBegin slow tx)) Failed tt)
+  tied_after (Call other call) came (met_fault (SlowEnd slow) brings fits same) =
+      subst (λ (c : Came). After (Call other call) c) (sym same) (outcome i S other call client tie is None (Some (SlowEnd slow)) Failed tt)
+  tied_after (Call other call) came (met_fault (Marks durable visible) brings fits same) =
+      subst (λ (c : Came). After (Call other call) c) (sym same) (outcome i S other call client tie is None (Some (Marks durable visible)) Failed tt)
   tied_after (Call other call) came (unread restart down same) = absurd cc
   tied_after (Call other call) came (no_memory takes same) =
       subst (λ (c : Came). After (Call other call) c) (sym same) (outcome i S other call client tie is None None (Replied (Refused NoMemory)) tt)

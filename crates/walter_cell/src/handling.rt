@@ -127,7 +127,7 @@ fn failure(flight: &Record) -> Outcome
 {
     match flight {
         Record::Own(_, tx) => Outcome::Replied(Reply::Unsure(tx.tid)),
-        Record::Boot(_) => Outcome::Failed,
+        _ => Outcome::Failed,
     }
 }
 

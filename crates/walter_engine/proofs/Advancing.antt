@@ -4,7 +4,7 @@ use Rattle.std.specs.Prelude.{IfSome}
 use Rattle.walter_base.specs.declared.catalog.Catalog.{Catalog}
 use Rattle.walter_base.specs.declared.message.BadFrame.{BadFrame as Bad}
 use Rattle.walter_base.specs.declared.message.Record.{Record}
-use Rattle.walter_base.specs.declared.message.Record.TheVariants.{Boot, Own}
+use Rattle.walter_base.specs.declared.message.Record.TheVariants.{Boot, Own, Got, Seen, Prepared, Released, SlowBegin, SlowEnd, Marks}
 use Rattle.walter_base.specs.declared.message.Reply.{Reply}
 use Rattle.walter_base.specs.declared.message.Request.{Request}
 use Rattle.walter_base.specs.declared.names.SiteId.{SiteId}
@@ -28,21 +28,49 @@ use Rattle.walter_engine.proofs.Standings.{rule_here, journaled_more, journaled_
 pub spells : (sites : ℕ) (rec : Record) → CanBeRecorded rec → AreInRange rec → IsRecordAmong sites rec → HasRecordSpelling sites rec
 spells sites (Boot epoch) sized ranges among = record { among = tt; sizes = sized; ranges = ranges }
 spells sites (Own seq tx) sized ranges among = record { among = among.0; sizes = sized; ranges = ranges }
+spells sites (Got from seq tx) sized ranges among = record { among = among.0; sizes = sized; ranges = ranges }
+spells sites (Seen from seq) sized ranges among = record { among = tt; sizes = sized; ranges = ranges }
+spells sites (Prepared from slow tid objects) sized ranges among = record { among = tt; sizes = sized; ranges = ranges }
+spells sites (Released from slow) sized ranges among = record { among = tt; sizes = sized; ranges = ranges }
+spells sites (SlowBegin slow tx) sized ranges among = record { among = among.0; sizes = sized; ranges = ranges }
+spells sites (SlowEnd slow) sized ranges among = record { among = tt; sizes = sized; ranges = ranges }
+spells sites (Marks durable visible) sized ranges among = record { among = tt; sizes = sized; ranges = ranges }
 
 -- a site that has had an epoch has one behind a record that can follow
 booted_behind : (catalog : Catalog) (i : SiteId) (K : Knowledge) (rec : Record) → CanFollow catalog i K rec → 0 < K.epoch → 0 < epoch_after (Some rec) K.epoch
 booted_behind catalog i K (Boot epoch) follows booted = omega (arith, follows)
 booted_behind catalog i K (Own seq tx) follows booted = booted
+booted_behind catalog i K (Got from seq tx) follows booted = absurd follows
+booted_behind catalog i K (Seen from seq) follows booted = absurd follows
+booted_behind catalog i K (Prepared from slow tid objects) follows booted = absurd follows
+booted_behind catalog i K (Released from slow) follows booted = absurd follows
+booted_behind catalog i K (SlowBegin slow tx) follows booted = absurd follows
+booted_behind catalog i K (SlowEnd slow) follows booted = absurd follows
+booted_behind catalog i K (Marks durable visible) follows booted = absurd follows
 
 -- a record that met a fault brings the site down
 failed_up : (client : ℕ) (call : Result Request Bad) (rec : Record) (up : Bool) → up_after (Call client call) (failure (Call client call) rec) up ≡ false
 failed_up client call (Boot epoch) up = refl
 failed_up client call (Own seq tx) up = refl
+failed_up client call (Got from seq tx) up = refl
+failed_up client call (Seen from seq) up = refl
+failed_up client call (Prepared from slow tid objects) up = refl
+failed_up client call (Released from slow) up = refl
+failed_up client call (SlowBegin slow tx) up = refl
+failed_up client call (SlowEnd slow) up = refl
+failed_up client call (Marks durable visible) up = refl
 
 failed_knows : (i : SiteId) (client : ℕ) (call : Result Request Bad) (rec : Record) (K : Knowledge)
     → knows_after (Call client call) (failure (Call client call) rec) (after i K (Call client call) (failure (Call client call) rec) None) ≡ lost K
 failed_knows i client call (Boot epoch) K = refl
 failed_knows i client call (Own seq tx) K = refl
+failed_knows i client call (Got from seq tx) K = refl
+failed_knows i client call (Seen from seq) K = refl
+failed_knows i client call (Prepared from slow tid objects) K = refl
+failed_knows i client call (Released from slow) K = refl
+failed_knows i client call (SlowBegin slow tx) K = refl
+failed_knows i client call (SlowEnd slow) K = refl
+failed_knows i client call (Marks durable visible) K = refl
 
 -- a call at a site that is up, of a client that is owed nothing
 module _ (catalog : Catalog) (capacity : ℕ) (i : SiteId) (S : Standing) (client : ℕ) (call : Result Request Bad) (K : Knowledge) (rec : Option Record) (reply : Reply)

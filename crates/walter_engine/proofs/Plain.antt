@@ -8,7 +8,7 @@ use Rattle.walter_base.specs.declared.message.BadFrame.{BadFrame as Bad}
 use Rattle.walter_base.specs.declared.message.Record.{Record}
 use Rattle.walter_base.specs.declared.message.Refusal.TheVariants.{Gone, TooLong, TxFull, SetTooWide, SessionsFull, WrongSite, NotIssued}
 use Rattle.walter_base.specs.declared.message.Reply.{Reply}
-use Rattle.walter_base.specs.declared.message.Reply.TheVariants.{Started, Value, Done, Set, Count, Committed, Aborted, Level, Ended, Unsure, Refused}
+use Rattle.walter_base.specs.declared.message.Reply.TheVariants.{Started, Value, Done, Set, Count, Committed, Aborted, Deciding, Level, Ended, Unsure, Refused}
 use Rattle.walter_base.specs.declared.message.Request.{Request}
 use Rattle.walter_base.specs.declared.message.Request.TheVariants.{Start, Read, Write, SetAdd, SetDel, SetRead, SetReadId, Commit, Abort, Level as LevelAsked}
 use Rattle.walter_base.specs.declared.names.Kind.{Kind}
@@ -116,6 +116,7 @@ plain_up client call (Committed version) up p = refl
 plain_up client call (Aborted cause) up p = refl
 plain_up client call (Level level) up p = refl
 plain_up client call Ended up p = refl
+plain_up client call (Deciding tid) up p = refl
 plain_up client call (Unsure tid) up p = absurd p
 plain_up client call (Refused refusal) up p = refl
 
@@ -129,5 +130,6 @@ plain_knows client call (Committed version) K p = refl
 plain_knows client call (Aborted cause) K p = refl
 plain_knows client call (Level level) K p = refl
 plain_knows client call Ended K p = refl
+plain_knows client call (Deciding tid) K p = refl
 plain_knows client call (Unsure tid) K p = absurd p
 plain_knows client call (Refused refusal) K p = refl

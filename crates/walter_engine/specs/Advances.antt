@@ -3,7 +3,7 @@ use Rattle.std.specs.Prelude.{◌≡◌, ◌+◌, ℕ, List, length, Option, Som
 use Rattle.walter_base.specs.declared.catalog.Catalog.{Catalog}
 use Rattle.walter_base.specs.declared.message.Record.{Record}
 use Rattle.walter_base.specs.declared.message.Reply.{Reply}
-use Rattle.walter_base.specs.declared.message.Reply.TheVariants.{Started, Value, Done, Set, Count, Committed, Aborted, Level, Ended, Unsure, Refused}
+use Rattle.walter_base.specs.declared.message.Reply.TheVariants.{Started, Value, Done, Set, Count, Committed, Aborted, Deciding, Level, Ended, Unsure, Refused}
 use Rattle.walter_base.specs.declared.names.SiteId.{SiteId}
 use Rattle.walter_base.specs.Sizes.{CanBeRecorded}
 use Rattle.walter_disk.specs.Images.{LeavesOnly}
@@ -58,6 +58,7 @@ TakesCopy (Committed version) = Unit {0}
 TakesCopy (Aborted cause) = ⊥
 TakesCopy (Level level) = ⊥
 TakesCopy Ended = Unit {0}
+TakesCopy (Deciding tid) = Unit {0}
 TakesCopy (Unsure tid) = Unit {0}
 TakesCopy (Refused refusal) = ⊥
 

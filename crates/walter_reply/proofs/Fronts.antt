@@ -10,7 +10,7 @@ use Rattle.walter_base.specs.declared.message.Level.{Level as HowFar}
 use Rattle.walter_base.specs.declared.message.Level.TheVariants as reached
 use Rattle.walter_base.specs.declared.message.Refusal.TheVariants.{NoTx, Gone, BadFrame, JournalFull}
 use Rattle.walter_base.specs.declared.message.Reply.{Reply}
-use Rattle.walter_base.specs.declared.message.Reply.TheVariants.{Started, Value, Count, Committed, Aborted, Level, Ended, Unsure, Refused}
+use Rattle.walter_base.specs.declared.message.Reply.TheVariants.{Started, Value, Count, Committed, Aborted, Deciding, Level, Ended, Unsure, Refused}
 use Rattle.walter_base.specs.declared.names.ObjId.{ObjId}
 use Rattle.walter_base.specs.declared.names.Tid.{Tid}
 use Rattle.walter_base.specs.declared.names.Version.{Version}
@@ -50,6 +50,10 @@ cut_started left few bytes = let cut = cut_tid left (IsBytes-behind (number_spel
 pub cut_committed : (left : List ℕ) → length left < 9 → IsBytes (number_spelled 1 0x85 ++ left) → IsFront (number_spelled 1 0x85 ++ left)
 cut_committed left few bytes =
     let cut = cut_version left (IsBytes-behind (number_spelled 1 0x85) left bytes) few in front_of 0x85 left cut.more (version_spelled cut.value) (Committed cut.value) cut.ranges cut.some cut.spells refl
+
+pub cut_deciding : (left : List ℕ) → length left < 13 → IsBytes (number_spelled 1 0x87 ++ left) → IsFront (number_spelled 1 0x87 ++ left)
+cut_deciding left few bytes =
+    let cut = cut_tid left (IsBytes-behind (number_spelled 1 0x87) left bytes) few in front_of 0x87 left cut.more (tid_spelled cut.value) (Deciding cut.value) cut.ranges cut.some cut.spells refl
 
 pub cut_unsure : (left : List ℕ) → length left < 13 → IsBytes (number_spelled 1 0x8A ++ left) → IsFront (number_spelled 1 0x8A ++ left)
 cut_unsure left few bytes = let cut = cut_tid left (IsBytes-behind (number_spelled 1 0x8A) left bytes) few in front_of 0x8A left cut.more (tid_spelled cut.value) (Unsure cut.value) cut.ranges cut.some cut.spells refl
@@ -205,12 +209,13 @@ unknown_cause n left mid low not_1 not_2 not_3 is = record { front = 0x86 ∷ []
     none (Locked oid owner) = not_2
     none Asked = not_3
 
-pub unknown_level : (n : ℕ) (left mid : List ℕ) → n < 256 → n ≢ 0 → n ≢ 1 → n ≢ 3 → n ≢ 4 → n ≢ 5 → left ≡ number_spelled 1 n ++ mid → IsUnknown (number_spelled 1 0x88 ++ left) 1
-unknown_level n left mid low not_0 not_1 not_3 not_4 not_5 is = record { front = 0x88 ∷ []; byte = n; rest = mid; is = second_byte 0x88 n left mid (omega arith) low is; place = refl; nothing = level refl none }
+pub unknown_level : (n : ℕ) (left mid : List ℕ) → n < 256 → n ≢ 0 → n ≢ 1 → n ≢ 2 → n ≢ 3 → n ≢ 4 → n ≢ 5 → left ≡ number_spelled 1 n ++ mid → IsUnknown (number_spelled 1 0x88 ++ left) 1
+unknown_level n left mid low not_0 not_1 not_2 not_3 not_4 not_5 is = record { front = 0x88 ∷ []; byte = n; rest = mid; is = second_byte 0x88 n left mid (omega arith) low is; place = refl; nothing = level refl none }
   where
     none : (how_far : HowFar) → n ≢ level_number how_far
     none reached.NotCommitted = not_0
     none reached.Running = not_1
+    none reached.Deciding = not_2
     none reached.Committed = not_3
     none reached.Durable = not_4
     none reached.Visible = not_5

@@ -4,7 +4,7 @@ use Rattle.std.specs.Prelude.{Some, None}
 use Rattle.std.proofs.lemmas.List.{length-append}
 use Rattle.walter_base.specs.Sizes.{IsShortReply}
 use Rattle.walter_base.specs.declared.message.Reply.{Reply}
-use Rattle.walter_base.specs.declared.message.Reply.TheVariants.{Started, Value, Done, Set, Count, Committed, Aborted, Level, Ended, Unsure, Refused}
+use Rattle.walter_base.specs.declared.message.Reply.TheVariants.{Started, Value, Done, Set, Count, Committed, Aborted, Deciding, Level, Ended, Unsure, Refused}
 use Rattle.walter_base.specs.declared.message.Refusal.TheVariants.{Gone, BadFrame, JournalFull}
 use Rattle.walter_base.specs.declared.transaction.Cause.TheVariants.{Modified, Locked, Asked}
 use Rattle.walter_fields.specs.Spellings.{number_spelled, signed_spelled, block_spelled}
@@ -65,6 +65,7 @@ length-reply_spelled (Aborted Asked) = two_bytes 0x86 3 []
 length-reply_spelled (Level level) =
     omega (arith, length-append (number_spelled 1 0x88) (number_spelled 1 (level_number level)), length-number_spelled 1 0x88, length-number_spelled 1 (level_number level))
 length-reply_spelled Ended = length-number_spelled 1 _
+length-reply_spelled (Deciding tid) = omega (arith, length-append (number_spelled 1 0x87) (tid_spelled tid), length-number_spelled 1 0x87, length-tid_spelled tid)
 length-reply_spelled (Unsure tid) = omega (arith, length-append (number_spelled 1 0x8A) (tid_spelled tid), length-number_spelled 1 0x8A, length-tid_spelled tid)
 length-reply_spelled (Refused (Gone tid)) = omega (arith, two_bytes 0xE0 7 (tid_spelled tid), length-tid_spelled tid)
 length-reply_spelled (Refused (BadFrame at)) = omega (arith, two_bytes 0xE0 8 (number_spelled 4 at), length-number_spelled 4 at)

@@ -5,7 +5,7 @@ use Rattle.std.proofs.lemmas.List.{length-append}
 use Rattle.walter_base.specs.declared.message.Level.{Level as HowFar}
 use Rattle.walter_base.specs.declared.message.Refusal.{Refusal}
 use Rattle.walter_base.specs.declared.message.Reply.{Reply}
-use Rattle.walter_base.specs.declared.message.Reply.TheVariants.{Started, Value, Done, Set, Count, Committed, Aborted, Level, Ended, Unsure, Refused}
+use Rattle.walter_base.specs.declared.message.Reply.TheVariants.{Started, Value, Done, Set, Count, Committed, Aborted, Deciding, Level, Ended, Unsure, Refused}
 use Rattle.walter_base.specs.declared.transaction.Cause.{Cause}
 use Rattle.walter_fields.specs.Cursors.{Remainder, Takes, whole_of}
 use Rattle.walter_fields.specs.Spellings.{IsBytes, number_spelled, block_spelled}
@@ -48,10 +48,11 @@ known_kind (Set counts) = inl (omega arith, omega arith)
 known_kind (Count count) = inl (omega arith, omega arith)
 known_kind (Committed version) = inl (omega arith, omega arith)
 known_kind (Aborted why) = inl (omega arith, omega arith)
-known_kind (Level how_far) = inr (inl (omega arith, omega arith))
-known_kind Ended = inr (inl (omega arith, omega arith))
-known_kind (Unsure tid) = inr (inl (omega arith, omega arith))
-known_kind (Refused why) = inr (inr refl)
+known_kind (Deciding tid) = inl (omega arith, omega arith)
+known_kind (Level how_far) = inl (omega arith, omega arith)
+known_kind Ended = inl (omega arith, omega arith)
+known_kind (Unsure tid) = inl (omega arith, omega arith)
+known_kind (Refused why) = inr refl
 
 -- what stands behind the first byte of a value, of an abort, of a level and of a refusal
 known_flag : (reply : Reply) (byte : ℕ) (rest y : List ℕ) → 0x81 ≡ kind_of reply → byte ∷ rest ≡ fields_spelled reply ++ y → byte ≢ 0 → byte ≢ 1 → ⊥

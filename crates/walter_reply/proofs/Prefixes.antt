@@ -6,7 +6,7 @@ use Rattle.walter_base.specs.declared.message.Level.TheVariants as reached
 use Rattle.walter_base.specs.declared.message.Refusal.{Refusal}
 use Rattle.walter_base.specs.declared.message.Refusal.TheVariants.{UnknownContainer, WrongKind, TxFull, TooLong, NoTx, TxOpen, Gone, BadFrame, Down, JournalFull, SetTooWide, SessionsFull, Memory, WrongSite, NotIssued}
 use Rattle.walter_base.specs.declared.message.Reply.{Reply}
-use Rattle.walter_base.specs.declared.message.Reply.TheVariants.{Started, Value, Done, Set, Count, Committed, Aborted, Level, Ended, Unsure, Refused}
+use Rattle.walter_base.specs.declared.message.Reply.TheVariants.{Started, Value, Done, Set, Count, Committed, Aborted, Deciding, Level, Ended, Unsure, Refused}
 use Rattle.walter_base.specs.declared.transaction.Cause.{Cause}
 use Rattle.walter_base.specs.declared.transaction.Cause.TheVariants.{Modified, Locked, Asked}
 use Rattle.walter_fields.specs.Spellings.{number_spelled, signed_spelled, block_spelled}
@@ -27,6 +27,7 @@ kind_of (Set counts) = 0x83
 kind_of (Count count) = 0x84
 kind_of (Committed version) = 0x85
 kind_of (Aborted cause) = 0x86
+kind_of (Deciding tid) = 0x87
 kind_of (Level level) = 0x88
 kind_of Ended = 0x89
 kind_of (Unsure tid) = 0x8A
@@ -41,6 +42,7 @@ fields_spelled (Set counts) = counts_spelled counts
 fields_spelled (Count count) = signed_spelled count
 fields_spelled (Committed version) = version_spelled version
 fields_spelled (Aborted cause) = cause_spelled cause
+fields_spelled (Deciding tid) = tid_spelled tid
 fields_spelled (Level level) = number_spelled 1 (level_number level)
 fields_spelled Ended = []
 fields_spelled (Unsure tid) = tid_spelled tid
@@ -55,6 +57,7 @@ reply_parts (Set counts) x = append_assoc (number_spelled 1 0x83) (counts_spelle
 reply_parts (Count count) x = append_assoc (number_spelled 1 0x84) (signed_spelled count) x
 reply_parts (Committed version) x = append_assoc (number_spelled 1 0x85) (version_spelled version) x
 reply_parts (Aborted cause) x = append_assoc (number_spelled 1 0x86) (cause_spelled cause) x
+reply_parts (Deciding tid) x = append_assoc (number_spelled 1 0x87) (tid_spelled tid) x
 reply_parts (Level level) x = append_assoc (number_spelled 1 0x88) (number_spelled 1 (level_number level)) x
 reply_parts Ended x = refl
 reply_parts (Unsure tid) x = append_assoc (number_spelled 1 0x8A) (tid_spelled tid) x
@@ -68,6 +71,7 @@ kind_of-lt (Set counts) = omega arith
 kind_of-lt (Count count) = omega arith
 kind_of-lt (Committed version) = omega arith
 kind_of-lt (Aborted cause) = omega arith
+kind_of-lt (Deciding tid) = omega arith
 kind_of-lt (Level level) = omega arith
 kind_of-lt Ended = omega arith
 kind_of-lt (Unsure tid) = omega arith
@@ -81,6 +85,7 @@ cause_number-lt Asked = omega arith
 pub level_number-lt : (level : HowFar) → level_number level < 256
 level_number-lt reached.NotCommitted = omega arith
 level_number-lt reached.Running = omega arith
+level_number-lt reached.Deciding = omega arith
 level_number-lt reached.Committed = omega arith
 level_number-lt reached.Durable = omega arith
 level_number-lt reached.Visible = omega arith
@@ -125,6 +130,7 @@ same_cause _ _ x y same fits_a fits_b e = absurd (omega (arith, same))
 same_level : (a b : HowFar) → level_number a ≡ level_number b → a ≡ b
 same_level reached.NotCommitted reached.NotCommitted same = refl
 same_level reached.Running reached.Running same = refl
+same_level reached.Deciding reached.Deciding same = refl
 same_level reached.Committed reached.Committed same = refl
 same_level reached.Durable reached.Durable same = refl
 same_level reached.Visible reached.Visible same = refl
@@ -178,6 +184,7 @@ same_fields (Level a) (Level b) x y same fits_a fits_b e =
     let level = same_level a b numbers.0 in
     ((λ i. Level (level i)), numbers.1)
 same_fields Ended Ended x y same fits_a fits_b e = (refl, e)
+same_fields (Deciding a) (Deciding b) x y same fits_a fits_b e = let parts = same_tid a b x y fits_a fits_b e in ((λ i. Deciding (parts.0 i)), parts.1)
 same_fields (Unsure a) (Unsure b) x y same fits_a fits_b e = let parts = same_tid a b x y fits_a fits_b e in ((λ i. Unsure (parts.0 i)), parts.1)
 same_fields (Refused a) (Refused b) x y same fits_a fits_b e =
     let numbers = same_number 1 (refusal_number a) (refusal_number b) (refusal_fields a ++ x) (refusal_fields b ++ y) (omega (arith, refusal_number-lt a)) (omega (arith, refusal_number-lt b))

@@ -6,7 +6,7 @@ use Rattle.walter_base.specs.declared.message.Level.TheVariants as reached
 use Rattle.walter_base.specs.declared.message.Refusal.{Refusal}
 use Rattle.walter_base.specs.declared.message.Refusal.TheVariants.{UnknownContainer, WrongKind, TxFull, TooLong, NoTx, TxOpen, Gone, BadFrame, Down, JournalFull, SetTooWide, SessionsFull, Memory, WrongSite, NotIssued}
 use Rattle.walter_base.specs.declared.message.Reply.{Reply}
-use Rattle.walter_base.specs.declared.message.Reply.TheVariants.{Started, Value, Done, Set, Count, Committed, Aborted, Level, Ended, Unsure, Refused}
+use Rattle.walter_base.specs.declared.message.Reply.TheVariants.{Started, Value, Done, Set, Count, Committed, Aborted, Deciding, Level, Ended, Unsure, Refused}
 use Rattle.walter_base.specs.declared.transaction.Cause.{Cause}
 use Rattle.walter_base.specs.declared.transaction.Cause.TheVariants.{Modified, Locked, Asked}
 use Rattle.walter_fields.specs.Spellings.{number_spelled, signed_spelled, block_spelled}
@@ -33,6 +33,7 @@ cause_spelled cause = number_spelled 1 (cause_number cause) ++ cause_fields caus
 abbrev pub level_number : HowFar → ℕ
 level_number reached.NotCommitted = 0
 level_number reached.Running = 1
+level_number reached.Deciding = 2
 level_number reached.Committed = 3
 level_number reached.Durable = 4
 level_number reached.Visible = 5
@@ -73,6 +74,7 @@ reply_spelled (Set counts) = number_spelled 1 0x83 ++ counts_spelled counts
 reply_spelled (Count count) = number_spelled 1 0x84 ++ signed_spelled count
 reply_spelled (Committed version) = number_spelled 1 0x85 ++ version_spelled version
 reply_spelled (Aborted cause) = number_spelled 1 0x86 ++ cause_spelled cause
+reply_spelled (Deciding tid) = number_spelled 1 0x87 ++ tid_spelled tid
 reply_spelled (Level level) = number_spelled 1 0x88 ++ number_spelled 1 (level_number level)
 reply_spelled Ended = number_spelled 1 0x89
 reply_spelled (Unsure tid) = number_spelled 1 0x8A ++ tid_spelled tid
@@ -92,6 +94,7 @@ size_of (Aborted (Locked oid owner)) = 27
 size_of (Aborted Asked) = 2
 size_of (Level level) = 2
 size_of Ended = 1
+size_of (Deciding tid) = 14
 size_of (Unsure tid) = 14
 size_of (Refused (Gone tid)) = 15
 size_of (Refused (BadFrame at)) = 6
@@ -122,6 +125,7 @@ IsReply (Committed version) = IsVersion version
 IsReply (Aborted cause) = IsCause cause
 IsReply (Level level) = Unit {0}
 IsReply Ended = Unit {0}
+IsReply (Deciding tid) = IsTid tid
 IsReply (Unsure tid) = IsTid tid
 IsReply (Refused refusal) = IsRefusal refusal
 
@@ -142,7 +146,7 @@ HasShortValue reply = Unit {0}
 
 -- the first byte of a reply
 abbrev pub IsKind : ℕ → Type 0
-IsKind byte = ((0x80 ≤ byte) × (byte ≤ 0x86)) ⊎ ((0x88 ≤ byte) × (byte ≤ 0x8A)) ⊎ (byte ≡ 0xE0)
+IsKind byte = ((0x80 ≤ byte) × (byte ≤ 0x8A)) ⊎ (byte ≡ 0xE0)
 
 -- behind this front the byte stands for nothing: it is no reply's first byte, no flag of a value, no
 -- number of a cause, of a level or of a refusal

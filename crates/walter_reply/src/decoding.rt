@@ -152,6 +152,14 @@ fn read_aborted(cursor: &mut Cursor) -> Result<Reply, Stop>
     }
 }
 
+/// What stands behind the first byte of Deciding.
+fn read_deciding(cursor: &mut Cursor) -> Result<Reply, Stop>
+    ensures ends { IfOk result (EndsWith 0x87 cursor.old cursor.new) }
+    ensures stop { IfErr result (StopsBehind 0x87 cursor.old.left) }
+{
+    Ok(Reply::Deciding(read_tid(cursor)?))
+}
+
 /// What stands behind the first byte of Level.
 fn read_level(cursor: &mut Cursor) -> Result<Reply, Stop>
     ensures ends { IfOk result (EndsWith 0x88 cursor.old cursor.new) }
@@ -160,6 +168,7 @@ fn read_level(cursor: &mut Cursor) -> Result<Reply, Stop>
     match cursor.u8()? {
         0 => Ok(Reply::Level(Level::NotCommitted)),
         1 => Ok(Reply::Level(Level::Running)),
+        2 => Ok(Reply::Level(Level::Deciding)),
         3 => Ok(Reply::Level(Level::Committed)),
         4 => Ok(Reply::Level(Level::Durable)),
         5 => Ok(Reply::Level(Level::Visible)),
@@ -223,6 +232,7 @@ fn read_fields(alloc: Global, cursor: &mut Cursor, kind: u8) -> Result<Reply, St
         0x84 => read_count(cursor),
         0x85 => read_committed(cursor),
         0x86 => read_aborted(cursor),
+        0x87 => read_deciding(cursor),
         0x88 => read_level(cursor),
         0x89 => Ok(Reply::Ended),
         0x8A => read_unsure(cursor),

@@ -23,6 +23,7 @@ fn number_of_level(level: Level) -> u8
     match level {
         Level::NotCommitted => 0,
         Level::Running => 1,
+        Level::Deciding => 2,
         Level::Committed => 3,
         Level::Durable => 4,
         Level::Visible => 5,
@@ -122,7 +123,7 @@ pub fn size_of(reply: &Reply) -> usize
     ensures { result ≡ length (reply_spelled reply.now) }
 {
     match reply {
-        Reply::Started(_) | Reply::Unsure(_) => 14,
+        Reply::Started(_) | Reply::Deciding(_) | Reply::Unsure(_) => 14,
         Reply::Value(None) | Reply::Aborted(Cause::Asked) | Reply::Level(_) => 2,
         Reply::Value(Some(bytes)) => 6 + bytes.len(),
         Reply::Done | Reply::Ended => 1,
@@ -176,6 +177,10 @@ pub fn append(out: &mut Appender, reply: &Reply)
         Reply::Aborted(cause) => {
             out.u8(0x86);
             append_cause(out, *cause);
+        }
+        Reply::Deciding(tid) => {
+            out.u8(0x87);
+            write_tid(out, *tid);
         }
         Reply::Level(level) => {
             out.u8(0x88);

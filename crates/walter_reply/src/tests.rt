@@ -68,7 +68,9 @@ const ZERO: [u8; 37] = [
 /// Whether the replies are one.
 fn are_same(one: &Reply, other: &Reply) -> bool {
     match (one, other) {
-        (Reply::Started(a), Reply::Started(b)) | (Reply::Unsure(a), Reply::Unsure(b)) => a == b,
+        (Reply::Started(a), Reply::Started(b))
+        | (Reply::Deciding(a), Reply::Deciding(b))
+        | (Reply::Unsure(a), Reply::Unsure(b)) => a == b,
         (Reply::Value(Some(v)), Reply::Value(Some(w))) => v.as_slice() == w.as_slice(),
         (Reply::Set(a), Reply::Set(b)) => a.as_slice() == b.as_slice(),
         (Reply::Count(a), Reply::Count(b)) => a == b,
@@ -136,6 +138,10 @@ fn each_reply_has_its_spelling(rt: HostRuntime) -> Result<(), Fail> {
         (Reply::Aborted(Cause::Asked), &[0x86, 3]),
         (Reply::Ended, &[0x89]),
         (
+            Reply::Deciding(TID),
+            &[0x87, 1, 0, 0, 0, 2, 0, 0, 0, 0, 0, 0, 0, 3],
+        ),
+        (
             Reply::Unsure(TID),
             &[0x8A, 1, 0, 0, 0, 2, 0, 0, 0, 0, 0, 0, 0, 3],
         ),
@@ -162,6 +168,7 @@ fn each_reply_has_its_spelling(rt: HostRuntime) -> Result<(), Fail> {
         ),
         (Reply::Level(Level::NotCommitted), &[0x88, 0]),
         (Reply::Level(Level::Running), &[0x88, 1]),
+        (Reply::Level(Level::Deciding), &[0x88, 2]),
         (Reply::Level(Level::Committed), &[0x88, 3]),
         (Reply::Level(Level::Durable), &[0x88, 4]),
         (Reply::Level(Level::Visible), &[0x88, 5]),
@@ -210,11 +217,11 @@ fn a_bad_frame_has_its_place(rt: HostRuntime) -> Result<(), Fail> {
     let table: [(&[u8], u32); 39] = [
         (&[], 0),
         (&[1], 0),
-        (&[0x87, 0x82], 0),
+        (&[0x8B, 0x82], 0),
         (&[0x81], 1),
         (&[0x81, 2, 0], 1),
         (&[0x88], 1),
-        (&[0x88, 2], 1),
+        (&[0x87, 1, 0], 3),
         (&[0x88, 6], 1),
         (&[0x88, 0, 0], 2),
         (&[0x8A, 1, 0], 3),

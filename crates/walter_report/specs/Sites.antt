@@ -37,8 +37,8 @@ last_epoch epoch (rec ∷ recs) = last_epoch (epoch_after (Some rec) epoch) recs
 
 -- the numbers of the site's own commits among records, in order
 abbrev pub own_number : Record → List ℕ
-own_number (Boot epoch) = []
 own_number (Own seq tx) = seq ∷ []
+own_number rec = []
 
 abbrev pub own_numbers : List Record → List ℕ
 own_numbers recs = flat_map own_number recs

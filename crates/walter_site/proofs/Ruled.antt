@@ -11,7 +11,7 @@ use Rattle.walter_base.specs.declared.message.BadFrame.{BadFrame}
 use Rattle.walter_base.specs.declared.message.Record.{Record}
 use Rattle.walter_base.specs.declared.message.Refusal.TheVariants.{TxFull, TooLong, SetTooWide, SessionsFull, WrongSite, NotIssued}
 use Rattle.walter_base.specs.declared.message.Reply.{Reply}
-use Rattle.walter_base.specs.declared.message.Reply.TheVariants.{Started, Value, Done, Set, Count, Committed, Aborted, Level, Ended, Unsure, Refused}
+use Rattle.walter_base.specs.declared.message.Reply.TheVariants.{Started, Value, Done, Set, Count, Committed, Aborted, Deciding, Level, Ended, Unsure, Refused}
 use Rattle.walter_base.specs.declared.message.Request.{Request}
 use Rattle.walter_base.specs.declared.message.Request.TheVariants.{Start, Read, Write, SetAdd, SetDel, SetRead, SetReadId, Commit, Abort, Level as LevelAsked}
 use Rattle.walter_base.specs.declared.names.Kind.{Kind}
@@ -214,6 +214,7 @@ fair_short catalog i K call session (Committed version) fair = tt
 fair_short catalog i K call session (Aborted cause) fair = tt
 fair_short catalog i K call session (Level level) fair = tt
 fair_short catalog i K call session Ended fair = tt
+fair_short catalog i K call session (Deciding tid) fair = tt
 fair_short catalog i K call session (Unsure tid) fair = tt
 fair_short catalog i K call session (Refused refusal) fair = tt
 

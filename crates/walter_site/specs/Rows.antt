@@ -25,8 +25,8 @@ rows_from h = map (row_with (version_of h)) h.tx.updates
 -- the rows of the transaction in a record, if it has one
 abbrev pub rows_told : Option Record → List Row
 rows_told None = []
-rows_told (Some (Boot epoch)) = []
 rows_told (Some (Own seq tx)) = rows_from (record { seq = seq; tx = tx })
+rows_told (Some rec) = []
 
 -- whether an update changes the object
 abbrev pub changes : ObjId → Update → Bool

@@ -65,8 +65,8 @@ refused_or (Some refusal) other = refuses refusal
 -- what holds the record can take it without memory, and so can the rows of its objects
 abbrev pub CanKeep : Site → Option Record → Type 0
 CanKeep s None = Unit {0}
-CanKeep s (Some (Boot epoch)) = Unit {0}
 CanKeep s (Some (Own seq tx)) = (vec_len s.held < vec_capacity s.held) × HaveRoom s.history tx.updates
+CanKeep s (Some rec) = Unit {0}
 
 -- what the reply changes can be changed without memory
 abbrev pub CanAnswer : Site → ℕ → Reply → Type 0
@@ -82,8 +82,8 @@ pub record HasRoom (s : Site) (plan : Plan) : Type 0 where
 -- there is no record, or it is the next commit, of declared updates with short values
 abbrev pub IsNext : Catalog → SiteId → Knowledge → Option Record → Type 0
 IsNext catalog i K None = Unit {0}
-IsNext catalog i K (Some (Boot epoch)) = ⊥
 IsNext catalog i K (Some (Own seq tx)) = (seq ≡ next_seq i K) × All HasShortValue tx.updates × All (IsDeclared catalog) tx.updates
+IsNext catalog i K (Some rec) = ⊥
 
 -- why a record is not replayed
 abbrev pub IsReplayFault : Catalog → SiteId → Knowledge → Record → ReplayFault → Type 0

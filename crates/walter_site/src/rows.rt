@@ -32,7 +32,7 @@ pub fn rows_told(alloc: Global, rec: &Option<Record>) -> Mem<Vec<Row>>
             };
             rows_for(alloc, version, tx.updates.as_slice())
         }
-        Some(Record::Boot(_)) | None => Ok(Vec::new(alloc)),
+        _ => Ok(Vec::new(alloc)),
     }
 }
 

@@ -420,6 +420,7 @@ impl Site {
             Reply::Value(_)
             | Reply::Set(_)
             | Reply::Count(_)
+            | Reply::Deciding(_)
             | Reply::Level(_)
             | Reply::Refused(_) => {}
         }
@@ -496,6 +497,7 @@ impl Site {
         match rec {
             Record::Boot(epoch) => self.replay_boot(epoch),
             Record::Own(seq, tx) => self.replay_own(seq, tx),
+            _ => Err(ReplayFault::Unfit),
         }
     }
 

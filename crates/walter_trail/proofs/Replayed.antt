@@ -2,7 +2,7 @@
 use Rattle.std.proofs.Common.{◌≡◌, ℕ, ◌+◌, List, [], ◌∷◌, ◌++◌, Option, Some, None, refl, ap, ◌∙◌, subst, arith}
 use Rattle.walter_base.specs.declared.catalog.Catalog.{Catalog}
 use Rattle.walter_base.specs.declared.message.Record.{Record}
-use Rattle.walter_base.specs.declared.message.Record.TheVariants.{Boot, Own}
+use Rattle.walter_base.specs.declared.message.Record.TheVariants.{Boot, Own, Got, Seen, Prepared, Released, SlowBegin, SlowEnd, Marks}
 use Rattle.walter_base.specs.declared.names.SiteId.{SiteId}
 use Rattle.walter_trail.specs.declared.trail.Outcome.{Outcome}
 use Rattle.walter_trail.specs.declared.trail.TrailEvent.{TrailEvent}
@@ -32,18 +32,39 @@ follow_moved catalog i K other (Own seq tx) epoch committed follow = record {
   fast = follow.fast;
   declared = follow.declared;
 }
+follow_moved catalog i K other (Got from seq tx) epoch committed follow = follow
+follow_moved catalog i K other (Seen from seq) epoch committed follow = follow
+follow_moved catalog i K other (Prepared from slow tid objects) epoch committed follow = follow
+follow_moved catalog i K other (Released from slow) epoch committed follow = follow
+follow_moved catalog i K other (SlowBegin slow tx) epoch committed follow = follow
+follow_moved catalog i K other (SlowEnd slow) epoch committed follow = follow
+follow_moved catalog i K other (Marks durable visible) epoch committed follow = follow
 
 -- what is lost is lost before a record or after it
 pub lost_recorded : (i : SiteId) (K : Knowledge) (wrote : Option Record) → lost (recorded i wrote K) ≡ recorded i wrote (lost K)
 lost_recorded i K None = refl
 lost_recorded i K (Some (Boot epoch)) = refl
 lost_recorded i K (Some (Own seq tx)) = refl
+lost_recorded i K (Some (Got from seq tx)) = refl
+lost_recorded i K (Some (Seen from seq)) = refl
+lost_recorded i K (Some (Prepared from slow tid objects)) = refl
+lost_recorded i K (Some (Released from slow)) = refl
+lost_recorded i K (Some (SlowBegin slow tx)) = refl
+lost_recorded i K (Some (SlowEnd slow)) = refl
+lost_recorded i K (Some (Marks durable visible)) = refl
 
 -- so what is left behind an event goes by its record alone
 pub lost_after : (i : SiteId) (K : Knowledge) (event : TrailEvent) (outcome : Outcome) (wrote : Option Record) → lost (after i K event outcome wrote) ≡ recorded i wrote (lost K)
 lost_after i K event outcome None = refl
 lost_after i K event outcome (Some (Boot epoch)) = refl
 lost_after i K event outcome (Some (Own seq tx)) = refl
+lost_after i K event outcome (Some (Got from seq tx)) = refl
+lost_after i K event outcome (Some (Seen from seq)) = refl
+lost_after i K event outcome (Some (Prepared from slow tid objects)) = refl
+lost_after i K event outcome (Some (Released from slow)) = refl
+lost_after i K event outcome (Some (SlowBegin slow tx)) = refl
+lost_after i K event outcome (Some (SlowEnd slow)) = refl
+lost_after i K event outcome (Some (Marks durable visible)) = refl
 
 -- whether a record can follow goes by what is left
 pub follows_lost : (catalog : Catalog) (i : SiteId) (K : Knowledge) (rec : Record) → CanFollow catalog i K rec → CanFollow catalog i (lost K) rec

@@ -59,12 +59,12 @@ read_updates K s = flat_map (λ h. h.tx.updates) (filter (sees s.snapshot) K.hel
 abbrev pub epoch_after : Option Record → ℕ → ℕ
 epoch_after None epoch = epoch
 epoch_after (Some (Boot next)) epoch = next
-epoch_after (Some (Own seq tx)) epoch = epoch
+epoch_after (Some rec) epoch = epoch
 
 abbrev pub starts_booted : Option Record → ℕ → ℕ
 starts_booted None starts = starts
 starts_booted (Some (Boot next)) starts = 0
-starts_booted (Some (Own seq tx)) starts = starts
+starts_booted (Some rec) starts = starts
 
 abbrev pub starts_replied : Outcome → ℕ → ℕ
 starts_replied (Replied (Started tid)) starts = starts + 1
@@ -72,13 +72,13 @@ starts_replied outcome starts = starts
 
 abbrev pub committed_after : SiteId → Option Record → List ℕ → List ℕ
 committed_after i None committed = committed
-committed_after i (Some (Boot next)) committed = committed
 committed_after i (Some (Own seq tx)) committed = slice_set committed i.0 (entry_at committed i + 1)
+committed_after i (Some rec) committed = committed
 
 abbrev pub held_after : Option Record → List Held → List Held
 held_after None held = held
-held_after (Some (Boot next)) held = held
 held_after (Some (Own seq tx)) held = held ++ record { seq = seq; tx = tx } ∷ []
+held_after (Some rec) held = held
 
 -- what is known after a record
 abbrev pub recorded : SiteId → Option Record → Knowledge → Knowledge

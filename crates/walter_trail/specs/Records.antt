@@ -3,7 +3,7 @@ use Rattle.std.specs.Prelude.{◌≡◌, ◌+◌, ◌<◌, ℕ, List, [], ◌∷
 use Rattle.std.specs.FinMap.{get}
 use Rattle.walter_base.specs.declared.catalog.Catalog.{Catalog}
 use Rattle.walter_base.specs.declared.message.Record.{Record}
-use Rattle.walter_base.specs.declared.message.Record.TheVariants.{Boot, Own}
+use Rattle.walter_base.specs.declared.message.Record.TheVariants.{Boot, Own, Got, SlowBegin}
 use Rattle.walter_base.specs.declared.names.Kind.{Kind}
 use Rattle.walter_base.specs.declared.names.Kind.TheVariants.{Regular, Cset}
 use Rattle.walter_base.specs.declared.names.ObjId.{ObjId}
@@ -11,7 +11,7 @@ use Rattle.walter_base.specs.declared.names.SiteId.{SiteId}
 use Rattle.walter_base.specs.declared.transaction.Tx.{Tx}
 use Rattle.walter_base.specs.declared.update.Update.{Update}
 use Rattle.walter_base.specs.declared.update.Update.TheVariants.{Write, Add, Del}
-use Rattle.walter_base.specs.Sizes.{CanBeSpelled}
+use Rattle.walter_base.specs.Sizes.{CanBeSpelled, CanBeRecorded}
 use Rattle.walter_trail.specs.Knowledge.{Knowledge, recorded}
 use Rattle.walter_trail.specs.Rule.{next_seq}
 
@@ -32,10 +32,12 @@ pub record IsNextOwn (catalog : Catalog) (i : SiteId) (K : Knowledge) (seq : ℕ
   pub fast : tx.slow ≡ 0
   pub declared : All (IsDeclared catalog) tx.updates
 
--- the record can follow those that tell this
+-- The record can follow those that tell this. One site hears of no commit but its own, decides each at once, and calls each
+-- durable and visible at once: no record of another kind follows.
 abbrev pub CanFollow : Catalog → SiteId → Knowledge → Record → Type 0
 CanFollow catalog i K (Boot epoch) = epoch ≡ K.epoch + 1
 CanFollow catalog i K (Own seq tx) = IsNextOwn catalog i K seq tx
+CanFollow catalog i K rec = ⊥
 
 -- what these records tell, behind those that tell this
 abbrev pub replayed : SiteId → Knowledge → List Record → Knowledge
@@ -49,5 +51,7 @@ CanAllFollow catalog i K (rec ∷ records) = CanFollow catalog i K rec × CanAll
 
 -- the sizes of a record of a site among so many
 abbrev pub IsRecordAmong : ℕ → Record → Type 0
-IsRecordAmong sites (Boot epoch) = Unit {0}
 IsRecordAmong sites (Own seq tx) = (length tx.start ≡ sites) × CanBeSpelled tx
+IsRecordAmong sites (Got from seq tx) = (length tx.start ≡ sites) × CanBeSpelled tx
+IsRecordAmong sites (SlowBegin slow tx) = (length tx.start ≡ sites) × CanBeSpelled tx
+IsRecordAmong sites rec = CanBeRecorded rec

@@ -49,7 +49,7 @@ as_ruled expected = record { wrote = expected.wrote; outcome = expected.outcome;
 -- the outcome where the record meets a fault of the disk: a client is told the transaction's name
 abbrev pub failure : TrailEvent → Record → Outcome
 failure (Call client call) (Own seq tx) = Replied (Unsure tx.tid)
-failure (Call client call) (Boot epoch) = Failed
+failure (Call client call) rec = Failed
 failure Stop rec = Failed
 failure Restart rec = Failed
 

@@ -7,7 +7,7 @@ use Rattle.walter_base.specs.declared.catalog.Catalog.{Catalog}
 use Rattle.walter_base.specs.declared.containers.Container.{Container}
 use Rattle.walter_base.specs.declared.message.BadFrame.{BadFrame as Bad}
 use Rattle.walter_base.specs.declared.message.Record.{Record}
-use Rattle.walter_base.specs.declared.message.Record.TheVariants.{Boot, Own}
+use Rattle.walter_base.specs.declared.message.Record.TheVariants.{Boot, Own, Got, Seen, Prepared, Released, SlowBegin, SlowEnd, Marks}
 use Rattle.walter_base.specs.declared.message.Reply.TheVariants.{Committed, Aborted, Unsure}
 use Rattle.walter_base.specs.declared.message.Request.{Request}
 use Rattle.walter_base.specs.declared.message.Request.TheVariants.{Start, Read, Write, SetAdd, SetDel, SetRead, SetReadId, Commit, Abort, Level}
@@ -57,6 +57,7 @@ pub record IsCommitDue (i : SiteId) (S : Standing) (event : TrailEvent) (seq : �
 abbrev pub IsDue : SiteId → Standing → TrailEvent → Record → Type 0
 IsDue i S event (Boot epoch) = IsBootDue S event epoch
 IsDue i S event (Own seq tx) = IsCommitDue i S event seq tx
+IsDue i S event rec = ⊥
 
 -- what is expected of an event: what it records is due, a commit is answered by its version, and an abort has its cause
 pub record IsDecided (i : SiteId) (S : Standing) (event : TrailEvent) (x : Expected) : Type 0 where
@@ -217,6 +218,13 @@ only_fair i S event outcome named = record {
 failure_named : (S : Standing) (event : TrailEvent) (rec : Record) → IsNamed S.knows event None (failure event rec)
 failure_named S (Call client call) (Own seq tx) = tt
 failure_named S (Call client call) (Boot epoch) = tt
+failure_named S (Call client call) (Got from seq tx) = tt
+failure_named S (Call client call) (Seen from seq) = tt
+failure_named S (Call client call) (Prepared from slow tid objects) = tt
+failure_named S (Call client call) (Released from slow) = tt
+failure_named S (Call client call) (SlowBegin slow tx) = tt
+failure_named S (Call client call) (SlowEnd slow) = tt
+failure_named S (Call client call) (Marks durable visible) = tt
 failure_named S Stop rec = tt
 failure_named S Restart rec = tt
 

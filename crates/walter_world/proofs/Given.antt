@@ -6,7 +6,7 @@ use Rattle.walter_base.specs.declared.catalog.Catalog.{Catalog}
 use Rattle.walter_base.specs.declared.containers.Container.{Container}
 use Rattle.walter_base.specs.declared.message.BadFrame.{BadFrame as Bad}
 use Rattle.walter_base.specs.declared.message.Record.{Record}
-use Rattle.walter_base.specs.declared.message.Record.TheVariants.{Boot, Own}
+use Rattle.walter_base.specs.declared.message.Record.TheVariants.{Boot, Own, Got, Seen, Prepared, Released, SlowBegin, SlowEnd, Marks}
 use Rattle.walter_base.specs.declared.message.Reply.TheVariants.{Started, Done}
 use Rattle.walter_base.specs.declared.message.Request.{Request}
 use Rattle.walter_base.specs.declared.message.Request.TheVariants.{Start, Read, Write, SetAdd, SetDel, SetRead, SetReadId, Commit, Abort, Level}
@@ -151,6 +151,13 @@ module _ (catalog : Catalog) (i : SiteId) (S : Standing) where
   failure_given : (event : TrailEvent) (rec : Record) → IsGiven catalog i event (failure event rec)
   failure_given (Call client call) (Own seq tx) = tt
   failure_given (Call client call) (Boot epoch) = tt
+  failure_given (Call client call) (Got from seq tx) = tt
+  failure_given (Call client call) (Seen from seq) = tt
+  failure_given (Call client call) (Prepared from slow tid objects) = tt
+  failure_given (Call client call) (Released from slow) = tt
+  failure_given (Call client call) (SlowBegin slow tx) = tt
+  failure_given (Call client call) (SlowEnd slow) = tt
+  failure_given (Call client call) (Marks durable visible) = tt
   failure_given Stop rec = tt
   failure_given Restart rec = tt
 

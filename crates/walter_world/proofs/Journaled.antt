@@ -5,7 +5,7 @@ use Rattle.std.proofs.lemmas.Option.{IfSome_then}
 use Rattle.walter_base.specs.declared.catalog.Catalog.{Catalog}
 use Rattle.walter_base.specs.declared.message.BadFrame.{BadFrame}
 use Rattle.walter_base.specs.declared.message.Record.{Record}
-use Rattle.walter_base.specs.declared.message.Record.TheVariants.{Boot, Own}
+use Rattle.walter_base.specs.declared.message.Record.TheVariants.{Boot, Own, Got, Seen, Prepared, Released, SlowBegin, SlowEnd, Marks}
 use Rattle.walter_base.specs.declared.message.Reply.TheVariants.{Started, Done, Committed, Aborted, Ended, Unsure}
 use Rattle.walter_base.specs.declared.message.Request.{Request}
 use Rattle.walter_base.specs.declared.message.Request.TheVariants.{Write, SetAdd, SetDel}
@@ -113,6 +113,13 @@ due_follows catalog i S event (Own seq tx) is due =
       fast = ap (λ (t : Tx). t.slow) due.tx_is;
       declared = subst (λ (t : Tx). All (IsDeclared catalog) t.updates) (sym due.tx_is) sound.declared;
     }
+due_follows catalog i S event (Got from seq tx) is due = due
+due_follows catalog i S event (Seen from seq) is due = due
+due_follows catalog i S event (Prepared from slow tid objects) is due = due
+due_follows catalog i S event (Released from slow) is due = due
+due_follows catalog i S event (SlowBegin slow tx) is due = due
+due_follows catalog i S event (SlowEnd slow) is due = due
+due_follows catalog i S event (Marks durable visible) is due = due
 
 -- what is left behind an event, and behind a fall, goes by its record
 left_after : (i : SiteId) (wrote : Option Record) (K : Knowledge) (event : TrailEvent) (outcome : Outcome)
@@ -176,6 +183,13 @@ module _ (catalog : Catalog) (capacity : ℕ) (i : SiteId) (S : Standing) (event
   ]
   booted_by (Some (Boot next)) wrote up = let due : IsBootDue S event next = fair.due (Boot next) wrote in let n = due.next in omega (arith, n)
   booted_by (Some (Own seq tx)) wrote up = let due : IsCommitDue i S event seq tx = fair.due (Own seq tx) wrote in is.booted due.up
+  booted_by (Some (Got from seq tx)) wrote up = absurd (fair.due (Got from seq tx) wrote)
+  booted_by (Some (Seen from seq)) wrote up = absurd (fair.due (Seen from seq) wrote)
+  booted_by (Some (Prepared from slow tid objects)) wrote up = absurd (fair.due (Prepared from slow tid objects) wrote)
+  booted_by (Some (Released from slow)) wrote up = absurd (fair.due (Released from slow) wrote)
+  booted_by (Some (SlowBegin slow tx)) wrote up = absurd (fair.due (SlowBegin slow tx) wrote)
+  booted_by (Some (SlowEnd slow)) wrote up = absurd (fair.due (SlowEnd slow) wrote)
+  booted_by (Some (Marks durable visible)) wrote up = absurd (fair.due (Marks durable visible) wrote)
 
   sound_then : AreSound catalog i then_knows.sessions
   sound_then =

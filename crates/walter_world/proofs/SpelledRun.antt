@@ -8,7 +8,7 @@ use Rattle.walter_base.specs.declared.containers.Container.{Container}
 use Rattle.walter_base.specs.declared.message.BadFrame.{BadFrame}
 use Rattle.walter_base.specs.declared.message.Level.TheVariants.{NotCommitted, Running, Visible}
 use Rattle.walter_base.specs.declared.message.Record.{Record}
-use Rattle.walter_base.specs.declared.message.Record.TheVariants.{Boot, Own}
+use Rattle.walter_base.specs.declared.message.Record.TheVariants.{Boot, Own, Got, Seen, Prepared, Released, SlowBegin, SlowEnd, Marks}
 use Rattle.walter_base.specs.declared.message.Refusal.{Refusal}
 use Rattle.walter_base.specs.declared.message.Refusal.TheVariants.{WrongSite, NotIssued}
 use Rattle.walter_base.specs.declared.message.Request.{Request}
@@ -78,6 +78,7 @@ abbrev pub IsReady : ℕ → List ℕ → List Held → List Step → Option Rec
 IsReady epoch committed held h None = Unit {0}
 IsReady epoch committed held h (Some (Boot next)) = next ≡ epoch + 1
 IsReady epoch committed held h (Some (Own seq tx)) = CanLand committed held h seq tx
+IsReady epoch committed held h (Some rec) = ⊥
 
 -- what the records of a site that is down tell is what the history says. All names that it gave are of epochs before the next.
 pub record HoldsDown (K : Knowledge) (flight : Option Record) (h : List Step) : Type 0 where
@@ -376,6 +377,13 @@ module _ (catalog : Catalog) (K : Knowledge) (records : List Record) (gone : ℕ
       } in
       subst (λ (v : TrailEvent). HoldsAfter site h v (record { wrote = None; outcome = failure v (Own seq tx); flight = Some (Own seq tx) })) (sym due.asked.asked)
       (subst (λ steps. HoldsDown (lost K) (Some (Own seq tx)) steps) (sym (append-nil h)) (falls K h (Some (Own seq tx)) is ready))
+  unsure_keeps event (Got from seq tx) due = absurd due
+  unsure_keeps event (Seen from seq) due = absurd due
+  unsure_keeps event (Prepared from slow tid objects) due = absurd due
+  unsure_keeps event (Released from slow) due = absurd due
+  unsure_keeps event (SlowBegin slow tx) due = absurd due
+  unsure_keeps event (SlowEnd slow) due = absurd due
+  unsure_keeps event (Marks durable visible) due = absurd due
 
   -- an event that memory runs out in, or that finds no place
   want_keeps : (event : TrailEvent) → HoldsAfter site h event (only (want event))
@@ -442,6 +450,13 @@ module _ (catalog : Catalog) (K : Knowledge) (records : List Record) (flight : O
   boot_fails event (Boot epoch) due =
       subst (λ (v : TrailEvent). HoldsAfter stopped h v (record { wrote = None; outcome = failure v (Boot epoch); flight = Some (Boot epoch) })) (sym due.restart)
       (lost_again (Some (Boot epoch)) due.next)
+  boot_fails event (Got from seq tx) due = absurd due
+  boot_fails event (Seen from seq) due = absurd due
+  boot_fails event (Prepared from slow tid objects) due = absurd due
+  boot_fails event (Released from slow) due = absurd due
+  boot_fails event (SlowBegin slow tx) due = absurd due
+  boot_fails event (SlowEnd slow) due = absurd due
+  boot_fails event (Marks durable visible) due = absurd due
 
   want_keeps_down : (event : TrailEvent) → HoldsAfter stopped h event (only (want event))
   want_keeps_down (Call client call) = still_down
@@ -480,6 +495,13 @@ module _ (catalog : Catalog) (K : Knowledge) (records : List Record) (flight : O
       } in
       subst (λ (n : ℕ). HoldsDown (recorded_in the_site (Some (Own n tx)) K) None (h ++ recorded (Some (Own n tx)))) (sym ready.seq_is)
       (subst (λ (t : Tx). HoldsDown (recorded_in the_site (Some (Own number t)) K) None (h ++ recorded (Some (Own number t)))) (sym ready.tx_is) now)
+  landed (Got from seq tx) ready = absurd ready
+  landed (Seen from seq) ready = absurd ready
+  landed (Prepared from slow tid objects) ready = absurd ready
+  landed (Released from slow) ready = absurd ready
+  landed (SlowBegin slow tx) ready = absurd ready
+  landed (SlowEnd slow) ready = absurd ready
+  landed (Marks durable visible) ready = absurd ready
 
 -- an event comes to what it may
 comes_at : (catalog : Catalog) (capacity : ℕ) (up : Bool) (K : Knowledge) (records : List Record) (flight : Option Record) (gone : ℕ → Option Tid) (h : List Step)

@@ -3,7 +3,7 @@ use Rattle.std.specs.Prelude.{ℕ, ℤ, List, [], ◌∷◌, ◌++◌, reverse, 
 use Rattle.walter_base.specs.declared.catalog.Catalog.{Catalog}
 use Rattle.walter_base.specs.declared.message.BadFrame.{BadFrame}
 use Rattle.walter_base.specs.declared.message.Level.{Level as HowFar}
-use Rattle.walter_base.specs.declared.message.Level.TheVariants.{NotCommitted, Running, Committed as IsCommitted, Durable, Visible}
+use Rattle.walter_base.specs.declared.message.Level.TheVariants.{NotCommitted, Running, Deciding, Committed as IsCommitted, Durable, Visible}
 use Rattle.walter_base.specs.declared.message.Record.{Record}
 use Rattle.walter_base.specs.declared.message.Record.TheVariants.{Boot, Own}
 use Rattle.walter_base.specs.declared.message.Reply.TheVariants.{Started, Value, Done, Set, Count, Committed, Aborted, Level}
@@ -35,8 +35,8 @@ the_site = record { 0 = 0 }
 -- the step of a record
 abbrev pub recorded : Option Record → List Step
 recorded None = []
-recorded (Some (Boot epoch)) = []
 recorded (Some (Own seq tx)) = Commit tx.tid tx.updates ∷ []
+recorded (Some rec) = []
 
 -- the update that a request did, and the read of a request that was answered by a value, by counts or by a count
 abbrev pub did : Result Request BadFrame → Session → List Step
@@ -72,6 +72,7 @@ of_session steps (Some s) = steps s
 abbrev pub leveled : HowFar → Tid → List Step
 leveled NotCommitted tid = Told tid (OfLevel ToldNotCommitted) ∷ []
 leveled Running tid = []
+leveled Deciding tid = []
 leveled IsCommitted tid = Told tid (OfLevel ToldCommitted) ∷ []
 leveled Durable tid = Told tid (OfLevel ToldDurable) ∷ []
 leveled Visible tid = Told tid (OfLevel ToldVisible) ∷ []

@@ -8,7 +8,7 @@ use walter_trail::{Entry, Outcome, TrailEvent};
 fn told_level(level: HowFar) -> Option<Notice> {
     match level {
         HowFar::NotCommitted => Some(Notice::Level(Level::NotCommitted)),
-        HowFar::Running => None,
+        HowFar::Running | HowFar::Deciding => None,
         HowFar::Committed => Some(Notice::Level(Level::Committed)),
         HowFar::Durable => Some(Notice::Level(Level::Durable)),
         HowFar::Visible => Some(Notice::Level(Level::Visible)),

@@ -6,5 +6,5 @@ pub returns-in_default-clause-stop : goal.returns-in_default-clause-stop
 returns-in_default-clause-stop c =
     unknown_kind c.args.kind c.args.cursor.now.left (omega arith) (λ known. elim known [
       | inl within ↦ omega (arith, within.0, within.1)
-      | inr others ↦ elim others [ inl within ↦ omega (arith, within.0, within.1) | inr is ↦ omega (arith, is) ]
+      | inr is ↦ omega (arith, is)
     ])

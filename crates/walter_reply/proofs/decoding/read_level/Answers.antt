@@ -12,4 +12,4 @@ returns-in_err-u8-clause-stop c =
 
 pub returns-in_default-clause-stop : goal.returns-in_default-clause-stop
 returns-in_default-clause-stop c =
-    unknown_level c.in_ok-u8.field-0 c.args.cursor.now.left c.u8.new.self.left (omega arith) (λ e. omega (arith, e)) (λ e. omega (arith, e)) (λ e. omega (arith, e)) (λ e. omega (arith, e)) (λ e. omega (arith, e)) c.in_ok-u8.ensures.taken.front
+    unknown_level c.in_ok-u8.field-0 c.args.cursor.now.left c.u8.new.self.left (omega arith) (λ e. omega (arith, e)) (λ e. omega (arith, e)) (λ e. omega (arith, e)) (λ e. omega (arith, e)) (λ e. omega (arith, e)) (λ e. omega (arith, e)) c.in_ok-u8.ensures.taken.front

@@ -2,7 +2,7 @@
 use Rattle.std.proofs.Common.{◌≡◌, ℕ, Option, Some, None, subst, sym}
 use Rattle.std.specs.Prelude.{IfSome}
 use Rattle.walter_base.specs.declared.message.Record.{Record}
-use Rattle.walter_base.specs.declared.message.Record.TheVariants.{Boot, Own}
+use Rattle.walter_base.specs.declared.message.Record.TheVariants.{Boot, Own, Got, Seen, Prepared, Released, SlowBegin, SlowEnd, Marks}
 use Rattle.walter_base.specs.Sizes.{CanBeRecorded}
 use Rattle.walter_trail.specs.Records.{IsRecordAmong}
 use Rattle.walter_site.proofs.tests.committed.Goals as goal
@@ -10,6 +10,13 @@ use Rattle.walter_site.proofs.tests.committed.Goals as goal
 can_be : (sites : ℕ) (rec : Record) → IsRecordAmong sites rec → CanBeRecorded rec
 can_be sites (Boot epoch) among = tt
 can_be sites (Own seq tx) among = among.1
+can_be sites (Got from seq tx) among = among.1
+can_be sites (Seen from seq) among = among
+can_be sites (Prepared from slow tid objects) among = among
+can_be sites (Released from slow) among = among
+can_be sites (SlowBegin slow tx) among = among.1
+can_be sites (SlowEnd slow) among = among
+can_be sites (Marks durable visible) among = among
 
 abbrev IsCopied : Option Record → Option Record → Type 0
 IsCopied None None = Unit {0}

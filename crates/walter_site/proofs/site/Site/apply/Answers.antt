@@ -2,7 +2,7 @@ use Rattle.std.proofs.Common.{◌≡◌, ℕ, ◌+◌, Option, Some, None, All, 
 use Rattle.std.specs.Prelude.{IfSome}
 use Rattle.walter_base.specs.declared.catalog.Catalog.{Catalog}
 use Rattle.walter_base.specs.declared.message.Record.{Record}
-use Rattle.walter_base.specs.declared.message.Record.TheVariants.{Boot, Own}
+use Rattle.walter_base.specs.declared.message.Record.TheVariants.{Boot, Own, Got, Seen, Prepared, Released, SlowBegin, SlowEnd, Marks}
 use Rattle.walter_base.specs.declared.names.SiteId.{SiteId}
 use Rattle.walter_base.specs.Vectors.{entry_at}
 use Rattle.walter_site.specs.Open.{IsOpenAt, opens_of}
@@ -21,6 +21,13 @@ next_kept catalog other i j K L (Some (Own seq tx)) same site commits good =
     let here : entry_at L.committed j ≡ entry_at K.committed i = λ d. entry_at (commits d) (site d) in
     let next = good.next in
     (next.0 ∙ ap (λ (n : ℕ). n + 1) (sym here), next.1, subst (λ (c : Catalog). All (IsDeclared c) tx.updates) (sym same) next.2)
+next_kept catalog other i j K L (Some (Got from seq tx)) same site commits good = good.next
+next_kept catalog other i j K L (Some (Seen from seq)) same site commits good = good.next
+next_kept catalog other i j K L (Some (Prepared from slow tid objects)) same site commits good = good.next
+next_kept catalog other i j K L (Some (Released from slow)) same site commits good = good.next
+next_kept catalog other i j K L (Some (SlowBegin slow tx)) same site commits good = good.next
+next_kept catalog other i j K L (Some (SlowEnd slow)) same site commits good = good.next
+next_kept catalog other i j K L (Some (Marks durable visible)) same site commits good = good.next
 
 pub keep-requires-clause-next : goal.keep-requires-clause-next
 unfolding known site_of catalog_of
