@@ -7,6 +7,7 @@ ghost use Rattle.walter_cli.specs.Ending.{EndsRun, EndsEarly, IsBuilt, IsWriteFa
 ghost use Rattle.walter_cli.specs.Racks.{GivesBack, racked};
 ghost use Rattle.walter_cli.specs.Statuses.{status_of};
 ghost use Rattle.walter_cli.specs.Texts.{text_of};
+ghost use Rattle.walter_base.specs.Vectors.{most_sites};
 
 use crate::ended::{Ended, Fault, JournalCause};
 use crate::play::play;
@@ -177,7 +178,7 @@ fn write_report<K: Sink>(
     trails: &[Trail],
     sink: &mut K,
 ) -> Result<(), Fault>
-    requires few { length trails.now ≤ 8 }
+    requires few { length trails.now ≤ most_sites }
     requires frames { HaveFrames trails.now }
     requires records { HaveSpellings trails.now }
     ensures ok { OnOk result (Appends (K.holds sink.old) (K.holds sink.new) (text_of traced scenario.now trails.now)) }
@@ -194,7 +195,7 @@ fn write_report<K: Sink>(
 
 // The report of these trails, with the trace behind it where one is asked for.
 fn text(alloc: Global, scenario: &Scenario, traced: bool, trails: &[Trail]) -> Mem<Vec<u8>>
-    requires few { length trails.now ≤ 8 }
+    requires few { length trails.now ≤ most_sites }
     requires frames { HaveFrames trails.now }
     requires records { HaveSpellings trails.now }
     ensures { IfOk result (λ text. text.items ≡ text_of traced scenario.now trails.now) }

@@ -5,6 +5,7 @@ ghost use Rattle.walter_engine.specs.Begins.{HasOnly, MayHaveBegun, IsBegun, IsF
 ghost use Rattle.walter_engine.specs.Firsts.{HasFirstEpoch, IsAnswerTo, IsBegunOver, MayHaveFirst, not_loaded_by};
 ghost use Rattle.walter_engine.specs.States.{disk_of_state, is_up_state};
 ghost use Rattle.walter_engine.specs.Steps.{IfFull, IfRefused};
+ghost use Rattle.walter_base.specs.Vectors.{most_sites};
 
 use crate::answers::{Restarted, Unbegun};
 use crate::engine::{State, Tally};
@@ -32,7 +33,7 @@ pub(crate) fn begin_on<D: Disk>(
     tally: Tally,
 ) -> AfterBegin<D>
     requires here { id.0 < catalog.now.sites }
-    requires most { catalog.now.sites ≤ 8 }
+    requires most { catalog.now.sites ≤ most_sites }
     requires place { 19 ≤ capacity }
     ensures up { is_up_state result.state ≡ is_ok result.answer }
     ensures stands { IsSome (D.known disk).reads → OnOk result.answer (HasFirstEpoch catalog.now capacity id result) }
@@ -69,7 +70,7 @@ fn begin_over<D: Disk>(
     tally: Tally,
 ) -> AfterBegin<D>
     requires here { id.0 < catalog.now.sites }
-    requires most { catalog.now.sites ≤ 8 }
+    requires most { catalog.now.sites ≤ most_sites }
     requires place { bodies.now ≡ [] → 10 ≤ left_of journal }
     ensures up { is_up_state result.state ≡ is_ok result.answer }
     ensures stands { StandsFor journal (map (λ body. body.items) bodies.now)

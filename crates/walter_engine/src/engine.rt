@@ -1,4 +1,5 @@
 ghost use Rattle.std.specs.Prelude.{◌≡◌, ◌≢◌, ◌+◌, ◌<◌, ◌≤◌, ℕ, List, ◌++◌, ◌∷◌, [], true, false, None, Some, is_ok, is_some, IsSome, IfSome, IfOk, IfErr, OnOk, OnErr, option_map, if◌then◌else◌};
+ghost use Rattle.walter_base.specs.Vectors.{most_sites};
 
 use crate::answers::{Restarted, Stepped, Unbegun};
 use crate::arming::arm_state;
@@ -55,7 +56,7 @@ pub struct Engine<D: Disk> {
     // None only within a call.
     state: Option<State<D>>,
     ghost here: { site.0 < catalog.sites },
-    ghost most: { catalog.sites ≤ 8 },
+    ghost most: { catalog.sites ≤ most_sites },
     ghost there: { is_some state ≡ true },
 }
 
@@ -85,7 +86,7 @@ impl<D: Disk + Drop> Engine<D> {
         capacity: u64,
     ) -> Result<Engine<D>, D>
         requires here { site.0 < catalog.now.sites }
-        requires most { catalog.now.sites ≤ 8 }
+        requires most { catalog.now.sites ≤ most_sites }
         ensures disk { IfOk result (λ engine. disk_in engine ≡ Some disk) }
         ensures down { IfOk result (λ engine. is_up engine ≡ false) }
         ensures catalog { IfOk result (λ engine. catalog_in engine ≡ catalog.now) }

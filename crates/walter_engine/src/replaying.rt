@@ -4,6 +4,7 @@ ghost use Rattle.walter_base.specs.Sizes.{CanBeRecorded};
 ghost use Rattle.walter_record.specs.Spelling.{record_spelled, HasRecordSpelling};
 ghost use Rattle.walter_site.specs.Sites.{known, site_of, catalog_of};
 ghost use Rattle.walter_engine.specs.Replays.{Takes, IsUnfit, Tells, IsReadFault};
+ghost use Rattle.walter_base.specs.Vectors.{most_sites};
 
 use std::alloc::Global;
 use walter_base::{Catalog, Mem, NoMemory, Record, SiteId};
@@ -25,7 +26,7 @@ pub(crate) fn replay_all(
     bodies: &[Vec<u8>],
 ) -> Result<Site, ReadFault>
     requires here { id.0 < catalog.now.sites }
-    requires most { catalog.now.sites ≤ 8 }
+    requires most { catalog.now.sites ≤ most_sites }
     ensures site { IfOk result (λ site. site_of site ≡ id) }
     ensures catalog { IfOk result (λ site. catalog_of site ≡ catalog.now) }
     ensures told { IfOk result (λ site. Tells catalog.now id (map (λ body. body.items) bodies.now) (known site)) }
@@ -52,7 +53,7 @@ pub(crate) fn replay_all(
 // Takes the record that the body spells.
 fn replay_body(alloc: Global, site: &mut Site, body: &[u8], sites: u8) -> Result<(), ReplayFault>
     requires sites { (catalog_of site.old).sites ≡ sites }
-    requires most { sites ≤ 8 }
+    requires most { sites ≤ most_sites }
     ensures taken { OnOk result (Takes (catalog_of site.old) (site_of site.old) (known site.old) body.now
         (known site.new)) }
     ensures unfit { IfErr result (IsUnfit (catalog_of site.old) (site_of site.old) (known site.old) body.now) }
@@ -68,7 +69,7 @@ fn replay_body(alloc: Global, site: &mut Site, body: &[u8], sites: u8) -> Result
 
 /// The record that the last of these bodies spells, where it spells one.
 pub(crate) fn last_record(alloc: Global, bodies: &[Vec<u8>], sites: u8) -> Mem<Option<Record>>
-    requires most { sites ≤ 8 }
+    requires most { sites ≤ most_sites }
     ensures sized { IfOk result (λ rec. IfSome rec CanBeRecorded) }
     ensures last { (records : List Record) (rec : Record)
         → map (λ body. body.items) bodies.now ≡ map record_spelled (records ++ rec ∷ [])

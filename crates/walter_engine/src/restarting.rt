@@ -11,6 +11,7 @@ ghost use Rattle.walter_engine.specs.Raises.{Raises, Boots, IsDown, IsFoundIn, I
 ghost use Rattle.walter_engine.specs.Restarts.{unloaded_by};
 ghost use Rattle.walter_engine.specs.States.{IsOf, disk_of_state, is_up_state};
 ghost use Rattle.walter_engine.specs.Steps.{IsSizedRestart, IsRefusedOver, IfRefused, IfFull, TakesNoEpoch, brings_up, kept_of};
+ghost use Rattle.walter_base.specs.Vectors.{most_sites};
 
 use crate::answers::{RefusedRestart, Restarted};
 use crate::engine::{State, Tally};
@@ -41,7 +42,7 @@ pub(crate) fn raise<D: Disk>(
     tally: Tally,
 ) -> AfterRestart<D>
     requires here { id.0 < catalog.now.sites }
-    requires most { catalog.now.sites ≤ 8 }
+    requires most { catalog.now.sites ≤ most_sites }
     ensures raises { (S : Standing) → IsDown S → AreJournaled catalog.now id S → IsCounted tally S
         → IsFoundIn S (map (λ body. body.items) bodies.now) → StandsFor journal (map (λ body. body.items) bodies.now)
         → Raises catalog.now (capacity_of journal) id S result }

@@ -5,6 +5,7 @@ ghost use Rattle.walter_base.specs.Sizes.{CanBeRecorded};
 ghost use Rattle.walter_reply.specs.Replies.{FitsFrame};
 ghost use Rattle.walter_report.specs.Reports.{reply_in, HaveFrames};
 ghost use Rattle.walter_report.specs.Traces.{HasSpellings, HaveSpellings, call_word, event_text, outcome_text, record_text, happened_part, records_part, trace_line, trace_text};
+ghost use Rattle.walter_base.specs.Vectors.{most_sites};
 
 use crate::clients::push_reply;
 use std::alloc::Global;
@@ -14,7 +15,7 @@ use walter_trail::{Entry, Outcome, Trail, TrailEvent, merge};
 
 /// The trace of a run: the text of the merge of its trails, one for each site.
 pub fn trace(alloc: Global, trails: &[Trail]) -> Mem<Bytes>
-    requires few { length trails.now ≤ 8 }
+    requires few { length trails.now ≤ most_sites }
     requires frames { HaveFrames trails.now }
     requires records { HaveSpellings trails.now }
     ensures { IfOk result (λ text. text ≡ trace_text trails.now) }

@@ -5,6 +5,7 @@ ghost use Rattle.walter_base.specs.declared.names.Kind.{Kind};
 ghost use Rattle.walter_scenario.specs.Faults.{IsContainersFault};
 ghost use Rattle.walter_scenario.specs.Fronts.{IsContainer, SpellsNoContainer, IsFront, IsCatalog};
 ghost use Rattle.walter_scenario.specs.Parts.{kind_word, container_spelled};
+ghost use Rattle.walter_base.specs.Vectors.{most_sites};
 
 use crate::place::{Place, ReadFault};
 use crate::values::{items_of, string_of, triple_of, whole_of};
@@ -52,7 +53,7 @@ fn front_of(alloc: Global, values: &[Value]) -> Result<Vec<(u32, Kind, SiteId)>,
 /// The catalog of the containers that the value spells, for so many sites.
 pub fn catalog_of(alloc: Global, sites: u8, value: &Value) -> Result<Catalog, ReadFault>
     requires some { 0 < sites }
-    requires most { sites ≤ 8 }
+    requires most { sites ≤ most_sites }
     ensures ok { IfOk result (IsCatalog sites (view value.now)) }
     ensures fault { IfErr result (IsContainersFault sites (view value.now)) }
 {

@@ -25,6 +25,7 @@ use Rattle.walter_base.specs.declared.update.Update.TheVariants.{Write as WriteO
 use Rattle.walter_base.specs.Names.{same_object, same_site}
 use Rattle.walter_base.specs.Sizes.{HasShortValue, IsShortReply, size_of_updates}
 use Rattle.walter_base.specs.Values.{held_after, value_from, value_of, count_of, counts_of}
+use Rattle.walter_base.specs.Vectors.{most_sites}
 use Rattle.walter_site.specs.Open.{IsOpenAt, HasShortValues}
 use Rattle.walter_site.specs.Sites.{IsNext, expected}
 use Rattle.walter_trail.specs.Conflicts.{conflict_of}

@@ -3,6 +3,7 @@ ghost use Rattle.walter_session.specs.Sessions.{CanStart, room_of};
 ghost use Rattle.walter_site.specs.Open.{opens_of, AreOpenAt, IsOpenAt, HasShortValues};
 ghost use Rattle.walter_site.specs.Props.{props};
 ghost use Rattle.walter_site.specs.Rows.{AreRowsOf, HaveRoom, rows_from, rows_told};
+ghost use Rattle.walter_base.specs.Vectors.{most_sites};
 
 use crate::conflicts::conflict;
 use crate::levels::holds;
@@ -35,7 +36,7 @@ pub struct Site {
     sessions: Sessions,
     ghost here: { site.0 < length committed },
     ghost sites: { length committed ≡ catalog.sites },
-    ghost most: { catalog.sites ≤ 8 },
+    ghost most: { catalog.sites ≤ most_sites },
     ghost opens: { AreOpenAt catalog site (opens_of sessions) } by { Prim.hlevel props },
     ghost short: { All HasShortValues held.items } by { Prim.hlevel props },
     ghost rows: { AreRowsOf catalog held.items history } by { Prim.hlevel props },
@@ -53,7 +54,7 @@ impl Site {
     /// A site of which no record tells anything. It comes up by the replay of a Boot.
     pub fn new(alloc: Global, catalog: Catalog, site: SiteId) -> Site
         requires here { site.0 < catalog.sites }
-        requires most { catalog.sites ≤ 8 }
+        requires most { catalog.sites ≤ most_sites }
         ensures known { known result ≡ fresh catalog.sites }
         ensures site { site_of result ≡ site }
         ensures catalog { catalog_of result ≡ catalog }

@@ -1,5 +1,6 @@
 ghost use Rattle.std.specs.Prelude.{◌≡◌, ◌++◌, ◌<◌, ◌≤◌, length, map, IfOk, OnOk};
 ghost use Rattle.walter_trail.specs.Merges.{merge as merge_of};
+ghost use Rattle.walter_base.specs.Vectors.{most_sites};
 
 use crate::trail::{Entry, Trail};
 use std::alloc::Global;
@@ -43,7 +44,7 @@ fn add_trail(entries: &mut Vec<(SiteId, Entry)>, site: SiteId, trail: &Trail) ->
 
 /// The merge of the trails of the sites 0, 1 and so on.
 pub fn merge(alloc: Global, trails: &[Trail]) -> Mem<Merged>
-    requires { length trails.now ≤ 8 }
+    requires { length trails.now ≤ most_sites }
     ensures { IfOk result (λ merged. merged ≡ merge_of trails.now) }
 {
     let mut entries = Vec::new(alloc);
