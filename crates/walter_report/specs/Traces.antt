@@ -6,6 +6,8 @@ use Rattle.walter_base.specs.declared.message.BadFrame.{BadFrame}
 use Rattle.walter_base.specs.declared.message.Record.{Record}
 use Rattle.walter_base.specs.declared.message.Request.{Request}
 use Rattle.walter_base.specs.declared.message.Request.TheVariants.{Start, Read, Write, SetAdd, SetDel, SetRead, SetReadId, Commit, Abort, Level}
+use Rattle.walter_base.specs.declared.packet.Packet.{Packet}
+use Rattle.walter_base.specs.declared.packet.Packet.TheVariants.{Propagate, Ack, Dsmark, Visible, Prepare, Vote, Release, Released}
 use Rattle.walter_base.specs.Sizes.{CanBeRecorded}
 use Rattle.walter_record.specs.Spelling.{record_spelled}
 use Rattle.walter_trail.specs.declared.trail.Entry.{Entry}
@@ -40,6 +42,17 @@ call_word (Ok Commit) = codes "commit"
 call_word (Ok Abort) = codes "abort"
 call_word (Ok (Level tid)) = codes "level"
 call_word (Err bad) = codes "bad"
+
+-- the name of a packet's kind
+abbrev pub packet_word : Packet → List ℕ
+packet_word (Propagate seq tx) = codes "propagate"
+packet_word (Ack got) = codes "ack"
+packet_word (Dsmark durable) = codes "dsmark"
+packet_word (Visible committed) = codes "visible"
+packet_word (Prepare slow tid start objects) = codes "prepare"
+packet_word (Vote slow answer) = codes "vote"
+packet_word (Release slow) = codes "release"
+packet_word (Released slow) = codes "released"
 
 abbrev pub event_text : TrailEvent → List ℕ
 event_text (Call client call) = codes "call:" ++ decimal client ++ codes ":" ++ call_word call

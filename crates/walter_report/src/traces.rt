@@ -4,12 +4,12 @@ ghost use Rattle.std.specs.String.{string_bytes};
 ghost use Rattle.walter_base.specs.Sizes.{CanBeRecorded};
 ghost use Rattle.walter_reply.specs.Replies.{FitsFrame};
 ghost use Rattle.walter_report.specs.Reports.{reply_in, HaveFrames};
-ghost use Rattle.walter_report.specs.Traces.{HasSpellings, HaveSpellings, call_word, event_text, outcome_text, record_text, happened_part, records_part, trace_line, trace_text};
+ghost use Rattle.walter_report.specs.Traces.{HasSpellings, HaveSpellings, call_word, packet_word, event_text, outcome_text, record_text, happened_part, records_part, trace_line, trace_text};
 ghost use Rattle.walter_base.specs.Vectors.{most_sites};
 
 use crate::clients::push_reply;
 use std::alloc::Global;
-use walter_base::{Bytes, Call, Mem, Record, Reply, Request, SiteId};
+use walter_base::{Bytes, Call, Mem, Packet, Record, Reply, Request, SiteId};
 use walter_record::encode;
 use walter_trail::{Entry, Outcome, Trail, TrailEvent, merge};
 
@@ -84,6 +84,22 @@ fn word_of_call(call: &Call) -> &'static str
         Ok(Request::Abort) => "abort",
         Ok(Request::Level(_)) => "level",
         Err(_) => "bad",
+    }
+}
+
+/// The name of the packet's kind, in lower case.
+pub fn word_of_packet(packet: &Packet) -> &'static str
+    ensures { result.now ≡ packet_word packet.now }
+{
+    match packet {
+        Packet::Propagate(_, _) => "propagate",
+        Packet::Ack(_) => "ack",
+        Packet::Dsmark(_) => "dsmark",
+        Packet::Visible(_) => "visible",
+        Packet::Prepare(_, _, _, _) => "prepare",
+        Packet::Vote(_, _) => "vote",
+        Packet::Release(_) => "release",
+        Packet::Released(_) => "released",
     }
 }
 
