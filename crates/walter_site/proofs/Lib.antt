@@ -3,3 +3,4 @@ pub mod HeldRows
 pub mod Opens
 pub mod ReadRows
 pub mod Ruled
+pub mod Wants

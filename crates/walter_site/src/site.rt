@@ -1,4 +1,4 @@
-ghost use Rattle.std.specs.Prelude.{◌≡◌, ◌<◌, ◌≤◌, ◌↔◌, IsTrue, ℕ, length, vec_len, vec_capacity, Ok, Some, OnOk, OnErr, IfOk, IfErr, IfSome, IsSomeAnd, None, All};
+ghost use Rattle.std.specs.Prelude.{◌≡◌, ◌<◌, ◌≤◌, ◌↔◌, IsTrue, ℕ, length, vec_len, vec_capacity, Ok, Some, OnOk, OnErr, IfOk, IfErr, IfSome, IsSome, IsSomeAnd, None, All};
 ghost use Rattle.walter_session.specs.Sessions.{CanStart, room_of};
 ghost use Rattle.walter_site.specs.Open.{opens_of, AreOpenAt, IsOpenAt, HasShortValues};
 ghost use Rattle.walter_site.specs.Props.{props};
@@ -103,11 +103,13 @@ impl Site {
         })
     }
 
+    #[tactic(auto, using(crate::proofs::Wants::may_want))]
     fn plan_call(&mut self, client: u32, call: &Call) -> Mem<(Option<Record>, Reply)>
         ensures rule { IfOk result (λ p. expected p ≡ call_rule (catalog_of self.old) (site_of self.old) (known self.old) call.now (session_of (known self.old) client)) }
         ensures keeps { IfOk result (λ p. CanKeep self.new p.0) }
         ensures answers { IfOk result (λ p. CanAnswer self.new client p.1) }
         ensures free { OnErr result (MayWant call.now) }
+        ensures wants { IfOk result (λ p. IsSome p.0 → MayWant call.now) }
         ensures same { known self.new ≡ known self.old }
         ensures site { site_of self.new ≡ site_of self.old }
         ensures catalog { catalog_of self.new ≡ catalog_of self.old }
