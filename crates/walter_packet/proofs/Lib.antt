@@ -1,3 +1,3 @@
-pub mod Answers
+pub mod Votes
 pub mod Packets
 pub mod NoFields

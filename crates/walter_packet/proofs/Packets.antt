@@ -20,12 +20,12 @@ use Rattle.walter_txcode.specs.Faults.{NoneBegins}
 use Rattle.walter_txcode.specs.Kinds.{IsOfKind}
 use Rattle.walter_txcode.specs.Spelling.{spelling, vector_spelled, objects_spelled, HasSpelling, AreSpelledObjects, numbered_spelled, IsNumbered}
 use Rattle.walter_txcode.proofs.Joined.{IsPrefixFree, IsNumber, free_both, free_numbers, free_tids, free_vectors, free_objects, free_numbered}
-use Rattle.walter_txcode.proofs.Kinds.{HasKinds, free_kinds}
+use Rattle.walter_txcode.proofs.ByKind.{HasKinds, free_kinds}
 use Rattle.walter_txcode.proofs.Lengths.{length-spelling, length-vector_spelled}
-use Rattle.walter_txcode.proofs.Objects.{length-objects_spelled}
+use Rattle.walter_txcode.proofs.Rising.{length-objects_spelled}
 use Rattle.walter_packet.specs.Fields.{fields_spelled, vote_spelled, prepare_spelled, IsVote, IsPrepare, answer_kind, size_of_answer}
 use Rattle.walter_packet.specs.Spelling.{packet_spelled, answer_spelled, HasPacketSpelling}
-use Rattle.walter_packet.proofs.Answers.{length-answer_spelled, free_votes}
+use Rattle.walter_packet.proofs.Votes.{length-answer_spelled, free_votes}
 
 -- ---- how many bytes
 

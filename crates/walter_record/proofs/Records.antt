@@ -17,9 +17,9 @@ use Rattle.walter_txcode.specs.Faults.{NoneBegins}
 use Rattle.walter_txcode.specs.Kinds.{IsOfKind}
 use Rattle.walter_txcode.specs.Spelling.{spelling, objects_spelled, HasSpelling, AreSpelledObjects, numbered_spelled, IsNumbered}
 use Rattle.walter_txcode.proofs.Joined.{IsPrefixFree, IsNumber, free_both, free_numbers, free_versions, free_tids, free_objects, free_transactions, free_numbered}
-use Rattle.walter_txcode.proofs.Kinds.{HasKinds, free_kinds}
+use Rattle.walter_txcode.proofs.ByKind.{HasKinds, free_kinds}
 use Rattle.walter_txcode.proofs.Lengths.{length-spelling}
-use Rattle.walter_txcode.proofs.Objects.{length-objects_spelled}
+use Rattle.walter_txcode.proofs.Rising.{length-objects_spelled}
 use Rattle.walter_record.specs.Fields.{kind_of, fields_spelled, got_spelled, prepared_spelled, marks_spelled, IsGot, IsPrepared, AreMarks}
 use Rattle.walter_record.specs.Spelling.{numbered, record_spelled, HasRecordSpelling}
 

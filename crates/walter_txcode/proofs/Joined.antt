@@ -15,7 +15,7 @@ use Rattle.walter_names.proofs.Prefixes.{regrouped, same_object, same_tid, same_
 use Rattle.walter_txcode.specs.Faults.{NoneBegins}
 use Rattle.walter_txcode.specs.Spelling.{vector_spelled, spelling, HasSpelling, numbered_spelled, IsNumbered, objects_spelled, AreSpelledObjects}
 use Rattle.walter_txcode.proofs.Prefixes.{same_vector, same_transaction}
-use Rattle.walter_txcode.proofs.Objects.{same_objects}
+use Rattle.walter_txcode.proofs.Rising.{same_objects}
 
 -- of the spellings of such values none begins that of another
 pub record IsPrefixFree {A : Type 0} (IsSuch : A → Type 0) (spelled : A → List ℕ) : Type 0 where

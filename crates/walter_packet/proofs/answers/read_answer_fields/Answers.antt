@@ -1,6 +1,6 @@
 use Rattle.std.proofs.Common.{refl, arith}
 use Rattle.walter_txcode.proofs.Failures.{IfUnspelled-weaker, is_fault}
-use Rattle.walter_packet.proofs.Answers.{no_refusal, no_such_answer}
+use Rattle.walter_packet.proofs.Votes.{no_refusal, no_such_answer}
 use Rattle.walter_packet.proofs.answers.read_answer_fields.Goals as goal
 
 pub returns-in_err-conflict-in-0-clause-fault : goal.returns-in_err-conflict-in-0-clause-fault

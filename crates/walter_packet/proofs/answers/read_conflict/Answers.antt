@@ -1,7 +1,7 @@
 use Rattle.std.proofs.Common.{refl, arith}
 use Rattle.walter_txcode.proofs.Failures.{IfUnspelled-weaker, is_unspelled, is_fault}
-use Rattle.walter_txcode.proofs.Kinds.{no_kind, no_fields, takes_kind}
-use Rattle.walter_packet.proofs.Answers.{conflict_kinds}
+use Rattle.walter_txcode.proofs.ByKind.{no_kind, no_fields, takes_kind}
+use Rattle.walter_packet.proofs.Votes.{conflict_kinds}
 use Rattle.walter_packet.proofs.answers.read_conflict.Goals as goal
 
 pub returns-in_err-kind-clause-fault : goal.returns-in_err-kind-clause-fault

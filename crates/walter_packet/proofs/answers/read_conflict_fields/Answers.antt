@@ -2,7 +2,7 @@ use Rattle.std.proofs.Common.{refl, arith}
 use Rattle.walter_names.specs.Names.{tid_spelled, version_spelled, IsTid, IsVersion}
 use Rattle.walter_txcode.proofs.Failures.{is_unspelled}
 use Rattle.walter_txcode.proofs.Joined.{no_first, no_second, no_object, no_version, no_tid, free_names}
-use Rattle.walter_packet.proofs.Answers.{no_modified, no_locked, no_such_conflict}
+use Rattle.walter_packet.proofs.Votes.{no_modified, no_locked, no_such_conflict}
 use Rattle.walter_packet.proofs.answers.read_conflict_fields.Goals as goal
 
 pub returns-in_err-oid-in-1-clause-fault : goal.returns-in_err-oid-in-1-clause-fault

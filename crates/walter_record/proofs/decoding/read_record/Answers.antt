@@ -1,6 +1,6 @@
 use Rattle.std.proofs.Common.{refl, arith}
 use Rattle.walter_txcode.proofs.Failures.{IfUnspelled-weaker, is_unspelled, is_fault}
-use Rattle.walter_txcode.proofs.Kinds.{no_kind, no_fields, takes_kind}
+use Rattle.walter_txcode.proofs.ByKind.{no_kind, no_fields, takes_kind}
 use Rattle.walter_record.proofs.Records.{kinds_of}
 use Rattle.walter_record.proofs.decoding.read_record.Goals as goal
 

@@ -1,4 +1,5 @@
-use Rattle.std.proofs.Common.{refl, arith, length}
+use Rattle.std.proofs.Common.{arith}
+use Rattle.walter_base.specs.declared.transaction.Tx.{Tx}
 use Rattle.walter_txcode.specs.Spelling.{head_spelled, updates_spelled}
 use Rattle.walter_txcode.proofs.Failures.{IfUnspelled-weaker, is_fault, Begins, IsRead, moved, no_head, no_transaction, too_long, is_transaction}
 use Rattle.walter_txcode.proofs.decoding.read_transaction.Goals as goal
@@ -29,7 +30,41 @@ overflow_sub-length c =
     omega (arith, bytes)
 
 pub returns-then-length-gt-LONGEST-clause-fault : goal.returns-then-length-gt-LONGEST-clause-fault
-returns-then-length-gt-LONGEST-clause-fault c = ?
+returns-then-length-gt-LONGEST-clause-fault c =
+    let sites = c.args.sites in
+    let head = c.in_ok-tid in
+    let found = c.in_ok-updates in
+    let left = c.args.cursor.now.left in
+    let mid = c.read_head.new.cursor.left in
+    let after = c.read_updates.new.cursor.left in
+    let tx : Tx = record { tid = head.tid; slow = head.slow; start = head.start; updates = found.updates } in
+    let read : IsRead sites tx left mid after c.place-from.result c.place.result = record {
+      small = c.requires;
+      begins = record { head = record { counted = head.ensures.counted; name = head.ensures.tid; number = head.ensures.slow; numbers = head.ensures.start }; front = head.ensures.taken.front };
+      front = found.ensures.taken.front;
+      ranges = found.ensures.range;
+      few = found.ensures.few;
+      bytes = moved c.args.cursor.now c.read_head.new.cursor c.read_updates.new.cursor (head_spelled head.tid head.slow head.start) (updates_spelled found.updates) c.place-from.result c.place.result
+      head.ensures.taken found.ensures.taken c.place-from.ensures c.place.ensures;
+    } in
+    too_long sites tx left mid after c.place-from.result c.place.result read c.if-length-gt-LONGEST.true
 
 pub returns-clause-spelled : goal.returns-clause-spelled
-returns-clause-spelled c = ?
+returns-clause-spelled c =
+    let sites = c.args.sites in
+    let head = c.in_ok-tid in
+    let found = c.in_ok-updates in
+    let left = c.args.cursor.now.left in
+    let mid = c.read_head.new.cursor.left in
+    let after = c.read_updates.new.cursor.left in
+    let tx : Tx = record { tid = head.tid; slow = head.slow; start = head.start; updates = found.updates } in
+    let read : IsRead sites tx left mid after c.place-from.result c.place.result = record {
+      small = c.requires;
+      begins = record { head = record { counted = head.ensures.counted; name = head.ensures.tid; number = head.ensures.slow; numbers = head.ensures.start }; front = head.ensures.taken.front };
+      front = found.ensures.taken.front;
+      ranges = found.ensures.range;
+      few = found.ensures.few;
+      bytes = moved c.args.cursor.now c.read_head.new.cursor c.read_updates.new.cursor (head_spelled head.tid head.slow head.start) (updates_spelled found.updates) c.place-from.result c.place.result
+      head.ensures.taken found.ensures.taken c.place-from.ensures c.place.ensures;
+    } in
+    is_transaction sites tx left mid after c.place-from.result c.place.result read c.if-length-gt-LONGEST.false

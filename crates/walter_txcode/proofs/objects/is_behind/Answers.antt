@@ -1,5 +1,5 @@
 use Rattle.std.proofs.Common.{◌∙◌}
-use Rattle.walter_txcode.proofs.Objects.{last_tells}
+use Rattle.walter_txcode.proofs.Rising.{last_tells}
 use Rattle.walter_txcode.proofs.objects.is_behind.Goals as goal
 
 pub returns-in-Some : goal.returns-in-Some

@@ -1,6 +1,6 @@
 use Rattle.std.proofs.Common.{refl, arith}
 use Rattle.walter_txcode.proofs.Failures.{IfUnspelled-weaker, is_unspelled, is_fault}
-use Rattle.walter_txcode.proofs.Objects.{no_object_count, no_such_object_count, no_objects}
+use Rattle.walter_txcode.proofs.Rising.{no_object_count, no_such_object_count, no_objects}
 use Rattle.walter_txcode.proofs.objects.read_objects.Goals.{then-count-lt-FEWEST_OBJECTS-via-then-count-lt-FEWEST_OBJECTS, then-count-lt-FEWEST_OBJECTS-via-else-count-lt-FEWEST_OBJECTS+then-count-gt-MOST_OBJECTS}
 use Rattle.walter_txcode.proofs.objects.read_objects.Goals as goal
 

@@ -3,7 +3,7 @@ use Rattle.std.specs.Prelude.{All, IsTrue, false}
 use Rattle.walter_base.specs.Names.{IsBefore}
 use Rattle.walter_fields.specs.Cursors.{Takes}
 use Rattle.walter_txcode.proofs.Failures.{is_unspelled}
-use Rattle.walter_txcode.proofs.Objects.{each_object, AreRead, read_more, takes_more, no_more_objects, no_rising}
+use Rattle.walter_txcode.proofs.Rising.{each_object, AreRead, read_more, takes_more, no_more_objects, no_rising}
 use Rattle.walter_txcode.proofs.objects.read_rising.Goals as goal
 
 pub returns-in_err-oid-clause-fault : goal.returns-in_err-oid-clause-fault

@@ -1,6 +1,6 @@
 use Rattle.std.proofs.Common.{◌≡◌, length}
 use Rattle.walter_fields.specs.Cursors.{Takes}
-use Rattle.walter_txcode.proofs.Objects.{each_object, AreRead}
+use Rattle.walter_txcode.proofs.Rising.{each_object, AreRead}
 use Rattle.walter_txcode.proofs.objects.read_rising.Given as goal
 
 abbrev pub invariant-loop : goal.invariant-loop

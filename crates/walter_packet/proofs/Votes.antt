@@ -16,7 +16,7 @@ use Rattle.walter_names.proofs.Lengths.{length-object_spelled, length-tid_spelle
 use Rattle.walter_txcode.specs.Faults.{NoneBegins}
 use Rattle.walter_txcode.specs.Kinds.{IsOfKind}
 use Rattle.walter_txcode.proofs.Joined.{IsPrefixFree, Both, both_spelled, free_both, free_names, free_versions, free_tids, free_numbers}
-use Rattle.walter_txcode.proofs.Kinds.{HasKinds, free_kinds}
+use Rattle.walter_txcode.proofs.ByKind.{HasKinds, free_kinds}
 use Rattle.walter_packet.specs.Fields.{conflict_kind, conflict_fields, answer_kind, answer_fields, vote_spelled, IsVote, size_of_answer}
 use Rattle.walter_packet.specs.Spelling.{conflict_spelled, answer_spelled, IsConflict, IsAnswer}
 
