@@ -5,7 +5,7 @@ use Rattle.walter_packet.proofs.answers.read_answer_fields.Goals as goal
 
 pub returns-in_err-conflict-in-0-clause-fault : goal.returns-in_err-conflict-in-0-clause-fault
 returns-in_err-conflict-in-0-clause-fault c =
-    let exit = c.from_residual-in_err-conflict-in-0 in
+    let exit = c.from_residual in
     let fault = c.in_err-conflict-in-0 in
     is_fault _ exit.result fault.field-0.0 exit.ensures.1 (IfUnspelled-weaker fault.field-0.0 (no_refusal c.args.kind c.args.cursor.now.left c.in-0.is) fault.ensures.fault)
 

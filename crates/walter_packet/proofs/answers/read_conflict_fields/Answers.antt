@@ -7,7 +7,7 @@ use Rattle.walter_packet.proofs.answers.read_conflict_fields.Goals as goal
 
 pub returns-in_err-oid-in-1-clause-fault : goal.returns-in_err-oid-in-1-clause-fault
 returns-in_err-oid-in-1-clause-fault c =
-    let exit = c.from_residual-in_err-oid-in-1 in
+    let exit = c.from_residual in
     is_unspelled exit.result exit.ensures.1 (no_modified c.args.kind c.args.cursor.now.left c.in-1.is (no_first IsVersion version_spelled (no_object (c.in_err-oid-in-1.ensures.short.0 refl))))
 
 pub returns-in_err-version-in-1-clause-fault : goal.returns-in_err-version-in-1-clause-fault

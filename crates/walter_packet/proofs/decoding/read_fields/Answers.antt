@@ -6,7 +6,7 @@ use Rattle.walter_packet.proofs.decoding.read_fields.Goals as goal
 
 pub returns-in_err-seq-in-1-clause-fault : goal.returns-in_err-seq-in-1-clause-fault
 returns-in_err-seq-in-1-clause-fault c =
-    let exit = c.from_residual-in_err-seq-in-1 in
+    let exit = c.from_residual in
     let fault = c.in_err-seq-in-1 in
     is_fault _ exit.result fault.field-0.0 exit.ensures.1 (IfUnspelled-weaker fault.field-0.0 (no_propagate c.args.sites c.args.kind c.args.cursor.now.left c.in-1.is) fault.ensures.fault)
 

@@ -9,7 +9,7 @@ use Rattle.walter_record.proofs.decoding.read_fields.Goals as goal
 
 pub returns-in_err-epoch-in-1-clause-fault : goal.returns-in_err-epoch-in-1-clause-fault
 returns-in_err-epoch-in-1-clause-fault c =
-    let exit = c.from_residual-in_err-epoch-in-1 in
+    let exit = c.from_residual in
     is_unspelled exit.result exit.ensures.1 (no_boot c.args.sites c.args.kind c.args.cursor.now.left c.in-1.is (none_short IsEpoch (number_spelled 4) 4 (λ n. length-number_spelled 4 n) (c.in_err-epoch-in-1.ensures.short.0 refl)))
 
 pub returns-in_err-seq-in-2-clause-fault : goal.returns-in_err-seq-in-2-clause-fault
