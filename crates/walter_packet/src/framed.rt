@@ -1,8 +1,9 @@
-ghost use Rattle.std.specs.Prelude.{◌≡◌, ◌≤◌, IfOk};
+ghost use Rattle.std.specs.Prelude.{◌≡◌, ◌≢◌, ◌≤◌, IfOk, IfSome, IfNone};
 ghost use Rattle.walter_base.specs.Sizes.{CanBeSent};
 ghost use Rattle.walter_base.specs.Vectors.{most_sites};
-ghost use Rattle.walter_packet.specs.Framed.{frame_of, IsFramed};
-ghost use Rattle.walter_packet.specs.Spelling.{IsAmong};
+ghost use Rattle.walter_base.specs.declared.packet.Packet.{Packet};
+ghost use Rattle.walter_packet.specs.Framed.{frame_of, IsFramed, SpellsPacket};
+ghost use Rattle.walter_packet.specs.Spelling.{packet_spelled, IsAmong, HasPacketSpelling};
 
 use crate::{decode, encode};
 use std::alloc::{AllocError, Global};
@@ -39,16 +40,36 @@ impl Framed {
         Ok(Framed { sites, bytes })
     }
 
-    /// The packet, of which there is one.
+    /// The packet that the bytes spell, all of them; none where they spell none.
+    pub fn read(alloc: Global, bytes: &[u8], sites: u8) -> Mem<Option<Framed>>
+        requires { sites ≤ most_sites }
+        ensures bytes { IfOk result (λ found. IfSome found
+            (λ framed. framed ≡ record { sites = sites; bytes = bytes.now })) }
+        ensures some { IfOk result (λ found. IfSome found SpellsPacket) }
+        ensures none { IfOk result (λ found. IfNone found
+            ((packet : Packet) → HasPacketSpelling sites packet → bytes.now ≢ packet_spelled packet)) }
+    {
+        match decode(alloc, bytes, sites)? {
+            Some(_) => {
+                let bytes = Bytes::from_slice(alloc, bytes)?;
+                Ok(Some(Framed { sites, bytes }))
+            }
+            None => Ok(None),
+        }
+    }
+
+    /// The packet that is framed.
     pub fn packet(&self, alloc: Global) -> Mem<Packet>
-        ensures { IfOk result (IsFramed self.now) }
+        ensures framed { IfOk result (IsFramed self.now) }
+        ensures one { IfOk result (λ packet. (other : Packet) → IsFramed self.now other → other ≡ packet) }
     {
         Ok(decode(alloc, self.bytes.as_slice(), self.sites)?.unwrap())
     }
 
     /// The spelling of the packet.
     pub fn as_slice(&self) -> &[u8]
-        ensures { result.now ≡ self.now.bytes }
+        ensures bytes { result.now ≡ self.now.bytes }
+        ensures spells { SpellsPacket self.now }
     {
         self.bytes.as_slice()
     }
