@@ -21,6 +21,7 @@ pub fn write_object(out: &mut Appender, oid: ObjId)
     requires { 12 ≤ out.old.room }
     ensures bytes { out.new.bytes ≡ out.old.bytes ++ object_spelled oid }
     ensures room { out.new.room + 12 ≡ out.old.room }
+    ensures range { IsObject oid }
 {
     out.u32(oid.container);
     out.u64(oid.local);
@@ -43,6 +44,7 @@ pub fn write_tid(out: &mut Appender, tid: Tid)
     requires { 13 ≤ out.old.room }
     ensures bytes { out.new.bytes ≡ out.old.bytes ++ tid_spelled tid }
     ensures room { out.new.room + 13 ≡ out.old.room }
+    ensures range { IsTid tid }
 {
     out.u8(tid.site.0);
     out.u32(tid.epoch);
@@ -65,6 +67,7 @@ pub fn write_version(out: &mut Appender, version: Version)
     requires { 9 ≤ out.old.room }
     ensures bytes { out.new.bytes ≡ out.old.bytes ++ version_spelled version }
     ensures room { out.new.room + 9 ≡ out.old.room }
+    ensures range { IsVersion version }
 {
     out.u8(version.site.0);
     out.u64(version.seq);

@@ -1,1 +1,3 @@
 pub mod Spelling
+pub mod Fields
+pub mod Framed

@@ -31,4 +31,40 @@ packet_spelled (Vote slow answer) = number_spelled 1 6 ++ (number_spelled 8 slow
 packet_spelled (Release slow) = number_spelled 1 7 ++ number_spelled 8 slow
 packet_spelled (Released slow) = number_spelled 1 8 ++ number_spelled 8 slow
 
--- AreInRange, IsAmong, HasPacketSpelling as those of records (walter_record/specs/Spelling.antt)
+-- the numbers are in the ranges of their fields
+abbrev pub IsConflict : Conflict → Type 0
+IsConflict (Modified oid version) = IsObject oid × IsVersion version
+IsConflict (Locked oid owner) = IsObject oid × IsTid owner
+IsConflict Dead = Unit {0}
+
+abbrev pub IsAnswer : Answer → Type 0
+IsAnswer Yes = Unit {0}
+IsAnswer (No conflict) = IsConflict conflict
+
+abbrev pub AreInRange : Packet → Type 0
+AreInRange (Propagate seq tx) = (seq < 2 ^ 64) × IsInRange tx
+AreInRange (Ack got) = got < 2 ^ 64
+AreInRange (Dsmark durable) = durable < 2 ^ 64
+AreInRange (Visible committed) = committed < 2 ^ 64
+AreInRange (Prepare slow tid start objects) =
+    (slow < 2 ^ 64) × IsTid tid × All (λ number. number < 2 ^ 64) start × All IsObject objects
+AreInRange (Vote slow answer) = (slow < 2 ^ 64) × IsAnswer answer
+AreInRange (Release slow) = slow < 2 ^ 64
+AreInRange (Released slow) = slow < 2 ^ 64
+
+-- a snapshot has a number for each of so many sites
+abbrev pub IsAmong : ℕ → Packet → Type 0
+IsAmong sites (Propagate seq tx) = length tx.start ≡ sites
+IsAmong sites (Ack got) = Unit {0}
+IsAmong sites (Dsmark durable) = Unit {0}
+IsAmong sites (Visible committed) = Unit {0}
+IsAmong sites (Prepare slow tid start objects) = length start ≡ sites
+IsAmong sites (Vote slow answer) = Unit {0}
+IsAmong sites (Release slow) = Unit {0}
+IsAmong sites (Released slow) = Unit {0}
+
+-- what has a spelling among so many sites
+pub record HasPacketSpelling (sites : ℕ) (packet : Packet) : Type 0 where
+  pub among : IsAmong sites packet
+  pub sizes : CanBeSent packet
+  pub ranges : AreInRange packet

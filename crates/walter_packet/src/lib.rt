@@ -1,6 +1,8 @@
-//! Packets as bytes: one spelling for each, and a decoder that takes exactly the spellings; and `Framed`, bytes that spell one.
+//! Packets as bytes: one spelling for each, and a decoder that takes exactly the spellings; and `Framed`, bytes that
+//! spell one.
 #![tactic(auto)]
 
+mod answers;
 mod decoding;
 mod encoding;
 mod framed;

@@ -1,120 +1,164 @@
--- How long the spelling of a record is, and that it is of no other record.
-use Rattle.std.proofs.Common.{◌≡◌, ◌≢◌, ℕ, ◌^◌, ◌<◌, ◌≤◌, List, [], ◌∷◌, ◌++◌, length, refl, sym, ap, ◌∙◌, arith}
-use Rattle.std.proofs.lemmas.List.{append-nil, length-append}
-use Rattle.walter_base.specs.Sizes.{size_of_record, CanBeRecorded}
+-- How long the spelling of a record is, that it is of no other record, and where none is read.
+use Rattle.std.proofs.Common.{◌≡◌, ◌≢◌, ℕ, ◌+◌, ◌*◌, ◌^◌, ◌<◌, ◌≤◌, List, [], ◌++◌, length, refl, sym, ap, ◌∙◌, append-nil, arith}
+use Rattle.std.proofs.lemmas.List.{length-append}
+use Rattle.walter_base.specs.Sizes.{size_of, size_of_record, CanBeRecorded}
+use Rattle.walter_base.specs.Vectors.{most_sites}
 use Rattle.walter_base.specs.declared.message.Record.{Record}
-use Rattle.walter_base.specs.declared.message.Record.TheVariants.{Boot, Own}
+use Rattle.walter_base.specs.declared.message.Record.TheVariants.{Boot, Own, Got, Seen, Prepared, Released, SlowBegin, SlowEnd, Marks}
+use Rattle.walter_base.specs.declared.names.ObjId.{ObjId}
+use Rattle.walter_base.specs.declared.names.SiteId.{SiteId}
+use Rattle.walter_base.specs.declared.names.Tid.{Tid}
 use Rattle.walter_base.specs.declared.transaction.Tx.{Tx}
 use Rattle.walter_fields.specs.Spellings.{number_spelled}
 use Rattle.walter_fields.proofs.Numbers.{length-number_spelled, same_number}
-use Rattle.walter_txcode.specs.Spelling.{spelling, HasSpelling}
+use Rattle.walter_names.specs.Names.{tid_spelled, version_spelled, IsVersion}
+use Rattle.walter_names.proofs.Lengths.{length-tid_spelled, length-version_spelled}
+use Rattle.walter_txcode.specs.Faults.{NoneBegins}
+use Rattle.walter_txcode.specs.Kinds.{IsOfKind}
+use Rattle.walter_txcode.specs.Spelling.{spelling, objects_spelled, HasSpelling, AreSpelledObjects, numbered_spelled, IsNumbered}
+use Rattle.walter_txcode.proofs.Joined.{IsPrefixFree, IsNumber, free_both, free_numbers, free_versions, free_tids, free_objects, free_transactions, free_numbered}
+use Rattle.walter_txcode.proofs.ByKind.{HasKinds, free_kinds}
 use Rattle.walter_txcode.proofs.Lengths.{length-spelling}
-use Rattle.walter_txcode.proofs.Prefixes.{same_spelling}
-use Rattle.walter_record.specs.Spelling.{record_spelled, HasRecordSpelling}
+use Rattle.walter_txcode.proofs.Rising.{length-objects_spelled}
+use Rattle.walter_record.specs.Fields.{kind_of, fields_spelled, got_spelled, prepared_spelled, marks_spelled, IsGot, IsPrepared, AreMarks}
+use Rattle.walter_record.specs.Spelling.{numbered, record_spelled, HasRecordSpelling}
+
+-- ---- how many bytes
+
+behind : (k n : ℕ) (fields : List ℕ) → length fields ≡ n → length (number_spelled 1 k ++ fields) ≡ 1 + n
+behind k n fields long = omega (arith, length-append (number_spelled 1 k) fields, length-number_spelled 1 k, long)
+
+with_transaction : (front : List ℕ) (n : ℕ) (tx : Tx) → length front ≡ n → length tx.start ≤ most_sites → length (front ++ spelling tx) ≡ n + size_of tx
+with_transaction front n tx long few = omega (arith, length-append front (spelling tx), long, length-spelling tx few)
+
+of_prepared : (site : SiteId) (slow : ℕ) (tid : Tid) (objects : List ObjId) → length (version_spelled (numbered site slow) ++ (tid_spelled tid ++ objects_spelled objects)) ≡ 24 + 12 * length objects
+of_prepared site slow tid objects =
+    omega (
+      arith,
+      length-append (version_spelled (numbered site slow)) (tid_spelled tid ++ objects_spelled objects),
+      length-append (tid_spelled tid) (objects_spelled objects),
+      length-version_spelled (numbered site slow),
+      length-tid_spelled tid,
+      length-objects_spelled objects,
+    )
 
 -- the spelling has the record's size
 pub length-record_spelled : (journaled : Record) → CanBeRecorded journaled → length (record_spelled journaled) ≡ size_of_record journaled
-length-record_spelled (Boot epoch) can = omega (arith, length-append (number_spelled 1 1) (number_spelled 4 epoch), length-number_spelled 1 1, length-number_spelled 4 epoch)
-length-record_spelled (Own seq tx) can =
-    omega (
-      arith,
-      length-append (number_spelled 1 2) (number_spelled 8 seq ++ spelling tx),
-      length-append (number_spelled 8 seq) (spelling tx),
-      length-number_spelled 1 2,
-      length-number_spelled 8 seq,
-      length-spelling tx can.sites,
-    )
+length-record_spelled (Boot epoch) can = behind 1 4 (number_spelled 4 epoch) (length-number_spelled 4 epoch)
+length-record_spelled (Own seq tx) can = omega (arith, behind 2 (8 + size_of tx) (number_spelled 8 seq ++ spelling tx) (with_transaction (number_spelled 8 seq) 8 tx (length-number_spelled 8 seq) can.sites))
+length-record_spelled (Got site seq tx) can =
+    omega (arith, behind 3 (9 + size_of tx) (version_spelled (numbered site seq) ++ spelling tx) (with_transaction (version_spelled (numbered site seq)) 9 tx (length-version_spelled (numbered site seq)) can.sites))
+length-record_spelled (Seen site seq) can = behind 4 9 (version_spelled (numbered site seq)) (length-version_spelled (numbered site seq))
+length-record_spelled (Prepared site slow tid objects) can =
+    omega (arith, behind 5 (24 + 12 * length objects) (version_spelled (numbered site slow) ++ (tid_spelled tid ++ objects_spelled objects)) (of_prepared site slow tid objects))
+length-record_spelled (Released site slow) can = behind 6 9 (version_spelled (numbered site slow)) (length-version_spelled (numbered site slow))
+length-record_spelled (SlowBegin slow tx) can = omega (arith, behind 7 (8 + size_of tx) (number_spelled 8 slow ++ spelling tx) (with_transaction (number_spelled 8 slow) 8 tx (length-number_spelled 8 slow) can.sites))
+length-record_spelled (SlowEnd slow) can = behind 8 8 (number_spelled 8 slow) (length-number_spelled 8 slow)
+length-record_spelled (Marks durable visible) can =
+    behind 9 16 (number_spelled 8 durable ++ number_spelled 8 visible) (omega (arith, length-append (number_spelled 8 durable) (number_spelled 8 visible), length-number_spelled 8 durable, length-number_spelled 8 visible))
 
-pub at_most : (journaled : Record) → CanBeRecorded journaled → length (record_spelled journaled) ≤ 60009
-at_most (Boot epoch) can = omega (arith, length-record_spelled (Boot epoch) can)
-at_most (Own seq tx) can = omega (arith, length-record_spelled (Own seq tx) can, can.updates.size)
+most_bytes : (journaled : Record) → CanBeRecorded journaled → size_of_record journaled ≤ 60010
+most_bytes (Boot epoch) can = omega arith
+most_bytes (Own seq tx) can = omega (arith, can.updates.size)
+most_bytes (Got site seq tx) can = omega (arith, can.updates.size)
+most_bytes (Seen site seq) can = omega arith
+most_bytes (Prepared site slow tid objects) can = omega (arith, can.few)
+most_bytes (Released site slow) can = omega arith
+most_bytes (SlowBegin slow tx) can = omega (arith, can.updates.size)
+most_bytes (SlowEnd slow) can = omega arith
+most_bytes (Marks durable visible) can = omega arith
 
--- spellings of numbers that are followed by nothing
-same_last : (k m n : ℕ) → m < 256 ^ k → n < 256 ^ k → number_spelled k m ≡ number_spelled k n → m ≡ n
-same_last k m n low_m low_n e = (same_number k m n [] [] low_m low_n (append-nil (number_spelled k m) ∙ e ∙ sym (append-nil (number_spelled k n)))).0
+pub at_most : (journaled : Record) → CanBeRecorded journaled → length (record_spelled journaled) ≤ 60010
+at_most journaled can = omega (arith, length-record_spelled journaled can, most_bytes journaled can)
 
--- behind a kind stands what a record of that kind has
-abbrev pub kind_of : Record → ℕ
-kind_of (Boot epoch) = 1
-kind_of (Own seq tx) = 2
+-- ---- kinds
 
-abbrev pub fields_spelled : Record → List ℕ
-fields_spelled (Boot epoch) = number_spelled 4 epoch
-fields_spelled (Own seq tx) = number_spelled 8 seq ++ spelling tx
-
-record_parts : (r : Record) → record_spelled r ≡ number_spelled 1 (kind_of r) ++ fields_spelled r
+pub record_parts : (r : Record) → record_spelled r ≡ number_spelled 1 (kind_of r) ++ fields_spelled r
 record_parts (Boot epoch) = refl
 record_parts (Own seq tx) = refl
+record_parts (Got site seq tx) = refl
+record_parts (Seen site seq) = refl
+record_parts (Prepared site slow tid objects) = refl
+record_parts (Released site slow) = refl
+record_parts (SlowBegin slow tx) = refl
+record_parts (SlowEnd slow) = refl
+record_parts (Marks durable visible) = refl
 
-kind_of-lt : (r : Record) → kind_of r < 256
-kind_of-lt (Boot epoch) = omega arith
-kind_of-lt (Own seq tx) = omega arith
+-- the kinds are from 1 to 9
+pub known_kind : (r : Record) → (1 ≤ kind_of r) × (kind_of r ≤ 9)
+known_kind (Boot epoch) = (omega arith, omega arith)
+known_kind (Own seq tx) = (omega arith, omega arith)
+known_kind (Got site seq tx) = (omega arith, omega arith)
+known_kind (Seen site seq) = (omega arith, omega arith)
+known_kind (Prepared site slow tid objects) = (omega arith, omega arith)
+known_kind (Released site slow) = (omega arith, omega arith)
+known_kind (SlowBegin slow tx) = (omega arith, omega arith)
+known_kind (SlowEnd slow) = (omega arith, omega arith)
+known_kind (Marks durable visible) = (omega arith, omega arith)
 
-pub behind_kind : (k : ℕ) (mid : List ℕ) (r : Record) → k < 256 → number_spelled 1 k ++ mid ≡ record_spelled r → (k ≡ kind_of r) × (mid ≡ fields_spelled r)
-behind_kind k mid r low e = same_number 1 k (kind_of r) mid (fields_spelled r) (omega (arith, low)) (omega (arith, kind_of-lt r)) (e ∙ record_parts r)
+-- ---- what is told of the fields by their ranges
 
-own_spelled : (sites seq : ℕ) (tx : Tx) → HasRecordSpelling sites (Own seq tx) → HasSpelling sites tx
-own_spelled sites seq tx has = record { sites = has.among; sizes = has.sizes; ranges = has.ranges.1 }
+abbrev pub IsEpoch : ℕ → Type 0
+IsEpoch epoch = epoch < 2 ^ 32
 
-same_fields : (sites : ℕ) (a b : Record) → kind_of a ≡ kind_of b → HasRecordSpelling sites a → HasRecordSpelling sites b → fields_spelled a ≡ fields_spelled b → a ≡ b
-same_fields sites (Boot m) (Boot n) kinds has_a has_b e = let same = same_last 4 m n (omega (arith, has_a.ranges)) (omega (arith, has_b.ranges)) e in (λ i. Boot (same i))
-same_fields sites (Own m tx) (Own n other) kinds has_a has_b e =
-    let first = same_number 8 m n (spelling tx) (spelling other) (omega (arith, has_a.ranges.0)) (omega (arith, has_b.ranges.0)) e in
-    let second = same_spelling sites tx other (own_spelled sites m tx has_a) (own_spelled sites n other has_b) first.1 in
-    (λ i. Own (first.0 i) (second i))
-same_fields sites (Boot m) (Own n other) kinds has_a has_b e = absurd (omega (arith, kinds))
-same_fields sites (Own m tx) (Boot n) kinds has_a has_b e = absurd (omega (arith, kinds))
+pub spelled_transaction : (sites : ℕ) (seq : ℕ) (tx : Tx) → HasRecordSpelling sites (Own seq tx) → IsNumbered sites (seq, tx)
+spelled_transaction sites seq tx has = (has.ranges.0, record { sites = has.among; sizes = has.sizes; ranges = has.ranges.1 })
+
+pub spelled_slow : (sites : ℕ) (slow : ℕ) (tx : Tx) → HasRecordSpelling sites (SlowBegin slow tx) → IsNumbered sites (slow, tx)
+spelled_slow sites slow tx has = (has.ranges.0, record { sites = has.among; sizes = has.sizes; ranges = has.ranges.1 })
+
+pub spelled_got : (sites : ℕ) (site : SiteId) (seq : ℕ) (tx : Tx) → HasRecordSpelling sites (Got site seq tx) → IsGot sites (numbered site seq, tx)
+spelled_got sites site seq tx has = (has.ranges.0, record { sites = has.among; sizes = has.sizes; ranges = has.ranges.1 })
+
+pub spelled_prepared : (sites : ℕ) (site : SiteId) (slow : ℕ) (tid : Tid) (objects : List ObjId) → HasRecordSpelling sites (Prepared site slow tid objects) → IsPrepared (numbered site slow, (tid, objects))
+spelled_prepared sites site slow tid objects has = (has.ranges.0, (has.ranges.1, record { listed = has.sizes; ranges = has.ranges.2 }))
+
+-- ---- no spelling begins another
+
+pub free_epochs : IsPrefixFree IsEpoch (number_spelled 4)
+free_epochs = record { same = λ a b x y is_a is_b e. same_number 4 a b x y (omega (arith, is_a)) (omega (arith, is_b)) e }
+
+pub free_got : (sites : ℕ) → IsPrefixFree (IsGot sites) got_spelled
+free_got sites = free_both free_versions (free_transactions sites)
+
+pub free_prepared : IsPrefixFree IsPrepared prepared_spelled
+free_prepared = free_both free_versions (free_both free_tids free_objects)
+
+pub free_marks : IsPrefixFree AreMarks marks_spelled
+free_marks = free_both free_numbers free_numbers
+
+same_fields : (sites : ℕ) (a b : Record) (x y : List ℕ) → kind_of a ≡ kind_of b → HasRecordSpelling sites a → HasRecordSpelling sites b → fields_spelled a ++ x ≡ fields_spelled b ++ y → (a ≡ b) × (x ≡ y)
+same_fields sites (Boot m) (Boot n) x y kinds has_a has_b e = let same = free_epochs.same m n x y has_a.ranges has_b.ranges e in ((λ i. Boot (same.0 i)), same.1)
+same_fields sites (Own m tx) (Own n other) x y kinds has_a has_b e =
+    let same = (free_numbered sites).same (m, tx) (n, other) x y (spelled_transaction sites m tx has_a) (spelled_transaction sites n other has_b) e in
+    ((λ i. Own (same.0 i).0 (same.0 i).1), same.1)
+same_fields sites (Got s m tx) (Got t n other) x y kinds has_a has_b e =
+    let same = (free_got sites).same (numbered s m, tx) (numbered t n, other) x y (spelled_got sites s m tx has_a) (spelled_got sites t n other has_b) e in
+    ((λ i. Got (same.0 i).0.site (same.0 i).0.seq (same.0 i).1), same.1)
+same_fields sites (Seen s m) (Seen t n) x y kinds has_a has_b e =
+    let same = free_versions.same (numbered s m) (numbered t n) x y has_a.ranges has_b.ranges e in
+    ((λ i. Seen (same.0 i).site (same.0 i).seq), same.1)
+same_fields sites (Prepared s m tid os) (Prepared t n other ps) x y kinds has_a has_b e =
+    let same = free_prepared.same (numbered s m, (tid, os)) (numbered t n, (other, ps)) x y (spelled_prepared sites s m tid os has_a) (spelled_prepared sites t n other ps has_b) e in
+    ((λ i. Prepared (same.0 i).0.site (same.0 i).0.seq (same.0 i).1.0 (same.0 i).1.1), same.1)
+same_fields sites (Released s m) (Released t n) x y kinds has_a has_b e =
+    let same = free_versions.same (numbered s m) (numbered t n) x y has_a.ranges has_b.ranges e in
+    ((λ i. Released (same.0 i).site (same.0 i).seq), same.1)
+same_fields sites (SlowBegin m tx) (SlowBegin n other) x y kinds has_a has_b e =
+    let same = (free_numbered sites).same (m, tx) (n, other) x y (spelled_slow sites m tx has_a) (spelled_slow sites n other has_b) e in
+    ((λ i. SlowBegin (same.0 i).0 (same.0 i).1), same.1)
+same_fields sites (SlowEnd m) (SlowEnd n) x y kinds has_a has_b e = let same = free_numbers.same m n x y has_a.ranges has_b.ranges e in ((λ i. SlowEnd (same.0 i)), same.1)
+same_fields sites (Marks m k) (Marks n l) x y kinds has_a has_b e =
+    let same = free_marks.same (m, k) (n, l) x y has_a.ranges has_b.ranges e in
+    ((λ i. Marks (same.0 i).0 (same.0 i).1), same.1)
+same_fields sites a b x y kinds has_a has_b e = absurd (omega (arith, kinds))
+
+pub kinds_of : (sites : ℕ) → HasKinds (HasRecordSpelling sites) kind_of fields_spelled record_spelled
+kinds_of sites = record { parts = record_parts; low = λ r. omega (arith, known_kind r); same = same_fields sites }
+
+pub free_records : (sites : ℕ) → IsPrefixFree (HasRecordSpelling sites) record_spelled
+free_records sites = free_kinds (kinds_of sites)
 
 -- records with the same spelling are the same
 pub same_record : (sites : ℕ) (a b : Record) → HasRecordSpelling sites a → HasRecordSpelling sites b → record_spelled a ≡ record_spelled b → a ≡ b
-same_record sites a b has_a has_b e =
-    let behind = behind_kind (kind_of a) (fields_spelled a) b (kind_of-lt a) (sym (record_parts a) ∙ e) in
-    same_fields sites a b behind.0 has_a has_b behind.1
-
--- ---- where nothing is decoded
-
-pub no_kind : (bytes : List ℕ) → length bytes < 1 → (r : Record) → bytes ≢ record_spelled r
-no_kind bytes few r e =
-    omega (arith, ap length (e ∙ record_parts r), length-append (number_spelled 1 (kind_of r)) (fields_spelled r), length-number_spelled 1 (kind_of r))
-
-pub no_such_kind : (k : ℕ) (bytes mid : List ℕ) → k < 256 → k ≢ 1 → k ≢ 2 → bytes ≡ number_spelled 1 k ++ mid → (r : Record) → bytes ≢ record_spelled r
-no_such_kind k bytes mid low not_1 not_2 is r e = of_kind r (behind_kind k mid r low (sym is ∙ e)).0
-  where
-    of_kind : (r : Record) → k ≢ kind_of r
-    of_kind (Boot epoch) = not_1
-    of_kind (Own seq tx) = not_2
-
-pub no_boot : (sites : ℕ) (bytes mid : List ℕ) → bytes ≡ number_spelled 1 1 ++ mid → ((epoch : ℕ) → mid ≢ number_spelled 4 epoch) → (r : Record) → HasRecordSpelling sites r → bytes ≢ record_spelled r
-no_boot sites bytes mid is none r has e = of_kind r (behind_kind 1 mid r (omega arith) (sym is ∙ e))
-  where
-    of_kind : (r : Record) → (1 ≡ kind_of r) × (mid ≡ fields_spelled r) → ⊥
-    of_kind (Boot epoch) parts = none epoch parts.1
-    of_kind (Own seq tx) parts = omega (arith, parts.0)
-
-pub no_own : (sites : ℕ) (bytes mid : List ℕ) → bytes ≡ number_spelled 1 2 ++ mid
-    → ((seq : ℕ) (tx : Tx) → seq < 2 ^ 64 → HasSpelling sites tx → mid ≢ number_spelled 8 seq ++ spelling tx)
-    → (r : Record) → HasRecordSpelling sites r → bytes ≢ record_spelled r
-no_own sites bytes mid is none r has e = of_kind r has (behind_kind 2 mid r (omega arith) (sym is ∙ e))
-  where
-    of_kind : (r : Record) → HasRecordSpelling sites r → (2 ≡ kind_of r) × (mid ≡ fields_spelled r) → ⊥
-    of_kind (Boot epoch) has_r parts = omega (arith, parts.0)
-    of_kind (Own seq tx) has_r parts = none seq tx has_r.ranges.0 (own_spelled sites seq tx has_r) parts.1
-
--- fewer bytes than a number has, and more
-pub no_number : (k : ℕ) (left : List ℕ) → length left < k → (n : ℕ) → left ≢ number_spelled k n
-no_number k left few n e = omega (arith, ap length e, length-number_spelled k n)
-
-pub more_than_number : (k m : ℕ) (left after : List ℕ) → left ≡ number_spelled k m ++ after → after ≢ [] → (n : ℕ) → left ≢ number_spelled k n
-more_than_number k m left after is more n e = more (none after (omega (arith, ap length (sym is ∙ e), length-append (number_spelled k m) after, length-number_spelled k m, length-number_spelled k n)))
-  where
-    none : (xs : List ℕ) → length xs ≡ 0 → xs ≡ []
-    none [] long = refl
-    none (x ∷ xs) long = absurd (omega (arith, long))
-
-pub no_seq : (sites : ℕ) (left : List ℕ) → length left < 8 → (seq : ℕ) (tx : Tx) → left ≢ number_spelled 8 seq ++ spelling tx
-no_seq sites left few seq tx e = omega (arith, ap length e, length-append (number_spelled 8 seq) (spelling tx), length-number_spelled 8 seq)
-
-pub no_own_transaction : (sites number : ℕ) (left mid : List ℕ) → number < 2 ^ 64 → left ≡ number_spelled 8 number ++ mid → ((tx : Tx) → HasSpelling sites tx → mid ≢ spelling tx)
-    → (seq : ℕ) (tx : Tx) → seq < 2 ^ 64 → HasSpelling sites tx → left ≢ number_spelled 8 seq ++ spelling tx
-no_own_transaction sites number left mid low is none seq tx low_seq has e =
-    none tx has (same_number 8 number seq mid (spelling tx) (omega (arith, low)) (omega (arith, low_seq)) (sym is ∙ e)).1
+same_record sites a b has_a has_b e = ((free_records sites).same a b [] [] has_a has_b (append-nil (record_spelled a) ∙ e ∙ sym (append-nil (record_spelled b)))).0

@@ -1,70 +1,136 @@
-ghost use Rattle.std.specs.Prelude.{◌≡◌, ◌≢◌, ◌≤◌, ◌<◌, ◌^◌, ◌++◌, ℕ, IfOk, IfSome, IfNone};
+ghost use Rattle.std.specs.Prelude.{◌≡◌, ◌≢◌, ◌≤◌, IfOk, IfErr, IfSome, IfNone};
+ghost use Rattle.walter_base.specs.Vectors.{most_sites};
 ghost use Rattle.walter_base.specs.declared.message.Record.{Record};
-ghost use Rattle.walter_base.specs.declared.transaction.Tx.{Tx};
-ghost use Rattle.walter_fields.specs.Spellings.{number_spelled};
+ghost use Rattle.walter_fields.specs.Cursors.{Takes};
+ghost use Rattle.walter_record.specs.Fields.{kind_of, fields_spelled, got_spelled, prepared_spelled, marks_spelled, IsGot, IsPrepared, AreMarks};
 ghost use Rattle.walter_record.specs.Spelling.{record_spelled, HasRecordSpelling};
-ghost use Rattle.walter_txcode.specs.Spelling.{spelling, HasSpelling};
+ghost use Rattle.walter_txcode.specs.Faults.{IfUnspelled, NoneBegins};
+ghost use Rattle.walter_txcode.specs.Kinds.{IsOfKind};
 
 use std::alloc::Global;
-use walter_base::{Mem, Record, Tx};
+use walter_base::{Mem, NoMemory, Objects, Record, Tid, Tx, Version};
 use walter_fields::Cursor;
+use walter_names::{read_tid, read_version};
+use walter_txcode::{DecodeFault, read_numbered, read_objects, read_transaction};
 
-/// The epoch of a boot, with nothing behind it.
-fn read_boot(cursor: &mut Cursor) -> Option<u32>
-    ensures range { IfSome result (λ epoch. epoch < 2 ^ 32) }
-    ensures some { IfSome result (λ epoch. cursor.old.left ≡ number_spelled 4 epoch) }
-    ensures none { IfNone result ((epoch : ℕ) → cursor.old.left ≢ number_spelled 4 epoch) }
+/// A commit of a site, and its transaction.
+fn read_got(alloc: Global, cursor: &mut Cursor, sites: u8) -> Result<(Version, Tx), DecodeFault>
+    requires { sites ≤ most_sites }
+    ensures taken { IfOk result (λ got. Takes cursor.old cursor.new (got_spelled got)) }
+    ensures spelled { IfOk result (IsGot sites) }
+    ensures fault { IfErr result (λ fault. IfUnspelled fault
+        (NoneBegins (IsGot sites) got_spelled cursor.old.left)) }
 {
-    let Ok(epoch) = cursor.u32() else {
-        return None;
-    };
-    if cursor.is_at_end() {
-        Some(epoch)
-    } else {
-        None
+    let version = read_version(cursor)?;
+    let tx = read_transaction(alloc, cursor, sites)?;
+    Ok((version, tx))
+}
+
+/// A slow commit of a site, its transaction, and its objects.
+fn read_prepared(alloc: Global, cursor: &mut Cursor) -> Result<(Version, (Tid, Objects)), DecodeFault>
+    ensures taken { IfOk result (λ prepared. Takes cursor.old cursor.new (prepared_spelled prepared)) }
+    ensures spelled { IfOk result IsPrepared }
+    ensures fault { IfErr result (λ fault. IfUnspelled fault
+        (NoneBegins IsPrepared prepared_spelled cursor.old.left)) }
+{
+    let slow = read_version(cursor)?;
+    let tid = read_tid(cursor)?;
+    let objects = read_objects(alloc, cursor)?;
+    Ok((slow, (tid, objects)))
+}
+
+/// Two numbers.
+fn read_marks(cursor: &mut Cursor) -> Result<(u64, u64), DecodeFault>
+    ensures taken { IfOk result (λ marks. Takes cursor.old cursor.new (marks_spelled marks)) }
+    ensures spelled { IfOk result AreMarks }
+    ensures fault { IfErr result (λ fault. IfUnspelled fault
+        (NoneBegins AreMarks marks_spelled cursor.old.left)) }
+{
+    let durable = cursor.u64()?;
+    let visible = cursor.u64()?;
+    Ok((durable, visible))
+}
+
+/// What stands behind the kind of a record.
+fn read_fields(alloc: Global, cursor: &mut Cursor, kind: u8, sites: u8) -> Result<Record, DecodeFault>
+    requires { sites ≤ most_sites }
+    ensures taken { IfOk result (λ r. Takes cursor.old cursor.new (fields_spelled r)) }
+    ensures spelled { IfOk result (IsOfKind (HasRecordSpelling sites) kind_of kind) }
+    ensures fault { IfErr result (λ fault. IfUnspelled fault
+        (NoneBegins (IsOfKind (HasRecordSpelling sites) kind_of kind) fields_spelled cursor.old.left)) }
+{
+    match kind {
+        1 => {
+            let epoch = cursor.u32()?;
+            Ok(Record::Boot(epoch))
+        }
+        2 => {
+            let (seq, tx) = read_numbered(alloc, cursor, sites)?;
+            Ok(Record::Own(seq, tx))
+        }
+        3 => {
+            let (version, tx) = read_got(alloc, cursor, sites)?;
+            Ok(Record::Got(version.site, version.seq, tx))
+        }
+        4 => {
+            let version = read_version(cursor)?;
+            Ok(Record::Seen(version.site, version.seq))
+        }
+        5 => {
+            let (slow, (tid, objects)) = read_prepared(alloc, cursor)?;
+            Ok(Record::Prepared(slow.site, slow.seq, tid, objects))
+        }
+        6 => {
+            let slow = read_version(cursor)?;
+            Ok(Record::Released(slow.site, slow.seq))
+        }
+        7 => {
+            let (slow, tx) = read_numbered(alloc, cursor, sites)?;
+            Ok(Record::SlowBegin(slow, tx))
+        }
+        8 => {
+            let slow = cursor.u64()?;
+            Ok(Record::SlowEnd(slow))
+        }
+        9 => {
+            let (durable, visible) = read_marks(cursor)?;
+            Ok(Record::Marks(durable, visible))
+        }
+        _ => Err(DecodeFault::Unspelled),
     }
 }
 
-/// The number and the transaction of an own commit, with nothing behind them.
-fn read_own(alloc: Global, cursor: &mut Cursor, sites: u8) -> Mem<Option<(u64, Tx)>>
-    requires { sites ≤ 8 }
-    ensures range { IfOk result (λ found. IfSome found (λ own. own.0 < 2 ^ 64)) }
-    ensures some { IfOk result (λ found. IfSome found
-        (λ own. HasSpelling sites own.1 × (cursor.old.left ≡ number_spelled 8 own.0 ++ spelling own.1))) }
-    ensures none { IfOk result (λ found. IfNone found
-        ((seq : ℕ) (tx : Tx) → seq < 2 ^ 64 → HasSpelling sites tx
-        → cursor.old.left ≢ number_spelled 8 seq ++ spelling tx)) }
+/// The record with which the bytes that are left begin.
+fn read_record(alloc: Global, cursor: &mut Cursor, sites: u8) -> Result<Record, DecodeFault>
+    requires { sites ≤ most_sites }
+    ensures taken { IfOk result (λ r. Takes cursor.old cursor.new (record_spelled r)) }
+    ensures spelled { IfOk result (HasRecordSpelling sites) }
+    ensures fault { IfErr result (λ fault. IfUnspelled fault
+        (NoneBegins (HasRecordSpelling sites) record_spelled cursor.old.left)) }
 {
-    let Ok(seq) = cursor.u64() else {
-        return Ok(None);
-    };
-    match walter_txcode::decode(alloc, cursor.rest(), sites)? {
-        Some(tx) => Ok(Some((seq, tx))),
-        None => Ok(None),
-    }
+    let kind = cursor.u8()?;
+    let journaled = read_fields(alloc, cursor, kind, sites)?;
+    Ok(journaled)
 }
 
 /// The record among so many sites that the bytes spell, all of them; none where they spell none.
 pub fn decode(alloc: Global, bytes: &[u8], sites: u8) -> Mem<Option<Record>>
-    requires { sites ≤ 8 }
+    requires { sites ≤ most_sites }
     ensures some { IfOk result (λ found. IfSome found
         (λ r. HasRecordSpelling sites r × (bytes.now ≡ record_spelled r))) }
     ensures none { IfOk result (λ found. IfNone found
         ((r : Record) → HasRecordSpelling sites r → bytes.now ≢ record_spelled r)) }
 {
     let mut cursor = Cursor::new(bytes);
-    let Ok(kind) = cursor.u8() else {
-        return Ok(None);
-    };
-    match kind {
-        1 => match read_boot(&mut cursor) {
-            Some(epoch) => Ok(Some(Record::Boot(epoch))),
-            None => Ok(None),
-        },
-        2 => match read_own(alloc, &mut cursor, sites)? {
-            Some((seq, tx)) => Ok(Some(Record::Own(seq, tx))),
-            None => Ok(None),
-        },
-        _ => Ok(None),
+    match read_record(alloc, &mut cursor, sites) {
+        Ok(journaled) => {
+            if cursor.is_at_end() {
+                Ok(Some(journaled))
+            } else {
+                Ok(None)
+            }
+        }
+        Err(DecodeFault::Unspelled) => Ok(None),
+        Err(DecodeFault::NoMemory) => Err(NoMemory),
     }
 }

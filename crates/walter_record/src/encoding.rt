@@ -1,10 +1,14 @@
-ghost use Rattle.std.specs.Prelude.{◌≡◌, ◌≤◌, ◌++◌, IfOk};
+ghost use Rattle.std.specs.Prelude.{◌≡◌, ◌+◌, ◌≤◌, ◌++◌, IfOk};
 ghost use Rattle.walter_base.specs.Sizes.{size_of_record, CanBeRecorded};
-ghost use Rattle.walter_record.specs.Spelling.{record_spelled, AreInRange};
+ghost use Rattle.walter_record.specs.Fields.{kind_of, fields_spelled};
+ghost use Rattle.walter_record.specs.Spelling.{numbered, record_spelled, AreInRange};
+ghost use Rattle.walter_names.specs.Names.{version_spelled, IsVersion};
 
 use std::alloc::Global;
-use walter_base::{Bytes, Mem, NoMemory, Record};
+use walter_base::{Bytes, Mem, NoMemory, Record, SiteId, Version};
 use walter_fields::Appender;
+use walter_names::{write_tid, write_version};
+use walter_txcode::{write_numbered, write_objects};
 
 /// How many bytes spell the record.
 fn size(journaled: &Record) -> usize
@@ -13,30 +17,74 @@ fn size(journaled: &Record) -> usize
 {
     match journaled {
         Record::Boot(_) => 5,
-        Record::Own(_, tx) => 9 + tx.size() as usize,
+        Record::Own(_, tx) | Record::SlowBegin(_, tx) => 9 + tx.size() as usize,
+        Record::Got(_, _, tx) => 10 + tx.size() as usize,
+        Record::Seen(_, _) | Record::Released(_, _) => 10,
+        Record::Prepared(_, _, _, objects) => 25 + 12 * objects.as_slice().len(),
+        Record::SlowEnd(_) => 9,
+        Record::Marks(_, _) => 17,
     }
 }
 
-fn append(out: &mut Appender, journaled: &Record)
+/// The byte that tells the record's kind.
+fn kind(journaled: &Record) -> u8
+    ensures { result ≡ kind_of journaled.now }
+{
+    match journaled {
+        Record::Boot(_) => 1,
+        Record::Own(_, _) => 2,
+        Record::Got(_, _, _) => 3,
+        Record::Seen(_, _) => 4,
+        Record::Prepared(_, _, _, _) => 5,
+        Record::Released(_, _) => 6,
+        Record::SlowBegin(_, _) => 7,
+        Record::SlowEnd(_) => 8,
+        Record::Marks(_, _) => 9,
+    }
+}
+
+/// Writes a site and a number.
+fn write_site(out: &mut Appender, site: SiteId, seq: u64)
+    requires { 9 ≤ out.old.room }
+    ensures bytes { out.new.bytes ≡ out.old.bytes ++ version_spelled (numbered site seq) }
+    ensures room { out.new.room + 9 ≡ out.old.room }
+    ensures range { IsVersion (numbered site seq) }
+{
+    write_version(out, Version { site, seq });
+}
+
+/// Writes what stands behind the kind.
+fn write_fields(out: &mut Appender, journaled: &Record)
     requires spelled { CanBeRecorded journaled.now }
-    requires room { size_of_record journaled.now ≤ out.old.room }
-    ensures bytes { out.new.bytes ≡ out.old.bytes ++ record_spelled journaled.now }
+    requires room { size_of_record journaled.now ≤ 1 + out.old.room }
+    ensures bytes { out.new.bytes ≡ out.old.bytes ++ fields_spelled journaled.now }
     ensures ranges { AreInRange journaled.now }
 {
     match journaled {
-        Record::Boot(epoch) => {
-            out.u8(1);
-            out.u32(*epoch);
-        }
-        Record::Own(seq, tx) => {
-            out.u8(2);
-            out.u64(*seq);
+        Record::Boot(epoch) => out.u32(*epoch),
+        Record::Own(seq, tx) => write_numbered(out, *seq, tx),
+        Record::Got(site, seq, tx) => {
+            write_site(out, *site, *seq);
             walter_txcode::append(out, tx);
+        }
+        Record::Seen(site, seq) => write_site(out, *site, *seq),
+        Record::Prepared(site, slow, tid, objects) => {
+            write_site(out, *site, *slow);
+            write_tid(out, *tid);
+            write_objects(out, objects);
+        }
+        Record::Released(site, slow) => write_site(out, *site, *slow),
+        Record::SlowBegin(slow, tx) => write_numbered(out, *slow, tx),
+        Record::SlowEnd(slow) => out.u64(*slow),
+        Record::Marks(durable, visible) => {
+            out.u64(*durable);
+            out.u64(*visible);
         }
     }
 }
 
 /// The one spelling of the record.
+#[tactic(auto, using(crate::proofs::Records::record_parts))]
 pub fn encode(alloc: Global, journaled: &Record) -> Mem<Bytes>
     requires { CanBeRecorded journaled.now }
     ensures bytes { IfOk result (λ bytes. bytes ≡ record_spelled journaled.now) }
@@ -45,6 +93,7 @@ pub fn encode(alloc: Global, journaled: &Record) -> Mem<Bytes>
     let Ok(mut out) = Appender::with_room(alloc, size(journaled)) else {
         return Err(NoMemory);
     };
-    append(&mut out, journaled);
+    out.u8(kind(journaled));
+    write_fields(&mut out, journaled);
     Ok(Bytes::from(out.into_bytes()))
 }

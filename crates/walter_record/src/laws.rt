@@ -9,10 +9,10 @@ pub fn one_spelling()
         → record_spelled a ≡ record_spelled b → a ≡ b }
 {}
 
-/// How long a spelling is, and that it has at most 60,009 bytes.
+/// How long a spelling is, and that it has at most 60,010 bytes.
 pub fn size_of_spelling()
     ensures size { (journaled : Record) → CanBeRecorded journaled
         → length (record_spelled journaled) ≡ size_of_record journaled }
     ensures most { (journaled : Record) → CanBeRecorded journaled
-        → length (record_spelled journaled) ≤ 60009 }
+        → length (record_spelled journaled) ≤ 60010 }
 {}

@@ -1,38 +1,39 @@
 -- Where a part can't be read, the bytes don't begin with the spelling of any value that has the part.
 use Rattle.std.proofs.Common.{◌≡◌, ◌≢◌, ℕ, suc, ◌+◌, ◌-◌, ◌*◌, ◌^◌, ◌<◌, ◌≤◌, List, [], ◌∷◌, ◌++◌, length, take, replicate, Result, Ok, Err, sym, ap, subst, ◌∙◌, append_assoc, arith}
-use Rattle.std.specs.Prelude.{All, flat_map, IfErr, IsErrAnd}
+use Rattle.std.specs.Prelude.{All, flat_map, sum_by, IfErr, IsErrAnd}
 use Rattle.std.proofs.lemmas.List.{append-nil, length-append, length-take, append_cancel_left, replicate-append-replicate}
 use Rattle.std.proofs.lemmas.List.Concat.{flat_map-append, flat_map-cons}
+use Rattle.walter_base.specs.Vectors.{most_sites}
 use Rattle.walter_base.specs.declared.names.ObjId.{ObjId}
 use Rattle.walter_base.specs.declared.names.Tid.{Tid}
 use Rattle.walter_base.specs.declared.transaction.Tx.{Tx}
 use Rattle.walter_base.specs.declared.update.Update.{Update}
 use Rattle.walter_base.specs.declared.update.Update.TheVariants.{Write, Add, Del}
-use Rattle.walter_fields.specs.Cursors.{LacksBlock}
+use Rattle.walter_fields.specs.Cursors.{Remainder, Takes, LacksBlock}
 use Rattle.walter_fields.specs.Spellings.{number_spelled, block_spelled}
 use Rattle.walter_fields.proofs.Numbers.{length-number_spelled, same_number}
 use Rattle.walter_fields.proofs.Readings.{LacksBlock-no_block, same_block}
-use Rattle.walter_txcode.specs.declared.fault.TxFault.{TxFault}
-use Rattle.walter_txcode.specs.declared.fault.TxFault.TheVariants.{Unspelled, NoMemory}
-use Rattle.walter_txcode.specs.Faults.{IfUnspelled}
+use Rattle.walter_txcode.specs.declared.fault.DecodeFault.{DecodeFault}
+use Rattle.walter_txcode.specs.declared.fault.DecodeFault.TheVariants.{Unspelled, NoMemory}
+use Rattle.walter_txcode.specs.Faults.{IfUnspelled, NoneBegins}
 use Rattle.walter_names.specs.Names.{object_spelled, tid_spelled, IsObject, IsTid, member_spelled}
-use Rattle.walter_base.specs.Sizes.{HasShortValue}
+use Rattle.walter_base.specs.Sizes.{HasShortValue, size_of, size_of_update}
 use Rattle.walter_txcode.specs.Spelling.{numbers_spelled, vector_spelled, value_spelled, update_spelled, updates_spelled, head_spelled, spelling, AreFew, IsUpdate, HasSpelling}
 use Rattle.walter_names.proofs.Lengths.{length-tid_spelled, length-member_spelled}
 use Rattle.walter_txcode.proofs.Lengths.{length-numbers_spelled, length-value_spelled, length-update_spelled, length-updates_spelled, length-head_spelled, length-spelling, length-vector_spelled}
 use Rattle.walter_names.proofs.Prefixes.{same_object, same_tid}
 use Rattle.walter_txcode.proofs.Prefixes.{few_of, same_numbers, vector_parts, kind_of, fields_spelled, behind_kind, same_update, AreSpellable, AreSpellable-from_both, each_spelled, each_parts, HasHead, same_head, same_updates, first_two}
 
-pub IfUnspelled-weaker : (fault : TxFault) {P Q : Type 0} → (P → Q) → IfUnspelled fault P → IfUnspelled fault Q
+pub IfUnspelled-weaker : (fault : DecodeFault) {P Q : Type 0} → (P → Q) → IfUnspelled fault P → IfUnspelled fault Q
 IfUnspelled-weaker Unspelled f h = f h
 IfUnspelled-weaker NoMemory f h = tt
 
 -- the exit of a `?` on a field that is short, and on another fault
-pub is_unspelled : {T P : Type 0} (r : Result T TxFault) → IsErrAnd r (λ fault. fault ≡ Unspelled) → P → IfErr r (λ fault. IfUnspelled fault P)
+pub is_unspelled : {T P : Type 0} (r : Result T DecodeFault) → IsErrAnd r (λ fault. fault ≡ Unspelled) → P → IfErr r (λ fault. IfUnspelled fault P)
 is_unspelled (Ok x) is p = tt
 is_unspelled {P = P} (Err fault) is p = subst (λ f. IfUnspelled f P) (sym is) p
 
-pub is_fault : {T : Type 0} (P : Type 0) (r : Result T TxFault) (given : TxFault) → IsErrAnd r (λ fault. fault ≡ given) → IfUnspelled given P → IfErr r (λ fault. IfUnspelled fault P)
+pub is_fault : {T : Type 0} (P : Type 0) (r : Result T DecodeFault) (given : DecodeFault) → IsErrAnd r (λ fault. fault ≡ given) → IfUnspelled given P → IfErr r (λ fault. IfUnspelled fault P)
 is_fault P (Ok x) given is p = tt
 is_fault P (Err fault) given is p = subst (λ f. IfUnspelled f P) (sym is) p
 
@@ -176,16 +177,16 @@ no_zero_at_all mid few rest = too_few 8 mid (number_spelled 8 0) rest (length-nu
 pub no_zero_but : (n : ℕ) (mid after : List ℕ) → n < 2 ^ 64 → n ≢ 0 → mid ≡ number_spelled 8 n ++ after → (rest : List ℕ) → mid ≢ number_spelled 8 0 ++ rest
 no_zero_but n mid after low other is rest e = other (same_number 8 n 0 after rest (omega (arith, low)) (omega arith) (sym is ∙ e)).0
 
-pub no_vector : (n : ℕ) (left : List ℕ) → n ≤ 8 → length left < 8 * n → (v rest : List ℕ) → length v ≡ n → All (λ n. n < 2 ^ 64) v → left ≢ vector_spelled v ++ rest
+pub no_vector : (n : ℕ) (left : List ℕ) → n ≤ most_sites → length left < 8 * n → (v rest : List ℕ) → length v ≡ n → All (λ n. n < 2 ^ 64) v → left ≢ vector_spelled v ++ rest
 no_vector n left small few v rest long fits e =
     omega (arith, ap length e, length-append (vector_spelled v) rest, length-vector_spelled v (omega (arith, long)))
 
 pub no_vector_tail : (n : ℕ) (found left mid : List ℕ) → length found ≡ n → left ≡ numbers_spelled found ++ mid → All (λ n. n < 2 ^ 64) found
-    → ((rest : List ℕ) → mid ≢ numbers_spelled (replicate (8 - n) 0) ++ rest)
+    → ((rest : List ℕ) → mid ≢ numbers_spelled (replicate (most_sites - n) 0) ++ rest)
     → (v rest : List ℕ) → length v ≡ n → All (λ n. n < 2 ^ 64) v → left ≢ vector_spelled v ++ rest
 no_vector_tail n found left mid count is fits none v rest long fits_v e =
-    let same = same_numbers found v mid (numbers_spelled (replicate (8 - length v) 0) ++ rest) (count ∙ sym long) fits fits_v (sym is ∙ e ∙ vector_parts v rest) in
-    none rest (same.1 ∙ ap (λ n. numbers_spelled (replicate (8 - n) 0) ++ rest) long)
+    let same = same_numbers found v mid (numbers_spelled (replicate (most_sites - length v) 0) ++ rest) (count ∙ sym long) fits fits_v (sym is ∙ e ∙ vector_parts v rest) in
+    none rest (same.1 ∙ ap (λ n. numbers_spelled (replicate (most_sites - n) 0) ++ rest) long)
 
 -- ---- what stands before the updates
 
@@ -194,10 +195,10 @@ abbrev pub NoHead : ℕ → List ℕ → Type 0
 NoHead sites left =
     (tid : Tid) (slow : ℕ) (start rest : List ℕ) → length start ≡ sites → IsTid tid → slow < 2 ^ 64 → All (λ number. number < 2 ^ 64) start → left ≢ head_spelled tid slow start ++ rest
 
-pub NoHead-from_few : (sites : ℕ) (left : List ℕ) → sites ≤ 8 → length left < 85 → NoHead sites left
+pub NoHead-from_few : (sites : ℕ) (left : List ℕ) → sites ≤ most_sites → length left < 85 → NoHead sites left
 NoHead-from_few sites left small few tid slow start rest long named low fits = too_few 85 left (head_spelled tid slow start) rest (length-head_spelled tid slow start (omega (arith, long))) few
 
-pub NoHead-without_number : (sites : ℕ) (name : Tid) (left mid : List ℕ) → sites ≤ 8 → left ≡ tid_spelled name ++ mid → length mid < 8 → NoHead sites left
+pub NoHead-without_number : (sites : ℕ) (name : Tid) (left mid : List ℕ) → sites ≤ most_sites → left ≡ tid_spelled name ++ mid → length mid < 8 → NoHead sites left
 NoHead-without_number sites name left mid small is few =
     NoHead-from_few sites left small (omega (arith, ap length is, length-append (tid_spelled name) mid, length-tid_spelled name))
 
@@ -212,49 +213,68 @@ NoHead-without_vector sites name number left mid after named low is is_mid none 
 -- ---- the whole
 
 -- what was read before the updates
-pub record Begins (sites : ℕ) (tid : Tid) (slow : ℕ) (start bytes mid : List ℕ) : Type 0 where
+pub record Begins (sites : ℕ) (tid : Tid) (slow : ℕ) (start left mid : List ℕ) : Type 0 where
   pub head : HasHead sites tid slow start
-  pub front : bytes ≡ head_spelled tid slow start ++ mid
+  pub front : left ≡ head_spelled tid slow start ++ mid
 
 head_of : (sites : ℕ) (tx : Tx) → HasSpelling sites tx → HasHead sites tx.tid tx.slow tx.start
 head_of sites tx has = record { counted = has.sites; name = has.ranges.tid; number = has.ranges.slow; numbers = has.ranges.start }
 
-behind_head : (sites : ℕ) (tid : Tid) (slow : ℕ) (start bytes mid : List ℕ) (tx : Tx) → Begins sites tid slow start bytes mid → HasSpelling sites tx → bytes ≡ spelling tx → mid ≡ updates_spelled tx.updates
-behind_head sites tid slow start bytes mid tx begins has e =
-    (same_head sites tid tx.tid slow tx.slow start tx.start mid (updates_spelled tx.updates) begins.head (head_of sites tx has) (sym begins.front ∙ e)).3
+behind_head : (sites : ℕ) (tid : Tid) (slow : ℕ) (start left mid : List ℕ) (tx : Tx) (rest : List ℕ) → Begins sites tid slow start left mid → HasSpelling sites tx → left ≡ spelling tx ++ rest
+    → mid ≡ updates_spelled tx.updates ++ rest
+behind_head sites tid slow start left mid tx rest begins has e =
+    (same_head sites tid tx.tid slow tx.slow start tx.start mid (updates_spelled tx.updates ++ rest) begins.head (head_of sites tx has)
+    (sym begins.front ∙ e ∙ append_assoc (head_spelled tx.tid tx.slow tx.start) (updates_spelled tx.updates) rest)).3
 
-pub too_long : (sites : ℕ) (bytes : List ℕ) → 60000 < length bytes → (tx : Tx) → HasSpelling sites tx → bytes ≢ spelling tx
-too_long sites bytes long tx has e = omega (arith, ap length e, length-spelling tx has.sizes.sites, has.sizes.updates.size)
+pub no_head : (sites : ℕ) (left : List ℕ) → NoHead sites left → NoneBegins (HasSpelling sites) spelling left
+no_head sites left none = record {
+  none = λ tx rest has e.
+      none tx.tid tx.slow tx.start (updates_spelled tx.updates ++ rest) has.sites has.ranges.tid has.ranges.slow has.ranges.start (e ∙ append_assoc (head_spelled tx.tid tx.slow tx.start) (updates_spelled tx.updates) rest);
+}
 
-pub no_transaction : (sites : ℕ) (tid : Tid) (slow : ℕ) (start bytes mid : List ℕ) → Begins sites tid slow start bytes mid
+pub no_transaction : (sites : ℕ) (tid : Tid) (slow : ℕ) (start left mid : List ℕ) → Begins sites tid slow start left mid
     → ((us : List Update) (rest : List ℕ) → All IsUpdate us → AreFew us → mid ≢ updates_spelled us ++ rest)
-    → (tx : Tx) → HasSpelling sites tx → bytes ≢ spelling tx
-no_transaction sites tid slow start bytes mid begins none tx has e =
-    none tx.updates [] has.ranges.updates (few_of tx has.sizes) (behind_head sites tid slow start bytes mid tx begins has e ∙ sym (append-nil (updates_spelled tx.updates)))
+    → NoneBegins (HasSpelling sites) spelling left
+no_transaction sites tid slow start left mid begins none = record {
+  none = λ tx rest has e. none tx.updates rest has.ranges.updates (few_of tx has.sizes) (behind_head sites tid slow start left mid tx rest begins has e);
+}
 
-pub more_behind : (sites : ℕ) (tid : Tid) (slow : ℕ) (start bytes mid after : List ℕ) (found : List Update) → Begins sites tid slow start bytes mid → mid ≡ updates_spelled found ++ after
-    → All IsUpdate found → AreFew found → after ≢ []
-    → (tx : Tx) → HasSpelling sites tx → bytes ≢ spelling tx
-more_behind sites tid slow start bytes mid after found begins is fits few more tx has e =
-    more (same_updates found tx.updates after [] fits few has.ranges.updates (few_of tx has.sizes)
-    (sym is ∙ behind_head sites tid slow start bytes mid tx begins has e ∙ sym (append-nil (updates_spelled tx.updates)))).1
+-- how far a cursor moves
+pub moved : (old mid new : Remainder) (front back : List ℕ) (from to : ℕ) → Takes old mid front → Takes mid new back → from + length old.left ≡ old.end → to + length new.left ≡ new.end
+    → to ≡ from + (length front + length back)
+moved old mid new front back from to first second start end =
+    omega (arith, ap length first.front, length-append front mid.left, ap length second.front, length-append back new.left, first.same, second.same, start, end)
 
--- a transaction that was read to the end
-pub is_whole : (sites : ℕ) (tx : Tx) (bytes mid after : List ℕ) → sites ≤ 8 → Begins sites tx.tid tx.slow tx.start bytes mid → mid ≡ updates_spelled tx.updates ++ after
-    → All IsUpdate tx.updates → AreFew tx.updates → after ≡ [] → length bytes ≤ 60000 → HasSpelling sites tx × (bytes ≡ spelling tx)
-is_whole sites tx bytes mid after small begins is fits few ended short =
-    let head = begins.head in
-    let spelled : bytes ≡ spelling tx =
-    begins.front ∙ ap (λ t. head_spelled tx.tid tx.slow tx.start ++ t) (is ∙ ap (λ t. updates_spelled tx.updates ++ t) ended ∙ append-nil (updates_spelled tx.updates)) in
-    let few_sites : length tx.start ≤ 8 = omega (arith, head.counted) in (
-      record {
-        sites = head.counted;
-        sizes = record {
-          sites = few_sites;
-          some = few.some;
-          updates = record { few = few.few; values = few.values; size = omega (arith, ap length spelled, length-spelling tx few_sites) };
-        };
-        ranges = record { tid = head.name; slow = head.number; start = head.numbers; updates = fits };
-      },
-      spelled,
-    )
+-- head and updates that were read, in so many bytes
+pub record IsRead (sites : ℕ) (tx : Tx) (left mid after : List ℕ) (from to : ℕ) : Type 0 where
+  pub small : sites ≤ most_sites
+  pub begins : Begins sites tx.tid tx.slow tx.start left mid
+  pub front : mid ≡ updates_spelled tx.updates ++ after
+  pub ranges : All IsUpdate tx.updates
+  pub few : AreFew tx.updates
+  pub bytes : to ≡ from + (length (head_spelled tx.tid tx.slow tx.start) + length (updates_spelled tx.updates))
+
+bytes_of : (sites : ℕ) (tx : Tx) (left mid after : List ℕ) (from to : ℕ) → IsRead sites tx left mid after from to → to ≡ from + size_of tx
+bytes_of sites tx left mid after from to is =
+    omega (arith, is.bytes, length-head_spelled tx.tid tx.slow tx.start (omega (arith, is.small, is.begins.head.counted)), length-updates_spelled tx.updates)
+
+pub too_long : (sites : ℕ) (tx : Tx) (left mid after : List ℕ) (from to : ℕ) → IsRead sites tx left mid after from to → 60000 < to - from → NoneBegins (HasSpelling sites) spelling left
+too_long sites found left mid after from to is long = record {
+  none = λ tx rest has e.
+      let same = same_updates found.updates tx.updates after rest is.ranges is.few has.ranges.updates (few_of tx has.sizes)
+      (sym is.front ∙ behind_head sites found.tid found.slow found.start left mid tx rest is.begins has e) in
+      omega (arith, long, bytes_of sites found left mid after from to is, ap (λ us. sum_by size_of_update us) same.0, has.sizes.updates.size);
+}
+
+pub is_transaction : (sites : ℕ) (tx : Tx) (left mid after : List ℕ) (from to : ℕ) → IsRead sites tx left mid after from to → to - from ≤ 60000 → HasSpelling sites tx
+is_transaction sites tx left mid after from to is short =
+    let head = is.begins.head in
+    record {
+      sites = head.counted;
+      sizes = record {
+        sites = omega (arith, is.small, head.counted);
+        some = is.few.some;
+        updates = record { few = is.few.few; values = is.few.values; size = omega (arith, short, bytes_of sites tx left mid after from to is) };
+      };
+      ranges = record { tid = head.name; slow = head.number; start = head.numbers; updates = is.ranges };
+    }

@@ -4,6 +4,7 @@ use Rattle.std.specs.Prelude.{flat_map, sum_by}
 use Rattle.std.proofs.lemmas.List.{length-append, length-replicate}
 use Rattle.std.proofs.lemmas.List.Concat.{flat_map-cons}
 use Rattle.std.proofs.lemmas.List.Sums.{sum_by-cons}
+use Rattle.walter_base.specs.Vectors.{most_sites}
 use Rattle.walter_base.specs.Sizes.{size_of, size_of_update}
 use Rattle.walter_base.specs.declared.names.ObjId.{ObjId}
 use Rattle.walter_base.specs.declared.names.Tid.{Tid}
@@ -22,9 +23,9 @@ length-numbers_spelled (n ∷ numbers) =
     let others = length-numbers_spelled numbers in
     rw flat_map-cons (omega (arith, length-append (number_spelled 8 n) (numbers_spelled numbers), length-number_spelled 8 n))
 
-pub length-vector_spelled : (vector : List ℕ) → length vector ≤ 8 → length (vector_spelled vector) ≡ 64
+pub length-vector_spelled : (vector : List ℕ) → length vector ≤ most_sites → length (vector_spelled vector) ≡ 64
 length-vector_spelled vector few =
-    omega (arith, length-numbers_spelled (vector ++ replicate (8 - length vector) 0), length-append vector (replicate (8 - length vector) 0), length-replicate {A = ℕ} (8 - length vector) 0)
+    omega (arith, length-numbers_spelled (vector ++ replicate (most_sites - length vector) 0), length-append vector (replicate (most_sites - length vector) 0), length-replicate {A = ℕ} (most_sites - length vector) 0)
 
 pub length-value_spelled : (oid : ObjId) (bytes : List ℕ) → length (value_spelled oid bytes) ≡ 16 + length bytes
 length-value_spelled oid bytes = omega (arith, length-append (object_spelled oid) (block_spelled bytes), length-object_spelled oid, length-block_spelled bytes)
@@ -44,7 +45,7 @@ length-each (u ∷ us) =
 pub length-updates_spelled : (us : List Update) → length (updates_spelled us) ≡ 2 + sum_by size_of_update us
 length-updates_spelled us = omega (arith, length-append (number_spelled 2 (length us)) (flat_map update_spelled us), length-number_spelled 2 (length us), length-each us)
 
-pub length-head_spelled : (tid : Tid) (slow : ℕ) (start : List ℕ) → length start ≤ 8 → length (head_spelled tid slow start) ≡ 85
+pub length-head_spelled : (tid : Tid) (slow : ℕ) (start : List ℕ) → length start ≤ most_sites → length (head_spelled tid slow start) ≡ 85
 length-head_spelled tid slow start few =
     omega (
       arith,
@@ -56,6 +57,6 @@ length-head_spelled tid slow start few =
     )
 
 -- the spelling has the size of the transaction
-pub length-spelling : (tx : Tx) → length tx.start ≤ 8 → length (spelling tx) ≡ size_of tx
+pub length-spelling : (tx : Tx) → length tx.start ≤ most_sites → length (spelling tx) ≡ size_of tx
 length-spelling tx few =
     omega (arith, length-append (head_spelled tx.tid tx.slow tx.start) (updates_spelled tx.updates), length-head_spelled tx.tid tx.slow tx.start few, length-updates_spelled tx.updates)

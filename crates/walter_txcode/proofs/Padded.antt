@@ -4,7 +4,7 @@ use Rattle.std.specs.Prelude.{slice_index}
 use Rattle.std.proofs.Math.Seq.{take-suc-set}
 use Rattle.std.proofs.lemmas.List.{append-nil, length-append, length-replicate, take_more}
 use Rattle.std.proofs.lemmas.List.Concat.{flat_map-append, flat_map-cons}
-use Rattle.walter_base.specs.Vectors.{NoneFrom}
+use Rattle.walter_base.specs.Vectors.{most_sites, NoneFrom}
 use Rattle.walter_fields.specs.Spellings.{number_spelled}
 use Rattle.walter_txcode.specs.Spelling.{numbers_spelled}
 
@@ -33,13 +33,13 @@ padded_at (n ∷ v) k zero = refl
 padded_at (n ∷ v) k (suc i) = padded_at v k i
 
 abbrev pub padded : List ℕ → List ℕ
-padded v = v ++ replicate (8 - length v) 0
+padded v = v ++ replicate (most_sites - length v) 0
 
-pub length-padded : (v : List ℕ) → length v ≤ 8 → length (padded v) ≡ 8
-length-padded v few = omega (arith, length-append v (replicate (8 - length v) 0), length-replicate {A = ℕ} (8 - length v) 0)
+pub length-padded : (v : List ℕ) → length v ≤ most_sites → length (padded v) ≡ most_sites
+length-padded v few = omega (arith, length-append v (replicate (most_sites - length v) 0), length-replicate {A = ℕ} (most_sites - length v) 0)
 
-pub padded_more : (v : List ℕ) (i : ℕ) → length v ≤ 8 → i < 8 → numbers_spelled (take (i + 1) (padded v)) ≡ numbers_spelled (take i (padded v)) ++ number_spelled 8 (slice_index v i)
+pub padded_more : (v : List ℕ) (i : ℕ) → length v ≤ most_sites → i < most_sites → numbers_spelled (take (i + 1) (padded v)) ≡ numbers_spelled (take i (padded v)) ++ number_spelled 8 (slice_index v i)
 padded_more v i few within =
     let long = length-padded v few in
     ap numbers_spelled (take_more (padded v) i 0 (omega arith)) ∙ numbers_push (take i (padded v)) (get_or (padded v) i 0)
-    ∙ ap (λ n. numbers_spelled (take i (padded v)) ++ number_spelled 8 n) (padded_at v (8 - length v) i)
+    ∙ ap (λ n. numbers_spelled (take i (padded v)) ++ number_spelled 8 n) (padded_at v (most_sites - length v) i)

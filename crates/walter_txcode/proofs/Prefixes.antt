@@ -5,6 +5,7 @@ use Rattle.std.specs.List.{AllByRecursion}
 use Rattle.std.proofs.lemmas.List.{append-nil, append_cancel_left}
 use Rattle.std.proofs.lemmas.List.Concat.{flat_map-cons, flat_map-append}
 use Rattle.std.proofs.lemmas.List.Elements.{recursion_from_All}
+use Rattle.walter_base.specs.Vectors.{most_sites}
 use Rattle.walter_base.specs.declared.names.ObjId.{ObjId}
 use Rattle.walter_base.specs.declared.names.Tid.{Tid}
 use Rattle.walter_base.specs.declared.transaction.Tx.{Tx}
@@ -37,16 +38,16 @@ same_numbers xs ys x y long fits_x fits_y e =
     each_number xs ys x y long (recursion_from_All (λ n. n < 2 ^ 64) xs fits_x) (recursion_from_All (λ n. n < 2 ^ 64) ys fits_y) e
 
 -- a vector is its numbers, and then 0
-pub vector_parts : (v rest : List ℕ) → vector_spelled v ++ rest ≡ numbers_spelled v ++ (numbers_spelled (replicate (8 - length v) 0) ++ rest)
+pub vector_parts : (v rest : List ℕ) → vector_spelled v ++ rest ≡ numbers_spelled v ++ (numbers_spelled (replicate (most_sites - length v) 0) ++ rest)
 vector_parts v rest =
-    ap (λ t. t ++ rest) (flat_map-append (number_spelled 8) v (replicate (8 - length v) 0)) ∙ append_assoc (numbers_spelled v) (numbers_spelled (replicate (8 - length v) 0)) rest
+    ap (λ t. t ++ rest) (flat_map-append (number_spelled 8) v (replicate (most_sites - length v) 0)) ∙ append_assoc (numbers_spelled v) (numbers_spelled (replicate (most_sites - length v) 0)) rest
 
 pub same_vector : (v w x y : List ℕ) → length v ≡ length w → All (λ n. n < 2 ^ 64) v → All (λ n. n < 2 ^ 64) w → vector_spelled v ++ x ≡ vector_spelled w ++ y → (v ≡ w) × (x ≡ y)
 same_vector v w x y long fits_v fits_w e =
-    let zeros_v = numbers_spelled (replicate (8 - length v) 0) in
-    let zeros_w = numbers_spelled (replicate (8 - length w) 0) in
+    let zeros_v = numbers_spelled (replicate (most_sites - length v) 0) in
+    let zeros_w = numbers_spelled (replicate (most_sites - length w) 0) in
     let one = same_numbers v w (zeros_v ++ x) (zeros_w ++ y) long fits_v fits_w (sym (vector_parts v x) ∙ e ∙ vector_parts w y) in
-    (one.0, append_cancel_left zeros_v x y (one.1 ∙ ap (λ n. numbers_spelled (replicate (8 - n) 0) ++ y) (sym long)))
+    (one.0, append_cancel_left zeros_v x y (one.1 ∙ ap (λ n. numbers_spelled (replicate (most_sites - n) 0) ++ y) (sym long)))
 
 pub same_value : (a b : ObjId) (v w x y : List ℕ) → IsObject a → IsObject b → length v ≤ 4096 → length w ≤ 4096 → value_spelled a v ++ x ≡ value_spelled b w ++ y → (a ≡ b) × (v ≡ w) × (x ≡ y)
 same_value a b v w x y fits_a fits_b short_v short_w e =
@@ -160,12 +161,16 @@ same_head n a b m k v w x y head_a head_b e =
     let three = same_vector v w x y (head_a.counted ∙ sym head_b.counted) head_a.numbers head_b.numbers two.1 in
     (one.0, two.0, three.0, three.1)
 
--- transactions with the same spelling are the same
-pub same_spelling : (n : ℕ) (a b : Tx) → HasSpelling n a → HasSpelling n b → spelling a ≡ spelling b → a ≡ b
-same_spelling n a b has_a has_b e =
+-- no spelling of a transaction begins that of another
+pub same_transaction : (n : ℕ) (a b : Tx) (x y : List ℕ) → HasSpelling n a → HasSpelling n b → spelling a ++ x ≡ spelling b ++ y → (a ≡ b) × (x ≡ y)
+same_transaction n a b x y has_a has_b e =
     let head : HasHead n a.tid a.slow a.start = record { counted = has_a.sites; name = has_a.ranges.tid; number = has_a.ranges.slow; numbers = has_a.ranges.start } in
     let other : HasHead n b.tid b.slow b.start = record { counted = has_b.sites; name = has_b.ranges.tid; number = has_b.ranges.slow; numbers = has_b.ranges.start } in
-    let one = same_head n a.tid b.tid a.slow b.slow a.start b.start (updates_spelled a.updates) (updates_spelled b.updates) head other e in
-    let two = same_updates a.updates b.updates [] [] has_a.ranges.updates (few_of a has_a.sizes) has_b.ranges.updates (few_of b has_b.sizes)
-    (append-nil (updates_spelled a.updates) ∙ one.3 ∙ sym (append-nil (updates_spelled b.updates))) in
-    (λ i. record { tid = one.0 i; slow = one.1 i; start = one.2 i; updates = two.0 i })
+    let one = same_head n a.tid b.tid a.slow b.slow a.start b.start (updates_spelled a.updates ++ x) (updates_spelled b.updates ++ y) head other
+    (regrouped (head_spelled a.tid a.slow a.start) (updates_spelled a.updates) x (head_spelled b.tid b.slow b.start) (updates_spelled b.updates) y e) in
+    let two = same_updates a.updates b.updates x y has_a.ranges.updates (few_of a has_a.sizes) has_b.ranges.updates (few_of b has_b.sizes) one.3 in
+    ((λ i. record { tid = one.0 i; slow = one.1 i; start = one.2 i; updates = two.0 i }), two.1)
+
+-- transactions with the same spelling are the same
+pub same_spelling : (n : ℕ) (a b : Tx) → HasSpelling n a → HasSpelling n b → spelling a ≡ spelling b → a ≡ b
+same_spelling n a b has_a has_b e = (same_transaction n a b [] [] has_a has_b (append-nil (spelling a) ∙ e ∙ sym (append-nil (spelling b)))).0

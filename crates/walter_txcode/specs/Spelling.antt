@@ -1,6 +1,8 @@
 -- How a transaction is spelled, and which transactions have a spelling (docs/FORMATS.md, "Transaction").
 use Rattle.std.specs.Prelude.{◌≡◌, ◌-◌, ◌<◌, ◌≤◌, ◌^◌, ℕ, List, ◌++◌, length, replicate, All, flat_map}
-use Rattle.walter_base.specs.Sizes.{HasShortValue, CanBeSpelled}
+use Rattle.walter_base.specs.Names.{AreRising}
+use Rattle.walter_base.specs.Sizes.{HasShortValue, CanBeSpelled, CanBeListed}
+use Rattle.walter_base.specs.Vectors.{most_sites}
 use Rattle.walter_base.specs.declared.names.ObjId.{ObjId}
 use Rattle.walter_base.specs.declared.names.Tid.{Tid}
 use Rattle.walter_base.specs.declared.transaction.Tx.{Tx}
@@ -13,9 +15,9 @@ use Rattle.walter_names.specs.Names.{object_spelled, tid_spelled, member_spelled
 abbrev pub numbers_spelled : List ℕ → List ℕ
 numbers_spelled numbers = flat_map (number_spelled 8) numbers
 
--- eight numbers: those of the sites, and then 0
+-- a number for each site that there may be: those of the sites, and then 0
 abbrev pub vector_spelled : List ℕ → List ℕ
-vector_spelled vector = numbers_spelled (vector ++ replicate (8 - length vector) 0)
+vector_spelled vector = numbers_spelled (vector ++ replicate (most_sites - length vector) 0)
 
 -- the object and the value of a write
 abbrev pub value_spelled : ObjId → List ℕ → List ℕ
@@ -60,3 +62,26 @@ pub record HasSpelling (n : ℕ) (tx : Tx) : Type 0 where
   pub sites : length tx.start ≡ n
   pub sizes : CanBeSpelled tx
   pub ranges : IsInRange tx
+
+-- a number, and a transaction behind it
+abbrev pub numbered_spelled : ℕ × Tx → List ℕ
+numbered_spelled numbered = number_spelled 8 numbered.0 ++ spelling numbered.1
+
+-- what has a spelling among n sites
+abbrev pub IsNumbered : ℕ → ℕ × Tx → Type 0
+IsNumbered n numbered = (numbered.0 < 2 ^ 64) × HasSpelling n numbered.1
+
+-- their count, and each of them
+abbrev pub objects_spelled : List ObjId → List ℕ
+objects_spelled objects = number_spelled 2 (length objects) ++ flat_map object_spelled objects
+
+-- from 1 to 256 objects that rise, in the ranges of their fields
+pub record AreSpelledObjects (objects : List ObjId) : Type 0 where
+  pub listed : CanBeListed objects
+  pub ranges : All IsObject objects
+
+-- so many objects that rise, in the ranges of their fields
+pub record AreSoMany (count : ℕ) (objects : List ObjId) : Type 0 where
+  pub counted : length objects ≡ count
+  pub rising : AreRising objects
+  pub ranges : All IsObject objects

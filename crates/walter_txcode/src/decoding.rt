@@ -1,12 +1,13 @@
 ghost use Rattle.std.specs.Prelude.{◌≡◌, ◌≢◌, ◌≤◌, ◌<◌, ◌^◌, ◌++◌, ℕ, List, length, All, IfOk, IfErr, IfSome, IfNone};
+ghost use Rattle.walter_base.specs.Vectors.{most_sites};
 ghost use Rattle.walter_base.specs.declared.names.Tid.{Tid};
 ghost use Rattle.walter_base.specs.declared.transaction.Tx.{Tx};
 ghost use Rattle.walter_fields.specs.Cursors.{Takes};
-ghost use Rattle.walter_txcode.specs.Faults.{IfUnspelled};
+ghost use Rattle.walter_txcode.specs.Faults.{IfUnspelled, NoneBegins};
 ghost use Rattle.walter_names.specs.Names.{IsTid};
-ghost use Rattle.walter_txcode.specs.Spelling.{head_spelled, spelling, HasSpelling};
+ghost use Rattle.walter_txcode.specs.Spelling.{head_spelled, spelling, HasSpelling, numbered_spelled, IsNumbered};
 
-use crate::fault::TxFault;
+use crate::fault::DecodeFault;
 use crate::updates::read_updates;
 use crate::vectors::read_vector;
 use std::alloc::Global;
@@ -18,8 +19,8 @@ use walter_names::read_tid;
 const LONGEST: usize = 60_000;
 
 /// What stands before the updates.
-fn read_head(cursor: &mut Cursor, sites: u8) -> Result<(Tid, u64, Vts), TxFault>
-    requires { sites ≤ 8 }
+fn read_head(cursor: &mut Cursor, sites: u8) -> Result<(Tid, u64, Vts), DecodeFault>
+    requires { sites ≤ most_sites }
     ensures taken { IfOk result
         (λ head. Takes cursor.old cursor.new (head_spelled head.0 head.1 head.2)) }
     ensures counted { IfOk result (λ head. length head.2 ≡ sites) }
@@ -37,20 +38,21 @@ fn read_head(cursor: &mut Cursor, sites: u8) -> Result<(Tid, u64, Vts), TxFault>
     Ok((tid, slow, start))
 }
 
-fn read_transaction(alloc: Global, bytes: &[u8], sites: u8) -> Result<Tx, TxFault>
-    requires { sites ≤ 8 }
-    ensures ok { IfOk result (λ tx. HasSpelling sites tx × (bytes.now ≡ spelling tx)) }
+/// The transaction among so many sites with which the bytes that are left begin. Where there is none, some bytes may
+/// have been read.
+pub fn read_transaction(alloc: Global, cursor: &mut Cursor, sites: u8) -> Result<Tx, DecodeFault>
+    requires { sites ≤ most_sites }
+    ensures taken { IfOk result (λ tx. Takes cursor.old cursor.new (spelling tx)) }
+    ensures spelled { IfOk result (HasSpelling sites) }
     ensures fault { IfErr result (λ fault. IfUnspelled fault
-        ((tx : Tx) → HasSpelling sites tx → bytes.now ≢ spelling tx)) }
+        (NoneBegins (HasSpelling sites) spelling cursor.old.left)) }
 {
-    if bytes.len() > LONGEST {
-        return Err(TxFault::Unspelled);
-    }
-    let mut cursor = Cursor::new(bytes);
-    let (tid, slow, start) = read_head(&mut cursor, sites)?;
-    let updates = read_updates(alloc, &mut cursor)?;
-    if !cursor.is_at_end() {
-        return Err(TxFault::Unspelled);
+    let from = cursor.place();
+    let (tid, slow, start) = read_head(cursor, sites)?;
+    let updates = read_updates(alloc, cursor)?;
+    let length = cursor.place() - from;
+    if length > LONGEST {
+        return Err(DecodeFault::Unspelled);
     }
     Ok(Tx {
         tid,
@@ -60,17 +62,37 @@ fn read_transaction(alloc: Global, bytes: &[u8], sites: u8) -> Result<Tx, TxFaul
     })
 }
 
+/// A number, and a transaction behind it.
+pub fn read_numbered(alloc: Global, cursor: &mut Cursor, sites: u8) -> Result<(u64, Tx), DecodeFault>
+    requires { sites ≤ most_sites }
+    ensures taken { IfOk result (λ numbered. Takes cursor.old cursor.new (numbered_spelled numbered)) }
+    ensures spelled { IfOk result (IsNumbered sites) }
+    ensures fault { IfErr result (λ fault. IfUnspelled fault
+        (NoneBegins (IsNumbered sites) numbered_spelled cursor.old.left)) }
+{
+    let number = cursor.u64()?;
+    let tx = read_transaction(alloc, cursor, sites)?;
+    Ok((number, tx))
+}
+
 /// The transaction among so many sites that the bytes spell, all of them; none where they spell none.
 pub fn decode(alloc: Global, bytes: &[u8], sites: u8) -> Mem<Option<Tx>>
-    requires { sites ≤ 8 }
+    requires { sites ≤ most_sites }
     ensures some { IfOk result (λ found. IfSome found
         (λ tx. HasSpelling sites tx × (bytes.now ≡ spelling tx))) }
     ensures none { IfOk result (λ found. IfNone found
         ((tx : Tx) → HasSpelling sites tx → bytes.now ≢ spelling tx)) }
 {
-    match read_transaction(alloc, bytes, sites) {
-        Ok(tx) => Ok(Some(tx)),
-        Err(TxFault::Unspelled) => Ok(None),
-        Err(TxFault::NoMemory) => Err(NoMemory),
+    let mut cursor = Cursor::new(bytes);
+    match read_transaction(alloc, &mut cursor, sites) {
+        Ok(tx) => {
+            if cursor.is_at_end() {
+                Ok(Some(tx))
+            } else {
+                Ok(None)
+            }
+        }
+        Err(DecodeFault::Unspelled) => Ok(None),
+        Err(DecodeFault::NoMemory) => Err(NoMemory),
     }
 }

@@ -1,7 +1,8 @@
 ghost use Rattle.std.specs.Prelude.{◌≡◌, ◌+◌, ◌≤◌, ◌<◌, ◌^◌, ◌++◌, length, All, IfOk};
 ghost use Rattle.walter_base.specs.Sizes.{size_of, CanBeSpelled};
+ghost use Rattle.walter_base.specs.Vectors.{most_sites};
 ghost use Rattle.walter_names.specs.Names.{IsTid};
-ghost use Rattle.walter_txcode.specs.Spelling.{head_spelled, spelling, IsInRange};
+ghost use Rattle.walter_txcode.specs.Spelling.{head_spelled, spelling, numbered_spelled, IsInRange};
 
 use crate::updates::write_updates;
 use crate::vectors::write_vector;
@@ -12,7 +13,7 @@ use walter_names::write_tid;
 
 /// What stands before the updates.
 fn write_head(out: &mut Appender, tid: Tid, slow: u64, start: &Vts)
-    requires sites { length start.now ≤ 8 }
+    requires sites { length start.now ≤ most_sites }
     requires room { 85 ≤ out.old.room }
     ensures bytes { out.new.bytes ≡ out.old.bytes ++ head_spelled tid slow start.now }
     ensures room { out.new.room + 85 ≡ out.old.room }
@@ -35,6 +36,19 @@ pub fn append(out: &mut Appender, tx: &Tx)
 {
     write_head(out, tx.tid, tx.slow, &tx.start);
     write_updates(out, tx.updates.as_slice());
+}
+
+/// Writes a number, and the transaction's spelling behind it.
+pub fn write_numbered(out: &mut Appender, number: u64, tx: &Tx)
+    requires spelled { CanBeSpelled tx.now }
+    requires room { 8 + size_of tx.now ≤ out.old.room }
+    ensures bytes { out.new.bytes ≡ out.old.bytes ++ numbered_spelled (number, tx.now) }
+    ensures room { out.new.room + (8 + size_of tx.now) ≡ out.old.room }
+    ensures number { number < 2 ^ 64 }
+    ensures ranges { IsInRange tx.now }
+{
+    out.u64(number);
+    append(out, tx);
 }
 
 /// The one spelling of the transaction.

@@ -7,7 +7,7 @@ ghost use Rattle.walter_txcode.specs.Faults.{IfUnspelled};
 ghost use Rattle.walter_names.specs.Names.{IsObject};
 ghost use Rattle.walter_txcode.specs.Spelling.{value_spelled, update_spelled, updates_spelled, AreFew, IsUpdate};
 
-use crate::fault::TxFault;
+use crate::fault::DecodeFault;
 use std::alloc::Global;
 use walter_base::{Bytes, ObjId, Update, Updates};
 use walter_fields::{Appender, Cursor, Short};
@@ -22,7 +22,7 @@ const FEWEST_UPDATES: u16 = 1;
 const MOST_UPDATES: u16 = 256;
 
 /// The object and the value of a write.
-fn read_value<'a>(cursor: &mut Cursor<'a>) -> Result<(ObjId, &'a [u8]), TxFault>
+fn read_value<'a>(cursor: &mut Cursor<'a>) -> Result<(ObjId, &'a [u8]), DecodeFault>
     ensures taken { IfOk result (λ v. Takes cursor.old cursor.new (value_spelled v.0 v.1.now)) }
     ensures range { IfOk result (λ v. IsObject v.0) }
     ensures short { IfOk result (λ v. length v.1.now ≤ 4096) }
@@ -32,12 +32,12 @@ fn read_value<'a>(cursor: &mut Cursor<'a>) -> Result<(ObjId, &'a [u8]), TxFault>
     let oid = read_object(cursor)?;
     let bytes = cursor.block()?;
     if bytes.len() > LONGEST_VALUE {
-        return Err(TxFault::Unspelled);
+        return Err(DecodeFault::Unspelled);
     }
     Ok((oid, bytes))
 }
 
-fn read_update(alloc: Global, cursor: &mut Cursor) -> Result<Update, TxFault>
+fn read_update(alloc: Global, cursor: &mut Cursor) -> Result<Update, DecodeFault>
     ensures taken { IfOk result (λ u. Takes cursor.old cursor.new (update_spelled u)) }
     ensures range { IfOk result IsUpdate }
     ensures short { IfOk result HasShortValue }
@@ -57,12 +57,12 @@ fn read_update(alloc: Global, cursor: &mut Cursor) -> Result<Update, TxFault>
             let (oid, id) = read_member(cursor)?;
             Ok(Update::Del(oid, id))
         }
-        _ => Err(TxFault::Unspelled),
+        _ => Err(DecodeFault::Unspelled),
     }
 }
 
 /// So many updates, one behind the other.
-fn read_each(alloc: Global, cursor: &mut Cursor, count: u16) -> Result<Vec<Update>, TxFault>
+fn read_each(alloc: Global, cursor: &mut Cursor, count: u16) -> Result<Vec<Update>, DecodeFault>
     ensures taken { IfOk result
         (λ us. Takes cursor.old cursor.new (flat_map update_spelled us.items)) }
     ensures counted { IfOk result (λ us. length us.items ≡ count) }
@@ -79,7 +79,7 @@ fn read_each(alloc: Global, cursor: &mut Cursor, count: u16) -> Result<Vec<Updat
     Ok(updates)
 }
 
-pub(crate) fn read_updates(alloc: Global, cursor: &mut Cursor) -> Result<Updates, TxFault>
+pub(crate) fn read_updates(alloc: Global, cursor: &mut Cursor) -> Result<Updates, DecodeFault>
     ensures taken { IfOk result (λ us. Takes cursor.old cursor.new (updates_spelled us)) }
     ensures range { IfOk result (All IsUpdate) }
     ensures few { IfOk result AreFew }
@@ -88,7 +88,7 @@ pub(crate) fn read_updates(alloc: Global, cursor: &mut Cursor) -> Result<Updates
 {
     let count = cursor.u16()?;
     if count < FEWEST_UPDATES || count > MOST_UPDATES {
-        return Err(TxFault::Unspelled);
+        return Err(DecodeFault::Unspelled);
     }
     Ok(Updates::from(read_each(alloc, cursor, count)?))
 }

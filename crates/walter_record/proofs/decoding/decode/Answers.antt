@@ -1,27 +1,26 @@
-use Rattle.std.proofs.Common.{◌≡◌, ◌++◌, refl, sym, ap, subst, ◌∙◌, arith}
-use Rattle.std.proofs.lemmas.Option.{MatchOption-at_none}
-use Rattle.walter_fields.specs.Cursors.{Remainder}
-use Rattle.walter_fields.specs.Spellings.{number_spelled}
-use Rattle.walter_record.proofs.Records.{no_kind, no_such_kind, no_boot, no_own}
+use Rattle.std.proofs.Common.{refl, subst}
+use Rattle.std.specs.Prelude.{IsTrue, false}
+use Rattle.walter_fields.proofs.Readings.{left_of_whole}
+use Rattle.walter_txcode.specs.Faults.{IfUnspelled, NoneBegins}
+use Rattle.walter_record.specs.Spelling.{record_spelled, HasRecordSpelling}
+use Rattle.walter_txcode.proofs.Joined.{spells_none, more_behind, spells_whole}
+use Rattle.walter_record.proofs.Records.{free_records}
 use Rattle.walter_record.proofs.decoding.decode.Goals as goal
 
-pub returns-in_default-clause-none : goal.returns-in_default-clause-none
-returns-in_default-clause-none c = λ r has. no_kind c.args.bytes.now (rw (ap (λ (x : Remainder). x.left) (sym c.new-cursor.ensures)) (c.in_default.ensures.short.0 refl)) r
+pub returns-then-is_at_end-clause-some : goal.returns-then-is_at_end-clause-some
+returns-then-is_at_end-clause-some c =
+    let found = c.in-Ok in
+    let left = left_of_whole c.new-cursor.result c.args.bytes.now c.new-cursor.ensures in
+    (found.ensures.spelled, spells_whole left found.ensures.taken.front (c.if-is_at_end.ensures.0 refl))
 
-pub returns-in_default-kind-clause-none : goal.returns-in_default-kind-clause-none
-returns-in_default-kind-clause-none c =
-    let front = ap (λ (x : Remainder). x.left) (sym c.new-cursor.ensures) ∙ c.in-Ok.ensures.taken.front in
-    λ r has. no_such_kind c.in-Ok.kind c.args.bytes.now c.u8.new.self.left (omega arith) (λ e. omega (arith, e)) (λ e. omega (arith, e)) front r
+pub returns-else-is_at_end-clause-none : goal.returns-else-is_at_end-clause-none
+returns-else-is_at_end-clause-none c =
+    let found = c.in-Ok in
+    let left = left_of_whole c.new-cursor.result c.args.bytes.now c.new-cursor.ensures in
+    more_behind (free_records c.args.sites) left found.journaled found.ensures.spelled found.ensures.taken.front (λ ended. absurd (let true_is : IsTrue false = c.if-is_at_end.ensures.1 ended in cc))
 
-pub returns-in-None-clause-none : goal.returns-in-None-clause-none
-returns-in-None-clause-none c =
-    let front = ap (λ (x : Remainder). x.left) (sym c.new-cursor.ensures) ∙ c.in-Ok.ensures.taken.front in
-    let mid = c.u8.new.self.left in
-    no_boot c.args.sites c.args.bytes.now mid (subst (λ k. c.args.bytes.now ≡ number_spelled 1 k ++ mid) c.in-1.is front) c.in-None.ensures.none
-
-pub returns-in-None-2-clause-none : goal.returns-in-None-2-clause-none
-returns-in-None-2-clause-none c =
-    let front = ap (λ (x : Remainder). x.left) (sym c.new-cursor.ensures) ∙ c.in-Ok.ensures.taken.front in
-    let mid = c.u8.new.self.left in
-    let none = MatchOption-at_none _ _ c.in-None-2.is c.in_ok-seq-in-2.ensures.none in
-    no_own c.args.sites c.args.bytes.now mid (subst (λ k. c.args.bytes.now ≡ number_spelled 1 k ++ mid) c.in-2.is front) none
+pub returns-in-Err-Unspelled-clause-none : goal.returns-in-Err-Unspelled-clause-none
+returns-in-Err-Unspelled-clause-none c =
+    let err = c.in-Err-Unspelled in
+    let left = left_of_whole c.new-cursor.result c.args.bytes.now c.new-cursor.ensures in
+    spells_none left (subst (λ fault. IfUnspelled fault (NoneBegins (HasRecordSpelling c.args.sites) record_spelled c.new-cursor.result.left)) err.field-0-is err.ensures.fault)

@@ -1,42 +1,70 @@
-use Rattle.std.proofs.Common.{refl, ap, sym, ◌∙◌}
-use Rattle.std.specs.Prelude.{IsTrue, false}
-use Rattle.walter_fields.specs.Cursors.{Remainder}
-use Rattle.walter_txcode.proofs.Failures.{IfUnspelled-weaker, is_fault, Begins, too_long, no_transaction, more_behind, is_whole}
+use Rattle.std.proofs.Common.{arith}
+use Rattle.walter_base.specs.declared.transaction.Tx.{Tx}
+use Rattle.walter_txcode.specs.Spelling.{head_spelled, updates_spelled}
+use Rattle.walter_txcode.proofs.Failures.{IfUnspelled-weaker, is_fault, Begins, IsRead, moved, no_head, no_transaction, too_long, is_transaction}
 use Rattle.walter_txcode.proofs.decoding.read_transaction.Goals as goal
 
-pub returns-then-bytes-gt-LONGEST-clause-fault : goal.returns-then-bytes-gt-LONGEST-clause-fault
-returns-then-bytes-gt-LONGEST-clause-fault c =
-    too_long c.args.sites c.args.bytes.now c.if-bytes-gt-LONGEST.true
+pub returns-in_err-tid-clause-fault : goal.returns-in_err-tid-clause-fault
+returns-in_err-tid-clause-fault c =
+    let fault = c.in_err-tid in
+    is_fault _ c.from_residual.result fault.field-0.0 c.from_residual.ensures.1 (IfUnspelled-weaker fault.field-0.0 (no_head c.args.sites c.args.cursor.now.left) fault.ensures.fault)
 
 pub returns-in_err-updates-clause-fault : goal.returns-in_err-updates-clause-fault
 returns-in_err-updates-clause-fault c =
     let head = c.in_ok-tid in
-    let begins : Begins c.args.sites head.tid head.slow head.start c.args.bytes.now c.read_head.new.cursor.left = record {
+    let begins : Begins c.args.sites head.tid head.slow head.start c.args.cursor.now.left c.read_head.new.cursor.left = record {
       head = record { counted = head.ensures.counted; name = head.ensures.tid; number = head.ensures.slow; numbers = head.ensures.start };
-      front = ap (λ (x : Remainder). x.left) (sym c.new-cursor.ensures) ∙ head.ensures.taken.front;
+      front = head.ensures.taken.front;
     } in
     let exit = c.from_residual-in_err-updates in
     let fault = c.in_err-updates in
     is_fault _ exit.result fault.field-0.0 exit.ensures.1
-    (IfUnspelled-weaker fault.field-0.0 (no_transaction c.args.sites head.tid head.slow head.start c.args.bytes.now c.read_head.new.cursor.left begins) fault.ensures.fault)
+    (IfUnspelled-weaker fault.field-0.0 (no_transaction c.args.sites head.tid head.slow head.start c.args.cursor.now.left c.read_head.new.cursor.left begins) fault.ensures.fault)
 
-pub returns-then-not-is_at_end-clause-fault : goal.returns-then-not-is_at_end-clause-fault
-returns-then-not-is_at_end-clause-fault c =
+pub overflow_sub-length : goal.overflow_sub-length
+overflow_sub-length c =
     let head = c.in_ok-tid in
-    let begins : Begins c.args.sites head.tid head.slow head.start c.args.bytes.now c.read_head.new.cursor.left = record {
-      head = record { counted = head.ensures.counted; name = head.ensures.tid; number = head.ensures.slow; numbers = head.ensures.start };
-      front = ap (λ (x : Remainder). x.left) (sym c.new-cursor.ensures) ∙ head.ensures.taken.front;
-    } in
     let found = c.in_ok-updates in
-    more_behind c.args.sites head.tid head.slow head.start c.args.bytes.now c.read_head.new.cursor.left c.read_updates.new.cursor.left found.updates begins found.ensures.taken.front found.ensures.range found.ensures.few (λ ended. absurd (let true_is : IsTrue false = c.if-not-is_at_end.ensures.1 ended in cc))
+    let bytes = moved c.args.cursor.now c.read_head.new.cursor c.read_updates.new.cursor (head_spelled head.tid head.slow head.start) (updates_spelled found.updates) c.place-from.result c.place.result
+    head.ensures.taken found.ensures.taken c.place-from.ensures c.place.ensures in
+    omega (arith, bytes)
 
-pub returns-clause-ok : goal.returns-clause-ok
-returns-clause-ok c =
+pub returns-then-length-gt-LONGEST-clause-fault : goal.returns-then-length-gt-LONGEST-clause-fault
+returns-then-length-gt-LONGEST-clause-fault c =
+    let sites = c.args.sites in
     let head = c.in_ok-tid in
-    let begins : Begins c.args.sites head.tid head.slow head.start c.args.bytes.now c.read_head.new.cursor.left = record {
-      head = record { counted = head.ensures.counted; name = head.ensures.tid; number = head.ensures.slow; numbers = head.ensures.start };
-      front = ap (λ (x : Remainder). x.left) (sym c.new-cursor.ensures) ∙ head.ensures.taken.front;
-    } in
     let found = c.in_ok-updates in
-    let e = c.if-not-is_at_end.ensures in
-    is_whole c.args.sites (record { tid = head.tid; slow = head.slow; start = head.start; updates = found.updates }) c.args.bytes.now c.read_head.new.cursor.left c.read_updates.new.cursor.left c.requires begins found.ensures.taken.front found.ensures.range found.ensures.few (e.0 refl) c.if-bytes-gt-LONGEST.false
+    let left = c.args.cursor.now.left in
+    let mid = c.read_head.new.cursor.left in
+    let after = c.read_updates.new.cursor.left in
+    let tx : Tx = record { tid = head.tid; slow = head.slow; start = head.start; updates = found.updates } in
+    let read : IsRead sites tx left mid after c.place-from.result c.place.result = record {
+      small = c.requires;
+      begins = record { head = record { counted = head.ensures.counted; name = head.ensures.tid; number = head.ensures.slow; numbers = head.ensures.start }; front = head.ensures.taken.front };
+      front = found.ensures.taken.front;
+      ranges = found.ensures.range;
+      few = found.ensures.few;
+      bytes = moved c.args.cursor.now c.read_head.new.cursor c.read_updates.new.cursor (head_spelled head.tid head.slow head.start) (updates_spelled found.updates) c.place-from.result c.place.result
+      head.ensures.taken found.ensures.taken c.place-from.ensures c.place.ensures;
+    } in
+    too_long sites tx left mid after c.place-from.result c.place.result read c.if-length-gt-LONGEST.true
+
+pub returns-clause-spelled : goal.returns-clause-spelled
+returns-clause-spelled c =
+    let sites = c.args.sites in
+    let head = c.in_ok-tid in
+    let found = c.in_ok-updates in
+    let left = c.args.cursor.now.left in
+    let mid = c.read_head.new.cursor.left in
+    let after = c.read_updates.new.cursor.left in
+    let tx : Tx = record { tid = head.tid; slow = head.slow; start = head.start; updates = found.updates } in
+    let read : IsRead sites tx left mid after c.place-from.result c.place.result = record {
+      small = c.requires;
+      begins = record { head = record { counted = head.ensures.counted; name = head.ensures.tid; number = head.ensures.slow; numbers = head.ensures.start }; front = head.ensures.taken.front };
+      front = found.ensures.taken.front;
+      ranges = found.ensures.range;
+      few = found.ensures.few;
+      bytes = moved c.args.cursor.now c.read_head.new.cursor c.read_updates.new.cursor (head_spelled head.tid head.slow head.start) (updates_spelled found.updates) c.place-from.result c.place.result
+      head.ensures.taken found.ensures.taken c.place-from.ensures c.place.ensures;
+    } in
+    is_transaction sites tx left mid after c.place-from.result c.place.result read c.if-length-gt-LONGEST.false

@@ -1,0 +1,3 @@
+pub mod Votes
+pub mod Packets
+pub mod NoFields

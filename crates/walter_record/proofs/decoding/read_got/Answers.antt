@@ -1,0 +1,16 @@
+use Rattle.std.proofs.Common.{refl}
+use Rattle.walter_txcode.specs.Spelling.{spelling, HasSpelling}
+use Rattle.walter_txcode.proofs.Failures.{IfUnspelled-weaker, is_unspelled, is_fault}
+use Rattle.walter_txcode.proofs.Joined.{no_first, no_second, no_version, free_versions}
+use Rattle.walter_record.proofs.decoding.read_got.Goals as goal
+
+pub returns-in_err-version-clause-fault : goal.returns-in_err-version-clause-fault
+returns-in_err-version-clause-fault c =
+    is_unspelled c.from_residual.result c.from_residual.ensures.1 (no_first (HasSpelling c.args.sites) spelling (no_version (c.in_err-version.ensures.short.0 refl)))
+
+pub returns-in_err-tx-clause-fault : goal.returns-in_err-tx-clause-fault
+returns-in_err-tx-clause-fault c =
+    let exit = c.from_residual-in_err-tx in
+    let fault = c.in_err-tx in
+    is_fault _ exit.result fault.field-0.0 exit.ensures.1
+    (IfUnspelled-weaker fault.field-0.0 (no_second free_versions c.in_ok-version.version c.in_ok-version.ensures.range c.in_ok-version.ensures.taken.front) fault.ensures.fault)
