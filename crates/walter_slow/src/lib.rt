@@ -1,9 +1,13 @@
 //! The slow commits of a site: which are being decided, who voted, and who is owed a RELEASE.
 #![tactic(auto)]
 
+mod sites;
 mod slow;
+mod standing;
+mod verdict;
 
-pub use slow::{SlowCommits, Verdict};
+pub use slow::SlowCommits;
+pub use verdict::Verdict;
 
 #[cfg(test)]
 mod tests;

@@ -1,0 +1,4 @@
+pub mod Heard
+pub mod Standings
+pub mod Numbers
+pub mod Verdicts
