@@ -21,4 +21,5 @@ pub record IsFirstConflict (versions : ObjId → List Version) (lock : ObjId →
   pub oid : ObjId
   pub written : Contains objects oid
   pub met : conflict_at versions lock snapshot oid ≡ Some conflict
-  pub first : (other : ObjId) → Contains objects other → IsBefore other oid → conflict_at versions lock snapshot other ≡ None
+  pub first : (other : ObjId) → Contains objects other → IsBefore other oid
+      → conflict_at versions lock snapshot other ≡ None
