@@ -31,6 +31,3 @@ pub use rows::Rows;
 pub use transaction::{Cause, Conflict, Tx};
 pub use update::{Row, Update, Updates, size_of_updates};
 pub use vts::{MOST_SITES, Vts};
-
-#[cfg(test)]
-mod tests;

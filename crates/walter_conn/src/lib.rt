@@ -12,6 +12,3 @@ mod state;
 pub use conn::Conn;
 pub use laws::{calls_in_order, what_was_called};
 pub use next::{BrokenConn, Next};
-
-#[cfg(test)]
-mod tests;

@@ -6,6 +6,3 @@ mod tally;
 
 pub use counting::{count, counts};
 pub use tally::{shown, step, take_in};
-
-#[cfg(test)]
-mod tests;

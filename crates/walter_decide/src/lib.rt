@@ -35,6 +35,3 @@ pub fn fast<R: Rows>(writeset: &Objects, snapshot: &Vts, rows: &R) -> Result<(),
     }
     Ok(())
 }
-
-#[cfg(test)]
-mod tests;

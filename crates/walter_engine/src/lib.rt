@@ -11,6 +11,3 @@ mod stepping;
 
 pub use answers::{RefusedRestart, Restarted, Stepped, Unbegun};
 pub use engine::Engine;
-
-#[cfg(test)]
-mod tests;

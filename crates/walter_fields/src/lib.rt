@@ -12,6 +12,3 @@ pub use cursor::Cursor;
 pub use laws::spellings_and_numbers;
 pub use memory::{Mem, NoMemory};
 pub use short::Short;
-
-#[cfg(test)]
-mod tests;

@@ -5,6 +5,3 @@ mod history;
 mod rows;
 
 pub use history::History;
-
-#[cfg(test)]
-mod tests;

@@ -9,6 +9,3 @@ pub use names::{
     read_member, read_object, read_tid, read_version, write_member, write_object, write_tid,
     write_version,
 };
-
-#[cfg(test)]
-mod tests;

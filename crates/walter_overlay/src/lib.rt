@@ -8,6 +8,3 @@ mod reading;
 pub use counting::{count, counts};
 pub use laws::earlier_and_own;
 pub use reading::value;
-
-#[cfg(test)]
-mod tests;

@@ -12,6 +12,3 @@ pub use decoding::decode;
 pub use encoding::encode;
 pub use framed::Framed;
 pub use laws::{one_spelling, size_of_spelling};
-
-#[cfg(test)]
-mod tests;

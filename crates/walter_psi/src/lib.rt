@@ -6,8 +6,6 @@ mod checker;
 mod laws;
 mod properties;
 mod step;
-#[cfg(test)]
-mod tests;
 
 pub use checker::first_illegal;
 pub use laws::{one_more_step, state_after_step};

@@ -8,6 +8,3 @@ mod laws;
 pub use decoding::decode;
 pub use encoding::encode;
 pub use laws::{one_spelling, size_of_spelling};
-
-#[cfg(test)]
-mod tests;

@@ -10,6 +10,3 @@ pub use decoding::decode;
 pub use encoding::{append, encode, size_of};
 pub use fault::ReplyFault;
 pub use laws::{one_reading, short_replies_fit, size_of_spelling, which_fit};
-
-#[cfg(test)]
-mod tests;

@@ -10,6 +10,3 @@ mod traces;
 pub use laws::as_it_stands;
 pub use text::report;
 pub use traces::{trace, word_of_packet};
-
-#[cfg(test)]
-mod tests;

@@ -10,6 +10,3 @@ pub use decoding::decode;
 pub use encoding::encode;
 pub use fault::RequestFault;
 pub use laws::{one_reading, size_of_spelling};
-
-#[cfg(test)]
-mod tests;

@@ -24,6 +24,3 @@ pub use scenario::{
     Arm, COMMON_CAPACITY, Client, GREATEST_CAPACITY, LAST_ARMED, LEAST_CAPACITY, LONGEST_TEXT,
     MOST_CLIENTS, Scenario, Step,
 };
-
-#[cfg(test)]
-mod tests;

@@ -7,6 +7,3 @@ mod slot;
 
 pub use session::{Session, Stage, StartFault};
 pub use sessions::{MOST_SESSIONS, Sessions};
-
-#[cfg(test)]
-mod tests;

@@ -14,6 +14,3 @@ mod sizes;
 pub use plan::{Input, Plan};
 pub use replay::ReplayFault;
 pub use site::Site;
-
-#[cfg(test)]
-mod tests;

@@ -8,6 +8,3 @@ mod verdict;
 
 pub use slow::SlowCommits;
 pub use verdict::Verdict;
-
-#[cfg(test)]
-mod tests;

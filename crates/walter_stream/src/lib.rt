@@ -10,8 +10,6 @@ mod sink;
 mod source;
 mod std_sink;
 mod std_source;
-#[cfg(test)]
-mod tests;
 mod writing;
 
 pub use bytes_source::BytesSource;

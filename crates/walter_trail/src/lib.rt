@@ -10,6 +10,3 @@ pub use held::Held;
 pub use laws::conflicts_are_named;
 pub use merging::{Merged, merge};
 pub use trail::{Entry, Outcome, Trail, TrailEvent};
-
-#[cfg(test)]
-mod tests;

@@ -15,6 +15,3 @@ pub use fault::DecodeFault;
 pub use laws::{one_spelling, size_of_spelling};
 pub use objects::{read_objects, write_objects};
 pub use vectors::{read_vector, write_vector};
-
-#[cfg(test)]
-mod tests;

@@ -1,0 +1,19 @@
+//! Tests of what is spelled as bytes, one module for each crate. The crate has nothing else.
+#![tactic(auto)]
+
+#[cfg(test)]
+mod fields;
+#[cfg(test)]
+mod names;
+#[cfg(test)]
+mod packets;
+#[cfg(test)]
+mod records;
+#[cfg(test)]
+mod replies;
+#[cfg(test)]
+mod requests;
+#[cfg(test)]
+mod transactions;
+#[cfg(test)]
+mod values;

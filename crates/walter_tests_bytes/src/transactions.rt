@@ -1,0 +1,125 @@
+use std::alloc::{AllocError, Global};
+use std::test::Fail;
+use walter_base::{ObjId, SiteId, Update};
+use walter_txcode::{decode, encode};
+
+/// A write of `hello` to the object 1, 5.
+const HELLO: [u8; 22] = [
+    1, 0, 0, 0, 1, 0, 0, 0, 0, 0, 0, 0, 5, 0, 0, 0, 5, 104, 101, 108, 108, 111,
+];
+
+/// The id 9 is added to the set 1, 5.
+const ADD: [u8; 21] = [
+    2, 0, 0, 0, 1, 0, 0, 0, 0, 0, 0, 0, 5, 0, 0, 0, 0, 0, 0, 0, 9,
+];
+
+/// What stands before the updates of the first transaction of site 0, and their count.
+fn head(alloc: Global, count: u16) -> Result<Vec<u8>, AllocError> {
+    let mut bytes = Vec::new(alloc);
+    bytes.extend_from_slice(&[0, 0, 0, 0, 1, 0, 0, 0, 0, 0, 0, 0, 1])?;
+    bytes.extend_from_slice(&[0; 72])?;
+    bytes.extend_from_slice(&count.to_be_bytes())?;
+    Ok(bytes)
+}
+
+/// A write of so many bytes 7.
+fn push_write(bytes: &mut Vec<u8>, length: u16) -> Result<(), AllocError> {
+    bytes.extend_from_slice(&HELLO[..13])?;
+    bytes.extend_from_slice(&u32::from(length).to_be_bytes())?;
+    for _ in 0..length {
+        bytes.push(7).map_err(|_| AllocError)?;
+    }
+    Ok(())
+}
+
+#[test]
+fn a_spelling_is_read_and_written_again(rt: HostRuntime) -> Result<(), Fail> {
+    let mut bytes = head(rt.alloc(), 3)?;
+    bytes.extend_from_slice(&HELLO)?;
+    bytes.extend_from_slice(&ADD)?;
+    bytes.extend_from_slice(&[3])?;
+    bytes.extend_from_slice(&ADD[1..])?;
+    let Some(tx) = decode(rt.alloc(), &bytes, 1)? else {
+        return Err("the bytes are a transaction".into());
+    };
+    assert_eq!(rt;
+        (tx.tid.site, tx.tid.epoch, tx.tid.number, tx.slow),
+        (SiteId(0), 1, 1, 0)
+    );
+    let oid = ObjId {
+        container: 1,
+        local: 5,
+    };
+    match tx.updates.as_slice() {
+        [
+            Update::Write(a, hello),
+            Update::Add(b, 9),
+            Update::Del(c, 9),
+        ] => {
+            assert_eq!(rt; (*a, *b, *c), (oid, oid, oid));
+            assert_eq!(rt; hello.as_slice(), b"hello".as_slice());
+        }
+        _ => return Err("the updates are three".into()),
+    }
+    assert_eq!(rt; encode(rt.alloc(), &tx)?.as_slice(), bytes.as_slice());
+    Ok(())
+}
+
+/// The bytes of a transaction that writes `hello`, with one of them replaced and a 0 behind them, cut off at a length.
+fn replaced(alloc: Global, place: usize, byte: u8, length: usize) -> Result<Vec<u8>, AllocError> {
+    let mut bytes = head(alloc, 1)?;
+    bytes.extend_from_slice(&HELLO)?;
+    bytes.extend_from_slice(&[0])?;
+    if let Some(old) = bytes.get_mut(place) {
+        *old = byte;
+    }
+    bytes.truncate(length);
+    Ok(bytes)
+}
+
+/// The bytes of so many additions; or of so many writes of 4,096 bytes and one of a length.
+fn large(alloc: Global, additions: u16, writes: u16, length: u16) -> Result<Vec<u8>, AllocError> {
+    if additions > 0 {
+        let mut bytes = head(alloc, additions)?;
+        for _ in 0..additions {
+            bytes.extend_from_slice(&ADD)?;
+        }
+        return Ok(bytes);
+    }
+    let mut bytes = head(alloc, writes.saturating_add(1))?;
+    for _ in 0..writes {
+        push_write(&mut bytes, 4_096)?;
+    }
+    push_write(&mut bytes, length)?;
+    Ok(bytes)
+}
+
+#[test]
+fn what_is_no_spelling_is_refused(rt: HostRuntime) -> Result<(), Fail> {
+    for (place, byte, length, sites, is_taken) in [
+        (0, 0, 109, 1, true),
+        (0, 0, 110, 1, false),
+        (0, 0, 108, 1, false),
+        (0, 0, 87, 1, false),
+        (0, 0, 0, 1, false),
+        (36, 1, 109, 1, false),
+        (36, 1, 109, 2, true),
+        (86, 0, 87, 1, false),
+        (87, 4, 109, 2, false),
+    ] {
+        let bytes = replaced(rt.alloc(), place, byte, length)?;
+        assert_eq!(rt; decode(rt.alloc(), &bytes, sites)?.is_some(), is_taken);
+    }
+    for (additions, writes, length, is_taken) in [
+        (256, 0, 0, true),
+        (257, 0, 0, false),
+        (0, 0, 4_096, true),
+        (0, 0, 4_097, false),
+        (0, 14, 2_314, true),
+        (0, 14, 2_315, false),
+    ] {
+        let bytes = large(rt.alloc(), additions, writes, length)?;
+        assert_eq!(rt; decode(rt.alloc(), &bytes, 1)?.is_some(), is_taken);
+    }
+    Ok(())
+}

@@ -1,0 +1,19 @@
+//! Tests of the tables of a site and of the definitions, one module for each crate. The crate has nothing else.
+#![tactic(auto)]
+
+#[cfg(test)]
+mod conflicts;
+#[cfg(test)]
+mod csets;
+#[cfg(test)]
+mod histories;
+#[cfg(test)]
+mod isolation;
+#[cfg(test)]
+mod overlays;
+#[cfg(test)]
+mod sessions;
+#[cfg(test)]
+mod slow_commits;
+#[cfg(test)]
+mod trails;
