@@ -16,7 +16,11 @@ use walter_names::read_tid;
 use walter_txcode::{DecodeFault, read_numbered, read_objects, read_vector};
 
 /// A slow commit: its number, its transaction, its snapshot among so many sites, and its objects.
-fn read_prepare(alloc: Global, cursor: &mut Cursor, sites: u8) -> Result<(u64, (Tid, (Vts, Objects))), DecodeFault>
+fn read_prepare(
+    alloc: Global,
+    cursor: &mut Cursor,
+    sites: u8,
+) -> Result<(u64, (Tid, (Vts, Objects))), DecodeFault>
     requires { sites ≤ most_sites }
     ensures taken { IfOk result (λ prepare. Takes cursor.old cursor.new (prepare_spelled prepare)) }
     ensures spelled { IfOk result (IsPrepare sites) }
@@ -31,7 +35,12 @@ fn read_prepare(alloc: Global, cursor: &mut Cursor, sites: u8) -> Result<(u64, (
 }
 
 /// What stands behind the kind of a packet.
-fn read_fields(alloc: Global, cursor: &mut Cursor, kind: u8, sites: u8) -> Result<Packet, DecodeFault>
+fn read_fields(
+    alloc: Global,
+    cursor: &mut Cursor,
+    kind: u8,
+    sites: u8,
+) -> Result<Packet, DecodeFault>
     requires { sites ≤ most_sites }
     ensures taken { IfOk result (λ packet. Takes cursor.old cursor.new (fields_spelled packet)) }
     ensures spelled { IfOk result (IsOfKind (HasPacketSpelling sites) kind_of kind) }

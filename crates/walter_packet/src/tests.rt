@@ -12,7 +12,9 @@ const HELLO: [u8; 109] = [
 ];
 
 /// The slow commit 1 of the first transaction of site 1 asks for an object; without the snapshot and the object.
-const PREPARE: [u8; 22] = [5, 0, 0, 0, 0, 0, 0, 0, 1, 1, 0, 0, 0, 1, 0, 0, 0, 0, 0, 0, 0, 1];
+const PREPARE: [u8; 22] = [
+    5, 0, 0, 0, 0, 0, 0, 0, 1, 1, 0, 0, 0, 1, 0, 0, 0, 0, 0, 0, 0, 1,
+];
 
 /// The object 1, 5.
 const OBJECT: [u8; 12] = [0, 0, 0, 1, 0, 0, 0, 0, 0, 0, 0, 5];
@@ -71,7 +73,11 @@ fn packets_are_read_and_written_again(rt: HostRuntime) -> Result<(), Fail> {
     let most = u64::MAX;
     let number_1 = [0, 0, 0, 0, 0, 0, 0, 1].as_slice();
     for (front, bytes, wanted) in [
-        ([1, 0, 0, 0, 0, 0, 0, 0, 7].as_slice(), HELLO.as_slice(), (1, 7, 1)),
+        (
+            [1, 0, 0, 0, 0, 0, 0, 0, 7].as_slice(),
+            HELLO.as_slice(),
+            (1, 7, 1),
+        ),
         ([2].as_slice(), [0; 8].as_slice(), (2, 0, 0)),
         ([2].as_slice(), [255; 8].as_slice(), (2, most, 0)),
         ([3].as_slice(), number_1, (3, 1, 0)),
@@ -130,7 +136,10 @@ fn what_is_no_spelling_is_refused(rt: HostRuntime) -> Result<(), Fail> {
         assert_eq!(rt; decode(rt.alloc(), &bytes, 2)?.is_some(), is_taken);
     }
     // The third site is not there; an object stands twice.
-    let third = joined(rt.alloc(), &[&PREPARE, &[0; 23], &[1], &[0; 40], &[0, 1], &OBJECT])?;
+    let third = joined(
+        rt.alloc(),
+        &[&PREPARE, &[0; 23], &[1], &[0; 40], &[0, 1], &OBJECT],
+    )?;
     assert!(rt; decode(rt.alloc(), &third, 2)?.is_none());
     assert!(rt; decode(rt.alloc(), &third, 3)?.is_some());
     let twice = joined(rt.alloc(), &[&PREPARE, &[0; 64], &[0, 2], &OBJECT, &OBJECT])?;

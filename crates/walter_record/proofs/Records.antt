@@ -1,5 +1,5 @@
 -- How long the spelling of a record is, that it is of no other record, and where none is read.
-use Rattle.std.proofs.Common.{◌≡◌, ◌≢◌, ℕ, ◌+◌, ◌*◌, ◌^◌, ◌<◌, ◌≤◌, List, [], ◌++◌, length, refl, sym, ap, ◌∙◌, append-nil, arith}
+use Rattle.std.proofs.Common.{◌≡◌, ℕ, ◌+◌, ◌*◌, ◌^◌, ◌<◌, ◌≤◌, List, [], ◌++◌, length, refl, sym, ◌∙◌, append-nil, arith}
 use Rattle.std.proofs.lemmas.List.{length-append}
 use Rattle.walter_base.specs.Sizes.{size_of, size_of_record, CanBeRecorded}
 use Rattle.walter_base.specs.Vectors.{most_sites}
@@ -11,12 +11,10 @@ use Rattle.walter_base.specs.declared.names.Tid.{Tid}
 use Rattle.walter_base.specs.declared.transaction.Tx.{Tx}
 use Rattle.walter_fields.specs.Spellings.{number_spelled}
 use Rattle.walter_fields.proofs.Numbers.{length-number_spelled, same_number}
-use Rattle.walter_names.specs.Names.{tid_spelled, version_spelled, IsVersion}
+use Rattle.walter_names.specs.Names.{tid_spelled, version_spelled}
 use Rattle.walter_names.proofs.Lengths.{length-tid_spelled, length-version_spelled}
-use Rattle.walter_txcode.specs.Faults.{NoneBegins}
-use Rattle.walter_txcode.specs.Kinds.{IsOfKind}
-use Rattle.walter_txcode.specs.Spelling.{spelling, objects_spelled, HasSpelling, AreSpelledObjects, numbered_spelled, IsNumbered}
-use Rattle.walter_txcode.proofs.Joined.{IsPrefixFree, IsNumber, free_both, free_numbers, free_versions, free_tids, free_objects, free_transactions, free_numbered}
+use Rattle.walter_txcode.specs.Spelling.{spelling, objects_spelled, IsNumbered}
+use Rattle.walter_txcode.proofs.Joined.{IsPrefixFree, free_both, free_numbers, free_versions, free_tids, free_objects, free_transactions, free_numbered}
 use Rattle.walter_txcode.proofs.ByKind.{HasKinds, free_kinds}
 use Rattle.walter_txcode.proofs.Lengths.{length-spelling}
 use Rattle.walter_txcode.proofs.Rising.{length-objects_spelled}

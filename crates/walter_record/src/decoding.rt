@@ -27,7 +27,10 @@ fn read_got(alloc: Global, cursor: &mut Cursor, sites: u8) -> Result<(Version, T
 }
 
 /// A slow commit of a site, its transaction, and its objects.
-fn read_prepared(alloc: Global, cursor: &mut Cursor) -> Result<(Version, (Tid, Objects)), DecodeFault>
+fn read_prepared(
+    alloc: Global,
+    cursor: &mut Cursor,
+) -> Result<(Version, (Tid, Objects)), DecodeFault>
     ensures taken { IfOk result (λ prepared. Takes cursor.old cursor.new (prepared_spelled prepared)) }
     ensures spelled { IfOk result IsPrepared }
     ensures fault { IfErr result (λ fault. IfUnspelled fault
@@ -52,7 +55,12 @@ fn read_marks(cursor: &mut Cursor) -> Result<(u64, u64), DecodeFault>
 }
 
 /// What stands behind the kind of a record.
-fn read_fields(alloc: Global, cursor: &mut Cursor, kind: u8, sites: u8) -> Result<Record, DecodeFault>
+fn read_fields(
+    alloc: Global,
+    cursor: &mut Cursor,
+    kind: u8,
+    sites: u8,
+) -> Result<Record, DecodeFault>
     requires { sites ≤ most_sites }
     ensures taken { IfOk result (λ r. Takes cursor.old cursor.new (fields_spelled r)) }
     ensures spelled { IfOk result (IsOfKind (HasRecordSpelling sites) kind_of kind) }

@@ -63,7 +63,11 @@ pub fn read_transaction(alloc: Global, cursor: &mut Cursor, sites: u8) -> Result
 }
 
 /// A number, and a transaction behind it.
-pub fn read_numbered(alloc: Global, cursor: &mut Cursor, sites: u8) -> Result<(u64, Tx), DecodeFault>
+pub fn read_numbered(
+    alloc: Global,
+    cursor: &mut Cursor,
+    sites: u8,
+) -> Result<(u64, Tx), DecodeFault>
     requires { sites ≤ most_sites }
     ensures taken { IfOk result (λ numbered. Takes cursor.old cursor.new (numbered_spelled numbered)) }
     ensures spelled { IfOk result (IsNumbered sites) }

@@ -21,8 +21,7 @@ const MOST_OBJECTS: u16 = 256;
 fn is_before(one: ObjId, other: ObjId) -> bool
     ensures { IsTrue result ↔ IsBefore one other }
 {
-    one.container < other.container
-        || (one.container == other.container && one.local < other.local)
+    one.container < other.container || (one.container == other.container && one.local < other.local)
 }
 
 /// Whether the object stands behind these, that rise.

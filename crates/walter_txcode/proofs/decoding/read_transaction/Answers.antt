@@ -45,7 +45,7 @@ returns-then-length-gt-LONGEST-clause-fault c =
       ranges = found.ensures.range;
       few = found.ensures.few;
       bytes = moved c.args.cursor.now c.read_head.new.cursor c.read_updates.new.cursor (head_spelled head.tid head.slow head.start) (updates_spelled found.updates) c.place-from.result c.place.result
-      head.ensures.taken found.ensures.taken c.place-from.ensures c.place.ensures;
+          head.ensures.taken found.ensures.taken c.place-from.ensures c.place.ensures;
     } in
     too_long sites tx left mid after c.place-from.result c.place.result read c.if-length-gt-LONGEST.true
 
@@ -65,6 +65,6 @@ returns-clause-spelled c =
       ranges = found.ensures.range;
       few = found.ensures.few;
       bytes = moved c.args.cursor.now c.read_head.new.cursor c.read_updates.new.cursor (head_spelled head.tid head.slow head.start) (updates_spelled found.updates) c.place-from.result c.place.result
-      head.ensures.taken found.ensures.taken c.place-from.ensures c.place.ensures;
+          head.ensures.taken found.ensures.taken c.place-from.ensures c.place.ensures;
     } in
     is_transaction sites tx left mid after c.place-from.result c.place.result read c.if-length-gt-LONGEST.false
