@@ -1,5 +1,5 @@
 -- How long the spelling of a packet is, that it is of no other packet, and where none is read.
-use Rattle.std.proofs.Common.{◌≡◌, ◌≢◌, ℕ, ◌+◌, ◌*◌, ◌^◌, ◌<◌, ◌≤◌, List, [], ◌++◌, length, refl, sym, ap, ◌∙◌, append-nil, arith}
+use Rattle.std.proofs.Common.{◌≡◌, ℕ, ◌+◌, ◌*◌, ◌≤◌, List, [], ◌++◌, length, refl, sym, ◌∙◌, append-nil, arith}
 use Rattle.std.proofs.lemmas.List.{length-append}
 use Rattle.walter_base.specs.Sending.{kind_of}
 use Rattle.walter_base.specs.Sizes.{size_of, size_of_packet, CanBeSent}
@@ -16,14 +16,12 @@ use Rattle.walter_fields.specs.Spellings.{number_spelled}
 use Rattle.walter_fields.proofs.Numbers.{length-number_spelled}
 use Rattle.walter_names.specs.Names.{tid_spelled}
 use Rattle.walter_names.proofs.Lengths.{length-tid_spelled}
-use Rattle.walter_txcode.specs.Faults.{NoneBegins}
-use Rattle.walter_txcode.specs.Kinds.{IsOfKind}
-use Rattle.walter_txcode.specs.Spelling.{spelling, vector_spelled, objects_spelled, HasSpelling, AreSpelledObjects, numbered_spelled, IsNumbered}
-use Rattle.walter_txcode.proofs.Joined.{IsPrefixFree, IsNumber, free_both, free_numbers, free_tids, free_vectors, free_objects, free_numbered}
+use Rattle.walter_txcode.specs.Spelling.{spelling, vector_spelled, objects_spelled, IsNumbered}
+use Rattle.walter_txcode.proofs.Joined.{IsPrefixFree, free_both, free_numbers, free_tids, free_vectors, free_objects, free_numbered}
 use Rattle.walter_txcode.proofs.ByKind.{HasKinds, free_kinds}
 use Rattle.walter_txcode.proofs.Lengths.{length-spelling, length-vector_spelled}
 use Rattle.walter_txcode.proofs.Rising.{length-objects_spelled}
-use Rattle.walter_packet.specs.Fields.{fields_spelled, vote_spelled, prepare_spelled, IsVote, IsPrepare, answer_kind, size_of_answer}
+use Rattle.walter_packet.specs.Fields.{fields_spelled, prepare_spelled, IsPrepare, size_of_answer}
 use Rattle.walter_packet.specs.Spelling.{packet_spelled, answer_spelled, HasPacketSpelling}
 use Rattle.walter_packet.proofs.Votes.{length-answer_spelled, free_votes}
 

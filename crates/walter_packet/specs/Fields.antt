@@ -45,13 +45,13 @@ abbrev pub IsVote : ℕ × Answer → Type 0
 IsVote vote = (vote.0 < 2 ^ 64) × IsAnswer vote.1
 
 -- a slow commit: its number, its transaction, its snapshot among so many sites, and its objects
-abbrev pub Prepared : Type 0
-Prepared = ℕ × (Tid × (List ℕ × List ObjId))
+abbrev pub PrepareFields : Type 0
+PrepareFields = ℕ × (Tid × (List ℕ × List ObjId))
 
-abbrev pub prepare_spelled : Prepared → List ℕ
+abbrev pub prepare_spelled : PrepareFields → List ℕ
 prepare_spelled p = number_spelled 8 p.0 ++ (tid_spelled p.1.0 ++ (vector_spelled p.1.1.0 ++ objects_spelled p.1.1.1))
 
-abbrev pub IsPrepare : ℕ → Prepared → Type 0
+abbrev pub IsPrepare : ℕ → PrepareFields → Type 0
 IsPrepare sites p =
     (p.0 < 2 ^ 64)
     × (IsTid p.1.0 × (((length p.1.1.0 ≡ sites) × All (λ number. number < 2 ^ 64) p.1.1.0) × AreSpelledObjects p.1.1.1))

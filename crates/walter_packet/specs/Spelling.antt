@@ -26,7 +26,8 @@ packet_spelled (Ack got) = number_spelled 1 2 ++ number_spelled 8 got
 packet_spelled (Dsmark durable) = number_spelled 1 3 ++ number_spelled 8 durable
 packet_spelled (Visible committed) = number_spelled 1 4 ++ number_spelled 8 committed
 packet_spelled (Prepare slow tid start objects) =
-    number_spelled 1 5 ++ (number_spelled 8 slow ++ (tid_spelled tid ++ (vector_spelled start ++ objects_spelled objects)))
+    number_spelled 1 5
+    ++ (number_spelled 8 slow ++ (tid_spelled tid ++ (vector_spelled start ++ objects_spelled objects)))
 packet_spelled (Vote slow answer) = number_spelled 1 6 ++ (number_spelled 8 slow ++ answer_spelled answer)
 packet_spelled (Release slow) = number_spelled 1 7 ++ number_spelled 8 slow
 packet_spelled (Released slow) = number_spelled 1 8 ++ number_spelled 8 slow

@@ -9,7 +9,7 @@ use Rattle.walter_txcode.specs.Kinds.{IsOfKind}
 use Rattle.walter_txcode.specs.Spelling.{numbered_spelled, IsNumbered}
 use Rattle.walter_txcode.proofs.Joined.{IsNumber}
 use Rattle.walter_record.specs.Fields.{kind_of, fields_spelled, got_spelled, prepared_spelled, marks_spelled, IsGot, IsPrepared, AreMarks}
-use Rattle.walter_record.specs.Spelling.{numbered, HasRecordSpelling}
+use Rattle.walter_record.specs.Spelling.{as_version, HasRecordSpelling}
 use Rattle.walter_record.proofs.Records.{IsEpoch, known_kind, spelled_transaction, spelled_slow, spelled_got, spelled_prepared}
 
 abbrev pub NoFields : ℕ → ℕ → List ℕ → Type 0
@@ -37,28 +37,28 @@ pub no_got : (sites kind : ℕ) (left : List ℕ) → kind ≡ 3 → NoneBegins 
 no_got sites kind left is none = record { none = each }
   where
     each : NoRecord sites kind left
-    each (Got site seq tx) rest of e = none.none (numbered site seq, tx) rest (spelled_got sites site seq tx of.1) e
+    each (Got site seq tx) rest of e = none.none (as_version site seq, tx) rest (spelled_got sites site seq tx of.1) e
     each r rest of e = omega (arith, is, of.0)
 
 pub no_seen : (sites kind : ℕ) (left : List ℕ) → kind ≡ 4 → NoneBegins IsVersion version_spelled left → NoFields sites kind left
 no_seen sites kind left is none = record { none = each }
   where
     each : NoRecord sites kind left
-    each (Seen site seq) rest of e = none.none (numbered site seq) rest of.1.ranges e
+    each (Seen site seq) rest of e = none.none (as_version site seq) rest of.1.ranges e
     each r rest of e = omega (arith, is, of.0)
 
 pub no_prepared : (sites kind : ℕ) (left : List ℕ) → kind ≡ 5 → NoneBegins IsPrepared prepared_spelled left → NoFields sites kind left
 no_prepared sites kind left is none = record { none = each }
   where
     each : NoRecord sites kind left
-    each (Prepared site slow tid objects) rest of e = none.none (numbered site slow, (tid, objects)) rest (spelled_prepared sites site slow tid objects of.1) e
+    each (Prepared site slow tid objects) rest of e = none.none (as_version site slow, (tid, objects)) rest (spelled_prepared sites site slow tid objects of.1) e
     each r rest of e = omega (arith, is, of.0)
 
 pub no_released : (sites kind : ℕ) (left : List ℕ) → kind ≡ 6 → NoneBegins IsVersion version_spelled left → NoFields sites kind left
 no_released sites kind left is none = record { none = each }
   where
     each : NoRecord sites kind left
-    each (Released site slow) rest of e = none.none (numbered site slow) rest of.1.ranges e
+    each (Released site slow) rest of e = none.none (as_version site slow) rest of.1.ranges e
     each r rest of e = omega (arith, is, of.0)
 
 pub no_slow_begin : (sites kind : ℕ) (left : List ℕ) → kind ≡ 7 → NoneBegins (IsNumbered sites) numbered_spelled left → NoFields sites kind left

@@ -1,5 +1,5 @@
 -- How long the spelling of a record is, that it is of no other record, and where none is read.
-use Rattle.std.proofs.Common.{◌≡◌, ◌≢◌, ℕ, ◌+◌, ◌*◌, ◌^◌, ◌<◌, ◌≤◌, List, [], ◌++◌, length, refl, sym, ap, ◌∙◌, append-nil, arith}
+use Rattle.std.proofs.Common.{◌≡◌, ℕ, ◌+◌, ◌*◌, ◌^◌, ◌<◌, ◌≤◌, List, [], ◌++◌, length, refl, sym, ◌∙◌, append-nil, arith}
 use Rattle.std.proofs.lemmas.List.{length-append}
 use Rattle.walter_base.specs.Sizes.{size_of, size_of_record, CanBeRecorded}
 use Rattle.walter_base.specs.Vectors.{most_sites}
@@ -11,17 +11,15 @@ use Rattle.walter_base.specs.declared.names.Tid.{Tid}
 use Rattle.walter_base.specs.declared.transaction.Tx.{Tx}
 use Rattle.walter_fields.specs.Spellings.{number_spelled}
 use Rattle.walter_fields.proofs.Numbers.{length-number_spelled, same_number}
-use Rattle.walter_names.specs.Names.{tid_spelled, version_spelled, IsVersion}
+use Rattle.walter_names.specs.Names.{tid_spelled, version_spelled}
 use Rattle.walter_names.proofs.Lengths.{length-tid_spelled, length-version_spelled}
-use Rattle.walter_txcode.specs.Faults.{NoneBegins}
-use Rattle.walter_txcode.specs.Kinds.{IsOfKind}
-use Rattle.walter_txcode.specs.Spelling.{spelling, objects_spelled, HasSpelling, AreSpelledObjects, numbered_spelled, IsNumbered}
-use Rattle.walter_txcode.proofs.Joined.{IsPrefixFree, IsNumber, free_both, free_numbers, free_versions, free_tids, free_objects, free_transactions, free_numbered}
+use Rattle.walter_txcode.specs.Spelling.{spelling, objects_spelled, IsNumbered}
+use Rattle.walter_txcode.proofs.Joined.{IsPrefixFree, free_both, free_numbers, free_versions, free_tids, free_objects, free_transactions, free_numbered}
 use Rattle.walter_txcode.proofs.ByKind.{HasKinds, free_kinds}
 use Rattle.walter_txcode.proofs.Lengths.{length-spelling}
 use Rattle.walter_txcode.proofs.Rising.{length-objects_spelled}
 use Rattle.walter_record.specs.Fields.{kind_of, fields_spelled, got_spelled, prepared_spelled, marks_spelled, IsGot, IsPrepared, AreMarks}
-use Rattle.walter_record.specs.Spelling.{numbered, record_spelled, HasRecordSpelling}
+use Rattle.walter_record.specs.Spelling.{as_version, record_spelled, HasRecordSpelling}
 
 -- ---- how many bytes
 
@@ -31,13 +29,13 @@ behind k n fields long = omega (arith, length-append (number_spelled 1 k) fields
 with_transaction : (front : List ℕ) (n : ℕ) (tx : Tx) → length front ≡ n → length tx.start ≤ most_sites → length (front ++ spelling tx) ≡ n + size_of tx
 with_transaction front n tx long few = omega (arith, length-append front (spelling tx), long, length-spelling tx few)
 
-of_prepared : (site : SiteId) (slow : ℕ) (tid : Tid) (objects : List ObjId) → length (version_spelled (numbered site slow) ++ (tid_spelled tid ++ objects_spelled objects)) ≡ 24 + 12 * length objects
+of_prepared : (site : SiteId) (slow : ℕ) (tid : Tid) (objects : List ObjId) → length (version_spelled (as_version site slow) ++ (tid_spelled tid ++ objects_spelled objects)) ≡ 24 + 12 * length objects
 of_prepared site slow tid objects =
     omega (
       arith,
-      length-append (version_spelled (numbered site slow)) (tid_spelled tid ++ objects_spelled objects),
+      length-append (version_spelled (as_version site slow)) (tid_spelled tid ++ objects_spelled objects),
       length-append (tid_spelled tid) (objects_spelled objects),
-      length-version_spelled (numbered site slow),
+      length-version_spelled (as_version site slow),
       length-tid_spelled tid,
       length-objects_spelled objects,
     )
@@ -47,11 +45,11 @@ pub length-record_spelled : (journaled : Record) → CanBeRecorded journaled →
 length-record_spelled (Boot epoch) can = behind 1 4 (number_spelled 4 epoch) (length-number_spelled 4 epoch)
 length-record_spelled (Own seq tx) can = omega (arith, behind 2 (8 + size_of tx) (number_spelled 8 seq ++ spelling tx) (with_transaction (number_spelled 8 seq) 8 tx (length-number_spelled 8 seq) can.sites))
 length-record_spelled (Got site seq tx) can =
-    omega (arith, behind 3 (9 + size_of tx) (version_spelled (numbered site seq) ++ spelling tx) (with_transaction (version_spelled (numbered site seq)) 9 tx (length-version_spelled (numbered site seq)) can.sites))
-length-record_spelled (Seen site seq) can = behind 4 9 (version_spelled (numbered site seq)) (length-version_spelled (numbered site seq))
+    omega (arith, behind 3 (9 + size_of tx) (version_spelled (as_version site seq) ++ spelling tx) (with_transaction (version_spelled (as_version site seq)) 9 tx (length-version_spelled (as_version site seq)) can.sites))
+length-record_spelled (Seen site seq) can = behind 4 9 (version_spelled (as_version site seq)) (length-version_spelled (as_version site seq))
 length-record_spelled (Prepared site slow tid objects) can =
-    omega (arith, behind 5 (24 + 12 * length objects) (version_spelled (numbered site slow) ++ (tid_spelled tid ++ objects_spelled objects)) (of_prepared site slow tid objects))
-length-record_spelled (Released site slow) can = behind 6 9 (version_spelled (numbered site slow)) (length-version_spelled (numbered site slow))
+    omega (arith, behind 5 (24 + 12 * length objects) (version_spelled (as_version site slow) ++ (tid_spelled tid ++ objects_spelled objects)) (of_prepared site slow tid objects))
+length-record_spelled (Released site slow) can = behind 6 9 (version_spelled (as_version site slow)) (length-version_spelled (as_version site slow))
 length-record_spelled (SlowBegin slow tx) can = omega (arith, behind 7 (8 + size_of tx) (number_spelled 8 slow ++ spelling tx) (with_transaction (number_spelled 8 slow) 8 tx (length-number_spelled 8 slow) can.sites))
 length-record_spelled (SlowEnd slow) can = behind 8 8 (number_spelled 8 slow) (length-number_spelled 8 slow)
 length-record_spelled (Marks durable visible) can =
@@ -107,10 +105,10 @@ spelled_transaction sites seq tx has = (has.ranges.0, record { sites = has.among
 pub spelled_slow : (sites : ℕ) (slow : ℕ) (tx : Tx) → HasRecordSpelling sites (SlowBegin slow tx) → IsNumbered sites (slow, tx)
 spelled_slow sites slow tx has = (has.ranges.0, record { sites = has.among; sizes = has.sizes; ranges = has.ranges.1 })
 
-pub spelled_got : (sites : ℕ) (site : SiteId) (seq : ℕ) (tx : Tx) → HasRecordSpelling sites (Got site seq tx) → IsGot sites (numbered site seq, tx)
+pub spelled_got : (sites : ℕ) (site : SiteId) (seq : ℕ) (tx : Tx) → HasRecordSpelling sites (Got site seq tx) → IsGot sites (as_version site seq, tx)
 spelled_got sites site seq tx has = (has.ranges.0, record { sites = has.among; sizes = has.sizes; ranges = has.ranges.1 })
 
-pub spelled_prepared : (sites : ℕ) (site : SiteId) (slow : ℕ) (tid : Tid) (objects : List ObjId) → HasRecordSpelling sites (Prepared site slow tid objects) → IsPrepared (numbered site slow, (tid, objects))
+pub spelled_prepared : (sites : ℕ) (site : SiteId) (slow : ℕ) (tid : Tid) (objects : List ObjId) → HasRecordSpelling sites (Prepared site slow tid objects) → IsPrepared (as_version site slow, (tid, objects))
 spelled_prepared sites site slow tid objects has = (has.ranges.0, (has.ranges.1, record { listed = has.sizes; ranges = has.ranges.2 }))
 
 -- ---- no spelling begins another
@@ -133,16 +131,16 @@ same_fields sites (Own m tx) (Own n other) x y kinds has_a has_b e =
     let same = (free_numbered sites).same (m, tx) (n, other) x y (spelled_transaction sites m tx has_a) (spelled_transaction sites n other has_b) e in
     ((λ i. Own (same.0 i).0 (same.0 i).1), same.1)
 same_fields sites (Got s m tx) (Got t n other) x y kinds has_a has_b e =
-    let same = (free_got sites).same (numbered s m, tx) (numbered t n, other) x y (spelled_got sites s m tx has_a) (spelled_got sites t n other has_b) e in
+    let same = (free_got sites).same (as_version s m, tx) (as_version t n, other) x y (spelled_got sites s m tx has_a) (spelled_got sites t n other has_b) e in
     ((λ i. Got (same.0 i).0.site (same.0 i).0.seq (same.0 i).1), same.1)
 same_fields sites (Seen s m) (Seen t n) x y kinds has_a has_b e =
-    let same = free_versions.same (numbered s m) (numbered t n) x y has_a.ranges has_b.ranges e in
+    let same = free_versions.same (as_version s m) (as_version t n) x y has_a.ranges has_b.ranges e in
     ((λ i. Seen (same.0 i).site (same.0 i).seq), same.1)
 same_fields sites (Prepared s m tid os) (Prepared t n other ps) x y kinds has_a has_b e =
-    let same = free_prepared.same (numbered s m, (tid, os)) (numbered t n, (other, ps)) x y (spelled_prepared sites s m tid os has_a) (spelled_prepared sites t n other ps has_b) e in
+    let same = free_prepared.same (as_version s m, (tid, os)) (as_version t n, (other, ps)) x y (spelled_prepared sites s m tid os has_a) (spelled_prepared sites t n other ps has_b) e in
     ((λ i. Prepared (same.0 i).0.site (same.0 i).0.seq (same.0 i).1.0 (same.0 i).1.1), same.1)
 same_fields sites (Released s m) (Released t n) x y kinds has_a has_b e =
-    let same = free_versions.same (numbered s m) (numbered t n) x y has_a.ranges has_b.ranges e in
+    let same = free_versions.same (as_version s m) (as_version t n) x y has_a.ranges has_b.ranges e in
     ((λ i. Released (same.0 i).site (same.0 i).seq), same.1)
 same_fields sites (SlowBegin m tx) (SlowBegin n other) x y kinds has_a has_b e =
     let same = (free_numbered sites).same (m, tx) (n, other) x y (spelled_slow sites m tx has_a) (spelled_slow sites n other has_b) e in

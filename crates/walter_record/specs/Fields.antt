@@ -9,7 +9,7 @@ use Rattle.walter_base.specs.declared.transaction.Tx.{Tx}
 use Rattle.walter_fields.specs.Spellings.{number_spelled}
 use Rattle.walter_names.specs.Names.{tid_spelled, version_spelled, IsTid, IsVersion}
 use Rattle.walter_txcode.specs.Spelling.{spelling, objects_spelled, HasSpelling, AreSpelledObjects}
-use Rattle.walter_record.specs.Spelling.{numbered}
+use Rattle.walter_record.specs.Spelling.{as_version}
 
 abbrev pub kind_of : Record → ℕ
 kind_of (Boot epoch) = 1
@@ -47,10 +47,11 @@ AreMarks marks = (marks.0 < 2 ^ 64) × (marks.1 < 2 ^ 64)
 abbrev pub fields_spelled : Record → List ℕ
 fields_spelled (Boot epoch) = number_spelled 4 epoch
 fields_spelled (Own seq tx) = number_spelled 8 seq ++ spelling tx
-fields_spelled (Got site seq tx) = version_spelled (numbered site seq) ++ spelling tx
-fields_spelled (Seen site seq) = version_spelled (numbered site seq)
-fields_spelled (Prepared site slow tid objects) = version_spelled (numbered site slow) ++ (tid_spelled tid ++ objects_spelled objects)
-fields_spelled (Released site slow) = version_spelled (numbered site slow)
+fields_spelled (Got site seq tx) = version_spelled (as_version site seq) ++ spelling tx
+fields_spelled (Seen site seq) = version_spelled (as_version site seq)
+fields_spelled (Prepared site slow tid objects) =
+    version_spelled (as_version site slow) ++ (tid_spelled tid ++ objects_spelled objects)
+fields_spelled (Released site slow) = version_spelled (as_version site slow)
 fields_spelled (SlowBegin slow tx) = number_spelled 8 slow ++ spelling tx
 fields_spelled (SlowEnd slow) = number_spelled 8 slow
 fields_spelled (Marks durable visible) = number_spelled 8 durable ++ number_spelled 8 visible

@@ -10,17 +10,17 @@ use Rattle.walter_names.specs.Names.{tid_spelled, version_spelled, IsObject, IsT
 use Rattle.walter_txcode.specs.Spelling.{spelling, objects_spelled, IsInRange}
 
 -- a site and a number are spelled as a version
-abbrev pub numbered : SiteId → ℕ → Version
-numbered site number = record { site = site; seq = number }
+abbrev pub as_version : SiteId → ℕ → Version
+as_version site number = record { site = site; seq = number }
 
 abbrev pub record_spelled : Record → List ℕ
 record_spelled (Boot epoch) = number_spelled 1 1 ++ number_spelled 4 epoch
 record_spelled (Own seq tx) = number_spelled 1 2 ++ (number_spelled 8 seq ++ spelling tx)
-record_spelled (Got site seq tx) = number_spelled 1 3 ++ (version_spelled (numbered site seq) ++ spelling tx)
-record_spelled (Seen site seq) = number_spelled 1 4 ++ version_spelled (numbered site seq)
+record_spelled (Got site seq tx) = number_spelled 1 3 ++ (version_spelled (as_version site seq) ++ spelling tx)
+record_spelled (Seen site seq) = number_spelled 1 4 ++ version_spelled (as_version site seq)
 record_spelled (Prepared site slow tid objects) =
-    number_spelled 1 5 ++ (version_spelled (numbered site slow) ++ (tid_spelled tid ++ objects_spelled objects))
-record_spelled (Released site slow) = number_spelled 1 6 ++ version_spelled (numbered site slow)
+    number_spelled 1 5 ++ (version_spelled (as_version site slow) ++ (tid_spelled tid ++ objects_spelled objects))
+record_spelled (Released site slow) = number_spelled 1 6 ++ version_spelled (as_version site slow)
 record_spelled (SlowBegin slow tx) = number_spelled 1 7 ++ (number_spelled 8 slow ++ spelling tx)
 record_spelled (SlowEnd slow) = number_spelled 1 8 ++ number_spelled 8 slow
 record_spelled (Marks durable visible) = number_spelled 1 9 ++ (number_spelled 8 durable ++ number_spelled 8 visible)
@@ -29,10 +29,10 @@ record_spelled (Marks durable visible) = number_spelled 1 9 ++ (number_spelled 8
 abbrev pub AreInRange : Record → Type 0
 AreInRange (Boot epoch) = epoch < 2 ^ 32
 AreInRange (Own seq tx) = (seq < 2 ^ 64) × IsInRange tx
-AreInRange (Got site seq tx) = IsVersion (numbered site seq) × IsInRange tx
-AreInRange (Seen site seq) = IsVersion (numbered site seq)
-AreInRange (Prepared site slow tid objects) = IsVersion (numbered site slow) × IsTid tid × All IsObject objects
-AreInRange (Released site slow) = IsVersion (numbered site slow)
+AreInRange (Got site seq tx) = IsVersion (as_version site seq) × IsInRange tx
+AreInRange (Seen site seq) = IsVersion (as_version site seq)
+AreInRange (Prepared site slow tid objects) = IsVersion (as_version site slow) × IsTid tid × All IsObject objects
+AreInRange (Released site slow) = IsVersion (as_version site slow)
 AreInRange (SlowBegin slow tx) = (slow < 2 ^ 64) × IsInRange tx
 AreInRange (SlowEnd slow) = slow < 2 ^ 64
 AreInRange (Marks durable visible) = (durable < 2 ^ 64) × (visible < 2 ^ 64)

@@ -1,7 +1,7 @@
 ghost use Rattle.std.specs.Prelude.{◌≡◌, ◌+◌, ◌≤◌, ◌++◌, IfOk};
 ghost use Rattle.walter_base.specs.Sizes.{size_of_record, CanBeRecorded};
 ghost use Rattle.walter_record.specs.Fields.{kind_of, fields_spelled};
-ghost use Rattle.walter_record.specs.Spelling.{numbered, record_spelled, AreInRange};
+ghost use Rattle.walter_record.specs.Spelling.{as_version, record_spelled, AreInRange};
 ghost use Rattle.walter_names.specs.Names.{version_spelled, IsVersion};
 
 use std::alloc::Global;
@@ -46,9 +46,9 @@ fn kind(journaled: &Record) -> u8
 /// Writes a site and a number.
 fn write_site(out: &mut Appender, site: SiteId, seq: u64)
     requires { 9 ≤ out.old.room }
-    ensures bytes { out.new.bytes ≡ out.old.bytes ++ version_spelled (numbered site seq) }
+    ensures bytes { out.new.bytes ≡ out.old.bytes ++ version_spelled (as_version site seq) }
     ensures room { out.new.room + 9 ≡ out.old.room }
-    ensures range { IsVersion (numbered site seq) }
+    ensures range { IsVersion (as_version site seq) }
 {
     write_version(out, Version { site, seq });
 }

@@ -1,7 +1,7 @@
+use walter_record::{decode, encode};
 use std::alloc::{AllocError, Global};
 use std::test::Fail;
 use walter_base::Record;
-use walter_record::{decode, encode};
 
 /// The first own commit of site 0, which writes `hello` to the object 1, 5.
 const HELLO: [u8; 118] = [
@@ -125,11 +125,9 @@ fn what_is_no_spelling_is_refused(rt: HostRuntime) -> Result<(), Fail> {
         assert_eq!(rt; decode(rt.alloc(), &bytes, 2)?.is_some(), is_taken);
     }
     // The first object stands twice, and the second before it.
-    for second in [
-        PREPARED[25..37].as_slice(),
-        [0, 0, 0, 1, 0, 0, 0, 0, 0, 0, 0, 4].as_slice(),
-    ] {
-        let bytes = joined(rt.alloc(), &PREPARED[..37], second)?;
+    for local in [5, 4] {
+        let second = [0, 0, 0, 1, 0, 0, 0, 0, 0, 0, 0, local];
+        let bytes = joined(rt.alloc(), &PREPARED[..37], &second)?;
         assert!(rt; decode(rt.alloc(), &bytes, 2)?.is_none());
     }
     Ok(())

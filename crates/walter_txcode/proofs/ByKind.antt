@@ -1,5 +1,5 @@
 -- Values of several kinds: the spelling of each is a byte that tells its kind, and what stands behind it.
-use Rattle.std.proofs.Common.{◌≡◌, ◌≢◌, ℕ, ◌+◌, ◌<◌, List, ◌++◌, length, sym, ap, subst, ◌∙◌, append_assoc, arith}
+use Rattle.std.proofs.Common.{◌≡◌, ℕ, ◌<◌, List, ◌++◌, length, sym, ap, subst, ◌∙◌, append_assoc, arith}
 use Rattle.std.proofs.lemmas.List.{length-append}
 use Rattle.walter_fields.specs.Cursors.{Remainder, Takes}
 use Rattle.walter_fields.specs.Spellings.{number_spelled}

@@ -1,7 +1,7 @@
 -- Where a part can't be read, the bytes don't begin with the spelling of any value that has the part.
 use Rattle.std.proofs.Common.{◌≡◌, ◌≢◌, ℕ, suc, ◌+◌, ◌-◌, ◌*◌, ◌^◌, ◌<◌, ◌≤◌, List, [], ◌∷◌, ◌++◌, length, take, replicate, Result, Ok, Err, sym, ap, subst, ◌∙◌, append_assoc, arith}
 use Rattle.std.specs.Prelude.{All, flat_map, sum_by, IfErr, IsErrAnd}
-use Rattle.std.proofs.lemmas.List.{append-nil, length-append, length-take, append_cancel_left, replicate-append-replicate}
+use Rattle.std.proofs.lemmas.List.{length-append, length-take, append_cancel_left, replicate-append-replicate}
 use Rattle.std.proofs.lemmas.List.Concat.{flat_map-append, flat_map-cons}
 use Rattle.walter_base.specs.Vectors.{most_sites}
 use Rattle.walter_base.specs.declared.names.ObjId.{ObjId}
@@ -20,7 +20,7 @@ use Rattle.walter_names.specs.Names.{object_spelled, tid_spelled, IsObject, IsTi
 use Rattle.walter_base.specs.Sizes.{HasShortValue, size_of, size_of_update}
 use Rattle.walter_txcode.specs.Spelling.{numbers_spelled, vector_spelled, value_spelled, update_spelled, updates_spelled, head_spelled, spelling, AreFew, IsUpdate, HasSpelling}
 use Rattle.walter_names.proofs.Lengths.{length-tid_spelled, length-member_spelled}
-use Rattle.walter_txcode.proofs.Lengths.{length-numbers_spelled, length-value_spelled, length-update_spelled, length-updates_spelled, length-head_spelled, length-spelling, length-vector_spelled}
+use Rattle.walter_txcode.proofs.Lengths.{length-numbers_spelled, length-value_spelled, length-update_spelled, length-updates_spelled, length-head_spelled, length-vector_spelled}
 use Rattle.walter_names.proofs.Prefixes.{same_object, same_tid}
 use Rattle.walter_txcode.proofs.Prefixes.{few_of, same_numbers, vector_parts, kind_of, fields_spelled, behind_kind, same_update, AreSpellable, AreSpellable-from_both, each_spelled, each_parts, HasHead, same_head, same_updates, first_two}
 

@@ -1,11 +1,6 @@
 -- Spellings one behind another: which no spelling begins, and where none begins the bytes.
 use Rattle.std.proofs.Common.{◌≡◌, ◌≢◌, ℕ, ◌^◌, ◌<◌, List, [], ◌++◌, length, sym, ap, ◌∙◌, append_assoc, arith}
 use Rattle.std.proofs.lemmas.List.{append-nil, length-append}
-use Rattle.walter_base.specs.Vectors.{most_sites}
-use Rattle.walter_base.specs.declared.names.ObjId.{ObjId}
-use Rattle.walter_base.specs.declared.names.Tid.{Tid}
-use Rattle.walter_base.specs.declared.names.Version.{Version}
-use Rattle.walter_base.specs.declared.transaction.Tx.{Tx}
 use Rattle.std.specs.Prelude.{All}
 use Rattle.walter_fields.specs.Spellings.{number_spelled}
 use Rattle.walter_fields.proofs.Numbers.{length-number_spelled, same_number}

@@ -1,4 +1,4 @@
-use Rattle.std.proofs.Common.{refl, arith}
+use Rattle.std.proofs.Common.{arith}
 use Rattle.walter_txcode.proofs.Failures.{IfUnspelled-weaker, is_fault}
 use Rattle.walter_packet.proofs.Votes.{no_refusal, no_such_answer}
 use Rattle.walter_packet.proofs.answers.read_answer_fields.Goals as goal

@@ -1,4 +1,3 @@
-use Rattle.std.proofs.Common.{◌∙◌}
 use Rattle.walter_txcode.proofs.Rising.{last_tells}
 use Rattle.walter_txcode.proofs.objects.is_behind.Goals as goal
 

@@ -1,4 +1,4 @@
-use Rattle.std.proofs.Common.{◌++◌, ◌<◌, length, refl, sym, ap, subst, ◌∙◌, arith}
+use Rattle.std.proofs.Common.{refl, sym, subst, arith}
 use Rattle.std.specs.Prelude.{All, IsTrue, false}
 use Rattle.walter_base.specs.Names.{IsBefore}
 use Rattle.walter_fields.specs.Cursors.{Takes}

@@ -1,4 +1,4 @@
-use Rattle.std.proofs.Common.{◌≡◌, ◌+◌, ◌*◌, ◌++◌, length, take}
+use Rattle.std.proofs.Common.{◌≡◌, ◌+◌, ◌*◌, ◌++◌, take}
 use Rattle.std.specs.Prelude.{All, flat_map}
 use Rattle.walter_names.specs.Names.{object_spelled, IsObject}
 use Rattle.walter_txcode.proofs.objects.write_each.Given as goal
