@@ -4,9 +4,9 @@ use Rattle.std.specs.Prelude.{◌≡◌, ◌+◌, ◌<◌, ◌≤◌, ◌++◌, 
 use Rattle.walter_base.specs.declared.names.SiteId.{SiteId}
 use Rattle.walter_base.specs.Vectors.{most_sites, entry_at, Covers}
 
--- How far a site has come: which site it is, and how many commits above what a peer acknowledged it sends; how many commits
--- of each site it has received, and how many of these it has committed; how many of its own each peer has called durable; and
--- by site the snapshots of the commits that are received and not committed here, the oldest first
+-- How far a site has come: which site it is, and how many commits above what a peer acknowledged it sends; how many
+-- commits of each site it has received, and how many of these it has committed; how many of its own each peer has
+-- called durable; and by site the snapshots of the commits that are received and not committed here, the oldest first
 pub record Progress : Type 0 where
   pub site : SiteId
   pub window : ℕ
@@ -39,8 +39,8 @@ own S = entry_at S.committed S.site
 abbrev pub waiting_of : Progress → SiteId → List (List ℕ)
 waiting_of S site = slice_index_or S.waiting site.0 []
 
--- what holds of each progress: each vector and the lists have an entry for each site; the commits that are received are those
--- committed here, and those waiting; and own commits don't wait
+-- what holds of each progress: each vector and the lists have an entry for each site; the commits that are received are
+-- those committed here and those waiting; and own commits don't wait
 pub record IsPossible (S : Progress) : Type 0 where
   pub window : 0 < S.window
   pub here : S.site.0 < length S.got
@@ -55,8 +55,8 @@ pub record IsPossible (S : Progress) : Type 0 where
 abbrev pub IsAccepted : Progress → SiteId → ℕ → List ℕ → Type 0
 IsAccepted S from seq start = (seq ≡ entry_at S.got from + 1) × Covers S.got start
 
--- the next commit of a site is committed here where it is received, its site has called it durable, and what it has seen is
--- committed here
+-- the next commit of a site is committed here where it is received, its site has called it durable, and what it has
+-- seen is committed here
 pub record IsEnabled (S : Progress) (from : SiteId) : Type 0 where
   pub received : entry_at S.committed from + 1 ≤ entry_at S.got from
   pub durable : entry_at S.committed from + 1 ≤ entry_at S.durable from
