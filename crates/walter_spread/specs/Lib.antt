@@ -1,1 +1,2 @@
 pub mod Propagation
+pub mod Kept
