@@ -17,8 +17,8 @@ pub data Part : Type 0 where
   Locked : Tid → List ObjId → Part
   Over : Part
 
--- the locks by their slow commits, and for each coordinator the numbers that are over; for how many more objects and locks
--- there is room without memory
+-- the locks by their slow commits, and for each coordinator the numbers that are over; for how many more objects and
+-- locks there is room without memory
 pub record Table : Type 0 where
   pub locks : List (SlowId × Lock)
   pub dead : List Numbers
@@ -40,7 +40,9 @@ lock_of locks j n = lookup (same_slow (record { coordinator = j; slow = n })) lo
 
 -- by the locks, else by the numbers that are over
 abbrev pub part_of : Table → SiteId → ℕ → Part
-part_of table j n = option_map_or (λ lock. Locked lock.owner lock.objects) (lock_of table.locks j n) (if is_dead table.dead j n then Over else Free)
+part_of table j n =
+    option_map_or (λ lock. Locked lock.owner lock.objects) (lock_of table.locks j n)
+    (if is_dead table.dead j n then Over else Free)
 
 -- the owner of the lock that has the object
 abbrev pub owner_in : List (SlowId × Lock) → ObjId → Option Tid
@@ -81,7 +83,9 @@ CanRelease table j = 0 < room_of table.dead j.0
 -- each slow commit has one lock, and each object is in one lock
 abbrev pub AreSingle : List (SlowId × Lock) → Type 0
 AreSingle [] = Unit {0}
-AreSingle (e ∷ es) = (lookup (same_slow e.0) es ≡ None) × ((oid : ObjId) → has_object oid e.1.objects ≡ true → owner_in es oid ≡ None) × AreSingle es
+AreSingle (e ∷ es) =
+    (lookup (same_slow e.0) es ≡ None) × ((oid : ObjId) → has_object oid e.1.objects ≡ true → owner_in es oid ≡ None)
+    × AreSingle es
 
 -- the owners are those of the locks, and what is locked isn't over
 pub record AreLinked (owners : List (ObjId × Tid)) (locks : List (SlowId × Lock)) (dead : List Numbers) : Type 0 where

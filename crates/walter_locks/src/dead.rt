@@ -32,6 +32,7 @@ pub fn is_among(dead: &[Runs], coordinator: SiteId, slow: u64) -> bool
 pub fn make_room(dead: &mut Vec<Runs>) -> Mem<()>
     ensures sites { length dead.new.items ≡ length dead.old.items }
     ensures enough { OnOk result ((place : ℕ) → place < length dead.old.items → 0 < room_of dead.new.items place) }
+    ensures had { ((place : ℕ) → place < length dead.old.items → 0 < room_of dead.old.items place) → IsOk result }
     ensures dead { (j : Site) (n : ℕ) → is_dead dead.new.items j n ≡ is_dead dead.old.items j n }
     ensures more { (place : ℕ) → room_of dead.old.items place ≤ room_of dead.new.items place }
 {
@@ -46,8 +47,10 @@ pub fn make_room(dead: &mut Vec<Runs>) -> Mem<()>
 pub fn mark(dead: &mut Vec<Runs>, coordinator: SiteId, slow: u64)
     requires { 0 < room_of dead.old.items coordinator.0 }
     ensures sites { length dead.new.items ≡ length dead.old.items }
-    ensures dead { (j : Site) (n : ℕ) → is_dead dead.new.items j n ≡ (is_slow coordinator slow j n || is_dead dead.old.items j n) }
-    ensures room { (place : ℕ) → (nat_eq coordinator.0 place ≡ false) → room_of dead.new.items place ≡ room_of dead.old.items place }
+    ensures dead { (j : Site) (n : ℕ) → is_dead dead.new.items j n
+        ≡ (is_slow coordinator slow j n || is_dead dead.old.items j n) }
+    ensures room { (place : ℕ) → nat_eq coordinator.0 place ≡ false
+        → room_of dead.new.items place ≡ room_of dead.old.items place }
 {
     let Some(runs) = dead.get_mut(coordinator.0 as usize) else {
         return;

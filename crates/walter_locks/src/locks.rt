@@ -52,20 +52,25 @@ impl Locks {
     /// The owner of the lock that has the object.
     pub fn owner(&self, oid: ObjId) -> Option<Tid>
         ensures owner { result ≡ owner_of self.now oid }
-        ensures of_lock { (o : Object) (tid : Owner) → (owner_of self.now o ≡ Some tid) ↔ ((j : Site) × (n : ℕ) × (objects : List Object) × (part_of self.now j n ≡ Locked tid objects) × Contains objects o) }
-        ensures single { (j k : Site) (n m : ℕ) (tid other : Owner) (objects others : List Object) (o : Object) → part_of self.now j n ≡ Locked tid objects → part_of self.now k m ≡ Locked other others → Contains objects o → Contains others o → (j ≡ k) × (n ≡ m) }
+        ensures of_lock { (o : Object) (tid : Owner) → (owner_of self.now o ≡ Some tid)
+            ↔ ((j : Site) × (n : ℕ) × (objects : List Object)
+            × (part_of self.now j n ≡ Locked tid objects) × Contains objects o) }
+        ensures single { (j k : Site) (n m : ℕ) (tid other : Owner) (objects others : List Object) (o : Object)
+            → part_of self.now j n ≡ Locked tid objects → part_of self.now k m ≡ Locked other others
+            → Contains objects o → Contains others o → (j ≡ k) × (n ≡ m) }
     {
         self.owners.get(&oid).copied()
     }
 
     /// Whether there is a lock of the slow commit.
     pub fn holds(&self, coordinator: SiteId, slow: u64) -> bool
-        ensures { IsTrue result ↔ ((tid : Owner) × (objects : List Object) × (part_of self.now coordinator slow ≡ Locked tid objects)) }
+        ensures { IsTrue result ↔ ((tid : Owner) × (objects : List Object)
+            × (part_of self.now coordinator slow ≡ Locked tid objects)) }
     {
         self.locks.contains_key(&SlowId { coordinator, slow })
     }
 
-    /// Whether the slow commit is over.
+    /// Whether the slow commit is over. It stays so: nothing takes an `Over` away.
     pub fn dead(&self, coordinator: SiteId, slow: u64) -> bool
         ensures { IsTrue result ↔ (part_of self.now coordinator slow ≡ Over) }
     {
@@ -83,6 +88,8 @@ impl Locks {
     pub fn reserve(&mut self, objects: u64) -> Mem<()>
         ensures lock { OnOk result (CanLock self.new objects) }
         ensures release { OnOk result ((j : Site) → j.0 < length self.old.dead → CanRelease self.new j) }
+        ensures had { CanLock self.old objects → ((j : Site) → j.0 < length self.old.dead → CanRelease self.old j)
+            → IsOk result }
         ensures sites { length self.new.dead ≡ length self.old.dead }
         ensures parts { (j : Site) (n : ℕ) → part_of self.new j n ≡ part_of self.old j n }
         ensures owners { (oid : Object) → owner_of self.new oid ≡ owner_of self.old oid }
@@ -99,8 +106,10 @@ impl Locks {
         requires free { part_of self.old coordinator slow ≡ Free }
         requires objects { All (λ oid. owner_of self.old oid ≡ None) objects }
         requires room { CanLock self.old (length objects) }
-        ensures parts { (j : Site) (n : ℕ) → part_of self.new j n ≡ (if is_slow coordinator slow j n then Locked tid objects else part_of self.old j n) }
-        ensures owners { (oid : Object) → owner_of self.new oid ≡ (if has_object oid objects then Some tid else owner_of self.old oid) }
+        ensures parts { (j : Site) (n : ℕ) → part_of self.new j n
+            ≡ (if is_slow coordinator slow j n then Locked tid objects else part_of self.old j n) }
+        ensures owners { (oid : Object) → owner_of self.new oid
+            ≡ (if has_object oid objects then Some tid else owner_of self.old oid) }
         ensures sites { length self.new.dead ≡ length self.old.dead }
         ensures releases { (j : Site) → CanRelease self.old j → CanRelease self.new j }
     {
@@ -117,8 +126,10 @@ impl Locks {
     /// The slow commit is over here: its lock goes, where it has one. Takes no memory.
     pub fn release(&mut self, coordinator: SiteId, slow: u64)
         requires { CanRelease self.old coordinator }
-        ensures parts { (j : Site) (n : ℕ) → part_of self.new j n ≡ (if is_slow coordinator slow j n then Over else part_of self.old j n) }
-        ensures owners { (oid : Object) → owner_of self.new oid ≡ (if does_lock (part_of self.old coordinator slow) oid then None else owner_of self.old oid) }
+        ensures parts { (j : Site) (n : ℕ) → part_of self.new j n
+            ≡ (if is_slow coordinator slow j n then Over else part_of self.old j n) }
+        ensures owners { (oid : Object) → owner_of self.new oid
+            ≡ (if does_lock (part_of self.old coordinator slow) oid then None else owner_of self.old oid) }
         ensures sites { length self.new.dead ≡ length self.old.dead }
         ensures locks { (k : ℕ) → CanLock self.old k → CanLock self.new k }
         ensures releases { (j : Site) → nat_eq coordinator.0 j.0 ≡ false → CanRelease self.old j → CanRelease self.new j }
@@ -129,8 +140,10 @@ impl Locks {
 
     /// The lock of the slow commit goes, where it has one, and the slow commit isn't over. Takes no memory.
     pub fn unlock(&mut self, coordinator: SiteId, slow: u64)
-        ensures parts { (j : Site) (n : ℕ) → part_of self.new j n ≡ (if is_slow coordinator slow j n then unlocked (part_of self.old j n) else part_of self.old j n) }
-        ensures owners { (oid : Object) → owner_of self.new oid ≡ (if does_lock (part_of self.old coordinator slow) oid then None else owner_of self.old oid) }
+        ensures parts { (j : Site) (n : ℕ) → part_of self.new j n
+            ≡ (if is_slow coordinator slow j n then unlocked (part_of self.old j n) else part_of self.old j n) }
+        ensures owners { (oid : Object) → owner_of self.new oid
+            ≡ (if does_lock (part_of self.old coordinator slow) oid then None else owner_of self.old oid) }
         ensures sites { length self.new.dead ≡ length self.old.dead }
         ensures locks { (k : ℕ) → CanLock self.old k → CanLock self.new k }
         ensures releases { (j : Site) → CanRelease self.old j → CanRelease self.new j }

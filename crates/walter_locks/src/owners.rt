@@ -11,7 +11,8 @@ use walter_base::{ObjId, Tid};
 /// Makes the transaction the owner of the objects, without taking memory.
 pub fn own(owners: &mut IndexMap<ObjId, Tid>, objects: &[ObjId], tid: Tid)
     requires { length objects.now ≤ spare owners.old }
-    ensures owners { (oid : Object) → lookup (same_object oid) owners.new.entries ≡ (if has_object oid objects.now then Some tid else lookup (same_object oid) owners.old.entries) }
+    ensures owners { (oid : Object) → lookup (same_object oid) owners.new.entries
+        ≡ (if has_object oid objects.now then Some tid else lookup (same_object oid) owners.old.entries) }
 {
     for oid in objects {
         owners.insert(*oid, tid).unwrap();
@@ -20,7 +21,8 @@ pub fn own(owners: &mut IndexMap<ObjId, Tid>, objects: &[ObjId], tid: Tid)
 
 /// Takes their owners from the objects.
 pub fn disown(owners: &mut IndexMap<ObjId, Tid>, objects: &[ObjId])
-    ensures owners { (oid : Object) → lookup (same_object oid) owners.new.entries ≡ (if has_object oid objects.now then None else lookup (same_object oid) owners.old.entries) }
+    ensures owners { (oid : Object) → lookup (same_object oid) owners.new.entries
+        ≡ (if has_object oid objects.now then None else lookup (same_object oid) owners.old.entries) }
     ensures room { spare owners.old ≤ spare owners.new }
 {
     for oid in objects {
