@@ -9,11 +9,10 @@ use Rattle.std.proofs.lemmas.Option.{slice_get-get_or}
 use Rattle.std.proofs.lemmas.Bool.{eqb-true}
 use Rattle.indexmap.specs.IndexMap.{IndexMap, WritesThrough}
 use Rattle.walter_base.specs.declared.names.SiteId.{SiteId}
-use Rattle.walter_base.specs.declared.packet.Answer.{Answer}
 use Rattle.walter_base.specs.declared.packet.Answer.TheVariants.{Yes, No}
 use Rattle.walter_base.specs.declared.transaction.Conflict.{Conflict}
 use Rattle.walter_base.specs.declared.transaction.Tx.{Tx}
-use Rattle.walter_slow.specs.Deciding.{Table, CanBegin, Standing, Asking, Dropped, asking_in, dropped_in, unconfirmed, heard_yes, heard_released, ended, with_vote, with_confirmed}
+use Rattle.walter_slow.specs.Deciding.{Table, CanBegin, Standing, Asking, asking_in, dropped_in, unconfirmed, heard_yes, heard_released, ended, with_vote, with_confirmed}
 
 -- what is kept under the number is changed so, and what is kept under each other stays
 pub record Changes (old new : List (ℕ × Standing)) (slow : ℕ) (f : Standing → Standing) : Type 0 where

@@ -1,10 +1,9 @@
 -- What a YES comes to.
-use Rattle.std.proofs.Common.{◌≡◌, ◌∙◌, ◌∷◌, List, Bool, true, false, Option, Some, None, is_some, refl, ap, if◌then◌else◌}
+use Rattle.std.proofs.Common.{◌≡◌, ◌∷◌, Bool, true, false, Option, Some, None, is_some, ap, if◌then◌else◌}
 use Rattle.std.specs.List.{list_all}
 use Rattle.walter_base.specs.declared.names.SiteId.{SiteId}
 use Rattle.walter_base.specs.declared.packet.Answer.TheVariants.{Yes}
 use Rattle.walter_base.specs.declared.transaction.Tx.{Tx}
-use Rattle.walter_slow.specs.declared.verdict.Verdict.{Verdict}
 use Rattle.walter_slow.specs.declared.verdict.Verdict.TheVariants.{Commit, Waiting, Unknown}
 use Rattle.walter_slow.specs.Deciding.{Standing, asking_in, verdict_of}
 use Rattle.walter_slow.specs.Sites.{has_site}

@@ -1,4 +1,5 @@
--- The slow commits of a site: which are being decided, who voted, and who is owed a RELEASE (docs/SITE.md, "Slow commits").
+-- The slow commits of a site: which are being decided, who voted, and who is owed a RELEASE (docs/SITE.md, "Slow
+-- commits").
 use Rattle.std.specs.Prelude.{◌<◌, ◌≤◌, ℕ, nat_eq, Bool, false, List, [], ◌∷◌, map, slice_get, Option, Some, None, is_some, option_map, option_and_then, if◌then◌else◌}
 use Rattle.std.specs.List.{list_all}
 use Rattle.std.specs.Map.{lookup}
@@ -18,7 +19,8 @@ pub record Asking : Type 0 where
   pub participants : List SiteId
   pub yes : List SiteId
 
--- one that ended without a commit: the sites that were asked, and those that have confirmed the RELEASE since the last boot
+-- one that ended without a commit: the sites that were asked, and those that have confirmed the RELEASE since the last
+-- boot
 pub record Dropped : Type 0 where
   pub participants : List SiteId
   pub confirmed : List SiteId
@@ -30,8 +32,8 @@ pub record Standing : Type 0 where
   pub participants : List SiteId
   pub heard : List SiteId
 
--- the last number, and by their numbers the slow commits that are kept; for how many more of them, and in the next for how
--- many participants, there is room without memory
+-- the last number, and by their numbers the slow commits that are kept; for how many more of them, and in the next for
+-- how many participants, there is room without memory
 pub record Table : Type 0 where
   pub last : ℕ
   pub commits : List (ℕ × Standing)

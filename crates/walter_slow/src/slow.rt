@@ -10,8 +10,8 @@ use std::marker::Model;
 use std::mem;
 use walter_base::{Answer, Mem, SiteId, Sites, Tx};
 
-/// The slow commits of a site that are being decided, and those that ended without a commit, by rising number. Contracts
-/// read them by `asking_of` and `dropped_of`.
+/// The slow commits of a site that are being decided, and those that ended without a commit, by rising number.
+/// Contracts read them by `asking_of` and `dropped_of`.
 #[derive(Drop)]
 pub struct SlowCommits {
     alloc: Global,
@@ -86,7 +86,9 @@ impl SlowCommits {
     pub fn begin(&mut self, slow: u64, tx: Tx, participants: Sites) -> Mem<()>
         requires { slow ≡ self.old.last + 1 }
         ensures last { OnOk result (self.new.last ≡ slow) }
-        ensures asking { OnOk result ((n : ℕ) → asking_of self.new n ≡ (if nat_eq slow n then Some (record { tx = tx; participants = participants; yes = [] }) else asking_of self.old n)) }
+        ensures asking { OnOk result ((n : ℕ) → asking_of self.new n
+            ≡ (if nat_eq slow n then Some (record { tx = tx; participants = participants; yes = [] })
+            else asking_of self.old n)) }
         ensures dropped { OnOk result ((n : ℕ) → dropped_of self.new n ≡ dropped_of self.old n) }
         ensures same { OnErr result ((self.new.last ≡ self.old.last) × (self.new.commits ≡ self.old.commits)) }
         ensures had { CanBegin self.old (length participants) → IsOk result }
@@ -101,7 +103,9 @@ impl SlowCommits {
         requires next { slow ≡ self.old.last + 1 }
         requires room { CanBegin self.old (length participants) }
         ensures last { self.new.last ≡ slow }
-        ensures asking { (n : ℕ) → asking_of self.new n ≡ (if nat_eq slow n then Some (record { tx = tx; participants = participants; yes = [] }) else asking_of self.old n) }
+        ensures asking { (n : ℕ) → asking_of self.new n
+            ≡ (if nat_eq slow n then Some (record { tx = tx; participants = participants; yes = [] })
+            else asking_of self.old n) }
         ensures dropped { (n : ℕ) → dropped_of self.new n ≡ dropped_of self.old n }
     {
         let heard = mem::replace(&mut self.seats, Vec::new(self.alloc));
@@ -132,7 +136,9 @@ impl SlowCommits {
     pub fn vote(&mut self, from: SiteId, slow: u64, answer: &Answer) -> Verdict
         ensures verdict { result ≡ verdict_of (asking_of self.old slow) from answer.now }
         ensures last { self.new.last ≡ self.old.last }
-        ensures asking { (n : ℕ) → asking_of self.new n ≡ (if nat_eq slow n then option_map (with_vote from answer.now) (asking_of self.old n) else asking_of self.old n) }
+        ensures asking { (n : ℕ) → asking_of self.new n
+            ≡ (if nat_eq slow n then option_map (with_vote from answer.now) (asking_of self.old n)
+            else asking_of self.old n) }
         ensures dropped { (n : ℕ) → dropped_of self.new n ≡ dropped_of self.old n }
         ensures room { (k : ℕ) → CanBegin self.old k → CanBegin self.new k }
     {
@@ -148,7 +154,8 @@ impl SlowCommits {
 
     fn hear_yes(&mut self, from: SiteId, slow: u64)
         ensures last { self.new.last ≡ self.old.last }
-        ensures standing { (n : ℕ) → standing_of self.new n ≡ (if nat_eq slow n then option_map (heard_yes from) (standing_of self.old n) else standing_of self.old n) }
+        ensures standing { (n : ℕ) → standing_of self.new n
+            ≡ (if nat_eq slow n then option_map (heard_yes from) (standing_of self.old n) else standing_of self.old n) }
         ensures room { (k : ℕ) → CanBegin self.old k → CanBegin self.new k }
     {
         let Some(standing) = self.commits.get_mut(&slow) else {
@@ -173,7 +180,8 @@ impl SlowCommits {
         requires { IsSome (asking_of self.old slow) }
         ensures last { self.new.last ≡ self.old.last }
         ensures asking { (n : ℕ) → asking_of self.new n ≡ (if nat_eq slow n then None else asking_of self.old n) }
-        ensures dropped { (n : ℕ) → dropped_of self.new n ≡ (if nat_eq slow n then option_map unconfirmed (participants_of self.old n) else dropped_of self.old n) }
+        ensures dropped { (n : ℕ) → dropped_of self.new n
+            ≡ (if nat_eq slow n then option_map unconfirmed (participants_of self.old n) else dropped_of self.old n) }
         ensures room { (k : ℕ) → CanBegin self.old k → CanBegin self.new k }
     {
         self.end(slow);
@@ -182,7 +190,8 @@ impl SlowCommits {
     fn end(&mut self, slow: u64)
         ensures last { self.new.last ≡ self.old.last }
         ensures numbers { numbers_of self.new ≡ numbers_of self.old }
-        ensures standing { (n : ℕ) → standing_of self.new n ≡ (if nat_eq slow n then option_map ended (standing_of self.old n) else standing_of self.old n) }
+        ensures standing { (n : ℕ) → standing_of self.new n
+            ≡ (if nat_eq slow n then option_map ended (standing_of self.old n) else standing_of self.old n) }
         ensures room { (k : ℕ) → CanBegin self.old k → CanBegin self.new k }
     {
         let Some(standing) = self.commits.get_mut(&slow) else {
@@ -191,7 +200,8 @@ impl SlowCommits {
         standing.end();
     }
 
-    /// After a restart: each slow commit that is being decided ends without a commit, and what was confirmed is forgotten.
+    /// After a restart: each slow commit that is being decided ends without a commit, and what was confirmed is
+    /// forgotten.
     pub fn boot(&mut self)
         ensures last { self.new.last ≡ self.old.last }
         ensures asking { (n : ℕ) → asking_of self.new n ≡ None }
@@ -206,7 +216,9 @@ impl SlowCommits {
     fn end_at(&mut self, place: usize)
         ensures last { self.new.last ≡ self.old.last }
         ensures numbers { numbers_of self.new ≡ numbers_of self.old }
-        ensures standing { (n : ℕ) → standing_of self.new n ≡ (if is_number_at self.old place n then option_map ended (standing_of self.old n) else standing_of self.old n) }
+        ensures standing { (n : ℕ) → standing_of self.new n
+            ≡ (if is_number_at self.old place n then option_map ended (standing_of self.old n)
+            else standing_of self.old n) }
         ensures room { (k : ℕ) → CanBegin self.old k → CanBegin self.new k }
     {
         let Some(slow) = self.number_at(place) else {
@@ -219,7 +231,9 @@ impl SlowCommits {
     pub fn released(&mut self, from: SiteId, slow: u64)
         ensures last { self.new.last ≡ self.old.last }
         ensures asking { (n : ℕ) → asking_of self.new n ≡ asking_of self.old n }
-        ensures dropped { (n : ℕ) → dropped_of self.new n ≡ (if nat_eq slow n then option_map (with_confirmed from) (dropped_of self.old n) else dropped_of self.old n) }
+        ensures dropped { (n : ℕ) → dropped_of self.new n
+            ≡ (if nat_eq slow n then option_map (with_confirmed from) (dropped_of self.old n)
+            else dropped_of self.old n) }
         ensures room { (k : ℕ) → CanBegin self.old k → CanBegin self.new k }
     {
         let Some(standing) = self.commits.get_mut(&slow) else {

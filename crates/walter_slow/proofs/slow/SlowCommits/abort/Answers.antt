@@ -1,4 +1,3 @@
-use Rattle.std.proofs.Common.{sym, ap}
 use Rattle.walter_slow.proofs.Standings.{asking_ended, dropped_ended}
 use Rattle.walter_slow.proofs.slow.SlowCommits.abort.Goals as goal
 

@@ -1,4 +1,4 @@
-use Rattle.std.proofs.Common.{◌≡◌, ◌<◌, ◌≤◌, ◌∙◌, ℕ, None, nat_eq, length, take, slice_get, option_map, false, sym, ap, subst, arith, if◌then◌else◌}
+use Rattle.std.proofs.Common.{◌<◌, ◌∙◌, ℕ, None, nat_eq, length, take, slice_get, option_map, false, sym, ap, arith, if◌then◌else◌}
 use Rattle.std.specs.List.{list_any}
 use Rattle.std.specs.Option.{option_map_or}
 use Rattle.std.specs.Prelude.{option_and_then}

@@ -1,4 +1,4 @@
-use Rattle.std.proofs.Common.{◌≡◌, nat_eq, sym, ap, subst}
+use Rattle.std.proofs.Common.{nat_eq, sym, ap, subst}
 use Rattle.std.specs.Map.{keys_of}
 use Rattle.walter_slow.specs.Deciding.{RiseBetween}
 use Rattle.walter_slow.proofs.Numbers.{rise_removed}

@@ -1,4 +1,4 @@
-use Rattle.std.proofs.Common.{◌≡◌, ◌∙◌, sym, ap, subst, arith}
+use Rattle.std.proofs.Common.{◌∙◌, sym, ap, subst, arith}
 use Rattle.indexmap.specs.IndexMap.{spare, keys}
 use Rattle.walter_slow.specs.Deciding.{Table, RiseBetween, numbers_of, ended}
 use Rattle.walter_slow.proofs.Standings.{from_view, lent_changes, none_changes, room_kept}

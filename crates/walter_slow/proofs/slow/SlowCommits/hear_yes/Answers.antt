@@ -1,6 +1,6 @@
-use Rattle.std.proofs.Common.{◌≡◌, ◌∙◌, sym, ap, subst, arith}
-use Rattle.indexmap.specs.IndexMap.{spare, keys}
-use Rattle.walter_slow.specs.Deciding.{Table, RiseBetween, numbers_of, heard_yes}
+use Rattle.std.proofs.Common.{sym, ap, subst, arith}
+use Rattle.indexmap.specs.IndexMap.{spare}
+use Rattle.walter_slow.specs.Deciding.{Table, RiseBetween, heard_yes}
 use Rattle.walter_slow.proofs.Standings.{from_view, lent_changes, none_changes, room_kept}
 use Rattle.walter_slow.proofs.slow.SlowCommits.hear_yes.Goals as goal
 

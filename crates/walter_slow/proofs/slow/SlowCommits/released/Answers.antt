@@ -1,5 +1,5 @@
-use Rattle.std.proofs.Common.{◌≡◌, ◌∙◌, sym, ap, subst, arith}
-use Rattle.indexmap.specs.IndexMap.{spare, keys}
+use Rattle.std.proofs.Common.{sym, ap, subst, arith}
+use Rattle.indexmap.specs.IndexMap.{spare}
 use Rattle.walter_slow.specs.Deciding.{Table, RiseBetween, heard_released}
 use Rattle.walter_slow.proofs.Standings.{from_view, lent_changes, none_changes, room_kept, asking_released, dropped_released}
 use Rattle.walter_slow.proofs.slow.SlowCommits.released.Goals as goal

@@ -1,4 +1,4 @@
-use Rattle.std.proofs.Common.{◌≡◌, ◌∙◌, ◌++◌, ◌∷◌, [], true, sym, ap, subst, arith, vec_capacity}
+use Rattle.std.proofs.Common.{◌∙◌, ◌++◌, ◌∷◌, [], sym, ap, subst, arith, vec_capacity}
 use Rattle.walter_slow.specs.Deciding.{Standing}
 use Rattle.walter_slow.specs.Sites.{HasRoom, is_missing}
 use Rattle.walter_slow.proofs.Heard.{has_place, room_heard}

@@ -1,0 +1,6 @@
+pub mod SingleLocks
+pub mod Parts
+pub mod Numbers
+pub mod Adding
+pub mod Owning
+pub mod Marked

@@ -1,0 +1,13 @@
+use Rattle.std.proofs.Common.{◌≡◌, ◌≤◌, take, None, if◌then◌else◌}
+use Rattle.std.specs.Map.{lookup}
+use Rattle.indexmap.specs.IndexMap.{spare}
+use Rattle.walter_base.specs.declared.names.ObjId.{ObjId}
+use Rattle.walter_base.specs.Names.{same_object}
+use Rattle.walter_locks.specs.Parts.{has_object}
+use Rattle.walter_locks.proofs.owners.disown.Given as goal
+
+abbrev pub invariant-loop-oid : goal.invariant-loop-oid
+invariant-loop-oid l = record {
+  owners : (o : ObjId) → lookup (same_object o) l.owners.entries ≡ (if has_object o (take l.oid-index l.objects) then None else lookup (same_object o) l.initial.owners.entries);
+  room : spare l.initial.owners ≤ spare l.owners;
+}
