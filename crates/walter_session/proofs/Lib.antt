@@ -1,3 +1,4 @@
 pub mod Lists
 pub mod Tables
+pub mod Waiting
 pub mod Links

@@ -14,7 +14,7 @@ use Rattle.slab.specs.Slab.{Slab, get, slab_len, with_value, Updates}
 use Rattle.slab.proofs.SlabLemmas.{Updates-with_value}
 use Rattle.walter_session.specs.declared.slot.Slot.{Slot}
 use Rattle.walter_base.specs.ByClient.{AreApart, changed, without}
-use Rattle.walter_session.specs.Sessions.{SessionView, SessionWithRoom, Table, sessions_of, session_of, kept_in, clients_in, IsKeyOf, AreLinked}
+use Rattle.walter_session.specs.Sessions.{SessionView, SessionWithRoom, Table, table_in, sessions_of, session_of, kept_in, clients_in, IsKeyOf, AreLinked}
 use Rattle.walter_session.proofs.Tables.{moved}
 use Rattle.walter_base.proofs.ByClient.{absent_head, absent_tail, changed-absent, without-absent, apart_behind, apart_left}
 
@@ -241,10 +241,6 @@ same_linked slots other keys also same values linked = record {
   apart = subst AreApart (sym same) linked.apart;
   counted = ap (count_by is_some) values ∙ linked.counted ∙ ap length (sym same);
 }
-
--- a table of what the slots keep, whatever room there is
-abbrev pub table_in : Slab Slot → List (ℕ × ℕ) → Table
-table_in slots keys = record { clients = clients_in slots keys; slots = 0; keys = 0 }
 
 -- the session of a client is in the slot under its key
 pub session_found : (slots : Slab Slot) (keys : List (ℕ × ℕ)) (client : ℕ) → All (IsKeyOf slots) keys

@@ -1,5 +1,5 @@
 -- Sessions with the numbers of their clients, in the order of their starts.
-use Rattle.std.specs.Prelude.{◌≡◌, ◌<◌, ◌≤◌, ◌-◌, ◌++◌, ℕ, List, [], ◌∷◌, map, filter_map, length, All, Option, Some, None, IsSome, option_map, vec_len, vec_capacity}
+use Rattle.std.specs.Prelude.{◌≡◌, ◌↔◌, ◌<◌, ◌≤◌, ◌-◌, ◌++◌, ℕ, nat_eq, Bool, false, if◌then◌else◌, List, [], ◌∷◌, map, filter_map, length, All, Option, Some, None, IsSome, option_map, vec_len, vec_capacity}
 use Rattle.std.specs.Option.{option_map_or}
 use Rattle.slab.specs.Slab.{Slab, get, slab_len}
 use Rattle.walter_base.specs.declared.names.Tid.{Tid}
@@ -7,7 +7,7 @@ use Rattle.walter_base.specs.declared.update.Update.{Update}
 use Rattle.walter_base.specs.ByClient.{of_client, AreApart}
 use Rattle.walter_session.specs.declared.session.Session.{Session}
 use Rattle.walter_session.specs.declared.session.Stage.{Stage}
-use Rattle.walter_session.specs.declared.session.Stage.TheVariants.{Open}
+use Rattle.walter_session.specs.declared.session.Stage.TheVariants.{Open, Deciding}
 use Rattle.walter_session.specs.declared.session.StartFault.{StartFault}
 use Rattle.walter_session.specs.declared.session.StartFault.TheVariants.{TxOpen, SessionsFull, NoMemory}
 use Rattle.walter_session.specs.declared.slot.Slot.{Slot}
@@ -28,11 +28,12 @@ pub record SessionWithRoom : Type 0 where
   pub room : ℕ
 
 -- what is kept of each client that has a session, in the order of the starts; and for how many more sessions there are
--- slots, and keys, without memory
+-- slots, and keys, and for how many more slow commits there are numbers, without memory
 pub record Table : Type 0 where
   pub clients : List (ℕ × SessionWithRoom)
   pub slots : ℕ
   pub keys : ℕ
+  pub numbers : ℕ
 
 -- the sessions with their clients, in the order of their starts
 abbrev pub sessions_of : Table → List (ℕ × SessionView)
@@ -59,6 +60,21 @@ with_update update s = record s { updates = s.updates ++ update ∷ [] }
 
 abbrev pub with_stage : Stage → SessionView → SessionView
 with_stage stage s = record s { stage = stage }
+
+-- the session is of a transaction whose slow commit of this number is being decided
+abbrev pub IsDeciding : ℕ → Option SessionView → Type 0
+IsDeciding slow None = ⊥
+IsDeciding slow (Some s) = s.stage ≡ Deciding slow
+
+-- whether a stage waits for the slow commit of this number
+abbrev pub waits_for : Stage → ℕ → Bool
+waits_for (Deciding number) slow = nat_eq number slow
+waits_for stage slow = false
+
+-- a stage takes a number that no other client's session waits for, and there is room for it
+pub record CanStage (table : Table) (client : ℕ) (stage : Stage) : Type 0 where
+  pub apart : (slow other : ℕ) → stage ≡ Deciding slow → IsDeciding slow (session_of table other) → other ≡ client
+  pub room : (slow : ℕ) → stage ≡ Deciding slow → 0 < table.numbers
 
 -- why no session starts: the client has one; else there are as many as there may be; else there is no memory
 abbrev pub IsStartFault : Table → ℕ → StartFault → Type 0
@@ -87,3 +103,19 @@ pub record AreLinked (keys : List (ℕ × ℕ)) (slots : Slab Slot) : Type 0 whe
   pub each : All (IsKeyOf slots) keys
   pub apart : AreApart keys
   pub counted : slab_len slots ≡ length keys
+
+-- what the slots keep under these keys, whatever room there is
+abbrev pub table_in : Slab Slot → List (ℕ × ℕ) → Table
+table_in slots keys = record { clients = clients_in slots keys; slots = 0; keys = 0; numbers = 0 }
+
+-- the client that is found under a number is the one whose session waits for it
+abbrev pub AreNumbered : (ℕ → Option ℕ) → Table → Type 0
+AreNumbered found table = (slow client : ℕ) → (found slow ≡ Some client) ↔ IsDeciding slow (session_of table client)
+
+-- what is found under each number where a session of this stage ends, or leaves the stage
+abbrev pub unnumbered : Stage → (ℕ → Option ℕ) → ℕ → Option ℕ
+unnumbered before found slow = if waits_for before slow then None else found slow
+
+-- and where a client's session comes to it
+abbrev pub noted : Stage → ℕ → (ℕ → Option ℕ) → ℕ → Option ℕ
+noted after client found slow = if waits_for after slow then Some client else found slow

@@ -1,10 +1,11 @@
-ghost use Rattle.std.specs.Prelude.{◌≡◌, ◌<◌, ◌≤◌, ◌+◌, ◌++◌, ◌∷◌, ◌↔◌, [], ℕ, nat_eq, length, slice_get, false, None, IsSome, is_some, IsOk, IsTrue, OnOk, OnErr, IfErr, option_map, if◌then◌else◌};
+ghost use Rattle.std.specs.Prelude.{◌≡◌, ◌<◌, ◌≤◌, ◌+◌, ◌++◌, ◌∷◌, ◌↔◌, [], ℕ, nat_eq, length, slice_get, false, None, IsSome, is_some, IsOk, IsTrue, OnOk, OnErr, IfErr, IfSome, IfNone, option_map, if◌then◌else◌};
 ghost use Rattle.std.specs.List.{list_any};
 ghost use Rattle.std.specs.Option.{option_copied, option_map_or};
 ghost use Rattle.walter_base.specs.ByClient.{AreApart, changed, without};
 ghost use Rattle.walter_base.specs.Names.{same_tid};
-ghost use Rattle.walter_session.specs.Sessions.{session_view, sessions_of, session_of, room_of, CanStart, started, with_update, with_stage, IsStartFault};
+ghost use Rattle.walter_session.specs.Sessions.{session_view, sessions_of, session_of, room_of, CanStart, started, with_update, with_stage, CanStage, IsDeciding, IsStartFault};
 
+use crate::numbers::{forget, note};
 use crate::session::{Session, Stage, StartFault};
 use crate::slot::Slot;
 use indexmap::IndexMap;
@@ -23,17 +24,19 @@ pub struct Sessions {
     alloc: Global,
     keys: IndexMap<u32, usize>,
     slots: Slab<Slot>,
+    numbers: IndexMap<u64, u32>,
 }
 
 impl Model for Sessions {
-    ghost use Rattle.indexmap.specs.IndexMap.{spare};
-    ghost use Rattle.walter_session.specs.Sessions.{Table, clients_in, slots_left, AreLinked};
+    ghost use Rattle.std.specs.Prelude.{nat_eq};
+    ghost use Rattle.indexmap.specs.IndexMap.{get, spare};
+    ghost use Rattle.walter_session.specs.Sessions.{Table, table_in, clients_in, slots_left, AreLinked, AreNumbered};
 
     ghost Value = { Table };
 
-    ghost view = { λ s. record { clients = clients_in s.slots s.keys.entries; slots = slots_left s.slots; keys = spare s.keys } };
+    ghost view = { λ s. record { clients = clients_in s.slots s.keys.entries; slots = slots_left s.slots; keys = spare s.keys; numbers = spare s.numbers } };
 
-    ghost invariant = { λ s. AreLinked s.keys.entries s.slots };
+    ghost invariant = { λ s. AreLinked s.keys.entries s.slots × AreNumbered (λ slow. get nat_eq s.numbers slow) (table_in s.slots s.keys.entries) };
 }
 
 impl Sessions {
@@ -45,6 +48,7 @@ impl Sessions {
             alloc,
             keys: IndexMap::new(alloc),
             slots: Slab::new(alloc),
+            numbers: IndexMap::new(alloc),
         }
     }
 
@@ -154,9 +158,22 @@ impl Sessions {
         slot.push(update);
     }
 
-    /// The stage of the client's session becomes this one.
+    /// Makes room for the number of one more slow commit.
+    pub fn reserve_number(&mut self) -> Mem<()>
+        ensures enough { OnOk result (0 < self.new.numbers) }
+        ensures had { 0 < self.old.numbers → IsOk result }
+        ensures sessions { sessions_of self.new ≡ sessions_of self.old }
+        ensures room { (client : ℕ) → room_of self.new client ≡ room_of self.old client }
+        ensures starts { CanStart self.old → CanStart self.new }
+    {
+        self.numbers.reserve(1)?;
+        Ok(())
+    }
+
+    /// The stage of the client's session becomes this one. It takes no memory.
     pub fn set_stage(&mut self, client: u32, stage: Stage)
-        requires { IsSome (session_of self.old client) }
+        requires some { IsSome (session_of self.old client) }
+        requires can { CanStage self.old client stage }
         ensures stage { sessions_of self.new ≡ changed client (with_stage stage) (sessions_of self.old) }
         ensures room { (other : ℕ) → room_of self.new other ≡ room_of self.old other }
         ensures starts { CanStart self.old → CanStart self.new }
@@ -167,7 +184,9 @@ impl Sessions {
         let Some(slot) = self.slots.get_mut(key) else {
             return;
         };
-        slot.set_stage(stage);
+        let before = slot.set_stage(stage);
+        forget(&mut self.numbers, before);
+        note(&mut self.numbers, client, stage);
     }
 
     /// The session of a client.
@@ -179,6 +198,14 @@ impl Sessions {
         };
         let slot = self.slots.get(key)?;
         Some(&slot.session)
+    }
+
+    /// The client whose transaction waits for the slow commit of this number.
+    pub fn deciding(&self, slow: u64) -> Option<u32>
+        ensures some { IfSome result (λ client. IsDeciding slow (session_of self.now client)) }
+        ensures none { IfNone result ((client : ℕ) → ¬ IsDeciding slow (session_of self.now client)) }
+    {
+        self.numbers.get(&slow).copied()
     }
 
     /// Whether some client's session is of the transaction.
@@ -218,6 +245,9 @@ impl Sessions {
         let Some(key) = self.keys.shift_remove(&client) else {
             return;
         };
-        self.slots.try_remove(key);
+        let Some(slot) = self.slots.try_remove(key) else {
+            return;
+        };
+        forget(&mut self.numbers, slot.session.stage);
     }
 }

@@ -34,11 +34,15 @@ impl Slot {
         self.session.updates.push_reserved(update);
     }
 
-    pub fn set_stage(&mut self, stage: Stage)
+    /// The stage becomes this one. The answer is the stage before.
+    pub fn set_stage(&mut self, stage: Stage) -> Stage
+        ensures before { result ≡ (kept_in self.old).session.stage }
         ensures client { self.new.client ≡ self.old.client }
         ensures session { (kept_in self.new).session ≡ with_stage stage (kept_in self.old).session }
         ensures room { (kept_in self.new).room ≡ (kept_in self.old).room }
     {
+        let before = self.session.stage;
         self.session.stage = stage;
+        before
     }
 }

@@ -52,7 +52,10 @@ fn updates_and_stages_are_of_their_client(rt: HostRuntime) -> Result<(), Fail> {
         Update::Write(OBJECT, Bytes::from_slice(rt.alloc(), b"a")?),
     )?;
     sessions.add(7, Update::Add(OBJECT, 3))?;
+    sessions.reserve_number()?;
+    assert_eq!(rt; sessions.deciding(4), None);
     sessions.set_stage(9, Stage::Deciding { slow: 4 });
+    assert_eq!(rt; sessions.deciding(4), Some(9));
     let mine = sessions.get(7).expect(&rt, "a session");
     assert_eq!(rt; mine.updates.len(), 2);
     assert_eq!(rt; mine.stage, Stage::Open);
@@ -65,6 +68,7 @@ fn updates_and_stages_are_of_their_client(rt: HostRuntime) -> Result<(), Fail> {
     };
     sessions.set_stage(7, Stage::Committed(version));
     sessions.set_stage(9, Stage::Aborted(Conflict::Dead));
+    assert_eq!(rt; sessions.deciding(4), None);
     let mine = sessions.get(7).expect(&rt, "a session");
     assert_eq!(rt; mine.stage, Stage::Committed(version));
     Ok(())
