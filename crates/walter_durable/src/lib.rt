@@ -5,6 +5,3 @@ mod copies;
 mod durable;
 
 pub use durable::Durable;
-
-#[cfg(test)]
-mod tests;

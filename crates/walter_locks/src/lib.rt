@@ -9,6 +9,3 @@ mod run;
 mod runs;
 
 pub use locks::Locks;
-
-#[cfg(test)]
-mod tests;

@@ -4,6 +4,3 @@
 mod spread;
 
 pub use spread::{Spread, WINDOW};
-
-#[cfg(test)]
-mod tests;

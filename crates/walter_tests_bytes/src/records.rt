@@ -1,7 +1,7 @@
-use walter_record::{decode, encode};
 use std::alloc::{AllocError, Global};
 use std::test::Fail;
 use walter_base::Record;
+use walter_record::{decode, encode};
 
 /// The first own commit of site 0, which writes `hello` to the object 1, 5.
 const HELLO: [u8; 118] = [

@@ -10,7 +10,13 @@ mod histories;
 #[cfg(test)]
 mod isolation;
 #[cfg(test)]
+mod locks;
+#[cfg(test)]
+mod marks;
+#[cfg(test)]
 mod overlays;
+#[cfg(test)]
+mod propagation;
 #[cfg(test)]
 mod sessions;
 #[cfg(test)]

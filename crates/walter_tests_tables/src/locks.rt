@@ -1,11 +1,11 @@
 ghost use Rattle.std.specs.Prelude.{◌≡◌, ◌<◌, length, All, None, IsTrue};
 ghost use Rattle.walter_locks.specs.Parts.{owner_of};
 
-use crate::Locks;
 use std::alloc::Global;
 use std::process::Abort;
 use std::test::Fail;
 use walter_base::{Mem, ObjId, Objects, SiteId, Tid};
+use walter_locks::Locks;
 
 const HOME: SiteId = SiteId(0);
 

@@ -1,10 +1,10 @@
 ghost use Rattle.std.specs.Prelude.{◌≡◌, ◌<◌, ◌≤◌, IfOk};
 ghost use Rattle.walter_base.specs.Vectors.{most_sites};
 
-use crate::Durable;
 use std::alloc::Global;
 use std::test::Fail;
 use walter_base::{Mem, SiteId, Sites};
+use walter_durable::Durable;
 
 /// Commits one more own commit, of objects that are preferred at the site.
 fn commit(table: &mut Durable, alloc: Global, preferred: u8) -> Mem<()>

@@ -1,8 +1,8 @@
 ghost use Rattle.std.specs.Prelude.{◌≡◌, ◌<◌, length};
 
-use crate::{Spread, WINDOW};
 use std::test::Fail;
 use walter_base::{Mem, SiteId, Vts};
+use walter_spread::{Spread, WINDOW};
 
 /// A vector of three sites.
 fn vector(first: u64, second: u64, third: u64) -> Vts {
