@@ -5,7 +5,7 @@ use Rattle.walter_base.specs.declared.packet.Packet.{Packet}
 use Rattle.walter_base.specs.declared.packet.Packet.TheVariants.{Propagate, Ack, Dsmark, Visible, Prepare, Vote, Release, Released}
 use Rattle.walter_fields.specs.Spellings.{number_spelled}
 use Rattle.walter_txcode.specs.Faults.{NoneBegins}
-use Rattle.walter_txcode.specs.Kinds.{IsOfKind}
+use Rattle.walter_txcode.specs.Kinds.{IsSuchOfKind}
 use Rattle.walter_txcode.specs.Spelling.{numbered_spelled, IsNumbered}
 use Rattle.walter_txcode.proofs.Joined.{IsNumber}
 use Rattle.walter_packet.specs.Fields.{fields_spelled, vote_spelled, prepare_spelled, IsVote, IsPrepare}
@@ -13,11 +13,11 @@ use Rattle.walter_packet.specs.Spelling.{HasPacketSpelling}
 use Rattle.walter_packet.proofs.Packets.{known_kind, spelled_transaction, spelled_prepare}
 
 abbrev pub NoFields : ℕ → ℕ → List ℕ → Type 0
-NoFields sites kind left = NoneBegins (IsOfKind (HasPacketSpelling sites) kind_of kind) fields_spelled left
+NoFields sites kind left = NoneBegins (IsSuchOfKind (HasPacketSpelling sites) kind_of kind) fields_spelled left
 
 -- the same, packet by packet
 abbrev NoPacket : ℕ → ℕ → List ℕ → Type 0
-NoPacket sites kind left = (p : Packet) (rest : List ℕ) → IsOfKind (HasPacketSpelling sites) kind_of kind p → left ≢ fields_spelled p ++ rest
+NoPacket sites kind left = (p : Packet) (rest : List ℕ) → IsSuchOfKind (HasPacketSpelling sites) kind_of kind p → left ≢ fields_spelled p ++ rest
 
 pub no_propagate : (sites kind : ℕ) (left : List ℕ) → kind ≡ 1 → NoneBegins (IsNumbered sites) numbered_spelled left → NoFields sites kind left
 no_propagate sites kind left is none = record { none = each }

@@ -14,7 +14,7 @@ use Rattle.walter_fields.proofs.Numbers.{length-number_spelled}
 use Rattle.walter_names.specs.Names.{object_spelled, tid_spelled, version_spelled, IsObject, IsTid, IsVersion}
 use Rattle.walter_names.proofs.Lengths.{length-object_spelled, length-tid_spelled, length-version_spelled}
 use Rattle.walter_txcode.specs.Faults.{NoneBegins}
-use Rattle.walter_txcode.specs.Kinds.{IsOfKind}
+use Rattle.walter_txcode.specs.Kinds.{IsSuchOfKind}
 use Rattle.walter_txcode.proofs.Joined.{IsPrefixFree, Both, both_spelled, free_both, free_names, free_versions, free_tids, free_numbers}
 use Rattle.walter_txcode.proofs.ByKind.{HasKinds, free_kinds}
 use Rattle.walter_packet.specs.Fields.{conflict_kind, conflict_fields, answer_kind, answer_fields, vote_spelled, IsVote, size_of_answer}
@@ -77,19 +77,19 @@ pub conflict_kinds : HasKinds IsConflict conflict_kind conflict_fields conflict_
 conflict_kinds = record { parts = conflict_parts; low = conflict_low; same = same_conflict }
 
 abbrev pub NoConflict : ℕ → List ℕ → Type 0
-NoConflict kind left = NoneBegins (IsOfKind IsConflict conflict_kind kind) conflict_fields left
+NoConflict kind left = NoneBegins (IsSuchOfKind IsConflict conflict_kind kind) conflict_fields left
 
 pub no_modified : (kind : ℕ) (left : List ℕ) → kind ≡ 1 → NoneBegins IsModified modified_spelled left → NoConflict kind left
 no_modified kind left is none = record { none = each }
   where
-    each : (x : Conflict) (rest : List ℕ) → IsOfKind IsConflict conflict_kind kind x → left ≢ conflict_fields x ++ rest
+    each : (x : Conflict) (rest : List ℕ) → IsSuchOfKind IsConflict conflict_kind kind x → left ≢ conflict_fields x ++ rest
     each (Modified oid version) rest of e = none.none (oid, version) rest of.1 e
     each x rest of e = omega (arith, is, of.0)
 
 pub no_locked : (kind : ℕ) (left : List ℕ) → kind ≡ 2 → NoneBegins IsLocked locked_spelled left → NoConflict kind left
 no_locked kind left is none = record { none = each }
   where
-    each : (x : Conflict) (rest : List ℕ) → IsOfKind IsConflict conflict_kind kind x → left ≢ conflict_fields x ++ rest
+    each : (x : Conflict) (rest : List ℕ) → IsSuchOfKind IsConflict conflict_kind kind x → left ≢ conflict_fields x ++ rest
     each (Locked oid owner) rest of e = none.none (oid, owner) rest of.1 e
     each x rest of e = omega (arith, is, of.0)
 
@@ -120,19 +120,19 @@ pub answer_kinds : HasKinds IsAnswer answer_kind answer_fields answer_spelled
 answer_kinds = record { parts = answer_parts; low = answer_low; same = same_answer }
 
 abbrev pub NoAnswer : ℕ → List ℕ → Type 0
-NoAnswer kind left = NoneBegins (IsOfKind IsAnswer answer_kind kind) answer_fields left
+NoAnswer kind left = NoneBegins (IsSuchOfKind IsAnswer answer_kind kind) answer_fields left
 
 pub no_refusal : (kind : ℕ) (left : List ℕ) → kind ≡ 0 → NoneBegins IsConflict conflict_spelled left → NoAnswer kind left
 no_refusal kind left is none = record { none = each }
   where
-    each : (x : Answer) (rest : List ℕ) → IsOfKind IsAnswer answer_kind kind x → left ≢ answer_fields x ++ rest
+    each : (x : Answer) (rest : List ℕ) → IsSuchOfKind IsAnswer answer_kind kind x → left ≢ answer_fields x ++ rest
     each (No conflict) rest of e = none.none conflict rest of.1 e
     each Yes rest of e = omega (arith, is, of.0)
 
 pub no_such_answer : (kind : ℕ) (left : List ℕ) → kind ≢ 0 → kind ≢ 1 → NoAnswer kind left
 no_such_answer kind left not_0 not_1 = record { none = each }
   where
-    each : (x : Answer) (rest : List ℕ) → IsOfKind IsAnswer answer_kind kind x → left ≢ answer_fields x ++ rest
+    each : (x : Answer) (rest : List ℕ) → IsSuchOfKind IsAnswer answer_kind kind x → left ≢ answer_fields x ++ rest
     each Yes rest of e = not_1 (sym of.0)
     each (No conflict) rest of e = not_0 (sym of.0)
 

@@ -4,7 +4,7 @@ ghost use Rattle.walter_fields.specs.Cursors.{Takes};
 ghost use Rattle.walter_packet.specs.Fields.{conflict_kind, conflict_fields, answer_kind, answer_fields, vote_spelled, IsVote, size_of_answer};
 ghost use Rattle.walter_packet.specs.Spelling.{conflict_spelled, answer_spelled, IsConflict, IsAnswer};
 ghost use Rattle.walter_txcode.specs.Faults.{IfUnspelled, NoneBegins};
-ghost use Rattle.walter_txcode.specs.Kinds.{IsOfKind};
+ghost use Rattle.walter_txcode.specs.Kinds.{IsSuchOfKind};
 
 use walter_base::{Answer, Conflict};
 use walter_fields::{Appender, Cursor};
@@ -14,9 +14,9 @@ use walter_txcode::DecodeFault;
 /// What stands behind the byte that tells a conflict.
 fn read_conflict_fields(cursor: &mut Cursor, kind: u8) -> Result<Conflict, DecodeFault>
     ensures taken { IfOk result (λ conflict. Takes cursor.old cursor.new (conflict_fields conflict)) }
-    ensures spelled { IfOk result (IsOfKind IsConflict conflict_kind kind) }
+    ensures spelled { IfOk result (IsSuchOfKind IsConflict conflict_kind kind) }
     ensures fault { IfErr result (λ fault. IfUnspelled fault
-        (NoneBegins (IsOfKind IsConflict conflict_kind kind) conflict_fields cursor.old.left)) }
+        (NoneBegins (IsSuchOfKind IsConflict conflict_kind kind) conflict_fields cursor.old.left)) }
 {
     match kind {
         1 => {
@@ -48,9 +48,9 @@ fn read_conflict(cursor: &mut Cursor) -> Result<Conflict, DecodeFault>
 /// What stands behind the byte that tells an answer.
 fn read_answer_fields(cursor: &mut Cursor, kind: u8) -> Result<Answer, DecodeFault>
     ensures taken { IfOk result (λ answer. Takes cursor.old cursor.new (answer_fields answer)) }
-    ensures spelled { IfOk result (IsOfKind IsAnswer answer_kind kind) }
+    ensures spelled { IfOk result (IsSuchOfKind IsAnswer answer_kind kind) }
     ensures fault { IfErr result (λ fault. IfUnspelled fault
-        (NoneBegins (IsOfKind IsAnswer answer_kind kind) answer_fields cursor.old.left)) }
+        (NoneBegins (IsSuchOfKind IsAnswer answer_kind kind) answer_fields cursor.old.left)) }
 {
     match kind {
         0 => {

@@ -6,7 +6,7 @@ ghost use Rattle.walter_fields.specs.Cursors.{Takes};
 ghost use Rattle.walter_packet.specs.Fields.{fields_spelled, prepare_spelled, IsPrepare};
 ghost use Rattle.walter_packet.specs.Spelling.{packet_spelled, HasPacketSpelling};
 ghost use Rattle.walter_txcode.specs.Faults.{IfUnspelled, NoneBegins};
-ghost use Rattle.walter_txcode.specs.Kinds.{IsOfKind};
+ghost use Rattle.walter_txcode.specs.Kinds.{IsSuchOfKind};
 
 use crate::answers::read_vote;
 use std::alloc::Global;
@@ -43,9 +43,9 @@ fn read_fields(
 ) -> Result<Packet, DecodeFault>
     requires { sites ≤ most_sites }
     ensures taken { IfOk result (λ packet. Takes cursor.old cursor.new (fields_spelled packet)) }
-    ensures spelled { IfOk result (IsOfKind (HasPacketSpelling sites) kind_of kind) }
+    ensures spelled { IfOk result (IsSuchOfKind (HasPacketSpelling sites) kind_of kind) }
     ensures fault { IfErr result (λ fault. IfUnspelled fault
-        (NoneBegins (IsOfKind (HasPacketSpelling sites) kind_of kind) fields_spelled cursor.old.left)) }
+        (NoneBegins (IsSuchOfKind (HasPacketSpelling sites) kind_of kind) fields_spelled cursor.old.left)) }
 {
     match kind {
         1 => {

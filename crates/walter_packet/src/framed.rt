@@ -18,9 +18,9 @@ pub struct Framed {
 }
 
 impl Model for Framed {
-    ghost use Rattle.walter_packet.specs.Framed.{Frame, SpellsPacket};
+    ghost use Rattle.walter_packet.specs.Framed.{FramedBytes, SpellsPacket};
 
-    ghost Value = { Frame };
+    ghost Value = { FramedBytes };
 
     ghost view = { λ f. record { sites = f.sites; bytes = f.bytes } };
 

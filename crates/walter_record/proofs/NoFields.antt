@@ -5,7 +5,7 @@ use Rattle.walter_base.specs.declared.message.Record.TheVariants.{Boot, Own, Got
 use Rattle.walter_fields.specs.Spellings.{number_spelled}
 use Rattle.walter_names.specs.Names.{version_spelled, IsVersion}
 use Rattle.walter_txcode.specs.Faults.{NoneBegins}
-use Rattle.walter_txcode.specs.Kinds.{IsOfKind}
+use Rattle.walter_txcode.specs.Kinds.{IsSuchOfKind}
 use Rattle.walter_txcode.specs.Spelling.{numbered_spelled, IsNumbered}
 use Rattle.walter_txcode.proofs.Joined.{IsNumber}
 use Rattle.walter_record.specs.Fields.{kind_of, fields_spelled, got_spelled, prepared_spelled, marks_spelled, IsGot, IsPrepared, AreMarks}
@@ -13,11 +13,11 @@ use Rattle.walter_record.specs.Spelling.{as_version, HasRecordSpelling}
 use Rattle.walter_record.proofs.Records.{IsEpoch, known_kind, spelled_transaction, spelled_slow, spelled_got, spelled_prepared}
 
 abbrev pub NoFields : ℕ → ℕ → List ℕ → Type 0
-NoFields sites kind left = NoneBegins (IsOfKind (HasRecordSpelling sites) kind_of kind) fields_spelled left
+NoFields sites kind left = NoneBegins (IsSuchOfKind (HasRecordSpelling sites) kind_of kind) fields_spelled left
 
 -- the same, record by record
 abbrev NoRecord : ℕ → ℕ → List ℕ → Type 0
-NoRecord sites kind left = (r : Record) (rest : List ℕ) → IsOfKind (HasRecordSpelling sites) kind_of kind r → left ≢ fields_spelled r ++ rest
+NoRecord sites kind left = (r : Record) (rest : List ℕ) → IsSuchOfKind (HasRecordSpelling sites) kind_of kind r → left ≢ fields_spelled r ++ rest
 
 pub no_boot : (sites kind : ℕ) (left : List ℕ) → kind ≡ 1 → NoneBegins IsEpoch (number_spelled 4) left → NoFields sites kind left
 no_boot sites kind left is none = record { none = each }

@@ -5,7 +5,7 @@ ghost use Rattle.walter_fields.specs.Cursors.{Takes};
 ghost use Rattle.walter_record.specs.Fields.{kind_of, fields_spelled, got_spelled, prepared_spelled, marks_spelled, IsGot, IsPrepared, AreMarks};
 ghost use Rattle.walter_record.specs.Spelling.{record_spelled, HasRecordSpelling};
 ghost use Rattle.walter_txcode.specs.Faults.{IfUnspelled, NoneBegins};
-ghost use Rattle.walter_txcode.specs.Kinds.{IsOfKind};
+ghost use Rattle.walter_txcode.specs.Kinds.{IsSuchOfKind};
 
 use std::alloc::Global;
 use walter_base::{Mem, NoMemory, Objects, Record, Tid, Tx, Version};
@@ -63,9 +63,9 @@ fn read_fields(
 ) -> Result<Record, DecodeFault>
     requires { sites ≤ most_sites }
     ensures taken { IfOk result (λ r. Takes cursor.old cursor.new (fields_spelled r)) }
-    ensures spelled { IfOk result (IsOfKind (HasRecordSpelling sites) kind_of kind) }
+    ensures spelled { IfOk result (IsSuchOfKind (HasRecordSpelling sites) kind_of kind) }
     ensures fault { IfErr result (λ fault. IfUnspelled fault
-        (NoneBegins (IsOfKind (HasRecordSpelling sites) kind_of kind) fields_spelled cursor.old.left)) }
+        (NoneBegins (IsSuchOfKind (HasRecordSpelling sites) kind_of kind) fields_spelled cursor.old.left)) }
 {
     match kind {
         1 => {

@@ -6,18 +6,18 @@ use Rattle.walter_base.specs.ByClient.{changed, without}
 use Rattle.walter_base.proofs.ByClient.{lookup-changed, lookup-changed_into, lookup-without, lookup-behind}
 use Rattle.walter_session.specs.declared.session.Stage.{Stage}
 use Rattle.walter_session.specs.declared.session.Stage.TheVariants.{Open, Deciding, Committed, Aborted}
-use Rattle.walter_session.specs.Sessions.{SessionView, Table, sessions_of, session_of, started, with_stage, IsDeciding, waits_for, AreNumbered, unnumbered, noted}
+use Rattle.walter_session.specs.Sessions.{SessionView, Table, sessions_of, session_of, started, with_stage, IsDeciding, names_number, AreNumbered, unnumbered, noted}
 
-waits-true : (stage : Stage) (slow : ℕ) → waits_for stage slow ≡ true → stage ≡ Deciding slow
+waits-true : (stage : Stage) (slow : ℕ) → names_number stage slow ≡ true → stage ≡ Deciding slow
 waits-true Open slow is = absurd (cc)
 waits-true (Deciding number) slow is = ap (λ (n : ℕ). Deciding n) (eqb-true number slow is)
 waits-true (Committed version) slow is = absurd (cc)
 waits-true (Aborted conflict) slow is = absurd (cc)
 
-waits-is : (stage : Stage) (slow : ℕ) → stage ≡ Deciding slow → waits_for stage slow ≡ true
-waits-is stage slow is = ap (λ (s : Stage). waits_for s slow) is ∙ eq-eqb slow slow refl
+waits-is : (stage : Stage) (slow : ℕ) → stage ≡ Deciding slow → names_number stage slow ≡ true
+waits-is stage slow is = ap (λ (s : Stage). names_number s slow) is ∙ eq-eqb slow slow refl
 
-waits-not : (stage : Stage) (slow : ℕ) → waits_for stage slow ≡ false → stage ≡ Deciding slow → ⊥
+waits-not : (stage : Stage) (slow : ℕ) → names_number stage slow ≡ false → stage ≡ Deciding slow → ⊥
 waits-not stage slow differs is = let yes = waits-is stage slow is in absurd (cc)
 
 one_client : (client other : ℕ) (found : Option ℕ) → found ≡ Some client → found ≡ Some other → client ≡ other
@@ -83,13 +83,13 @@ pub numbered_staged : (found left now : ℕ → Option ℕ) (old new : Table) (c
 numbered_staged found left now old new client s after had is_changed leaves comes apart are slow other =
     subst (λ (o : Option SessionView). (now slow ≡ Some other) ↔ IsDeciding slow o) (sym here)
     (subst (λ (v : Option ℕ). (v ≡ Some other) ↔ IsDeciding slow (if nat_eq client other then Some (with_stage after s) else session_of old other)) (sym under)
-    (by (nat_eq client other) refl (waits_for after slow) refl (waits_for s.stage slow) refl))
+    (by (nat_eq client other) refl (names_number after slow) refl (names_number s.stage slow) refl))
   where
     here : session_of new other ≡ (if nat_eq client other then Some (with_stage after s) else session_of old other)
     here = ap (lookup (nat_eq other)) is_changed ∙ lookup-changed_into client other (with_stage after) (with_stage after s) (sessions_of old) (ap (option_map (with_stage after)) had)
 
-    under : now slow ≡ (if waits_for after slow then Some client else if waits_for s.stage slow then None else found slow)
-    under = comes slow ∙ ap (λ (v : Option ℕ). if waits_for after slow then Some client else v) (leaves slow)
+    under : now slow ≡ (if names_number after slow then Some client else if names_number s.stage slow then None else found slow)
+    under = comes slow ∙ ap (λ (v : Option ℕ). if names_number after slow then Some client else v) (leaves slow)
 
     -- the client's own session, where it is found
     own : nat_eq client other ≡ true → IsDeciding slow (session_of old other) → s.stage ≡ Deciding slow
@@ -98,7 +98,7 @@ numbered_staged found left now old new client s after had is_changed leaves come
     mine : s.stage ≡ Deciding slow → found slow ≡ Some client
     mine is = (are slow client).1 (subst (IsDeciding slow) (sym had) is)
 
-    by : (b : Bool) → nat_eq client other ≡ b → (a : Bool) → waits_for after slow ≡ a → (d : Bool) → waits_for s.stage slow ≡ d
+    by : (b : Bool) → nat_eq client other ≡ b → (a : Bool) → names_number after slow ≡ a → (d : Bool) → names_number s.stage slow ≡ d
         → ((if a then Some client else if d then None else found slow) ≡ Some other) ↔ IsDeciding slow (if b then Some (with_stage after s) else session_of old other)
     by true is true comes_ d leaves_ = (λ e. waits-true after slow comes_, λ waits. ap (λ (n : ℕ). Some n) (eqb-true client other is))
     by true is false comes_ true leaves_ = (λ e. absurd (cc), λ waits. absurd (waits-not after slow comes_ waits))
@@ -117,7 +117,7 @@ pub numbered_without : (found now : ℕ → Option ℕ) (old new : Table) (clien
 numbered_without found now old new client s had ends leaves are slow other =
     subst (λ (o : Option SessionView). (now slow ≡ Some other) ↔ IsDeciding slow o) (sym here)
     (subst (λ (v : Option ℕ). (v ≡ Some other) ↔ IsDeciding slow (if nat_eq client other then None else session_of old other)) (sym (leaves slow))
-    (by (nat_eq client other) refl (waits_for s.stage slow) refl))
+    (by (nat_eq client other) refl (names_number s.stage slow) refl))
   where
     here : session_of new other ≡ (if nat_eq client other then None else session_of old other)
     here = ap (lookup (nat_eq other)) ends ∙ lookup-without client other (sessions_of old)
@@ -128,7 +128,7 @@ numbered_without found now old new client s had ends leaves are slow other =
     mine : s.stage ≡ Deciding slow → found slow ≡ Some client
     mine is = (are slow client).1 (subst (IsDeciding slow) (sym had) is)
 
-    by : (b : Bool) → nat_eq client other ≡ b → (d : Bool) → waits_for s.stage slow ≡ d
+    by : (b : Bool) → nat_eq client other ≡ b → (d : Bool) → names_number s.stage slow ≡ d
         → ((if d then None else found slow) ≡ Some other) ↔ IsDeciding slow (if b then None else session_of old other)
     by true is true leaves_ = (λ e. absurd (cc), λ waits. absurd waits)
     by true is false leaves_ = (λ e. absurd (waits-not s.stage slow leaves_ (own is ((are slow other).0 e))), λ waits. absurd waits)

@@ -67,9 +67,9 @@ IsDeciding slow None = ⊥
 IsDeciding slow (Some s) = s.stage ≡ Deciding slow
 
 -- whether a stage waits for the slow commit of this number
-abbrev pub waits_for : Stage → ℕ → Bool
-waits_for (Deciding number) slow = nat_eq number slow
-waits_for stage slow = false
+abbrev pub names_number : Stage → ℕ → Bool
+names_number (Deciding number) slow = nat_eq number slow
+names_number stage slow = false
 
 -- a stage takes a number that no other client's session waits for, and there is room for it
 pub record CanStage (table : Table) (client : ℕ) (stage : Stage) : Type 0 where
@@ -114,8 +114,8 @@ AreNumbered found table = (slow client : ℕ) → (found slow ≡ Some client) �
 
 -- what is found under each number where a session of this stage ends, or leaves the stage
 abbrev pub unnumbered : Stage → (ℕ → Option ℕ) → ℕ → Option ℕ
-unnumbered before found slow = if waits_for before slow then None else found slow
+unnumbered before found slow = if names_number before slow then None else found slow
 
 -- and where a client's session comes to it
 abbrev pub noted : Stage → ℕ → (ℕ → Option ℕ) → ℕ → Option ℕ
-noted after client found slow = if waits_for after slow then Some client else found slow
+noted after client found slow = if names_number after slow then Some client else found slow

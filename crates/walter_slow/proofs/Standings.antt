@@ -12,17 +12,17 @@ use Rattle.walter_base.specs.declared.names.SiteId.{SiteId}
 use Rattle.walter_base.specs.declared.packet.Answer.TheVariants.{Yes, No}
 use Rattle.walter_base.specs.declared.transaction.Conflict.{Conflict}
 use Rattle.walter_base.specs.declared.transaction.Tx.{Tx}
-use Rattle.walter_slow.specs.Deciding.{Table, CanBegin, Standing, Asking, asking_in, dropped_in, unconfirmed, heard_yes, heard_released, ended, with_vote, with_confirmed}
+use Rattle.walter_slow.specs.Deciding.{Table, CanBegin, SlowCommit, Asking, asking_in, dropped_in, unconfirmed, heard_yes, heard_released, ended, with_vote, with_confirmed}
 
 -- what is kept under the number is changed so, and what is kept under each other stays
-pub record Changes (old new : List (ℕ × Standing)) (slow : ℕ) (f : Standing → Standing) : Type 0 where
+pub record Changes (old new : List (ℕ × SlowCommit)) (slow : ℕ) (f : SlowCommit → SlowCommit) : Type 0 where
   pub at : (n : ℕ) → lookup (nat_eq n) new ≡ (if nat_eq slow n then option_map f (lookup (nat_eq n) old) else lookup (nat_eq n) old)
 
-pub from_view : (commits old new : List (ℕ × Standing)) {slow : ℕ} {f : Standing → Standing} → commits ≡ old → Changes commits new slow f → Changes old new slow f
+pub from_view : (commits old new : List (ℕ × SlowCommit)) {slow : ℕ} {f : SlowCommit → SlowCommit} → commits ≡ old → Changes commits new slow f → Changes old new slow f
 from_view commits old new {slow} {f} is changes = subst (λ es. Changes es new slow f) is changes
 
 -- by a write through what a look-up lends
-pub lent_changes : {S : Type 0} (before after : IndexMap ℕ Standing S) (slow : ℕ) (f : Standing → Standing) (was now : Standing)
+pub lent_changes : {S : Type 0} (before after : IndexMap ℕ SlowCommit S) (slow : ℕ) (f : SlowCommit → SlowCommit) (was now : SlowCommit)
     → Some was ≡ lookup (nat_eq slow) before.entries → now ≡ f was → WritesThrough nat_eq (nat_eq slow) before now after
     → Changes before.entries after.entries slow f
 lent_changes before after slow f was now is here writes = record {
@@ -33,7 +33,7 @@ lent_changes before after slow f was now is here writes = record {
 }
 
 -- where nothing is kept under the number, nothing changes
-pub none_changes : {S : Type 0} (before after : IndexMap ℕ Standing S) (slow : ℕ) (f : Standing → Standing) → after ≡ before → lookup (nat_eq slow) before.entries ≡ None
+pub none_changes : {S : Type 0} (before after : IndexMap ℕ SlowCommit S) (slow : ℕ) (f : SlowCommit → SlowCommit) → after ≡ before → lookup (nat_eq slow) before.entries ≡ None
     → Changes before.entries after.entries slow f
 none_changes before after slow f same none = record {
   at = λ n. ap (λ m. lookup (nat_eq n) m.entries) same ∙ (elim (nat_eq slow n) as (λ b. nat_eq slow n ≡ b → lookup (nat_eq n) before.entries ≡ (if b then option_map f (lookup (nat_eq n) before.entries) else lookup (nat_eq n) before.entries)) [
@@ -42,13 +42,13 @@ none_changes before after slow f same none = record {
   ] refl);
 }
 
-module _ (old new : List (ℕ × Standing)) (slow : ℕ) (f : Standing → Standing) (changes : Changes old new slow f) where
+module _ (old new : List (ℕ × SlowCommit)) (slow : ℕ) (f : SlowCommit → SlowCommit) (changes : Changes old new slow f) where
   -- a part of what is kept changes by F
-  part_changes : {X : Type 0} (part : Standing → Option X) (F : X → X) → ((s : Standing) → part (f s) ≡ option_map F (part s))
+  part_changes : {X : Type 0} (part : SlowCommit → Option X) (F : X → X) → ((s : SlowCommit) → part (f s) ≡ option_map F (part s))
       → (n : ℕ) → option_and_then part (lookup (nat_eq n) new) ≡ (if nat_eq slow n then option_map F (option_and_then part (lookup (nat_eq n) old)) else option_and_then part (lookup (nat_eq n) old))
   part_changes part F given n = ap (option_and_then part) (changes.at n) ∙ by (nat_eq slow n)
     where
-      inside : (o : Option Standing) → option_and_then part (option_map f o) ≡ option_map F (option_and_then part o)
+      inside : (o : Option SlowCommit) → option_and_then part (option_map f o) ≡ option_map F (option_and_then part o)
       inside None = refl
       inside (Some s) = given s
 
@@ -58,11 +58,11 @@ module _ (old new : List (ℕ × Standing)) (slow : ℕ) (f : Standing → Stand
       by false = refl
 
   -- a part that f leaves stays
-  part_stays : {X : Type 0} (part : Standing → Option X) → ((s : Standing) → part (f s) ≡ part s)
+  part_stays : {X : Type 0} (part : SlowCommit → Option X) → ((s : SlowCommit) → part (f s) ≡ part s)
       → (n : ℕ) → option_and_then part (lookup (nat_eq n) new) ≡ option_and_then part (lookup (nat_eq n) old)
   part_stays part given n = ap (option_and_then part) (changes.at n) ∙ by (nat_eq slow n)
     where
-      inside : (o : Option Standing) → option_and_then part (option_map f o) ≡ option_and_then part o
+      inside : (o : Option SlowCommit) → option_and_then part (option_map f o) ≡ option_and_then part o
       inside None = refl
       inside (Some s) = given s
 
@@ -92,7 +92,7 @@ released_dropped : (from : SiteId) (participants heard : List SiteId) (tx : Opti
 released_dropped from participants heard None = refl
 released_dropped from participants heard (Some tx) = refl
 
-module _ (old new : List (ℕ × Standing)) (slow : ℕ) (from : SiteId) where
+module _ (old new : List (ℕ × SlowCommit)) (slow : ℕ) (from : SiteId) where
   pub asking_voted : Changes old new slow (heard_yes from)
       → (n : ℕ) → option_and_then asking_in (lookup (nat_eq n) new) ≡ (if nat_eq slow n then option_map (with_vote from Yes) (option_and_then asking_in (lookup (nat_eq n) old)) else option_and_then asking_in (lookup (nat_eq n) old))
   asking_voted changes = part_changes old new slow (heard_yes from) changes asking_in (with_vote from Yes) (λ s. yes_asking from s.participants s.heard s.tx)
@@ -114,15 +114,15 @@ no_vote from conflict true (Some a) = refl
 no_vote from conflict false o = refl
 
 -- one that ended isn't being decided, and was confirmed by nobody
-pub ended_asking : (o : Option Standing) → option_and_then asking_in (option_map ended o) ≡ None
+pub ended_asking : (o : Option SlowCommit) → option_and_then asking_in (option_map ended o) ≡ None
 ended_asking None = refl
 ended_asking (Some s) = refl
 
-pub ended_dropped : (o : Option Standing) → option_and_then dropped_in (option_map ended o) ≡ option_map unconfirmed (option_map (λ s. s.participants) o)
+pub ended_dropped : (o : Option SlowCommit) → option_and_then dropped_in (option_map ended o) ≡ option_map unconfirmed (option_map (λ s. s.participants) o)
 ended_dropped None = refl
 ended_dropped (Some s) = refl
 
-module _ (old new : List (ℕ × Standing)) (slow : ℕ) (changes : Changes old new slow ended) (n : ℕ) where
+module _ (old new : List (ℕ × SlowCommit)) (slow : ℕ) (changes : Changes old new slow ended) (n : ℕ) where
   pub asking_ended : option_and_then asking_in (lookup (nat_eq n) new) ≡ (if nat_eq slow n then None else option_and_then asking_in (lookup (nat_eq n) old))
   asking_ended = ap (option_and_then asking_in) (changes.at n) ∙ by (nat_eq slow n)
     where
@@ -139,7 +139,7 @@ module _ (old new : List (ℕ × Standing)) (slow : ℕ) (changes : Changes old 
       by false = refl
 
 -- what is put under a number, or taken out
-pub put_part : {X : Type 0} (part : Standing → Option X) (old new : List (ℕ × Standing)) (slow : ℕ) (now : Option Standing)
+pub put_part : {X : Type 0} (part : SlowCommit → Option X) (old new : List (ℕ × SlowCommit)) (slow : ℕ) (now : Option SlowCommit)
     → ((n : ℕ) → lookup (nat_eq n) new ≡ cond (nat_eq slow n) now (lookup (nat_eq n) old))
     → (n : ℕ) → option_and_then part (lookup (nat_eq n) new) ≡ (if nat_eq slow n then option_and_then part now else option_and_then part (lookup (nat_eq n) old))
 put_part part old new slow now given n = ap (option_and_then part) (given n) ∙ by (nat_eq slow n)
@@ -149,7 +149,7 @@ put_part part old new slow now given n = ap (option_and_then part) (given n) ∙
     by false = refl
 
 -- where neither what was there nor what is there now has the part, it stays
-pub put_nothing : {X : Type 0} (part : Standing → Option X) (old new : List (ℕ × Standing)) (slow : ℕ) (now : Option Standing)
+pub put_nothing : {X : Type 0} (part : SlowCommit → Option X) (old new : List (ℕ × SlowCommit)) (slow : ℕ) (now : Option SlowCommit)
     → ((n : ℕ) → lookup (nat_eq n) new ≡ cond (nat_eq slow n) now (lookup (nat_eq n) old))
     → option_and_then part now ≡ None → option_and_then part (lookup (nat_eq slow) old) ≡ None
     → (n : ℕ) → option_and_then part (lookup (nat_eq n) new) ≡ option_and_then part (lookup (nat_eq n) old)
@@ -173,7 +173,7 @@ any_more numbers place n within =
     ∙ ap (λ o. list_any (nat_eq n) (take place numbers) || option_map_or (nat_eq n) o false) (sym (slice_get-get_or numbers place 0 within))
 
 -- nothing is kept under a number that is none of these
-pub none_kept : (es : List (ℕ × Standing)) (n : ℕ) → list_any (nat_eq n) (map (λ e. e.0) es) ≡ false → lookup (nat_eq n) es ≡ None
+pub none_kept : (es : List (ℕ × SlowCommit)) (n : ℕ) → list_any (nat_eq n) (map (λ e. e.0) es) ≡ false → lookup (nat_eq n) es ≡ None
 none_kept [] n none = refl
 none_kept (e ∷ es) n none = elim (nat_eq n e.0) as (λ b. (b || list_any (nat_eq n) (map (λ e. e.0) es)) ≡ false → cond b (Some e.1) (lookup (nat_eq n) es) ≡ None) [
   | true ↦ λ none. absurd (cc)
@@ -181,18 +181,18 @@ none_kept (e ∷ es) n none = elim (nat_eq n e.0) as (λ b. (b || list_any (nat_
 ] none
 
 -- one that ended twice
-twice : (o : Option Standing) → option_map ended (option_map ended o) ≡ option_map ended o
+twice : (o : Option SlowCommit) → option_map ended (option_map ended o) ≡ option_map ended o
 twice None = refl
 twice (Some s) = refl
 
-pub ended_more : (some here : Bool) (o : Option Standing) → (if here then option_map ended (if some then option_map ended o else o) else (if some then option_map ended o else o)) ≡ (if some || here then option_map ended o else o)
+pub ended_more : (some here : Bool) (o : Option SlowCommit) → (if here then option_map ended (if some then option_map ended o else o) else (if some then option_map ended o else o)) ≡ (if some || here then option_map ended o else o)
 ended_more true true o = twice o
 ended_more true false o = refl
 ended_more false true o = refl
 ended_more false false o = refl
 
 -- after a boot
-pub booted : {X : Type 0} (part : Standing → Option X) (after : Option X) (some : Bool) (o : Option Standing) → (some ≡ false → o ≡ None)
+pub booted : {X : Type 0} (part : SlowCommit → Option X) (after : Option X) (some : Bool) (o : Option SlowCommit) → (some ≡ false → o ≡ None)
     → option_and_then part (option_map ended o) ≡ after → option_and_then part (if some then option_map ended o else o) ≡ after
 booted part after true o none is = is
-booted part after false o none is = ap (option_and_then part) (none refl) ∙ sym (ap (λ (x : Option Standing). option_and_then part (option_map ended x)) (none refl)) ∙ is
+booted part after false o none is = ap (option_and_then part) (none refl) ∙ sym (ap (λ (x : Option SlowCommit). option_and_then part (option_map ended x)) (none refl)) ∙ is

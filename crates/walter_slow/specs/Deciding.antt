@@ -27,7 +27,7 @@ pub record Dropped : Type 0 where
 
 -- a slow commit as it is kept: its transaction as long as it is being decided, the sites that are asked, and those that
 -- were heard: that said YES, or after the end have confirmed the RELEASE
-pub record Standing : Type 0 where
+pub record SlowCommit : Type 0 where
   pub tx : Option Tx
   pub participants : List SiteId
   pub heard : List SiteId
@@ -36,7 +36,7 @@ pub record Standing : Type 0 where
 -- how many participants, there is room without memory
 pub record Table : Type 0 where
   pub last : ℕ
-  pub commits : List (ℕ × Standing)
+  pub commits : List (ℕ × SlowCommit)
   pub places : ℕ
   pub seats : ℕ
 
@@ -44,26 +44,26 @@ pub record Table : Type 0 where
 abbrev pub CanBegin : Table → ℕ → Type 0
 CanBegin table participants = (0 < table.places) × (participants ≤ table.seats)
 
-abbrev pub standing_of : Table → ℕ → Option Standing
-standing_of table slow = lookup (nat_eq slow) table.commits
+abbrev pub commit_of : Table → ℕ → Option SlowCommit
+commit_of table slow = lookup (nat_eq slow) table.commits
 
 -- what is kept, as one that is being decided
-abbrev pub asking_in : Standing → Option Asking
+abbrev pub asking_in : SlowCommit → Option Asking
 asking_in s = option_map (λ tx. record { tx = tx; participants = s.participants; yes = s.heard }) s.tx
 
 -- and as one that ended without a commit
-abbrev pub dropped_in : Standing → Option Dropped
+abbrev pub dropped_in : SlowCommit → Option Dropped
 dropped_in s = if is_some s.tx then None else Some (record { participants = s.participants; confirmed = s.heard })
 
 abbrev pub asking_of : Table → ℕ → Option Asking
-asking_of table slow = option_and_then asking_in (standing_of table slow)
+asking_of table slow = option_and_then asking_in (commit_of table slow)
 
 abbrev pub dropped_of : Table → ℕ → Option Dropped
-dropped_of table slow = option_and_then dropped_in (standing_of table slow)
+dropped_of table slow = option_and_then dropped_in (commit_of table slow)
 
 -- the sites that a slow commit asked
 abbrev pub participants_of : Table → ℕ → Option (List SiteId)
-participants_of table slow = option_map (λ s. s.participants) (standing_of table slow)
+participants_of table slow = option_map (λ s. s.participants) (commit_of table slow)
 
 -- one that ended, of which no site has confirmed the RELEASE
 abbrev pub unconfirmed : List SiteId → Dropped
@@ -112,11 +112,11 @@ RiseBetween first last [] = first ≤ last
 RiseBetween first last (n ∷ ns) = (first < n) × RiseBetween n last ns
 
 -- what is kept, once a YES is heard; a RELEASED; and once it ended without a commit
-abbrev pub heard_yes : SiteId → Standing → Standing
+abbrev pub heard_yes : SiteId → SlowCommit → SlowCommit
 heard_yes from s = if is_some s.tx then record s { heard = with_heard from s.participants s.heard } else s
 
-abbrev pub heard_released : SiteId → Standing → Standing
+abbrev pub heard_released : SiteId → SlowCommit → SlowCommit
 heard_released from s = if is_some s.tx then s else record s { heard = with_heard from s.participants s.heard }
 
-abbrev pub ended : Standing → Standing
+abbrev pub ended : SlowCommit → SlowCommit
 ended s = record { tx = None; participants = s.participants; heard = [] }

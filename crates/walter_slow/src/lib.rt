@@ -3,7 +3,7 @@
 
 mod sites;
 mod slow;
-mod standing;
+mod slow_commit;
 mod verdict;
 
 pub use slow::SlowCommits;

@@ -1,8 +1,8 @@
 ghost use Rattle.std.specs.Prelude.{◌≡◌, ◌<◌, ◌≤◌, ◌+◌, [], ℕ, nat_eq, length, slice_get, Some, None, IsSome, IsOk, OnOk, OnErr, option_map, if◌then◌else◌};
 ghost use Rattle.std.specs.Option.{option_copied};
-ghost use Rattle.walter_slow.specs.Deciding.{asking_of, dropped_of, standing_of, participants_of, numbers_of, is_number_at, unconfirmed, verdict_of, with_vote, with_confirmed, heard_yes, ended, waits_for, owes, CanBegin, RiseBetween};
+ghost use Rattle.walter_slow.specs.Deciding.{asking_of, dropped_of, commit_of, participants_of, numbers_of, is_number_at, unconfirmed, verdict_of, with_vote, with_confirmed, heard_yes, ended, waits_for, owes, CanBegin, RiseBetween};
 
-use crate::standing::Standing;
+use crate::slow_commit::SlowCommit;
 use crate::verdict::Verdict;
 use indexmap::IndexMap;
 use std::alloc::Global;
@@ -16,7 +16,7 @@ use walter_base::{Answer, Mem, SiteId, Sites, Tx};
 pub struct SlowCommits {
     alloc: Global,
     last: u64,
-    commits: IndexMap<u64, Standing>,
+    commits: IndexMap<u64, SlowCommit>,
     seats: Vec<SiteId>,
 }
 
@@ -111,7 +111,7 @@ impl SlowCommits {
         let heard = mem::replace(&mut self.seats, Vec::new(self.alloc));
         self.last = slow;
         self.commits
-            .insert(slow, Standing::new(tx, participants, heard))
+            .insert(slow, SlowCommit::new(tx, participants, heard))
             .unwrap();
     }
 
@@ -154,8 +154,8 @@ impl SlowCommits {
 
     fn hear_yes(&mut self, from: SiteId, slow: u64)
         ensures last { self.new.last ≡ self.old.last }
-        ensures standing { (n : ℕ) → standing_of self.new n
-            ≡ (if nat_eq slow n then option_map (heard_yes from) (standing_of self.old n) else standing_of self.old n) }
+        ensures standing { (n : ℕ) → commit_of self.new n
+            ≡ (if nat_eq slow n then option_map (heard_yes from) (commit_of self.old n) else commit_of self.old n) }
         ensures room { (k : ℕ) → CanBegin self.old k → CanBegin self.new k }
     {
         let Some(standing) = self.commits.get_mut(&slow) else {
@@ -190,8 +190,8 @@ impl SlowCommits {
     fn end(&mut self, slow: u64)
         ensures last { self.new.last ≡ self.old.last }
         ensures numbers { numbers_of self.new ≡ numbers_of self.old }
-        ensures standing { (n : ℕ) → standing_of self.new n
-            ≡ (if nat_eq slow n then option_map ended (standing_of self.old n) else standing_of self.old n) }
+        ensures standing { (n : ℕ) → commit_of self.new n
+            ≡ (if nat_eq slow n then option_map ended (commit_of self.old n) else commit_of self.old n) }
         ensures room { (k : ℕ) → CanBegin self.old k → CanBegin self.new k }
     {
         let Some(standing) = self.commits.get_mut(&slow) else {
@@ -216,9 +216,9 @@ impl SlowCommits {
     fn end_at(&mut self, place: usize)
         ensures last { self.new.last ≡ self.old.last }
         ensures numbers { numbers_of self.new ≡ numbers_of self.old }
-        ensures standing { (n : ℕ) → standing_of self.new n
-            ≡ (if is_number_at self.old place n then option_map ended (standing_of self.old n)
-            else standing_of self.old n) }
+        ensures standing { (n : ℕ) → commit_of self.new n
+            ≡ (if is_number_at self.old place n then option_map ended (commit_of self.old n)
+            else commit_of self.old n) }
         ensures room { (k : ℕ) → CanBegin self.old k → CanBegin self.new k }
     {
         let Some(slow) = self.number_at(place) else {

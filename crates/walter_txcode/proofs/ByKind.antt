@@ -6,7 +6,7 @@ use Rattle.walter_fields.specs.Spellings.{number_spelled}
 use Rattle.walter_fields.proofs.Numbers.{length-number_spelled, same_number}
 use Rattle.walter_fields.proofs.Readings.{Takes-then}
 use Rattle.walter_txcode.specs.Faults.{NoneBegins}
-use Rattle.walter_txcode.specs.Kinds.{IsOfKind}
+use Rattle.walter_txcode.specs.Kinds.{IsSuchOfKind}
 use Rattle.walter_txcode.proofs.Joined.{IsPrefixFree}
 
 pub record HasKinds {R : Type 0} (IsSuch : R → Type 0) (kind_of : R → ℕ) (fields spelled : R → List ℕ) : Type 0 where
@@ -33,7 +33,7 @@ no_kind {kind_of = kind_of} {fields = fields} kinds few = record {
 
 -- nor behind the byte of a kind without its fields
 pub no_fields : {R : Type 0} {IsSuch : R → Type 0} {kind_of : R → ℕ} {fields spelled : R → List ℕ} → HasKinds IsSuch kind_of fields spelled → {left mid : List ℕ} (kind : ℕ) → kind < 256
-    → left ≡ number_spelled 1 kind ++ mid → NoneBegins (IsOfKind IsSuch kind_of kind) fields mid → NoneBegins IsSuch spelled left
+    → left ≡ number_spelled 1 kind ++ mid → NoneBegins (IsSuchOfKind IsSuch kind_of kind) fields mid → NoneBegins IsSuch spelled left
 no_fields {kind_of = kind_of} {fields = fields} kinds {mid = mid} kind low front none = record {
   none = λ r rest is e.
       let behind = same_number 1 kind (kind_of r) mid (fields r ++ rest) (omega (arith, low)) (omega (arith, kinds.low r)) (sym front ∙ e ∙ behind_kind kinds r rest) in

@@ -2,5 +2,5 @@
 use Rattle.std.specs.Prelude.{◌≡◌, ℕ}
 
 -- such a value, of this kind
-abbrev pub IsOfKind : {R : Type 0} → (R → Type 0) → (R → ℕ) → ℕ → R → Type 0
-IsOfKind IsSuch kind_of kind value = (kind_of value ≡ kind) × IsSuch value
+abbrev pub IsSuchOfKind : {R : Type 0} → (R → Type 0) → (R → ℕ) → ℕ → R → Type 0
+IsSuchOfKind IsSuch kind_of kind value = (kind_of value ≡ kind) × IsSuch value

@@ -4,7 +4,7 @@ use Rattle.std.specs.Map.{keys_of}
 use Rattle.std.proofs.lemmas.List.{map-append}
 use Rattle.indexmap.specs.IndexMap.{spare}
 use Rattle.indexmap.proofs.CallerLemmas.{insert_entry-new}
-use Rattle.walter_slow.specs.Deciding.{Table, Standing, RiseBetween, dropped_in, dropped_of}
+use Rattle.walter_slow.specs.Deciding.{Table, SlowCommit, RiseBetween, dropped_in, dropped_of}
 use Rattle.walter_slow.proofs.Numbers.{rise_next, none_past}
 use Rattle.walter_slow.proofs.Standings.{put_nothing, from_ok}
 use Rattle.walter_slow.proofs.slow.SlowCommits.put.Goals as goal
@@ -18,7 +18,7 @@ invariant_of-self c =
     let places : 0 < spare s.commits = omega (arith, c.requires.room.0, room) in
     let absent = none_past 0 s.last slow s.commits.entries c.self.invariant.0 (omega (arith, next)) in
     let all = from_ok c.insert.result _ (c.insert.ensures.succeeds places) c.insert.ensures.entries ∙ insert_entry-new nat_eq s.commits slow c.new-2.result absent in
-    let keys = ap keys_of all ∙ map-append (λ (e : ℕ × Standing). e.0) s.commits.entries ((slow, c.new-2.result) ∷ []) in (
+    let keys = ap keys_of all ∙ map-append (λ (e : ℕ × SlowCommit). e.0) s.commits.entries ((slow, c.new-2.result) ∷ []) in (
       subst (RiseBetween 0 slow) (sym keys) (subst (λ n. RiseBetween 0 n (keys_of s.commits.entries ++ n ∷ [])) (sym next) (rise_next 0 s.last (keys_of s.commits.entries) c.self.invariant.0)),
       ap (λ v. v.items) c.replace-heard.ensures.after ∙ c.new.ensures.items,
     )

@@ -11,32 +11,32 @@ use walter_base::{Answer, Conflict, SiteId, Sites, Tx};
 
 /// A slow commit. It has a transaction as long as it is being decided. There is room to hear each site that it asks.
 #[derive(Debug, Drop)]
-pub struct Standing {
+pub struct SlowCommit {
     tx: Option<Tx>,
     participants: Sites,
     heard: Vec<SiteId>,
 }
 
-impl Model for Standing {
+impl Model for SlowCommit {
     ghost use Rattle.std.specs.Prelude.{vec_capacity};
     ghost use Rattle.walter_slow.specs.Sites.{HasRoom};
-    ghost use Rattle.walter_slow.specs.Deciding.{Standing};
+    ghost use Rattle.walter_slow.specs.Deciding.{SlowCommit};
 
-    ghost Value = { Standing };
+    ghost Value = { SlowCommit };
 
     ghost view = { λ s. record { tx = s.tx; participants = s.participants; heard = s.heard.items } };
 
     ghost invariant = { λ s. HasRoom s.participants s.heard.items (vec_capacity s.heard) };
 }
 
-impl Standing {
+impl SlowCommit {
     /// No site is heard.
-    pub fn new(tx: Tx, participants: Sites, heard: Vec<SiteId>) -> Standing
+    pub fn new(tx: Tx, participants: Sites, heard: Vec<SiteId>) -> SlowCommit
         requires empty { heard.items ≡ [] }
         requires room { length participants ≤ vec_capacity heard }
         ensures { result ≡ record { tx = Some tx; participants = participants; heard = [] } }
     {
-        Standing {
+        SlowCommit {
             tx: Some(tx),
             participants,
             heard,
