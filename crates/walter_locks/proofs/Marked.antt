@@ -5,7 +5,7 @@ use Rattle.std.proofs.lemmas.Bool.{eqb-true, eqb-false, eq-eqb}
 use Rattle.std.proofs.lemmas.List.{length-set, get_or-set_same, get_or-set_other}
 use Rattle.std.proofs.lemmas.Option.{slice_get-get_or, slice_get_past, slice_get_within, slice_get_cases}
 use Rattle.walter_base.specs.declared.names.SiteId.{SiteId}
-use Rattle.walter_locks.specs.Runs.{Numbers, is_among}
+use Rattle.walter_locks.specs.Intervals.{Numbers, is_among}
 use Rattle.walter_locks.specs.Parts.{is_dead, room_of}
 
 -- what stands at a place, after a write
@@ -24,24 +24,24 @@ inside f d true x o = refl
 inside f d false x o = refl
 
 module _ (dead : List Numbers) (place : ℕ) (was now : Numbers) (here : slice_get dead place ≡ Some was) where
-  dead_set : (j : SiteId) (n : ℕ) → is_dead (set dead place now) j n ≡ (if nat_eq place j.0 then is_among n now.runs else is_dead dead j n)
-  dead_set j n = ap (λ o. option_map_or (λ (d : Numbers). is_among n d.runs) o false) (got_set dead place j.0 now (slice_get_within dead place was here))
-      ∙ inside (λ (d : Numbers). is_among n d.runs) false (nat_eq place j.0) now (slice_get dead j.0)
+  dead_set : (j : SiteId) (n : ℕ) → is_dead (set dead place now) j n ≡ (if nat_eq place j.0 then is_among n now.intervals else is_dead dead j n)
+  dead_set j n = ap (λ o. option_map_or (λ (d : Numbers). is_among n d.intervals) o false) (got_set dead place j.0 now (slice_get_within dead place was here))
+      ∙ inside (λ (d : Numbers). is_among n d.intervals) false (nat_eq place j.0) now (slice_get dead j.0)
 
   room_set : (k : ℕ) → room_of (set dead place now) k ≡ (if nat_eq place k then now.room else room_of dead k)
   room_set k = ap (λ o. option_map_or (λ (d : Numbers). d.room) o 0) (got_set dead place k now (slice_get_within dead place was here))
       ∙ inside (λ (d : Numbers). d.room) 0 (nat_eq place k) now (slice_get dead k)
 
-  dead_here : (j : SiteId) (n : ℕ) → nat_eq place j.0 ≡ true → is_dead dead j n ≡ is_among n was.runs
-  dead_here j n same = subst (λ k. option_map_or (λ (d : Numbers). is_among n d.runs) (slice_get dead k) false ≡ is_among n was.runs) (eqb-true place j.0 same) (ap (λ o. option_map_or (λ (d : Numbers). is_among n d.runs) o false) here)
+  dead_here : (j : SiteId) (n : ℕ) → nat_eq place j.0 ≡ true → is_dead dead j n ≡ is_among n was.intervals
+  dead_here j n same = subst (λ k. option_map_or (λ (d : Numbers). is_among n d.intervals) (slice_get dead k) false ≡ is_among n was.intervals) (eqb-true place j.0 same) (ap (λ o. option_map_or (λ (d : Numbers). is_among n d.intervals) o false) here)
 
   pub room_here : room_of dead place ≡ was.room
   room_here = ap (λ o. option_map_or (λ (d : Numbers). d.room) o 0) here
 
   -- one more number of the coordinator
-  pub dead_marked : (slow : ℕ) → ((n : ℕ) → is_among n now.runs ≡ (nat_eq slow n || is_among n was.runs)) → (j : SiteId) (n : ℕ)
+  pub dead_marked : (slow : ℕ) → ((n : ℕ) → is_among n now.intervals ≡ (nat_eq slow n || is_among n was.intervals)) → (j : SiteId) (n : ℕ)
       → is_dead (set dead place now) j n ≡ ((nat_eq place j.0 && nat_eq slow n) || is_dead dead j n)
-  dead_marked slow given j n = dead_set j n ∙ (elim (nat_eq place j.0) as (λ b. nat_eq place j.0 ≡ b → (if b then is_among n now.runs else is_dead dead j n) ≡ ((b && nat_eq slow n) || is_dead dead j n)) [
+  dead_marked slow given j n = dead_set j n ∙ (elim (nat_eq place j.0) as (λ b. nat_eq place j.0 ≡ b → (if b then is_among n now.intervals else is_dead dead j n) ≡ ((b && nat_eq slow n) || is_dead dead j n)) [
     | true ↦ λ same. given n ∙ ap (λ d. nat_eq slow n || d) (sym (dead_here j n same))
     | false ↦ λ apart. refl
   ] refl)
@@ -53,8 +53,8 @@ module _ (dead : List Numbers) (place : ℕ) (was now : Numbers) (here : slice_g
   sites_kept = length-set dead place now
 
   -- the same numbers, with more room
-  pub dead_kept : now.runs ≡ was.runs → (j : SiteId) (n : ℕ) → is_dead (set dead place now) j n ≡ is_dead dead j n
-  dead_kept same j n = dead_set j n ∙ (elim (nat_eq place j.0) as (λ b. nat_eq place j.0 ≡ b → (if b then is_among n now.runs else is_dead dead j n) ≡ is_dead dead j n) [
+  pub dead_kept : now.intervals ≡ was.intervals → (j : SiteId) (n : ℕ) → is_dead (set dead place now) j n ≡ is_dead dead j n
+  dead_kept same j n = dead_set j n ∙ (elim (nat_eq place j.0) as (λ b. nat_eq place j.0 ≡ b → (if b then is_among n now.intervals else is_dead dead j n) ≡ is_dead dead j n) [
     | true ↦ λ is. ap (is_among n) same ∙ sym (dead_here j n is)
     | false ↦ λ is. refl
   ] refl)
@@ -68,10 +68,10 @@ module _ (dead : List Numbers) (place : ℕ) (was now : Numbers) (here : slice_g
   pub room_now : room_of (set dead place now) place ≡ now.room
   room_now = room_set place ∙ ap (λ b. if b then now.room else room_of dead place) (eq-eqb place place refl)
 
--- where no site has a run, no number is over
-pub none_over : (dead : List Numbers) → All (λ (d : Numbers). d.runs ≡ []) dead → (j : SiteId) (n : ℕ) → is_dead dead j n ≡ false
+-- where no site has an interval, no number is over
+pub none_over : (dead : List Numbers) → All (λ (d : Numbers). d.intervals ≡ []) dead → (j : SiteId) (n : ℕ) → is_dead dead j n ≡ false
 none_over dead none j n = elim (slice_get_cases dead j.0).1 [
-  | inl w ↦ ap (λ o. option_map_or (λ (d : Numbers). is_among n d.runs) o false) w.2
-      ∙ ap (is_among n) (subst (λ (d : Numbers). d.runs ≡ []) w.3 (none j.0 w.0 w.1))
-  | inr w ↦ ap (λ o. option_map_or (λ (d : Numbers). is_among n d.runs) o false) (slice_get_past dead j.0 w.0)
+  | inl w ↦ ap (λ o. option_map_or (λ (d : Numbers). is_among n d.intervals) o false) w.2
+      ∙ ap (is_among n) (subst (λ (d : Numbers). d.intervals ≡ []) w.3 (none j.0 w.0 w.1))
+  | inr w ↦ ap (λ o. option_map_or (λ (d : Numbers). is_among n d.intervals) o false) (slice_get_past dead j.0 w.0)
 ]

@@ -11,7 +11,7 @@ use Rattle.walter_base.specs.Names.{same_object}
 use Rattle.walter_base.proofs.NameTests.{same_object-true, same_object_refl}
 use Rattle.walter_locks.specs.declared.lock.Lock.{Lock}
 use Rattle.walter_locks.specs.declared.lock.SlowId.{SlowId}
-use Rattle.walter_locks.specs.Runs.{Numbers}
+use Rattle.walter_locks.specs.Intervals.{Numbers}
 use Rattle.walter_locks.specs.Parts.{Part, Free, Locked, Over, same_slow, has_object, is_dead, lock_of, owner_in, is_slow, does_lock, unlocked, AreSingle}
 use Rattle.walter_locks.proofs.SingleLocks.{same_slow-true, owner_found, lock_found, one_lock}
 

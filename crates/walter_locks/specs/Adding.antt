@@ -1,30 +1,30 @@
--- How a number is put to runs.
+-- How a number is put to intervals.
 use Rattle.std.specs.Prelude.{◌+◌, ◌++◌, ℕ, nat_eq, nat_lt, min, max, Bool, List, [], ◌∷◌, take, drop, if◌then◌else◌}
-use Rattle.walter_locks.specs.declared.run.Run.{Run}
+use Rattle.walter_locks.specs.declared.interval.Interval.{Interval}
 
--- a number is left out between the run and this number
-abbrev pub is_before : ℕ → Run → Bool
-is_before n run = nat_lt (run.last + 1) n
+-- a number is left out between the interval and this number
+abbrev pub is_before : ℕ → Interval → Bool
+is_before n interval = nat_lt (interval.last + 1) n
 
-abbrev pub run_to : ℕ → ℕ → Run
-run_to first last = record { first = first; last = last }
+abbrev pub interval_to : ℕ → ℕ → Interval
+interval_to first last = record { first = first; last = last }
 
--- the first of the runs and the second are one, where the second begins at the next number
-abbrev pub joined : List Run → List Run
+-- the first of the intervals and the second are one, where the second begins at the next number
+abbrev pub joined : List Interval → List Interval
 joined [] = []
-joined (run ∷ []) = run ∷ []
-joined (run ∷ next ∷ runs) =
-    if nat_eq (run.last + 1) next.first then run_to run.first next.last ∷ runs else run ∷ next ∷ runs
+joined (interval ∷ []) = interval ∷ []
+joined (interval ∷ next ∷ intervals) =
+    if nat_eq (interval.last + 1) next.first then interval_to interval.first next.last ∷ intervals else interval ∷ next ∷ intervals
 
-abbrev pub joined_at : ℕ → List Run → List Run
-joined_at place runs = take place runs ++ joined (drop place runs)
+abbrev pub joined_at : ℕ → List Interval → List Interval
+joined_at place intervals = take place intervals ++ joined (drop place intervals)
 
--- a number that the first of the runs isn't before: it makes a run of its own, or widens the first
-abbrev pub put_first : ℕ → List Run → List Run
-put_first n [] = run_to n n ∷ []
-put_first n (run ∷ runs) =
-    if nat_lt (n + 1) run.first then run_to n n ∷ run ∷ runs
-    else joined (run_to (min run.first n) (max run.last n) ∷ runs)
+-- a number that the first of the intervals isn't before: it makes an interval of its own, or widens the first
+abbrev pub put_first : ℕ → List Interval → List Interval
+put_first n [] = interval_to n n ∷ []
+put_first n (interval ∷ intervals) =
+    if nat_lt (n + 1) interval.first then interval_to n n ∷ interval ∷ intervals
+    else joined (interval_to (min interval.first n) (max interval.last n) ∷ intervals)
 
-abbrev pub put_at : ℕ → ℕ → List Run → List Run
-put_at n place runs = take place runs ++ put_first n (drop place runs)
+abbrev pub put_at : ℕ → ℕ → List Interval → List Interval
+put_at n place intervals = take place intervals ++ put_first n (drop place intervals)

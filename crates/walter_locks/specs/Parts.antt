@@ -9,7 +9,7 @@ use Rattle.walter_base.specs.declared.names.Tid.{Tid}
 use Rattle.walter_base.specs.Names.{same_site, same_object}
 use Rattle.walter_locks.specs.declared.lock.Lock.{Lock}
 use Rattle.walter_locks.specs.declared.lock.SlowId.{SlowId}
-use Rattle.walter_locks.specs.Runs.{Numbers, is_among}
+use Rattle.walter_locks.specs.Intervals.{Numbers, is_among}
 
 -- what a site has of a slow commit: nothing, a lock on these objects for its transaction, or that it is over
 pub data Part : Type 0 where
@@ -33,7 +33,7 @@ has_object oid objects = list_any (same_object oid) objects
 
 -- the number of the coordinator is over
 abbrev pub is_dead : List Numbers → SiteId → ℕ → Bool
-is_dead dead j n = option_map_or (λ numbers. is_among n numbers.runs) (slice_get dead j.0) false
+is_dead dead j n = option_map_or (λ numbers. is_among n numbers.intervals) (slice_get dead j.0) false
 
 abbrev pub lock_of : List (SlowId × Lock) → SiteId → ℕ → Option Lock
 lock_of locks j n = lookup (same_slow (record { coordinator = j; slow = n })) locks
@@ -72,7 +72,7 @@ unlocked Over = Over
 abbrev pub CanLock : Table → ℕ → Type 0
 CanLock table objects = (objects ≤ table.objects) × (0 < table.places)
 
--- for how many more runs of a coordinator there is room without memory
+-- for how many more intervals of a coordinator there is room without memory
 abbrev pub room_of : List Numbers → ℕ → ℕ
 room_of dead place = option_map_or (λ numbers. numbers.room) (slice_get dead place) 0
 

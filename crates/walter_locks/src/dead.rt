@@ -2,34 +2,34 @@ ghost use Rattle.std.specs.Prelude.{◌≡◌, ◌<◌, ◌≤◌, ◌||◌, [],
 ghost use Rattle.walter_base.specs.declared.names.SiteId.{SiteId as Site};
 ghost use Rattle.walter_locks.specs.Parts.{is_dead, is_slow, room_of};
 
-use crate::runs::Runs;
+use crate::intervals::Intervals;
 use std::alloc::Global;
 use walter_base::{Mem, SiteId};
 
 /// No number of so many sites.
-pub fn none_dead(alloc: Global, sites: u8) -> Mem<Vec<Runs>>
+pub fn none_dead(alloc: Global, sites: u8) -> Mem<Vec<Intervals>>
     ensures sites { IfOk result (λ dead. length dead.items ≡ sites) }
-    ensures none { IfOk result (λ dead. All (λ numbers. numbers.runs ≡ []) dead.items) }
+    ensures none { IfOk result (λ dead. All (λ numbers. numbers.intervals ≡ []) dead.items) }
 {
     let mut dead = Vec::new(alloc);
     for _site in 0..sites {
-        dead.push(Runs::new(alloc))?;
+        dead.push(Intervals::new(alloc))?;
     }
     Ok(dead)
 }
 
 /// Whether the number of the coordinator is among them.
-pub fn is_among(dead: &[Runs], coordinator: SiteId, slow: u64) -> bool
+pub fn is_among(dead: &[Intervals], coordinator: SiteId, slow: u64) -> bool
     ensures { result ≡ is_dead dead.now coordinator slow }
 {
     match dead.get(coordinator.0 as usize) {
-        Some(runs) => runs.has(slow),
+        Some(intervals) => intervals.has(slow),
         None => false,
     }
 }
 
-/// Makes room for one more run of each site.
-pub fn make_room(dead: &mut Vec<Runs>) -> Mem<()>
+/// Makes room for one more interval of each site.
+pub fn make_room(dead: &mut Vec<Intervals>) -> Mem<()>
     ensures sites { length dead.new.items ≡ length dead.old.items }
     ensures enough { OnOk result ((place : ℕ) → place < length dead.old.items → 0 < room_of dead.new.items place) }
     ensures had { ((place : ℕ) → place < length dead.old.items → 0 < room_of dead.old.items place) → IsOk result }
@@ -37,14 +37,14 @@ pub fn make_room(dead: &mut Vec<Runs>) -> Mem<()>
     ensures more { (place : ℕ) → room_of dead.old.items place ≤ room_of dead.new.items place }
 {
     for place in 0..dead.len() {
-        let runs = &mut dead[place];
-        runs.make_room()?;
+        let intervals = &mut dead[place];
+        intervals.make_room()?;
     }
     Ok(())
 }
 
 /// Puts the number of the coordinator to them, without taking memory.
-pub fn mark(dead: &mut Vec<Runs>, coordinator: SiteId, slow: u64)
+pub fn mark(dead: &mut Vec<Intervals>, coordinator: SiteId, slow: u64)
     requires { 0 < room_of dead.old.items coordinator.0 }
     ensures sites { length dead.new.items ≡ length dead.old.items }
     ensures dead { (j : Site) (n : ℕ) → is_dead dead.new.items j n
@@ -52,8 +52,8 @@ pub fn mark(dead: &mut Vec<Runs>, coordinator: SiteId, slow: u64)
     ensures room { (place : ℕ) → nat_eq coordinator.0 place ≡ false
         → room_of dead.new.items place ≡ room_of dead.old.items place }
 {
-    let Some(runs) = dead.get_mut(coordinator.0 as usize) else {
+    let Some(intervals) = dead.get_mut(coordinator.0 as usize) else {
         return;
     };
-    runs.add(slow);
+    intervals.add(slow);
 }

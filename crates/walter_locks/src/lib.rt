@@ -2,10 +2,10 @@
 #![tactic(auto)]
 
 mod dead;
+mod interval;
+mod intervals;
 mod lock;
 mod locks;
 mod owners;
-mod run;
-mod runs;
 
 pub use locks::Locks;

@@ -6,9 +6,9 @@ ghost use Rattle.std.specs.Prelude.{List};
 ghost use Rattle.walter_locks.specs.Parts.{Free, Locked, Over, part_of, owner_of, has_object, is_slow, does_lock, unlocked, CanLock, CanRelease};
 
 use crate::dead::{is_among, make_room, mark, none_dead};
+use crate::intervals::Intervals;
 use crate::lock::{Lock, SlowId};
 use crate::owners::{disown, own};
-use crate::runs::Runs;
 use indexmap::IndexMap;
 use std::alloc::Global;
 use std::marker::Model;
@@ -20,7 +20,7 @@ use walter_base::{Mem, ObjId, Objects, SiteId, Tid};
 pub struct Locks {
     owners: IndexMap<ObjId, Tid>,
     locks: IndexMap<SlowId, Lock>,
-    dead: Vec<Runs>,
+    dead: Vec<Intervals>,
 }
 
 impl Model for Locks {

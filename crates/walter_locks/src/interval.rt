@@ -1,18 +1,18 @@
 ghost use Rattle.std.specs.Prelude.{◌≡◌, ◌+◌, nat_eq, nat_lt, max, min};
-ghost use Rattle.walter_locks.specs.Runs.{is_in};
+ghost use Rattle.walter_locks.specs.Intervals.{is_in};
 
 /// The numbers from a first to a last.
 #[derive(Clone, Copy, Debug)]
-pub struct Run {
+pub struct Interval {
     pub first: u64,
     pub last: u64,
 }
 
-impl Run {
-    pub fn of(number: u64) -> Run
+impl Interval {
+    pub fn of(number: u64) -> Interval
         ensures { result ≡ record { first = number; last = number } }
     {
-        Run {
+        Interval {
             first: number,
             last: number,
         }
@@ -24,32 +24,32 @@ impl Run {
         self.first <= number && number <= self.last
     }
 
-    /// Whether a number is left out between the run and this number.
+    /// Whether a number is left out between the interval and this number.
     pub fn is_before(&self, number: u64) -> bool
         ensures { result ≡ nat_lt (self.now.last + 1) number }
     {
         self.last < number && 1 < number - self.last
     }
 
-    /// Whether a number is left out between this number and the run.
+    /// Whether a number is left out between this number and the interval.
     pub fn is_past(&self, number: u64) -> bool
         ensures { result ≡ nat_lt (number + 1) self.now.first }
     {
         number < self.first && 1 < self.first - number
     }
 
-    /// Whether the other run begins at the next number.
-    pub fn touches(&self, next: &Run) -> bool
+    /// Whether the other interval begins at the next number.
+    pub fn touches(&self, next: &Interval) -> bool
         ensures { result ≡ nat_eq (self.now.last + 1) next.now.first }
     {
         self.last < next.first && next.first - self.last == 1
     }
 
-    /// The run, up to the number or from it.
-    pub fn widened(&self, number: u64) -> Run
+    /// The interval, up to the number or from it.
+    pub fn widened(&self, number: u64) -> Interval
         ensures { result ≡ record { first = min self.now.first number; last = max self.now.last number } }
     {
-        Run {
+        Interval {
             first: self.first.min(number),
             last: self.last.max(number),
         }
