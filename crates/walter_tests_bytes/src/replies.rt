@@ -111,7 +111,7 @@ fn each_reply_has_its_spelling(rt: HostRuntime) -> Result<(), Fail> {
         need: 123,
         left: 122,
     };
-    let table: [(Reply, &[u8]); 36] = [
+    let table: [(Reply, &[u8]); 38] = [
         (
             Reply::Started(TID),
             &[0x80, 1, 0, 0, 0, 2, 0, 0, 0, 0, 0, 0, 0, 3],
