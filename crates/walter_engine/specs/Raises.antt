@@ -2,6 +2,7 @@
 use Rattle.std.specs.Prelude.{◌≡◌, ◌⊎◌, ◌+◌, ◌≤◌, ℕ, false, List, [], ◌∷◌, ◌++◌, map, length, Option, Some, is_some, IfSome}
 use Rattle.walter_base.specs.declared.catalog.Catalog.{Catalog}
 use Rattle.walter_base.specs.declared.message.Record.{Record}
+use Rattle.walter_base.specs.declared.message.Record.TheVariants.{Boot}
 use Rattle.walter_base.specs.declared.names.SiteId.{SiteId}
 use Rattle.walter_disk.specs.declared.disk.Disk.{Ghosts}
 use Rattle.walter_engine.specs.declared.answers.RefusedRestart.{RefusedRestart}
@@ -10,11 +11,14 @@ use Rattle.walter_engine.specs.declared.answers.Restarted.{Restarted}
 use Rattle.walter_engine.specs.declared.answers.Restarted.TheVariants.{Refused}
 use Rattle.walter_engine.specs.declared.engine.Tally.{Tally}
 use Rattle.walter_engine.specs.declared.restarting.AfterRestart.{AfterRestart}
+use Rattle.walter_engine.specs.declared.restarting.StagedBoot.{StagedBoot}
 use Rattle.walter_engine.specs.Contents.{AreJournaled}
 use Rattle.walter_engine.specs.Engines.{IsInState, IsTallied}
 use Rattle.walter_engine.specs.States.{disk_of_state}
 use Rattle.walter_engine.specs.Steps.{came_of_restart, kept_of, IfRefused, IfUp, TakesNoEpoch, IsFaultOfRestart}
-use Rattle.walter_record.specs.Spelling.{record_spelled}
+use Rattle.walter_journal.specs.declared.journal.Journal.{Journal}
+use Rattle.walter_journal.specs.Journals.{HasRoom}
+use Rattle.walter_record.specs.Spelling.{record_spelled, AreInRange}
 use Rattle.walter_trail.specs.declared.trail.TrailEvent.TheVariants.{Restart}
 use Rattle.walter_trail.specs.Knowledge.{Knowledge, lost}
 use Rattle.walter_trail.specs.Standing.{Standing, settled, stands_after}
@@ -55,6 +59,13 @@ pub record Raises {D : Type 0} {g : Ghosts D} (catalog : Catalog) (capacity : �
   pub found : IfSome (kept_of result.answer) (IsFound S Restart)
   pub boots : Boots catalog capacity i (settled i (kept_of result.answer) S) result
   pub last : IfRefused result.answer (IsLast (settled i (kept_of result.answer) S).knows)
+
+-- the Boot of an epoch with its spelling, for which the journal has room
+pub record IsStagedBoot {D : Type 0} {g : Ghosts D} (journal : Journal D g) (count epoch : ℕ) (s : StagedBoot) : Type 0 where
+  pub body_is : s.body ≡ record_spelled (Boot epoch)
+  pub ranges : AreInRange (Boot epoch)
+  pub count_is : s.count ≡ count + 1
+  pub room : HasRoom journal (length s.body)
 
 -- What is told of the disk is told, its arms are as before, and its faults never fall. A site that comes up made four calls
 -- of it, and another no more.

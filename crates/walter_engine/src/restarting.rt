@@ -1,4 +1,4 @@
-ghost use Rattle.std.specs.Prelude.{◌≡◌, ◌≤◌, ◌<◌, ◌+◌, List, ℕ, map, IfSome};
+ghost use Rattle.std.specs.Prelude.{◌≡◌, ◌≤◌, ◌<◌, ◌+◌, List, ℕ, map, IfSome, IfOk};
 ghost use Rattle.walter_base.specs.Sizes.{CanBeRecorded};
 ghost use Rattle.walter_disk.specs.Images.{LeavesOnly};
 ghost use Rattle.walter_journal.specs.Journals.{disk_of, capacity_of, left_of, StandsFor};
@@ -6,8 +6,9 @@ ghost use Rattle.walter_journal.specs.Layout.{IsBeforeOrBehind};
 ghost use Rattle.walter_record.specs.Spelling.{record_spelled};
 ghost use Rattle.walter_site.specs.Sites.{known, site_of, catalog_of};
 ghost use Rattle.walter_trail.specs.Standing.{Standing};
+ghost use Rattle.walter_engine.specs.Advances.{IsSameJournal};
 ghost use Rattle.walter_engine.specs.Contents.{AreJournaled, MayHaveBoot};
-ghost use Rattle.walter_engine.specs.Raises.{Raises, Boots, IsDown, IsFoundIn, IsCounted, FromDisk};
+ghost use Rattle.walter_engine.specs.Raises.{Raises, Boots, IsDown, IsFoundIn, IsCounted, IsStagedBoot, FromDisk};
 ghost use Rattle.walter_engine.specs.Restarts.{unloaded_by};
 ghost use Rattle.walter_engine.specs.States.{IsOf, disk_of_state, is_up_state};
 ghost use Rattle.walter_engine.specs.Steps.{IsSizedRestart, IsRefusedOver, IfRefused, IfFull, TakesNoEpoch, brings_up, kept_of};
@@ -18,7 +19,7 @@ use crate::engine::{State, Tally};
 use crate::replaying::{ReadFault, last_record, replay_all};
 use crate::stepping::{StagedRecord, stage};
 use std::alloc::Global;
-use walter_base::{Catalog, Record, SiteId};
+use walter_base::{Bytes, Catalog, Mem, Record, SiteId};
 use walter_disk::Disk;
 use walter_journal::{AppendFault, Journal, JournalFault};
 use walter_site::Site;
@@ -95,6 +96,31 @@ fn rest<D: Disk>(journal: Journal<D>, tally: Tally, answer: Restarted) -> AfterR
     }
 }
 
+// The spelling of an epoch's Boot, and the number of the records with it.
+#[derive(Drop)]
+struct StagedBoot {
+    body: Bytes,
+    count: u64,
+}
+
+// Spells the Boot of an epoch, and makes room for it in the journal.
+fn stage_boot<D: Disk>(
+    alloc: Global,
+    journal: &mut Journal<D>,
+    count: u64,
+    epoch: u32,
+) -> Mem<StagedBoot>
+    ensures staged { IfOk result (IsStagedBoot journal.new count epoch) }
+    ensures same { IsSameJournal journal.old journal.new }
+{
+    let StagedRecord {
+        rec: _,
+        body,
+        count,
+    } = stage(alloc, journal, count, &Record::Boot(epoch))?;
+    Ok(StagedBoot { body, count })
+}
+
 // Journals the next epoch of the site.
 fn boot<D: Disk>(
     alloc: Global,
@@ -127,8 +153,7 @@ fn boot<D: Disk>(
         let why = RefusedRestart::LastEpoch;
         return rest(journal, tally, Restarted::Refused { kept, why });
     };
-    let rec = Record::Boot(epoch);
-    let Ok(StagedRecord { body, count, .. }) = stage(alloc, &mut journal, tally.records, &rec)
+    let Ok(StagedBoot { body, count }) = stage_boot(alloc, &mut journal, tally.records, epoch)
     else {
         return rest(journal, tally, Restarted::NoMemory { kept });
     };
@@ -138,7 +163,10 @@ fn boot<D: Disk>(
     match journal.append(body.as_slice()) {
         Ok(()) => AfterRestart {
             state: State::Up(site, journal),
-            answer: Restarted::Up { kept, wrote: rec },
+            answer: Restarted::Up {
+                kept,
+                wrote: Record::Boot(epoch),
+            },
             tally: Tally {
                 records: count,
                 in_flight: false,
@@ -149,7 +177,7 @@ fn boot<D: Disk>(
                 records: tally.records,
                 in_flight: true,
             };
-            let flight = Some(rec);
+            let flight = Some(Record::Boot(epoch));
             rest(journal, tally, Restarted::Failed { kept, flight })
         }
         Err(AppendFault::Full { need, left }) => {

@@ -18,18 +18,18 @@ use Rattle.walter_engine.proofs.restarting.boot.Goals.{After-append}
 use Rattle.walter_engine.proofs.Standings.{tallied}
 use Rattle.walter_engine.proofs.restarting.boot.Goals as goal
 
-pub returns-in_default-stage-clause-boots : goal.returns-in_default-stage-clause-boots
-returns-in_default-stage-clause-boots g c S down knows all counted stands =
-    let same = c.stage.ensures.same in
-    let rest = c.rest-in_default-stage in
-    let resting = rests_under g.D.Disk g.met.D.Disk.size_is S c.stage.new.journal down.down down.rests (same.stands _ stands) in
+pub returns-in_default-stage_boot-clause-boots : goal.returns-in_default-stage_boot-clause-boots
+returns-in_default-stage_boot-clause-boots g c S down knows all counted stands =
+    let same = c.stage_boot.ensures.same in
+    let rest = c.rest-in_default-stage_boot in
+    let resting = rests_under g.D.Disk g.met.D.Disk.size_is S c.stage_boot.new.journal down.down down.rests (same.stands _ stands) in
     boots_no_memory {g = g.D.Disk} _ _ _ S c.args.tally all (tallied c.args.tally S counted) _ resting c.args.kept rest.result rest.ensures.state rest.ensures.answer rest.ensures.tally
 
 pub returns-in_default-replay-clause-boots : goal.returns-in_default-replay-clause-boots
 returns-in_default-replay-clause-boots g c S down knows all counted stands =
-    let same = c.stage.ensures.same in
+    let same = c.stage_boot.ensures.same in
     let rest = c.rest-in_default-replay in
-    let resting = rests_under g.D.Disk g.met.D.Disk.size_is S c.stage.new.journal down.down down.rests (same.stands _ stands) in
+    let resting = rests_under g.D.Disk g.met.D.Disk.size_is S c.stage_boot.new.journal down.down down.rests (same.stands _ stands) in
     boots_no_memory {g = g.D.Disk} _ _ _ S c.args.tally all (tallied c.args.tally S counted) _ resting c.args.kept rest.result rest.ensures.state rest.ensures.answer rest.ensures.tally
 
 pub append-requires-clause-short : goal.append-requires-clause-short
@@ -43,7 +43,7 @@ returns-in-Ok-append-clause-boots g c S down knows all counted stands =
     let same = c.in-Ok.ensures.same in
     let epoch = c.in-Some.epoch in
     let next : epoch ≡ S.knows.epoch + 1 = c.in-Ok-replay.ensures.ok ∙ ap (λ K. K.epoch + 1) knows in
-    boots_up {g = g.D.Disk} (catalog_of c.args.site) (site_of c.args.site) S c.args.tally down all counted c.stage.new.journal (same.stands _ stands) epoch next staged.ranges c.args.kept
+    boots_up {g = g.D.Disk} (catalog_of c.args.site) (site_of c.args.site) S c.args.tally down all counted c.stage_boot.new.journal (same.stands _ stands) epoch next staged.ranges c.args.kept
     c.as_slice.result.now (c.as_slice.ensures ∙ staged.body_is) _ same.capacity
     c.replay.new.self c.append.new.self c.in-Ok.field-0.count
     (c.in-Ok-replay.ensures.known ∙ ap (λ K. recorded (site_of c.args.site) (Some (Boot epoch)) K) knows) staged.count_is c.in-Ok-append.ensures.ok
@@ -55,9 +55,9 @@ returns-in-Err-Failed-clause-boots g c S down knows all counted stands =
     let epoch = c.in-Some.epoch in
     let next : epoch ≡ S.knows.epoch + 1 = c.in-Ok-replay.ensures.ok ∙ ap (λ K. K.epoch + 1) knows in
     let bodies = map record_spelled S.records in
-    let failed = failed_is c.append.result (need_of c.as_slice.result.now) (left_of c.stage.new.journal) _ _ _ c.append.ensures.full c.append.ensures.failed c.in-Err-Failed.field-0 c.in-Err-Failed.is c.in-Err-Failed.field-0-is in
+    let failed = failed_is c.append.result (need_of c.as_slice.result.now) (left_of c.stage_boot.new.journal) _ _ _ c.append.ensures.full c.append.ensures.failed c.in-Err-Failed.field-0 c.in-Err-Failed.is c.in-Err-Failed.field-0-is in
     let rest = c.rest-in-Err-Failed.ensures in
-    boots_failed {g = g.D.Disk} (catalog_of c.args.site) (site_of c.args.site) S c.args.tally down all counted c.stage.new.journal (same.stands bodies stands) epoch next staged.ranges c.args.kept
+    boots_failed {g = g.D.Disk} (catalog_of c.args.site) (site_of c.args.site) S c.args.tally down all counted c.stage_boot.new.journal (same.stands bodies stands) epoch next staged.ranges c.args.kept
     c.as_slice.result.now (c.as_slice.ensures ∙ staged.body_is) _ same.capacity
     g.met.D.Disk.size_is g.met.D.Disk.counts_now c.append.new.self failed.0 failed.1 (c.append.ensures.any_moment bodies (same.stands bodies stands))
     c.rest-in-Err-Failed.result rest.state rest.answer rest.tally
@@ -68,18 +68,18 @@ returns-clause-boots g c S down knows all counted stands =
     let same = c.in-Ok.ensures.same in
     let epoch = c.in-Some.epoch in
     let next : epoch ≡ S.knows.epoch + 1 = c.in-Ok-replay.ensures.ok ∙ ap (λ K. K.epoch + 1) knows in
-    let full = full_is c.append.result (need_of c.as_slice.result.now) (left_of c.stage.new.journal) _ _ _ c.append.ensures.full c.append.ensures.failed c.in-Err-Full.field-0 c.in-Err-Full.need c.in-Err-Full.left c.in-Err-Full.is c.in-Err-Full.field-0-is in
+    let full = full_is c.append.result (need_of c.as_slice.result.now) (left_of c.stage_boot.new.journal) _ _ _ c.append.ensures.full c.append.ensures.failed c.in-Err-Full.field-0 c.in-Err-Full.need c.in-Err-Full.left c.in-Err-Full.is c.in-Err-Full.field-0-is in
     let rest = c.rest-in-Err-Full.ensures in
-    boots_full {g = g.D.Disk} (catalog_of c.args.site) (site_of c.args.site) S c.args.tally down all counted c.stage.new.journal (same.stands _ stands) epoch next staged.ranges c.args.kept
+    boots_full {g = g.D.Disk} (catalog_of c.args.site) (site_of c.args.site) S c.args.tally down all counted c.stage_boot.new.journal (same.stands _ stands) epoch next staged.ranges c.args.kept
     c.as_slice.result.now (c.as_slice.ensures ∙ staged.body_is) _ same.capacity
     g.met.D.Disk.size_is c.append.new.self c.in-Err-Full.need c.in-Err-Full.left full.0 full.1 full.2 full.3
     c.rest-in-Err-Full.result rest.state rest.answer rest.tally
 
 pub returns-clause-full : goal.returns-clause-full
 returns-clause-full g c =
-    let full = full_is c.append.result (need_of c.as_slice.result.now) (left_of c.stage.new.journal) _ _ _ c.append.ensures.full c.append.ensures.failed c.in-Err-Full.field-0 c.in-Err-Full.need c.in-Err-Full.left c.in-Err-Full.is c.in-Err-Full.field-0-is in
+    let full = full_is c.append.result (need_of c.as_slice.result.now) (left_of c.stage_boot.new.journal) _ _ _ c.append.ensures.full c.append.ensures.failed c.in-Err-Full.field-0 c.in-Err-Full.need c.in-Err-Full.left c.in-Err-Full.is c.in-Err-Full.field-0-is in
     subst (λ (a : Restarted). IfFull a (left_of c.args.journal < 10)) (sym c.rest-in-Err-Full.ensures.answer)
-    (boot_needs {g = g.D.Disk} c.args.journal c.stage.new.journal c.in-Ok.ensures.same c.as_slice.result.now c.in-Some.epoch (c.as_slice.ensures ∙ c.in-Ok.ensures.staged.body_is) full.0)
+    (boot_needs {g = g.D.Disk} c.args.journal c.stage_boot.new.journal c.in-Ok.ensures.same c.as_slice.result.now c.in-Some.epoch (c.as_slice.ensures ∙ c.in-Ok.ensures.staged.body_is) full.0)
 
 -- ---- what a crash leaves
 
@@ -88,7 +88,7 @@ appended : (g : Over) (c : After-append g) (bodies : List (List ℕ)) → Stands
     → LeavesOnly g.D.Disk.moment g.D.Disk.left_since (disk_of c.args.journal) disk (IsBeforeOrBehind bodies (record_spelled (Boot ((known c.args.site).epoch + 1))))
 appended g c bodies stands disk is =
     let same = c.in-Ok.ensures.same in
-    room_and_append {g = g.D.Disk} c.args.journal c.stage.new.journal c.append.new.self same bodies stands (record_spelled (Boot ((known c.args.site).epoch + 1))) c.as_slice.result.now
+    room_and_append {g = g.D.Disk} c.args.journal c.stage_boot.new.journal c.append.new.self same bodies stands (record_spelled (Boot ((known c.args.site).epoch + 1))) c.as_slice.result.now
     (c.as_slice.ensures ∙ c.in-Ok.ensures.staged.body_is ∙ ap (λ (n : ℕ). record_spelled (Boot n)) c.in-Ok-replay.ensures.ok)
     (c.append.ensures.any_moment bodies (same.stands bodies stands)) disk is
 
@@ -96,13 +96,13 @@ pub returns-in_default-clause-any_moment : goal.returns-in_default-clause-any_mo
 returns-in_default-clause-any_moment g c bodies stands =
     unmoved {g = g.D.Disk} g.met.D.Disk.only_now c.args.journal bodies stands _ (λ image has. inl has) _ (ap disk_of_state c.rest.ensures.state)
 
-pub returns-in_default-stage-clause-any_moment : goal.returns-in_default-stage-clause-any_moment
-returns-in_default-stage-clause-any_moment g c bodies stands =
-    made_room {g = g.D.Disk} c.args.journal c.stage.new.journal c.stage.ensures.same bodies stands _ (λ image has. inl has) _ (ap disk_of_state c.rest-in_default-stage.ensures.state)
+pub returns-in_default-stage_boot-clause-any_moment : goal.returns-in_default-stage_boot-clause-any_moment
+returns-in_default-stage_boot-clause-any_moment g c bodies stands =
+    made_room {g = g.D.Disk} c.args.journal c.stage_boot.new.journal c.stage_boot.ensures.same bodies stands _ (λ image has. inl has) _ (ap disk_of_state c.rest-in_default-stage_boot.ensures.state)
 
 pub returns-in_default-replay-clause-any_moment : goal.returns-in_default-replay-clause-any_moment
 returns-in_default-replay-clause-any_moment g c bodies stands =
-    made_room {g = g.D.Disk} c.args.journal c.stage.new.journal c.stage.ensures.same bodies stands _ (λ image has. inl has) _ (ap disk_of_state c.rest-in_default-replay.ensures.state)
+    made_room {g = g.D.Disk} c.args.journal c.stage_boot.new.journal c.stage_boot.ensures.same bodies stands _ (λ image has. inl has) _ (ap disk_of_state c.rest-in_default-replay.ensures.state)
 
 pub returns-in-Ok-append-clause-any_moment : goal.returns-in-Ok-append-clause-any_moment
 returns-in-Ok-append-clause-any_moment g c bodies stands = appended g (goal.at.returns-in-Ok-append-clause-any_moment g c).After-append bodies stands _ refl
