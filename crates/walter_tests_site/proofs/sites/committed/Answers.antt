@@ -5,7 +5,7 @@ use Rattle.walter_base.specs.declared.message.Record.{Record}
 use Rattle.walter_base.specs.declared.message.Record.TheVariants.{Boot, Own, Got, Seen, Prepared, Released, SlowBegin, SlowEnd, Marks}
 use Rattle.walter_base.specs.Sizes.{CanBeRecorded}
 use Rattle.walter_trail.specs.Records.{IsRecordAmong}
-use Rattle.walter_tests_sites.proofs.sites.committed.Goals as goal
+use Rattle.walter_tests_site.proofs.sites.committed.Goals as goal
 
 can_be : (sites : ℕ) (rec : Record) → IsRecordAmong sites rec → CanBeRecorded rec
 can_be sites (Boot epoch) among = tt

@@ -85,13 +85,9 @@ fn asked(engine: &mut Engine<MemoryDisk>, request: Request) -> Came {
     }
 }
 
-// A site that is up is not restarted.
-fn restarted(engine: &mut Engine<MemoryDisk>) -> Came {
-    if engine.is_up() {
-        return Came::Nothing;
-    }
-    let restarted = engine.restart();
-    match &restarted {
+// What a restart came to.
+fn told(restarted: &Restarted) -> Came {
+    match restarted {
         Restarted::Up {
             kept,
             wrote: Record::Boot(epoch),
@@ -101,6 +97,14 @@ fn restarted(engine: &mut Engine<MemoryDisk>) -> Came {
         Restarted::Refused { why, .. } => Came::HasNoSite(*why),
         _ => Came::NoMemory,
     }
+}
+
+// A site that is up is not restarted.
+fn restarted(engine: &mut Engine<MemoryDisk>) -> Came {
+    if engine.is_up() {
+        return Came::Nothing;
+    }
+    told(&engine.restart())
 }
 
 fn done(alloc: Global, engine: &mut Engine<MemoryDisk>, act: Act) -> Mem<Came> {
