@@ -1,0 +1,3 @@
+pub mod Slow
+pub mod Sessions
+pub mod Log

@@ -1,0 +1,36 @@
+-- The transactions that a site holds, its own and received ones, in order, and what a vector sees of them.
+use Rattle.std.specs.Prelude.{ℕ, ◌-◌, nat_le, Bool, List, filter, slice_get, Option, option_map}
+use Rattle.std.specs.List.{list_any}
+use Rattle.walter_base.specs.declared.names.ObjId.{ObjId}
+use Rattle.walter_base.specs.declared.names.SiteId.{SiteId}
+use Rattle.walter_base.specs.declared.names.Version.{Version}
+use Rattle.walter_base.specs.declared.transaction.Tx.{Tx}
+use Rattle.walter_base.specs.Names.{same_site, same_object}
+use Rattle.walter_base.specs.Values.{write_set}
+use Rattle.walter_base.specs.Vectors.{entry_at}
+use Rattle.walter_rules.specs.declared.held.Held.{Held}
+
+abbrev pub version_of : Held → Version
+version_of h = record { site = h.tx.tid.site; seq = h.seq }
+
+abbrev pub is_of : SiteId → Held → Bool
+is_of site h = same_site h.tx.tid.site site
+
+-- those of one site
+abbrev pub of_site : SiteId → List Held → List Held
+of_site site log = filter (is_of site) log
+
+-- the commit of this number of a site, counted from 1
+abbrev pub commit_at : SiteId → ℕ → List Held → Option Tx
+commit_at site seq log = option_map (λ h. h.tx) (slice_get (of_site site log) (seq - 1))
+
+-- whether the vector sees it
+abbrev pub sees : List ℕ → Held → Bool
+sees vector h = nat_le h.seq (entry_at vector h.tx.tid.site)
+
+abbrev pub wrote : ObjId → Held → Bool
+wrote oid h = list_any (same_object oid) (write_set h.tx.updates)
+
+-- the row of an object: the transactions that wrote it, in order
+abbrev pub row : ObjId → List Held → List Held
+row oid log = filter (wrote oid) log

@@ -1,0 +1,11 @@
+use walter_base::Tx;
+
+/// How many own commits above what a peer has acknowledged are sent to it.
+pub const WINDOW: u64 = 1;
+
+/// A committed transaction that a site holds, with its number among the commits of its own site.
+#[derive(Debug, Drop)]
+pub struct Held {
+    pub seq: u64,
+    pub tx: Tx,
+}
