@@ -1,0 +1,270 @@
+-- The rule of a client's call: what it is answered at a site that is up (docs/SITE.md).
+use Rattle.std.specs.Prelude.{ℕ, ℤ, zero, suc, ◌+◌, nat_eq, nat_le, nat_lt, Bool, true, false, not, ◌&&◌, ◌||◌, List, [], ◌∷◌, ◌++◌, length, flat_map, filter, filter_map, slice_get, Option, Some, None, option_map, Result, Ok, Err, if◌then◌else◌}
+use Rattle.std.specs.FinMap.{get}
+use Rattle.std.specs.List.{list_any}
+use Rattle.walter_base.specs.declared.catalog.Catalog.{Catalog}
+use Rattle.walter_base.specs.declared.containers.Container.{Container}
+use Rattle.walter_base.specs.declared.message.BadFrame.{BadFrame as Bad}
+use Rattle.walter_base.specs.declared.message.Level.{Level as HowFar}
+use Rattle.walter_base.specs.declared.message.Level.TheVariants.{NotCommitted, Running, Deciding as BeingDecided, Committed as IsCommitted, Durable, Visible}
+use Rattle.walter_base.specs.declared.message.Record.{Record}
+use Rattle.walter_base.specs.declared.message.Record.TheVariants.{Own, SlowBegin}
+use Rattle.walter_base.specs.declared.message.Refusal.{Refusal}
+use Rattle.walter_base.specs.declared.message.Refusal.TheVariants.{UnknownContainer, WrongKind, TxFull, TooLong, NoTx, TxOpen, Gone, BadFrame, Down as IsDown, SetTooWide, SessionsFull, WrongSite, NotIssued}
+use Rattle.walter_base.specs.declared.message.Reply.{Reply}
+use Rattle.walter_base.specs.declared.message.Reply.TheVariants.{Started, Value, Done, Set, Count, Committed, Aborted, Deciding, Level, Ended, Refused}
+use Rattle.walter_base.specs.declared.message.Request.{Request}
+use Rattle.walter_base.specs.declared.message.Request.TheVariants.{Start, Read, Write, SetAdd, SetDel, SetRead, SetReadId, Commit, Abort, Level as LevelAsked}
+use Rattle.walter_base.specs.declared.names.Kind.{Kind}
+use Rattle.walter_base.specs.declared.names.Kind.TheVariants.{Regular, Cset}
+use Rattle.walter_base.specs.declared.names.ObjId.{ObjId}
+use Rattle.walter_base.specs.declared.names.SiteId.{SiteId}
+use Rattle.walter_base.specs.declared.names.Tid.{Tid}
+use Rattle.walter_base.specs.declared.names.Version.{Version}
+use Rattle.walter_base.specs.declared.transaction.Cause.TheVariants.{Asked}
+use Rattle.walter_base.specs.declared.transaction.Conflict.{Conflict}
+use Rattle.walter_base.specs.declared.transaction.Tx.{Tx}
+use Rattle.walter_base.specs.declared.update.Update.{Update}
+use Rattle.walter_base.specs.declared.update.Update.TheVariants.{Write as WriteOf, Add, Del}
+use Rattle.walter_base.specs.Names.{same_site, same_tid}
+use Rattle.walter_base.specs.Sizes.{size_of_updates}
+use Rattle.walter_base.specs.Values.{value_of, count_of, counts_of}
+use Rattle.walter_rules.specs.declared.held.Held.{Held}
+use Rattle.walter_rules.specs.declared.outcome.Outcome.{Outcome}
+use Rattle.walter_rules.specs.declared.outcome.Outcome.TheVariants.{Replied}
+use Rattle.walter_rules.specs.Conflicts.{first_conflict, cause_of}
+use Rattle.walter_rules.specs.Knowledge.{Knowledge, peers, from_to}
+use Rattle.walter_rules.specs.Learning.{recorded}
+use Rattle.walter_rules.specs.Log.{of_site, sees}
+use Rattle.walter_rules.specs.Marks.{durable_mark, visible_mark}
+use Rattle.walter_rules.specs.Objects.{objects_at, are_local, participants}
+use Rattle.walter_rules.specs.Sending.{Send, to_each, own_sends, prepare_of}
+use Rattle.walter_rules.specs.Sessions.{Session, Sessions, session_in, with_slow, tx_of}
+use Rattle.walter_rules.specs.Slow.{Slow, Unused, Undecided, Dropped, Decided}
+
+-- what an event is to bring: at most one record, an outcome, and what is put out
+pub record Expected : Type 0 where
+  pub wrote : Option Record
+  pub outcome : Outcome
+  pub sends : List Send
+
+-- an answer without a record, and with nothing put out
+abbrev pub answers : Reply → Expected
+answers reply = record { wrote = None; outcome = Replied reply; sends = [] }
+
+abbrev pub refuses : Refusal → Expected
+refuses refusal = answers (Refused refusal)
+
+-- what a session reads from: the updates of what its snapshot sees, in order, followed by its own
+abbrev pub read_updates : Knowledge → Session → List Update
+read_updates K s = flat_map (λ h. h.tx.updates) (filter (sees s.snapshot) K.log) ++ s.updates
+
+-- the name of the next transaction that starts here
+abbrev pub next_tid : SiteId → Knowledge → Tid
+next_tid i K = record { site = i; epoch = K.epoch; number = K.starts + 1 }
+
+-- the number of the next own commit, and of the next own slow commit
+abbrev pub next_seq : SiteId → Knowledge → ℕ
+next_seq i K = K.committed i + 1
+
+abbrev pub next_slow : Knowledge → ℕ
+next_slow K = K.last + 1
+
+abbrev pub own_version : SiteId → ℕ → Version
+own_version i seq = record { site = i; seq = seq }
+
+-- a site has 256 sessions at most
+abbrev pub starts_new : SiteId → Knowledge → Expected
+starts_new i K = if nat_lt (length K.sessions) 256 then answers (Started (next_tid i K)) else refuses SessionsFull
+
+-- a transaction whose objects are all preferred here commits, under the next number
+abbrev pub commits_fast : Catalog → SiteId → Knowledge → Session → Expected
+commits_fast catalog i K s = record {
+  wrote = Some (Own (next_seq i K) (tx_of s));
+  outcome = Replied (Committed (own_version i (next_seq i K)));
+  sends = own_sends catalog i K (recorded catalog i (Some (Own (next_seq i K) (tx_of s))) K);
+}
+
+-- of another one the slow commit begins, and each other site at which an object is preferred is asked
+abbrev pub begins_slow : Catalog → SiteId → Knowledge → Session → Expected
+begins_slow catalog i K s = record {
+  wrote = Some (SlowBegin (next_slow K) (tx_of (with_slow (next_slow K) s)));
+  outcome = Replied (Deciding s.tid);
+  sends = to_each (participants catalog K i s.updates) (λ k. prepare_of catalog K (next_slow K) (tx_of (with_slow (next_slow K) s)) k ∷ []);
+}
+
+abbrev pub if_local : Bool → Catalog → SiteId → Knowledge → Session → Expected
+if_local true catalog i K s = commits_fast catalog i K s
+if_local false catalog i K s = begins_slow catalog i K s
+
+-- a conflict over the objects that are preferred here aborts it
+abbrev pub decides : Catalog → SiteId → Knowledge → Session → Option Conflict → Expected
+decides catalog i K s (Some conflict) = answers (Aborted (cause_of conflict))
+decides catalog i K s None = if_local (are_local catalog K i s.updates) catalog i K s
+
+-- a transaction without updates ends
+abbrev pub commits_open : Catalog → SiteId → Knowledge → Session → List Update → Expected
+commits_open catalog i K s [] = answers Ended
+commits_open catalog i K s (update ∷ updates) = decides catalog i K s (first_conflict K s.snapshot (objects_at catalog K i s.updates))
+
+-- the number of the own commit that is this transaction, if there is one
+abbrev pub seq_of : SiteId → Knowledge → Tid → Option ℕ
+seq_of i K tid = slice_get (filter_map (λ h. if same_tid tid h.tx.tid then Some h.seq else None) (of_site i K.log)) 0
+
+abbrev pub tells_version : SiteId → Option ℕ → Expected
+tells_version i (Some seq) = answers (Committed (own_version i seq))
+tells_version i None = refuses NoTx
+
+abbrev pub tells_cause : Option Conflict → Expected
+tells_cause (Some conflict) = answers (Aborted (cause_of conflict))
+tells_cause None = refuses NoTx
+
+-- a Commit whose slow commit is begun is told how it stands
+abbrev pub tells_decision : SiteId → Knowledge → Session → Slow → Expected
+tells_decision i K s Unused = refuses NoTx
+tells_decision i K s (Undecided tx asked) = answers (Deciding s.tid)
+tells_decision i K s (Dropped tx asked) = tells_cause (K.said_no s.slow)
+tells_decision i K s (Decided tx) = tells_version i (seq_of i K s.tid)
+
+abbrev pub commits_by : Catalog → SiteId → Knowledge → Session → ℕ → Expected
+commits_by catalog i K s zero = commits_open catalog i K s s.updates
+commits_by catalog i K s (suc n) = tells_decision i K s (K.slow (suc n))
+
+-- an object of no container of the catalog is refused, and a set that counts is neither read nor written whole
+abbrev pub if_whole : Kind → Expected → Expected
+if_whole Regular expected = expected
+if_whole Cset expected = refuses WrongKind
+
+abbrev pub if_regular : Option Container → Expected → Expected
+if_regular None expected = refuses UnknownContainer
+if_regular (Some container) expected = if_whole container.kind expected
+
+-- and a regular object has no counts
+abbrev pub if_counted : Kind → Expected → Expected
+if_counted Cset expected = expected
+if_counted Regular expected = refuses WrongKind
+
+abbrev pub if_cset : Option Container → Expected → Expected
+if_cset None expected = refuses UnknownContainer
+if_cset (Some container) expected = if_counted container.kind expected
+
+-- whether a transaction has a place for one more update: it has 256 at most, spelled in at most 60,000 bytes
+abbrev pub has_place : List Update → Update → Bool
+has_place updates update = nat_lt (length updates) 256 && nat_le (size_of_updates (updates ++ update ∷ [])) 60000
+
+abbrev pub updates_with : Session → Update → Expected
+updates_with s update = if has_place s.updates update then answers Done else refuses TxFull
+
+-- a value has 4,096 bytes at most
+abbrev pub writes : Session → ObjId → List ℕ → Expected
+writes s oid bytes = if nat_lt 4096 (length bytes) then refuses TooLong else updates_with s (WriteOf oid bytes)
+
+-- the counts of a set are shown where they are of 4,095 ids at most
+abbrev pub shows : List (ℕ × ℤ) → Expected
+shows counts = if nat_lt 4095 (length counts) then refuses SetTooWide else answers (Set counts)
+
+-- whether the slow commit of a transaction is being decided here
+abbrev pub is_of_tid : Tid → Slow → Bool
+is_of_tid tid (Undecided tx asked) = same_tid tid tx.tid
+is_of_tid tid Unused = false
+is_of_tid tid (Dropped tx asked) = false
+is_of_tid tid (Decided tx) = false
+
+abbrev pub is_undecided : Knowledge → Tid → Bool
+is_undecided K tid = list_any (λ n. is_of_tid tid (K.slow n)) (from_to 1 K.last)
+
+-- whether a client has the transaction open
+abbrev pub is_open : Tid → Sessions → Bool
+is_open tid sessions = list_any (λ e. same_tid tid e.1.tid && nat_eq e.1.slow 0) sessions
+
+-- how far an own commit of this number has come
+abbrev pub level_of_own : Catalog → SiteId → Knowledge → ℕ → HowFar
+level_of_own catalog i K seq =
+    if nat_le seq (visible_mark catalog i K) then Visible else if nat_le seq (durable_mark catalog i K) then Durable else IsCommitted
+
+abbrev pub level_of_other : Knowledge → Tid → HowFar
+level_of_other K tid = if is_undecided K tid then BeingDecided else if is_open tid K.sessions then Running else NotCommitted
+
+-- how far a transaction of this site has come
+abbrev pub level_by : Catalog → SiteId → Knowledge → Tid → Option ℕ → HowFar
+level_by catalog i K tid (Some seq) = level_of_own catalog i K seq
+level_by catalog i K tid None = level_of_other K tid
+
+abbrev pub level_of : Catalog → SiteId → Knowledge → Tid → HowFar
+level_of catalog i K tid = level_by catalog i K tid (seq_of i K tid)
+
+-- whether the name may be that of a transaction: one of an earlier epoch, or of one that was started in this one
+abbrev pub is_issued : Knowledge → Tid → Bool
+is_issued K tid =
+    nat_lt 0 tid.epoch && (nat_lt 0 tid.number
+    && (nat_lt tid.epoch K.epoch || (nat_eq tid.epoch K.epoch && nat_le tid.number K.starts)))
+
+abbrev pub tells_level : Catalog → SiteId → Knowledge → Tid → Expected
+tells_level catalog i K tid =
+    if not (same_site tid.site i) then refuses WrongSite
+    else if is_issued K tid then answers (Level (level_of catalog i K tid))
+    else refuses NotIssued
+
+-- the session where it is open
+abbrev pub if_open : ℕ → Session → Option Session
+if_open zero s = Some s
+if_open (suc n) s = None
+
+abbrev pub open_in : Option Session → Option Session
+open_in None = None
+open_in (Some s) = if_open s.slow s
+
+abbrev pub starts_for : SiteId → Knowledge → Option Session → Expected
+starts_for i K None = starts_new i K
+starts_for i K (Some s) = refuses TxOpen
+
+abbrev pub commits_for : Catalog → SiteId → Knowledge → Option Session → Expected
+commits_for catalog i K None = refuses NoTx
+commits_for catalog i K (Some s) = commits_by catalog i K s s.slow
+
+-- what needs an open transaction
+abbrev pub with_open : Option Session → (Session → Expected) → Expected
+with_open None expected = refuses NoTx
+with_open (Some s) expected = expected s
+
+-- What a client is answered, by its session. The refusals come in one order: a bad frame; the want of a session, one too
+-- many of the client's or of all; an unknown container, the wrong kind; too long a value, too full a transaction, too wide
+-- a set; a wrong site, a name that wasn't given.
+abbrev pub call_rule : Catalog → SiteId → Knowledge → Result Request Bad → Option Session → Expected
+call_rule catalog i K (Err bad) session = refuses (BadFrame bad.at)
+call_rule catalog i K (Ok Start) session = starts_for i K session
+call_rule catalog i K (Ok (Read oid)) session =
+    with_open (open_in session) (λ s. if_regular (get catalog.containers oid.container) (answers (Value (value_of oid (read_updates K s)))))
+call_rule catalog i K (Ok (Write oid bytes)) session =
+    with_open (open_in session) (λ s. if_regular (get catalog.containers oid.container) (writes s oid bytes))
+call_rule catalog i K (Ok (SetAdd oid id)) session =
+    with_open (open_in session) (λ s. if_cset (get catalog.containers oid.container) (updates_with s (Add oid id)))
+call_rule catalog i K (Ok (SetDel oid id)) session =
+    with_open (open_in session) (λ s. if_cset (get catalog.containers oid.container) (updates_with s (Del oid id)))
+call_rule catalog i K (Ok (SetRead oid)) session =
+    with_open (open_in session) (λ s. if_cset (get catalog.containers oid.container) (shows (counts_of oid (read_updates K s))))
+call_rule catalog i K (Ok (SetReadId oid id)) session =
+    with_open (open_in session) (λ s. if_cset (get catalog.containers oid.container) (answers (Count (count_of oid id (read_updates K s)))))
+call_rule catalog i K (Ok Commit) session = commits_for catalog i K session
+call_rule catalog i K (Ok Abort) session = with_open (open_in session) (λ s. answers (Aborted Asked))
+call_rule catalog i K (Ok (LevelAsked tid)) session = tells_level catalog i K tid
+
+-- a client whose transaction was lost in a stop is told so in the place of an answer, but to a bad frame or a Level
+abbrev pub if_told : Result Request Bad → Option Tid → Expected → Expected
+if_told call None expected = expected
+if_told (Err bad) (Some tid) expected = expected
+if_told (Ok (LevelAsked asked)) (Some tid) expected = expected
+if_told (Ok Start) (Some tid) expected = refuses (Gone tid)
+if_told (Ok (Read oid)) (Some tid) expected = refuses (Gone tid)
+if_told (Ok (Write oid bytes)) (Some tid) expected = refuses (Gone tid)
+if_told (Ok (SetAdd oid id)) (Some tid) expected = refuses (Gone tid)
+if_told (Ok (SetDel oid id)) (Some tid) expected = refuses (Gone tid)
+if_told (Ok (SetRead oid)) (Some tid) expected = refuses (Gone tid)
+if_told (Ok (SetReadId oid id)) (Some tid) expected = refuses (Gone tid)
+if_told (Ok Commit) (Some tid) expected = refuses (Gone tid)
+if_told (Ok Abort) (Some tid) expected = refuses (Gone tid)
+
+-- what a client is answered at a site that is down
+abbrev pub down_rule : Result Request Bad → Expected
+down_rule (Err bad) = refuses (BadFrame bad.at)
+down_rule (Ok request) = refuses IsDown

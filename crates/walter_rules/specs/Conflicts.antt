@@ -1,0 +1,25 @@
+-- What stands in the way of a commit, by what a site knows (docs/SITE.md, "Conflicts").
+use Rattle.std.specs.Prelude.{◌≡◌, ℕ, List, map, filter_map, slice_get, Option, Some, None, Contains, IsTrue, IfSome}
+use Rattle.walter_base.specs.declared.names.ObjId.{ObjId}
+use Rattle.walter_base.specs.declared.transaction.Cause.{Cause}
+use Rattle.walter_base.specs.declared.transaction.Cause.TheVariants.{Modified, Locked, Asked}
+use Rattle.walter_base.specs.declared.transaction.Conflict.{Conflict}
+use Rattle.walter_base.specs.declared.transaction.Conflict.TheVariants.{Modified as ModifiedThere, Locked as LockedThere, Dead}
+use Rattle.walter_base.specs.Conflicts.{conflict_on}
+use Rattle.walter_rules.specs.Knowledge.{Knowledge}
+use Rattle.walter_rules.specs.Log.{row, version_of}
+use Rattle.walter_rules.specs.Objects.{precedes}
+
+-- on one object: the first version in its row that the snapshot doesn't see, or else its lock
+abbrev pub conflict_at : Knowledge → List ℕ → ObjId → Option Conflict
+conflict_at K snapshot oid = conflict_on snapshot (map version_of (row oid K.log)) (K.owner oid) oid
+
+-- of these objects the first that meets one
+abbrev pub first_conflict : Knowledge → List ℕ → List ObjId → Option Conflict
+first_conflict K snapshot objects = slice_get (filter_map (conflict_at K snapshot) objects) 0
+
+-- as the cause of an abort. No commit is aborted because it is over elsewhere.
+abbrev pub cause_of : Conflict → Cause
+cause_of (ModifiedThere oid version) = Modified oid version
+cause_of (LockedThere oid owner) = Locked oid owner
+cause_of Dead = Asked

@@ -1,0 +1,273 @@
+-- What a site knows after a record, after a reply, and after what a peer said; and what is left of it at a stop. Each field
+-- goes by itself, by the record, the reply or the packet first.
+use Rattle.std.specs.Prelude.{ℕ, zero, suc, ◌+◌, nat_eq, max, Bool, true, List, [], ◌∷◌, ◌++◌, Option, Some, None, Result, Ok, if◌then◌else◌}
+use Rattle.std.specs.List.{list_any}
+use Rattle.walter_base.specs.declared.catalog.Catalog.{Catalog}
+use Rattle.walter_base.specs.declared.message.BadFrame.{BadFrame}
+use Rattle.walter_base.specs.declared.message.Record.{Record}
+use Rattle.walter_base.specs.declared.message.Record.TheVariants.{Boot, Own, Got, Seen, Prepared, Released, SlowBegin, SlowEnd, Marks}
+use Rattle.walter_base.specs.declared.message.Reply.TheVariants.{Started, Done, Committed, Aborted, Deciding, Ended, Unsure}
+use Rattle.walter_base.specs.declared.message.Request.{Request}
+use Rattle.walter_base.specs.declared.message.Request.TheVariants.{Write, SetAdd, SetDel}
+use Rattle.walter_base.specs.declared.names.ObjId.{ObjId}
+use Rattle.walter_base.specs.declared.names.SiteId.{SiteId}
+use Rattle.walter_base.specs.declared.names.Tid.{Tid}
+use Rattle.walter_base.specs.declared.packet.Answer.TheVariants.{Yes, No}
+use Rattle.walter_base.specs.declared.packet.Packet.TheVariants.{Ack, Dsmark, Visible, Vote, Released as ReleasedSaid}
+use Rattle.walter_base.specs.declared.transaction.Conflict.{Conflict}
+use Rattle.walter_base.specs.declared.transaction.Tx.{Tx}
+use Rattle.walter_base.specs.declared.update.Update.TheVariants.{Write as WriteOf, Add, Del}
+use Rattle.walter_base.specs.ByClient.{changed, without}
+use Rattle.walter_base.specs.Names.{same_site}
+use Rattle.walter_rules.specs.declared.event.Event.{Event}
+use Rattle.walter_rules.specs.declared.event.Event.TheVariants.{Given}
+use Rattle.walter_rules.specs.declared.event.Input.TheVariants.{Call, Deliver}
+use Rattle.walter_rules.specs.declared.held.Held.{Held}
+use Rattle.walter_rules.specs.declared.outcome.Outcome.{Outcome}
+use Rattle.walter_rules.specs.declared.outcome.Outcome.TheVariants.{Replied, Taken}
+use Rattle.walter_rules.specs.Knowledge.{Knowledge, from_to, vector_of}
+use Rattle.walter_rules.specs.Log.{commit_at}
+use Rattle.walter_rules.specs.Objects.{objects_at, participants}
+use Rattle.walter_rules.specs.Sessions.{Session, Sessions, with_update, with_slow}
+use Rattle.walter_rules.specs.Slow.{Slow, Undecided, ended, decided, Part, Locked, Over, is_slow, has_object, does_lock, unlocked}
+
+-- after a record
+
+abbrev pub epoch_after : Option Record → ℕ → ℕ
+epoch_after None epoch = epoch
+epoch_after (Some (Boot next)) epoch = next
+epoch_after (Some rec) epoch = epoch
+
+abbrev pub log_after : Option Record → List Held → List Held
+log_after None log = log
+log_after (Some (Own seq tx)) log = log ++ record { seq = seq; tx = tx } ∷ []
+log_after (Some (Got from seq tx)) log = log ++ record { seq = seq; tx = tx } ∷ []
+log_after (Some rec) log = log
+
+-- one more of a site
+abbrev pub one_more : SiteId → (SiteId → ℕ) → SiteId → ℕ
+one_more j counts k = if same_site j k then counts k + 1 else counts k
+
+abbrev pub got_after : SiteId → Option Record → (SiteId → ℕ) → SiteId → ℕ
+got_after i None got k = got k
+got_after i (Some (Own seq tx)) got k = one_more i got k
+got_after i (Some (Got from seq tx)) got k = one_more from got k
+got_after i (Some rec) got k = got k
+
+abbrev pub committed_after : SiteId → Option Record → (SiteId → ℕ) → SiteId → ℕ
+committed_after i None committed k = committed k
+committed_after i (Some (Own seq tx)) committed k = one_more i committed k
+committed_after i (Some (Seen from seq)) committed k = one_more from committed k
+committed_after i (Some rec) committed k = committed k
+
+abbrev pub last_after : Option Record → ℕ → ℕ
+last_after None last = last
+last_after (Some (SlowBegin n tx)) last = n
+last_after (Some rec) last = last
+
+-- a boot ends each slow commit that is being decided
+abbrev pub slow_after : Catalog → SiteId → Knowledge → Option Record → ℕ → Slow
+slow_after catalog i K None n = K.slow n
+slow_after catalog i K (Some (SlowBegin m tx)) n = if nat_eq m n then Undecided tx (participants catalog K i tx.updates) else K.slow n
+slow_after catalog i K (Some (SlowEnd m)) n = if nat_eq m n then ended (K.slow n) else K.slow n
+slow_after catalog i K (Some (Own seq tx)) n = if nat_eq tx.slow n then decided (K.slow n) else K.slow n
+slow_after catalog i K (Some (Boot epoch)) n = ended (K.slow n)
+slow_after catalog i K (Some rec) n = K.slow n
+
+-- the number of the slow commit of a transaction that a site holds, 0 for a fast one
+abbrev pub slow_number : Option Tx → ℕ
+slow_number None = 0
+slow_number (Some tx) = tx.slow
+
+-- the slow commit of a coordinator of this number is over here
+abbrev pub part_over : SiteId → ℕ → (SiteId → ℕ → Part) → SiteId → ℕ → Part
+part_over j zero part k m = part k m
+part_over j (suc n) part k m = if is_slow j (suc n) k m then Over else part k m
+
+abbrev pub part_locked : SiteId → ℕ → Tid → List ObjId → (SiteId → ℕ → Part) → SiteId → ℕ → Part
+part_locked j n tid objects part k m = if is_slow j n k m then Locked tid objects else part k m
+
+abbrev pub part_unlocked : SiteId → ℕ → (SiteId → ℕ → Part) → SiteId → ℕ → Part
+part_unlocked j n part k m = if is_slow j n k m then unlocked (part k m) else part k m
+
+-- the lock of an own slow commit goes where it ends, and a boot ends them all; that of another's goes where it is released
+-- or committed here, and then it is over here
+abbrev pub part_after : Catalog → SiteId → Knowledge → Option Record → SiteId → ℕ → Part
+part_after catalog i K None j n = K.part j n
+part_after catalog i K (Some (Prepared k m tid objects)) j n = part_locked k m tid objects K.part j n
+part_after catalog i K (Some (Released k m)) j n = if is_slow k m j n then Over else K.part j n
+part_after catalog i K (Some (Seen k seq)) j n = part_over k (slow_number (commit_at k seq K.log)) K.part j n
+part_after catalog i K (Some (SlowBegin m tx)) j n = part_locked i m tx.tid (objects_at catalog K i tx.updates) K.part j n
+part_after catalog i K (Some (SlowEnd m)) j n = part_unlocked i m K.part j n
+part_after catalog i K (Some (Own seq tx)) j n = part_unlocked i tx.slow K.part j n
+part_after catalog i K (Some (Boot epoch)) j n = if same_site i j then unlocked (K.part j n) else K.part j n
+part_after catalog i K (Some (Got k seq tx)) j n = K.part j n
+part_after catalog i K (Some (Marks durable visible)) j n = K.part j n
+
+abbrev pub owned : Tid → List ObjId → (ObjId → Option Tid) → ObjId → Option Tid
+owned tid objects owner oid = if has_object oid objects then Some tid else owner oid
+
+-- what the part has locked is free
+abbrev pub freed : Part → (ObjId → Option Tid) → ObjId → Option Tid
+freed part owner oid = if does_lock part oid then None else owner oid
+
+-- whether an own slow commit has the object locked
+abbrev pub is_locked_here : SiteId → Knowledge → ObjId → Bool
+is_locked_here i K oid = list_any (λ n. does_lock (K.part i n) oid) (from_to 1 K.last)
+
+abbrev pub freed_over : SiteId → ℕ → Knowledge → ObjId → Option Tid
+freed_over j zero K oid = K.owner oid
+freed_over j (suc n) K oid = freed (K.part j (suc n)) K.owner oid
+
+abbrev pub owner_after : Catalog → SiteId → Knowledge → Option Record → ObjId → Option Tid
+owner_after catalog i K None oid = K.owner oid
+owner_after catalog i K (Some (Prepared k m tid objects)) oid = owned tid objects K.owner oid
+owner_after catalog i K (Some (Released k m)) oid = freed (K.part k m) K.owner oid
+owner_after catalog i K (Some (Seen k seq)) oid = freed_over k (slow_number (commit_at k seq K.log)) K oid
+owner_after catalog i K (Some (SlowBegin m tx)) oid = owned tx.tid (objects_at catalog K i tx.updates) K.owner oid
+owner_after catalog i K (Some (SlowEnd m)) oid = freed (K.part i m) K.owner oid
+owner_after catalog i K (Some (Own seq tx)) oid = freed (K.part i tx.slow) K.owner oid
+owner_after catalog i K (Some (Boot epoch)) oid = if is_locked_here i K oid then None else K.owner oid
+owner_after catalog i K (Some (Got k seq tx)) oid = K.owner oid
+owner_after catalog i K (Some (Marks durable visible)) oid = K.owner oid
+
+abbrev pub durable_after : Option Record → ℕ → ℕ
+durable_after None floor = floor
+durable_after (Some (Marks durable visible)) floor = durable
+durable_after (Some rec) floor = floor
+
+abbrev pub visible_after : Option Record → ℕ → ℕ
+visible_after None floor = floor
+visible_after (Some (Marks durable visible)) floor = visible
+visible_after (Some rec) floor = floor
+
+-- what is known after a record
+abbrev pub recorded : Catalog → SiteId → Option Record → Knowledge → Knowledge
+recorded catalog i rec K = record K {
+  epoch = epoch_after rec K.epoch;
+  log = log_after rec K.log;
+  got = got_after i rec K.got;
+  committed = committed_after i rec K.committed;
+  last = last_after rec K.last;
+  slow = slow_after catalog i K rec;
+  part = part_after catalog i K rec;
+  owner = owner_after catalog i K rec;
+  durable_floor = durable_after rec K.durable_floor;
+  visible_floor = visible_after rec K.visible_floor;
+}
+
+-- after a reply
+
+abbrev pub starts_after : Outcome → ℕ → ℕ
+starts_after (Replied (Started tid)) starts = starts + 1
+starts_after outcome starts = starts
+
+-- the sessions with one more, of the event's client
+abbrev pub opened : Event → Session → Sessions → Sessions
+opened (Given (Call client call)) new sessions = sessions ++ (client, new) ∷ []
+opened event new sessions = sessions
+
+-- the sessions without that of the event's client
+abbrev pub closed : Event → Sessions → Sessions
+closed (Given (Call client call)) sessions = without client sessions
+closed event sessions = sessions
+
+-- the session with the update that was asked for
+abbrev pub updated : Result Request BadFrame → Session → Session
+updated (Ok (Write oid bytes)) s = with_update (WriteOf oid bytes) s
+updated (Ok (SetAdd oid id)) s = with_update (Add oid id) s
+updated (Ok (SetDel oid id)) s = with_update (Del oid id) s
+updated call s = s
+
+-- the sessions where that of the event's client has the update
+abbrev pub done : Event → Sessions → Sessions
+done (Given (Call client call)) sessions = changed client (updated call) sessions
+done event sessions = sessions
+
+-- the session with the number of the slow commit that was begun
+abbrev pub deciding : Option Record → Session → Session
+deciding (Some (SlowBegin n tx)) s = with_slow n s
+deciding wrote s = s
+
+-- the sessions where that of the event's client has it
+abbrev pub begun_by : Event → Option Record → Sessions → Sessions
+begun_by (Given (Call client call)) wrote sessions = changed client (deciding wrote) sessions
+begun_by event wrote sessions = sessions
+
+abbrev pub sessions_after : Event → Outcome → Option Record → List ℕ → Sessions → Sessions
+sessions_after event (Replied (Started tid)) wrote snapshot sessions = opened event (record { tid = tid; snapshot = snapshot; updates = []; slow = 0 }) sessions
+sessions_after event (Replied Done) wrote snapshot sessions = done event sessions
+sessions_after event (Replied (Committed version)) wrote snapshot sessions = closed event sessions
+sessions_after event (Replied (Aborted cause)) wrote snapshot sessions = closed event sessions
+sessions_after event (Replied (Deciding tid)) wrote snapshot sessions = begun_by event wrote sessions
+sessions_after event (Replied Ended) wrote snapshot sessions = closed event sessions
+sessions_after event (Replied (Unsure tid)) wrote snapshot sessions = closed event sessions
+sessions_after event outcome wrote snapshot sessions = sessions
+
+-- what is known after a reply, to an event that made this record stable
+abbrev pub answered : Catalog → Event → Outcome → Option Record → Knowledge → Knowledge
+answered catalog event outcome wrote K = record K {
+  starts = starts_after outcome K.starts;
+  sessions = sessions_after event outcome wrote (vector_of catalog K) K.sessions;
+}
+
+-- after what a peer said, where it is taken
+
+abbrev pub risen : SiteId → ℕ → (SiteId → ℕ) → SiteId → ℕ
+risen j number said k = if same_site j k then max (said k) number else said k
+
+abbrev pub acknowledged_after : Outcome → Event → (SiteId → ℕ) → SiteId → ℕ
+acknowledged_after Taken (Given (Deliver j number (Ack got))) said k = risen j got said k
+acknowledged_after outcome event said k = said k
+
+abbrev pub said_visible_after : Outcome → Event → (SiteId → ℕ) → SiteId → ℕ
+said_visible_after Taken (Given (Deliver j number (Visible committed))) said k = risen j committed said k
+said_visible_after outcome event said k = said k
+
+abbrev pub said_durable_after : Outcome → Event → (SiteId → ℕ) → SiteId → ℕ
+said_durable_after Taken (Given (Deliver j number (Dsmark durable))) said k = risen j durable said k
+said_durable_after outcome event said k = said k
+
+-- behind those that were heard of a number
+abbrev pub heard_of : ℕ → SiteId → (ℕ → List SiteId) → ℕ → List SiteId
+heard_of m j heard n = if nat_eq m n then heard n ++ j ∷ [] else heard n
+
+abbrev pub said_yes_after : Outcome → Event → (ℕ → List SiteId) → ℕ → List SiteId
+said_yes_after Taken (Given (Deliver j number (Vote m Yes))) said n = heard_of m j said n
+said_yes_after outcome event said n = said n
+
+abbrev pub said_no_after : Outcome → Event → (ℕ → Option Conflict) → ℕ → Option Conflict
+said_no_after Taken (Given (Deliver j number (Vote m (No conflict)))) said n = if nat_eq m n then Some conflict else said n
+said_no_after outcome event said n = said n
+
+abbrev pub said_released_after : Outcome → Event → (ℕ → List SiteId) → ℕ → List SiteId
+said_released_after Taken (Given (Deliver j number (ReleasedSaid m))) said n = heard_of m j said n
+said_released_after outcome event said n = said n
+
+-- what is known after an event that came to this
+abbrev pub heard : Event → Outcome → Knowledge → Knowledge
+heard event outcome K = record K {
+  acknowledged = acknowledged_after outcome event K.acknowledged;
+  visible = said_visible_after outcome event K.visible;
+  durable = said_durable_after outcome event K.durable;
+  said_yes = said_yes_after outcome event K.said_yes;
+  said_no = said_no_after outcome event K.said_no;
+  said_released = said_released_after outcome event K.said_released;
+}
+
+-- what is known after an event that came to this outcome and made this record stable
+abbrev pub after : Catalog → SiteId → Knowledge → Event → Outcome → Option Record → Knowledge
+after catalog i K event outcome wrote = heard event outcome (answered catalog event outcome wrote (recorded catalog i wrote K))
+
+-- what is left of it where the site loses its memory: what its records tell
+abbrev pub lost : Knowledge → Knowledge
+lost K = record K {
+  starts = 0;
+  sessions = [];
+  acknowledged = λ k. 0;
+  visible = λ k. 0;
+  durable = λ k. 0;
+  said_yes = λ n. [];
+  said_no = λ n. None;
+  said_released = λ n. [];
+}
