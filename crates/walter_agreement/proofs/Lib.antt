@@ -1,2 +1,4 @@
 pub mod Cases
 pub mod Locks
+pub mod Issued
+pub mod Tidy
