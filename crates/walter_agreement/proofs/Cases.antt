@@ -1,6 +1,8 @@
 -- Cases: two sites, two slow commits, two numbers, and what slow commits and parts can be.
-use Rattle.std.proofs.Common.{◌≡◌, ◌≢◌, ◌<◌, ◌≤◌, ◌⊎◌, ℕ, zero, suc, true, false, nat_eq, Some, None, refl, ap, sym, ◌∙◌, subst, arith, inl, inr}
-use Rattle.std.specs.Prelude.{List, Option}
+use Rattle.std.proofs.Common.{◌≡◌, ◌≢◌, ◌<◌, ◌≤◌, ◌⊎◌, ℕ, zero, suc, Bool, true, false, nat_eq, Some, None, refl, ap, sym, ◌∙◌, subst, arith, inl, inr}
+use Rattle.std.specs.Prelude.{List, Option, Contains}
+use Rattle.std.specs.Cmp.{IsEquivalence}
+use Rattle.std.proofs.lemmas.Map.Views.{list_any-from_Contains, Contains-from_any}
 use Rattle.std.proofs.lemmas.Bool.{eqb-true, eq-eqb}
 use Rattle.std.proofs.lemmas.Bool.Decides.{leb_tells}
 use Rattle.std.proofs.lemmas.Option.{same_Some}
@@ -8,9 +10,9 @@ use Rattle.walter_base.specs.declared.names.ObjId.{ObjId}
 use Rattle.walter_base.specs.declared.names.SiteId.{SiteId}
 use Rattle.walter_base.specs.declared.names.Tid.{Tid}
 use Rattle.walter_base.specs.declared.transaction.Tx.{Tx}
-use Rattle.walter_base.specs.Names.{same_site}
-use Rattle.walter_base.proofs.NameTests.{both, same_site-true, same_site_refl}
-use Rattle.walter_rules.specs.Slow.{Slow, Unused, Undecided, Dropped, Decided, Part, Free, Locked, Over, begun, ended, decided, is_slow}
+use Rattle.walter_base.specs.Names.{same_site, same_object}
+use Rattle.walter_base.proofs.NameTests.{both, same_site-true, same_site_refl, same_object-true, same_object_refl}
+use Rattle.walter_rules.specs.Slow.{Slow, Unused, Undecided, Dropped, Decided, Part, Free, Locked, Over, begun, ended, decided, is_slow, has_object, does_lock, unlocked}
 
 -- two sites are the same or not, by their test too
 pub site_cases : (a b : SiteId) → ((same_site a b ≡ true) × (a ≡ b)) ⊎ ((same_site a b ≡ false) × (a ≢ b))
@@ -106,3 +108,52 @@ locked_not_free a t objs h d = let f : Free ≡ Locked t objs = sym d ∙ h in c
 
 pub over_not_free : (a : Part) → a ≡ Over → a ≡ Free → ⊥
 over_not_free a h d = let f : Free ≡ Over = sym d ∙ h in cc
+
+pub over_not_locked : (a : Part) (t : Tid) (objs : List ObjId) → Over ≢ Locked t objs
+over_not_locked a t objs e = cc
+
+pub unlocked_not_locked : (a : Part) (t : Tid) (objs : List ObjId) → unlocked a ≢ Locked t objs
+unlocked_not_locked Free t objs e = cc
+unlocked_not_locked (Locked u others) t objs e = cc
+unlocked_not_locked Over t objs e = cc
+
+pub none_not_some : {X : Type 0} (o : Option X) (x : X) → o ≡ None → o ≡ Some x → ⊥
+none_not_some {X} o x n s = let f : ◌≡◌ {A = Option X} None (Some x) = sym n ∙ s in cc
+
+-- two equal names of a slow commit pass the test
+pub slow_itself : (j : SiteId) (n : ℕ) (k : SiteId) (m : ℕ) → j ≡ k → n ≡ m → is_slow j n k m ≡ true
+slow_itself j n k m ej en = subst (λ z. is_slow j n z m ≡ true) ej (subst (λ z. is_slow j n j z ≡ true) en (rw (same_site_refl j, eq-eqb n n refl) refl))
+
+-- a part locks the object or not, by its test too
+pub lock_cases : (a : Part) (oid : ObjId)
+    → ((t : Tid) × (objs : List ObjId) × (a ≡ Locked t objs) × (has_object oid objs ≡ true) × (does_lock a oid ≡ true))
+    ⊎ ((does_lock a oid ≡ false) × ((t : Tid) (objs : List ObjId) → a ≡ Locked t objs → has_object oid objs ≡ true → ⊥))
+lock_cases Free oid = inr (refl, λ t objs e. absurd cc)
+lock_cases (Locked u others) oid =
+    elim (has_object oid others) as (λ b. has_object oid others ≡ b → ((t : Tid) × (objs : List ObjId) × (Locked u others ≡ Locked t objs) × (has_object oid objs ≡ true) × (has_object oid others ≡ true))
+    ⊎ ((has_object oid others ≡ false) × ((t : Tid) (objs : List ObjId) → Locked u others ≡ Locked t objs → has_object oid objs ≡ true → ⊥))) [
+      | true ↦ λ is. inl (u, others, refl, is, is)
+      | false ↦ λ is. inr (is, λ t objs e h. let f : others ≡ objs = cc in let g : has_object oid others ≡ true = ap (λ z. has_object oid z) f ∙ h in absurd (cc))
+    ] refl
+lock_cases Over oid = inr (refl, λ t objs e. absurd cc)
+
+-- a test that is true exactly of equal values is an equivalence
+test_equivalence : {K : Type 0} (test : K → K → Bool) → ((x y : K) → test x y ≡ true → x ≡ y) → ((x : K) → test x x ≡ true) → IsEquivalence test
+test_equivalence {K} test is same = record {
+  refl = same;
+  symm = λ x y. elim (test x y) as (λ b. test x y ≡ b → b ≡ test y x) [
+    | true ↦ λ h. sym (subst (λ z. test z x ≡ true) (is x y h) (same x))
+    | false ↦ λ h. elim (test y x) as (λ c. test y x ≡ c → false ≡ c) [
+      | true ↦ λ k. absurd (let f : test x x ≡ false = subst (λ z. test x z ≡ false) (is y x k) h in let g = same x in cc)
+      | false ↦ λ k. refl
+    ] refl
+  ] refl;
+  congr = λ x y z h. ap (λ w. test w z) (is x y h);
+}
+
+-- the test for an object of a list is true exactly of those that it contains
+pub object_is_in : (oid : ObjId) (objs : List ObjId) → Contains objs oid → has_object oid objs ≡ true
+object_is_in oid objs h = list_any-from_Contains (test_equivalence same_object same_object-true same_object_refl) oid objs h
+
+pub object_in : (oid : ObjId) (objs : List ObjId) → has_object oid objs ≡ true → Contains objs oid
+object_in oid objs h = Contains-from_any same_object-true oid objs h

@@ -2,3 +2,4 @@ pub mod Cases
 pub mod Locks
 pub mod Issued
 pub mod Tidy
+pub mod Owners
