@@ -3,3 +3,4 @@ pub mod Locks
 pub mod Issued
 pub mod Tidy
 pub mod Owners
+pub mod Marked
