@@ -1,5 +1,5 @@
 -- Cases: two sites, two slow commits, two numbers, and what slow commits and parts can be.
-use Rattle.std.proofs.Common.{◌≡◌, ◌≢◌, ◌<◌, ◌≤◌, ◌⊎◌, ℕ, zero, suc, Bool, true, false, nat_eq, Some, None, refl, ap, sym, ◌∙◌, subst, arith, inl, inr}
+use Rattle.std.proofs.Common.{◌≡◌, ◌≢◌, ◌<◌, ◌≤◌, ◌⊎◌, ℕ, zero, suc, Bool, true, false, nat_eq, Some, None, refl, ap, sym, ◌∙◌, subst, arith, inl, inr, if◌then◌else◌}
 use Rattle.std.specs.Prelude.{List, Option, Contains}
 use Rattle.std.specs.Cmp.{IsEquivalence}
 use Rattle.std.proofs.lemmas.Map.Views.{list_any-from_Contains, Contains-from_any}
@@ -157,3 +157,43 @@ object_is_in oid objs h = list_any-from_Contains (test_equivalence same_object s
 
 pub object_in : (oid : ObjId) (objs : List ObjId) → has_object oid objs ≡ true → Contains objs oid
 object_in oid objs h = Contains-from_any same_object-true oid objs h
+
+-- an unlocked part is as it was, or free
+pub unlocked_or_free : (a : Part) → (unlocked a ≡ a) ⊎ (unlocked a ≡ Free)
+unlocked_or_free Free = inl refl
+unlocked_or_free (Locked t objs) = inr refl
+unlocked_or_free Over = inl refl
+
+-- where one slow commit's part at a site changes, each part stays or is that one
+pub part_cases : (f : Part → Part) (locks locks2 : SiteId → SiteId → ℕ → Part) (i k : SiteId) (m : ℕ)
+    → ((p j : SiteId) (n : ℕ) → p ≢ i → locks2 p j n ≡ locks p j n)
+    → ((j : SiteId) (n : ℕ) → locks2 i j n ≡ (if is_slow k m j n then f (locks i j n) else locks i j n))
+    → (p j : SiteId) (n : ℕ) → (locks2 p j n ≡ locks p j n) ⊎ ((p ≡ i) × (j ≡ k) × (n ≡ m) × (locks2 p j n ≡ f (locks p j n)))
+part_cases f locks locks2 i k m away here p j n = elim (site_cases p i) [
+  | inr apart ↦ inl (away p j n apart.1)
+  | inl same ↦ elim (slow_cases k m j n) [
+    | inl it ↦
+        let now : locks2 i j n ≡ f (locks i j n) = here j n ∙ ap (λ b. if b then f (locks i j n) else locks i j n) it.0 in
+        inr (same.1, sym it.1, sym it.2, subst (λ z. locks2 z j n ≡ f (locks z j n)) (sym same.1) now)
+    | inr other ↦
+        let now : locks2 i j n ≡ locks i j n = here j n ∙ ap (λ b. if b then f (locks i j n) else locks i j n) other.0 in
+        inl (subst (λ z. locks2 z j n ≡ locks z j n) (sym same.1) now)
+  ]
+]
+
+-- where one slow commit of a site changes, each stays or is that one
+pub standing_cases : (f : Slow → Slow) (slows slows2 : SiteId → ℕ → Slow) (i : SiteId) (m : ℕ)
+    → ((j : SiteId) (n : ℕ) → j ≢ i → slows2 j n ≡ slows j n)
+    → ((n : ℕ) → slows2 i n ≡ (if nat_eq m n then f (slows i n) else slows i n))
+    → (j : SiteId) (n : ℕ) → (slows2 j n ≡ slows j n) ⊎ ((j ≡ i) × (n ≡ m) × (slows2 j n ≡ f (slows j n)))
+standing_cases f slows slows2 i m away here j n = elim (site_cases j i) [
+  | inr apart ↦ inl (away j n apart.1)
+  | inl same ↦ elim (nat_eq m n) as (λ b. nat_eq m n ≡ b → (slows2 j n ≡ slows j n) ⊎ ((j ≡ i) × (n ≡ m) × (slows2 j n ≡ f (slows j n)))) [
+    | true ↦ λ is.
+        let now : slows2 i n ≡ f (slows i n) = here n ∙ ap (λ b. if b then f (slows i n) else slows i n) is in
+        inr (same.1, sym (eqb-true m n is), subst (λ z. slows2 z n ≡ f (slows z n)) (sym same.1) now)
+    | false ↦ λ is.
+        let now : slows2 i n ≡ slows i n = here n ∙ ap (λ b. if b then f (slows i n) else slows i n) is in
+        inl (subst (λ z. slows2 z n ≡ slows z n) (sym same.1) now)
+  ] refl
+]

@@ -1,5 +1,6 @@
 pub mod Cases
 pub mod Locks
+pub mod LocksKept
 pub mod Issued
 pub mod Tidy
 pub mod Owners
