@@ -94,7 +94,8 @@ ended_not_open g x asked h e = elim h.1 [
 pub decided_not_open : (g : Slow) (x y : Tx) (asked : List SiteId) → g ≡ Decided x → g ≡ Undecided y asked → ⊥
 decided_not_open g x y asked d e = let f : Decided x ≡ Undecided y asked = sym d ∙ e in cc
 
-pub dropped_not_open : (g : Slow) (x y : Tx) (asked others : List SiteId) → g ≡ Dropped x asked → g ≡ Undecided y others → ⊥
+pub dropped_not_open : (g : Slow) (x y : Tx) (asked others : List SiteId) → g ≡ Dropped x asked → g ≡ Undecided y others
+    → ⊥
 dropped_not_open g x y asked others d e = let f : Dropped x asked ≡ Undecided y others = sym d ∙ e in cc
 
 pub same_open : (g : Slow) (x y : Tx) (asked : List SiteId) → begun g ≡ Some x → g ≡ Undecided y asked → x ≡ y
@@ -138,7 +139,8 @@ lock_cases (Locked u others) oid =
 lock_cases Over oid = inr (refl, λ t objs e. absurd cc)
 
 -- a test that is true exactly of equal values is an equivalence
-test_equivalence : {K : Type 0} (test : K → K → Bool) → ((x y : K) → test x y ≡ true → x ≡ y) → ((x : K) → test x x ≡ true) → IsEquivalence test
+test_equivalence : {K : Type 0} (test : K → K → Bool) → ((x y : K) → test x y ≡ true → x ≡ y)
+    → ((x : K) → test x x ≡ true) → IsEquivalence test
 test_equivalence {K} test is same = record {
   refl = same;
   symm = λ x y. elim (test x y) as (λ b. test x y ≡ b → b ≡ test y x) [
@@ -168,7 +170,8 @@ unlocked_or_free Over = inl refl
 pub part_cases : (f : Part → Part) (locks locks2 : SiteId → SiteId → ℕ → Part) (i k : SiteId) (m : ℕ)
     → ((p j : SiteId) (n : ℕ) → p ≢ i → locks2 p j n ≡ locks p j n)
     → ((j : SiteId) (n : ℕ) → locks2 i j n ≡ (if is_slow k m j n then f (locks i j n) else locks i j n))
-    → (p j : SiteId) (n : ℕ) → (locks2 p j n ≡ locks p j n) ⊎ ((p ≡ i) × (j ≡ k) × (n ≡ m) × (locks2 p j n ≡ f (locks p j n)))
+    → (p j : SiteId) (n : ℕ)
+    → (locks2 p j n ≡ locks p j n) ⊎ ((p ≡ i) × (j ≡ k) × (n ≡ m) × (locks2 p j n ≡ f (locks p j n)))
 part_cases f locks locks2 i k m away here p j n = elim (site_cases p i) [
   | inr apart ↦ inl (away p j n apart.1)
   | inl same ↦ elim (slow_cases k m j n) [

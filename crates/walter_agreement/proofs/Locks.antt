@@ -27,25 +27,32 @@ WritesAt preferred p x oid = Contains (write_set x.updates) oid × (preferred oi
 
 -- of site k's own commits `owns k`, site p's commits in order `known p`, how many of site k's commits are committed at p
 -- `counts p k`, site j's slow commits `slows j`, and what site p has of slow commit n of j `locks p j n`
-pub record AreLocked (preferred : ObjId → SiteId) (owns known : SiteId → List Held) (counts : SiteId → SiteId → ℕ) (slows : SiteId → ℕ → Slow) (locks : SiteId → SiteId → ℕ → Part) : Type 0 where
+pub record AreLocked (preferred : ObjId → SiteId) (owns known : SiteId → List Held) (counts : SiteId → SiteId → ℕ)
+    (slows : SiteId → ℕ → Slow) (locks : SiteId → SiteId → ℕ → Part) : Type 0 where
   -- each lock is that of a begun slow commit, on what it writes there
-  pub held : (p j : SiteId) (n : ℕ) (t : Tid) (objs : List ObjId) → locks p j n ≡ Locked t objs → IsTrueLock preferred p (slows j n) t objs
+  pub held : (p j : SiteId) (n : ℕ) (t : Tid) (objs : List ObjId) → locks p j n ≡ Locked t objs
+      → IsTrueLock preferred p (slows j n) t objs
   -- what is over at a site is over at its coordinator
   pub over : (p j : SiteId) (n : ℕ) → locks p j n ≡ Over → HasEnded (slows j n)
   -- one lock on an object
-  pub single : (p j k : SiteId) (n m : ℕ) (t u : Tid) (ws bs : List ObjId) (oid : ObjId) → locks p j n ≡ Locked t ws → locks p k m ≡ Locked u bs
+  pub single : (p j k : SiteId) (n m : ℕ) (t u : Tid) (ws bs : List ObjId) (oid : ObjId) → locks p j n ≡ Locked t ws
+      → locks p k m ≡ Locked u bs
       → Contains ws oid → Contains bs oid → preferred oid ≡ p → (j ≡ k) × (n ≡ m)
   -- an undecided one sees each version of what it has locked
-  pub clean : (p j : SiteId) (n : ℕ) (t : Tid) (objs : List ObjId) (x : Tx) (asked : List SiteId) → locks p j n ≡ Locked t objs
+  pub clean : (p j : SiteId) (n : ℕ) (t : Tid) (objs : List ObjId) (x : Tx) (asked : List SiteId)
+      → locks p j n ≡ Locked t objs
       → slows j n ≡ Undecided x asked → IsUnmodified preferred p x.start objs (known p)
   -- what is committed and doesn't stand at p has its lock there
   pub waits : (p k : SiteId) (q : ℕ) (r : Held) (oid : ObjId) → slice_get (owns k) q ≡ Some r → counts p k ≤ q
       → Contains (write_set r.tx.updates) oid → preferred oid ≡ p → IsHeld (locks p k r.tx.slow) oid
   -- a fast commit writes at home alone
-  pub fast : (k : SiteId) (q : ℕ) (r : Held) → slice_get (owns k) q ≡ Some r → r.tx.slow ≡ 0 → AreLocal preferred k r.tx.updates
+  pub fast : (k : SiteId) (q : ℕ) (r : Held) → slice_get (owns k) q ≡ Some r → r.tx.slow ≡ 0
+      → AreLocal preferred k r.tx.updates
   -- a slow one was decided, once
-  pub slow : (k : SiteId) (q : ℕ) (r : Held) → slice_get (owns k) q ≡ Some r → r.tx.slow ≢ 0 → slows k r.tx.slow ≡ Decided r.tx
-  pub once : (k : SiteId) (q p : ℕ) (r s : Held) → slice_get (owns k) q ≡ Some r → slice_get (owns k) p ≡ Some s → r.tx.slow ≢ 0
+  pub slow : (k : SiteId) (q : ℕ) (r : Held) → slice_get (owns k) q ≡ Some r → r.tx.slow ≢ 0
+      → slows k r.tx.slow ≡ Decided r.tx
+  pub once : (k : SiteId) (q p : ℕ) (r s : Held) → slice_get (owns k) q ≡ Some r → slice_get (owns k) p ≡ Some s
+      → r.tx.slow ≢ 0
       → r.tx.slow ≡ s.tx.slow → q ≡ p
   -- an undecided one has what it writes at home locked there
   pub local : (p : SiteId) (n : ℕ) (x : Tx) (asked : List SiteId) (oid : ObjId) → slows p n ≡ Undecided x asked
@@ -61,11 +68,14 @@ pub record IsLoosed (p j : SiteId) (part : Part) (g : Slow) : Type 0 where
   pub home : p ≡ j → (x : Tx) (asked : List SiteId) → g ≢ Undecided x asked
 
 -- at first nothing is committed, begun or locked
-pub none_locked : (preferred : ObjId → SiteId) (owns known : SiteId → List Held) (counts : SiteId → SiteId → ℕ) (slows : SiteId → ℕ → Slow) (locks : SiteId → SiteId → ℕ → Part)
-    → ((k : SiteId) → owns k ≡ []) → ((j : SiteId) (n : ℕ) → slows j n ≡ Unused) → ((p j : SiteId) (n : ℕ) → locks p j n ≡ Free)
+pub none_locked : (preferred : ObjId → SiteId) (owns known : SiteId → List Held) (counts : SiteId → SiteId → ℕ)
+    (slows : SiteId → ℕ → Slow) (locks : SiteId → SiteId → ℕ → Part)
+    → ((k : SiteId) → owns k ≡ []) → ((j : SiteId) (n : ℕ) → slows j n ≡ Unused)
+    → ((p j : SiteId) (n : ℕ) → locks p j n ≡ Free)
     → AreLocked preferred owns known counts slows locks
 none_locked preferred owns known counts slows locks none unused free =
-    let no_own : (k : SiteId) (q : ℕ) (r : Held) → slice_get (owns k) q ≡ Some r → ⊥ = λ k q r here. let e = sym (ap (λ z. slice_get z q) (none k)) ∙ here in cc in
+    let no_own : (k : SiteId) (q : ℕ) (r : Held) → slice_get (owns k) q ≡ Some r
+    → ⊥ = λ k q r here. let e = sym (ap (λ z. slice_get z q) (none k)) ∙ here in cc in
     record {
       held = λ p j n t objs h. absurd (locked_not_free (locks p j n) t objs h (free p j n));
       over = λ p j n h. absurd (over_not_free (locks p j n) h (free p j n));
@@ -79,7 +89,9 @@ none_locked preferred owns known counts slows locks none unused free =
       gone = λ p k q r apart here. absurd (no_own k q r here);
     }
 
-module _ (preferred : ObjId → SiteId) (owns known : SiteId → List Held) (counts : SiteId → SiteId → ℕ) (slows : SiteId → ℕ → Slow) (locks : SiteId → SiteId → ℕ → Part) (L : AreLocked preferred owns known counts slows locks) where
+module _ (preferred : ObjId → SiteId) (owns known : SiteId → List Held) (counts : SiteId → SiteId → ℕ)
+    (slows : SiteId → ℕ → Slow) (locks : SiteId → SiteId → ℕ → Part)
+    (L : AreLocked preferred owns known counts slows locks) where
   -- of a slow commit that isn't begun a site has nothing
   pub unused_free : (p j : SiteId) (n : ℕ) → slows j n ≡ Unused → locks p j n ≡ Free
   unused_free p j n unused = elim (locks p j n) as (λ g. locks p j n ≡ g → g ≡ Free) [
@@ -99,15 +111,18 @@ module _ (preferred : ObjId → SiteId) (owns known : SiteId → List Held) (cou
       → locks2 p k r.tx.slow ≡ Over)
       → AreLocked preferred owns known counts2 slows2 locks2
   goes counts2 slows2 locks2 rise full ends go lasts risen =
-      let stays : (j : SiteId) (n : ℕ) (x : Tx) → begun (slows j n) ≡ Some x → begun (slows2 j n) ≡ Some x = λ j n x h. elim (ends j n) [
+      let stays : (j : SiteId) (n : ℕ) (x : Tx) → begun (slows j n) ≡ Some x
+      → begun (slows2 j n) ≡ Some x = λ j n x h. elim (ends j n) [
         | inl same ↦ ap begun same ∙ h
         | inr end ↦ let f : x ≡ end.0 = same_open (slows j n) x end.0 end.1 h end.2 in ap begun end.3 ∙ ap (λ z. Some z) (sym f)
       ] in
-      let open_ : (j : SiteId) (n : ℕ) (x : Tx) (asked : List SiteId) → slows2 j n ≡ Undecided x asked → slows j n ≡ Undecided x asked = λ j n x asked o. elim (ends j n) [
+      let open_ : (j : SiteId) (n : ℕ) (x : Tx) (asked : List SiteId) → slows2 j n ≡ Undecided x asked
+      → slows j n ≡ Undecided x asked = λ j n x asked o. elim (ends j n) [
         | inl same ↦ sym same ∙ o
         | inr end ↦ absurd (dropped_not_open (slows2 j n) end.0 x end.1 asked end.3 o)
       ] in
-      let old : (p j : SiteId) (n : ℕ) (t : Tid) (objs : List ObjId) → locks2 p j n ≡ Locked t objs → locks p j n ≡ Locked t objs = λ p j n t objs h. elim (go p j n) [
+      let old : (p j : SiteId) (n : ℕ) (t : Tid) (objs : List ObjId) → locks2 p j n ≡ Locked t objs
+      → locks p j n ≡ Locked t objs = λ p j n t objs h. elim (go p j n) [
         | inl same ↦ sym same ∙ h
         | inr loosed ↦ absurd (loosed.0.none t objs h)
       ] in
@@ -152,14 +167,16 @@ module _ (preferred : ObjId → SiteId) (owns known : SiteId → List Held) (cou
       }
 
   -- a slow commit begins at c with its lock there, or its lock comes to i
-  pub comes : (slows2 : SiteId → ℕ → Slow) (locks2 : SiteId → SiteId → ℕ → Part) (i c : SiteId) (m : ℕ) (objs : List ObjId) (x : Tx)
+  pub comes : (slows2 : SiteId → ℕ → Slow) (locks2 : SiteId → SiteId → ℕ → Part) (i c : SiteId) (m : ℕ)
+      (objs : List ObjId) (x : Tx)
       → ((j : SiteId) (n : ℕ) → (slows2 j n ≡ slows j n) ⊎ ((asked : List SiteId) × (slows j n ≡ Unused) × (slows2 j n ≡ Undecided x asked) × (j ≡ i) × (locks2 j j n ≡ Locked x.tid objs)))
       → ((p j : SiteId) (n : ℕ) → (locks2 p j n ≡ locks p j n) ⊎ ((p ≡ i) × (j ≡ c) × (n ≡ m) × (locks2 p j n ≡ Locked x.tid objs)))
       → locks i c m ≡ Free → begun (slows2 c m) ≡ Some x → AgreesAt preferred i x objs
       → IsUnmodified preferred i x.start objs (known i) → IsUnlocked preferred i (locks i) objs
       → AreLocked preferred owns known counts slows2 locks2
   comes slows2 locks2 i c m objs x begins come free is agrees unmodified unlocked =
-      let stays : (j : SiteId) (n : ℕ) (y : Tx) → begun (slows j n) ≡ Some y → slows2 j n ≡ slows j n = λ j n y h. elim (begins j n) [
+      let stays : (j : SiteId) (n : ℕ) (y : Tx) → begun (slows j n) ≡ Some y
+      → slows2 j n ≡ slows j n = λ j n y h. elim (begins j n) [
         | inl same ↦ same
         | inr new ↦ absurd (not_unused (slows j n) y h new.1)
       ] in
@@ -242,7 +259,8 @@ module _ (preferred : ObjId → SiteId) (owns known : SiteId → List Held) (cou
       }
 
   -- a transaction commits at i, fast or by decision
-  pub owned : (owns2 known2 : SiteId → List Held) (counts2 : SiteId → SiteId → ℕ) (slows2 : SiteId → ℕ → Slow) (locks2 : SiteId → SiteId → ℕ → Part) (i : SiteId) (r : Held)
+  pub owned : (owns2 known2 : SiteId → List Held) (counts2 : SiteId → SiteId → ℕ) (slows2 : SiteId → ℕ → Slow)
+      (locks2 : SiteId → SiteId → ℕ → Part) (i : SiteId) (r : Held)
       → ((k : SiteId) (q : ℕ) (z : Held) → slice_get (owns2 k) q ≡ Some z → (slice_get (owns k) q ≡ Some z) ⊎ ((k ≡ i) × (q ≡ length (owns k)) × (r ≡ z)))
       → ((p : SiteId) (q : ℕ) (z : Held) → slice_get (known2 p) q ≡ Some z → (slice_get (known p) q ≡ Some z) ⊎ ((p ≡ i) × (r ≡ z)))
       → ((p k : SiteId) → counts p k ≤ counts2 p k) → ((k : SiteId) → counts2 k k ≡ length (owns2 k))
@@ -250,25 +268,30 @@ module _ (preferred : ObjId → SiteId) (owns known : SiteId → List Held) (cou
       → ((j : SiteId) (n : ℕ) → DoesDecide (slows j n) (slows2 j n))
       → ((p j : SiteId) (n : ℕ) → (locks2 p j n ≡ locks p j n) ⊎ ((p ≡ j) × IsLoosed p j (locks2 p j n) (slows2 j n)))
       → ((j : SiteId) (n : ℕ) (t : Tid) (objs : List ObjId) (oid : ObjId) → locks i j n ≡ Locked t objs → Contains objs oid
-      → Contains (write_set r.tx.updates) oid → preferred oid ≡ i → (x : Tx) (asked : List SiteId) → slows2 j n ≢ Undecided x asked)
+      → Contains (write_set r.tx.updates) oid → preferred oid ≡ i → (x : Tx) (asked : List SiteId)
+      → slows2 j n ≢ Undecided x asked)
       → ((p : SiteId) (oid : ObjId) → Contains (write_set r.tx.updates) oid → preferred oid ≡ p → p ≢ i → IsHeld (locks2 p i r.tx.slow) oid)
       → (r.tx.slow ≡ 0 → AreLocal preferred i r.tx.updates) → (r.tx.slow ≢ 0 → slows2 i r.tx.slow ≡ Decided r.tx)
       → ((q : ℕ) (z : Held) → slice_get (owns i) q ≡ Some z → r.tx.slow ≢ 0 → z.tx.slow ≢ r.tx.slow)
       → AreLocked preferred owns2 known2 counts2 slows2 locks2
   owned owns2 known2 counts2 slows2 locks2 i r own know rise full still decides go free waits_new fast_new slow_new once_new =
-      let old : (p j : SiteId) (n : ℕ) (t : Tid) (objs : List ObjId) → locks2 p j n ≡ Locked t objs → locks p j n ≡ Locked t objs = λ p j n t objs h. elim (go p j n) [
+      let old : (p j : SiteId) (n : ℕ) (t : Tid) (objs : List ObjId) → locks2 p j n ≡ Locked t objs
+      → locks p j n ≡ Locked t objs = λ p j n t objs h. elim (go p j n) [
         | inl same ↦ sym same ∙ h
         | inr loosed ↦ absurd (loosed.1.none t objs h)
       ] in
-      let stays : (j : SiteId) (n : ℕ) (x : Tx) → begun (slows j n) ≡ Some x → begun (slows2 j n) ≡ Some x = λ j n x h. elim (decides j n) [
+      let stays : (j : SiteId) (n : ℕ) (x : Tx) → begun (slows j n) ≡ Some x
+      → begun (slows2 j n) ≡ Some x = λ j n x h. elim (decides j n) [
         | inl same ↦ ap begun same ∙ h
         | inr end ↦ let f : x ≡ end.0 = same_open (slows j n) x end.0 end.1 h end.2 in ap begun end.3 ∙ ap (λ z. Some z) (sym f)
       ] in
-      let open_ : (j : SiteId) (n : ℕ) (x : Tx) (asked : List SiteId) → slows2 j n ≡ Undecided x asked → slows j n ≡ Undecided x asked = λ j n x asked o. elim (decides j n) [
+      let open_ : (j : SiteId) (n : ℕ) (x : Tx) (asked : List SiteId) → slows2 j n ≡ Undecided x asked
+      → slows j n ≡ Undecided x asked = λ j n x asked o. elim (decides j n) [
         | inl same ↦ sym same ∙ o
         | inr end ↦ absurd (decided_not_open (slows2 j n) end.0 x asked end.3 o)
       ] in
-      let own_site : (p k : SiteId) (q : ℕ) (z : Held) → p ≡ k → slice_get (owns2 k) q ≡ Some z → counts2 p k ≤ q → ⊥ = λ p k q z e here low.
+      let own_site : (p k : SiteId) (q : ℕ) (z : Held) → p ≡ k → slice_get (owns2 k) q ≡ Some z → counts2 p k ≤ q
+      → ⊥ = λ p k q z e here low.
       let w = slice_get_within (owns2 k) q z here in
       let f : counts2 p k ≡ length (owns2 k) = ap (λ a. counts2 a k) e ∙ full k in
       omega (arith, w, f, low) in
@@ -375,8 +398,10 @@ module _ (preferred : ObjId → SiteId) (owns known : SiteId → List Held) (cou
   -- each committed version of what is written is seen, so nothing blocks: of a fast commit
   pub clear_fast : (i : SiteId) (v : List ℕ) (oids : List ObjId)
       → ((p k : SiteId) (q : ℕ) (z : Held) → slice_get (owns k) q ≡ Some z → q < counts p k → (l : ℕ) × (slice_get (known p) l ≡ Some z))
-      → ((oid : ObjId) → Contains oids oid → preferred oid ≡ i) → IsUnmodified preferred i v oids (known i) → IsUnlocked preferred i (locks i) oids
-      → (k : SiteId) (q : ℕ) (z : Held) (oid : ObjId) → slice_get (owns k) q ≡ Some z → Contains (write_set z.tx.updates) oid
+      → ((oid : ObjId) → Contains oids oid → preferred oid ≡ i) → IsUnmodified preferred i v oids (known i)
+      → IsUnlocked preferred i (locks i) oids
+      → (k : SiteId) (q : ℕ) (z : Held) (oid : ObjId) → slice_get (owns k) q ≡ Some z
+      → Contains (write_set z.tx.updates) oid
       → Contains oids oid → sees v z ≡ true
   clear_fast i v oids place local unmodified unlocked k q z oid here w c = elim (low_or q (counts i k)) [
     | inl low ↦ let l = place i k q z here low in unmodified z l.0 oid l.1 w c (local oid c)
@@ -387,7 +412,8 @@ module _ (preferred : ObjId → SiteId) (owns known : SiteId → List Held) (cou
   pub clear_slow : (i : SiteId) (n : ℕ) (x : Tx) (asked : List SiteId) → n ≢ 0 → slows i n ≡ Undecided x asked
       → ((p k : SiteId) (q : ℕ) (z : Held) → slice_get (owns k) q ≡ Some z → q < counts p k → (l : ℕ) × (slice_get (known p) l ≡ Some z))
       → ((oid : ObjId) → Contains (write_set x.updates) oid → IsHeld (locks (preferred oid) i n) oid)
-      → (k : SiteId) (q : ℕ) (z : Held) (oid : ObjId) → slice_get (owns k) q ≡ Some z → Contains (write_set z.tx.updates) oid
+      → (k : SiteId) (q : ℕ) (z : Held) (oid : ObjId) → slice_get (owns k) q ≡ Some z
+      → Contains (write_set z.tx.updates) oid
       → Contains (write_set x.updates) oid → sees x.start z ≡ true
   clear_slow i n x asked some open_ place have k q z oid here w c =
       let p = preferred oid in
@@ -402,7 +428,8 @@ module _ (preferred : ObjId → SiteId) (owns known : SiteId → List Held) (cou
       ]
 
   -- a site that has something of a slow commit holds its lock, while it is undecided
-  pub said_yes : (p i : SiteId) (n : ℕ) (x : Tx) (asked : List SiteId) (oid : ObjId) → slows i n ≡ Undecided x asked → locks p i n ≢ Free
+  pub said_yes : (p i : SiteId) (n : ℕ) (x : Tx) (asked : List SiteId) (oid : ObjId) → slows i n ≡ Undecided x asked
+      → locks p i n ≢ Free
       → Contains (write_set x.updates) oid → preferred oid ≡ p → IsHeld (locks p i n) oid
   said_yes p i n x asked oid open_ some w pr = elim (locks p i n) as (λ g. locks p i n ≡ g → IsHeld g oid) [
     | Free ↦ λ e. absurd (some e)

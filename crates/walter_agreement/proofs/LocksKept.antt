@@ -16,7 +16,8 @@ use Rattle.walter_agreement.proofs.Cases.{site_cases, slow_itself, zero_or, HasE
 use Rattle.walter_agreement.proofs.Locks.{AreLocked, IsLoosed, IsHeld, goes, comes, owned, unused_free, all_held}
 
 -- what is free isn't a lock any more
-free_loosed : (p j : SiteId) (part : Part) (g : Slow) → part ≡ Free → (p ≡ j → (x : Tx) (asked : List SiteId) → g ≢ Undecided x asked) → IsLoosed p j part g
+free_loosed : (p j : SiteId) (part : Part) (g : Slow) → part ≡ Free
+    → (p ≡ j → (x : Tx) (asked : List SiteId) → g ≢ Undecided x asked) → IsLoosed p j part g
 free_loosed p j part g free home = record {
   none = λ t objs h. locked_not_free part t objs h free;
   over = λ h. absurd (over_not_free part h free);
@@ -32,21 +33,28 @@ over_loosed p j part g is apart end = record {
 }
 
 -- an own commit of i stands last among its own commits and in its list, and in no other site's
-pub record IsOwnCommit (i : SiteId) (owns known owns2 known2 : SiteId → List Held) (counts counts2 : SiteId → SiteId → ℕ) (r : Held) : Type 0 where
-  pub own : (k : SiteId) (q : ℕ) (z : Held) → slice_get (owns2 k) q ≡ Some z → (slice_get (owns k) q ≡ Some z) ⊎ ((k ≡ i) × (q ≡ length (owns k)) × (r ≡ z))
-  pub know : (p : SiteId) (q : ℕ) (z : Held) → slice_get (known2 p) q ≡ Some z → (slice_get (known p) q ≡ Some z) ⊎ ((p ≡ i) × (r ≡ z))
+pub record IsOwnCommit (i : SiteId) (owns known owns2 known2 : SiteId → List Held)
+    (counts counts2 : SiteId → SiteId → ℕ) (r : Held) : Type 0 where
+  pub own : (k : SiteId) (q : ℕ) (z : Held) → slice_get (owns2 k) q ≡ Some z
+      → (slice_get (owns k) q ≡ Some z) ⊎ ((k ≡ i) × (q ≡ length (owns k)) × (r ≡ z))
+  pub know : (p : SiteId) (q : ℕ) (z : Held) → slice_get (known2 p) q ≡ Some z
+      → (slice_get (known p) q ≡ Some z) ⊎ ((p ≡ i) × (r ≡ z))
   pub rise : (p k : SiteId) → counts p k ≤ counts2 p k
   pub full : (k : SiteId) → counts2 k k ≡ length (owns2 k)
   pub still : (p k : SiteId) → p ≢ k → (counts2 p k ≤ counts p k) × (counts p k ≤ length (owns k))
 
-module _ (preferred : ObjId → SiteId) (owns known : SiteId → List Held) (counts : SiteId → SiteId → ℕ) (slows : SiteId → ℕ → Slow) (locks : SiteId → SiteId → ℕ → Part) (L : AreLocked preferred owns known counts slows locks) (i : SiteId) where
+module _ (preferred : ObjId → SiteId) (owns known : SiteId → List Held) (counts : SiteId → SiteId → ℕ)
+    (slows : SiteId → ℕ → Slow) (locks : SiteId → SiteId → ℕ → Part)
+    (L : AreLocked preferred owns known counts slows locks) (i : SiteId) where
   -- SlowBegin: a slow commit of i begins, and what it writes at i is locked
-  pub by_slow_begin : (slows2 : SiteId → ℕ → Slow) (locks2 : SiteId → SiteId → ℕ → Part) (m : ℕ) (objs : List ObjId) (x : Tx) (asked : List SiteId)
+  pub by_slow_begin : (slows2 : SiteId → ℕ → Slow) (locks2 : SiteId → SiteId → ℕ → Part) (m : ℕ) (objs : List ObjId)
+      (x : Tx) (asked : List SiteId)
       → ((j : SiteId) (n : ℕ) → j ≢ i → slows2 j n ≡ slows j n)
       → ((n : ℕ) → slows2 i n ≡ (if nat_eq m n then Undecided x asked else slows i n))
       → ((p j : SiteId) (n : ℕ) → p ≢ i → locks2 p j n ≡ locks p j n)
       → ((j : SiteId) (n : ℕ) → locks2 i j n ≡ (if is_slow i m j n then Locked x.tid objs else locks i j n))
-      → slows i m ≡ Unused → AgreesAt preferred i x objs → IsUnmodified preferred i x.start objs (known i) → IsUnlocked preferred i (locks i) objs
+      → slows i m ≡ Unused → AgreesAt preferred i x objs → IsUnmodified preferred i x.start objs (known i)
+      → IsUnlocked preferred i (locks i) objs
       → AreLocked preferred owns known counts slows2 locks2
   by_slow_begin slows2 locks2 m objs x asked away here away_ here_ unused agrees unmodified unlocked_ =
       let part = part_cases (λ a. Locked x.tid objs) locks locks2 i i m away_ here_ in
@@ -85,7 +93,8 @@ module _ (preferred : ObjId → SiteId) (owns known : SiteId → List Held) (cou
       free is agrees unmodified unlocked_
 
   -- where the own locks of i only go with slow commits that end, all is kept
-  ends_here : (slows2 : SiteId → ℕ → Slow) (locks2 : SiteId → SiteId → ℕ → Part) → ((k : SiteId) → counts k k ≡ length (owns k))
+  ends_here : (slows2 : SiteId → ℕ → Slow) (locks2 : SiteId → SiteId → ℕ → Part)
+      → ((k : SiteId) → counts k k ≡ length (owns k))
       → ((j : SiteId) (n : ℕ) → DoesEnd (slows j n) (slows2 j n))
       → ((p j : SiteId) (n : ℕ) → (locks2 p j n ≡ locks p j n) ⊎ ((p ≡ j) × (locks2 p j n ≡ unlocked (locks p j n)) × (slows2 j n ≡ ended (slows j n))))
       → AreLocked preferred owns known counts slows2 locks2
@@ -108,7 +117,8 @@ module _ (preferred : ObjId → SiteId) (owns known : SiteId → List Held) (cou
       (λ p k q r apart here low high. absurd (omega (arith, low, high)))
 
   -- SlowEnd: a slow commit of i ends without a commit
-  pub by_slow_end : (slows2 : SiteId → ℕ → Slow) (locks2 : SiteId → SiteId → ℕ → Part) (m : ℕ) → ((k : SiteId) → counts k k ≡ length (owns k))
+  pub by_slow_end : (slows2 : SiteId → ℕ → Slow) (locks2 : SiteId → SiteId → ℕ → Part) (m : ℕ)
+      → ((k : SiteId) → counts k k ≡ length (owns k))
       → ((j : SiteId) (n : ℕ) → j ≢ i → slows2 j n ≡ slows j n)
       → ((n : ℕ) → slows2 i n ≡ (if nat_eq m n then ended (slows i n) else slows i n))
       → ((p j : SiteId) (n : ℕ) → p ≢ i → locks2 p j n ≡ locks p j n)
@@ -127,7 +137,8 @@ module _ (preferred : ObjId → SiteId) (owns known : SiteId → List Held) (cou
       ])
 
   -- Boot: all slow commits of i that are undecided end
-  pub by_boot : (slows2 : SiteId → ℕ → Slow) (locks2 : SiteId → SiteId → ℕ → Part) → ((k : SiteId) → counts k k ≡ length (owns k))
+  pub by_boot : (slows2 : SiteId → ℕ → Slow) (locks2 : SiteId → SiteId → ℕ → Part)
+      → ((k : SiteId) → counts k k ≡ length (owns k))
       → ((j : SiteId) (n : ℕ) → j ≢ i → slows2 j n ≡ slows j n) → ((n : ℕ) → slows2 i n ≡ ended (slows i n))
       → ((p j : SiteId) (n : ℕ) → p ≢ i → locks2 p j n ≡ locks p j n)
       → ((j : SiteId) (n : ℕ) → locks2 i j n ≡ (if same_site j i then unlocked (locks i j n) else locks i j n))
@@ -151,7 +162,8 @@ module _ (preferred : ObjId → SiteId) (owns known : SiteId → List Held) (cou
       ])
 
   -- Released: a slow commit of another site that was dropped is over at i
-  pub by_released : (locks2 : SiteId → SiteId → ℕ → Part) (k : SiteId) (m : ℕ) (x : Tx) (asked : List SiteId) → ((k : SiteId) → counts k k ≡ length (owns k))
+  pub by_released : (locks2 : SiteId → SiteId → ℕ → Part) (k : SiteId) (m : ℕ) (x : Tx) (asked : List SiteId)
+      → ((k : SiteId) → counts k k ≡ length (owns k))
       → k ≢ i → slows k m ≡ Dropped x asked
       → ((p j : SiteId) (n : ℕ) → p ≢ i → locks2 p j n ≡ locks p j n)
       → ((j : SiteId) (n : ℕ) → locks2 i j n ≡ (if is_slow k m j n then Over else locks i j n))
@@ -193,7 +205,9 @@ module _ (preferred : ObjId → SiteId) (owns known : SiteId → List Held) (cou
         | inl same ↦ same ∙ full j
         | inr it ↦ absurd (other (sym it.1 ∙ it.0))
       ] in
-      let cases : (p j : SiteId) (n : ℕ) → (locks2 p j n ≡ locks p j n) ⊎ ((p ≡ i) × (j ≡ k) × (n ≡ r.tx.slow) × (r.tx.slow ≢ 0) × (locks2 p j n ≡ Over)) = λ p j n. elim (zero_or r.tx.slow) [
+      let cases : (p j : SiteId) (n : ℕ)
+      → (locks2 p j n ≡ locks p j n)
+      ⊎ ((p ≡ i) × (j ≡ k) × (n ≡ r.tx.slow) × (r.tx.slow ≢ 0) × (locks2 p j n ≡ Over)) = λ p j n. elim (zero_or r.tx.slow) [
         | inl z ↦ elim (site_cases p i) [
           | inl at_i ↦ inl (subst (λ y. locks2 y j n ≡ locks y j n) (sym at_i.1) (zero_ z j n))
           | inr apart ↦ inl (away p j n apart.1)
@@ -236,7 +250,8 @@ module _ (preferred : ObjId → SiteId) (owns known : SiteId → List Held) (cou
       ])
 
   -- Own: a fast commit of i
-  pub by_fast : (owns2 known2 : SiteId → List Held) (counts2 : SiteId → SiteId → ℕ) (r : Held) → IsOwnCommit i owns known owns2 known2 counts counts2 r
+  pub by_fast : (owns2 known2 : SiteId → List Held) (counts2 : SiteId → SiteId → ℕ) (r : Held)
+      → IsOwnCommit i owns known owns2 known2 counts counts2 r
       → r.tx.slow ≡ 0 → AreLocal preferred i r.tx.updates → IsUnlocked preferred i (locks i) (write_set r.tx.updates)
       → AreLocked preferred owns2 known2 counts2 slows locks
   by_fast owns2 known2 counts2 r C fast local free =
@@ -248,8 +263,10 @@ module _ (preferred : ObjId → SiteId) (owns known : SiteId → List Held) (cou
       (λ q z here some. absurd (some fast))
 
   -- Own: a slow commit of i is decided, each other site that it writes at having something of it
-  pub by_decision : (owns2 known2 : SiteId → List Held) (counts2 : SiteId → SiteId → ℕ) (slows2 : SiteId → ℕ → Slow) (locks2 : SiteId → SiteId → ℕ → Part) (r : Held) (asked : List SiteId)
-      → IsOwnCommit i owns known owns2 known2 counts counts2 r → r.tx.slow ≢ 0 → slows i r.tx.slow ≡ Undecided r.tx asked
+  pub by_decision : (owns2 known2 : SiteId → List Held) (counts2 : SiteId → SiteId → ℕ) (slows2 : SiteId → ℕ → Slow)
+      (locks2 : SiteId → SiteId → ℕ → Part) (r : Held) (asked : List SiteId)
+      → IsOwnCommit i owns known owns2 known2 counts counts2 r → r.tx.slow ≢ 0
+      → slows i r.tx.slow ≡ Undecided r.tx asked
       → ((oid : ObjId) → Contains (write_set r.tx.updates) oid → preferred oid ≢ i → locks (preferred oid) i r.tx.slow ≢ Free)
       → ((j : SiteId) (n : ℕ) → j ≢ i → slows2 j n ≡ slows j n)
       → ((n : ℕ) → slows2 i n ≡ (if nat_eq r.tx.slow n then decided (slows i n) else slows i n))

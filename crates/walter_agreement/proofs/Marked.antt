@@ -39,12 +39,14 @@ pub all_durable_later : (preferred : ObjId → SiteId) (f : ℕ) (owned owned2 :
 all_durable_later preferred f owned owned2 got got2 own more d e fewer are m one l =
     durable_later preferred f owned owned2 got got2 own more m (are m one (omega (arith, l, fewer)))
 
-pub visible_later : (sites : List SiteId) (committed committed2 : SiteId → ℕ) → ((k : SiteId) → committed k ≤ committed2 k)
+pub visible_later : (sites : List SiteId) (committed committed2 : SiteId → ℕ)
+    → ((k : SiteId) → committed k ≤ committed2 k)
     → (v w : ℕ) → w ≤ v → AreVisible sites committed v → AreVisible sites committed2 w
 visible_later sites committed committed2 more v w fewer are k c = let a = are k c in let b = more k in omega (arith, a, b, fewer)
 
 -- by a test that only sites pass that have it: where so many of them pass, and the preferred ones do, it is durable
-pub durable_by_count : (preferred : ObjId → SiteId) (f : ℕ) (owned : List Held) (got : SiteId → ℕ) (m : ℕ) (sites : List SiteId) (has : SiteId → Bool) (r : Held)
+pub durable_by_count : (preferred : ObjId → SiteId) (f : ℕ) (owned : List Held) (got : SiteId → ℕ) (m : ℕ)
+    (sites : List SiteId) (has : SiteId → Bool) (r : Held)
     → AllPairs (λ a b. a ≢ b) sites → ((k : SiteId) → has k ≡ true → m ≤ got k) → slice_get owned (m - 1) ≡ Some r
     → f + 1 ≤ count_by has sites
     → ((oid : ObjId) → Contains (map object_of r.tx.updates) oid → Contains sites (preferred oid) × (has (preferred oid) ≡ true))
@@ -74,7 +76,8 @@ has_by_acks i got said m mine true_ k h = elim (site_cases k i) [
 
 -- what each other site called visible is so
 pub visible_by_told : (i : SiteId) (sites : List SiteId) (committed said : SiteId → ℕ) (v : ℕ) → v ≤ committed i
-    → ((k : SiteId) → k ≢ i → said k ≤ committed k) → ((k : SiteId) → Contains sites k → k ≢ i → v ≤ said k) → AreVisible sites committed v
+    → ((k : SiteId) → k ≢ i → said k ≤ committed k) → ((k : SiteId) → Contains sites k → k ≢ i → v ≤ said k)
+    → AreVisible sites committed v
 visible_by_told i sites committed said v mine true_ told k c = elim (site_cases k i) [
   | inl same ↦ subst (λ z. v ≤ committed z) (sym same.1) mine
   | inr apart ↦ let a = told k c apart.1 in let b = true_ k apart.1 in omega (arith, a, b)
@@ -82,42 +85,51 @@ visible_by_told i sites committed said v mine true_ told k c = elim (site_cases 
 
 -- a mark that is the greater of its floor and what was counted is true where both are
 pub durable_mark_true : (preferred : ObjId → SiteId) (f : ℕ) (owned : List Held) (got : SiteId → ℕ) (floor counted : ℕ)
-    → AreDurable preferred f owned got floor → AreDurable preferred f owned got counted → AreDurable preferred f owned got (max floor counted)
+    → AreDurable preferred f owned got floor → AreDurable preferred f owned got counted
+    → AreDurable preferred f owned got (max floor counted)
 durable_mark_true preferred f owned got floor counted below above m one l = elim (low_or floor m) [
   | inr under ↦ below m one under
   | inl over ↦ above m one (omega (arith, l, over))
 ]
 
 pub visible_mark_true : (sites : List SiteId) (committed : SiteId → ℕ) (floor counted : ℕ)
-    → AreVisible sites committed floor → AreVisible sites committed counted → AreVisible sites committed (max floor counted)
+    → AreVisible sites committed floor → AreVisible sites committed counted
+    → AreVisible sites committed (max floor counted)
 visible_mark_true sites committed floor counted below above k c = let a = below k c in let b = above k c in omega (arith, a, b)
 
 -- a packet from k to j is so, of the own commits of each site, and of how many commits of j site k has, `got k j`, and has
 -- committed, `committed k j`
-abbrev pub IsTruePacket : (ObjId → SiteId) → ℕ → (SiteId → List Held) → (SiteId → SiteId → ℕ) → (SiteId → SiteId → ℕ) → SiteId → SiteId → Packet → Type 0
+abbrev pub IsTruePacket : (ObjId → SiteId) → ℕ → (SiteId → List Held) → (SiteId → SiteId → ℕ) → (SiteId → SiteId → ℕ)
+    → SiteId → SiteId → Packet → Type 0
 IsTruePacket preferred f owns got committed k j (Ack g) = g ≤ got k j
 IsTruePacket preferred f owns got committed k j (Visible v) = v ≤ committed k j
 IsTruePacket preferred f owns got committed k j (Dsmark d) = AreDurable preferred f (owns k) (λ s. got s k) d
 IsTruePacket preferred f owns got committed k j packet = Unit {0}
 
 -- a record of site i is so
-abbrev pub IsTrueRecord : (ObjId → SiteId) → List SiteId → ℕ → (SiteId → List Held) → (SiteId → SiteId → ℕ) → (SiteId → SiteId → ℕ) → SiteId → Record → Type 0
+abbrev pub IsTrueRecord : (ObjId → SiteId) → List SiteId → ℕ → (SiteId → List Held) → (SiteId → SiteId → ℕ)
+    → (SiteId → SiteId → ℕ) → SiteId → Record → Type 0
 IsTrueRecord preferred sites f owns got committed i (Seen j m) = AreDurable preferred f (owns j) (λ s. got s j) m
 IsTrueRecord preferred sites f owns got committed i (Marks d v) = AreDurable preferred f (owns i) (λ s. got s i) d × AreVisible sites (λ s. committed s i) v
 IsTrueRecord preferred sites f owns got committed i written = Unit {0}
 
 -- what was put out, the marks that were journaled, and the records in flight are so; and what other sites have committed is
 -- durable
-pub record AreMarked (preferred : ObjId → SiteId) (sites : List SiteId) (f : ℕ) (owns : SiteId → List Held) (got committed : SiteId → SiteId → ℕ) (put : SiteId → SiteId → Packet → Type 0) (durable visible : SiteId → ℕ) (pend : SiteId → Option Record) : Type 0 where
-  pub packets : (k j : SiteId) (packet : Packet) → put k j packet → IsTruePacket preferred f owns got committed k j packet
+pub record AreMarked (preferred : ObjId → SiteId) (sites : List SiteId) (f : ℕ) (owns : SiteId → List Held)
+    (got committed : SiteId → SiteId → ℕ) (put : SiteId → SiteId → Packet → Type 0) (durable visible : SiteId → ℕ)
+    (pend : SiteId → Option Record) : Type 0 where
+  pub packets : (k j : SiteId) (packet : Packet) → put k j packet
+      → IsTruePacket preferred f owns got committed k j packet
   pub durables : (i : SiteId) → AreDurable preferred f (owns i) (λ s. got s i) (durable i)
   pub visibles : (i : SiteId) → AreVisible sites (λ s. committed s i) (visible i)
   pub flights : (i : SiteId) (r : Record) → pend i ≡ Some r → IsTrueRecord preferred sites f owns got committed i r
   pub seen : (i j : SiteId) → i ≢ j → AreDurable preferred f (owns j) (λ s. got s j) (committed i j)
 
 -- at first nothing was put out, no marks are above 0, and no site has committed anything of another
-pub none_marked : (preferred : ObjId → SiteId) (sites : List SiteId) (f : ℕ) (owns : SiteId → List Held) (got committed : SiteId → SiteId → ℕ) (put : SiteId → SiteId → Packet → Type 0) (durable visible : SiteId → ℕ) (pend : SiteId → Option Record)
-    → ((k j : SiteId) (packet : Packet) → ¬ put k j packet) → ((i : SiteId) → durable i ≡ 0) → ((i : SiteId) → visible i ≡ 0)
+pub none_marked : (preferred : ObjId → SiteId) (sites : List SiteId) (f : ℕ) (owns : SiteId → List Held)
+    (got committed : SiteId → SiteId → ℕ) (put : SiteId → SiteId → Packet → Type 0) (durable visible : SiteId → ℕ) (pend : SiteId → Option Record)
+    → ((k j : SiteId) (packet : Packet) → ¬ put k j packet) → ((i : SiteId) → durable i ≡ 0)
+    → ((i : SiteId) → visible i ≡ 0)
     → ((i : SiteId) → pend i ≡ None) → ((i j : SiteId) → i ≢ j → committed i j ≡ 0)
     → AreMarked preferred sites f owns got committed put durable visible pend
 none_marked preferred sites f owns got committed put durable visible pend silent low unseen none away = record {
@@ -129,24 +141,28 @@ none_marked preferred sites f owns got committed put durable visible pend silent
 }
 
 -- while sites only get and commit more, what is new is so, and no mark rises falsely, all stays so
-module _ (preferred : ObjId → SiteId) (sites : List SiteId) (f : ℕ) (owns owns2 : SiteId → List Held) (got got2 committed committed2 : SiteId → SiteId → ℕ)
+module _ (preferred : ObjId → SiteId) (sites : List SiteId) (f : ℕ) (owns owns2 : SiteId → List Held)
+    (got got2 committed committed2 : SiteId → SiteId → ℕ)
     (own : (j : SiteId) (q : ℕ) (r : Held) → slice_get (owns j) q ≡ Some r → slice_get (owns2 j) q ≡ Some r)
     (more : (k j : SiteId) → got k j ≤ got2 k j) (done : (k j : SiteId) → committed k j ≤ committed2 k j) where
   later : (j : SiteId) (d e : ℕ) → e ≤ d → AreDurable preferred f (owns j) (λ s. got s j) d → AreDurable preferred f (owns2 j) (λ s. got2 s j) e
   later j = all_durable_later preferred f (owns j) (owns2 j) (λ s. got s j) (λ s. got2 s j) (own j) (λ k. more k j)
 
-  pub packet_later : (k j : SiteId) (packet : Packet) → IsTruePacket preferred f owns got committed k j packet → IsTruePacket preferred f owns2 got2 committed2 k j packet
+  pub packet_later : (k j : SiteId) (packet : Packet) → IsTruePacket preferred f owns got committed k j packet
+      → IsTruePacket preferred f owns2 got2 committed2 k j packet
   packet_later k j (Ack g) h = let a = more k j in omega (arith, a, h)
   packet_later k j (Visible v) h = let a = done k j in omega (arith, a, h)
   packet_later k j (Dsmark d) h = later k d d (omega arith) h
   packet_later k j packet h = tt
 
-  pub record_later : (i : SiteId) (r : Record) → IsTrueRecord preferred sites f owns got committed i r → IsTrueRecord preferred sites f owns2 got2 committed2 i r
+  pub record_later : (i : SiteId) (r : Record) → IsTrueRecord preferred sites f owns got committed i r
+      → IsTrueRecord preferred sites f owns2 got2 committed2 i r
   record_later i (Seen j m) h = later j m m (omega arith) h
   record_later i (Marks d v) h = (later i d d (omega arith) h.0, visible_later sites (λ s. committed s i) (λ s. committed2 s i) (λ k. done k i) v v (omega arith) h.1)
   record_later i written h = tt
 
-  pub marked_later : (put put2 : SiteId → SiteId → Packet → Type 0) (durable durable2 visible visible2 : SiteId → ℕ) (pend pend2 : SiteId → Option Record)
+  pub marked_later : (put put2 : SiteId → SiteId → Packet → Type 0) (durable durable2 visible visible2 : SiteId → ℕ)
+      (pend pend2 : SiteId → Option Record)
       → AreMarked preferred sites f owns got committed put durable visible pend
       → ((k j : SiteId) (packet : Packet) → put2 k j packet → put k j packet ⊎ IsTruePacket preferred f owns2 got2 committed2 k j packet)
       → ((i : SiteId) → (durable2 i ≤ durable i) ⊎ AreDurable preferred f (owns2 i) (λ s. got2 s i) (durable2 i))

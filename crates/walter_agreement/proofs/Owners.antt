@@ -38,7 +38,8 @@ module _ (part : SiteId → ℕ → Part) (owner : ObjId → Option Tid) (O : Ar
   unowned_unlocked preferred i oids none j n t objs oid h c w pr =
       none_not_some (owner oid) t (none oid w pr) (O.locked j n t objs oid h (object_is_in oid objs c))
 
-  pub unlocked_unowned : (preferred : ObjId → SiteId) (i : SiteId) (oids : List ObjId) → IsUnlocked preferred i part oids
+  pub unlocked_unowned : (preferred : ObjId → SiteId) (i : SiteId) (oids : List ObjId)
+      → IsUnlocked preferred i part oids
       → (oid : ObjId) → Contains oids oid → preferred oid ≡ i → owner oid ≡ None
   unlocked_unowned preferred i oids free oid w pr = elim (owner oid) as (λ o. owner oid ≡ o → o ≡ None) [
     | None ↦ λ e. refl
@@ -54,7 +55,8 @@ module _ (part : SiteId → ℕ → Part) (owner : ObjId → Option Tid) (O : Ar
       → part j n ≡ Locked t objs → has_object oid objs ≡ true → part2 j n ≡ part j n))
       → AreOwners part2 owner2
   loosens part2 owner2 go keeps was =
-      let old : (j : SiteId) (n : ℕ) (t : Tid) (objs : List ObjId) → part2 j n ≡ Locked t objs → part j n ≡ Locked t objs = λ j n t objs h. elim (go j n) [
+      let old : (j : SiteId) (n : ℕ) (t : Tid) (objs : List ObjId) → part2 j n ≡ Locked t objs
+      → part j n ≡ Locked t objs = λ j n t objs h. elim (go j n) [
         | inl same ↦ sym same ∙ h
         | inr gone ↦ absurd (gone t objs h)
       ] in
@@ -73,8 +75,10 @@ module _ (part : SiteId → ℕ → Part) (owner : ObjId → Option Tid) (O : Ar
       → ((j : SiteId) (n : ℕ) → part2 j n ≡ (if is_slow k m j n then f (part j n) else part j n))
       → ((oid : ObjId) → owner2 oid ≡ (if does_lock (part k m) oid then None else owner oid)) → AreOwners part2 owner2
   one_goes f k m part2 owner2 none is_part is_owner =
-      let here : (j : SiteId) (n : ℕ) → is_slow k m j n ≡ true → part2 j n ≡ f (part j n) = λ j n is. is_part j n ∙ ap (λ b. if b then f (part j n) else part j n) is in
-      let away : (j : SiteId) (n : ℕ) → is_slow k m j n ≡ false → part2 j n ≡ part j n = λ j n is. is_part j n ∙ ap (λ b. if b then f (part j n) else part j n) is in
+      let here : (j : SiteId) (n : ℕ) → is_slow k m j n ≡ true
+      → part2 j n ≡ f (part j n) = λ j n is. is_part j n ∙ ap (λ b. if b then f (part j n) else part j n) is in
+      let away : (j : SiteId) (n : ℕ) → is_slow k m j n ≡ false
+      → part2 j n ≡ part j n = λ j n is. is_part j n ∙ ap (λ b. if b then f (part j n) else part j n) is in
       loosens part2 owner2
       (λ j n. elim (slow_cases k m j n) [
         | inl same ↦ inr (λ t objs h. none (part j n) t objs (sym (here j n same.0) ∙ h))
@@ -116,8 +120,10 @@ module _ (part : SiteId → ℕ → Part) (owner : ObjId → Option Tid) (O : Ar
       → ((oid : ObjId) (t : Tid) → owner oid ≡ Some t → owner2 oid ≡ (if same_site t.site i then None else Some t))
       → ((oid : ObjId) → owner oid ≡ None → owner2 oid ≡ None) → AreOwners part2 owner2
   boot i part2 owner2 site is_part is_owner is_none =
-      let away : (j : SiteId) (n : ℕ) → same_site j i ≡ false → part2 j n ≡ part j n = λ j n is. is_part j n ∙ ap (λ b. if b then unlocked (part j n) else part j n) is in
-      let here : (j : SiteId) (n : ℕ) (t : Tid) (objs : List ObjId) → same_site j i ≡ true → part2 j n ≢ Locked t objs = λ j n t objs is h.
+      let away : (j : SiteId) (n : ℕ) → same_site j i ≡ false
+      → part2 j n ≡ part j n = λ j n is. is_part j n ∙ ap (λ b. if b then unlocked (part j n) else part j n) is in
+      let here : (j : SiteId) (n : ℕ) (t : Tid) (objs : List ObjId) → same_site j i ≡ true
+      → part2 j n ≢ Locked t objs = λ j n t objs is h.
       unlocked_not_locked (part j n) t objs (sym (is_part j n ∙ ap (λ b. if b then unlocked (part j n) else part j n) is) ∙ h) in
       loosens part2 owner2
       (λ j n. elim (site_cases j i) [
@@ -139,17 +145,22 @@ module _ (part : SiteId → ℕ → Part) (owner : ObjId → Option Tid) (O : Ar
       ] refl)
 
   -- a lock comes, on objects that no one owns
-  pub lock : (k : SiteId) (m : ℕ) (t : Tid) (objs : List ObjId) (part2 : SiteId → ℕ → Part) (owner2 : ObjId → Option Tid)
+  pub lock : (k : SiteId) (m : ℕ) (t : Tid) (objs : List ObjId) (part2 : SiteId → ℕ → Part)
+      (owner2 : ObjId → Option Tid)
       → part k m ≡ Free → ((oid : ObjId) → has_object oid objs ≡ true → owner oid ≡ None)
       → ((j : SiteId) (n : ℕ) → part2 j n ≡ (if is_slow k m j n then Locked t objs else part j n))
       → ((oid : ObjId) → owner2 oid ≡ (if has_object oid objs then Some t else owner oid)) → AreOwners part2 owner2
   lock k m t objs part2 owner2 free none is_part is_owner =
-      let here : (j : SiteId) (n : ℕ) → is_slow k m j n ≡ true → part2 j n ≡ Locked t objs = λ j n is. is_part j n ∙ ap (λ b. if b then Locked t objs else part j n) is in
-      let away : (j : SiteId) (n : ℕ) → is_slow k m j n ≡ false → part2 j n ≡ part j n = λ j n is. is_part j n ∙ ap (λ b. if b then Locked t objs else part j n) is in
+      let here : (j : SiteId) (n : ℕ) → is_slow k m j n ≡ true
+      → part2 j n ≡ Locked t objs = λ j n is. is_part j n ∙ ap (λ b. if b then Locked t objs else part j n) is in
+      let away : (j : SiteId) (n : ℕ) → is_slow k m j n ≡ false
+      → part2 j n ≡ part j n = λ j n is. is_part j n ∙ ap (λ b. if b then Locked t objs else part j n) is in
       -- an object of the new lock is in no other
-      let alone : (j : SiteId) (n : ℕ) (u : Tid) (os : List ObjId) (oid : ObjId) → part j n ≡ Locked u os → has_object oid os ≡ true → has_object oid objs ≡ true → ⊥ = λ j n u os oid a c w.
+      let alone : (j : SiteId) (n : ℕ) (u : Tid) (os : List ObjId) (oid : ObjId) → part j n ≡ Locked u os
+      → has_object oid os ≡ true → has_object oid objs ≡ true → ⊥ = λ j n u os oid a c w.
       none_not_some (owner oid) u (none oid w) (O.locked j n u os oid a c) in
-      let same_objects : (j : SiteId) (n : ℕ) (u : Tid) (os : List ObjId) → is_slow k m j n ≡ true → part2 j n ≡ Locked u os → (t ≡ u) × (objs ≡ os) = λ j n u os is h.
+      let same_objects : (j : SiteId) (n : ℕ) (u : Tid) (os : List ObjId) → is_slow k m j n ≡ true
+      → part2 j n ≡ Locked u os → (t ≡ u) × (objs ≡ os) = λ j n u os is h.
       let f : Locked t objs ≡ Locked u os = sym (here j n is) ∙ h in (cc, cc) in
       record {
         owned = λ oid u h. elim (has_object oid objs) as (λ b. has_object oid objs ≡ b → (j : SiteId) × (n : ℕ) × (os : List ObjId) × (part2 j n ≡ Locked u os) × (has_object oid os ≡ true)) [

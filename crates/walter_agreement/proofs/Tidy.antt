@@ -28,7 +28,8 @@ IsOwn owned x = (q : ℕ) × (r : Held) × (slice_get owned q ≡ Some r) × (r.
 
 -- of site i: its clients' sessions, its slow commits by their numbers, the record in flight, whether it is up, its last
 -- slow number, what it has started, and its own commits
-pub record IsTidy (i : SiteId) (sess : ℕ → Option Session) (slows : ℕ → Slow) (pend : Option Record) (up : Bool) (last : ℕ) (numbers : Issued) (owned : List Held) : Type 0 where
+pub record IsTidy (i : SiteId) (sess : ℕ → Option Session) (slows : ℕ → Slow) (pend : Option Record) (up : Bool)
+    (last : ℕ) (numbers : Issued) (owned : List Held) : Type 0 where
   -- slow numbers count on
   pub number : (n : ℕ) → last < n → slows n ≡ Unused
   pub named : (n : ℕ) (x : Tx) → begun (slows n) ≡ Some x → IsNamed i numbers n x
@@ -58,10 +59,12 @@ IsOn slows slows2 owned2 =
 abbrev pub AreFrom : (ℕ → Option Session) → (ℕ → Option Session) → Issued → Type 0
 AreFrom sess sess2 numbers =
     (c : ℕ) (s : Session) → sess2 c ≡ Some s
-    → ((z : Session) × (sess c ≡ Some z) × (z.tid ≡ s.tid) × (z.slow ≡ s.slow) × (s.slow ≢ 0 → z ≡ s)) ⊎ ((s.slow ≡ 0) × ¬ IsIssued numbers s.tid)
+    → ((z : Session) × (sess c ≡ Some z) × (z.tid ≡ s.tid) × (z.slow ≡ s.slow) × (s.slow ≢ 0 → z ≡ s))
+    ⊎ ((s.slow ≡ 0) × ¬ IsIssued numbers s.tid)
 
 -- a slow commit that ends as the rules have it goes on
-pub on_ended : (slows slows2 : ℕ → Slow) (owned2 : List Held) → ((n : ℕ) → (slows2 n ≡ slows n) ⊎ (slows2 n ≡ ended (slows n))) → IsOn slows slows2 owned2
+pub on_ended : (slows slows2 : ℕ → Slow) (owned2 : List Held)
+    → ((n : ℕ) → (slows2 n ≡ slows n) ⊎ (slows2 n ≡ ended (slows n))) → IsOn slows slows2 owned2
 on_ended slows slows2 owned2 how n = elim (how n) [
   | inl same ↦ inl same
   | inr end ↦ elim (slows n) as (λ g. slows2 n ≡ ended g → (slows2 n ≡ g) ⊎ ((x : Tx) × (asked : List SiteId) × (g ≡ Undecided x asked) × ((slows2 n ≡ Dropped x asked) ⊎ ((slows2 n ≡ Decided x) × IsOwn owned2 x)))) [
@@ -85,7 +88,8 @@ on_decided slows slows2 owned2 how n = elim (how n) [
   ] refl end.0
 ]
 
-on_begun : (slows slows2 : ℕ → Slow) (owned2 : List Held) → IsOn slows slows2 owned2 → (n : ℕ) → begun (slows2 n) ≡ begun (slows n)
+on_begun : (slows slows2 : ℕ → Slow) (owned2 : List Held) → IsOn slows slows2 owned2 → (n : ℕ)
+    → begun (slows2 n) ≡ begun (slows n)
 on_begun slows slows2 owned2 on n = elim (on n) [
   | inl same ↦ ap begun same
   | inr end ↦ elim end.3 [
@@ -95,7 +99,8 @@ on_begun slows slows2 owned2 on n = elim (on n) [
 ]
 
 -- what is undecided was so before
-pub on_open : (slows slows2 : ℕ → Slow) (owned2 : List Held) → IsOn slows slows2 owned2 → (n : ℕ) (x : Tx) (asked : List SiteId)
+pub on_open : (slows slows2 : ℕ → Slow) (owned2 : List Held) → IsOn slows slows2 owned2
+    → (n : ℕ) (x : Tx) (asked : List SiteId)
     → slows2 n ≡ Undecided x asked → slows n ≡ Undecided x asked
 on_open slows slows2 owned2 on n x asked h = elim (on n) [
   | inl same ↦ sym same ∙ h
@@ -106,10 +111,12 @@ on_open slows slows2 owned2 on n x asked h = elim (on n) [
 ]
 
 -- at first there are no sessions and no slow commits
-pub tidy_at_first : (i : SiteId) (sess : ℕ → Option Session) (slows : ℕ → Slow) (up : Bool) (last : ℕ) (numbers : Issued) (owned : List Held)
+pub tidy_at_first : (i : SiteId) (sess : ℕ → Option Session) (slows : ℕ → Slow) (up : Bool) (last : ℕ)
+    (numbers : Issued) (owned : List Held)
     → ((c : ℕ) → sess c ≡ None) → ((n : ℕ) → slows n ≡ Unused) → IsTidy i sess slows None up last numbers owned
 tidy_at_first i sess slows up last numbers owned none unused =
-    let no_session : (c : ℕ) (s : Session) → sess c ≡ Some s → ⊥ = λ c s h. let f : ◌≡◌ {A = Option Session} None (Some s) = sym (none c) ∙ h in cc in
+    let no_session : (c : ℕ) (s : Session) → sess c ≡ Some s
+    → ⊥ = λ c s h. let f : ◌≡◌ {A = Option Session} None (Some s) = sym (none c) ∙ h in cc in
     record {
       number = λ n l. unused n;
       named = λ n x h. absurd (not_unused (slows n) x h (unused n));
@@ -122,16 +129,20 @@ tidy_at_first i sess slows up last numbers owned none unused =
       row = λ n x d. absurd (not_unused (slows n) x (ap begun d) (unused n));
     }
 
-module _ (i : SiteId) (sess : ℕ → Option Session) (slows : ℕ → Slow) (pend : Option Record) (up : Bool) (last : ℕ) (numbers : Issued) (owned : List Held) (T : IsTidy i sess slows pend up last numbers owned) where
+module _ (i : SiteId) (sess : ℕ → Option Session) (slows : ℕ → Slow) (pend : Option Record) (up : Bool) (last : ℕ)
+    (numbers : Issued) (owned : List Held) (T : IsTidy i sess slows pend up last numbers owned) where
   -- no slow commit begins
-  pub goes_on : (sess2 : ℕ → Option Session) (slows2 : ℕ → Slow) (pend2 : Option Record) (up2 : Bool) (numbers2 : Issued) (owned2 : List Held)
-      → ((x : Tid) → IsIssued numbers x → IsIssued numbers2 x) → ((q : ℕ) (r : Held) → slice_get owned q ≡ Some r → slice_get owned2 q ≡ Some r)
+  pub goes_on : (sess2 : ℕ → Option Session) (slows2 : ℕ → Slow) (pend2 : Option Record) (up2 : Bool)
+      (numbers2 : Issued) (owned2 : List Held)
+      → ((x : Tid) → IsIssued numbers x → IsIssued numbers2 x)
+      → ((q : ℕ) (r : Held) → slice_get owned q ≡ Some r → slice_get owned2 q ≡ Some r)
       → IsOn slows slows2 owned2 → AreFrom sess sess2 numbers
       → (up2 ≡ true → (n : ℕ) (x : Tx) (asked : List SiteId) → slows2 n ≡ Undecided x asked
       → (up ≡ true) × ((c : ℕ) (s : Session) → sess c ≡ Some s → s.slow ≡ n → sess2 c ≡ Some s))
       → ((r : Record) → pend2 ≡ Some r → (up2 ≡ false) × ((c : ℕ) → sess2 c ≡ None))
       → ((n : ℕ) (x : Tx) → pend2 ≡ Some (SlowBegin n x)
-      → (pend ≡ Some (SlowBegin n x)) ⊎ ((x.slow ≡ n) × (n ≡ last + 1) × (x.tid.site ≡ i) × IsIssued numbers2 x.tid × IsUnbegun slows x.tid))
+      → (pend ≡ Some (SlowBegin n x))
+      ⊎ ((x.slow ≡ n) × (n ≡ last + 1) × (x.tid.site ≡ i) × IsIssued numbers2 x.tid × IsUnbegun slows x.tid))
       → IsTidy i sess2 slows2 pend2 up2 last numbers2 owned2
   goes_on sess2 slows2 pend2 up2 numbers2 owned2 rise grow on come stay below fly =
       let same = on_begun slows slows2 owned2 on in
@@ -183,7 +194,8 @@ module _ (i : SiteId) (sess : ℕ → Option Session) (slows : ℕ → Slow) (pe
   begins_one n x asked sess2 slows2 up2 next is site given_ fresh now others come stay =
       let some : n ≢ 0 = λ e. omega (arith, next, e) in
       let unused : slows n ≡ Unused = T.number n (omega (arith, next)) in
-      let cases : (m : ℕ) (y : Tx) → begun (slows2 m) ≡ Some y → (begun (slows m) ≡ Some y) ⊎ ((m ≡ n) × (x ≡ y)) = λ m y t. elim (others m) [
+      let cases : (m : ℕ) (y : Tx) → begun (slows2 m) ≡ Some y
+      → (begun (slows m) ≡ Some y) ⊎ ((m ≡ n) × (x ≡ y)) = λ m y t. elim (others m) [
         | inl same ↦ inl (sym (ap begun same) ∙ t)
         | inr new ↦ inr (new, let f : ◌≡◌ {A = Option Tx} (Some x) (Some y) = sym (ap begun now) ∙ subst (λ k. begun (slows2 k) ≡ Some y) new t in same_Some x y f)
       ] in
@@ -242,8 +254,10 @@ module _ (i : SiteId) (sess : ℕ → Option Session) (slows : ℕ → Slow) (pe
       }
 
 -- by equal parts
-pub same_tidy : (i : SiteId) (sess sess2 : ℕ → Option Session) (slows slows2 : ℕ → Slow) (pend pend2 : Option Record) (up up2 : Bool) (last last2 : ℕ) (numbers numbers2 : Issued) (owned owned2 : List Held)
-    → ((c : ℕ) → sess c ≡ sess2 c) → ((n : ℕ) → slows n ≡ slows2 n) → pend ≡ pend2 → up ≡ up2 → last ≡ last2 → numbers ≡ numbers2 → owned ≡ owned2
+pub same_tidy : (i : SiteId) (sess sess2 : ℕ → Option Session) (slows slows2 : ℕ → Slow) (pend pend2 : Option Record)
+    (up up2 : Bool) (last last2 : ℕ) (numbers numbers2 : Issued) (owned owned2 : List Held)
+    → ((c : ℕ) → sess c ≡ sess2 c) → ((n : ℕ) → slows n ≡ slows2 n) → pend ≡ pend2 → up ≡ up2 → last ≡ last2
+    → numbers ≡ numbers2 → owned ≡ owned2
     → IsTidy i sess slows pend up last numbers owned → IsTidy i sess2 slows2 pend2 up2 last2 numbers2 owned2
 same_tidy i sess sess2 slows slows2 pend pend2 up up2 last last2 numbers numbers2 owned owned2 a b c d e f g T =
     let ea : sess ≡ sess2 = (λ t k. a k t) in
