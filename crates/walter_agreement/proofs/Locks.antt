@@ -448,3 +448,8 @@ module _ (preferred : ObjId → SiteId) (owns known : SiteId → List Held) (cou
     | inl home ↦ subst (λ p. IsHeld (locks p i n) oid) (sym home.1) (L.local i n x asked oid open_ w home.1)
     | inr away ↦ said_yes (preferred oid) i n x asked oid open_ (voted oid w away.1) w refl
   ]
+
+  -- the owner of a lock is of its coordinator, where each begun transaction is
+  pub lock_site : ((j : SiteId) (n : ℕ) (x : Tx) → begun (slows j n) ≡ Some x → x.tid.site ≡ j)
+      → (p j : SiteId) (n : ℕ) (t : Tid) (objs : List ObjId) → locks p j n ≡ Locked t objs → t.site ≡ j
+  lock_site home p j n t objs h = let o = L.held p j n t objs h in ap (λ (y : Tid). y.site) o.2 ∙ home j n o.0 o.1

@@ -1,6 +1,8 @@
 -- Marks are true: what is said of how many commits other sites have stays so, and is so by what was heard.
-use Rattle.std.proofs.Common.{◌≡◌, ◌≢◌, ◌+◌, ◌-◌, ◌≤◌, ◌⊎◌, ◌||◌, ℕ, Bool, true, nat_le, max, List, count_by, map, Some, None, slice_get, sym, subst, arith, inl, inr}
+use Rattle.std.proofs.Common.{◌≡◌, ◌≢◌, ◌+◌, ◌-◌, ◌<◌, ◌≤◌, ◌⊎◌, ◌||◌, ℕ, Bool, true, nat_le, max, List, count_by, map, Some, None, slice_get, ap, sym, ◌∙◌, subst, arith, inl, inr}
 use Rattle.std.specs.Prelude.{Option, Contains, AllPairs, filter}
+use Rattle.std.specs.List.{range_with_len}
+use Rattle.std.proofs.lemmas.List.FromFn.{get_or-map-range_with_len, length-map-range_with_len}
 use Rattle.std.proofs.lemmas.Bool.{leb-true, or_cases}
 use Rattle.std.proofs.lemmas.List.Elements.{All-contains, filter_passes}
 use Rattle.std.proofs.lemmas.List.Kept.{AllPairs-filter}
@@ -192,3 +194,27 @@ module _ (preferred : ObjId → SiteId) (sites : List SiteId) (f : ℕ) (owns ow
       | inr new ↦ new
     ];
   }
+
+-- the sites with the numbers below n
+abbrev pub site_at : ℕ → SiteId
+site_at k = record { 0 = k }
+
+abbrev pub sites_below : ℕ → List SiteId
+sites_below n = map site_at (range_with_len 0 n)
+
+-- no two of them are the same
+pub sites_below_distinct : (n : ℕ) → AllPairs (λ a b. a ≢ b) (sites_below n)
+sites_below_distinct n i j d before within same =
+    let few = length-map-range_with_len site_at 0 n in
+    let at_i = get_or-map-range_with_len site_at 0 n i i d (omega (arith, before, within, few)) (omega arith) in
+    let at_j = get_or-map-range_with_len site_at 0 n j j d (omega (arith, within, few)) (omega arith) in
+    let equal : i ≡ j = ap (λ (k : SiteId). k.0) (sym at_i ∙ (same ∙ at_j)) in
+    omega (arith, before, equal)
+
+-- each site with a number below n is one of them
+pub site_below : (n : ℕ) (k : SiteId) → k.0 < n → Contains (sites_below n) k
+site_below n k within = (
+  k.0,
+  (let few = length-map-range_with_len site_at 0 n in omega (arith, few, within)),
+  get_or-map-range_with_len site_at 0 n k.0 k.0 k within (omega arith),
+)
