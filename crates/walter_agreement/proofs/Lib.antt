@@ -1,0 +1,7 @@
+pub mod Cases
+pub mod Locks
+pub mod LocksKept
+pub mod Issued
+pub mod Tidy
+pub mod Owners
+pub mod Marked
