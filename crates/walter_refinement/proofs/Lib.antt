@@ -1,0 +1,4 @@
+pub mod Lists
+pub mod Orderly
+pub mod SameReads
+pub mod OrderReads
