@@ -4,3 +4,5 @@ pub mod SameReads
 pub mod OrderReads
 pub mod Numbers
 pub mod CausalLogs
+pub mod Spelled
+pub mod Facts
