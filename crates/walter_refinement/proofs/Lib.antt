@@ -6,3 +6,4 @@ pub mod Numbers
 pub mod CausalLogs
 pub mod Spelled
 pub mod Facts
+pub mod AnyWriter
