@@ -1,6 +1,6 @@
 -- Reads, whoever writes: a session is answered by what its site's log has in its snapshot, in the log's order, and the history
 -- says the same.
-use Rattle.std.proofs.Common.{◌≡◌, ◌≢◌, ℕ, ◌<◌, ◌≤◌, List, [], ◌++◌, length, map, take, drop, refl, ap, sym, ◌∙◌, subst, arith, slice_get, Some, true, inl, inr}
+use Rattle.std.proofs.Common.{◌≡◌, ◌≢◌, ℕ, ◌<◌, ◌≤◌, List, ◌++◌, length, map, take, drop, ap, sym, ◌∙◌, subst, arith, slice_get, Some, true, inl, inr}
 use Rattle.std.specs.Prelude.{Contains, Option, filter, flat_map}
 use Rattle.std.proofs.lemmas.List.{take-append-drop}
 use Rattle.std.proofs.lemmas.List.Elements.{filter-append}

@@ -1,5 +1,5 @@
 -- What the start of each transaction in a log sees stands before it in the log.
-use Rattle.std.proofs.Common.{◌≡◌, ◌≢◌, ℕ, ◌≤◌, List, [], ◌∷◌, ◌++◌, length, take, ap, sym, ◌∙◌, subst, arith, slice_get, Some, inl, inr}
+use Rattle.std.proofs.Common.{◌≡◌, ℕ, ◌≤◌, List, [], ◌∷◌, ◌++◌, length, take, sym, subst, arith, slice_get, Some, inl, inr}
 use Rattle.std.proofs.lemmas.List.{take-append-le, take_at}
 use Rattle.walter_base.specs.declared.names.SiteId.{SiteId}
 use Rattle.walter_base.specs.Vectors.{entry_at}

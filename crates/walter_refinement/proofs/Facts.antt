@@ -6,7 +6,6 @@ use Rattle.std.proofs.lemmas.Option.{slice_get_within}
 use Rattle.walter_base.specs.declared.names.ObjId.{ObjId}
 use Rattle.walter_base.specs.declared.names.SiteId.{SiteId}
 use Rattle.walter_base.specs.declared.names.Tid.{Tid}
-use Rattle.walter_base.specs.declared.names.Version.{Version}
 use Rattle.walter_base.specs.Names.{same_site}
 use Rattle.walter_base.specs.Values.{write_set}
 use Rattle.walter_base.specs.Vectors.{entry_at}

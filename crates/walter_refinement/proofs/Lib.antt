@@ -7,3 +7,4 @@ pub mod CausalLogs
 pub mod Spelled
 pub mod Facts
 pub mod AnyWriter
+pub mod Entries

@@ -1,5 +1,5 @@
 -- Fronts of lists, and the places of what a filter or a function keeps of a list.
-use Rattle.std.proofs.Common.{inl, inr, ◌⊎◌, ◌<◌, ◌≡◌, ℕ, zero, suc, ◌≤◌, List, [], ◌∷◌, ◌++◌, length, map, take, refl, ap, sym, ◌∙◌, arith, slice_get, Some, Bool, true, false, if◌then◌else◌}
+use Rattle.std.proofs.Common.{inl, inr, ◌<◌, ◌≡◌, ℕ, zero, suc, ◌≤◌, List, [], ◌∷◌, ◌++◌, length, map, take, refl, ap, sym, ◌∙◌, arith, slice_get, Some, Bool, true, false, if◌then◌else◌}
 use Rattle.std.specs.Prelude.{flat_map, filter}
 use Rattle.std.proofs.lemmas.Bool.{cases_order}
 use Rattle.std.proofs.lemmas.List.{append-nil, append_assoc, length-append, take-append-le}

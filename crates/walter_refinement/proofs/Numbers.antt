@@ -3,11 +3,11 @@ use Rattle.std.proofs.Common.{◌≡◌, ◌≢◌, ℕ, suc, ◌+◌, ◌<◌, 
 use Rattle.std.proofs.lemmas.List.{length-append}
 use Rattle.walter_base.specs.declared.names.SiteId.{SiteId}
 use Rattle.walter_base.specs.Names.{same_site}
-use Rattle.walter_base.proofs.NameTests.{same_site-true, same_site_refl}
+use Rattle.walter_base.proofs.NameTests.{same_site_refl}
 use Rattle.walter_psi.proofs.Lists.{slice_get-push_cases}
 use Rattle.walter_rules.specs.declared.held.Held.{Held}
 use Rattle.walter_rules.specs.Log.{is_of, of_site}
-use Rattle.walter_refinement.proofs.Lists.{IsPrefix, prefix_refl, prefix_more, prefix_trans, prefix_push, filter_push_kept, filter_push_left, filter_place}
+use Rattle.walter_refinement.proofs.Lists.{IsPrefix, prefix_refl, prefix_more, prefix_trans, prefix_push, filter_push_kept, filter_push_left}
 use Rattle.walter_refinement.proofs.SameReads.{site_cases}
 
 -- one more stands at the end of a site's list, and the other lists are as they were

@@ -1,6 +1,6 @@
 -- Of every legal history: no log has a transaction twice; what a transaction's snapshot has stands before it in each log; of two
 -- transactions that write one object, one is in the snapshot of the other.
-use Rattle.std.proofs.Common.{get_or, ◌≡◌, ◌≢◌, ℕ, ◌<◌, List, [], ◌∷◌, ◌++◌, length, take, refl, ap, sym, ◌∙◌, subst, arith, slice_get, Some, inl, inr, ◌⊎◌}
+use Rattle.std.proofs.Common.{◌≡◌, ◌≢◌, ℕ, ◌<◌, List, [], ◌∷◌, ◌++◌, length, take, refl, ap, sym, ◌∙◌, subst, arith, slice_get, Some, inl, inr, ◌⊎◌}
 use Rattle.std.specs.Prelude.{Contains}
 use Rattle.std.proofs.lemmas.List.{append-nil, take_all}
 use Rattle.std.proofs.lemmas.List.Elements.{All-contains}
@@ -14,7 +14,7 @@ use Rattle.walter_psi.specs.declared.step.Step.TheVariants.{Commit, Arrive}
 use Rattle.walter_psi.specs.Histories.{log, logged, snapshot, committed_updates, IsStarted}
 use Rattle.walter_psi.specs.Legal.{IsLegal, IsLegalStep}
 use Rattle.walter_psi.specs.Properties.{CommitsBeforeStart}
-use Rattle.walter_psi.proofs.Lists.{Contains-nil, contains_at, place_of, slice_get-push_cases, slice_get-append_left}
+use Rattle.walter_psi.proofs.Lists.{contains_at, place_of, slice_get-push_cases, slice_get-append_left}
 use Rattle.walter_psi.proofs.StepFacts.{logged_at_most, logged_is}
 use Rattle.walter_psi.proofs.OneMore.{legal_same, log_snoc}
 use Rattle.walter_psi.proofs.Snapshots.{snapshot_kept, snapshot_logged}
