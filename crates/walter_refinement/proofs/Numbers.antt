@@ -57,6 +57,20 @@ counted_at counts higher s j here elsewhere i k =
       | inr away ↦ let apart = λ (a : s ≡ i) (b : j ≡ k). away.1 a in inl (apart, elsewhere i k apart)
     ]
 
+-- counts of a site that were changed by a test, the other sites' being as they were
+pub counted_one_more : (counts higher : SiteId → SiteId → ℕ) (s j : SiteId)
+    → ((k : SiteId) → higher s k ≡ (if same_site j k then counts s k + 1 else counts s k))
+    → ((i k : SiteId) → s ≢ i → higher i k ≡ counts i k) → IsCounted counts higher s j
+counted_one_more counts higher s j here elsewhere =
+    counted_at counts higher s j (here j ∙ (rw (same_site_refl j) (omega arith)))
+    (λ i k apart. elim (site_cases s i) [
+      | inl same ↦ elim (site_cases j k) [
+        | inl its ↦ absurd (apart same.1 its.1)
+        | inr other ↦ subst (λ a. higher a k ≡ counts a k) same.1 (here k ∙ rw other.0 refl)
+      ]
+      | inr away ↦ elsewhere i k away.1
+    ])
+
 -- counts rise
 pub counted_rise : (counts higher : SiteId → SiteId → ℕ) (s j : SiteId) → IsCounted counts higher s j → (i k : SiteId) → counts i k ≤ higher i k
 counted_rise counts higher s j c i k =
@@ -104,6 +118,39 @@ pushed_of logs longer s r push i k =
           ]
       | inr away ↦ inl (λ a b. away.1 a, ap (λ t. of_site k t) (push.1 i away.1))
     ]
+
+-- where own commits are those of the site in its log, a log with one more own commit has one more of them
+pub owned_pushed : (logs longer : SiteId → List Held) (s : SiteId) (r : Held) → IsPushed logs longer s r → r.tx.tid.site ≡ s
+    → IsPushed (λ k. of_site k (logs k)) (λ k. of_site k (longer k)) s r
+owned_pushed logs longer s r push ours = (
+  elim (pushed_of logs longer s r push s s) [ inl stays ↦ absurd (stays.0 refl ours) | inr one ↦ one.2 ],
+  λ k apart. ap (λ t. of_site k t) (push.1 k apart),
+)
+
+-- and with one more of another site's it has the same
+pub owned_kept : (logs longer : SiteId → List Held) (s : SiteId) (r : Held) → IsPushed logs longer s r → r.tx.tid.site ≢ s
+    → (k : SiteId) → of_site k (longer k) ≡ of_site k (logs k)
+owned_kept logs longer s r push theirs k =
+    elim (pushed_of logs longer s r push k k) [ inl stays ↦ stays.1 | inr one ↦ absurd (theirs (one.1 ∙ sym one.0)) ]
+
+-- no commits are numbered
+pub numbered_none : AreNumbered (λ k. []) (λ i. []) (λ i k. 0)
+numbered_none = record {
+  own = record { site = λ k p r here. absurd cc; numbered = λ k p r here. absurd cc; counted = λ k. refl };
+  held = λ i. record { fronts = λ k. prefix_refl []; within = λ k. omega arith };
+  mine = λ k. refl;
+}
+
+-- the same own commits, logs and counts are numbered
+pub numbered_same : (owns more logs others : SiteId → List Held) (counts higher : SiteId → SiteId → ℕ)
+    → ((k : SiteId) → more k ≡ owns k) → ((i : SiteId) → others i ≡ logs i) → ((i k : SiteId) → higher i k ≡ counts i k)
+    → AreNumbered owns logs counts → AreNumbered more others higher
+numbered_same owns more logs others counts higher same_owns same_logs same_counts n =
+    let first : owns ≡ more = (λ t k. sym (same_owns k) t) in
+    let second : logs ≡ others = (λ t i. sym (same_logs i) t) in
+    let third : counts ≡ higher = (λ t i k. sym (same_counts i k) t) in
+    subst (λ f. AreNumbered f others higher) first
+    (subst (λ f. AreNumbered owns f higher) second (subst (λ f. AreNumbered owns logs f) third n))
 
 -- a site's own commit is appended to its log
 pub numbered_own : (owns more logs longer : SiteId → List Held) (counts higher : SiteId → SiteId → ℕ) (s : SiteId) (r : Held)

@@ -28,6 +28,7 @@ use Rattle.walter_refinement.proofs.Lists.{IsPrefix, prefix_length, prefix_take,
 use Rattle.walter_refinement.proofs.SameReads.{by, site_cases}
 use Rattle.walter_refinement.proofs.Numbers.{IsCounted}
 
+-- the transaction's name, and its updates
 abbrev pub tid_of : Held → Tid
 tid_of r = r.tx.tid
 
@@ -44,6 +45,7 @@ pub record Issued : Type 0 where
   pub epoch : ℕ
   pub starts : ℕ
 
+-- the name was given
 abbrev pub IsIssued : Issued → Tid → Type 0
 IsIssued issued x = (x.epoch < issued.epoch) ⊎ ((x.epoch ≡ issued.epoch) × (x.number ≤ issued.starts))
 
@@ -85,6 +87,17 @@ pub record IsSpelledAt (owns : SiteId → List Held) (counts : SiteId → SiteId
   pub begun : (x : Tid) → IsStarted x h → IsIssued (numbers x.site) x
   -- what was told as not committed can't commit: a session that has it has lost its commit
   pub denied : (x : Tid) → Contains h (Told x (OfLevel NotCommitted)) → IsIssued (numbers x.site) x × ((c : Key) (s : Session) → sessions c ≡ Some s → s.tid ≡ x → spent c)
+
+-- the same own commits and counts spell the history
+pub spelled_same : (owns more : SiteId → List Held) (counts higher : SiteId → SiteId → ℕ) (numbers : SiteId → Issued)
+    (sessions : Key → Option Session) (spent : Key → Type 0) (h : List Step)
+    → ((k : SiteId) → more k ≡ owns k) → ((i k : SiteId) → higher i k ≡ counts i k)
+    → IsSpelledAt owns counts numbers sessions spent h → IsSpelledAt more higher numbers sessions spent h
+spelled_same owns more counts higher numbers sessions spent h same_owns same_counts sp =
+    let first : owns ≡ more = (λ t k. sym (same_owns k) t) in
+    let second : counts ≡ higher = (λ t i k. sym (same_counts i k) t) in
+    subst (λ f. IsSpelledAt f higher numbers sessions spent h) first
+    (subst (λ f. IsSpelledAt owns f numbers sessions spent h) second sp)
 
 -- what a vector sees is seen by one with the same entries
 pub sees_same : (owns : SiteId → List Held) (v w : SiteId → ℕ) (xs : List Tid) → ((k : SiteId) → w k ≡ v k) → Sees owns v xs → Sees owns w xs
