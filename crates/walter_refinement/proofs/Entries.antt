@@ -61,7 +61,8 @@ pub record IsPlain (step : Step) : Type 0 where
   pub no_notice : (x : Tid) → step ≢ Told x (OfLevel NotCommitted)
 
 -- nothing is known of the empty history
-pub spelled_none : (numbers : SiteId → Issued) (spent : Key → Type 0) → IsSpelledAt (λ k. []) (λ i k. 0) numbers (λ c. None) spent []
+pub spelled_none : (numbers : SiteId → Issued) (spent : Key → Type 0)
+    → IsSpelledAt (λ k. []) (λ i k. 0) numbers (λ c. None) spent []
 spelled_none numbers spent = record {
   legal = λ place step at. absurd cc;
   logs = λ i k. (refl, omega arith);
@@ -75,14 +76,18 @@ spelled_none numbers spent = record {
 }
 
 module _ (owns : SiteId → List Held) (counts : SiteId → SiteId → ℕ) (numbers : SiteId → Issued) (sessions : Key → Option Session) (spent : Key → Type 0) (h : List Step) (sp : IsSpelledAt owns counts numbers sessions spent h) where
-  alone_of : (after : Key → Option Session) → IsOld sessions after → (c d : Key) (s t : Session) → after c ≡ Some s → after d ≡ Some t → s.tid ≡ t.tid → c ≡ d
+  -- old sessions have two transactions, each of its site, and what was denied is lost
+  alone_of : (after : Key → Option Session) → IsOld sessions after → (c d : Key) (s t : Session) → after c ≡ Some s
+      → after d ≡ Some t → s.tid ≡ t.tid → c ≡ d
   alone_of after old c d s t hs ht e = let a = old c s hs in let b = old d t ht in sp.alone c d a.0 b.0 a.1 b.1 (a.2 ∙ (e ∙ sym b.2))
 
-  home_of : (after : Key → Option Session) → IsOld sessions after → (c : Key) (s : Session) → after c ≡ Some s → s.tid.site ≡ c.site
+  home_of : (after : Key → Option Session) → IsOld sessions after → (c : Key) (s : Session) → after c ≡ Some s
+      → s.tid.site ≡ c.site
   home_of after old c s hs = let a = old c s hs in ap (λ (x : Tid). x.site) (sym a.2) ∙ sp.home c a.0 a.1
 
   denied_of : (higher : SiteId → Issued) (after : Key → Option Session) → IsHigher numbers higher → IsOld sessions after
-      → (x : Tid) → Contains h (Told x (OfLevel NotCommitted)) → IsIssued (higher x.site) x × ((c : Key) (s : Session) → after c ≡ Some s → s.tid ≡ x → spent c)
+      → (x : Tid) → Contains h (Told x (OfLevel NotCommitted))
+      → IsIssued (higher x.site) x × ((c : Key) (s : Session) → after c ≡ Some s → s.tid ≡ x → spent c)
   denied_of higher after rise old x told =
       let was = sp.denied x told in
       (rise x was.0, λ c s hs e. let a = old c s hs in was.1 c a.0 a.1 (a.2 ∙ e))
@@ -92,7 +97,8 @@ module _ (owns : SiteId → List Held) (counts : SiteId → SiteId → ℕ) (num
   fewer_old after old d t there = (t, old d t there, refl)
 
   -- so are those of which one is changed, with its transaction
-  with_old : (c : Key) (s mine : Session) (after : Key → Option Session) → sessions c ≡ Some s → s.tid ≡ mine.tid → IsWith c mine sessions after → IsOld sessions after
+  with_old : (c : Key) (s mine : Session) (after : Key → Option Session) → sessions c ≡ Some s → s.tid ≡ mine.tid
+      → IsWith c mine sessions after → IsOld sessions after
   with_old c s mine after has same with_mine d t there =
       elim (with_mine d t there) [
         | inl here ↦ (s, subst (λ k. sessions k ≡ Some s) here.0 has, same ∙ ap (λ (z : Session). z.tid) here.1)
@@ -120,13 +126,15 @@ module _ (owns : SiteId → List Held) (counts : SiteId → SiteId → ℕ) (num
   }
 
   -- a plain step that does nothing for any transaction and ends none
-  quiet : (step : Step) (after : Key → Option Session) → IsLegalStep h step → IsPlain step → ((x : Tid) → IsAside x step) → IsFewer sessions after
+  quiet : (step : Step) (after : Key → Option Session) → IsLegalStep h step → IsPlain step
+      → ((x : Tid) → IsAside x step) → IsFewer sessions after
       → IsSpelledAt owns counts numbers after spent (h ++ step ∷ [])
   quiet step after next p aside old =
       plain step after next p (λ d t there. done_or_live_step owns counts h t step (sp.live d t (old d t there)) (aside t.tid)) (fewer_old after old)
 
   -- sessions end, names are given, and what is lost stays lost
-  pub fewer : (higher : SiteId → Issued) (after : Key → Option Session) → IsHigher numbers higher → IsFewer sessions after → (lost : Key → Type 0)
+  pub fewer : (higher : SiteId → Issued) (after : Key → Option Session) → IsHigher numbers higher
+      → IsFewer sessions after → (lost : Key → Type 0)
       → ((d : Key) (t : Session) → after d ≡ Some t → spent d → lost d) → IsSpelledAt owns counts higher after lost h
   fewer higher after rise old lost still = record {
     legal = sp.legal;
@@ -166,7 +174,8 @@ module _ (owns : SiteId → List Held) (counts : SiteId → SiteId → ℕ) (num
   }
 
   -- a session gets the number of its slow commit
-  pub numbered_as : (m : ℕ) (c : Key) (s : Session) (after : Key → Option Session) → sessions c ≡ Some s → IsWith c (with_slow m s) sessions after
+  pub numbered_as : (m : ℕ) (c : Key) (s : Session) (after : Key → Option Session) → sessions c ≡ Some s
+      → IsWith c (with_slow m s) sessions after
       → IsSpelledAt owns counts numbers after spent h
   numbered_as m c s after has with_mine =
       let old = with_old c s (with_slow m s) after has refl with_mine in
@@ -189,7 +198,8 @@ module _ (owns : SiteId → List Held) (counts : SiteId → SiteId → ℕ) (num
       }
 
   -- Op
-  pub did_op : (c : Key) (s : Session) (u : Update) (after : Key → Option Session) → sessions c ≡ Some s → IsLive owns counts h s
+  pub did_op : (c : Key) (s : Session) (u : Update) (after : Key → Option Session) → sessions c ≡ Some s
+      → IsLive owns counts h s
       → IsWith c (with_update u s) sessions after → IsSpelledAt owns counts numbers after spent (h ++ Op s.tid u ∷ [])
   did_op c s u after has l with_mine =
       let step : Step = Op s.tid u in
@@ -213,7 +223,8 @@ module _ (owns : SiteId → List Held) (counts : SiteId → SiteId → ℕ) (num
       (with_old c s (with_update u s) after has refl with_mine)
 
   -- Read
-  pub did_read : (s : Session) (oid : ObjId) (a : Answer) (after : Key → Option Session) → IsLive owns counts h s → IsFewer sessions after → IsAnswer oid (seen_updates s.tid h) a
+  pub did_read : (s : Session) (oid : ObjId) (a : Answer) (after : Key → Option Session) → IsLive owns counts h s
+      → IsFewer sessions after → IsAnswer oid (seen_updates s.tid h) a
       → IsSpelledAt owns counts numbers after spent (h ++ Read s.tid oid a ∷ [])
   did_read s oid a after l old answer =
       quiet (Read s.tid oid a) after ((l.started, l.open_), answer)
@@ -222,7 +233,8 @@ module _ (owns : SiteId → List Held) (counts : SiteId → SiteId → ℕ) (num
       old
 
   -- Abort
-  pub did_abort : (c : Key) (s : Session) (cause : Cause) (after : Key → Option Session) → sessions c ≡ Some s → IsLive owns counts h s → IsWithout c sessions after → IsCauseOfAbort s.tid h cause
+  pub did_abort : (c : Key) (s : Session) (cause : Cause) (after : Key → Option Session) → sessions c ≡ Some s
+      → IsLive owns counts h s → IsWithout c sessions after → IsCauseOfAbort s.tid h cause
       → IsSpelledAt owns counts numbers after spent (h ++ Abort s.tid cause ∷ [])
   did_abort c s cause after has l closed is =
       plain (Abort s.tid cause) after ((l.started, l.open_), is)
@@ -237,7 +249,8 @@ module _ (owns : SiteId → List Held) (counts : SiteId → SiteId → ℕ) (num
       (fewer_old after (λ d t there. (closed d t there).1))
 
   -- Told, but not that it isn't committed
-  pub did_tell : (x : Tid) (what : Notice) (after : Key → Option Session) → IsTrueNotice x h what → what ≢ OfLevel NotCommitted → IsFewer sessions after
+  pub did_tell : (x : Tid) (what : Notice) (after : Key → Option Session) → IsTrueNotice x h what
+      → what ≢ OfLevel NotCommitted → IsFewer sessions after
       → IsSpelledAt owns counts numbers after spent (h ++ Told x what ∷ [])
   did_tell x what after so good old =
       quiet (Told x what) after so
@@ -246,27 +259,31 @@ module _ (owns : SiteId → List Held) (counts : SiteId → SiteId → ℕ) (num
       old
 
   -- Told of the version of an own commit
-  pub did_tell_version : (k : SiteId) (p : ℕ) (r : Held) (after : Key → Option Session) → AreOwned owns counts → slice_get (owns k) p ≡ Some r → IsFewer sessions after
+  pub did_tell_version : (k : SiteId) (p : ℕ) (r : Held) (after : Key → Option Session) → AreOwned owns counts
+      → slice_get (owns k) p ≡ Some r → IsFewer sessions after
       → IsSpelledAt owns counts numbers after spent (h ++ Told r.tx.tid (OfVersion (version_of r)) ∷ [])
   did_tell_version k p r after n here old =
       did_tell r.tx.tid (OfVersion (version_of r)) after (row_version owns counts numbers sessions spent h n sp k p r here) (λ e. absurd cc) old
 
   -- a committed transaction has come to each level but the lowest
-  committed_notice : (x : Tid) (level : Level) → level ≢ NotCommitted → IsCommitted x h → IsTrueNotice x h (OfLevel level)
+  committed_notice : (x : Tid) (level : Level) → level ≢ NotCommitted → IsCommitted x h
+      → IsTrueNotice x h (OfLevel level)
   committed_notice x NotCommitted high committed = absurd (high refl)
   committed_notice x Committed high committed = committed
   committed_notice x Durable high committed = committed
   committed_notice x Visible high committed = committed
 
   -- Told how far an own commit has come
-  pub did_tell_level : (k : SiteId) (p : ℕ) (r : Held) (level : Level) (after : Key → Option Session) → AreOwned owns counts → level ≢ NotCommitted → slice_get (owns k) p ≡ Some r → IsFewer sessions after
+  pub did_tell_level : (k : SiteId) (p : ℕ) (r : Held) (level : Level) (after : Key → Option Session)
+      → AreOwned owns counts → level ≢ NotCommitted → slice_get (owns k) p ≡ Some r → IsFewer sessions after
       → IsSpelledAt owns counts numbers after spent (h ++ Told r.tx.tid (OfLevel level) ∷ [])
   did_tell_level k p r level after n high here old =
       did_tell r.tx.tid (OfLevel level) after (committed_notice r.tx.tid level high (row_committed owns counts numbers sessions spent h n sp k p r here))
       (λ e. high (let f : level ≡ NotCommitted = cc in f)) old
 
   -- Told that it isn't committed
-  pub did_deny : (x : Tid) (after : Key → Option Session) → ¬ IsCommitted x h → IsIssued (numbers x.site) x → ((c : Key) (s : Session) → sessions c ≡ Some s → s.tid ≡ x → spent c) → IsFewer sessions after
+  pub did_deny : (x : Tid) (after : Key → Option Session) → ¬ IsCommitted x h → IsIssued (numbers x.site) x
+      → ((c : Key) (s : Session) → sessions c ≡ Some s → s.tid ≡ x → spent c) → IsFewer sessions after
       → IsSpelledAt owns counts numbers after spent (h ++ Told x (OfLevel NotCommitted) ∷ [])
   did_deny x after fresh given_ none old =
       let step : Step = Told x (OfLevel NotCommitted) in
@@ -290,8 +307,10 @@ module _ (owns : SiteId → List Held) (counts : SiteId → SiteId → ℕ) (num
       }
 
   -- Start
-  pub did_start : (c : Key) (x : Tid) (v : List ℕ) (higher : SiteId → Issued) (after : Key → Option Session) → x.site ≡ c.site → ¬ IsIssued (numbers x.site) x → IsIssued (higher x.site) x
-      → ((k : SiteId) → entry_at v k ≡ counts x.site k) → IsHigher numbers higher → IsWith c (record { tid = x; snapshot = v; updates = []; slow = 0 }) sessions after
+  pub did_start : (c : Key) (x : Tid) (v : List ℕ) (higher : SiteId → Issued) (after : Key → Option Session)
+      → x.site ≡ c.site → ¬ IsIssued (numbers x.site) x → IsIssued (higher x.site) x
+      → ((k : SiteId) → entry_at v k ≡ counts x.site k) → IsHigher numbers higher
+      → IsWith c (record { tid = x; snapshot = v; updates = []; slow = 0 }) sessions after
       → IsSpelledAt owns counts higher after spent (h ++ Start x x.site ∷ [])
   did_start c x v higher after site unissued now_issued vector rise with_mine =
       let fresh : ¬ IsStarted x h = λ st. unissued (sp.begun x st) in
@@ -349,8 +368,10 @@ module _ (owns : SiteId → List Held) (counts : SiteId → SiteId → ℕ) (num
       }
 
   -- the Commit of a session's transaction, by the session
-  commit_of_session : (more : SiteId → List Held) (higher : SiteId → SiteId → ℕ) (c : Key) (s : Session) (r : Held) → AreOwned owns counts → sessions c ≡ Some s → IsLive owns counts h s → (spent c → ⊥)
-      → r.tx.tid ≡ s.tid → ((k : SiteId) → entry_at r.tx.start k ≡ entry_at s.snapshot k) → r.tx.updates ≡ s.updates → s.updates ≢ [] → ¬ IsBlocked s.tid s.updates h
+  commit_of_session : (more : SiteId → List Held) (higher : SiteId → SiteId → ℕ) (c : Key) (s : Session) (r : Held)
+      → AreOwned owns counts → sessions c ≡ Some s → IsLive owns counts h s → (spent c → ⊥)
+      → r.tx.tid ≡ s.tid → ((k : SiteId) → entry_at r.tx.start k ≡ entry_at s.snapshot k) → r.tx.updates ≡ s.updates
+      → s.updates ≢ [] → ¬ IsBlocked s.tid s.updates h
       → IsPushed owns more s.tid.site r → IsCounted counts higher s.tid.site s.tid.site
       → IsSpelledAt more higher numbers sessions spent (h ++ Commit s.tid s.updates ∷ [])
   commit_of_session more higher c s r n has l unspent is_tid starts is_updates some free push count =
@@ -403,8 +424,10 @@ module _ (owns : SiteId → List Held) (counts : SiteId → SiteId → ℕ) (num
       }
 
   -- Commit: of a session's transaction, as its site holds it; the session stays, with a committed transaction
-  pub did_commit : (more : SiteId → List Held) (higher : SiteId → SiteId → ℕ) (c : Key) (s : Session) (r : Held) → AreOwned owns counts → sessions c ≡ Some s → IsLive owns counts h s → (spent c → ⊥)
-      → r.tx.tid ≡ s.tid → ((k : SiteId) → entry_at r.tx.start k ≡ entry_at s.snapshot k) → r.tx.updates ≡ s.updates → s.updates ≢ [] → ¬ IsBlocked s.tid s.updates h
+  pub did_commit : (more : SiteId → List Held) (higher : SiteId → SiteId → ℕ) (c : Key) (s : Session) (r : Held)
+      → AreOwned owns counts → sessions c ≡ Some s → IsLive owns counts h s → (spent c → ⊥)
+      → r.tx.tid ≡ s.tid → ((k : SiteId) → entry_at r.tx.start k ≡ entry_at s.snapshot k) → r.tx.updates ≡ s.updates
+      → s.updates ≢ [] → ¬ IsBlocked s.tid s.updates h
       → IsPushed owns more s.tid.site r → IsCounted counts higher s.tid.site s.tid.site
       → IsSpelledAt more higher numbers sessions spent (h ++ Commit r.tx.tid r.tx.updates ∷ [])
   did_commit more higher c s r n has l unspent is_tid starts is_updates some free push count =
@@ -413,7 +436,8 @@ module _ (owns : SiteId → List Held) (counts : SiteId → SiteId → ℕ) (num
       (commit_of_session more higher c s r n has l unspent is_tid starts is_updates some free push count)
 
   -- Arrive
-  pub did_arrive : (higher : SiteId → SiteId → ℕ) (i : SiteId) (r : Held) → AreOwned owns counts → i ≢ r.tx.tid.site → slice_get (owns r.tx.tid.site) (counts i r.tx.tid.site) ≡ Some r
+  pub did_arrive : (higher : SiteId → SiteId → ℕ) (i : SiteId) (r : Held) → AreOwned owns counts → i ≢ r.tx.tid.site
+      → slice_get (owns r.tx.tid.site) (counts i r.tx.tid.site) ≡ Some r
       → ((k : SiteId) → entry_at r.tx.start k ≤ counts i k) → IsCounted counts higher i r.tx.tid.site
       → IsSpelledAt owns higher numbers sessions spent (h ++ Arrive r.tx.tid i ∷ [])
   did_arrive higher i r n away here covers count =

@@ -23,7 +23,9 @@ use Rattle.walter_refinement.proofs.Numbers.{AreOwned, IsLogOf}
 use Rattle.walter_refinement.proofs.Spelled.{Key, Issued, Sees, IsLive, IsSpelledAt, IsSeenRow, tid_of, seen_row, row_seen, by_in}
 
 -- of numbered commits of one site a vector sees the first
-seen_take : (v : List ℕ) (k : SiteId) (b n : ℕ) (xs : List Held) → n ≡ entry_at v k - b → ((q : ℕ) (r : Held) → slice_get xs q ≡ Some r → (r.seq ≡ b + q + 1) × (r.tx.tid.site ≡ k)) → filter (sees v) xs ≡ take n xs
+seen_take : (v : List ℕ) (k : SiteId) (b n : ℕ) (xs : List Held) → n ≡ entry_at v k - b
+    → ((q : ℕ) (r : Held) → slice_get xs q ≡ Some r → (r.seq ≡ b + q + 1) × (r.tx.tid.site ≡ k))
+    → filter (sees v) xs ≡ take n xs
 seen_take v k b zero [] e h = refl
 seen_take v k b (suc n) [] e h = refl
 seen_take v k b zero (r ∷ xs) e h =
@@ -36,7 +38,8 @@ seen_take v k b (suc n) (r ∷ xs) e h =
     rw seen (ap (λ t. r ∷ t) (seen_take v k (b + 1) n xs (omega (arith, e)) (λ q s l. let g = h (suc q) s l in (let g0 = g.0 in omega (arith, g0), g.1))))
 
 -- of what a log holds a vector sees of each site the first own commits, as many as it says
-pub log_seen : (owns : SiteId → List Held) (counts : SiteId → SiteId → ℕ) (held : List Held) (v : List ℕ) → AreOwned owns counts
+pub log_seen : (owns : SiteId → List Held) (counts : SiteId → SiteId → ℕ) (held : List Held) (v : List ℕ)
+    → AreOwned owns counts
     → ((k : SiteId) → IsPrefix (of_site k held) (owns k)) → ((k : SiteId) → entry_at v k ≤ length (of_site k held))
     → (k : SiteId) → by k (map tid_of (filter (sees v) held)) ≡ map tid_of (take (entry_at v k) (owns k))
 log_seen owns counts held v n fronts low k =
@@ -57,7 +60,8 @@ row_owned owns held fronts p r here =
 
 -- what is committed where a log is, the log holds
 pub row_held : (owns : SiteId → List Held) (count : SiteId → ℕ) (held : List Held) → IsLogOf owns count held
-    → (k : SiteId) (q : ℕ) (r : Held) → slice_get (owns k) q ≡ Some r → q < count k → (l : ℕ) × (slice_get held l ≡ Some r)
+    → (k : SiteId) (q : ℕ) (r : Held) → slice_get (owns k) q ≡ Some r → q < count k
+    → (l : ℕ) × (slice_get held l ≡ Some r)
 row_held owns count held is k q r here low =
     let w = is.within k in
     let there = prefix_back (of_site k held) (owns k) r q (is.fronts k) (omega (arith, w, low)) here in
@@ -70,7 +74,8 @@ module _ (owns : SiteId → List Held) (counts : SiteId → SiteId → ℕ) (num
   committed_row y c = seen_row owns (λ k. counts y.site k) (log y.site h) y (sp.logs y.site) (committed_logged y h c)
 
   -- an own commit stands among those of its site in the log there
-  row_logged : (k : SiteId) (p : ℕ) (r : Held) → slice_get (owns k) p ≡ Some r → slice_get (by k (log k h)) p ≡ Some r.tx.tid
+  row_logged : (k : SiteId) (p : ℕ) (r : Held) → slice_get (owns k) p ≡ Some r
+      → slice_get (by k (log k h)) p ≡ Some r.tx.tid
   row_logged k p r here =
       let l : p < counts k k = let w = slice_get_within (owns k) p r here in let e = n.counted k in omega (arith, w, e) in
       row_seen owns (counts k) (log k h) k p r (sp.logs k) l here
@@ -80,20 +85,23 @@ module _ (owns : SiteId → List Held) (counts : SiteId → SiteId → ℕ) (num
   row_committed k p r here = logged_committed k r.tx.tid h sp.legal (by_in k (log k h) r.tx.tid p (row_logged k p r here))
 
   -- a transaction is committed exactly where a site has an own commit of it
-  pub committed_exactly : (y : Tid) → IsCommitted y h ↔ ((k : SiteId) × (p : ℕ) × (r : Held) × (slice_get (owns k) p ≡ Some r) × (r.tx.tid ≡ y))
+  pub committed_exactly : (y : Tid)
+      → IsCommitted y h ↔ ((k : SiteId) × (p : ℕ) × (r : Held) × (slice_get (owns k) p ≡ Some r) × (r.tx.tid ≡ y))
   committed_exactly y = (
     λ c. let row = committed_row y c in (y.site, row.place, row.row, row.here, row.is),
     λ own. subst (λ z. IsCommitted z h) own.4 (row_committed own.0 own.1 own.2 own.3),
   )
 
   -- the version of an own commit is that of its transaction
-  pub row_version : (k : SiteId) (p : ℕ) (r : Held) → slice_get (owns k) p ≡ Some r → IsVersionOf h (version_of r) r.tx.tid
+  pub row_version : (k : SiteId) (p : ℕ) (r : Held) → slice_get (owns k) p ≡ Some r
+      → IsVersionOf h (version_of r) r.tx.tid
   row_version k p r here =
       let there = ap (λ t. slice_get t p) (own_log k h sp.legal) ∙ row_logged k p r here in
       (p, n.numbered k p r here, subst (λ (j : SiteId). slice_get (commits j h) p ≡ Some r.tx.tid) (sym (n.site k p r here)) there)
 
   -- where the vector doesn't see an own commit, what it sees doesn't have the transaction
-  pub row_unseen : (v : List ℕ) (xs : List Tid) (k : SiteId) (p : ℕ) (r : Held) → Sees owns (λ j. entry_at v j) xs → slice_get (owns k) p ≡ Some r → sees v r ≡ false → ¬ Contains xs r.tx.tid
+  pub row_unseen : (v : List ℕ) (xs : List Tid) (k : SiteId) (p : ℕ) (r : Held) → Sees owns (λ j. entry_at v j) xs
+      → slice_get (owns k) p ≡ Some r → sees v r ≡ false → ¬ Contains xs r.tx.tid
   row_unseen v xs k p r see here unseen c =
       let w = seen_row owns (λ j. entry_at v j) xs r.tx.tid see c in
       let site = n.site k p r here in
@@ -105,7 +113,8 @@ module _ (owns : SiteId → List Held) (counts : SiteId → SiteId → ℕ) (num
       absurd (cc)
 
   -- where it sees it, what it sees has the transaction
-  pub seen_contained : (v : List ℕ) (xs : List Tid) (k : SiteId) (p : ℕ) (r : Held) → Sees owns (λ j. entry_at v j) xs → slice_get (owns k) p ≡ Some r → sees v r ≡ true → Contains xs r.tx.tid
+  pub seen_contained : (v : List ℕ) (xs : List Tid) (k : SiteId) (p : ℕ) (r : Held) → Sees owns (λ j. entry_at v j) xs
+      → slice_get (owns k) p ≡ Some r → sees v r ≡ true → Contains xs r.tx.tid
   seen_contained v xs k p r see here is_seen =
       let site = n.site k p r here in
       let number = n.numbered k p r here in
@@ -127,7 +136,8 @@ module _ (owns : SiteId → List Held) (counts : SiteId → SiteId → ℕ) (num
       b.4 (subst (λ z. Contains (snapshot s.tid h) z) r.is (seen_contained s.snapshot (snapshot s.tid h) y.site r.place r.row l.seen r.here seen_))
 
   -- an own commit that writes the object, and that the session's snapshot doesn't see, is a version outside it
-  pub modified : (s : Session) (k : SiteId) (p : ℕ) (r : Held) (oid : ObjId) → IsLive owns counts h s → slice_get (owns k) p ≡ Some r
+  pub modified : (s : Session) (k : SiteId) (p : ℕ) (r : Held) (oid : ObjId) → IsLive owns counts h s
+      → slice_get (owns k) p ≡ Some r
       → Contains (write_set r.tx.updates) oid → sees s.snapshot r ≡ false → IsOutside s.tid h oid (version_of r)
   modified s k p r oid l here writes unseen = (
     r.tx.tid,

@@ -72,7 +72,8 @@ counted_one_more counts higher s j here elsewhere =
     ])
 
 -- counts rise
-pub counted_rise : (counts higher : SiteId → SiteId → ℕ) (s j : SiteId) → IsCounted counts higher s j → (i k : SiteId) → counts i k ≤ higher i k
+pub counted_rise : (counts higher : SiteId → SiteId → ℕ) (s j : SiteId) → IsCounted counts higher s j → (i k : SiteId)
+    → counts i k ≤ higher i k
 counted_rise counts higher s j c i k =
     elim (c i k) [
       | inl same ↦ omega (arith, same.1)
@@ -80,7 +81,8 @@ counted_rise counts higher s j c i k =
     ]
 
 -- lists are fronts of what they became
-pub pushed_prefix : (lists longer : SiteId → List Held) (s : SiteId) (r : Held) → IsPushed lists longer s r → (k : SiteId) → IsPrefix (lists k) (longer k)
+pub pushed_prefix : (lists longer : SiteId → List Held) (s : SiteId) (r : Held) → IsPushed lists longer s r
+    → (k : SiteId) → IsPrefix (lists k) (longer k)
 pushed_prefix lists longer s r push k =
     elim (site_cases s k) [
       | inl same ↦
@@ -120,7 +122,8 @@ pushed_of logs longer s r push i k =
     ]
 
 -- where own commits are those of the site in its log, a log with one more own commit has one more of them
-pub owned_pushed : (logs longer : SiteId → List Held) (s : SiteId) (r : Held) → IsPushed logs longer s r → r.tx.tid.site ≡ s
+pub owned_pushed : (logs longer : SiteId → List Held) (s : SiteId) (r : Held) → IsPushed logs longer s r
+    → r.tx.tid.site ≡ s
     → IsPushed (λ k. of_site k (logs k)) (λ k. of_site k (longer k)) s r
 owned_pushed logs longer s r push ours = (
   elim (pushed_of logs longer s r push s s) [ inl stays ↦ absurd (stays.0 refl ours) | inr one ↦ one.2 ],
@@ -128,7 +131,8 @@ owned_pushed logs longer s r push ours = (
 )
 
 -- and with one more of another site's it has the same
-pub owned_kept : (logs longer : SiteId → List Held) (s : SiteId) (r : Held) → IsPushed logs longer s r → r.tx.tid.site ≢ s
+pub owned_kept : (logs longer : SiteId → List Held) (s : SiteId) (r : Held) → IsPushed logs longer s r
+    → r.tx.tid.site ≢ s
     → (k : SiteId) → of_site k (longer k) ≡ of_site k (logs k)
 owned_kept logs longer s r push theirs k =
     elim (pushed_of logs longer s r push k k) [ inl stays ↦ stays.1 | inr one ↦ absurd (theirs (one.1 ∙ sym one.0)) ]
@@ -221,7 +225,8 @@ numbered_own owns more logs longer counts higher s r n push append count ours ne
 
 -- the next commit of another site is appended to a site's log
 pub numbered_got : (owns logs longer : SiteId → List Held) (counts : SiteId → SiteId → ℕ) (s j : SiteId) (r : Held)
-    → AreNumbered owns logs counts → IsPushed logs longer s r → j ≢ s → slice_get (owns j) (length (of_site j (logs s))) ≡ Some r
+    → AreNumbered owns logs counts → IsPushed logs longer s r → j ≢ s
+    → slice_get (owns j) (length (of_site j (logs s))) ≡ Some r
     → AreNumbered owns longer counts
 numbered_got owns logs longer counts s j r n append apart next =
     let theirs = n.own.site j (length (of_site j (logs s))) r next in

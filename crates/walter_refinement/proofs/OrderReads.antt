@@ -32,7 +32,8 @@ writes_some oid (Add at id ∷ us) h = writes_some oid us h
 writes_some oid (Del at id ∷ us) h = writes_some oid us h
 
 -- updates that don't write the object leave its value
-pub value_unwritten : (held : Option (List ℕ)) (oid : ObjId) (us : List Update) → writes oid us ≡ false → value_from held oid us ≡ held
+pub value_unwritten : (held : Option (List ℕ)) (oid : ObjId) (us : List Update) → writes oid us ≡ false
+    → value_from held oid us ≡ held
 value_unwritten held oid [] no_ = refl
 value_unwritten held oid (Write at bytes ∷ us) no_ =
     elim (same_object at oid) as (λ b. (if b then true else writes oid us) ≡ false → value_from (if b then Some bytes else held) oid us ≡ held) [
@@ -43,7 +44,8 @@ value_unwritten held oid (Add at id ∷ us) no_ = value_unwritten held oid us no
 value_unwritten held oid (Del at id ∷ us) no_ = value_unwritten held oid us no_
 
 -- updates that write the object decide its value alone
-pub value_written : (held other : Option (List ℕ)) (oid : ObjId) (us : List Update) → writes oid us ≡ true → value_from held oid us ≡ value_from other oid us
+pub value_written : (held other : Option (List ℕ)) (oid : ObjId) (us : List Update) → writes oid us ≡ true
+    → value_from held oid us ≡ value_from other oid us
 value_written held other oid [] is = absurd cc
 value_written held other oid (Write at bytes ∷ us) is =
     elim (same_object at oid) as (λ b. (if b then true else writes oid us) ≡ true → value_from (if b then Some bytes else held) oid us ≡ value_from (if b then Some bytes else other) oid us) [
@@ -69,7 +71,8 @@ decided_by None oid f held = held
 decided_by (Some y) oid f held = value_from None oid (f y)
 
 -- the last writer decides the value
-pub value_by_last : (oid : ObjId) (f : Tid → List Update) (xs : List Tid) (held : Option (List ℕ)) → value_from held oid (flat_map f xs) ≡ decided_by (last_writer oid f xs) oid f held
+pub value_by_last : (oid : ObjId) (f : Tid → List Update) (xs : List Tid) (held : Option (List ℕ))
+    → value_from held oid (flat_map f xs) ≡ decided_by (last_writer oid f xs) oid f held
 value_by_last oid f [] held = refl
 value_by_last oid f (x ∷ xs) held =
     let split = value_from-append held oid (f x) (flat_map f xs) in
@@ -90,7 +93,8 @@ pub record IsLast (oid : ObjId) (f : Tid → List Update) (xs : List Tid) (y : T
   pub none_behind : (q : ℕ) (z : Tid) → place < q → slice_get xs q ≡ Some z → writes oid (f z) ≡ false
 
 -- where there is no last writer, none writes
-no_writer : (oid : ObjId) (f : Tid → List Update) (xs : List Tid) → last_writer oid f xs ≡ None → (q : ℕ) (z : Tid) → slice_get xs q ≡ Some z → writes oid (f z) ≡ false
+no_writer : (oid : ObjId) (f : Tid → List Update) (xs : List Tid) → last_writer oid f xs ≡ None → (q : ℕ) (z : Tid)
+    → slice_get xs q ≡ Some z → writes oid (f z) ≡ false
 no_writer oid f [] h q z at = absurd cc
 no_writer oid f (x ∷ xs) h q z at =
     elim (last_writer oid f xs) as (λ l. last_writer oid f xs ≡ l → or_else l (writes oid (f x)) x ≡ None → writes oid (f z) ≡ false) [
@@ -104,16 +108,23 @@ no_writer oid f (x ∷ xs) h q z at =
       ] refl n
     ] refl h
 
-behind : (oid : ObjId) (f : Tid → List Update) (x : Tid) (xs : List Tid) (p q : ℕ) (w : Tid) → ((k : ℕ) (z : Tid) → p < k → slice_get xs k ≡ Some z → writes oid (f z) ≡ false) → suc p < q → slice_get (x ∷ xs) q ≡ Some w → writes oid (f w) ≡ false
+-- what holds behind a place of a list holds behind the next place of the list with one more before it
+behind : (oid : ObjId) (f : Tid → List Update) (x : Tid) (xs : List Tid) (p q : ℕ) (w : Tid)
+    → ((k : ℕ) (z : Tid) → p < k → slice_get xs k ≡ Some z → writes oid (f z) ≡ false) → suc p < q
+    → slice_get (x ∷ xs) q ≡ Some w → writes oid (f w) ≡ false
 behind oid f x xs p zero w h l at = absurd (omega arith)
 behind oid f x xs p (suc q) w h l at = h q w (omega arith) at
 
-first : (oid : ObjId) (f : Tid → List Update) (x : Tid) (xs : List Tid) (q : ℕ) (w : Tid) → ((k : ℕ) (z : Tid) → slice_get xs k ≡ Some z → writes oid (f z) ≡ false) → 0 < q → slice_get (x ∷ xs) q ≡ Some w → writes oid (f w) ≡ false
+-- what holds of a list holds behind the first place of the list with one more before it
+first : (oid : ObjId) (f : Tid → List Update) (x : Tid) (xs : List Tid) (q : ℕ) (w : Tid)
+    → ((k : ℕ) (z : Tid) → slice_get xs k ≡ Some z → writes oid (f z) ≡ false) → 0 < q → slice_get (x ∷ xs) q ≡ Some w
+    → writes oid (f w) ≡ false
 first oid f x xs zero w h l at = absurd (omega arith)
 first oid f x xs (suc q) w h l at = h q w at
 
 -- the last writer is the last
-is_last : (oid : ObjId) (f : Tid → List Update) (xs : List Tid) (y : Tid) → last_writer oid f xs ≡ Some y → IsLast oid f xs y
+is_last : (oid : ObjId) (f : Tid → List Update) (xs : List Tid) (y : Tid) → last_writer oid f xs ≡ Some y
+    → IsLast oid f xs y
 is_last oid f [] y h = absurd cc
 is_last oid f (x ∷ xs) y h =
     elim (last_writer oid f xs) as (λ l. last_writer oid f xs ≡ l → or_else l (writes oid (f x)) x ≡ Some y → IsLast oid f (x ∷ xs) y) [
@@ -137,7 +148,8 @@ abbrev pub AreOrdered : (Tid → Tid → Type 0) → ObjId → (Tid → List Upd
 AreOrdered Before oid f xs = (p q : ℕ) (x y : Tid) → p < q → slice_get xs p ≡ Some x → slice_get xs q ≡ Some y → writes oid (f x) ≡ true → writes oid (f y) ≡ true → Before x y
 
 -- where a last writer of another list stands
-stands : (oid : ObjId) (f : Tid → List Update) (ys : List Tid) (x y : Tid) (q : ℕ) (l : IsLast oid f ys y) → slice_get ys q ≡ Some x → writes oid (f x) ≡ true → (x ≡ y) ⊎ (q < l.place)
+stands : (oid : ObjId) (f : Tid → List Update) (ys : List Tid) (x y : Tid) (q : ℕ) (l : IsLast oid f ys y)
+    → slice_get ys q ≡ Some x → writes oid (f x) ≡ true → (x ≡ y) ⊎ (q < l.place)
 stands oid f ys x y q l at does =
     elim (cases_order q l.place) [
       | inl same ↦ inl (let e : ◌≡◌ {A = Option Tid} (Some x) (Some y) = sym at ∙ (ap (λ k. slice_get ys k) same ∙ l.here) in cc)
@@ -148,8 +160,10 @@ stands oid f ys x y q l at does =
     ]
 
 -- lists with the same transactions, ordered by one relation that is never so both ways, have the same last writer
-pub same_last : (Before : Tid → Tid → Type 0) (oid : ObjId) (f : Tid → List Update) (xs ys : List Tid) → ((x y : Tid) → Before x y → Before y x → ⊥)
-    → IsIn xs ys → IsIn ys xs → AreOrdered Before oid f xs → AreOrdered Before oid f ys → last_writer oid f xs ≡ last_writer oid f ys
+pub same_last : (Before : Tid → Tid → Type 0) (oid : ObjId) (f : Tid → List Update) (xs ys : List Tid)
+    → ((x y : Tid) → Before x y → Before y x → ⊥)
+    → IsIn xs ys → IsIn ys xs → AreOrdered Before oid f xs → AreOrdered Before oid f ys
+    → last_writer oid f xs ≡ last_writer oid f ys
 same_last Before oid f xs ys apart there back ordered_xs ordered_ys =
     elim (last_writer oid f xs) as (λ l. last_writer oid f xs ≡ l → l ≡ last_writer oid f ys) [
       | None ↦ λ none. elim (last_writer oid f ys) as (λ m. last_writer oid f ys ≡ m → None ≡ m) [
@@ -174,7 +188,8 @@ same_last Before oid f xs ys apart there back ordered_xs ordered_ys =
     ] refl
 
 -- so they give the object the same value
-pub value_by_order : (Before : Tid → Tid → Type 0) (oid : ObjId) (f : Tid → List Update) (xs ys : List Tid) (own : List Update) → ((x y : Tid) → Before x y → Before y x → ⊥)
+pub value_by_order : (Before : Tid → Tid → Type 0) (oid : ObjId) (f : Tid → List Update) (xs ys : List Tid) (own : List Update)
+    → ((x y : Tid) → Before x y → Before y x → ⊥)
     → IsIn xs ys → IsIn ys xs → AreOrdered Before oid f xs → AreOrdered Before oid f ys
     → value_from None oid (flat_map f xs ++ own) ≡ value_from None oid (flat_map f ys ++ own)
 value_by_order Before oid f xs ys own apart there back ordered_xs ordered_ys =

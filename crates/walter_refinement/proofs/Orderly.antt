@@ -24,7 +24,8 @@ use Rattle.walter_psi.proofs.TimestampFacts.{commits_at_take, at_logged, snapsho
 use Rattle.walter_psi.proofs.WriterFacts.{writers_ordered}
 
 -- a transaction has one place in a log
-pub one_place : (h : List Step) (s : SiteId) (p q : ℕ) (x : Tid) → IsLegal h → slice_get (log s h) p ≡ Some x → slice_get (log s h) q ≡ Some x → p ≡ q
+pub one_place : (h : List Step) (s : SiteId) (p q : ℕ) (x : Tid) → IsLegal h → slice_get (log s h) p ≡ Some x
+    → slice_get (log s h) q ≡ Some x → p ≡ q
 one_place h s p q x legal one other =
     let no_later = not_before p q one other in
     let no_sooner = not_before q p other one in
@@ -36,14 +37,17 @@ one_place h s p q x legal one other =
         (get_or_from_slice_get (log s h) a x x at ∙ sym (get_or_from_slice_get (log s h) b x x there))
 
 -- what a step logs at a site has its snapshot in the site's log
-sees_logged : (h : List Step) (step : Step) (s : SiteId) (x y : Tid) → IsLegalStep h step → Contains (logged s step) x → Contains (snapshot x h) y → Contains (log s h) y
+sees_logged : (h : List Step) (step : Step) (s : SiteId) (x y : Tid) → IsLegalStep h step → Contains (logged s step) x
+    → Contains (snapshot x h) y → Contains (log s h) y
 sees_logged h step s x y next here seen =
     elim (logged_is x s step here) [
       | inl commit ↦ subst (λ (k : SiteId). Contains (log k h) y) commit.2 (snapshot_logged x y h seen)
       | inr arrive ↦ All-contains (λ z. Contains (log s h) z) (snapshot x h) y (legal_same h step (Arrive x s) arrive next).causal seen
     ]
 
-logged_started : (h : List Step) (step : Step) (s : SiteId) (x : Tid) → IsLegal h → IsLegalStep h step → Contains (logged s step) x → IsStarted x h
+-- and is started
+logged_started : (h : List Step) (step : Step) (s : SiteId) (x : Tid) → IsLegal h → IsLegalStep h step
+    → Contains (logged s step) x → IsStarted x h
 logged_started h step s x legal next here =
     elim (logged_is x s step here) [
       | inl commit ↦ (legal_same h step (Commit x commit.0) commit.1 next).running.0
@@ -54,7 +58,9 @@ logged_started h step s x legal next here =
 abbrev pub ArriveAfter : List Step → Type 0
 ArriveAfter h = (s : SiteId) (p : ℕ) (x y : Tid) → slice_get (log s h) p ≡ Some x → Contains (snapshot x h) y → (q : ℕ) × (q < p) × (slice_get (log s h) q ≡ Some y)
 
-arrive_more : (h : List Step) (step : Step) → IsLegal h → IsLegalStep h step → ArriveAfter h → ArriveAfter (h ++ step ∷ [])
+-- so it is still after one more step
+arrive_more : (h : List Step) (step : Step) → IsLegal h → IsLegalStep h step → ArriveAfter h
+    → ArriveAfter (h ++ step ∷ [])
 arrive_more h step legal next before s p x y at seen =
     let old : slice_get (log s h) p ≡ Some x → (q : ℕ) × (q < p) × (slice_get (log s h) q ≡ Some y) = λ was.
     let started = committed_started x h legal (logged_committed s x h legal (contains_at (log s h) x p was)) in
@@ -81,6 +87,7 @@ arrive_more h step legal next before s p x y at seen =
           ]
     ]
 
+-- so it is in every legal history
 pub arrive_after : (h : List Step) → IsLegal h → ArriveAfter h
 arrive_after = legal_induction ArriveAfter (λ s p x y at seen. absurd cc) (λ h step legal next before. arrive_more h step legal next before)
 

@@ -28,7 +28,8 @@ site_cases a b =
     ] refl
 
 -- counts of two lists in one
-pub count_by-append : {X : Type 0} (p : X → Bool) (xs ys : List X) → count_by p (xs ++ ys) ≡ count_by p xs + count_by p ys
+pub count_by-append : {X : Type 0} (p : X → Bool) (xs ys : List X)
+    → count_by p (xs ++ ys) ≡ count_by p xs + count_by p ys
 count_by-append p xs ys = sum_by-append (λ x. if p x then 1 else 0) xs ys
 
 -- where the first of a site stands
@@ -39,6 +40,7 @@ record Split (k : SiteId) (ys : List Tid) (x : Tid) (rest : List Tid) : Type 0 w
   pub none : by k before ≡ []
   pub others : by k after ≡ rest
 
+-- it stands somewhere, where the others of its site come behind it
 split_at : (k : SiteId) (ys : List Tid) (x : Tid) (rest : List Tid) → by k ys ≡ x ∷ rest → Split k ys x rest
 split_at k [] x rest h = absurd cc
 split_at k (y ∷ ys) x rest h =
@@ -49,12 +51,14 @@ split_at k (y ∷ ys) x rest h =
           record { before = y ∷ s.before; after = s.after; is = ap (λ t. y ∷ t) s.is; none = rw is s.none; others = s.others }
     ] refl h
 
+-- a list without one of any site is empty
 none_of_any : (ys : List Tid) → ((k : SiteId) → by k ys ≡ []) → ys ≡ []
 none_of_any [] h = refl
 none_of_any (y ∷ ys) h = let e : by y.site (y ∷ ys) ≡ [] = h y.site in let t = same_site_refl y.site in absurd (let f : y ∷ by y.site ys ≡ [] = rw t at e in cc)
 
 -- lists that agree on each site's own give the same counts
-pub count_same : (p : Update → Bool) (f : Tid → List Update) (xs ys : List Tid) → ((k : SiteId) → by k xs ≡ by k ys) → count_by p (flat_map f xs) ≡ count_by p (flat_map f ys)
+pub count_same : (p : Update → Bool) (f : Tid → List Update) (xs ys : List Tid) → ((k : SiteId) → by k xs ≡ by k ys)
+    → count_by p (flat_map f xs) ≡ count_by p (flat_map f ys)
 count_same p f [] ys same = rw (none_of_any ys (λ k. sym (same k))) refl
 count_same p f (x ∷ xs) ys same =
     let first : by x.site ys ≡ x ∷ by x.site xs = sym (same x.site) ∙ rw (same_site_refl x.site) refl in
@@ -77,7 +81,8 @@ count_same p f (x ∷ xs) ys same =
     omega (arith, rest, left, right, inner, outer)
 
 -- what such lists give to the count of an id, with the same updates behind them
-pub count_of_same : (oid : ObjId) (id : ℕ) (f : Tid → List Update) (xs ys : List Tid) (own : List Update) → ((k : SiteId) → by k xs ≡ by k ys)
+pub count_of_same : (oid : ObjId) (id : ℕ) (f : Tid → List Update) (xs ys : List Tid) (own : List Update)
+    → ((k : SiteId) → by k xs ≡ by k ys)
     → count_of oid id (flat_map f xs ++ own) ≡ count_of oid id (flat_map f ys ++ own)
 count_of_same oid id f xs ys own agree =
     let count : (p : Update → Bool) → count_by p (flat_map f xs ++ own) ≡ count_by p (flat_map f ys ++ own) = λ p.
@@ -86,7 +91,8 @@ count_of_same oid id f xs ys own agree =
     ∙ ap (λ n. pos (count_by (adds oid id) (flat_map f ys ++ own)) -ℤ pos n) (count (takes oid id))
 
 -- an answer is by the value and the counts alone
-pub answer_same : (oid : ObjId) (us vs : List Update) (a : Answer) → value_of oid us ≡ value_of oid vs → ((id : ℕ) → count_of oid id us ≡ count_of oid id vs) → IsAnswer oid us a → IsAnswer oid vs a
+pub answer_same : (oid : ObjId) (us vs : List Update) (a : Answer) → value_of oid us ≡ value_of oid vs
+    → ((id : ℕ) → count_of oid id us ≡ count_of oid id vs) → IsAnswer oid us a → IsAnswer oid vs a
 answer_same oid us vs (Value bytes) v c h = h ∙ v
 answer_same oid us vs (Counts counts) v c h = record {
   rising = h.rising;

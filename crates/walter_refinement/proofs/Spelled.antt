@@ -79,14 +79,16 @@ pub record IsSpelledAt (owns : SiteId → List Held) (counts : SiteId → SiteId
   pub logs : (i : SiteId) → Sees owns (counts i) (log i h)
   pub kept : (k : SiteId) (p : ℕ) (r : Held) → slice_get (owns k) p ≡ Some r → IsKept owns h r
   -- no transaction commits twice
-  pub once : (k : SiteId) (p q : ℕ) (r s : Held) → slice_get (owns k) p ≡ Some r → slice_get (owns k) q ≡ Some s → r.tx.tid ≡ s.tx.tid → p ≡ q
+  pub once : (k : SiteId) (p q : ℕ) (r s : Held) → slice_get (owns k) p ≡ Some r → slice_get (owns k) q ≡ Some s
+      → r.tx.tid ≡ s.tx.tid → p ≡ q
   pub live : (c : Key) (s : Session) → sessions c ≡ Some s → IsDoneOrLive owns counts h s
   -- two keys have two transactions, each of its site
   pub alone : (c d : Key) (s t : Session) → sessions c ≡ Some s → sessions d ≡ Some t → s.tid ≡ t.tid → c ≡ d
   pub home : (c : Key) (s : Session) → sessions c ≡ Some s → s.tid.site ≡ c.site
   pub begun : (x : Tid) → IsStarted x h → IsIssued (numbers x.site) x
   -- what was told as not committed can't commit: a session that has it has lost its commit
-  pub denied : (x : Tid) → Contains h (Told x (OfLevel NotCommitted)) → IsIssued (numbers x.site) x × ((c : Key) (s : Session) → sessions c ≡ Some s → s.tid ≡ x → spent c)
+  pub denied : (x : Tid) → Contains h (Told x (OfLevel NotCommitted))
+      → IsIssued (numbers x.site) x × ((c : Key) (s : Session) → sessions c ≡ Some s → s.tid ≡ x → spent c)
 
 -- the same own commits and counts spell the history
 pub spelled_same : (owns more : SiteId → List Held) (counts higher : SiteId → SiteId → ℕ) (numbers : SiteId → Issued)
@@ -100,14 +102,16 @@ spelled_same owns more counts higher numbers sessions spent h same_owns same_cou
     (subst (λ f. IsSpelledAt owns f numbers sessions spent h) second sp)
 
 -- what a vector sees is seen by one with the same entries
-pub sees_same : (owns : SiteId → List Held) (v w : SiteId → ℕ) (xs : List Tid) → ((k : SiteId) → w k ≡ v k) → Sees owns v xs → Sees owns w xs
+pub sees_same : (owns : SiteId → List Held) (v w : SiteId → ℕ) (xs : List Tid) → ((k : SiteId) → w k ≡ v k)
+    → Sees owns v xs → Sees owns w xs
 sees_same owns v w xs same h k =
     let l = (h k).1 in
     let e = same k in
     ((h k).0 ∙ ap (λ n. map tid_of (take n (owns k))) (sym e), omega (arith, l, e))
 
 -- what a vector sees stays, as commits come
-pub sees_grow : (owns more : SiteId → List Held) (v : SiteId → ℕ) (xs : List Tid) → ((k : SiteId) → IsPrefix (owns k) (more k)) → Sees owns v xs → Sees more v xs
+pub sees_grow : (owns more : SiteId → List Held) (v : SiteId → ℕ) (xs : List Tid)
+    → ((k : SiteId) → IsPrefix (owns k) (more k)) → Sees owns v xs → Sees more v xs
 sees_grow owns more v xs grow h k =
     let l : v k ≤ length (owns k) = (h k).1 in
     ((h k).0 ∙ ap (λ t. map tid_of t) (sym (prefix_take (owns k) (more k) (v k) (grow k) l)), let m = prefix_length (owns k) (more k) (grow k) in omega (arith, l, m))
@@ -130,7 +134,8 @@ pub record IsSeenRow (owns : SiteId → List Held) (v : SiteId → ℕ) (y : Tid
   pub is : row.tx.tid ≡ y
 
 -- what is in the list is an own commit that the vector sees
-pub seen_row : (owns : SiteId → List Held) (v : SiteId → ℕ) (xs : List Tid) (y : Tid) → Sees owns v xs → Contains xs y → IsSeenRow owns v y
+pub seen_row : (owns : SiteId → List Held) (v : SiteId → ℕ) (xs : List Tid) (y : Tid) → Sees owns v xs → Contains xs y
+    → IsSeenRow owns v y
 seen_row owns v xs y h c =
     let q = in_by xs y c in
     let m = map_place tid_of (take (v y.site) (owns y.site)) y q.0 (ap (λ t. slice_get t q.0) (sym (h y.site).0) ∙ q.1) in
@@ -138,12 +143,14 @@ seen_row owns v xs y h c =
     record { place = q.0; row = m.0; below = l; here = sym (slice_get-take (owns y.site) (v y.site) q.0 l) ∙ m.1; is = m.2 }
 
 -- an own commit that the vector sees is in the list
-pub row_seen : (owns : SiteId → List Held) (v : SiteId → ℕ) (xs : List Tid) (k : SiteId) (q : ℕ) (r : Held) → Sees owns v xs → q < v k → slice_get (owns k) q ≡ Some r → slice_get (by k xs) q ≡ Some r.tx.tid
+pub row_seen : (owns : SiteId → List Held) (v : SiteId → ℕ) (xs : List Tid) (k : SiteId) (q : ℕ) (r : Held)
+    → Sees owns v xs → q < v k → slice_get (owns k) q ≡ Some r → slice_get (by k xs) q ≡ Some r.tx.tid
 row_seen owns v xs k q r h l here =
     ap (λ t. slice_get t q) (h k).0 ∙ place_mapped tid_of (take (v k) (owns k)) r q (slice_get-take (owns k) (v k) q l ∙ here)
 
 -- one more step that doesn't commit it leaves what is known of a committed transaction
-pub kept_step : (owns : SiteId → List Held) (h : List Step) (r : Held) (step : Step) → IsKept owns h r → ((us : List Update) → step ≢ Commit r.tx.tid us) → IsKept owns (h ++ step ∷ []) r
+pub kept_step : (owns : SiteId → List Held) (h : List Step) (r : Held) (step : Step) → IsKept owns h r
+    → ((us : List Update) → step ≢ Commit r.tx.tid us) → IsKept owns (h ++ step ∷ []) r
 kept_step owns h r step k none = record {
   started = started_kept r.tx.tid h (step ∷ []) k.started;
   same = committed_updates_snoc r.tx.tid h step ∙ (ap (λ t. committed_updates h r.tx.tid ++ t) (given_none r.tx.tid step none) ∙ (append-nil (committed_updates h r.tx.tid) ∙ k.same));
@@ -151,7 +158,8 @@ kept_step owns h r step k none = record {
 }
 
 -- so do commits that come
-pub kept_grow : (owns more : SiteId → List Held) (h : List Step) (r : Held) → ((k : SiteId) → IsPrefix (owns k) (more k)) → IsKept owns h r → IsKept more h r
+pub kept_grow : (owns more : SiteId → List Held) (h : List Step) (r : Held)
+    → ((k : SiteId) → IsPrefix (owns k) (more k)) → IsKept owns h r → IsKept more h r
 kept_grow owns more h r grow k = record { started = k.started; same = k.same; seen = sees_grow owns more (λ j. entry_at r.tx.start j) (snapshot r.tx.tid h) grow k.seen }
 
 -- a step does nothing for a transaction, nor ends it
@@ -161,7 +169,8 @@ pub record IsAside (x : Tid) (step : Step) : Type 0 where
   pub no_abort : (cause : Cause) → step ≢ Abort x cause
 
 -- one more step that doesn't end it leaves a transaction open
-pub open_step : (x : Tid) (h : List Step) (step : Step) → ((us : List Update) → step ≢ Commit x us) → ((cause : Cause) → step ≢ Abort x cause) → ¬ IsOver x h → ¬ IsOver x (h ++ step ∷ [])
+pub open_step : (x : Tid) (h : List Step) (step : Step) → ((us : List Update) → step ≢ Commit x us)
+    → ((cause : Cause) → step ≢ Abort x cause) → ¬ IsOver x h → ¬ IsOver x (h ++ step ∷ [])
 open_step x h step no_commit no_abort o (inl c) =
     elim ((committed_snoc x h step).0 c) [
       | inl old ↦ o (inl old)
@@ -174,11 +183,13 @@ open_step x h step no_commit no_abort o (inr a) =
     ]
 
 -- what an open transaction sees stays
-pub seen_step : (owns : SiteId → List Held) (counts : SiteId → SiteId → ℕ) (h : List Step) (s : Session) (step : Step) → IsLive owns counts h s → Sees owns (λ k. entry_at s.snapshot k) (snapshot s.tid (h ++ step ∷ []))
+pub seen_step : (owns : SiteId → List Held) (counts : SiteId → SiteId → ℕ) (h : List Step) (s : Session) (step : Step)
+    → IsLive owns counts h s → Sees owns (λ k. entry_at s.snapshot k) (snapshot s.tid (h ++ step ∷ []))
 seen_step owns counts h s step l = subst (λ t. Sees owns (λ j. entry_at s.snapshot j) t) (sym (snapshot_kept s.tid h (step ∷ []) l.started)) l.seen
 
 -- one more step that leaves it aside leaves what is known of an open transaction
-pub live_step : (owns : SiteId → List Held) (counts : SiteId → SiteId → ℕ) (h : List Step) (s : Session) (step : Step) → IsLive owns counts h s → IsAside s.tid step → IsLive owns counts (h ++ step ∷ []) s
+pub live_step : (owns : SiteId → List Held) (counts : SiteId → SiteId → ℕ) (h : List Step) (s : Session) (step : Step)
+    → IsLive owns counts h s → IsAside s.tid step → IsLive owns counts (h ++ step ∷ []) s
 live_step owns counts h s step l a = record {
   started = started_kept s.tid h (step ∷ []) l.started;
   open_ = open_step s.tid h step a.no_commit a.no_abort l.open_;
@@ -188,7 +199,8 @@ live_step owns counts h s step l a = record {
 }
 
 -- so do commits that come, and counts that rise
-pub live_grow : (owns more : SiteId → List Held) (counts higher : SiteId → SiteId → ℕ) (h : List Step) (s : Session) → ((k : SiteId) → IsPrefix (owns k) (more k)) → ((i k : SiteId) → counts i k ≤ higher i k)
+pub live_grow : (owns more : SiteId → List Held) (counts higher : SiteId → SiteId → ℕ) (h : List Step) (s : Session)
+    → ((k : SiteId) → IsPrefix (owns k) (more k)) → ((i k : SiteId) → counts i k ≤ higher i k)
     → IsLive owns counts h s → IsLive more higher h s
 live_grow owns more counts higher h s grow rise l = record {
   started = l.started;
@@ -198,23 +210,28 @@ live_grow owns more counts higher h s grow rise l = record {
   below = λ k. let a = l.below k in let b = rise s.tid.site k in omega (arith, a, b);
 }
 
--- the same of a transaction that is committed or open
-pub done_or_live_step : (owns : SiteId → List Held) (counts : SiteId → SiteId → ℕ) (h : List Step) (s : Session) (step : Step) → IsDoneOrLive owns counts h s → IsAside s.tid step → IsDoneOrLive owns counts (h ++ step ∷ []) s
+-- a transaction that is committed or open is so after a step that leaves it aside
+pub done_or_live_step : (owns : SiteId → List Held) (counts : SiteId → SiteId → ℕ) (h : List Step) (s : Session) (step : Step)
+    → IsDoneOrLive owns counts h s → IsAside s.tid step → IsDoneOrLive owns counts (h ++ step ∷ []) s
 done_or_live_step owns counts h s step (inl done_) a = inl (committed_kept s.tid h (step ∷ []) done_)
 done_or_live_step owns counts h s step (inr l) a = inr (live_step owns counts h s step l a)
 
-pub done_or_live_grow : (owns more : SiteId → List Held) (counts higher : SiteId → SiteId → ℕ) (h : List Step) (s : Session) → ((k : SiteId) → IsPrefix (owns k) (more k)) → ((i k : SiteId) → counts i k ≤ higher i k)
+-- after commits that come
+pub done_or_live_grow : (owns more : SiteId → List Held) (counts higher : SiteId → SiteId → ℕ) (h : List Step) (s : Session)
+    → ((k : SiteId) → IsPrefix (owns k) (more k)) → ((i k : SiteId) → counts i k ≤ higher i k)
     → IsDoneOrLive owns counts h s → IsDoneOrLive more higher h s
 done_or_live_grow owns more counts higher h s grow rise (inl done_) = inl done_
 done_or_live_grow owns more counts higher h s grow rise (inr l) = inr (live_grow owns more counts higher h s grow rise l)
 
 -- a transaction that isn't committed is open
-pub live_undone : (owns : SiteId → List Held) (counts : SiteId → SiteId → ℕ) (h : List Step) (s : Session) → IsDoneOrLive owns counts h s → ¬ IsCommitted s.tid h → IsLive owns counts h s
+pub live_undone : (owns : SiteId → List Held) (counts : SiteId → SiteId → ℕ) (h : List Step) (s : Session)
+    → IsDoneOrLive owns counts h s → ¬ IsCommitted s.tid h → IsLive owns counts h s
 live_undone owns counts h s (inl done_) fresh = absurd (fresh done_)
 live_undone owns counts h s (inr l) fresh = l
 
 -- either way it is started
-pub session_started : (owns : SiteId → List Held) (counts : SiteId → SiteId → ℕ) (h : List Step) (s : Session) → IsLegal h → IsDoneOrLive owns counts h s → IsStarted s.tid h
+pub session_started : (owns : SiteId → List Held) (counts : SiteId → SiteId → ℕ) (h : List Step) (s : Session)
+    → IsLegal h → IsDoneOrLive owns counts h s → IsStarted s.tid h
 session_started owns counts h s legal (inl done_) = committed_started s.tid h legal done_
 session_started owns counts h s legal (inr l) = l.started
 
