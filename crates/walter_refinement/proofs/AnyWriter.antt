@@ -110,7 +110,8 @@ module _ (owns : SiteId → List Held) (counts : SiteId → SiteId → ℕ) (num
       let cx = logged_committed i x h sp.legal (contains_at (log i h) x p (in_log p x hx)) in
       let cy = logged_committed i y h sp.legal (contains_at (log i h) y q (in_log q y hy)) in
       let apart : x ≢ y =
-      λ e. let d = one_place h i p q y sp.legal (subst (λ z. slice_get (log i h) p ≡ Some z) e (in_log p x hx)) (in_log q y hy) in absurd (omega (arith, less, d)) in
+      λ e. let d = one_place h i p q y sp.legal (subst (λ z. slice_get (log i h) p ≡ Some z) e (in_log p x hx)) (in_log q y hy) in
+      absurd (omega (arith, less, d)) in
       elim (one_seen h x y oid sp.legal apart (writes_some oid (f x) wx) (writes_some oid (f y) wy)) [
         | inl later ↦ let z = arrive_after h sp.legal i p x y (in_log p x hx) later in let d = one_place h i z.0 q y sp.legal z.2 (in_log q y hy) in let z1 = z.1 in absurd (omega (arith, less, d, z1))
         | inr now ↦ (now, cx, cy)

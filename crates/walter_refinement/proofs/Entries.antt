@@ -43,11 +43,13 @@ IsWithout c sessions after = (d : Key) (t : Session) → after d ≡ Some t → 
 
 -- one is this now, and no other new one comes
 abbrev pub IsWith : Key → Session → (Key → Option Session) → (Key → Option Session) → Type 0
-IsWith c mine sessions after = (d : Key) (t : Session) → after d ≡ Some t → ((c ≡ d) × (mine ≡ t)) ⊎ ((c ≢ d) × (sessions d ≡ Some t))
+IsWith c mine sessions after =
+    (d : Key) (t : Session) → after d ≡ Some t → ((c ≡ d) × (mine ≡ t)) ⊎ ((c ≢ d) × (sessions d ≡ Some t))
 
 -- each session now has the transaction that one had before at that key
 abbrev pub IsOld : (Key → Option Session) → (Key → Option Session) → Type 0
-IsOld sessions after = (d : Key) (t : Session) → after d ≡ Some t → (u : Session) × (sessions d ≡ Some u) × (u.tid ≡ t.tid)
+IsOld sessions after =
+    (d : Key) (t : Session) → after d ≡ Some t → (u : Session) × (sessions d ≡ Some u) × (u.tid ≡ t.tid)
 
 -- names that were given stay so
 abbrev pub IsHigher : (SiteId → Issued) → (SiteId → Issued) → Type 0
@@ -79,7 +81,8 @@ module _ (owns : SiteId → List Held) (counts : SiteId → SiteId → ℕ) (num
   -- old sessions have two transactions, each of its site, and what was denied is lost
   alone_of : (after : Key → Option Session) → IsOld sessions after → (c d : Key) (s t : Session) → after c ≡ Some s
       → after d ≡ Some t → s.tid ≡ t.tid → c ≡ d
-  alone_of after old c d s t hs ht e = let a = old c s hs in let b = old d t ht in sp.alone c d a.0 b.0 a.1 b.1 (a.2 ∙ (e ∙ sym b.2))
+  alone_of after old c d s t hs ht e =
+      let a = old c s hs in let b = old d t ht in sp.alone c d a.0 b.0 a.1 b.1 (a.2 ∙ (e ∙ sym b.2))
 
   home_of : (after : Key → Option Session) → IsOld sessions after → (c : Key) (s : Session) → after c ≡ Some s
       → s.tid.site ≡ c.site
@@ -121,8 +124,10 @@ module _ (owns : SiteId → List Held) (counts : SiteId → SiteId → ℕ) (num
     live = live;
     alone = alone_of after old;
     home = home_of after old;
-    begun = λ x c. elim ((started_snoc x h step).0 c) [ inl was ↦ sp.begun x was | inr new ↦ absurd (p.no_start x new.0 new.1) ];
-    denied = λ x c. elim (Contains-push_cases h step (Told x (OfLevel NotCommitted)) c) [ inl was ↦ denied_of numbers after (λ y i. i) old x was | inr new ↦ absurd (p.no_notice x new) ];
+    begun =
+        λ x c. elim ((started_snoc x h step).0 c) [ inl was ↦ sp.begun x was | inr new ↦ absurd (p.no_start x new.0 new.1) ];
+    denied =
+        λ x c. elim (Contains-push_cases h step (Told x (OfLevel NotCommitted)) c) [ inl was ↦ denied_of numbers after (λ y i. i) old x was | inr new ↦ absurd (p.no_notice x new) ];
   }
 
   -- a plain step that does nothing for any transaction and ends none
@@ -145,7 +150,8 @@ module _ (owns : SiteId → List Held) (counts : SiteId → SiteId → ℕ) (num
     alone = λ a b s t hs ht. sp.alone a b s t (old a s hs) (old b t ht);
     home = λ c s hs. sp.home c s (old c s hs);
     begun = λ x st. rise x (sp.begun x st);
-    denied = λ x told. let was = denied_of higher after rise (fewer_old after old) x told in (was.0, λ c s has e. still c s has (was.1 c s has e));
+    denied =
+        λ x told. let was = denied_of higher after rise (fewer_old after old) x told in (was.0, λ c s has e. still c s has (was.1 c s has e));
   }
 
   -- a session moves to another key of its site
@@ -168,9 +174,11 @@ module _ (owns : SiteId → List Held) (counts : SiteId → SiteId → ℕ) (num
         | inr mb ↦ sp.alone a b s t ma.1 mb.1 e
       ]
     ];
-    home = λ d t has. elim (move d t has) [ inl a ↦ sp.home c t a.1 ∙ (sym near ∙ ap (λ (k : Key). k.site) (sym a.0)) | inr b ↦ sp.home d t b.1 ];
+    home =
+        λ d t has. elim (move d t has) [ inl a ↦ sp.home c t a.1 ∙ (sym near ∙ ap (λ (k : Key). k.site) (sym a.0)) | inr b ↦ sp.home d t b.1 ];
     begun = sp.begun;
-    denied = λ x told. let was = sp.denied x told in (was.0, λ d t has e. elim (move d t has) [ inl a ↦ absurd (unspent (was.1 c t a.1 e)) | inr b ↦ was.1 d t b.1 e ]);
+    denied =
+        λ x told. let was = sp.denied x told in (was.0, λ d t has e. elim (move d t has) [ inl a ↦ absurd (unspent (was.1 c t a.1 e)) | inr b ↦ was.1 d t b.1 e ]);
   }
 
   -- a session gets the number of its slow commit
@@ -210,12 +218,15 @@ module _ (owns : SiteId → List Held) (counts : SiteId → SiteId → ℕ) (num
             subst (λ z. IsDoneOrLive owns counts (h ++ step ∷ []) z) here.1 (inr (record {
               started = started_kept s.tid h (step ∷ []) l.started;
               open_ = open_step s.tid h step (λ us e. absurd cc) (λ cause e. absurd cc) l.open_;
-              same = own_updates_snoc s.tid h step ∙ (ap (λ z. own_updates s.tid h ++ z) (done_op s.tid u) ∙ ap (λ z. z ++ u ∷ []) l.same);
+              same =
+                  own_updates_snoc s.tid h step
+                  ∙ (ap (λ z. own_updates s.tid h ++ z) (done_op s.tid u) ∙ ap (λ z. z ++ u ∷ []) l.same);
               seen = seen_step owns counts h s step l;
               below = l.below;
             }))
         | inr away ↦ done_or_live_step owns counts h t step (sp.live d t away.1) (record {
-          none_done = done_none t.tid step (λ v e. other c d s t has away.1 away.0 (let f : s.tid ≡ t.tid = cc in sym f));
+          none_done =
+              done_none t.tid step (λ v e. other c d s t has away.1 away.0 (let f : s.tid ≡ t.tid = cc in sym f));
           no_commit = λ us e. absurd cc;
           no_abort = λ cause e. absurd cc;
         })
@@ -299,7 +310,8 @@ module _ (owns : SiteId → List Held) (counts : SiteId → SiteId → ℕ) (num
         });
         alone = λ a b s t hs ht. sp.alone a b s t (old a s hs) (old b t ht);
         home = λ c s hs. sp.home c s (old c s hs);
-        begun = λ y c. elim ((started_snoc y h step).0 c) [ inl was ↦ sp.begun y was | inr new ↦ let e = new.1 in absurd cc ];
+        begun =
+            λ y c. elim ((started_snoc y h step).0 c) [ inl was ↦ sp.begun y was | inr new ↦ let e = new.1 in absurd cc ];
         denied = λ y c. elim (Contains-push_cases h step (Told y (OfLevel NotCommitted)) c) [
           | inl was ↦ denied_of numbers after (λ z i. i) (fewer_old after old) y was
           | inr new ↦ let e : x ≡ y = cc in (subst (λ (z : Tid). IsIssued (numbers z.site) z) e given_, λ d t there f. none d t (old d t there) (f ∙ sym e))
@@ -316,7 +328,8 @@ module _ (owns : SiteId → List Held) (counts : SiteId → SiteId → ℕ) (num
       let fresh : ¬ IsStarted x h = λ st. unissued (sp.begun x st) in
       let step : Step = Start x x.site in
       let none : ¬ IsOver x h = λ over. fresh (over_started x h sp.legal over) in
-      let live_other : (d : Key) (t : Session) → sessions d ≡ Some t → IsDoneOrLive owns counts (h ++ step ∷ []) t = λ d t there.
+      let live_other : (d : Key) (t : Session) → sessions d ≡ Some t → IsDoneOrLive owns counts (h ++ step ∷ []) t =
+      λ d t there.
       done_or_live_step owns counts h t step (sp.live d t there) (record { none_done = refl; no_commit = λ us e. absurd cc; no_abort = λ cause e. absurd cc }) in
       let started_other : (d : Key) (t : Session) → sessions d ≡ Some t → x ≢ t.tid = λ d t there e.
       fresh (subst (λ z. IsStarted z h) (sym e) (session_started owns counts h t sp.legal (sp.live d t there))) in
@@ -379,19 +392,26 @@ module _ (owns : SiteId → List Held) (counts : SiteId → SiteId → ℕ) (num
       let step : Step = Commit x s.updates in
       let grow = pushed_prefix owns more x.site r push in
       let fresh : ¬ IsCommitted x h = λ done_. l.open_ (inl done_) in
-      let apart : (k : SiteId) (p : ℕ) (z : Held) → slice_get (owns k) p ≡ Some z → z.tx.tid ≢ x = λ k p z here e. fresh (subst (λ y. IsCommitted y h) e (row_committed owns counts numbers sessions spent h n sp k p z here)) in
-      let last : slice_get (more x.site) (counts x.site x.site) ≡ Some r = ap (λ t. slice_get t (counts x.site x.site)) push.0 ∙ (ap (λ m. slice_get (owns x.site ++ r ∷ []) m) (n.counted x.site) ∙ slice_get-push (owns x.site) r) in
-      let legal_here : IsLegalCommit x s.updates h = record { running = (l.started, l.open_); some = some; own = sym l.same; free = free; final = λ told. unspent ((sp.denied x told).1 c s has refl) } in
+      let apart : (k : SiteId) (p : ℕ) (z : Held) → slice_get (owns k) p ≡ Some z → z.tx.tid ≢ x =
+      λ k p z here e. fresh (subst (λ y. IsCommitted y h) e (row_committed owns counts numbers sessions spent h n sp k p z here)) in
+      let last : slice_get (more x.site) (counts x.site x.site) ≡ Some r =
+      ap (λ t. slice_get t (counts x.site x.site)) push.0
+      ∙ (ap (λ m. slice_get (owns x.site ++ r ∷ []) m) (n.counted x.site) ∙ slice_get-push (owns x.site) r) in
+      let legal_here : IsLegalCommit x s.updates h =
+      record { running = (l.started, l.open_); some = some; own = sym l.same; free = free; final = λ told. unspent ((sp.denied x told).1 c s has refl) } in
       let new_kept : IsKept more (h ++ step ∷ []) r = record {
         started = subst (λ y. IsStarted y (h ++ step ∷ [])) (sym is_tid) (started_kept x h (step ∷ []) l.started);
-        same = ap (λ y. committed_updates (h ++ step ∷ []) y) is_tid ∙ (committed_updates_snoc x h step ∙ (ap (λ t. t ++ given x step) (none_committed x h fresh) ∙ (given_commit x s.updates ∙ sym is_updates)));
+        same =
+            ap (λ y. committed_updates (h ++ step ∷ []) y) is_tid
+            ∙ (committed_updates_snoc x h step ∙ (ap (λ t. t ++ given x step) (none_committed x h fresh) ∙ (given_commit x s.updates ∙ sym is_updates)));
         seen = subst (λ y. Sees more (λ k. entry_at r.tx.start k) (snapshot y (h ++ step ∷ []))) (sym is_tid)
             (sees_same more (λ k. entry_at s.snapshot k) (λ k. entry_at r.tx.start k) (snapshot x (h ++ step ∷ [])) starts
             (sees_grow owns more (λ k. entry_at s.snapshot k) (snapshot x (h ++ step ∷ [])) grow (seen_step owns counts h s step l)));
       } in
       record {
         legal = legal_snoc h step sp.legal legal_here;
-        logs = logs_step owns more counts higher h step x.site r grow (subst (λ (y : Tid). IsCounted counts higher x.site y.site) (sym is_tid) count)
+        logs =
+            logs_step owns more counts higher h step x.site r grow (subst (λ (y : Tid). IsCounted counts higher x.site y.site) (sym is_tid) count)
             (subst (λ (y : Tid). slice_get (more y.site) (counts x.site y.site) ≡ Some r) (sym is_tid) last)
             (λ i. ap (λ y. if same_site x.site i then y ∷ [] else []) (sym is_tid)) sp.logs;
         kept = λ k p z here. elim (pushed_cases owns more x.site r push k p z here) [
@@ -413,14 +433,17 @@ module _ (owns : SiteId → List Held) (counts : SiteId → SiteId → ℕ) (num
           | false ↦ λ differs. done_or_live_grow owns more counts higher (h ++ step ∷ []) t grow (counted_rise counts higher x.site x.site count)
               (done_or_live_step owns counts h t step (sp.live d t there) (record {
                 none_done = refl;
-                no_commit = λ us e. let f : x ≡ t.tid = cc in let g = same_tid_refl x in absurd (let i : same_tid x x ≡ false = subst (λ y. same_tid y x ≡ false) (sym f) differs in cc);
+                no_commit =
+                    λ us e. let f : x ≡ t.tid = cc in let g = same_tid_refl x in absurd (let i : same_tid x x ≡ false = subst (λ y. same_tid y x ≡ false) (sym f) differs in cc);
                 no_abort = λ cause e. absurd cc;
               }))
         ] refl;
         alone = sp.alone;
         home = sp.home;
-        begun = λ y c0. elim ((started_snoc y h step).0 c0) [ inl old ↦ sp.begun y old | inr new ↦ let e = new.1 in absurd cc ];
-        denied = λ y c0. elim (Contains-push_cases h step (Told y (OfLevel NotCommitted)) c0) [ inl old ↦ sp.denied y old | inr new ↦ absurd cc ];
+        begun =
+            λ y c0. elim ((started_snoc y h step).0 c0) [ inl old ↦ sp.begun y old | inr new ↦ let e = new.1 in absurd cc ];
+        denied =
+            λ y c0. elim (Contains-push_cases h step (Told y (OfLevel NotCommitted)) c0) [ inl old ↦ sp.denied y old | inr new ↦ absurd cc ];
       }
 
   -- Commit: of a session's transaction, as its site holds it; the session stays, with a committed transaction
@@ -431,7 +454,8 @@ module _ (owns : SiteId → List Held) (counts : SiteId → SiteId → ℕ) (num
       → IsPushed owns more s.tid.site r → IsCounted counts higher s.tid.site s.tid.site
       → IsSpelledAt more higher numbers sessions spent (h ++ Commit r.tx.tid r.tx.updates ∷ [])
   did_commit more higher c s r n has l unspent is_tid starts is_updates some free push count =
-      let same : Commit s.tid s.updates ≡ Commit r.tx.tid r.tx.updates = (λ i. Commit (sym is_tid i) (sym is_updates i)) in
+      let same : Commit s.tid s.updates ≡ Commit r.tx.tid r.tx.updates =
+      (λ i. Commit (sym is_tid i) (sym is_updates i)) in
       subst (λ step. IsSpelledAt more higher numbers sessions spent (h ++ step ∷ [])) same
       (commit_of_session more higher c s r n has l unspent is_tid starts is_updates some free push count)
 
@@ -463,10 +487,13 @@ module _ (owns : SiteId → List Held) (counts : SiteId → SiteId → ℕ) (num
         logs = logs_step owns owns counts higher h step i r (λ j. prefix_refl (owns j)) count here (λ j. refl) sp.logs;
         kept = λ j p z at_p. kept_step owns h z step (sp.kept j p z at_p) (λ us e. absurd cc);
         once = sp.once;
-        live = λ d t there. done_or_live_grow owns owns counts higher (h ++ step ∷ []) t (λ j. prefix_refl (owns j)) (counted_rise counts higher i x.site count)
+        live =
+            λ d t there. done_or_live_grow owns owns counts higher (h ++ step ∷ []) t (λ j. prefix_refl (owns j)) (counted_rise counts higher i x.site count)
             (done_or_live_step owns counts h t step (sp.live d t there) (record { none_done = refl; no_commit = λ us e. absurd cc; no_abort = λ cause e. absurd cc }));
         alone = sp.alone;
         home = sp.home;
-        begun = λ y c0. elim ((started_snoc y h step).0 c0) [ inl old ↦ sp.begun y old | inr new ↦ let e = new.1 in absurd cc ];
-        denied = λ y c0. elim (Contains-push_cases h step (Told y (OfLevel NotCommitted)) c0) [ inl old ↦ sp.denied y old | inr new ↦ absurd cc ];
+        begun =
+            λ y c0. elim ((started_snoc y h step).0 c0) [ inl old ↦ sp.begun y old | inr new ↦ let e = new.1 in absurd cc ];
+        denied =
+            λ y c0. elim (Contains-push_cases h step (Told y (OfLevel NotCommitted)) c0) [ inl old ↦ sp.denied y old | inr new ↦ absurd cc ];
       }

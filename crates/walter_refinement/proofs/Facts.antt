@@ -30,11 +30,15 @@ seen_take v k b zero [] e h = refl
 seen_take v k b (suc n) [] e h = refl
 seen_take v k b zero (r ∷ xs) e h =
     let f = h 0 r refl in
-    let unseen : sees v r ≡ false = ap (λ (j : SiteId). nat_le r.seq (entry_at v j)) f.1 ∙ lt-leb r.seq (entry_at v k) (let g = f.0 in omega (arith, e, g)) in
+    let unseen : sees v r ≡ false =
+    ap (λ (j : SiteId). nat_le r.seq (entry_at v j)) f.1
+    ∙ lt-leb r.seq (entry_at v k) (let g = f.0 in omega (arith, e, g)) in
     rw unseen (seen_take v k (b + 1) zero xs (omega (arith, e)) (λ q s l. let g = h (suc q) s l in (let g0 = g.0 in omega (arith, g0), g.1)))
 seen_take v k b (suc n) (r ∷ xs) e h =
     let f = h 0 r refl in
-    let seen : sees v r ≡ true = ap (λ (j : SiteId). nat_le r.seq (entry_at v j)) f.1 ∙ le-leb r.seq (entry_at v k) (let g = f.0 in omega (arith, e, g)) in
+    let seen : sees v r ≡ true =
+    ap (λ (j : SiteId). nat_le r.seq (entry_at v j)) f.1
+    ∙ le-leb r.seq (entry_at v k) (let g = f.0 in omega (arith, e, g)) in
     rw seen (ap (λ t. r ∷ t) (seen_take v k (b + 1) n xs (omega (arith, e)) (λ q s l. let g = h (suc q) s l in (let g0 = g.0 in omega (arith, g0), g.1))))
 
 -- of what a log holds a vector sees of each site the first own commits, as many as it says
@@ -44,11 +48,15 @@ pub log_seen : (owns : SiteId → List Held) (counts : SiteId → SiteId → ℕ
     → (k : SiteId) → by k (map tid_of (filter (sees v) held)) ≡ map tid_of (take (entry_at v k) (owns k))
 log_seen owns counts held v n fronts low k =
     let front = fronts k in
-    let turned : by k (map tid_of (filter (sees v) held)) ≡ map tid_of (filter (sees v) (of_site k held)) = filter_of_map (λ (x : Tid). same_site x.site k) tid_of (filter (sees v) held) ∙ ap (λ t. map tid_of t) (filter_both (is_of k) (sees v) held) in
-    let numbered : (q : ℕ) (r : Held) → slice_get (of_site k held) q ≡ Some r → (r.seq ≡ 0 + q + 1) × (r.tx.tid.site ≡ k) = λ q r here.
+    let turned : by k (map tid_of (filter (sees v) held)) ≡ map tid_of (filter (sees v) (of_site k held)) =
+    filter_of_map (λ (x : Tid). same_site x.site k) tid_of (filter (sees v) held)
+    ∙ ap (λ t. map tid_of t) (filter_both (is_of k) (sees v) held) in
+    let numbered : (q : ℕ) (r : Held) → slice_get (of_site k held) q ≡ Some r → (r.seq ≡ 0 + q + 1) × (r.tx.tid.site ≡ k) =
+    λ q r here.
     let e = n.numbered k q r (prefix_get (of_site k held) (owns k) r q front here) in
     (omega (arith, e), same_site-true r.tx.tid.site k (filter_place (is_of k) held r q here).2) in
-    turned ∙ (ap (λ t. map tid_of t) (seen_take v k 0 (entry_at v k) (of_site k held) (omega arith) numbered ∙ sym (prefix_take (of_site k held) (owns k) (entry_at v k) front (low k))))
+    turned
+    ∙ (ap (λ t. map tid_of t) (seen_take v k 0 (entry_at v k) (of_site k held) (omega arith) numbered ∙ sym (prefix_take (of_site k held) (owns k) (entry_at v k) front (low k))))
 
 -- what a log holds is an own commit of its site
 pub row_owned : (owns : SiteId → List Held) (held : List Held) → ((k : SiteId) → IsPrefix (of_site k held) (owns k))
@@ -77,12 +85,14 @@ module _ (owns : SiteId → List Held) (counts : SiteId → SiteId → ℕ) (num
   row_logged : (k : SiteId) (p : ℕ) (r : Held) → slice_get (owns k) p ≡ Some r
       → slice_get (by k (log k h)) p ≡ Some r.tx.tid
   row_logged k p r here =
-      let l : p < counts k k = let w = slice_get_within (owns k) p r here in let e = n.counted k in omega (arith, w, e) in
+      let l : p < counts k k =
+      let w = slice_get_within (owns k) p r here in let e = n.counted k in omega (arith, w, e) in
       row_seen owns (counts k) (log k h) k p r (sp.logs k) l here
 
   -- an own commit is of a committed transaction
   pub row_committed : (k : SiteId) (p : ℕ) (r : Held) → slice_get (owns k) p ≡ Some r → IsCommitted r.tx.tid h
-  row_committed k p r here = logged_committed k r.tx.tid h sp.legal (by_in k (log k h) r.tx.tid p (row_logged k p r here))
+  row_committed k p r here =
+      logged_committed k r.tx.tid h sp.legal (by_in k (log k h) r.tx.tid p (row_logged k p r here))
 
   -- a transaction is committed exactly where a site has an own commit of it
   pub committed_exactly : (y : Tid)
@@ -105,7 +115,8 @@ module _ (owns : SiteId → List Held) (counts : SiteId → SiteId → ℕ) (num
   row_unseen v xs k p r see here unseen c =
       let w = seen_row owns (λ j. entry_at v j) xs r.tx.tid see c in
       let site = n.site k p r here in
-      let there : slice_get (owns k) w.place ≡ Some w.row = subst (λ (j : SiteId). slice_get (owns j) w.place ≡ Some w.row) site w.here in
+      let there : slice_get (owns k) w.place ≡ Some w.row =
+      subst (λ (j : SiteId). slice_get (owns j) w.place ≡ Some w.row) site w.here in
       let same = sp.once k w.place p w.row r there here w.is in
       let number = n.numbered k p r here in
       let below = w.below in
@@ -131,7 +142,8 @@ module _ (owns : SiteId → List Held) (counts : SiteId → SiteId → ℕ) (num
       let r = committed_row y b.1 in
       let k = sp.kept y.site r.place r.row r.here in
       let oid = b.3.0 in
-      let writes : Contains (write_set r.row.tx.updates) oid = subst (λ us. Contains (write_set us) oid) (ap (λ z. committed_updates h z) (sym r.is) ∙ k.same) b.3.1 in
+      let writes : Contains (write_set r.row.tx.updates) oid =
+      subst (λ us. Contains (write_set us) oid) (ap (λ z. committed_updates h z) (sym r.is) ∙ k.same) b.3.1 in
       let seen_ = clear y.site r.place r.row oid r.here writes b.3.2 in
       b.4 (subst (λ z. Contains (snapshot s.tid h) z) r.is (seen_contained s.snapshot (snapshot s.tid h) y.site r.place r.row l.seen r.here seen_))
 

@@ -174,4 +174,5 @@ take_push (y ∷ xs) (suc n) x h = ap (λ t. y ∷ t) (take_push xs n x h)
 pub flat_map_same : {X Y A : Type 0} (f : X → List A) (g : Y → List A) (t : X → Y) (xs : List X)
     → ((n : ℕ) (x : X) → slice_get xs n ≡ Some x → f x ≡ g (t x)) → flat_map f xs ≡ flat_map g (map t xs)
 flat_map_same f g t [] h = refl
-flat_map_same f g t (x ∷ xs) h = let e = h 0 x refl in rw e (ap (λ z. g (t x) ++ z) (flat_map_same f g t xs (λ n y l. h (suc n) y l)))
+flat_map_same f g t (x ∷ xs) h =
+    let e = h 0 x refl in rw e (ap (λ z. g (t x) ++ z) (flat_map_same f g t xs (λ n y l. h (suc n) y l)))

@@ -186,12 +186,14 @@ numbered_own owns more logs longer counts higher s r n push append count ours ne
         ];
         counted = λ k. elim (site_cases s k) [
           | inl same ↦
-              let risen : higher s s ≡ suc (counts s s) = elim (count s s) [ inl none ↦ absurd (none.0 refl refl) | inr one ↦ one.2 ] in
+              let risen : higher s s ≡ suc (counts s s) =
+              elim (count s s) [ inl none ↦ absurd (none.0 refl refl) | inr one ↦ one.2 ] in
               let all = n.own.counted s in
               let size = ap length push.0 ∙ length-append (owns s) (r ∷ []) in
               subst (λ (j : SiteId). higher j j ≡ length (more j)) same.1 (omega (arith, risen, all, size))
           | inr apart ↦
-              let same : higher k k ≡ counts k k = elim (count k k) [ inl none ↦ none.1 | inr one ↦ absurd (apart.1 one.0) ] in
+              let same : higher k k ≡ counts k k =
+              elim (count k k) [ inl none ↦ none.1 | inr one ↦ absurd (apart.1 one.0) ] in
               same ∙ (n.own.counted k ∙ ap length (sym (push.1 k apart.1)))
         ];
       };

@@ -145,7 +145,8 @@ IsIn xs ys = (p : ℕ) (x : Tid) → slice_get xs p ≡ Some x → (q : ℕ) × 
 
 -- of two writers of the object the one that stands first is before the other
 abbrev pub AreOrdered : (Tid → Tid → Type 0) → ObjId → (Tid → List Update) → List Tid → Type 0
-AreOrdered Before oid f xs = (p q : ℕ) (x y : Tid) → p < q → slice_get xs p ≡ Some x → slice_get xs q ≡ Some y → writes oid (f x) ≡ true → writes oid (f y) ≡ true → Before x y
+AreOrdered Before oid f xs =
+    (p q : ℕ) (x y : Tid) → p < q → slice_get xs p ≡ Some x → slice_get xs q ≡ Some y → writes oid (f x) ≡ true → writes oid (f y) ≡ true → Before x y
 
 -- where a last writer of another list stands
 stands : (oid : ObjId) (f : Tid → List Update) (ys : List Tid) (x y : Tid) (q : ℕ) (l : IsLast oid f ys y)
@@ -193,5 +194,8 @@ pub value_by_order : (Before : Tid → Tid → Type 0) (oid : ObjId) (f : Tid �
     → IsIn xs ys → IsIn ys xs → AreOrdered Before oid f xs → AreOrdered Before oid f ys
     → value_from None oid (flat_map f xs ++ own) ≡ value_from None oid (flat_map f ys ++ own)
 value_by_order Before oid f xs ys own apart there back ordered_xs ordered_ys =
-    let same = value_by_last oid f xs None ∙ (ap (λ l. decided_by l oid f None) (same_last Before oid f xs ys apart there back ordered_xs ordered_ys) ∙ sym (value_by_last oid f ys None)) in
-    value_from-append None oid (flat_map f xs) own ∙ (ap (λ v. value_from v oid own) same ∙ sym (value_from-append None oid (flat_map f ys) own))
+    let same =
+    value_by_last oid f xs None
+    ∙ (ap (λ l. decided_by l oid f None) (same_last Before oid f xs ys apart there back ordered_xs ordered_ys) ∙ sym (value_by_last oid f ys None)) in
+    value_from-append None oid (flat_map f xs) own
+    ∙ (ap (λ v. value_from v oid own) same ∙ sym (value_from-append None oid (flat_map f ys) own))

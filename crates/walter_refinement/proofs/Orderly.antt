@@ -56,7 +56,8 @@ logged_started h step s x legal next here =
 
 -- what a transaction's snapshot has stands before it in each log
 abbrev pub ArriveAfter : List Step → Type 0
-ArriveAfter h = (s : SiteId) (p : ℕ) (x y : Tid) → slice_get (log s h) p ≡ Some x → Contains (snapshot x h) y → (q : ℕ) × (q < p) × (slice_get (log s h) q ≡ Some y)
+ArriveAfter h =
+    (s : SiteId) (p : ℕ) (x y : Tid) → slice_get (log s h) p ≡ Some x → Contains (snapshot x h) y → (q : ℕ) × (q < p) × (slice_get (log s h) q ≡ Some y)
 
 -- so it is still after one more step
 arrive_more : (h : List Step) (step : Step) → IsLegal h → IsLegalStep h step → ArriveAfter h
@@ -67,12 +68,15 @@ arrive_more h step legal next before s p x y at seen =
     before s p x y was (subst (λ t. Contains t y) (snapshot_kept x h (step ∷ []) started) seen) in
     elim (logged_at_most s step) [
       | inl none ↦
-          let same : log s (h ++ step ∷ []) ≡ log s h = log_snoc s h step ∙ (ap (λ t. log s h ++ t) none ∙ append-nil (log s h)) in
+          let same : log s (h ++ step ∷ []) ≡ log s h =
+          log_snoc s h step ∙ (ap (λ t. log s h ++ t) none ∙ append-nil (log s h)) in
           let r = old (ap (λ t. slice_get t p) (sym same) ∙ at) in
           (r.0, r.1, ap (λ t. slice_get t r.0) same ∙ r.2)
       | inr more ↦
-          let now : log s (h ++ step ∷ []) ≡ log s h ++ more.0 ∷ [] = log_snoc s h step ∙ ap (λ t. log s h ++ t) more.1 in
-          let here : Contains (logged s step) more.0 = subst (λ t. Contains t more.0) (sym more.1) (contains_at (more.0 ∷ []) more.0 0 refl) in
+          let now : log s (h ++ step ∷ []) ≡ log s h ++ more.0 ∷ [] =
+          log_snoc s h step ∙ ap (λ t. log s h ++ t) more.1 in
+          let here : Contains (logged s step) more.0 =
+          subst (λ t. Contains t more.0) (sym more.1) (contains_at (more.0 ∷ []) more.0 0 refl) in
           elim (slice_get-push_cases (log s h) more.0 x p (ap (λ t. slice_get t p) (sym now) ∙ at)) [
             | inl was ↦
                 let r = old was.1 in
@@ -80,7 +84,8 @@ arrive_more h step legal next before s p x y at seen =
             | inr last ↦
                 let its : Contains (logged s step) x = subst (λ z. Contains (logged s step) z) last.1 here in
                 let started = logged_started h step s x legal next its in
-                let inside = sees_logged h step s x y next its (subst (λ t. Contains t y) (snapshot_kept x h (step ∷ []) started) seen) in
+                let inside =
+                sees_logged h step s x y next its (subst (λ t. Contains t y) (snapshot_kept x h (step ∷ []) started) seen) in
                 let r = place_of (log s h) y inside in
                 let l = slice_get_within (log s h) r.0 y r.1 in
                 (r.0, omega (arith, l, last.0), ap (λ t. slice_get t r.0) now ∙ slice_get-append_left (log s h) (more.0 ∷ []) y r.0 r.1)
@@ -89,14 +94,17 @@ arrive_more h step legal next before s p x y at seen =
 
 -- so it is in every legal history
 pub arrive_after : (h : List Step) → IsLegal h → ArriveAfter h
-arrive_after = legal_induction ArriveAfter (λ s p x y at seen. absurd cc) (λ h step legal next before. arrive_more h step legal next before)
+arrive_after =
+    legal_induction ArriveAfter (λ s p x y at seen. absurd cc) (λ h step legal next before. arrive_more h step legal next before)
 
 -- what commits at the site of another before that starts is in its snapshot
 before_start_seen : (h : List Step) (x y : Tid) → IsLegal h → CommitsBeforeStart h x y → Contains (snapshot y h) x
 before_start_seen h x y legal first =
     let within = slice_get_within h first.begun _ first.starts in
-    let stood = at_logged y.site (take first.begun h) x first.place (commits_at_take h x y.site first.begun first.place first.before first.commits) in
-    let then = subst (λ all. Contains all x) (sym (snapshot_at h y first.begun (length h) legal first.starts within)) stood in
+    let stood =
+    at_logged y.site (take first.begun h) x first.place (commits_at_take h x y.site first.begun first.place first.before first.commits) in
+    let then =
+    subst (λ all. Contains all x) (sym (snapshot_at h y first.begun (length h) legal first.starts within)) stood in
     subst (λ all. Contains (snapshot y all) x) (take_all (length h) h (omega arith)) then
 
 -- of two transactions that write one object one is in the snapshot of the other

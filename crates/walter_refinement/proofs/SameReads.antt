@@ -54,7 +54,8 @@ split_at k (y ∷ ys) x rest h =
 -- a list without one of any site is empty
 none_of_any : (ys : List Tid) → ((k : SiteId) → by k ys ≡ []) → ys ≡ []
 none_of_any [] h = refl
-none_of_any (y ∷ ys) h = let e : by y.site (y ∷ ys) ≡ [] = h y.site in let t = same_site_refl y.site in absurd (let f : y ∷ by y.site ys ≡ [] = rw t at e in cc)
+none_of_any (y ∷ ys) h =
+    let e : by y.site (y ∷ ys) ≡ [] = h y.site in let t = same_site_refl y.site in absurd (let f : y ∷ by y.site ys ≡ [] = rw t at e in cc)
 
 -- lists that agree on each site's own give the same counts
 pub count_same : (p : Update → Bool) (f : Tid → List Update) (xs ys : List Tid) → ((k : SiteId) → by k xs ≡ by k ys)
@@ -64,8 +65,10 @@ count_same p f (x ∷ xs) ys same =
     let first : by x.site ys ≡ x ∷ by x.site xs = sym (same x.site) ∙ rw (same_site_refl x.site) refl in
     let s = split_at x.site ys x (by x.site xs) first in
     let agree : (k : SiteId) → by k xs ≡ by k (s.before ++ s.after) = λ k.
-    let joined : by k (s.before ++ s.after) ≡ by k s.before ++ by k s.after = filter-append (λ z. same_site z.site k) s.before s.after in
-    let whole : by k (x ∷ xs) ≡ by k s.before ++ by k (x ∷ s.after) = same k ∙ (ap (λ t. by k t) s.is ∙ filter-append (λ z. same_site z.site k) s.before (x ∷ s.after)) in
+    let joined : by k (s.before ++ s.after) ≡ by k s.before ++ by k s.after =
+    filter-append (λ z. same_site z.site k) s.before s.after in
+    let whole : by k (x ∷ xs) ≡ by k s.before ++ by k (x ∷ s.after) =
+    same k ∙ (ap (λ t. by k t) s.is ∙ filter-append (λ z. same_site z.site k) s.before (x ∷ s.after)) in
     elim (site_cases x.site k) [
       | inl here ↦
           let none : by k s.before ≡ [] = subst (λ j. by j s.before ≡ []) here.1 s.none in
@@ -75,9 +78,13 @@ count_same p f (x ∷ xs) ys same =
     ] in
     let rest = count_same p f xs (s.before ++ s.after) agree in
     let left = count_by-append p (f x) (flat_map f xs) in
-    let right = ap (λ t. count_by p (flat_map f t)) s.is ∙ (ap (λ t. count_by p t) (flat_map-append f s.before (x ∷ s.after)) ∙ count_by-append p (flat_map f s.before) (f x ++ flat_map f s.after)) in
+    let right =
+    ap (λ t. count_by p (flat_map f t)) s.is
+    ∙ (ap (λ t. count_by p t) (flat_map-append f s.before (x ∷ s.after)) ∙ count_by-append p (flat_map f s.before) (f x ++ flat_map f s.after)) in
     let inner = count_by-append p (f x) (flat_map f s.after) in
-    let outer = ap (λ t. count_by p t) (flat_map-append f s.before s.after) ∙ count_by-append p (flat_map f s.before) (flat_map f s.after) in
+    let outer =
+    ap (λ t. count_by p t) (flat_map-append f s.before s.after)
+    ∙ count_by-append p (flat_map f s.before) (flat_map f s.after) in
     omega (arith, rest, left, right, inner, outer)
 
 -- what such lists give to the count of an id, with the same updates behind them
@@ -86,7 +93,8 @@ pub count_of_same : (oid : ObjId) (id : ℕ) (f : Tid → List Update) (xs ys : 
     → count_of oid id (flat_map f xs ++ own) ≡ count_of oid id (flat_map f ys ++ own)
 count_of_same oid id f xs ys own agree =
     let count : (p : Update → Bool) → count_by p (flat_map f xs ++ own) ≡ count_by p (flat_map f ys ++ own) = λ p.
-    count_by-append p (flat_map f xs) own ∙ (ap (λ n. n + count_by p own) (count_same p f xs ys agree) ∙ sym (count_by-append p (flat_map f ys) own)) in
+    count_by-append p (flat_map f xs) own
+    ∙ (ap (λ n. n + count_by p own) (count_same p f xs ys agree) ∙ sym (count_by-append p (flat_map f ys) own)) in
     ap (λ n. pos n -ℤ pos (count_by (takes oid id) (flat_map f xs ++ own))) (count (adds oid id))
     ∙ ap (λ n. pos (count_by (adds oid id) (flat_map f ys ++ own)) -ℤ pos n) (count (takes oid id))
 
@@ -96,6 +104,7 @@ pub answer_same : (oid : ObjId) (us vs : List Update) (a : Answer) → value_of 
 answer_same oid us vs (Value bytes) v c h = h ∙ v
 answer_same oid us vs (Counts counts) v c h = record {
   rising = h.rising;
-  held = λ id n. (λ has. let r = (h.held id n).0 has in (sym (c id) ∙ r.0, r.1), λ r. (h.held id n).1 (c id ∙ r.0, r.1));
+  held =
+      λ id n. (λ has. let r = (h.held id n).0 has in (sym (c id) ∙ r.0, r.1), λ r. (h.held id n).1 (c id ∙ r.0, r.1));
 }
 answer_same oid us vs (Count id n) v c h = h ∙ c id

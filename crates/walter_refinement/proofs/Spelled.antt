@@ -138,7 +138,8 @@ pub seen_row : (owns : SiteId → List Held) (v : SiteId → ℕ) (xs : List Tid
     → IsSeenRow owns v y
 seen_row owns v xs y h c =
     let q = in_by xs y c in
-    let m = map_place tid_of (take (v y.site) (owns y.site)) y q.0 (ap (λ t. slice_get t q.0) (sym (h y.site).0) ∙ q.1) in
+    let m =
+    map_place tid_of (take (v y.site) (owns y.site)) y q.0 (ap (λ t. slice_get t q.0) (sym (h y.site).0) ∙ q.1) in
     let l = slice_get-take_within (owns y.site) (v y.site) q.0 m.0 m.1 in
     record { place = q.0; row = m.0; below = l; here = sym (slice_get-take (owns y.site) (v y.site) q.0 l) ∙ m.1; is = m.2 }
 
@@ -146,21 +147,26 @@ seen_row owns v xs y h c =
 pub row_seen : (owns : SiteId → List Held) (v : SiteId → ℕ) (xs : List Tid) (k : SiteId) (q : ℕ) (r : Held)
     → Sees owns v xs → q < v k → slice_get (owns k) q ≡ Some r → slice_get (by k xs) q ≡ Some r.tx.tid
 row_seen owns v xs k q r h l here =
-    ap (λ t. slice_get t q) (h k).0 ∙ place_mapped tid_of (take (v k) (owns k)) r q (slice_get-take (owns k) (v k) q l ∙ here)
+    ap (λ t. slice_get t q) (h k).0
+    ∙ place_mapped tid_of (take (v k) (owns k)) r q (slice_get-take (owns k) (v k) q l ∙ here)
 
 -- one more step that doesn't commit it leaves what is known of a committed transaction
 pub kept_step : (owns : SiteId → List Held) (h : List Step) (r : Held) (step : Step) → IsKept owns h r
     → ((us : List Update) → step ≢ Commit r.tx.tid us) → IsKept owns (h ++ step ∷ []) r
 kept_step owns h r step k none = record {
   started = started_kept r.tx.tid h (step ∷ []) k.started;
-  same = committed_updates_snoc r.tx.tid h step ∙ (ap (λ t. committed_updates h r.tx.tid ++ t) (given_none r.tx.tid step none) ∙ (append-nil (committed_updates h r.tx.tid) ∙ k.same));
-  seen = subst (λ t. Sees owns (λ j. entry_at r.tx.start j) t) (sym (snapshot_kept r.tx.tid h (step ∷ []) k.started)) k.seen;
+  same =
+      committed_updates_snoc r.tx.tid h step
+      ∙ (ap (λ t. committed_updates h r.tx.tid ++ t) (given_none r.tx.tid step none) ∙ (append-nil (committed_updates h r.tx.tid) ∙ k.same));
+  seen =
+      subst (λ t. Sees owns (λ j. entry_at r.tx.start j) t) (sym (snapshot_kept r.tx.tid h (step ∷ []) k.started)) k.seen;
 }
 
 -- so do commits that come
 pub kept_grow : (owns more : SiteId → List Held) (h : List Step) (r : Held)
     → ((k : SiteId) → IsPrefix (owns k) (more k)) → IsKept owns h r → IsKept more h r
-kept_grow owns more h r grow k = record { started = k.started; same = k.same; seen = sees_grow owns more (λ j. entry_at r.tx.start j) (snapshot r.tx.tid h) grow k.seen }
+kept_grow owns more h r grow k =
+    record { started = k.started; same = k.same; seen = sees_grow owns more (λ j. entry_at r.tx.start j) (snapshot r.tx.tid h) grow k.seen }
 
 -- a step does nothing for a transaction, nor ends it
 pub record IsAside (x : Tid) (step : Step) : Type 0 where
@@ -185,7 +191,8 @@ open_step x h step no_commit no_abort o (inr a) =
 -- what an open transaction sees stays
 pub seen_step : (owns : SiteId → List Held) (counts : SiteId → SiteId → ℕ) (h : List Step) (s : Session) (step : Step)
     → IsLive owns counts h s → Sees owns (λ k. entry_at s.snapshot k) (snapshot s.tid (h ++ step ∷ []))
-seen_step owns counts h s step l = subst (λ t. Sees owns (λ j. entry_at s.snapshot j) t) (sym (snapshot_kept s.tid h (step ∷ []) l.started)) l.seen
+seen_step owns counts h s step l =
+    subst (λ t. Sees owns (λ j. entry_at s.snapshot j) t) (sym (snapshot_kept s.tid h (step ∷ []) l.started)) l.seen
 
 -- one more step that leaves it aside leaves what is known of an open transaction
 pub live_step : (owns : SiteId → List Held) (counts : SiteId → SiteId → ℕ) (h : List Step) (s : Session) (step : Step)
@@ -193,7 +200,9 @@ pub live_step : (owns : SiteId → List Held) (counts : SiteId → SiteId → �
 live_step owns counts h s step l a = record {
   started = started_kept s.tid h (step ∷ []) l.started;
   open_ = open_step s.tid h step a.no_commit a.no_abort l.open_;
-  same = own_updates_snoc s.tid h step ∙ (ap (λ t. own_updates s.tid h ++ t) a.none_done ∙ (append-nil (own_updates s.tid h) ∙ l.same));
+  same =
+      own_updates_snoc s.tid h step
+      ∙ (ap (λ t. own_updates s.tid h ++ t) a.none_done ∙ (append-nil (own_updates s.tid h) ∙ l.same));
   seen = seen_step owns counts h s step l;
   below = l.below;
 }
@@ -221,7 +230,8 @@ pub done_or_live_grow : (owns more : SiteId → List Held) (counts higher : Site
     → ((k : SiteId) → IsPrefix (owns k) (more k)) → ((i k : SiteId) → counts i k ≤ higher i k)
     → IsDoneOrLive owns counts h s → IsDoneOrLive more higher h s
 done_or_live_grow owns more counts higher h s grow rise (inl done_) = inl done_
-done_or_live_grow owns more counts higher h s grow rise (inr l) = inr (live_grow owns more counts higher h s grow rise l)
+done_or_live_grow owns more counts higher h s grow rise (inr l) =
+    inr (live_grow owns more counts higher h s grow rise l)
 
 -- a transaction that isn't committed is open
 pub live_undone : (owns : SiteId → List Held) (counts : SiteId → SiteId → ℕ) (h : List Step) (s : Session)
@@ -247,9 +257,11 @@ pub logs_step : (owns more : SiteId → List Held) (counts higher : SiteId → S
     → ((i : SiteId) → Sees owns (counts i) (log i h)) → (i : SiteId) → Sees more (higher i) (log i (h ++ step ∷ []))
 logs_step owns more counts higher h step s r grow c here says before i k =
     let old = sees_grow owns more (counts i) (log i h) grow (before i) k in
-    let split : by k (log i (h ++ step ∷ [])) ≡ by k (log i h ++ (if same_site s i then r.tx.tid ∷ [] else [])) = ap (λ t. by k t) (log_snoc i h step ∙ ap (λ t. log i h ++ t) (says i)) in
+    let split : by k (log i (h ++ step ∷ [])) ≡ by k (log i h ++ (if same_site s i then r.tx.tid ∷ [] else [])) =
+    ap (λ t. by k t) (log_snoc i h step ∙ ap (λ t. log i h ++ t) (says i)) in
     let unmoved : by k (log i h ++ (if same_site s i then r.tx.tid ∷ [] else [])) ≡ by k (log i h) → higher i k ≡ counts i k
-    → (by k (log i (h ++ step ∷ [])) ≡ map tid_of (take (higher i k) (more k))) × (higher i k ≤ length (more k)) = λ e f.
+    → (by k (log i (h ++ step ∷ [])) ≡ map tid_of (take (higher i k) (more k))) × (higher i k ≤ length (more k)) =
+    λ e f.
     (split ∙ (e ∙ (old.0 ∙ ap (λ n. map tid_of (take n (more k))) (sym f))), let l = old.1 in omega (arith, l, f)) in
     elim (c i k) [
       | inl same ↦
@@ -263,11 +275,16 @@ logs_step owns more counts higher h step s r grow c here says before i k =
           ]
       | inr more_ ↦
           let here_ : same_site s i ≡ true = subst (λ j. same_site s j ≡ true) more_.0 (same_site_refl s) in
-          let ours : same_site r.tx.tid.site k ≡ true = subst (λ j. same_site r.tx.tid.site j ≡ true) more_.1 (same_site_refl r.tx.tid.site) in
-          let place : slice_get (more k) (counts i k) ≡ Some r = subst (λ j. slice_get (more k) (counts j k) ≡ Some r) more_.0 (subst (λ j. slice_get (more j) (counts s j) ≡ Some r) more_.1 here) in
-          let taken : take (higher i k) (more k) ≡ take (counts i k) (more k) ++ r ∷ [] = ap (λ n. take n (more k)) more_.2 ∙ take_push (more k) (counts i k) r place in
-          let pushed : by k (log i h ++ (if same_site s i then r.tx.tid ∷ [] else [])) ≡ by k (log i h) ++ r.tx.tid ∷ [] = rw here_ (filter_push_kept (λ (x : Tid). same_site x.site k) (log i h) r.tx.tid ours) in (
-            split ∙ (pushed ∙ (ap (λ t. t ++ r.tx.tid ∷ []) old.0 ∙ (sym (map-append tid_of (take (counts i k) (more k)) (r ∷ [])) ∙ ap (λ t. map tid_of t) (sym taken)))),
+          let ours : same_site r.tx.tid.site k ≡ true =
+          subst (λ j. same_site r.tx.tid.site j ≡ true) more_.1 (same_site_refl r.tx.tid.site) in
+          let place : slice_get (more k) (counts i k) ≡ Some r =
+          subst (λ j. slice_get (more k) (counts j k) ≡ Some r) more_.0 (subst (λ j. slice_get (more j) (counts s j) ≡ Some r) more_.1 here) in
+          let taken : take (higher i k) (more k) ≡ take (counts i k) (more k) ++ r ∷ [] =
+          ap (λ n. take n (more k)) more_.2 ∙ take_push (more k) (counts i k) r place in
+          let pushed : by k (log i h ++ (if same_site s i then r.tx.tid ∷ [] else [])) ≡ by k (log i h) ++ r.tx.tid ∷ [] =
+          rw here_ (filter_push_kept (λ (x : Tid). same_site x.site k) (log i h) r.tx.tid ours) in (
+            split
+                ∙ (pushed ∙ (ap (λ t. t ++ r.tx.tid ∷ []) old.0 ∙ (sym (map-append tid_of (take (counts i k) (more k)) (r ∷ [])) ∙ ap (λ t. map tid_of t) (sym taken)))),
             let w = slice_get_within (more k) (counts i k) r place in omega (arith, w, more_.2),
           )
     ]
