@@ -194,8 +194,8 @@ module _ (owns : SiteId → List Held) (counts : SiteId → SiteId → ℕ) (num
         once = sp.once;
         live = λ d t there. elim (with_mine d t there) [
           | inl here ↦ subst (λ z. IsDoneOrLive owns counts h z) here.1 (elim (sp.live c s has) [
-            | inl done_ ↦ inl done_
-            | inr l ↦ inr (record { started = l.started; open_ = l.open_; same = l.same; seen = l.seen; below = l.below })
+            | inl committed ↦ inl committed
+            | inr l ↦ inr (record { started = l.started; running = l.running; same = l.same; seen = l.seen; below = l.below })
           ])
           | inr away ↦ sp.live d t away.1
         ];
@@ -211,13 +211,13 @@ module _ (owns : SiteId → List Held) (counts : SiteId → SiteId → ℕ) (num
       → IsWith c (with_update u s) sessions after → IsSpelledAt owns counts numbers after spent (h ++ Op s.tid u ∷ [])
   did_op c s u after has l with_mine =
       let step : Step = Op s.tid u in
-      plain step after (l.started, l.open_)
+      plain step after (l.started, l.running)
       (record { none_logged = λ i. refl; no_commit = λ x us e. absurd cc; no_start = λ x site e. absurd cc; no_notice = λ x e. absurd cc })
       (λ d t there. elim (with_mine d t there) [
         | inl here ↦
             subst (λ z. IsDoneOrLive owns counts (h ++ step ∷ []) z) here.1 (inr (record {
               started = started_kept s.tid h (step ∷ []) l.started;
-              open_ = open_step s.tid h step (λ us e. absurd cc) (λ cause e. absurd cc) l.open_;
+              running = open_step s.tid h step (λ us e. absurd cc) (λ cause e. absurd cc) l.running;
               same =
                   own_updates_snoc s.tid h step
                   ∙ (ap (λ z. own_updates s.tid h ++ z) (done_op s.tid u) ∙ ap (λ z. z ++ u ∷ []) l.same);
@@ -238,7 +238,7 @@ module _ (owns : SiteId → List Held) (counts : SiteId → SiteId → ℕ) (num
       → IsFewer sessions after → IsAnswer oid (seen_updates s.tid h) a
       → IsSpelledAt owns counts numbers after spent (h ++ Read s.tid oid a ∷ [])
   did_read s oid a after l old answer =
-      quiet (Read s.tid oid a) after ((l.started, l.open_), answer)
+      quiet (Read s.tid oid a) after ((l.started, l.running), answer)
       (record { none_logged = λ i. refl; no_commit = λ x us e. absurd cc; no_start = λ x site e. absurd cc; no_notice = λ x e. absurd cc })
       (λ x. record { none_done = refl; no_commit = λ us e. absurd cc; no_abort = λ cause e. absurd cc })
       old
@@ -248,7 +248,7 @@ module _ (owns : SiteId → List Held) (counts : SiteId → SiteId → ℕ) (num
       → IsLive owns counts h s → IsWithout c sessions after → IsCauseOfAbort s.tid h cause
       → IsSpelledAt owns counts numbers after spent (h ++ Abort s.tid cause ∷ [])
   did_abort c s cause after has l closed is =
-      plain (Abort s.tid cause) after ((l.started, l.open_), is)
+      plain (Abort s.tid cause) after ((l.started, l.running), is)
       (record { none_logged = λ i. refl; no_commit = λ x us e. absurd cc; no_start = λ x site e. absurd cc; no_notice = λ x e. absurd cc })
       (λ d t there.
       let away = closed d t there in
@@ -296,7 +296,7 @@ module _ (owns : SiteId → List Held) (counts : SiteId → SiteId → ℕ) (num
   pub did_deny : (x : Tid) (after : Key → Option Session) → ¬ IsCommitted x h → IsIssued (numbers x.site) x
       → ((c : Key) (s : Session) → sessions c ≡ Some s → s.tid ≡ x → spent c) → IsFewer sessions after
       → IsSpelledAt owns counts numbers after spent (h ++ Told x (OfLevel NotCommitted) ∷ [])
-  did_deny x after fresh given_ none old =
+  did_deny x after fresh issued none old =
       let step : Step = Told x (OfLevel NotCommitted) in
       record {
         legal = legal_snoc h step sp.legal fresh;
@@ -314,7 +314,7 @@ module _ (owns : SiteId → List Held) (counts : SiteId → SiteId → ℕ) (num
             λ y c. elim ((started_snoc y h step).0 c) [ inl was ↦ sp.begun y was | inr new ↦ let e = new.1 in absurd cc ];
         denied = λ y c. elim (Contains-push_cases h step (Told y (OfLevel NotCommitted)) c) [
           | inl was ↦ denied_of numbers after (λ z i. i) (fewer_old after old) y was
-          | inr new ↦ let e : x ≡ y = cc in (subst (λ (z : Tid). IsIssued (numbers z.site) z) e given_, λ d t there f. none d t (old d t there) (f ∙ sym e))
+          | inr new ↦ let e : x ≡ y = cc in (subst (λ (z : Tid). IsIssued (numbers z.site) z) e issued, λ d t there f. none d t (old d t there) (f ∙ sym e))
         ];
       }
 
@@ -342,7 +342,7 @@ module _ (owns : SiteId → List Held) (counts : SiteId → SiteId → ℕ) (num
           | inl here ↦
               subst (λ z. IsDoneOrLive owns counts (h ++ step ∷ []) z) here.1 (inr (record {
                 started = started_here x x.site h;
-                open_ = open_step x h step (λ us e. absurd cc) (λ cause e. absurd cc) none;
+                running = open_step x h step (λ us e. absurd cc) (λ cause e. absurd cc) none;
                 same = own_updates_snoc x h step ∙ (append-nil (own_updates x h) ∙ none_done x h sp.legal fresh);
                 seen = subst (λ t. Sees owns (λ k. entry_at v k) t) (sym (snapshot_here x x.site h [] fresh))
                     (sees_same owns (counts x.site) (λ k. entry_at v k) (log x.site h) vector (sp.logs x.site));
@@ -364,11 +364,11 @@ module _ (owns : SiteId → List Held) (counts : SiteId → SiteId → ℕ) (num
           | inl here ↦ ap (λ (z : Session). z.tid.site) (sym here.1) ∙ (site ∙ ap (λ (k : Key). k.site) here.0)
           | inr away ↦ sp.home d t away.1
         ];
-        begun = λ y c0. elim ((started_snoc y h step).0 c0) [
+        begun = λ y started. elim ((started_snoc y h step).0 started) [
           | inl old ↦ rise y (sp.begun y old)
           | inr new ↦ let same = new.1 in let e : x ≡ y = cc in subst (λ (z : Tid). IsIssued (higher z.site) z) e now_issued
         ];
-        denied = λ y c0. elim (Contains-push_cases h step (Told y (OfLevel NotCommitted)) c0) [
+        denied = λ y told. elim (Contains-push_cases h step (Told y (OfLevel NotCommitted)) told) [
           | inl old ↦ let was = sp.denied y old in (
             rise y was.0,
             λ d t there e. elim (with_mine d t there) [
@@ -391,14 +391,14 @@ module _ (owns : SiteId → List Held) (counts : SiteId → SiteId → ℕ) (num
       let x : Tid = s.tid in
       let step : Step = Commit x s.updates in
       let grow = pushed_prefix owns more x.site r push in
-      let fresh : ¬ IsCommitted x h = λ done_. l.open_ (inl done_) in
+      let fresh : ¬ IsCommitted x h = λ committed. l.running (inl committed) in
       let apart : (k : SiteId) (p : ℕ) (z : Held) → slice_get (owns k) p ≡ Some z → z.tx.tid ≢ x =
       λ k p z here e. fresh (subst (λ y. IsCommitted y h) e (row_committed owns counts numbers sessions spent h n sp k p z here)) in
       let last : slice_get (more x.site) (counts x.site x.site) ≡ Some r =
       ap (λ t. slice_get t (counts x.site x.site)) push.0
       ∙ (ap (λ m. slice_get (owns x.site ++ r ∷ []) m) (n.counted x.site) ∙ slice_get-push (owns x.site) r) in
       let legal_here : IsLegalCommit x s.updates h =
-      record { running = (l.started, l.open_); some = some; own = sym l.same; free = free; final = λ told. unspent ((sp.denied x told).1 c s has refl) } in
+      record { running = (l.started, l.running); some = some; own = sym l.same; free = free; final = λ told. unspent ((sp.denied x told).1 c s has refl) } in
       let new_kept : IsKept more (h ++ step ∷ []) r = record {
         started = subst (λ y. IsStarted y (h ++ step ∷ [])) (sym is_tid) (started_kept x h (step ∷ []) l.started);
         same =
@@ -428,22 +428,23 @@ module _ (owns : SiteId → List Held) (counts : SiteId → SiteId → ℕ) (num
             | inr newb ↦ newa.1 ∙ sym newb.1
           ]
         ];
-        live = λ d t there. elim (same_tid t.tid x) as (λ b. same_tid t.tid x ≡ b → IsDoneOrLive more higher (h ++ step ∷ []) t) [
-          | true ↦ λ same. inl (subst (λ y. IsCommitted y (h ++ step ∷ [])) (sym (same_tid-true t.tid x same)) (committed_here x s.updates h))
-          | false ↦ λ differs. done_or_live_grow owns more counts higher (h ++ step ∷ []) t grow (counted_rise counts higher x.site x.site count)
-              (done_or_live_step owns counts h t step (sp.live d t there) (record {
-                none_done = refl;
-                no_commit =
-                    λ us e. let f : x ≡ t.tid = cc in let g = same_tid_refl x in absurd (let i : same_tid x x ≡ false = subst (λ y. same_tid y x ≡ false) (sym f) differs in cc);
-                no_abort = λ cause e. absurd cc;
-              }))
-        ] refl;
+        live = λ d t there. elim (same_tid t.tid x) as
+            (λ b. same_tid t.tid x ≡ b → IsDoneOrLive more higher (h ++ step ∷ []) t) [
+              | true ↦ λ same. inl (subst (λ y. IsCommitted y (h ++ step ∷ [])) (sym (same_tid-true t.tid x same)) (committed_here x s.updates h))
+              | false ↦ λ differs. done_or_live_grow owns more counts higher (h ++ step ∷ []) t grow (counted_rise counts higher x.site x.site count)
+                  (done_or_live_step owns counts h t step (sp.live d t there) (record {
+                    none_done = refl;
+                    no_commit =
+                        λ us e. let f : x ≡ t.tid = cc in let g = same_tid_refl x in absurd (let i : same_tid x x ≡ false = subst (λ y. same_tid y x ≡ false) (sym f) differs in cc);
+                    no_abort = λ cause e. absurd cc;
+                  }))
+            ] refl;
         alone = sp.alone;
         home = sp.home;
         begun =
-            λ y c0. elim ((started_snoc y h step).0 c0) [ inl old ↦ sp.begun y old | inr new ↦ let e = new.1 in absurd cc ];
+            λ y started. elim ((started_snoc y h step).0 started) [ inl old ↦ sp.begun y old | inr new ↦ let e = new.1 in absurd cc ];
         denied =
-            λ y c0. elim (Contains-push_cases h step (Told y (OfLevel NotCommitted)) c0) [ inl old ↦ sp.denied y old | inr new ↦ absurd cc ];
+            λ y told. elim (Contains-push_cases h step (Told y (OfLevel NotCommitted)) told) [ inl old ↦ sp.denied y old | inr new ↦ absurd cc ];
       }
 
   -- Commit: of a session's transaction, as its site holds it; the session stays, with a committed transaction
@@ -468,12 +469,12 @@ module _ (owns : SiteId → List Held) (counts : SiteId → SiteId → ℕ) (num
       let x : Tid = r.tx.tid in
       let step : Step = Arrive x i in
       let k = sp.kept x.site (counts i x.site) r here in
-      let absent : ¬ Contains (log i h) x = λ c0.
-      let w = seen_row owns (counts i) (log i h) x (sp.logs i) c0 in
+      let absent : ¬ Contains (log i h) x = λ stands.
+      let w = seen_row owns (counts i) (log i h) x (sp.logs i) stands in
       let same = sp.once x.site w.place (counts i x.site) w.row r w.here here w.is in
       let b = w.below in absurd (omega (arith, same, b)) in
-      let inside : (y : Tid) → Contains (snapshot x h) y → Contains (log i h) y = λ y c0.
-      let w = seen_row owns (λ j. entry_at r.tx.start j) (snapshot x h) y k.seen c0 in
+      let inside : (y : Tid) → Contains (snapshot x h) y → Contains (log i h) y = λ y seen.
+      let w = seen_row owns (λ j. entry_at r.tx.start j) (snapshot x h) y k.seen seen in
       let low : w.place < counts i y.site = let a = w.below in let b = covers y.site in omega (arith, a, b) in
       by_in y.site (log i h) y w.place (row_seen owns (counts i) (log i h) y.site w.place w.row (sp.logs i) low w.here ∙ ap (λ z. Some z) w.is) in
       let legal_here : IsLegalArrival x i h = record {
@@ -493,7 +494,7 @@ module _ (owns : SiteId → List Held) (counts : SiteId → SiteId → ℕ) (num
         alone = sp.alone;
         home = sp.home;
         begun =
-            λ y c0. elim ((started_snoc y h step).0 c0) [ inl old ↦ sp.begun y old | inr new ↦ let e = new.1 in absurd cc ];
+            λ y started. elim ((started_snoc y h step).0 started) [ inl old ↦ sp.begun y old | inr new ↦ let e = new.1 in absurd cc ];
         denied =
-            λ y c0. elim (Contains-push_cases h step (Told y (OfLevel NotCommitted)) c0) [ inl old ↦ sp.denied y old | inr new ↦ absurd cc ];
+            λ y told. elim (Contains-push_cases h step (Told y (OfLevel NotCommitted)) told) [ inl old ↦ sp.denied y old | inr new ↦ absurd cc ];
       }

@@ -144,8 +144,8 @@ module _ (owns : SiteId → List Held) (counts : SiteId → SiteId → ℕ) (num
       let oid = b.3.0 in
       let writes : Contains (write_set r.row.tx.updates) oid =
       subst (λ us. Contains (write_set us) oid) (ap (λ z. committed_updates h z) (sym r.is) ∙ k.same) b.3.1 in
-      let seen_ = clear y.site r.place r.row oid r.here writes b.3.2 in
-      b.4 (subst (λ z. Contains (snapshot s.tid h) z) r.is (seen_contained s.snapshot (snapshot s.tid h) y.site r.place r.row l.seen r.here seen_))
+      let is_seen = clear y.site r.place r.row oid r.here writes b.3.2 in
+      b.4 (subst (λ z. Contains (snapshot s.tid h) z) r.is (seen_contained s.snapshot (snapshot s.tid h) y.site r.place r.row l.seen r.here is_seen))
 
   -- an own commit that writes the object, and that the session's snapshot doesn't see, is a version outside it
   pub modified : (s : Session) (k : SiteId) (p : ℕ) (r : Held) (oid : ObjId) → IsLive owns counts h s

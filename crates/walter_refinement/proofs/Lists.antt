@@ -77,15 +77,20 @@ filter_push_left p xs y h = filter-append p xs (y ∷ []) ∙ rw h (append-nil (
 pub filter_both : {X : Type 0} (p q : X → Bool) (xs : List X) → filter p (filter q xs) ≡ filter q (filter p xs)
 filter_both p q [] = refl
 filter_both p q (x ∷ xs) =
-    elim (p x) as (λ b. p x ≡ b → filter p (if q x then x ∷ filter q xs else filter q xs) ≡ filter q (if b then x ∷ filter p xs else filter p xs)) [
-      | true ↦ λ hp. elim (q x) as (λ c. q x ≡ c → filter p (if c then x ∷ filter q xs else filter q xs) ≡ (if c then x ∷ filter q (filter p xs) else filter q (filter p xs))) [
-        | true ↦ λ hq. rw hp (ap (λ t. x ∷ t) (filter_both p q xs))
-        | false ↦ λ hq. filter_both p q xs
-      ] refl
-      | false ↦ λ hp. elim (q x) as (λ c. q x ≡ c → filter p (if c then x ∷ filter q xs else filter q xs) ≡ filter q (filter p xs)) [
-        | true ↦ λ hq. rw hp (filter_both p q xs)
-        | false ↦ λ hq. filter_both p q xs
-      ] refl
+    elim (p x) as
+    (λ b. p x ≡ b
+    → filter p (if q x then x ∷ filter q xs else filter q xs) ≡ filter q (if b then x ∷ filter p xs else filter p xs)) [
+      | true ↦ λ hp. elim (q x) as
+          (λ c. q x ≡ c
+          → filter p (if c then x ∷ filter q xs else filter q xs) ≡ (if c then x ∷ filter q (filter p xs) else filter q (filter p xs))) [
+            | true ↦ λ hq. rw hp (ap (λ t. x ∷ t) (filter_both p q xs))
+            | false ↦ λ hq. filter_both p q xs
+          ] refl
+      | false ↦ λ hp. elim (q x) as
+          (λ c. q x ≡ c → filter p (if c then x ∷ filter q xs else filter q xs) ≡ filter q (filter p xs)) [
+            | true ↦ λ hq. rw hp (filter_both p q xs)
+            | false ↦ λ hq. filter_both p q xs
+          ] refl
     ] refl
 
 -- a filter of images is the images of a filter
@@ -93,7 +98,8 @@ pub filter_of_map : {X Y : Type 0} (p : Y → Bool) (f : X → Y) (xs : List X)
     → filter p (map f xs) ≡ map f (filter (λ x. p (f x)) xs)
 filter_of_map p f [] = refl
 filter_of_map p f (x ∷ xs) =
-    elim (p (f x)) as (λ b. (if b then f x ∷ filter p (map f xs) else filter p (map f xs)) ≡ map f (if b then x ∷ filter (λ y. p (f y)) xs else filter (λ y. p (f y)) xs)) [
+    elim (p (f x)) as
+    (λ b. (if b then f x ∷ filter p (map f xs) else filter p (map f xs)) ≡ map f (if b then x ∷ filter (λ y. p (f y)) xs else filter (λ y. p (f y)) xs)) [
       | true ↦ ap (λ t. f x ∷ t) (filter_of_map p f xs)
       | false ↦ filter_of_map p f xs
     ]
@@ -103,11 +109,15 @@ pub filter_place : {X : Type 0} (p : X → Bool) (xs : List X) (x : X) (m : ℕ)
     → (a : ℕ) × (slice_get xs a ≡ Some x) × (p x ≡ true) × (length (filter p (take a xs)) ≡ m)
 filter_place p [] x m h = absurd cc
 filter_place p (z ∷ xs) x m h =
-    elim (p z) as (λ b. p z ≡ b → slice_get (if b then z ∷ filter p xs else filter p xs) m ≡ Some x → (a : ℕ) × (slice_get (z ∷ xs) a ≡ Some x) × (p x ≡ true) × (length (filter p (take a (z ∷ xs))) ≡ m)) [
-      | true ↦ λ is h. elim m as (λ k. slice_get (z ∷ filter p xs) k ≡ Some x → (a : ℕ) × (slice_get (z ∷ xs) a ≡ Some x) × (p x ≡ true) × (length (filter p (take a (z ∷ xs))) ≡ k)) [
-        | zero ↦ λ g. let e : z ≡ x = cc in (0, g, ap p (sym e) ∙ is, refl)
-        | suc k ↦ λ g. let r = filter_place p xs x k g in (suc r.0, r.1, r.2, rw is (ap (λ n. suc n) r.3))
-      ] h
+    elim (p z) as
+    (λ b. p z ≡ b → slice_get (if b then z ∷ filter p xs else filter p xs) m ≡ Some x
+    → (a : ℕ) × (slice_get (z ∷ xs) a ≡ Some x) × (p x ≡ true) × (length (filter p (take a (z ∷ xs))) ≡ m)) [
+      | true ↦ λ is h. elim m as
+          (λ k. slice_get (z ∷ filter p xs) k ≡ Some x
+          → (a : ℕ) × (slice_get (z ∷ xs) a ≡ Some x) × (p x ≡ true) × (length (filter p (take a (z ∷ xs))) ≡ k)) [
+            | zero ↦ λ g. let e : z ≡ x = cc in (0, g, ap p (sym e) ∙ is, refl)
+            | suc k ↦ λ g. let r = filter_place p xs x k g in (suc r.0, r.1, r.2, rw is (ap (λ n. suc n) r.3))
+          ] h
       | false ↦ λ is h. let r = filter_place p xs x m h in (suc r.0, r.1, r.2, rw is r.3)
     ] refl h
 
@@ -118,7 +128,8 @@ place_filtered p [] x a h is = absurd cc
 place_filtered p (z ∷ xs) x zero h is = let e : z ≡ x = cc in rw (ap p e ∙ is) h
 place_filtered p (z ∷ xs) x (suc a) h is =
     let r = place_filtered p xs x a h is in
-    elim (p z) as (λ b. slice_get (if b then z ∷ filter p xs else filter p xs) (length (if b then z ∷ filter p (take a xs) else filter p (take a xs))) ≡ Some x) [ true ↦ r | false ↦ r ]
+    elim (p z) as
+    (λ b. slice_get (if b then z ∷ filter p xs else filter p xs) (length (if b then z ∷ filter p (take a xs) else filter p (take a xs))) ≡ Some x) [ true ↦ r | false ↦ r ]
 
 -- of a list whose first element passes at least one is kept
 one_kept : {X : Type 0} (p : X → Bool) (z : X) (xs : List X) → p z ≡ true → 0 < length (filter p (z ∷ xs))
@@ -132,7 +143,8 @@ more_kept p [] x a (suc b) l h is = absurd cc
 more_kept p (z ∷ xs) x zero (suc b) l h is = let e : z ≡ x = cc in one_kept p z (take b xs) (ap p e ∙ is)
 more_kept p (z ∷ xs) x (suc a) (suc b) l h is =
     let r = more_kept p xs x a b (omega arith) h is in
-    elim (p z) as (λ c. length (if c then z ∷ filter p (take a xs) else filter p (take a xs)) < length (if c then z ∷ filter p (take b xs) else filter p (take b xs))) [ true ↦ omega (arith, r) | false ↦ r ]
+    elim (p z) as
+    (λ c. length (if c then z ∷ filter p (take a xs) else filter p (take a xs)) < length (if c then z ∷ filter p (take b xs) else filter p (take b xs))) [ true ↦ omega (arith, r) | false ↦ r ]
 
 -- what is kept is kept in order
 pub filter_order : {X : Type 0} (p : X → Bool) (xs : List X) (x y : X) (m n : ℕ) → m < n

@@ -24,7 +24,8 @@ writes oid (Del at id ∷ us) = writes oid us
 pub writes_some : (oid : ObjId) (us : List Update) → writes oid us ≡ true → Contains (write_set us) oid
 writes_some oid [] h = absurd cc
 writes_some oid (Write at bytes ∷ us) h =
-    elim (same_object at oid) as (λ b. same_object at oid ≡ b → (if b then true else writes oid us) ≡ true → Contains (at ∷ write_set us) oid) [
+    elim (same_object at oid) as
+    (λ b. same_object at oid ≡ b → (if b then true else writes oid us) ≡ true → Contains (at ∷ write_set us) oid) [
       | true ↦ λ is n. contains_at (at ∷ write_set us) oid 0 (ap (λ z. Some z) (same_object-true at oid is))
       | false ↦ λ is n. Contains-append_right (at ∷ []) (write_set us) oid (writes_some oid us n)
     ] refl h
@@ -34,21 +35,24 @@ writes_some oid (Del at id ∷ us) h = writes_some oid us h
 -- updates that don't write the object leave its value
 pub value_unwritten : (held : Option (List ℕ)) (oid : ObjId) (us : List Update) → writes oid us ≡ false
     → value_from held oid us ≡ held
-value_unwritten held oid [] no_ = refl
-value_unwritten held oid (Write at bytes ∷ us) no_ =
-    elim (same_object at oid) as (λ b. (if b then true else writes oid us) ≡ false → value_from (if b then Some bytes else held) oid us ≡ held) [
+value_unwritten held oid [] idle = refl
+value_unwritten held oid (Write at bytes ∷ us) idle =
+    elim (same_object at oid) as
+    (λ b. (if b then true else writes oid us) ≡ false → value_from (if b then Some bytes else held) oid us ≡ held) [
       | true ↦ λ n. absurd cc
       | false ↦ λ n. value_unwritten held oid us n
-    ] no_
-value_unwritten held oid (Add at id ∷ us) no_ = value_unwritten held oid us no_
-value_unwritten held oid (Del at id ∷ us) no_ = value_unwritten held oid us no_
+    ] idle
+value_unwritten held oid (Add at id ∷ us) idle = value_unwritten held oid us idle
+value_unwritten held oid (Del at id ∷ us) idle = value_unwritten held oid us idle
 
 -- updates that write the object decide its value alone
 pub value_written : (held other : Option (List ℕ)) (oid : ObjId) (us : List Update) → writes oid us ≡ true
     → value_from held oid us ≡ value_from other oid us
 value_written held other oid [] is = absurd cc
 value_written held other oid (Write at bytes ∷ us) is =
-    elim (same_object at oid) as (λ b. (if b then true else writes oid us) ≡ true → value_from (if b then Some bytes else held) oid us ≡ value_from (if b then Some bytes else other) oid us) [
+    elim (same_object at oid) as
+    (λ b. (if b then true else writes oid us) ≡ true
+    → value_from (if b then Some bytes else held) oid us ≡ value_from (if b then Some bytes else other) oid us) [
       | true ↦ λ n. refl
       | false ↦ λ n. value_written held other oid us n
     ] is
@@ -77,12 +81,14 @@ value_by_last oid f [] held = refl
 value_by_last oid f (x ∷ xs) held =
     let split = value_from-append held oid (f x) (flat_map f xs) in
     let rest = value_by_last oid f xs (value_from held oid (f x)) in
-    split ∙ (rest ∙ (elim (last_writer oid f xs) as (λ l. decided_by l oid f (value_from held oid (f x)) ≡ decided_by (or_else l (writes oid (f x)) x) oid f held) [
+    split ∙ (rest ∙ (elim (last_writer oid f xs) as
+    (λ l. decided_by l oid f (value_from held oid (f x)) ≡ decided_by (or_else l (writes oid (f x)) x) oid f held) [
       | Some y ↦ refl
-      | None ↦ elim (writes oid (f x)) as (λ b. writes oid (f x) ≡ b → value_from held oid (f x) ≡ decided_by (if b then Some x else None) oid f held) [
-        | true ↦ λ is. value_written held None oid (f x) is
-        | false ↦ λ is. value_unwritten held oid (f x) is
-      ] refl
+      | None ↦ elim (writes oid (f x)) as
+          (λ b. writes oid (f x) ≡ b → value_from held oid (f x) ≡ decided_by (if b then Some x else None) oid f held) [
+            | true ↦ λ is. value_written held None oid (f x) is
+            | false ↦ λ is. value_unwritten held oid (f x) is
+          ] refl
     ]))
 
 -- the transaction writes the object, and none behind it does
@@ -97,15 +103,17 @@ no_writer : (oid : ObjId) (f : Tid → List Update) (xs : List Tid) → last_wri
     → slice_get xs q ≡ Some z → writes oid (f z) ≡ false
 no_writer oid f [] h q z at = absurd cc
 no_writer oid f (x ∷ xs) h q z at =
-    elim (last_writer oid f xs) as (λ l. last_writer oid f xs ≡ l → or_else l (writes oid (f x)) x ≡ None → writes oid (f z) ≡ false) [
+    elim (last_writer oid f xs) as
+    (λ l. last_writer oid f xs ≡ l → or_else l (writes oid (f x)) x ≡ None → writes oid (f z) ≡ false) [
       | Some y ↦ λ is n. absurd cc
-      | None ↦ λ is n. elim (writes oid (f x)) as (λ b. writes oid (f x) ≡ b → (if b then Some x else None) ≡ None → writes oid (f z) ≡ false) [
-        | true ↦ λ w m. absurd cc
-        | false ↦ λ w m. elim q as (λ k. slice_get (x ∷ xs) k ≡ Some z → writes oid (f z) ≡ false) [
-          | zero ↦ λ a. let e : x ≡ z = cc in subst (λ t. writes oid (f t) ≡ false) e w
-          | suc k ↦ λ a. no_writer oid f xs is k z a
-        ] at
-      ] refl n
+      | None ↦ λ is n. elim (writes oid (f x)) as
+          (λ b. writes oid (f x) ≡ b → (if b then Some x else None) ≡ None → writes oid (f z) ≡ false) [
+            | true ↦ λ w m. absurd cc
+            | false ↦ λ w m. elim q as (λ k. slice_get (x ∷ xs) k ≡ Some z → writes oid (f z) ≡ false) [
+              | zero ↦ λ a. let e : x ≡ z = cc in subst (λ t. writes oid (f t) ≡ false) e w
+              | suc k ↦ λ a. no_writer oid f xs is k z a
+            ] at
+          ] refl n
     ] refl h
 
 -- what holds behind a place of a list holds behind the next place of the list with one more before it
@@ -127,16 +135,18 @@ is_last : (oid : ObjId) (f : Tid → List Update) (xs : List Tid) (y : Tid) → 
     → IsLast oid f xs y
 is_last oid f [] y h = absurd cc
 is_last oid f (x ∷ xs) y h =
-    elim (last_writer oid f xs) as (λ l. last_writer oid f xs ≡ l → or_else l (writes oid (f x)) x ≡ Some y → IsLast oid f (x ∷ xs) y) [
+    elim (last_writer oid f xs) as
+    (λ l. last_writer oid f xs ≡ l → or_else l (writes oid (f x)) x ≡ Some y → IsLast oid f (x ∷ xs) y) [
       | Some z ↦ λ is n.
           let e : z ≡ y = cc in
           let r = is_last oid f xs y (is ∙ ap (λ t. Some t) e) in
           record { place = suc r.place; here = r.here; does = r.does; none_behind = λ q w l at. behind oid f x xs r.place q w (r.none_behind) l at }
-      | None ↦ λ is n. elim (writes oid (f x)) as (λ b. writes oid (f x) ≡ b → (if b then Some x else None) ≡ Some y → IsLast oid f (x ∷ xs) y) [
-        | true ↦ λ w m. let e : x ≡ y = cc in
-            record { place = 0; here = ap (λ t. Some t) e; does = subst (λ t. writes oid (f t) ≡ true) e w; none_behind = λ q z l at. first oid f x xs q z (no_writer oid f xs is) l at }
-        | false ↦ λ w m. absurd cc
-      ] refl n
+      | None ↦ λ is n. elim (writes oid (f x)) as
+          (λ b. writes oid (f x) ≡ b → (if b then Some x else None) ≡ Some y → IsLast oid f (x ∷ xs) y) [
+            | true ↦ λ w m. let e : x ≡ y = cc in
+                record { place = 0; here = ap (λ t. Some t) e; does = subst (λ t. writes oid (f t) ≡ true) e w; none_behind = λ q z l at. first oid f x xs q z (no_writer oid f xs is) l at }
+            | false ↦ λ w m. absurd cc
+          ] refl n
     ] refl h
 
 -- what stands in the one list stands in the other

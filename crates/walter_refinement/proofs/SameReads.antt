@@ -22,7 +22,8 @@ by k xs = filter (λ x. same_site x.site k) xs
 -- two sites are one, or differ
 pub site_cases : (a b : SiteId) → ((same_site a b ≡ true) × (a ≡ b)) ⊎ ((same_site a b ≡ false) × (a ≢ b))
 site_cases a b =
-    elim (same_site a b) as (λ c. same_site a b ≡ c → ((same_site a b ≡ true) × (a ≡ b)) ⊎ ((same_site a b ≡ false) × (a ≢ b))) [
+    elim (same_site a b) as
+    (λ c. same_site a b ≡ c → ((same_site a b ≡ true) × (a ≡ b)) ⊎ ((same_site a b ≡ false) × (a ≢ b))) [
       | true ↦ λ is. inl (is, same_site-true a b is)
       | false ↦ λ is. inr (is, λ e. let t = same_site_refl a in let f : same_site a a ≡ false = subst (λ z. same_site a z ≡ false) (sym e) is in absurd (cc))
     ] refl
@@ -44,7 +45,8 @@ record Split (k : SiteId) (ys : List Tid) (x : Tid) (rest : List Tid) : Type 0 w
 split_at : (k : SiteId) (ys : List Tid) (x : Tid) (rest : List Tid) → by k ys ≡ x ∷ rest → Split k ys x rest
 split_at k [] x rest h = absurd cc
 split_at k (y ∷ ys) x rest h =
-    elim (same_site y.site k) as (λ b. same_site y.site k ≡ b → (if b then y ∷ by k ys else by k ys) ≡ x ∷ rest → Split k (y ∷ ys) x rest) [
+    elim (same_site y.site k) as
+    (λ b. same_site y.site k ≡ b → (if b then y ∷ by k ys else by k ys) ≡ x ∷ rest → Split k (y ∷ ys) x rest) [
       | true ↦ λ is h. let e : y ≡ x = cc in record { before = []; after = ys; is = ap (λ z. z ∷ ys) e; none = refl; others = cc }
       | false ↦ λ is h.
           let s = split_at k ys x rest h in

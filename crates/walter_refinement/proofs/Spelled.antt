@@ -62,7 +62,7 @@ pub record IsKept (owns : SiteId → List Held) (h : List Step) (r : Held) : Typ
 -- an open transaction is as its session says
 pub record IsLive (owns : SiteId → List Held) (counts : SiteId → SiteId → ℕ) (h : List Step) (s : Session) : Type 0 where
   pub started : IsStarted s.tid h
-  pub open_ : ¬ IsOver s.tid h
+  pub running : ¬ IsOver s.tid h
   pub same : own_updates s.tid h ≡ s.updates
   pub seen : Sees owns (λ k. entry_at s.snapshot k) (snapshot s.tid h)
   pub below : (k : SiteId) → entry_at s.snapshot k ≤ counts s.tid.site k
@@ -199,7 +199,7 @@ pub live_step : (owns : SiteId → List Held) (counts : SiteId → SiteId → �
     → IsLive owns counts h s → IsAside s.tid step → IsLive owns counts (h ++ step ∷ []) s
 live_step owns counts h s step l a = record {
   started = started_kept s.tid h (step ∷ []) l.started;
-  open_ = open_step s.tid h step a.no_commit a.no_abort l.open_;
+  running = open_step s.tid h step a.no_commit a.no_abort l.running;
   same =
       own_updates_snoc s.tid h step
       ∙ (ap (λ t. own_updates s.tid h ++ t) a.none_done ∙ (append-nil (own_updates s.tid h) ∙ l.same));
@@ -213,7 +213,7 @@ pub live_grow : (owns more : SiteId → List Held) (counts higher : SiteId → S
     → IsLive owns counts h s → IsLive more higher h s
 live_grow owns more counts higher h s grow rise l = record {
   started = l.started;
-  open_ = l.open_;
+  running = l.running;
   same = l.same;
   seen = sees_grow owns more (λ j. entry_at s.snapshot j) (snapshot s.tid h) grow l.seen;
   below = λ k. let a = l.below k in let b = rise s.tid.site k in omega (arith, a, b);
@@ -222,27 +222,27 @@ live_grow owns more counts higher h s grow rise l = record {
 -- a transaction that is committed or open is so after a step that leaves it aside
 pub done_or_live_step : (owns : SiteId → List Held) (counts : SiteId → SiteId → ℕ) (h : List Step) (s : Session) (step : Step)
     → IsDoneOrLive owns counts h s → IsAside s.tid step → IsDoneOrLive owns counts (h ++ step ∷ []) s
-done_or_live_step owns counts h s step (inl done_) a = inl (committed_kept s.tid h (step ∷ []) done_)
+done_or_live_step owns counts h s step (inl committed) a = inl (committed_kept s.tid h (step ∷ []) committed)
 done_or_live_step owns counts h s step (inr l) a = inr (live_step owns counts h s step l a)
 
 -- after commits that come
 pub done_or_live_grow : (owns more : SiteId → List Held) (counts higher : SiteId → SiteId → ℕ) (h : List Step) (s : Session)
     → ((k : SiteId) → IsPrefix (owns k) (more k)) → ((i k : SiteId) → counts i k ≤ higher i k)
     → IsDoneOrLive owns counts h s → IsDoneOrLive more higher h s
-done_or_live_grow owns more counts higher h s grow rise (inl done_) = inl done_
+done_or_live_grow owns more counts higher h s grow rise (inl committed) = inl committed
 done_or_live_grow owns more counts higher h s grow rise (inr l) =
     inr (live_grow owns more counts higher h s grow rise l)
 
 -- a transaction that isn't committed is open
 pub live_undone : (owns : SiteId → List Held) (counts : SiteId → SiteId → ℕ) (h : List Step) (s : Session)
     → IsDoneOrLive owns counts h s → ¬ IsCommitted s.tid h → IsLive owns counts h s
-live_undone owns counts h s (inl done_) fresh = absurd (fresh done_)
+live_undone owns counts h s (inl committed) fresh = absurd (fresh committed)
 live_undone owns counts h s (inr l) fresh = l
 
 -- either way it is started
 pub session_started : (owns : SiteId → List Held) (counts : SiteId → SiteId → ℕ) (h : List Step) (s : Session)
     → IsLegal h → IsDoneOrLive owns counts h s → IsStarted s.tid h
-session_started owns counts h s legal (inl done_) = committed_started s.tid h legal done_
+session_started owns counts h s legal (inl committed) = committed_started s.tid h legal committed
 session_started owns counts h s legal (inr l) = l.started
 
 -- a step that makes nothing stand anywhere leaves the logs
@@ -273,18 +273,18 @@ logs_step owns more counts higher h step s r grow c here says before i k =
                 ]
             | inr away ↦ unmoved (rw away.0 (ap (λ t. by k t) (append-nil (log i h)))) same.1
           ]
-      | inr more_ ↦
-          let here_ : same_site s i ≡ true = subst (λ j. same_site s j ≡ true) more_.0 (same_site_refl s) in
+      | inr one ↦
+          let test : same_site s i ≡ true = subst (λ j. same_site s j ≡ true) one.0 (same_site_refl s) in
           let ours : same_site r.tx.tid.site k ≡ true =
-          subst (λ j. same_site r.tx.tid.site j ≡ true) more_.1 (same_site_refl r.tx.tid.site) in
+          subst (λ j. same_site r.tx.tid.site j ≡ true) one.1 (same_site_refl r.tx.tid.site) in
           let place : slice_get (more k) (counts i k) ≡ Some r =
-          subst (λ j. slice_get (more k) (counts j k) ≡ Some r) more_.0 (subst (λ j. slice_get (more j) (counts s j) ≡ Some r) more_.1 here) in
+          subst (λ j. slice_get (more k) (counts j k) ≡ Some r) one.0 (subst (λ j. slice_get (more j) (counts s j) ≡ Some r) one.1 here) in
           let taken : take (higher i k) (more k) ≡ take (counts i k) (more k) ++ r ∷ [] =
-          ap (λ n. take n (more k)) more_.2 ∙ take_push (more k) (counts i k) r place in
+          ap (λ n. take n (more k)) one.2 ∙ take_push (more k) (counts i k) r place in
           let pushed : by k (log i h ++ (if same_site s i then r.tx.tid ∷ [] else [])) ≡ by k (log i h) ++ r.tx.tid ∷ [] =
-          rw here_ (filter_push_kept (λ (x : Tid). same_site x.site k) (log i h) r.tx.tid ours) in (
+          rw test (filter_push_kept (λ (x : Tid). same_site x.site k) (log i h) r.tx.tid ours) in (
             split
                 ∙ (pushed ∙ (ap (λ t. t ++ r.tx.tid ∷ []) old.0 ∙ (sym (map-append tid_of (take (counts i k) (more k)) (r ∷ [])) ∙ ap (λ t. map tid_of t) (sym taken)))),
-            let w = slice_get_within (more k) (counts i k) r place in omega (arith, w, more_.2),
+            let w = slice_get_within (more k) (counts i k) r place in omega (arith, w, one.2),
           )
     ]
