@@ -1,4 +1,7 @@
 pub mod Cases
+pub mod Lists
+pub mod Numbers
+pub mod CausalLogs
 pub mod Locks
 pub mod LocksKept
 pub mod Issued

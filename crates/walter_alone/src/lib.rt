@@ -1,0 +1,2 @@
+//! What holds of each right trail by itself.
+#![tactic(auto)]

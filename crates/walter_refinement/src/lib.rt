@@ -1,0 +1,2 @@
+//! Every run of right and linked trails spells a legal history.
+#![tactic(auto)]
