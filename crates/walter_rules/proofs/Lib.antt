@@ -1,0 +1,3 @@
+pub mod Membership
+pub mod WrittenObjects
+pub mod RuleTests
