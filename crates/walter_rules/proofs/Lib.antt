@@ -1,3 +1,4 @@
 pub mod Membership
 pub mod WrittenObjects
 pub mod RuleTests
+pub mod SaidTrue
