@@ -2,3 +2,4 @@ pub mod Membership
 pub mod WrittenObjects
 pub mod RuleTests
 pub mod SaidTrue
+pub mod CallsAllowed
