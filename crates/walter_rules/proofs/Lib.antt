@@ -3,3 +3,5 @@ pub mod WrittenObjects
 pub mod RuleTests
 pub mod SaidTrue
 pub mod CallsAllowed
+pub mod DeliveriesAllowed
+pub mod RulesAllowed
