@@ -1,4 +1,4 @@
--- What the rule says of a client's call is of one of the kinds.
+-- What the rule says of a client's call is of one of the kinds, and what it puts out is so, and in order.
 use Rattle.std.proofs.Common.{◌≡◌, ◌≢◌, ℕ, ℤ, zero, suc, ◌+◌, ◌<◌, ◌≤◌, Bool, true, false, not, nat_eq, nat_lt, List, [], ◌∷◌, length, Option, Some, None, Result, Ok, Err, refl, ap, sym, ◌∙◌, subst, arith, inl, inr, ◌⊎◌, if◌then◌else◌}
 use Rattle.std.specs.Prelude.{Contains, IsTrue}
 use Rattle.std.specs.FinMap.{get}
@@ -26,6 +26,7 @@ use Rattle.walter_base.specs.declared.transaction.Tx.{Tx}
 use Rattle.walter_base.specs.declared.update.Update.{Update}
 use Rattle.walter_base.specs.declared.update.Update.TheVariants.{Write as WriteOf, Add, Del}
 use Rattle.walter_base.specs.Names.{same_site}
+use Rattle.walter_base.specs.Sending.{AreInOrder}
 use Rattle.walter_base.specs.Values.{value_of, count_of, counts_of, write_set}
 use Rattle.walter_base.proofs.NameTests.{same_site-true, same_site_refl}
 use Rattle.walter_rules.specs.declared.event.Event.{Event}
@@ -47,19 +48,21 @@ use Rattle.walter_rules.specs.Slow.{Slow, Unused, Undecided, Dropped, Decided}
 use Rattle.walter_rules.specs.Standing.{Standing}
 use Rattle.walter_rules.proofs.RuleTests.{kind_of, clear_there}
 use Rattle.walter_rules.proofs.SaidTrue.{AreTrue, nothing_sent, each_sent, one_to, own_sent}
+use Rattle.walter_rules.proofs.SendsInOrder.{nothing_in_order, own_in_order, prepares_in_order}
 use Rattle.walter_rules.proofs.WrittenObjects.{local_at}
 
 module _ (catalog : Catalog) (i : SiteId) (S : Standing) where
+  -- what an event is to bring is allowed, and what is put out is in order
   abbrev pub Allows : Event → Expected → Type 0
-  Allows event x = IsAllowed catalog i S event x
+  Allows event x = IsAllowed catalog i S event x × AreInOrder x.sends
 
   -- what is of a kind, and puts out nothing
   pub quiet : (event : Event) (wrote : Option Record) (outcome : Outcome) → IsKind catalog i S event wrote outcome
       → Allows event (record { wrote = wrote; outcome = outcome; sends = [] })
-  quiet event wrote outcome kind = record {
-    kind = kind;
-    sent = nothing_sent catalog i S.knows event (after catalog i S.knows event outcome wrote);
-  }
+  quiet event wrote outcome kind = (
+    record { kind = kind; sent = nothing_sent catalog i S.knows event (after catalog i S.knows event outcome wrote) },
+    nothing_in_order,
+  )
 
   pub either : (event : Event) (test : Bool) (x y : Expected) → (test ≡ true → Allows event x) → (test ≡ false → Allows event y)
       → Allows event (if test then x else y)
@@ -162,14 +165,14 @@ module _ (catalog : Catalog) (i : SiteId) (S : Standing) where
 
     local_allowed : (client : ℕ) (s : Session) → HasOpen S client s → s.updates ≢ [] → AreClear catalog i S.knows s.snapshot s.updates → (test : Bool)
         → are_local catalog S.knows i s.updates ≡ test → Allows (Given (Call client (Ok Commit))) (if_local test catalog i S.knows s)
-    local_allowed client s has some clear true is = record {
-      kind = IsKind.commits client s has some (local_at catalog S.knows i s.updates is) clear;
-      sent = fast_true client s;
-    }
-    local_allowed client s has some clear false is = record {
-      kind = IsKind.begins client s has some clear;
-      sent = slow_true client s;
-    }
+    local_allowed client s has some clear true is = (
+      record { kind = IsKind.commits client s has some (local_at catalog S.knows i s.updates is) clear; sent = fast_true client s },
+      own_in_order catalog i S.knows (recorded catalog i (Some (Own (next_seq i S.knows) (tx_of s))) S.knows),
+    )
+    local_allowed client s has some clear false is = (
+      record { kind = IsKind.begins client s has some clear; sent = slow_true client s },
+      prepares_in_order catalog i S.knows s.updates (next_slow S.knows) (tx_of (with_slow (next_slow S.knows) s)),
+    )
 
     decided_allowed : (client : ℕ) (s : Session) → HasOpen S client s → s.updates ≢ [] → (conflict : Option Conflict)
         → first_conflict S.knows s.snapshot (objects_at catalog S.knows i s.updates) ≡ conflict

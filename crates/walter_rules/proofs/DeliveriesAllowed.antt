@@ -1,4 +1,5 @@
--- What the rule says of a packet of another site, and of its next commit, is of one of the kinds.
+-- What the rule says of a packet of another site, and of its next commit, is of one of the kinds, and what it puts out is
+-- so, and in order.
 use Rattle.std.proofs.Common.{◌≡◌, ◌≢◌, ℕ, ◌+◌, ◌-◌, ◌<◌, ◌≤◌, min, max, Bool, true, false, not, ◌&&◌, nat_eq, nat_le, nat_lt, List, [], ◌∷◌, Option, Some, None, refl, ap, sym, ◌∙◌, subst, arith, inl, inr, ◌⊎◌, if◌then◌else◌}
 use Rattle.std.specs.Prelude.{Contains, IsTrue}
 use Rattle.std.specs.List.{list_all}
@@ -18,6 +19,7 @@ use Rattle.walter_base.specs.declared.transaction.Conflict.{Conflict}
 use Rattle.walter_base.specs.declared.transaction.Conflict.TheVariants.{Modified, Locked as LockedThere, Dead}
 use Rattle.walter_base.specs.declared.transaction.Tx.{Tx}
 use Rattle.walter_base.specs.Names.{same_site}
+use Rattle.walter_base.specs.Sending.{AreInOrder}
 use Rattle.walter_base.proofs.NameTests.{same_site_refl}
 use Rattle.walter_rules.specs.declared.event.Event.{Event}
 use Rattle.walter_rules.specs.declared.event.Event.TheVariants.{Given}
@@ -39,6 +41,7 @@ use Rattle.walter_rules.specs.Standing.{Standing}
 use Rattle.walter_rules.proofs.Membership.{range_from}
 use Rattle.walter_rules.proofs.RuleTests.{has_site_true, peer_true, covers_true, accepted, all_said, first_alive, lockable}
 use Rattle.walter_rules.proofs.SaidTrue.{AreTrue, nothing_sent, one_sent, each_sent, one_to, both_to, where_to, propagates_to, risen_to, own_sent}
+use Rattle.walter_rules.proofs.SendsInOrder.{nothing_in_order, one_in_order, own_in_order, acknowledged_in_order, releases_in_order}
 use Rattle.walter_rules.proofs.CallsAllowed.{Allows, quiet}
 
 -- a mark that is kept as its own floor stays
@@ -52,23 +55,23 @@ due_commit counts (Some tx) is = (tx, refl, is)
 
 module _ (catalog : Catalog) (i : SiteId) (S : Standing) where
   -- nothing changes, and what is put out is so
-  pub passing : (event : Event) (sends : List Send) → AreTrue catalog i S.knows event S.knows sends → Allows catalog i S event (passes sends)
-  passing event sends so = record { kind = IsKind.passes event; sent = so }
+  pub passing : (event : Event) (sends : List Send) → AreTrue catalog i S.knows event S.knows sends → AreInOrder sends → Allows catalog i S event (passes sends)
+  passing event sends so order = (record { kind = IsKind.passes event; sent = so }, order)
 
   pub passing_quietly : (event : Event) → Allows catalog i S event (passes [])
-  passing_quietly event = passing event [] (nothing_sent catalog i S.knows event S.knows)
+  passing_quietly event = passing event [] (nothing_sent catalog i S.knows event S.knows) nothing_in_order
 
   -- one packet goes back
   answering : (event : Event) (j : SiteId) (packet : Packet) → IsTrueOf catalog i S.knows event S.knows j packet → Allows catalog i S event (passes (back j packet))
-  answering event j packet so = passing event (back j packet) (one_sent catalog i S.knows event S.knows j packet so)
+  answering event j packet so = passing event (back j packet) (one_sent catalog i S.knows event S.knows j packet so) (one_in_order (j, packet))
 
   -- with a record, or without one
   recording : (event : Event) (wrote : Option Record) (j : SiteId) (packet : Packet) → IsKind catalog i S event wrote Taken
       → IsTrueOf catalog i S.knows event (after catalog i S.knows event Taken wrote) j packet → Allows catalog i S event (takes wrote (back j packet))
-  recording event wrote j packet kind so = record {
-    kind = kind;
-    sent = one_sent catalog i S.knows event (after catalog i S.knows event Taken wrote) j packet so;
-  }
+  recording event wrote j packet kind so = (
+    record { kind = kind; sent = one_sent catalog i S.knows event (after catalog i S.knows event Taken wrote) j packet so },
+    one_in_order (j, packet),
+  )
 
   module _ (j : SiteId) (number : ℕ) (peer : IsFromPeer catalog i S j) where
     received : (seq : ℕ) (tx : Tx) (test : Bool) → accepts catalog S.knows j seq tx ≡ test
@@ -80,9 +83,8 @@ module _ (catalog : Catalog) (i : SiteId) (S : Standing) where
         (rw (same_site_refl j) (omega (arith, number_is)))
     received seq tx false is =
         let event : Event = Given (Deliver j number (Propagate seq tx)) in
-        passing event _ (cond_both (nat_le seq (S.knows.got j)) (back j (Ack (S.knows.got j))) [] (AreTrue catalog i S.knows event S.knows)
-        (λ old. one_sent catalog i S.knows event S.knows j (Ack (S.knows.got j)) (omega arith))
-        (λ early. nothing_sent catalog i S.knows event S.knows))
+        cond_both (nat_le seq (S.knows.got j)) (back j (Ack (S.knows.got j))) [] (λ sends. Allows catalog i S event (passes sends))
+        (λ old. answering event j (Ack (S.knows.got j)) (omega arith)) (λ early. passing_quietly event)
 
     -- an ACK that is news
     module _ (got : ℕ) where
@@ -110,15 +112,18 @@ module _ (catalog : Catalog) (i : SiteId) (S : Standing) where
 
       acked_by : (rose : Bool) → nat_lt (durable_mark catalog i S.knows) (durable_mark catalog i K) ≡ rose → got ≤ S.knows.committed i
           → Allows catalog i S acked (takes (if_marks rose (durable_mark catalog i K) (visible_mark catalog i K)) (to_each (peers catalog i) (acknowledged_to catalog i S.knows K j)))
-      acked_by true rose few = record {
-        kind = IsKind.marks_durable j number got K peer few refl (ltb-true (durable_mark catalog i S.knows) (durable_mark catalog i K) rose);
-        sent = window_sent (after catalog i S.knows acked Taken (Some (Marks (durable_mark catalog i K) (visible_mark catalog i K)))) refl (λ less.
-            mark_stays K.durable_floor _);
-      }
-      acked_by false level few = record {
-        kind = IsKind.hears_ack j number got peer few;
-        sent = window_sent (after catalog i S.knows acked Taken None) refl (λ less. refl);
-      }
+      acked_by true rose few = (
+        record {
+          kind = IsKind.marks_durable j number got K peer few refl (ltb-true (durable_mark catalog i S.knows) (durable_mark catalog i K) rose);
+          sent = window_sent (after catalog i S.knows acked Taken (Some (Marks (durable_mark catalog i K) (visible_mark catalog i K)))) refl (λ less.
+              mark_stays K.durable_floor _);
+        },
+        acknowledged_in_order catalog i S.knows K j,
+      )
+      acked_by false level few = (
+        record { kind = IsKind.hears_ack j number got peer few; sent = window_sent (after catalog i S.knows acked Taken None) refl (λ less. refl) },
+        acknowledged_in_order catalog i S.knows K j,
+      )
 
       acknowledged_by : (test : Bool) → is_news i S.knows (S.knows.acknowledged j) got ≡ test → Allows catalog i S acked (if_acknowledged test catalog i S.knows j got)
       acknowledged_by true is =
@@ -185,11 +190,14 @@ module _ (catalog : Catalog) (i : SiteId) (S : Standing) where
       said_yes = Given (Deliver j number (Vote n Yes))
 
       all_by : (test : Bool) → list_all (λ k. has_site k (j ∷ S.knows.said_yes n)) asked ≡ test → Allows catalog i S said_yes (commits_if_all catalog i S.knows tx test)
-      all_by true all = record {
-        kind = IsKind.decides j number n tx asked peer undecided is_asked (all_said asked (j ∷ S.knows.said_yes n) all);
-        sent = own_sent catalog i S.knows said_yes (after catalog i S.knows said_yes Taken (Some (Own (next_seq i S.knows) tx)))
-            S.knows (recorded catalog i (Some (Own (next_seq i S.knows) tx)) S.knows) refl (rw (same_site_refl i) (omega arith)) refl;
-      }
+      all_by true all = (
+        record {
+          kind = IsKind.decides j number n tx asked peer undecided is_asked (all_said asked (j ∷ S.knows.said_yes n) all);
+          sent = own_sent catalog i S.knows said_yes (after catalog i S.knows said_yes Taken (Some (Own (next_seq i S.knows) tx)))
+              S.knows (recorded catalog i (Some (Own (next_seq i S.knows) tx)) S.knows) refl (rw (same_site_refl i) (omega arith)) refl;
+        },
+        own_in_order catalog i S.knows (recorded catalog i (Some (Own (next_seq i S.knows) tx)) S.knows),
+      )
       all_by false some = quiet catalog i S said_yes None Taken (IsKind.hears_yes j number n tx asked peer undecided is_asked)
 
       missing_by : (test : Bool) → Allows catalog i S said_yes (if_missing test catalog i S.knows j n tx asked)
@@ -200,12 +208,15 @@ module _ (catalog : Catalog) (i : SiteId) (S : Standing) where
       ended conflict alive =
           let event : Event = Given (Deliver j number (Vote n (No conflict))) in
           let K : Knowledge = after catalog i S.knows event Taken (Some (SlowEnd n)) in
-          record {
-            kind = IsKind.gives_up j number n tx asked conflict peer undecided is_asked alive;
-            sent = each_sent catalog i S.knows event K (peers catalog i) (releases_to n asked) (λ k within.
-                where_to catalog i S.knows event K k (has_site k asked) (Release n ∷ []) (λ has.
-                one_to catalog i S.knows event K k (Release n) (tx, asked, rw (eq-eqb n n refl, undecided) refl)));
-          }
+          (
+            record {
+              kind = IsKind.gives_up j number n tx asked conflict peer undecided is_asked alive;
+              sent = each_sent catalog i S.knows event K (peers catalog i) (releases_to n asked) (λ k within.
+                  where_to catalog i S.knows event K k (has_site k asked) (Release n ∷ []) (λ has.
+                  one_to catalog i S.knows event K k (Release n) (tx, asked, rw (eq-eqb n n refl, undecided) refl)));
+            },
+            releases_in_order catalog i n asked,
+          )
 
       votes_allowed : (answer : Answer) → Allows catalog i S (Given (Deliver j number (Vote n answer))) (votes catalog i S.knows j n tx asked answer)
       votes_allowed Yes = missing_by (not (has_site j (S.knows.said_yes n)))
