@@ -5,9 +5,11 @@
 mod entry;
 mod event;
 mod held;
+mod laws;
 mod outcome;
 
 pub use entry::{Came, Entry};
 pub use event::{Event, Input};
 pub use held::{Held, WINDOW};
+pub use laws::rules_are_allowed;
 pub use outcome::Outcome;

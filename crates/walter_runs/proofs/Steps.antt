@@ -13,17 +13,14 @@ use Rattle.walter_rules.specs.declared.event.Event.{Event}
 use Rattle.walter_rules.specs.declared.event.Event.TheVariants.{Restart}
 use Rattle.walter_rules.specs.declared.outcome.Outcome.{Outcome}
 use Rattle.walter_rules.specs.declared.outcome.Outcome.TheVariants.{Failed}
-use Rattle.walter_rules.specs.Allowed.{IsKind, IsTrueOf, IsAllowed}
+use Rattle.walter_rules.specs.Allowed.{IsKind, IsTrueOf}
 use Rattle.walter_rules.specs.Calls.{Expected}
 use Rattle.walter_rules.specs.Learning.{after}
 use Rattle.walter_rules.specs.Rule.{rule}
 use Rattle.walter_rules.specs.Sending.{Send}
 use Rattle.walter_rules.specs.Standing.{Standing}
+use Rattle.walter_rules.proofs.RulesAllowed.{rule_allowed}
 use Rattle.walter_rules.specs.Trails.{IsPutOut, all_out, put_out, drops, Comes, ruled, met_fault, unread, no_memory, full, IsOnly, TakesMemory, failure, fullness, want}
-
--- however a site stands, the rules are of the kinds
-abbrev pub AllowsAll : Type 0
-AllowsAll = (catalog : Catalog) (i : SiteId) (S : Standing) (event : Event) → IsAllowed catalog i S event (rule catalog i S event)
 
 -- what came of an event at a site that stands so, behind what was kept
 pub data IsStep (catalog : Catalog) (i : SiteId) (S : Standing) (event : Event) (came : Came) : Type 0 where
@@ -50,9 +47,9 @@ planned carried all sends dropped s (put_out counts one rest more lost is) c = e
 planned carried all sends dropped s (drops counts one rest more lost low is) c = Contains-append_right (one ∷ []) rest s (planned counts rest more lost s is c)
 
 -- each of what an event may come to is such a step
-pub step_of : AllowsAll → (catalog : Catalog) (capacity : ℕ) (i : SiteId) (S : Standing) (event : Event) (came : Came) → Comes catalog capacity i S event came → IsStep catalog i S event came
-step_of allows catalog capacity i S event came (ruled fits is) =
-    let all = allows catalog i S event in
+pub step_of : (catalog : Catalog) (capacity : ℕ) (i : SiteId) (S : Standing) (event : Event) (came : Came) → Comes catalog capacity i S event came → IsStep catalog i S event came
+step_of catalog capacity i S event came (ruled fits is) =
+    let all = (rule_allowed catalog i S event).0 in
     stable
     (subst (λ (w : Option Record). IsKind catalog i S event w came.outcome) (sym is.wrote) (subst (λ (o : Outcome). IsKind catalog i S event (rule catalog i S event).wrote o) (sym is.outcome) all.kind))
     is.flight
@@ -60,11 +57,11 @@ step_of allows catalog capacity i S event came (ruled fits is) =
         subst (λ (w : Option Record). IsTrueOf catalog i S.knows event (after catalog i S.knows event came.outcome w) to packet) (sym is.wrote)
         (subst (λ (o : Outcome). IsTrueOf catalog i S.knows event (after catalog i S.knows event o (rule catalog i S event).wrote) to packet) (sym is.outcome)
         (all.sent to packet (planned S.carried (rule catalog i S event).sends came.sends came.dropped (to, packet) is.sends c))))
-step_of allows catalog capacity i S event came (met_fault rec is fits only) =
-    let kind = (allows catalog i S event).kind in
+step_of catalog capacity i S event came (met_fault rec is fits only) =
+    let kind = (rule_allowed catalog i S event).0.kind in
     flies rec (rule catalog i S event).outcome (subst (λ (w : Option Record). IsKind catalog i S event w (rule catalog i S event).outcome) is kind) only
-step_of allows catalog capacity i S event came (unread restart down only) = unread_step restart down only
-step_of allows catalog capacity i S event came (no_memory takes only) = wants takes only
-step_of allows catalog capacity i S event came (full rec is low only) =
-    let kind = (allows catalog i S event).kind in
+step_of catalog capacity i S event came (unread restart down only) = unread_step restart down only
+step_of catalog capacity i S event came (no_memory takes only) = wants takes only
+step_of catalog capacity i S event came (full rec is low only) =
+    let kind = (rule_allowed catalog i S event).0.kind in
     finds_full rec (rule catalog i S event).outcome _ _ (subst (λ (w : Option Record). IsKind catalog i S event w (rule catalog i S event).outcome) is kind) only

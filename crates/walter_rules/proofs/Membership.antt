@@ -1,0 +1,111 @@
+-- What stands in a list that was filtered, mapped or counted, and what a test of all or of some of a list tells.
+use Rattle.std.proofs.Common.{◌≡◌, ℕ, zero, suc, ◌+◌, ◌<◌, ◌≤◌, Bool, true, false, List, [], ◌∷◌, map, refl, ap, sym, ◌∙◌, subst, arith, slice_get, Option, Some, None, inl, inr, ◌⊎◌}
+use Rattle.std.specs.Prelude.{Contains, filter, filter_map}
+use Rattle.std.specs.List.{cons_option, list_any, list_all, range_with_len}
+use Rattle.std.proofs.lemmas.Bool.{cases_Bool, cases_eq, and_parts}
+use Rattle.std.proofs.lemmas.List.Elements.{All-contains, All-contains_itself, All-filter, filter_passes, Contains-append_right, Contains-append_cases}
+use Rattle.std.proofs.lemmas.Option.{same_Some}
+use Rattle.walter_base.proofs.Counted.{All-Contains_filter}
+use Rattle.walter_psi.proofs.Lists.{Contains-nil, Contains-one, contains_at}
+
+module _ {X : Type 0} where
+  pub first_in : (x : X) (xs : List X) → Contains (x ∷ xs) x
+  first_in x xs = (0, omega arith, refl)
+
+  pub later_in : (x : X) (xs : List X) (y : X) → Contains xs y → Contains (x ∷ xs) y
+  later_in x xs y within = Contains-append_right (x ∷ []) xs y within
+
+  pub in_cases : (x : X) (xs : List X) (y : X) → Contains (x ∷ xs) y → (x ≡ y) ⊎ Contains xs y
+  in_cases x xs y within = elim (Contains-append_cases (x ∷ []) xs y within) [
+    | inl here ↦ inl (Contains-one x y here)
+    | inr there ↦ inr there
+  ]
+
+  -- where all pass, each does
+  pub each_passes : (p : X → Bool) (xs : List X) (x : X) → list_all p xs ≡ true → Contains xs x → p x ≡ true
+  each_passes p [] x all within = absurd (Contains-nil x within)
+  each_passes p (y ∷ ys) x all within =
+      let parts = and_parts (p y) (list_all p ys) all in
+      elim (in_cases y ys x within) [
+        | inl here ↦ subst (λ z. p z ≡ true) here parts.0
+        | inr there ↦ each_passes p ys x parts.1 there
+      ]
+
+  -- where some pass, there is one that does
+  pub one_passes : (p : X → Bool) (xs : List X) → list_any p xs ≡ true → (x : X) × Contains xs x × (p x ≡ true)
+  one_passes p [] some = absurd cc
+  one_passes p (y ∷ ys) some = elim (cases_Bool (p y)) [
+    | inl is ↦ (y, first_in y ys, is)
+    | inr is ↦ let rest = one_passes p ys (rw is at some) in (rest.0, later_in y ys rest.0 rest.1, rest.2)
+  ]
+
+  -- what a filter kept was there, and passes
+  pub kept_from : (p : X → Bool) (xs : List X) (x : X) → Contains (filter p xs) x → Contains xs x × (p x ≡ true)
+  kept_from p xs x within = (
+    All-contains (Contains xs) (filter p xs) x (All-filter p (Contains xs) xs (All-contains_itself xs)) within,
+    All-contains (λ y. p y ≡ true) (filter p xs) x (filter_passes p xs) within,
+  )
+
+  -- what passes is kept
+  pub is_kept : (p : X → Bool) (xs : List X) (x : X) → Contains xs x → p x ≡ true → Contains (filter p xs) x
+  is_kept p xs x within passes = All-contains (λ y. p y ≡ true → Contains (filter p xs) y) xs x (All-Contains_filter p xs) within passes
+
+-- what stands behind a value that may be none is that value, or stands there already
+behind_option : {Y : Type 0} (o : Option Y) (ys : List Y) (y : Y) → Contains (cons_option o ys) y → (o ≡ Some y) ⊎ Contains ys y
+behind_option None ys y within = inr within
+behind_option {Y} (Some w) ys y within = elim (in_cases w ys y within) [
+  | inl here ↦ inl (ap (λ (z : Y). Some z) here)
+  | inr there ↦ inr there
+]
+
+-- a list that begins with nothing has no first value, and no other
+no_option : {Y : Type 0} (o : Option Y) (ys : List Y) → slice_get (cons_option o ys) 0 ≡ None → (o ≡ None) × (slice_get ys 0 ≡ None)
+no_option None ys none = (refl, none)
+no_option (Some w) ys none = absurd cc
+
+module _ {X Y : Type 0} where
+  -- what a map made is made of an element
+  pub made_from : (f : X → Y) (xs : List X) (y : Y) → Contains (map f xs) y → (x : X) × Contains xs x × (f x ≡ y)
+  made_from f [] y within = absurd (Contains-nil y within)
+  made_from f (x ∷ xs) y within = elim (in_cases (f x) (map f xs) y within) [
+    | inl here ↦ (x, first_in x xs, here)
+    | inr there ↦ let rest = made_from f xs y there in (rest.0, later_in x xs rest.0 rest.1, rest.2)
+  ]
+
+  -- what a map with gaps gave it gave at an element
+  pub given_from : (h : X → Option Y) (xs : List X) (y : Y) → Contains (filter_map h xs) y → (x : X) × Contains xs x × (h x ≡ Some y)
+  given_from h [] y within = absurd (Contains-nil y within)
+  given_from h (x ∷ xs) y within = elim (behind_option (h x) (filter_map h xs) y within) [
+    | inl here ↦ (x, first_in x xs, here)
+    | inr there ↦ let rest = given_from h xs y there in (rest.0, later_in x xs rest.0 rest.1, rest.2)
+  ]
+
+  -- the first that it gave is given at an element
+  pub first_given : (h : X → Option Y) (xs : List X) (y : Y) → slice_get (filter_map h xs) 0 ≡ Some y → (x : X) × Contains xs x × (h x ≡ Some y)
+  first_given h xs y first = given_from h xs y (contains_at (filter_map h xs) y 0 first)
+
+  -- where it gave nothing, it gave nothing at each element
+  pub none_given : (h : X → Option Y) (xs : List X) (x : X) → slice_get (filter_map h xs) 0 ≡ None → Contains xs x → h x ≡ None
+  none_given h [] x none within = absurd (Contains-nil x within)
+  none_given h (y ∷ ys) x none within =
+      let parts = no_option (h y) (filter_map h ys) none in
+      elim (in_cases y ys x within) [
+        | inl here ↦ subst (λ z. h z ≡ None) here parts.0
+        | inr there ↦ none_given h ys x parts.1 there
+      ]
+
+-- the numbers of a range are from its first one on
+pub range_from : (a n k : ℕ) → Contains (range_with_len a n) k → a ≤ k
+range_from a zero k within = absurd (Contains-nil k within)
+range_from a (suc n) k within = elim (in_cases a (range_with_len (a + 1) n) k within) [
+  | inl here ↦ omega arith
+  | inr there ↦ let least = range_from (a + 1) n k there in omega arith
+]
+
+-- and each of them is in it
+pub in_range : (a n k : ℕ) → a ≤ k → k < a + n → Contains (range_with_len a n) k
+in_range a zero k low high = absurd (omega arith)
+in_range a (suc n) k low high = elim (cases_eq a k) [
+  | inl here ↦ subst (λ z. Contains (a ∷ range_with_len (a + 1) n) z) here (first_in a (range_with_len (a + 1) n))
+  | inr apart ↦ later_in a (range_with_len (a + 1) n) k (in_range (a + 1) n k (omega arith) (omega arith))
+]

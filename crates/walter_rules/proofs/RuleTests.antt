@@ -1,0 +1,115 @@
+-- What the tests of the rules tell where they are true.
+use Rattle.std.proofs.Common.{◌≡◌, ◌≢◌, ℕ, ◌+◌, ◌<◌, ◌≤◌, Bool, true, false, not, ◌&&◌, nat_lt, nat_le, nat_eq, List, [], ◌∷◌, map, length, slice_index, slice_get, Option, Some, None, option_map, refl, ap, sym, ◌∙◌, subst, arith, inl, inr, ◌⊎◌}
+use Rattle.std.specs.Prelude.{Contains}
+use Rattle.std.specs.FinMap.{get}
+use Rattle.std.specs.List.{list_all, range_with_len}
+use Rattle.std.specs.Option.{option_map_or}
+use Rattle.std.proofs.lemmas.Bool.{cases_Bool, cases_lt, and_parts, ltb-true, leb-true, eqb-true, not-true, both_ways}
+use Rattle.std.proofs.lemmas.List.{get_or_past}
+use Rattle.walter_base.specs.declared.catalog.Catalog.{Catalog}
+use Rattle.walter_base.specs.declared.containers.Container.{Container}
+use Rattle.walter_base.specs.declared.names.Kind.{Kind}
+use Rattle.walter_base.specs.declared.names.Kind.TheVariants.{Regular, Cset}
+use Rattle.walter_base.specs.declared.names.ObjId.{ObjId}
+use Rattle.walter_base.specs.declared.names.SiteId.{SiteId}
+use Rattle.walter_base.specs.declared.names.Tid.{Tid}
+use Rattle.walter_base.specs.declared.names.Version.{Version}
+use Rattle.walter_base.specs.declared.transaction.Conflict.{Conflict}
+use Rattle.walter_base.specs.declared.transaction.Conflict.TheVariants.{Dead}
+use Rattle.walter_base.specs.declared.transaction.Tx.{Tx}
+use Rattle.walter_base.specs.declared.update.Update.{Update}
+use Rattle.walter_base.specs.Conflicts.{first_outside, conflict_over}
+use Rattle.walter_base.specs.Names.{same_site}
+use Rattle.walter_base.specs.Values.{write_set}
+use Rattle.walter_base.specs.Vectors.{entry_at}
+use Rattle.walter_base.proofs.NameTests.{same_site-true, same_site_refl}
+use Rattle.walter_rules.specs.Allowed.{AreClear, AreLocal, Covers, HaveSaidYes, IsNextCommit, AreLockable}
+use Rattle.walter_rules.specs.Conflicts.{conflict_at, first_conflict}
+use Rattle.walter_rules.specs.Declarations.{is_of_kind, same_kind, are_declared, are_lockable}
+use Rattle.walter_rules.specs.Deliveries.{is_peer, covers, accepts}
+use Rattle.walter_rules.specs.Knowledge.{Knowledge, preferred, site_at}
+use Rattle.walter_rules.specs.Log.{row, version_of}
+use Rattle.walter_rules.specs.Objects.{objects_at}
+use Rattle.walter_rules.specs.Slow.{has_site}
+use Rattle.walter_rules.proofs.Membership.{each_passes, one_passes, first_given, none_given, in_range}
+use Rattle.walter_rules.proofs.WrittenObjects.{in_objects_at}
+
+-- a site of a list
+pub has_site_true : (site : SiteId) (sites : List SiteId) → has_site site sites ≡ true → Contains sites site
+has_site_true site sites has =
+    let one = one_passes (same_site site) sites has in
+    subst (Contains sites) (sym (same_site-true site one.0 one.2)) one.1
+
+-- two sites whose test is false differ
+pub other_site : (a b : SiteId) → same_site a b ≡ false → a ≢ b
+other_site a b apart same = both_ways (same_site a b) apart (subst (λ z. same_site a z ≡ true) same (same_site_refl a))
+
+-- another site of the catalog
+pub peer_true : (catalog : Catalog) (i j : SiteId) → is_peer catalog i j ≡ true → (j.0 < catalog.sites) × (j ≢ i)
+peer_true catalog i j is =
+    let parts = and_parts (nat_lt j.0 catalog.sites) (not (same_site j i)) is in
+    (ltb-true j.0 catalog.sites parts.0, other_site j i (not-true (same_site j i) parts.1))
+
+-- of each site so many are counted as the snapshot sees; it sees nothing past its end
+pub covers_true : (counts : SiteId → ℕ) (snapshot : List ℕ) → covers counts snapshot ≡ true → Covers counts snapshot
+covers_true counts snapshot all k = elim (cases_lt k.0 (length snapshot)) [
+  | inl within ↦ leb-true (slice_index snapshot k.0) (counts (site_at k.0))
+      (each_passes (λ n. nat_le (slice_index snapshot n) (counts (site_at n))) (range_with_len 0 (length snapshot)) k.0 all
+      (in_range 0 (length snapshot) k.0 (omega arith) (omega arith)))
+  | inr past ↦ let none : slice_index snapshot k.0 ≡ 0 = get_or_past snapshot k.0 0 past in omega (arith, none)
+]
+
+-- a commit that is accepted is the next of its site
+pub accepted : (catalog : Catalog) (K : Knowledge) (j : SiteId) (seq : ℕ) (tx : Tx) → accepts catalog K j seq tx ≡ true → IsNextCommit catalog K j seq tx
+accepted catalog K j seq tx is =
+    let parts = and_parts (nat_eq seq (K.got j + 1)) (covers K.got tx.start && are_declared catalog tx.updates) is in
+    let rest = and_parts (covers K.got tx.start) (are_declared catalog tx.updates) parts.1 in
+    record { next = eqb-true seq (K.got j + 1) parts.0; covered = covers_true K.got tx.start rest.0; declared = rest.1 }
+
+-- each site that was asked has said YES
+pub all_said : (asked said : List SiteId) → list_all (λ k. has_site k said) asked ≡ true → HaveSaidYes asked said
+all_said asked said all k within = has_site_true k said (each_passes (λ s. has_site s said) asked k all within)
+
+-- the kind of an object is that of its container
+pub kind_of : (catalog : Catalog) (kind : Kind) (oid : ObjId) (container : Container) → get catalog.containers oid.container ≡ Some container
+    → same_kind container.kind kind ≡ true → is_of_kind catalog kind oid ≡ true
+kind_of catalog kind oid container is same = ap (λ o. option_map_or (λ (c : Container). same_kind c.kind kind) o false) is ∙ same
+
+module _ (K : Knowledge) (snapshot : List ℕ) where
+  -- where there is no first conflict, no object of the list meets one
+  pub none_meets : (objects : List ObjId) → first_conflict K snapshot objects ≡ None → (oid : ObjId) → Contains objects oid → conflict_at K snapshot oid ≡ None
+  none_meets objects none oid within = none_given (conflict_at K snapshot) objects oid none within
+
+  -- the first conflict is that of some object of the list
+  pub one_meets : (objects : List ObjId) (conflict : Conflict) → first_conflict K snapshot objects ≡ Some conflict
+      → (oid : ObjId) × Contains objects oid × (conflict_at K snapshot oid ≡ Some conflict)
+  one_meets objects conflict first = first_given (conflict_at K snapshot) objects conflict first
+
+  -- so no object of a write set that is preferred at the site meets one
+  pub clear_there : (catalog : Catalog) (i : SiteId) (updates : List Update) → first_conflict K snapshot (objects_at catalog K i updates) ≡ None
+      → AreClear catalog i K snapshot updates
+  clear_there catalog i updates none oid within here = none_meets (objects_at catalog K i updates) none oid (in_objects_at catalog K i updates oid within here)
+
+-- what is met on an object is a version or a lock
+alive_over : (oid : ObjId) (version : Option Version) (owner : Option Tid) (conflict : Conflict) → conflict_over oid version owner ≡ Some conflict → conflict ≢ Dead
+alive_over oid (Some version) owner conflict met dead = absurd cc
+alive_over oid None (Some tid) conflict met dead = absurd cc
+alive_over oid None None conflict met dead = absurd cc
+
+-- a first conflict doesn't say that a commit is over
+pub first_alive : (K : Knowledge) (snapshot : List ℕ) (objects : List ObjId) (conflict : Conflict) → first_conflict K snapshot objects ≡ Some conflict
+    → conflict ≢ Dead
+first_alive K snapshot objects conflict first =
+    let one = one_meets K snapshot objects conflict first in
+    alive_over one.0 (first_outside snapshot (map version_of (row one.0 K.log))) (K.owner one.0) conflict one.2
+
+-- the objects of a PREPARE that may be locked, where none meets a conflict
+pub lockable : (catalog : Catalog) (i : SiteId) (K : Knowledge) (start : List ℕ) (objects : List ObjId) → are_lockable catalog K i objects ≡ true
+    → first_conflict K start objects ≡ None → AreLockable catalog i K start objects
+lockable catalog i K start objects regular none = record {
+  here = λ oid within.
+      let passes = each_passes (λ o. is_of_kind catalog Regular o && same_site (preferred catalog K o) i) objects oid regular within in
+      same_site-true (preferred catalog K oid) i (and_parts (is_of_kind catalog Regular oid) (same_site (preferred catalog K oid) i) passes).1;
+  regular = regular;
+  clear = none_meets K start objects none;
+}
