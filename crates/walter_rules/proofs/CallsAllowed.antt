@@ -1,6 +1,5 @@
 -- What the rule says of a client's call is of one of the kinds, and what it puts out is so, and in order.
-use Rattle.std.proofs.Common.{◌≡◌, ◌≢◌, ℕ, ℤ, zero, suc, ◌+◌, ◌<◌, ◌≤◌, Bool, true, false, not, nat_eq, nat_lt, List, [], ◌∷◌, length, Option, Some, None, Result, Ok, Err, refl, ap, sym, ◌∙◌, subst, arith, inl, inr, ◌⊎◌, if◌then◌else◌}
-use Rattle.std.specs.Prelude.{Contains, IsTrue}
+use Rattle.std.proofs.Common.{◌≡◌, ◌≢◌, ℕ, zero, suc, Bool, true, false, not, nat_lt, List, [], ◌∷◌, length, Option, Some, None, Result, Ok, Err, refl, ap, sym, ◌∙◌, arith, if◌then◌else◌}
 use Rattle.std.specs.FinMap.{get}
 use Rattle.std.proofs.lemmas.Bool.{cond_both, not-false, eq-eqb}
 use Rattle.walter_base.specs.declared.catalog.Catalog.{Catalog}
@@ -27,7 +26,7 @@ use Rattle.walter_base.specs.declared.update.Update.{Update}
 use Rattle.walter_base.specs.declared.update.Update.TheVariants.{Write as WriteOf, Add, Del}
 use Rattle.walter_base.specs.Names.{same_site}
 use Rattle.walter_base.specs.Sending.{AreInOrder}
-use Rattle.walter_base.specs.Values.{value_of, count_of, counts_of, write_set}
+use Rattle.walter_base.specs.Values.{value_of, count_of, counts_of}
 use Rattle.walter_base.proofs.NameTests.{same_site-true, same_site_refl}
 use Rattle.walter_rules.specs.declared.event.Event.{Event}
 use Rattle.walter_rules.specs.declared.event.Event.TheVariants.{Given}
@@ -35,14 +34,13 @@ use Rattle.walter_rules.specs.declared.event.Input.TheVariants.{Call}
 use Rattle.walter_rules.specs.declared.outcome.Outcome.{Outcome}
 use Rattle.walter_rules.specs.declared.outcome.Outcome.TheVariants.{Replied}
 use Rattle.walter_rules.specs.Allowed.{IsKind, IsAllowed, HasOpen, HasBegun, IsUpdateCall, IsReadCall, AreClear}
-use Rattle.walter_rules.specs.Calls.{Expected, answers, refuses, read_updates, next_tid, next_seq, next_slow, own_version, starts_new, commits_fast, begins_slow, if_local, decides, commits_open, seq_of, tells_version, tells_cause, tells_decision, commits_by, if_whole, if_regular, if_counted, if_cset, has_place, updates_with, writes, shows, is_undecided, is_open, level_of_own, level_of_other, level_by, level_of, is_issued, tells_level, if_open, open_in, starts_for, commits_for, with_open, call_rule, if_told, down_rule}
+use Rattle.walter_rules.specs.Calls.{Expected, answers, refuses, read_updates, next_tid, next_seq, next_slow, own_version, commits_fast, begins_slow, if_local, decides, commits_open, seq_of, tells_version, tells_cause, tells_decision, commits_by, if_whole, if_regular, if_counted, if_cset, has_place, updates_with, writes, shows, is_undecided, is_open, level_of_own, level_by, level_of, is_issued, if_open, open_in, starts_for, commits_for, with_open, call_rule, if_told, down_rule}
 use Rattle.walter_rules.specs.Conflicts.{first_conflict, cause_of}
 use Rattle.walter_rules.specs.Declarations.{is_of_kind, is_declared}
 use Rattle.walter_rules.specs.Knowledge.{Knowledge, session_of}
 use Rattle.walter_rules.specs.Learning.{recorded, after}
-use Rattle.walter_rules.specs.Marks.{durable_mark}
 use Rattle.walter_rules.specs.Objects.{objects_at, are_local, participants}
-use Rattle.walter_rules.specs.Sending.{to_each, own_sends, prepare_of}
+use Rattle.walter_rules.specs.Sending.{prepare_of}
 use Rattle.walter_rules.specs.Sessions.{Session, with_slow, tx_of}
 use Rattle.walter_rules.specs.Slow.{Slow, Unused, Undecided, Dropped, Decided}
 use Rattle.walter_rules.specs.Standing.{Standing}

@@ -1,10 +1,10 @@
 -- What the rule says of a packet of another site, and of its next commit, is of one of the kinds, and what it puts out is
 -- so, and in order.
-use Rattle.std.proofs.Common.{◌≡◌, ◌≢◌, ℕ, ◌+◌, ◌-◌, ◌<◌, ◌≤◌, min, max, Bool, true, false, not, ◌&&◌, nat_eq, nat_le, nat_lt, List, [], ◌∷◌, Option, Some, None, refl, ap, sym, ◌∙◌, subst, arith, inl, inr, ◌⊎◌, if◌then◌else◌}
-use Rattle.std.specs.Prelude.{Contains, IsTrue}
+use Rattle.std.proofs.Common.{◌≡◌, ◌≢◌, ℕ, ◌+◌, ◌-◌, ◌<◌, ◌≤◌, min, max, Bool, true, false, not, ◌&&◌, nat_le, nat_lt, List, [], ◌∷◌, Option, Some, None, refl, sym, ◌∙◌, arith}
+use Rattle.std.specs.Prelude.{Contains}
 use Rattle.std.specs.List.{list_all}
 use Rattle.std.specs.Option.{option_map_or}
-use Rattle.std.proofs.lemmas.Bool.{cond_both, and_parts, ltb-true, ltb-false, leb-true, eq-eqb}
+use Rattle.std.proofs.lemmas.Bool.{cond_both, and_parts, ltb-true, leb-true, eq-eqb}
 use Rattle.walter_base.specs.declared.catalog.Catalog.{Catalog}
 use Rattle.walter_base.specs.declared.message.Record.{Record}
 use Rattle.walter_base.specs.declared.message.Record.TheVariants.{Own, Got, Seen, Prepared, Released, SlowEnd, Marks}
@@ -24,18 +24,17 @@ use Rattle.walter_base.proofs.NameTests.{same_site_refl}
 use Rattle.walter_rules.specs.declared.event.Event.{Event}
 use Rattle.walter_rules.specs.declared.event.Event.TheVariants.{Given}
 use Rattle.walter_rules.specs.declared.event.Input.TheVariants.{Deliver, Advance}
-use Rattle.walter_rules.specs.declared.outcome.Outcome.{Outcome}
-use Rattle.walter_rules.specs.declared.outcome.Outcome.TheVariants.{Taken, Passed}
-use Rattle.walter_rules.specs.Allowed.{IsKind, IsAllowed, IsFromPeer, IsDueThere, IsTrueOf, IsMet}
-use Rattle.walter_rules.specs.Calls.{Expected, next_seq}
+use Rattle.walter_rules.specs.declared.outcome.Outcome.TheVariants.{Taken}
+use Rattle.walter_rules.specs.Allowed.{IsKind, IsFromPeer, IsDueThere, IsTrueOf}
+use Rattle.walter_rules.specs.Calls.{next_seq}
 use Rattle.walter_rules.specs.Conflicts.{first_conflict}
 use Rattle.walter_rules.specs.Declarations.{are_lockable}
-use Rattle.walter_rules.specs.Deliveries.{passes, takes, back, is_peer, covers, accepts, if_accepted, if_marks, is_news, acknowledged_to, acknowledges, if_acknowledged, shows_more, if_shown, if_greater, prepares, prepares_by, if_lockable, commits_if_all, if_missing, releases_to, ends_slow, votes, if_asked, votes_by, releases, confirms, packet_rule, if_peer, deliver_rule, is_enabled, advances, advance_rule}
+use Rattle.walter_rules.specs.Deliveries.{passes, takes, back, is_peer, covers, accepts, if_accepted, if_marks, is_news, acknowledged_to, if_acknowledged, if_shown, if_greater, prepares, prepares_by, if_lockable, commits_if_all, if_missing, releases_to, ends_slow, votes, if_asked, votes_by, releases, confirms, packet_rule, if_peer, deliver_rule, is_enabled, advances, advance_rule}
 use Rattle.walter_rules.specs.Knowledge.{Knowledge, peers}
-use Rattle.walter_rules.specs.Learning.{recorded, after, heard, risen}
+use Rattle.walter_rules.specs.Learning.{recorded, after, risen}
 use Rattle.walter_rules.specs.Log.{commit_at}
 use Rattle.walter_rules.specs.Marks.{durable_mark, visible_mark}
-use Rattle.walter_rules.specs.Sending.{Send, to_each, propagates, into_window, own_sends, window}
+use Rattle.walter_rules.specs.Sending.{Send, to_each, propagates, into_window, window}
 use Rattle.walter_rules.specs.Slow.{Slow, Unused, Undecided, Dropped, Decided, Part, Free, Locked, Over, has_site}
 use Rattle.walter_rules.specs.Standing.{Standing}
 use Rattle.walter_rules.proofs.Membership.{range_from}
@@ -207,8 +206,7 @@ module _ (catalog : Catalog) (i : SiteId) (S : Standing) where
       ended : (conflict : Conflict) → conflict ≢ Dead → Allows catalog i S (Given (Deliver j number (Vote n (No conflict)))) (ends_slow catalog i n asked)
       ended conflict alive =
           let event : Event = Given (Deliver j number (Vote n (No conflict))) in
-          let K : Knowledge = after catalog i S.knows event Taken (Some (SlowEnd n)) in
-          (
+          let K : Knowledge = after catalog i S.knows event Taken (Some (SlowEnd n)) in (
             record {
               kind = IsKind.gives_up j number n tx asked conflict peer undecided is_asked alive;
               sent = each_sent catalog i S.knows event K (peers catalog i) (releases_to n asked) (λ k within.
@@ -282,13 +280,15 @@ module _ (catalog : Catalog) (i : SiteId) (S : Standing) where
         let seq : ℕ = S.knows.committed j + 1 in
         let parts = and_parts (nat_le seq (S.knows.got j)) (nat_le seq (S.knows.durable j) && option_map_or (λ tx. covers S.knows.committed tx.start) (commit_at j seq S.knows.log) false) is in
         let rest = and_parts (nat_le seq (S.knows.durable j)) (option_map_or (λ tx. covers S.knows.committed tx.start) (commit_at j seq S.knows.log) false) parts.1 in
-        let due = due_commit S.knows.committed (commit_at j seq S.knows.log) rest.1 in
-        (due.0, record {
-          received = leb-true seq (S.knows.got j) parts.0;
-          durable = leb-true seq (S.knows.durable j) rest.0;
-          held = due.1;
-          covered = covers_true S.knows.committed due.0.start due.2;
-        })
+        let due = due_commit S.knows.committed (commit_at j seq S.knows.log) rest.1 in (
+          due.0,
+          record {
+            received = leb-true seq (S.knows.got j) parts.0;
+            durable = leb-true seq (S.knows.durable j) rest.0;
+            held = due.1;
+            covered = covers_true S.knows.committed due.0.start due.2;
+          },
+        )
 
     advance_by : (j : SiteId) (test : Bool) → (is_peer catalog i j && is_enabled S.knows j) ≡ test → Allows catalog i S (Given (Advance j)) (advances S.knows j test)
     advance_by j true is =

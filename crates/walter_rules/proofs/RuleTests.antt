@@ -1,15 +1,15 @@
 -- What the tests of the rules tell where they are true.
-use Rattle.std.proofs.Common.{◌≡◌, ◌≢◌, ℕ, ◌+◌, ◌<◌, ◌≤◌, Bool, true, false, not, ◌&&◌, nat_lt, nat_le, nat_eq, List, [], ◌∷◌, map, length, slice_index, slice_get, Option, Some, None, option_map, refl, ap, sym, ◌∙◌, subst, arith, inl, inr, ◌⊎◌}
+use Rattle.std.proofs.Common.{◌≡◌, ◌≢◌, ℕ, ◌+◌, ◌<◌, true, false, not, ◌&&◌, nat_lt, nat_le, nat_eq, List, map, length, slice_index, Option, Some, None, ap, sym, ◌∙◌, subst, arith, inl, inr}
 use Rattle.std.specs.Prelude.{Contains}
 use Rattle.std.specs.FinMap.{get}
 use Rattle.std.specs.List.{list_all, range_with_len}
 use Rattle.std.specs.Option.{option_map_or}
-use Rattle.std.proofs.lemmas.Bool.{cases_Bool, cases_lt, and_parts, ltb-true, leb-true, eqb-true, not-true, both_ways}
+use Rattle.std.proofs.lemmas.Bool.{cases_lt, and_parts, ltb-true, leb-true, eqb-true, not-true, both_ways}
 use Rattle.std.proofs.lemmas.List.{get_or_past}
 use Rattle.walter_base.specs.declared.catalog.Catalog.{Catalog}
 use Rattle.walter_base.specs.declared.containers.Container.{Container}
 use Rattle.walter_base.specs.declared.names.Kind.{Kind}
-use Rattle.walter_base.specs.declared.names.Kind.TheVariants.{Regular, Cset}
+use Rattle.walter_base.specs.declared.names.Kind.TheVariants.{Regular}
 use Rattle.walter_base.specs.declared.names.ObjId.{ObjId}
 use Rattle.walter_base.specs.declared.names.SiteId.{SiteId}
 use Rattle.walter_base.specs.declared.names.Tid.{Tid}
@@ -20,10 +20,8 @@ use Rattle.walter_base.specs.declared.transaction.Tx.{Tx}
 use Rattle.walter_base.specs.declared.update.Update.{Update}
 use Rattle.walter_base.specs.Conflicts.{first_outside, conflict_over}
 use Rattle.walter_base.specs.Names.{same_site}
-use Rattle.walter_base.specs.Values.{write_set}
-use Rattle.walter_base.specs.Vectors.{entry_at}
 use Rattle.walter_base.proofs.NameTests.{same_site-true, same_site_refl}
-use Rattle.walter_rules.specs.Allowed.{AreClear, AreLocal, Covers, HaveSaidYes, IsNextCommit, AreLockable}
+use Rattle.walter_rules.specs.Allowed.{AreClear, Covers, HaveSaidYes, IsNextCommit, AreLockable}
 use Rattle.walter_rules.specs.Conflicts.{conflict_at, first_conflict}
 use Rattle.walter_rules.specs.Declarations.{is_of_kind, same_kind, are_declared, are_lockable}
 use Rattle.walter_rules.specs.Deliveries.{is_peer, covers, accepts}

@@ -1,6 +1,6 @@
 -- What the rule says of an event is of one of the kinds; each packet that is to be put out says what is so, and the packets
 -- are in order.
-use Rattle.std.proofs.Common.{◌≡◌, ◌+◌, Bool, true, false, [], None, Some, refl}
+use Rattle.std.proofs.Common.{◌≡◌, ◌+◌, Bool, true, false, None, Some, refl}
 use Rattle.walter_base.specs.declared.catalog.Catalog.{Catalog}
 use Rattle.walter_base.specs.declared.message.Record.TheVariants.{Boot}
 use Rattle.walter_base.specs.declared.names.SiteId.{SiteId}

@@ -1,13 +1,12 @@
 -- Packets that are put out say what is so.
-use Rattle.std.proofs.Common.{◌≡◌, ℕ, ◌+◌, ◌-◌, ◌<◌, ◌≤◌, min, max, Bool, true, false, not, ◌&&◌, nat_lt, nat_le, List, [], ◌∷◌, ◌++◌, map, Option, Some, None, option_map, refl, ap, sym, ◌∙◌, subst, arith, inl, inr, ◌⊎◌, if◌then◌else◌, cond}
+use Rattle.std.proofs.Common.{◌≡◌, ℕ, ◌+◌, ◌-◌, ◌<◌, min, Bool, true, not, ◌&&◌, nat_lt, nat_le, List, [], ◌∷◌, ◌++◌, map, Option, Some, None, option_map, refl, ap, sym, ◌∙◌, subst, arith, inl, inr, if◌then◌else◌}
 use Rattle.std.specs.Prelude.{Contains, flat_map}
-use Rattle.std.specs.List.{range_with_len}
 use Rattle.std.proofs.lemmas.Bool.{cond_both, ltb-true}
 use Rattle.std.proofs.lemmas.List.Elements.{Contains-append_cases}
 use Rattle.walter_base.specs.declared.catalog.Catalog.{Catalog}
 use Rattle.walter_base.specs.declared.names.SiteId.{SiteId}
 use Rattle.walter_base.specs.declared.packet.Packet.{Packet}
-use Rattle.walter_base.specs.declared.packet.Packet.TheVariants.{Propagate, Ack, Dsmark, Visible, Prepare, Release}
+use Rattle.walter_base.specs.declared.packet.Packet.TheVariants.{Propagate, Ack, Dsmark, Visible, Release}
 use Rattle.walter_base.specs.declared.transaction.Tx.{Tx}
 use Rattle.walter_psi.proofs.Lists.{Contains-nil, Contains-one, Contains-flat_map_from}
 use Rattle.walter_rules.specs.declared.event.Event.{Event}
@@ -15,7 +14,7 @@ use Rattle.walter_rules.specs.Allowed.{IsTrueOf}
 use Rattle.walter_rules.specs.Knowledge.{Knowledge, peers, from_to}
 use Rattle.walter_rules.specs.Log.{commit_at}
 use Rattle.walter_rules.specs.Marks.{durable_mark}
-use Rattle.walter_rules.specs.Sending.{Send, to_each, where_site, if_some, propagates, in_window, if_risen, own_to, own_sends, prepare_of, prepare_if_waits, release_if_owed, said_again, window}
+use Rattle.walter_rules.specs.Sending.{Send, to_each, if_some, propagates, in_window, if_risen, own_to, own_sends, prepare_of, prepare_if_waits, release_if_owed, said_again, window}
 use Rattle.walter_rules.specs.Slow.{Slow, Unused, Undecided, Dropped, Decided, has_site}
 use Rattle.walter_rules.proofs.Membership.{made_from, given_from, range_from}
 

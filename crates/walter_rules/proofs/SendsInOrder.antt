@@ -1,14 +1,14 @@
 -- Packets are put out in order: by receiver, then by kind, then by number.
-use Rattle.std.proofs.Common.{◌≡◌, ℕ, zero, suc, ◌+◌, ◌-◌, ◌<◌, ◌≤◌, min, max, Bool, true, false, not, ◌&&◌, nat_lt, nat_le, List, [], ◌∷◌, ◌++◌, map, Option, Some, None, option_map, refl, ap, sym, ◌∙◌, subst, arith, inl, inr, ◌⊎◌, if◌then◌else◌}
-use Rattle.std.specs.Prelude.{Contains, All, AllPairs, flat_map, filter_map}
+use Rattle.std.proofs.Common.{◌≡◌, ℕ, zero, suc, ◌+◌, ◌<◌, ◌≤◌, Bool, not, ◌&&◌, nat_lt, nat_le, List, [], ◌∷◌, ◌++◌, map, Option, Some, None, option_map, refl, ap, sym, ◌∙◌, subst, arith, inl, inr, if◌then◌else◌}
+use Rattle.std.specs.Prelude.{Contains, AllPairs, flat_map, filter_map}
 use Rattle.std.specs.List.{range_with_len, cons_option}
 use Rattle.std.proofs.lemmas.Bool.{cond_both}
-use Rattle.std.proofs.lemmas.List.Elements.{All-append, Contains-get_or, Contains-append_cases}
+use Rattle.std.proofs.lemmas.List.Elements.{Contains-get_or, Contains-append_cases}
 use Rattle.std.proofs.lemmas.List.Kept.{AllPairs-cons, AllPairs-filter}
 use Rattle.walter_base.specs.declared.catalog.Catalog.{Catalog}
 use Rattle.walter_base.specs.declared.names.SiteId.{SiteId}
 use Rattle.walter_base.specs.declared.packet.Packet.{Packet}
-use Rattle.walter_base.specs.declared.packet.Packet.TheVariants.{Propagate, Ack, Dsmark, Visible, Prepare, Vote, Release, Released}
+use Rattle.walter_base.specs.declared.packet.Packet.TheVariants.{Propagate, Ack, Dsmark, Visible, Release}
 use Rattle.walter_base.specs.declared.transaction.Tx.{Tx}
 use Rattle.walter_base.specs.declared.update.Update.{Update}
 use Rattle.walter_base.specs.Names.{same_site}
@@ -19,9 +19,9 @@ use Rattle.walter_rules.specs.Knowledge.{Knowledge, peers, sites, site_at, from_
 use Rattle.walter_rules.specs.Log.{commit_at}
 use Rattle.walter_rules.specs.Marks.{durable_mark}
 use Rattle.walter_rules.specs.Objects.{participants}
-use Rattle.walter_rules.specs.Sending.{Send, to_each, where_site, if_some, propagates, in_window, into_window, if_risen, own_to, own_sends, prepare_of, prepare_if_waits, release_if_owed, said_again, window}
+use Rattle.walter_rules.specs.Sending.{Send, to_each, propagates, in_window, into_window, if_risen, own_to, own_sends, prepare_of, prepare_if_waits, release_if_owed, said_again, window}
 use Rattle.walter_rules.specs.Slow.{Slow, Unused, Undecided, Dropped, Decided, has_site}
-use Rattle.walter_rules.proofs.Membership.{first_in, later_in, made_from, given_from, range_from}
+use Rattle.walter_rules.proofs.Membership.{first_in, later_in, made_from, range_from}
 
 module _ {X : Type 0} (R : X → X → Type 0) where
   pairs_none : AllPairs R []
@@ -106,11 +106,11 @@ each_in_order (k ∷ ks) packets rise order =
     (pairs_map IsSentFirst (λ (packet : Packet). (k, packet)) (packets k) (λ a b d before within. inr (refl, order k a b d before within)))
     (each_in_order ks packets (pairs_rest (λ a b. a.0 < b.0) k ks rise) order)
     (λ x y here there.
-        let mine = made_from (λ (packet : Packet). (k, packet)) (packets k) x here in
-        let from = Contains-flat_map_from sent ks y there in
-        let other = made_from (λ (packet : Packet). (from.0, packet)) (packets from.0) y from.2 in
-        let less : k.0 < from.0.0 = pairs_first (λ a b. a.0 < b.0) k ks rise from.0 from.1 in
-        subst (λ (z : Send). IsSentFirst z y) mine.2 (subst (λ (z : Send). IsSentFirst (k, mine.0) z) other.2 (inl less)))
+    let mine = made_from (λ (packet : Packet). (k, packet)) (packets k) x here in
+    let from = Contains-flat_map_from sent ks y there in
+    let other = made_from (λ (packet : Packet). (from.0, packet)) (packets from.0) y from.2 in
+    let less : k.0 < from.0.0 = pairs_first (λ a b. a.0 < b.0) k ks rise from.0 from.1 in
+    subst (λ (z : Send). IsSentFirst z y) mine.2 (subst (λ (z : Send). IsSentFirst (k, mine.0) z) other.2 (inl less)))
 
 -- packets of one kind, in order
 record IsBlock (kind : ℕ) (packets : List Packet) : Type 0 where

@@ -1,9 +1,8 @@
 -- The objects that a transaction writes, as a rising list, are those of its write set; and those that are preferred at a
 -- site are kept by a test.
-use Rattle.std.proofs.Common.{◌≡◌, ℕ, ◌+◌, ◌<◌, ◌≤◌, Bool, true, false, ◌||◌, ◌&&◌, nat_lt, nat_eq, List, [], ◌∷◌, refl, ap, sym, ◌∙◌, subst, arith, inl, inr, ◌⊎◌}
+use Rattle.std.proofs.Common.{◌≡◌, true, false, ◌&&◌, nat_lt, nat_eq, List, [], ◌∷◌, refl, sym, subst, arith, inl, inr, ◌⊎◌}
 use Rattle.std.specs.Prelude.{Contains}
-use Rattle.std.specs.List.{list_all}
-use Rattle.std.proofs.lemmas.Bool.{cases_Bool, cases_order, or_parts, and_cases, ltb-false, eqb-false, eq-eqb, lt-ltb, both_ways}
+use Rattle.std.proofs.lemmas.Bool.{cases_Bool, cases_order, or_parts, ltb-false, eq-eqb, lt-ltb, both_ways}
 use Rattle.walter_base.specs.declared.catalog.Catalog.{Catalog}
 use Rattle.walter_base.specs.declared.names.ObjId.{ObjId}
 use Rattle.walter_base.specs.declared.names.SiteId.{SiteId}
