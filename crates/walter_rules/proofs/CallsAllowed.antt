@@ -1,6 +1,5 @@
 -- What the rule says of a client's call is of one of the kinds, and what it puts out is so, and in order.
-use Rattle.std.proofs.Common.{◌≡◌, ◌≢◌, ℕ, ℤ, zero, suc, ◌+◌, ◌<◌, ◌≤◌, Bool, true, false, not, nat_eq, nat_lt, List, [], ◌∷◌, length, Option, Some, None, Result, Ok, Err, refl, ap, sym, ◌∙◌, subst, arith, inl, inr, ◌⊎◌, if◌then◌else◌}
-use Rattle.std.specs.Prelude.{Contains, IsTrue}
+use Rattle.std.proofs.Common.{◌≡◌, ◌≢◌, ℕ, ℤ, zero, suc, Bool, true, false, not, nat_lt, List, [], ◌∷◌, length, Option, Some, None, Result, Ok, Err, refl, ap, sym, ◌∙◌, arith, if◌then◌else◌}
 use Rattle.std.specs.FinMap.{get}
 use Rattle.std.proofs.lemmas.Bool.{cond_both, not-false, eq-eqb}
 use Rattle.walter_base.specs.declared.catalog.Catalog.{Catalog}
@@ -27,7 +26,7 @@ use Rattle.walter_base.specs.declared.update.Update.{Update}
 use Rattle.walter_base.specs.declared.update.Update.TheVariants.{Write as WriteOf, Add, Del}
 use Rattle.walter_base.specs.Names.{same_site}
 use Rattle.walter_base.specs.Sending.{AreInOrder}
-use Rattle.walter_base.specs.Values.{value_of, count_of, counts_of, write_set}
+use Rattle.walter_base.specs.Values.{value_of, count_of, counts_of}
 use Rattle.walter_base.proofs.NameTests.{same_site-true, same_site_refl}
 use Rattle.walter_rules.specs.declared.event.Event.{Event}
 use Rattle.walter_rules.specs.declared.event.Event.TheVariants.{Given}
@@ -35,14 +34,13 @@ use Rattle.walter_rules.specs.declared.event.Input.TheVariants.{Call}
 use Rattle.walter_rules.specs.declared.outcome.Outcome.{Outcome}
 use Rattle.walter_rules.specs.declared.outcome.Outcome.TheVariants.{Replied}
 use Rattle.walter_rules.specs.Allowed.{IsKind, IsAllowed, HasOpen, HasBegun, IsUpdateCall, IsReadCall, AreClear}
-use Rattle.walter_rules.specs.Calls.{Expected, answers, refuses, read_updates, next_tid, next_seq, next_slow, own_version, starts_new, commits_fast, begins_slow, if_local, decides, commits_open, seq_of, tells_version, tells_cause, tells_decision, commits_by, if_whole, if_regular, if_counted, if_cset, has_place, updates_with, writes, shows, is_undecided, is_open, level_of_own, level_of_other, level_by, level_of, is_issued, tells_level, if_open, open_in, starts_for, commits_for, with_open, call_rule, if_told, down_rule}
+use Rattle.walter_rules.specs.Calls.{Expected, answers, refuses, read_updates, next_tid, next_seq, next_slow, own_version, commits_fast, begins_slow, if_local, decides, commits_open, seq_of, tells_version, tells_cause, tells_decision, commits_by, if_whole, if_regular, if_counted, if_cset, has_place, updates_with, writes, shows, is_undecided, is_open, level_of_own, level_by, level_of, is_issued, if_open, open_in, starts_for, commits_for, with_open, call_rule, if_told, down_rule}
 use Rattle.walter_rules.specs.Conflicts.{first_conflict, cause_of}
 use Rattle.walter_rules.specs.Declarations.{is_of_kind, is_declared}
 use Rattle.walter_rules.specs.Knowledge.{Knowledge, session_of}
 use Rattle.walter_rules.specs.Learning.{recorded, after}
-use Rattle.walter_rules.specs.Marks.{durable_mark}
 use Rattle.walter_rules.specs.Objects.{objects_at, are_local, participants}
-use Rattle.walter_rules.specs.Sending.{to_each, own_sends, prepare_of}
+use Rattle.walter_rules.specs.Sending.{prepare_of}
 use Rattle.walter_rules.specs.Sessions.{Session, with_slow, tx_of}
 use Rattle.walter_rules.specs.Slow.{Slow, Unused, Undecided, Dropped, Decided}
 use Rattle.walter_rules.specs.Standing.{Standing}
@@ -64,15 +62,20 @@ module _ (catalog : Catalog) (i : SiteId) (S : Standing) where
     nothing_in_order,
   )
 
-  pub either : (event : Event) (test : Bool) (x y : Expected) → (test ≡ true → Allows event x) → (test ≡ false → Allows event y)
+  -- by a test
+  pub either : (event : Event) (test : Bool) (x y : Expected) → (test ≡ true → Allows event x)
+      → (test ≡ false → Allows event y)
       → Allows event (if test then x else y)
   either event test x y = cond_both test x y (Allows event)
 
-  pub refused : (client : ℕ) (call : Result Request Bad) (refusal : Refusal) → Allows (Given (Call client call)) (refuses refusal)
+  -- a call may be refused for any reason
+  pub refused : (client : ℕ) (call : Result Request Bad) (refusal : Refusal)
+      → Allows (Given (Call client call)) (refuses refusal)
   refused client call refusal = quiet (Given (Call client call)) None (Replied (Refused refusal)) (IsKind.is_refused client call refusal)
 
-  -- a transaction is told so where it was lost
-  pub told_allowed : (client : ℕ) (call : Result Request Bad) (gone : Option Tid) (x : Expected) → Allows (Given (Call client call)) x
+  -- a client whose transaction was lost is told so
+  pub told_allowed : (client : ℕ) (call : Result Request Bad) (gone : Option Tid) (x : Expected)
+      → Allows (Given (Call client call)) x
       → Allows (Given (Call client call)) (if_told call gone x)
   told_allowed client call None x is = is
   told_allowed client (Err bad) (Some tid) x is = is
@@ -87,31 +90,38 @@ module _ (catalog : Catalog) (i : SiteId) (S : Standing) where
   told_allowed client (Ok Commit) (Some tid) x is = refused client (Ok Commit) (Gone tid)
   told_allowed client (Ok Abort) (Some tid) x is = refused client (Ok Abort) (Gone tid)
 
+  -- at a site that is down each call is refused
   pub down_allowed : (client : ℕ) (call : Result Request Bad) → Allows (Given (Call client call)) (down_rule call)
   down_allowed client (Err bad) = refused client (Err bad) (BadFrame bad.at)
   down_allowed client (Ok request) = refused client (Ok request) IsDown
 
   -- where an object is read or written whole it is regular
-  whole : (client : ℕ) (call : Result Request Bad) (kind : Kind) (x : Expected) → (kind ≡ Regular → Allows (Given (Call client call)) x)
+  whole : (client : ℕ) (call : Result Request Bad) (kind : Kind) (x : Expected)
+      → (kind ≡ Regular → Allows (Given (Call client call)) x)
       → Allows (Given (Call client call)) (if_whole kind x)
   whole client call Regular x is = is refl
   whole client call Cset x is = refused client call WrongKind
 
+  -- by the container of the object, where it has one
   regular : (client : ℕ) (call : Result Request Bad) (oid : ObjId) (container : Option Container) (x : Expected)
-      → get catalog.containers oid.container ≡ container → (is_of_kind catalog Regular oid ≡ true → Allows (Given (Call client call)) x)
+      → get catalog.containers oid.container ≡ container
+      → (is_of_kind catalog Regular oid ≡ true → Allows (Given (Call client call)) x)
       → Allows (Given (Call client call)) (if_regular container x)
   regular client call oid None x at is = refused client call UnknownContainer
   regular client call oid (Some container) x at is =
       whole client call container.kind x (λ kind. is (kind_of catalog Regular oid container at (rw kind refl)))
 
   -- where a set is updated or counted it is one
-  counted : (client : ℕ) (call : Result Request Bad) (kind : Kind) (x : Expected) → (kind ≡ Cset → Allows (Given (Call client call)) x)
+  counted : (client : ℕ) (call : Result Request Bad) (kind : Kind) (x : Expected)
+      → (kind ≡ Cset → Allows (Given (Call client call)) x)
       → Allows (Given (Call client call)) (if_counted kind x)
   counted client call Cset x is = is refl
   counted client call Regular x is = refused client call WrongKind
 
+  -- by the container of the set, where it has one
   cset : (client : ℕ) (call : Result Request Bad) (oid : ObjId) (container : Option Container) (x : Expected)
-      → get catalog.containers oid.container ≡ container → (is_of_kind catalog Cset oid ≡ true → Allows (Given (Call client call)) x)
+      → get catalog.containers oid.container ≡ container
+      → (is_of_kind catalog Cset oid ≡ true → Allows (Given (Call client call)) x)
       → Allows (Given (Call client call)) (if_cset container x)
   cset client call oid None x at is = refused client call UnknownContainer
   cset client call oid (Some container) x at is =
@@ -119,108 +129,144 @@ module _ (catalog : Catalog) (i : SiteId) (S : Standing) where
 
   module _ (up : S.up ≡ true) where
     -- what needs an open transaction
-    while_open : (client : ℕ) (call : Result Request Bad) (s : Session) (n : ℕ) (x : Session → Expected) → session_of S.knows client ≡ Some s → s.slow ≡ n
-        → (HasOpen S client s → Allows (Given (Call client call)) (x s)) → Allows (Given (Call client call)) (with_open (if_open n s) x)
+    while_open : (client : ℕ) (call : Result Request Bad) (s : Session) (n : ℕ) (x : Session → Expected)
+        → session_of S.knows client ≡ Some s → s.slow ≡ n
+        → (HasOpen S client s → Allows (Given (Call client call)) (x s))
+        → Allows (Given (Call client call)) (with_open (if_open n s) x)
     while_open client call s zero x has none is = is (record { up = up; session = has; is_open = none })
     while_open client call s (suc n) x has some is = refused client call NoTx
 
-    opened : (client : ℕ) (call : Result Request Bad) (session : Option Session) (x : Session → Expected) → session_of S.knows client ≡ session
+    -- by the session of the client, where it has one
+    opened : (client : ℕ) (call : Result Request Bad) (session : Option Session) (x : Session → Expected)
+        → session_of S.knows client ≡ session
         → ((s : Session) → HasOpen S client s → Allows (Given (Call client call)) (x s))
         → Allows (Given (Call client call)) (with_open (open_in session) x)
     opened client call None x has is = refused client call NoTx
     opened client call (Some s) x has is = while_open client call s s.slow x has refl (is s)
 
     -- an update is done where the transaction has a place for it
-    placed : (client : ℕ) (call : Result Request Bad) (s : Session) (update : Update) → HasOpen S client s → IsUpdateCall call update
+    placed : (client : ℕ) (call : Result Request Bad) (s : Session) (update : Update) → HasOpen S client s
+        → IsUpdateCall call update
         → is_declared catalog update ≡ true → Allows (Given (Call client call)) (updates_with s update)
     placed client call s update has asks is =
         either (Given (Call client call)) (has_place s.updates update) (answers Done) (refuses TxFull)
         (λ place. quiet (Given (Call client call)) None (Replied Done) (IsKind.does client call s update has asks is))
         (λ full. refused client call TxFull)
 
-    shown : (client : ℕ) (call : Result Request Bad) (s : Session) (reply : Reply) → HasOpen S client s → IsReadCall call reply (read_updates S.knows s)
+    -- a call that reads is answered
+    shown : (client : ℕ) (call : Result Request Bad) (s : Session) (reply : Reply) → HasOpen S client s
+        → IsReadCall call reply (read_updates S.knows s)
         → Allows (Given (Call client call)) (answers reply)
     shown client call s reply has reads = quiet (Given (Call client call)) None (Replied reply) (IsKind.reads client call s reply has reads)
 
+    -- the Commit of a client as an event, and the record of its transaction, fast or slow
+    abbrev committing : ℕ → Event
+    committing client = Given (Call client (Ok Commit))
+
+    abbrev own_record : Session → Record
+    own_record s = Own (next_seq i S.knows) (tx_of s)
+
+    abbrev begin_record : Session → Record
+    begin_record s = SlowBegin (next_slow S.knows) (tx_of (with_slow (next_slow S.knows) s))
+
+    -- what is known after a fast commit, and after the beginning of a slow one
+    abbrev committed : ℕ → Session → Knowledge
+    committed client s = after catalog i S.knows (committing client) (Replied (Committed (own_version i (next_seq i S.knows)))) (Some (own_record s))
+
+    abbrev begun : ℕ → Session → Knowledge
+    begun client s = after catalog i S.knows (committing client) (Replied (Deciding s.tid)) (Some (begin_record s))
+
     -- a fast commit
-    fast_true : (client : ℕ) (s : Session) → AreTrue catalog i S.knows (Given (Call client (Ok Commit)))
-        (after catalog i S.knows (Given (Call client (Ok Commit))) (Replied (Committed (own_version i (next_seq i S.knows)))) (Some (Own (next_seq i S.knows) (tx_of s))))
-        (commits_fast catalog i S.knows s).sends
-    fast_true client s = own_sent catalog i S.knows (Given (Call client (Ok Commit)))
-        (after catalog i S.knows (Given (Call client (Ok Commit))) (Replied (Committed (own_version i (next_seq i S.knows)))) (Some (Own (next_seq i S.knows) (tx_of s))))
-        S.knows (recorded catalog i (Some (Own (next_seq i S.knows) (tx_of s))) S.knows) refl (rw (same_site_refl i) (omega arith)) refl
+    fast_true : (client : ℕ) (s : Session)
+        → AreTrue catalog i S.knows (committing client) (committed client s) (commits_fast catalog i S.knows s).sends
+    fast_true client s =
+        own_sent catalog i S.knows (committing client) (committed client s) S.knows (recorded catalog i (Some (own_record s)) S.knows) refl
+        (rw (same_site_refl i) (omega arith)) refl
 
     -- the beginning of a slow one
-    slow_true : (client : ℕ) (s : Session) → AreTrue catalog i S.knows (Given (Call client (Ok Commit)))
-        (after catalog i S.knows (Given (Call client (Ok Commit))) (Replied (Deciding s.tid)) (Some (SlowBegin (next_slow S.knows) (tx_of (with_slow (next_slow S.knows) s)))))
-        (begins_slow catalog i S.knows s).sends
+    slow_true : (client : ℕ) (s : Session)
+        → AreTrue catalog i S.knows (committing client) (begun client s) (begins_slow catalog i S.knows s).sends
     slow_true client s =
         let n : ℕ = next_slow S.knows in
         let tx : Tx = tx_of (with_slow n s) in
-        let event : Event = Given (Call client (Ok Commit)) in
-        let K : Knowledge = after catalog i S.knows event (Replied (Deciding s.tid)) (Some (SlowBegin n tx)) in
-        each_sent catalog i S.knows event K (participants catalog S.knows i s.updates) (λ k. prepare_of catalog S.knows n tx k ∷ []) (λ k within.
-        one_to catalog i S.knows event K k (prepare_of catalog S.knows n tx k)
-        (tx, participants catalog S.knows i tx.updates, rw (eq-eqb n n refl) refl, refl, refl, refl))
+        let receivers : List SiteId = participants catalog S.knows i s.updates in
+        each_sent catalog i S.knows (committing client) (begun client s) receivers (λ k. prepare_of catalog S.knows n tx k ∷ []) (λ k within.
+        one_to catalog i S.knows (committing client) (begun client s) k (prepare_of catalog S.knows n tx k)
+        (tx, receivers, rw (eq-eqb n n refl) refl, refl, refl, refl))
 
-    local_allowed : (client : ℕ) (s : Session) → HasOpen S client s → s.updates ≢ [] → AreClear catalog i S.knows s.snapshot s.updates → (test : Bool)
-        → are_local catalog S.knows i s.updates ≡ test → Allows (Given (Call client (Ok Commit))) (if_local test catalog i S.knows s)
+    -- without a conflict it commits, or its slow commit begins
+    local_allowed : (client : ℕ) (s : Session) → HasOpen S client s → s.updates ≢ []
+        → AreClear catalog i S.knows s.snapshot s.updates → (test : Bool)
+        → are_local catalog S.knows i s.updates ≡ test
+        → Allows (committing client) (if_local test catalog i S.knows s)
     local_allowed client s has some clear true is = (
       record { kind = IsKind.commits client s has some (local_at catalog S.knows i s.updates is) clear; sent = fast_true client s },
-      own_in_order catalog i S.knows (recorded catalog i (Some (Own (next_seq i S.knows) (tx_of s))) S.knows),
+      own_in_order catalog i S.knows (recorded catalog i (Some (own_record s)) S.knows),
     )
     local_allowed client s has some clear false is = (
       record { kind = IsKind.begins client s has some clear; sent = slow_true client s },
       prepares_in_order catalog i S.knows s.updates (next_slow S.knows) (tx_of (with_slow (next_slow S.knows) s)),
     )
 
+    -- over a conflict it is aborted
     decided_allowed : (client : ℕ) (s : Session) → HasOpen S client s → s.updates ≢ [] → (conflict : Option Conflict)
         → first_conflict S.knows s.snapshot (objects_at catalog S.knows i s.updates) ≡ conflict
-        → Allows (Given (Call client (Ok Commit))) (decides catalog i S.knows s conflict)
+        → Allows (committing client) (decides catalog i S.knows s conflict)
     decided_allowed client s has some (Some conflict) is =
-        quiet (Given (Call client (Ok Commit))) None (Replied (Aborted (cause_of conflict))) (IsKind.conflicts client s conflict has is)
+        quiet (committing client) None (Replied (Aborted (cause_of conflict))) (IsKind.conflicts client s conflict has is)
     decided_allowed client s has some None is =
         local_allowed client s has some (clear_there S.knows s.snapshot catalog i s.updates is) (are_local catalog S.knows i s.updates) refl
 
+    -- without updates it ends
     open_allowed : (client : ℕ) (s : Session) → HasOpen S client s → (updates : List Update) → s.updates ≡ updates
-        → Allows (Given (Call client (Ok Commit))) (commits_open catalog i S.knows s updates)
-    open_allowed client s has [] is = quiet (Given (Call client (Ok Commit))) None (Replied Ended) (IsKind.ends client s has is)
+        → Allows (committing client) (commits_open catalog i S.knows s updates)
+    open_allowed client s has [] is = quiet (committing client) None (Replied Ended) (IsKind.ends client s has is)
     open_allowed client s has (update ∷ updates) is =
         let some : s.updates ≢ [] = λ none. let same : update ∷ updates ≡ [] = sym is ∙ none in cc in
         decided_allowed client s has some (first_conflict S.knows s.snapshot (objects_at catalog S.knows i s.updates)) refl
 
-    version_allowed : (client : ℕ) (s : Session) (tx : Tx) → HasBegun S client s → S.knows.slow s.slow ≡ Decided tx → (seq : Option ℕ)
-        → seq_of i S.knows s.tid ≡ seq → Allows (Given (Call client (Ok Commit))) (tells_version i seq)
+    -- a slow commit that is decided is told with its version
+    version_allowed : (client : ℕ) (s : Session) (tx : Tx) → HasBegun S client s → S.knows.slow s.slow ≡ Decided tx
+        → (seq : Option ℕ)
+        → seq_of i S.knows s.tid ≡ seq → Allows (committing client) (tells_version i seq)
     version_allowed client s tx has is (Some seq) at =
-        quiet (Given (Call client (Ok Commit))) None (Replied (Committed (own_version i seq))) (IsKind.tells_version client s tx seq has is at)
+        quiet (committing client) None (Replied (Committed (own_version i seq))) (IsKind.tells_version client s tx seq has is at)
     version_allowed client s tx has is None at = refused client (Ok Commit) NoTx
 
-    cause_allowed : (client : ℕ) (s : Session) (tx : Tx) (asked : List SiteId) → HasBegun S client s → S.knows.slow s.slow ≡ Dropped tx asked
-        → (conflict : Option Conflict) → S.knows.said_no s.slow ≡ conflict → Allows (Given (Call client (Ok Commit))) (tells_cause conflict)
+    -- one that ended without a commit is told with its cause
+    cause_allowed : (client : ℕ) (s : Session) (tx : Tx) (asked : List SiteId) → HasBegun S client s
+        → S.knows.slow s.slow ≡ Dropped tx asked
+        → (conflict : Option Conflict) → S.knows.said_no s.slow ≡ conflict
+        → Allows (committing client) (tells_cause conflict)
     cause_allowed client s tx asked has is (Some conflict) said =
-        quiet (Given (Call client (Ok Commit))) None (Replied (Aborted (cause_of conflict))) (IsKind.tells_cause client s tx asked conflict has is said)
+        quiet (committing client) None (Replied (Aborted (cause_of conflict))) (IsKind.tells_cause client s tx asked conflict has is said)
     cause_allowed client s tx asked has is None said = refused client (Ok Commit) NoTx
 
+    -- a Commit whose slow commit is begun is told how it stands
     decision_allowed : (client : ℕ) (s : Session) → HasBegun S client s → (slow : Slow) → S.knows.slow s.slow ≡ slow
-        → Allows (Given (Call client (Ok Commit))) (tells_decision i S.knows s slow)
+        → Allows (committing client) (tells_decision i S.knows s slow)
     decision_allowed client s has Unused is = refused client (Ok Commit) NoTx
     decision_allowed client s has (Undecided tx asked) is =
-        quiet (Given (Call client (Ok Commit))) None (Replied (Deciding s.tid)) (IsKind.waits client s tx asked has is)
+        quiet (committing client) None (Replied (Deciding s.tid)) (IsKind.waits client s tx asked has is)
     decision_allowed client s has (Dropped tx asked) is = cause_allowed client s tx asked has is (S.knows.said_no s.slow) refl
     decision_allowed client s has (Decided tx) is = version_allowed client s tx has is (seq_of i S.knows s.tid) refl
 
+    -- by the number of the slow commit, which is 0 while the transaction is open
     slow_allowed : (client : ℕ) (s : Session) (n : ℕ) → session_of S.knows client ≡ Some s → s.slow ≡ n
-        → Allows (Given (Call client (Ok Commit))) (commits_by catalog i S.knows s n)
+        → Allows (committing client) (commits_by catalog i S.knows s n)
     slow_allowed client s zero has none = open_allowed client s (record { up = up; session = has; is_open = none }) s.updates refl
     slow_allowed client s (suc n) has some =
         decision_allowed client s (record { up = up; session = has; begun = omega (arith, some) }) (S.knows.slow (suc n)) (ap S.knows.slow some)
 
+    -- a Commit, by the session
     commit_allowed : (client : ℕ) (session : Option Session) → session_of S.knows client ≡ session
-        → Allows (Given (Call client (Ok Commit))) (commits_for catalog i S.knows session)
+        → Allows (committing client) (commits_for catalog i S.knows session)
     commit_allowed client None has = refused client (Ok Commit) NoTx
     commit_allowed client (Some s) has = slow_allowed client s s.slow has refl
 
-    other_allowed : (client : ℕ) (tid : Tid) → tid.site ≡ i → is_issued S.knows tid ≡ true → seq_of i S.knows tid ≡ None → (undecided open_there : Bool)
+    -- a transaction that isn't an own commit is being decided, or open, or won't commit
+    other_allowed : (client : ℕ) (tid : Tid) → tid.site ≡ i → is_issued S.knows tid ≡ true
+        → seq_of i S.knows tid ≡ None → (undecided open_there : Bool)
         → is_undecided S.knows tid ≡ undecided → is_open tid S.knows.sessions ≡ open_there
         → Allows (Given (Call client (Ok (LevelAsked tid)))) (answers (Level (if undecided then BeingDecided else if open_there then Running else NotCommitted)))
     other_allowed client tid here issued none true open_there is_decided are_open =
@@ -231,7 +277,9 @@ module _ (catalog : Catalog) (i : SiteId) (S : Standing) where
         quiet (Given (Call client (Ok (LevelAsked tid)))) None (Replied (Level NotCommitted))
         (IsKind.denies client tid up here issued none is_decided are_open)
 
-    level_allowed : (client : ℕ) (tid : Tid) → tid.site ≡ i → is_issued S.knows tid ≡ true → (seq : Option ℕ) → seq_of i S.knows tid ≡ seq
+    -- how far a transaction of this site has come
+    level_allowed : (client : ℕ) (tid : Tid) → tid.site ≡ i → is_issued S.knows tid ≡ true → (seq : Option ℕ)
+        → seq_of i S.knows tid ≡ seq
         → Allows (Given (Call client (Ok (LevelAsked tid)))) (answers (Level (level_by catalog i S.knows tid seq)))
     level_allowed client tid here issued (Some seq) at =
         quiet (Given (Call client (Ok (LevelAsked tid)))) None (Replied (Level (level_of_own catalog i S.knows seq)))
@@ -239,6 +287,7 @@ module _ (catalog : Catalog) (i : SiteId) (S : Standing) where
     level_allowed client tid here issued None at =
         other_allowed client tid here issued at (is_undecided S.knows tid) (is_open tid S.knows.sessions) refl refl
 
+    -- a client that has no transaction starts one
     start_allowed : (client : ℕ) (session : Option Session) → session_of S.knows client ≡ session
         → Allows (Given (Call client (Ok Start))) (starts_for i S.knows session)
     start_allowed client None has =
@@ -247,7 +296,9 @@ module _ (catalog : Catalog) (i : SiteId) (S : Standing) where
         (λ many. refused client (Ok Start) SessionsFull)
     start_allowed client (Some s) has = refused client (Ok Start) TxOpen
 
-    pub call_allowed : (client : ℕ) (call : Result Request Bad) (session : Option Session) → session_of S.knows client ≡ session
+    -- each call, by the session of its client
+    pub call_allowed : (client : ℕ) (call : Result Request Bad) (session : Option Session)
+        → session_of S.knows client ≡ session
         → Allows (Given (Call client call)) (call_rule catalog i S.knows call session)
     call_allowed client (Err bad) session has = refused client (Err bad) (BadFrame bad.at)
     call_allowed client (Ok Start) session has = start_allowed client session has
@@ -271,17 +322,20 @@ module _ (catalog : Catalog) (i : SiteId) (S : Standing) where
         placed client call s (Del oid id) has_open (IsUpdateCall.of_del oid id) kind))
     call_allowed client (Ok (SetRead oid)) session has =
         let call : Result Request Bad = Ok (SetRead oid) in
-        opened client call session _ has (λ s has_open. cset client call oid (get catalog.containers oid.container) (shows (counts_of oid (read_updates S.knows s))) refl (λ kind.
-        either (Given (Call client call)) (nat_lt 4095 (length (counts_of oid (read_updates S.knows s)))) (refuses SetTooWide) (answers (Set (counts_of oid (read_updates S.knows s))))
+        opened client call session _ has (λ s has_open.
+        let counts : List (ℕ × ℤ) = counts_of oid (read_updates S.knows s) in
+        cset client call oid (get catalog.containers oid.container) (shows counts) refl (λ kind.
+        either (Given (Call client call)) (nat_lt 4095 (length counts)) (refuses SetTooWide) (answers (Set counts))
         (λ wide. refused client call SetTooWide)
-        (λ narrow. shown client call s (Set (counts_of oid (read_updates S.knows s))) has_open (IsReadCall.of_counts oid (read_updates S.knows s)))))
+        (λ narrow. shown client call s (Set counts) has_open (IsReadCall.of_counts oid (read_updates S.knows s)))))
     call_allowed client (Ok (SetReadId oid id)) session has =
         let call : Result Request Bad = Ok (SetReadId oid id) in
         opened client call session _ has (λ s has_open. cset client call oid (get catalog.containers oid.container) _ refl (λ kind.
         shown client call s (Count (count_of oid id (read_updates S.knows s))) has_open (IsReadCall.of_count oid id (read_updates S.knows s))))
     call_allowed client (Ok Commit) session has = commit_allowed client session has
     call_allowed client (Ok Abort) session has =
-        opened client (Ok Abort) session _ has (λ s has_open. quiet (Given (Call client (Ok Abort))) None (Replied (Aborted Asked)) (IsKind.aborts client s has_open))
+        opened client (Ok Abort) session _ has (λ s has_open.
+        quiet (Given (Call client (Ok Abort))) None (Replied (Aborted Asked)) (IsKind.aborts client s has_open))
     call_allowed client (Ok (LevelAsked tid)) session has =
         let call : Result Request Bad = Ok (LevelAsked tid) in
         either (Given (Call client call)) (not (same_site tid.site i)) (refuses WrongSite) _

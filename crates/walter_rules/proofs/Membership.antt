@@ -1,20 +1,22 @@
 -- What stands in a list that was filtered, mapped or counted, and what a test of all or of some of a list tells.
-use Rattle.std.proofs.Common.{◌≡◌, ℕ, zero, suc, ◌+◌, ◌<◌, ◌≤◌, Bool, true, false, List, [], ◌∷◌, map, refl, ap, sym, ◌∙◌, subst, arith, slice_get, Option, Some, None, inl, inr, ◌⊎◌}
+use Rattle.std.proofs.Common.{◌≡◌, ℕ, zero, suc, ◌+◌, ◌<◌, ◌≤◌, Bool, true, List, [], ◌∷◌, map, refl, ap, subst, arith, slice_get, Option, Some, None, inl, inr, ◌⊎◌}
 use Rattle.std.specs.Prelude.{Contains, filter, filter_map}
 use Rattle.std.specs.List.{cons_option, list_any, list_all, range_with_len}
 use Rattle.std.proofs.lemmas.Bool.{cases_Bool, cases_eq, and_parts}
 use Rattle.std.proofs.lemmas.List.Elements.{All-contains, All-contains_itself, All-filter, filter_passes, Contains-append_right, Contains-append_cases}
-use Rattle.std.proofs.lemmas.Option.{same_Some}
 use Rattle.walter_base.proofs.Counted.{All-Contains_filter}
 use Rattle.walter_psi.proofs.Lists.{Contains-nil, Contains-one, contains_at}
 
 module _ {X : Type 0} where
+  -- a list has its first element
   pub first_in : (x : X) (xs : List X) → Contains (x ∷ xs) x
   first_in x xs = (0, omega arith, refl)
 
+  -- and those of its rest
   pub later_in : (x : X) (xs : List X) (y : X) → Contains xs y → Contains (x ∷ xs) y
   later_in x xs y within = Contains-append_right (x ∷ []) xs y within
 
+  -- and no others
   pub in_cases : (x : X) (xs : List X) (y : X) → Contains (x ∷ xs) y → (x ≡ y) ⊎ Contains xs y
   in_cases x xs y within = elim (Contains-append_cases (x ∷ []) xs y within) [
     | inl here ↦ inl (Contains-one x y here)
@@ -51,7 +53,8 @@ module _ {X : Type 0} where
   is_kept p xs x within passes = All-contains (λ y. p y ≡ true → Contains (filter p xs) y) xs x (All-Contains_filter p xs) within passes
 
 -- what stands behind a value that may be none is that value, or stands there already
-behind_option : {Y : Type 0} (o : Option Y) (ys : List Y) (y : Y) → Contains (cons_option o ys) y → (o ≡ Some y) ⊎ Contains ys y
+behind_option : {Y : Type 0} (o : Option Y) (ys : List Y) (y : Y) → Contains (cons_option o ys) y
+    → (o ≡ Some y) ⊎ Contains ys y
 behind_option None ys y within = inr within
 behind_option {Y} (Some w) ys y within = elim (in_cases w ys y within) [
   | inl here ↦ inl (ap (λ (z : Y). Some z) here)
@@ -59,7 +62,8 @@ behind_option {Y} (Some w) ys y within = elim (in_cases w ys y within) [
 ]
 
 -- a list that begins with nothing has no first value, and no other
-no_option : {Y : Type 0} (o : Option Y) (ys : List Y) → slice_get (cons_option o ys) 0 ≡ None → (o ≡ None) × (slice_get ys 0 ≡ None)
+no_option : {Y : Type 0} (o : Option Y) (ys : List Y) → slice_get (cons_option o ys) 0 ≡ None
+    → (o ≡ None) × (slice_get ys 0 ≡ None)
 no_option None ys none = (refl, none)
 no_option (Some w) ys none = absurd cc
 
@@ -73,7 +77,8 @@ module _ {X Y : Type 0} where
   ]
 
   -- what a map with gaps gave it gave at an element
-  pub given_from : (h : X → Option Y) (xs : List X) (y : Y) → Contains (filter_map h xs) y → (x : X) × Contains xs x × (h x ≡ Some y)
+  pub given_from : (h : X → Option Y) (xs : List X) (y : Y) → Contains (filter_map h xs) y
+      → (x : X) × Contains xs x × (h x ≡ Some y)
   given_from h [] y within = absurd (Contains-nil y within)
   given_from h (x ∷ xs) y within = elim (behind_option (h x) (filter_map h xs) y within) [
     | inl here ↦ (x, first_in x xs, here)
@@ -81,11 +86,13 @@ module _ {X Y : Type 0} where
   ]
 
   -- the first that it gave is given at an element
-  pub first_given : (h : X → Option Y) (xs : List X) (y : Y) → slice_get (filter_map h xs) 0 ≡ Some y → (x : X) × Contains xs x × (h x ≡ Some y)
+  pub first_given : (h : X → Option Y) (xs : List X) (y : Y) → slice_get (filter_map h xs) 0 ≡ Some y
+      → (x : X) × Contains xs x × (h x ≡ Some y)
   first_given h xs y first = given_from h xs y (contains_at (filter_map h xs) y 0 first)
 
   -- where it gave nothing, it gave nothing at each element
-  pub none_given : (h : X → Option Y) (xs : List X) (x : X) → slice_get (filter_map h xs) 0 ≡ None → Contains xs x → h x ≡ None
+  pub none_given : (h : X → Option Y) (xs : List X) (x : X) → slice_get (filter_map h xs) 0 ≡ None → Contains xs x
+      → h x ≡ None
   none_given h [] x none within = absurd (Contains-nil x within)
   none_given h (y ∷ ys) x none within =
       let parts = no_option (h y) (filter_map h ys) none in

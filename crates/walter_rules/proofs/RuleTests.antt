@@ -1,15 +1,15 @@
 -- What the tests of the rules tell where they are true.
-use Rattle.std.proofs.Common.{◌≡◌, ◌≢◌, ℕ, ◌+◌, ◌<◌, ◌≤◌, Bool, true, false, not, ◌&&◌, nat_lt, nat_le, nat_eq, List, [], ◌∷◌, map, length, slice_index, slice_get, Option, Some, None, option_map, refl, ap, sym, ◌∙◌, subst, arith, inl, inr, ◌⊎◌}
+use Rattle.std.proofs.Common.{◌≡◌, ◌≢◌, ℕ, ◌+◌, ◌<◌, true, false, not, ◌&&◌, nat_lt, nat_le, nat_eq, List, map, length, slice_index, Option, Some, None, ap, sym, ◌∙◌, subst, arith, inl, inr}
 use Rattle.std.specs.Prelude.{Contains}
 use Rattle.std.specs.FinMap.{get}
 use Rattle.std.specs.List.{list_all, range_with_len}
 use Rattle.std.specs.Option.{option_map_or}
-use Rattle.std.proofs.lemmas.Bool.{cases_Bool, cases_lt, and_parts, ltb-true, leb-true, eqb-true, not-true, both_ways}
+use Rattle.std.proofs.lemmas.Bool.{cases_lt, and_parts, ltb-true, leb-true, eqb-true, not-true, both_ways}
 use Rattle.std.proofs.lemmas.List.{get_or_past}
 use Rattle.walter_base.specs.declared.catalog.Catalog.{Catalog}
 use Rattle.walter_base.specs.declared.containers.Container.{Container}
 use Rattle.walter_base.specs.declared.names.Kind.{Kind}
-use Rattle.walter_base.specs.declared.names.Kind.TheVariants.{Regular, Cset}
+use Rattle.walter_base.specs.declared.names.Kind.TheVariants.{Regular}
 use Rattle.walter_base.specs.declared.names.ObjId.{ObjId}
 use Rattle.walter_base.specs.declared.names.SiteId.{SiteId}
 use Rattle.walter_base.specs.declared.names.Tid.{Tid}
@@ -20,10 +20,8 @@ use Rattle.walter_base.specs.declared.transaction.Tx.{Tx}
 use Rattle.walter_base.specs.declared.update.Update.{Update}
 use Rattle.walter_base.specs.Conflicts.{first_outside, conflict_over}
 use Rattle.walter_base.specs.Names.{same_site}
-use Rattle.walter_base.specs.Values.{write_set}
-use Rattle.walter_base.specs.Vectors.{entry_at}
 use Rattle.walter_base.proofs.NameTests.{same_site-true, same_site_refl}
-use Rattle.walter_rules.specs.Allowed.{AreClear, AreLocal, Covers, HaveSaidYes, IsNextCommit, AreLockable}
+use Rattle.walter_rules.specs.Allowed.{AreClear, Covers, HaveSaidYes, IsNextCommit, AreLockable}
 use Rattle.walter_rules.specs.Conflicts.{conflict_at, first_conflict}
 use Rattle.walter_rules.specs.Declarations.{is_of_kind, same_kind, are_declared, are_lockable}
 use Rattle.walter_rules.specs.Deliveries.{is_peer, covers, accepts}
@@ -60,7 +58,8 @@ covers_true counts snapshot all k = elim (cases_lt k.0 (length snapshot)) [
 ]
 
 -- a commit that is accepted is the next of its site
-pub accepted : (catalog : Catalog) (K : Knowledge) (j : SiteId) (seq : ℕ) (tx : Tx) → accepts catalog K j seq tx ≡ true → IsNextCommit catalog K j seq tx
+pub accepted : (catalog : Catalog) (K : Knowledge) (j : SiteId) (seq : ℕ) (tx : Tx)
+    → accepts catalog K j seq tx ≡ true → IsNextCommit catalog K j seq tx
 accepted catalog K j seq tx is =
     let parts = and_parts (nat_eq seq (K.got j + 1)) (covers K.got tx.start && are_declared catalog tx.updates) is in
     let rest = and_parts (covers K.got tx.start) (are_declared catalog tx.updates) parts.1 in
@@ -71,13 +70,15 @@ pub all_said : (asked said : List SiteId) → list_all (λ k. has_site k said) a
 all_said asked said all k within = has_site_true k said (each_passes (λ s. has_site s said) asked k all within)
 
 -- the kind of an object is that of its container
-pub kind_of : (catalog : Catalog) (kind : Kind) (oid : ObjId) (container : Container) → get catalog.containers oid.container ≡ Some container
+pub kind_of : (catalog : Catalog) (kind : Kind) (oid : ObjId) (container : Container)
+    → get catalog.containers oid.container ≡ Some container
     → same_kind container.kind kind ≡ true → is_of_kind catalog kind oid ≡ true
 kind_of catalog kind oid container is same = ap (λ o. option_map_or (λ (c : Container). same_kind c.kind kind) o false) is ∙ same
 
 module _ (K : Knowledge) (snapshot : List ℕ) where
   -- where there is no first conflict, no object of the list meets one
-  pub none_meets : (objects : List ObjId) → first_conflict K snapshot objects ≡ None → (oid : ObjId) → Contains objects oid → conflict_at K snapshot oid ≡ None
+  pub none_meets : (objects : List ObjId) → first_conflict K snapshot objects ≡ None → (oid : ObjId)
+      → Contains objects oid → conflict_at K snapshot oid ≡ None
   none_meets objects none oid within = none_given (conflict_at K snapshot) objects oid none within
 
   -- the first conflict is that of some object of the list
@@ -86,25 +87,29 @@ module _ (K : Knowledge) (snapshot : List ℕ) where
   one_meets objects conflict first = first_given (conflict_at K snapshot) objects conflict first
 
   -- so no object of a write set that is preferred at the site meets one
-  pub clear_there : (catalog : Catalog) (i : SiteId) (updates : List Update) → first_conflict K snapshot (objects_at catalog K i updates) ≡ None
+  pub clear_there : (catalog : Catalog) (i : SiteId) (updates : List Update)
+      → first_conflict K snapshot (objects_at catalog K i updates) ≡ None
       → AreClear catalog i K snapshot updates
   clear_there catalog i updates none oid within here = none_meets (objects_at catalog K i updates) none oid (in_objects_at catalog K i updates oid within here)
 
 -- what is met on an object is a version or a lock
-alive_over : (oid : ObjId) (version : Option Version) (owner : Option Tid) (conflict : Conflict) → conflict_over oid version owner ≡ Some conflict → conflict ≢ Dead
+alive_over : (oid : ObjId) (version : Option Version) (owner : Option Tid) (conflict : Conflict)
+    → conflict_over oid version owner ≡ Some conflict → conflict ≢ Dead
 alive_over oid (Some version) owner conflict met dead = absurd cc
 alive_over oid None (Some tid) conflict met dead = absurd cc
 alive_over oid None None conflict met dead = absurd cc
 
 -- a first conflict doesn't say that a commit is over
-pub first_alive : (K : Knowledge) (snapshot : List ℕ) (objects : List ObjId) (conflict : Conflict) → first_conflict K snapshot objects ≡ Some conflict
+pub first_alive : (K : Knowledge) (snapshot : List ℕ) (objects : List ObjId) (conflict : Conflict)
+    → first_conflict K snapshot objects ≡ Some conflict
     → conflict ≢ Dead
 first_alive K snapshot objects conflict first =
     let one = one_meets K snapshot objects conflict first in
     alive_over one.0 (first_outside snapshot (map version_of (row one.0 K.log))) (K.owner one.0) conflict one.2
 
 -- the objects of a PREPARE that may be locked, where none meets a conflict
-pub lockable : (catalog : Catalog) (i : SiteId) (K : Knowledge) (start : List ℕ) (objects : List ObjId) → are_lockable catalog K i objects ≡ true
+pub lockable : (catalog : Catalog) (i : SiteId) (K : Knowledge) (start : List ℕ) (objects : List ObjId)
+    → are_lockable catalog K i objects ≡ true
     → first_conflict K start objects ≡ None → AreLockable catalog i K start objects
 lockable catalog i K start objects regular none = record {
   here = λ oid within.

@@ -1,6 +1,6 @@
 -- What the rule says of an event is of one of the kinds; each packet that is to be put out says what is so, and the packets
 -- are in order.
-use Rattle.std.proofs.Common.{◌≡◌, ◌+◌, Bool, true, false, [], None, Some, refl}
+use Rattle.std.proofs.Common.{◌≡◌, ◌+◌, Bool, true, false, None, Some, refl}
 use Rattle.walter_base.specs.declared.catalog.Catalog.{Catalog}
 use Rattle.walter_base.specs.declared.message.Record.TheVariants.{Boot}
 use Rattle.walter_base.specs.declared.names.SiteId.{SiteId}
@@ -21,9 +21,11 @@ use Rattle.walter_rules.proofs.CallsAllowed.{Allows, quiet, told_allowed, down_a
 use Rattle.walter_rules.proofs.DeliveriesAllowed.{passing, passing_quietly, deliver_allowed, advance_allowed}
 
 module _ (catalog : Catalog) (i : SiteId) (S : Standing) where
+  -- nothing is done at a site that is down
   down_there : (event : Event) → Allows catalog i S event is_down
   down_there event = quiet catalog i S event None Down (IsKind.is_down event)
 
+  -- what is given to a site that is up
   given_allowed : S.up ≡ true → (input : Input) → Allows catalog i S (Given input) (given_rule catalog i S input)
   given_allowed up (Call client call) =
       told_allowed catalog i S client call (S.gone client) (call_rule catalog i S.knows call (session_of S.knows client))
@@ -33,24 +35,30 @@ module _ (catalog : Catalog) (i : SiteId) (S : Standing) where
   given_allowed up Tick = passing catalog i S (Given Tick) (to_each (peers catalog i) (said_again catalog i S.knows)) (again_sent catalog i (Given Tick) S.knows)
       (again_in_order catalog i S.knows)
 
+  -- what is given to one that is down
   given_down_allowed : (input : Input) → Allows catalog i S (Given input) (given_down input)
   given_down_allowed (Call client call) = down_allowed catalog i S client call
   given_down_allowed (Deliver from number packet) = down_there (Given (Deliver from number packet))
   given_down_allowed (Advance from) = down_there (Given (Advance from))
   given_down_allowed Tick = down_there (Given Tick)
 
-  where_allowed : (up : Bool) → S.up ≡ up → (input : Input) → Allows catalog i S (Given input) (rule_where up catalog i S input)
+  -- what is given
+  where_allowed : (up : Bool) → S.up ≡ up → (input : Input)
+      → Allows catalog i S (Given input) (rule_where up catalog i S input)
   where_allowed true up input = given_allowed up input
   where_allowed false up input = given_down_allowed input
 
+  -- a stop
   stop_allowed : (up : Bool) → S.up ≡ up → Allows catalog i S Stop (stop_rule up)
   stop_allowed true up = quiet catalog i S Stop None Taken (IsKind.stops up)
   stop_allowed false up = down_there Stop
 
+  -- a restart
   restart_allowed : (up : Bool) → S.up ≡ up → Allows catalog i S Restart (restart_rule up S.knows)
   restart_allowed true up = passing_quietly catalog i S Restart
   restart_allowed false up = quiet catalog i S Restart (Some (Boot (S.knows.epoch + 1))) Taken (IsKind.boots up)
 
+  -- each event
   pub rule_allowed : (event : Event) → Allows catalog i S event (rule catalog i S event)
   rule_allowed (Given input) = where_allowed S.up refl input
   rule_allowed Stop = stop_allowed S.up refl

@@ -1,9 +1,8 @@
 -- The objects that a transaction writes, as a rising list, are those of its write set; and those that are preferred at a
 -- site are kept by a test.
-use Rattle.std.proofs.Common.{◌≡◌, ℕ, ◌+◌, ◌<◌, ◌≤◌, Bool, true, false, ◌||◌, ◌&&◌, nat_lt, nat_eq, List, [], ◌∷◌, refl, ap, sym, ◌∙◌, subst, arith, inl, inr, ◌⊎◌}
+use Rattle.std.proofs.Common.{◌≡◌, ◌<◌, true, false, ◌&&◌, nat_lt, nat_eq, List, [], ◌∷◌, refl, sym, subst, inl, inr, ◌⊎◌}
 use Rattle.std.specs.Prelude.{Contains}
-use Rattle.std.specs.List.{list_all}
-use Rattle.std.proofs.lemmas.Bool.{cases_Bool, cases_order, or_parts, and_cases, ltb-false, eqb-false, eq-eqb, lt-ltb, both_ways}
+use Rattle.std.proofs.lemmas.Bool.{or_left, or_right, cases_Bool, cases_order, eq-eqb, lt-ltb, both_ways}
 use Rattle.walter_base.specs.declared.catalog.Catalog.{Catalog}
 use Rattle.walter_base.specs.declared.names.ObjId.{ObjId}
 use Rattle.walter_base.specs.declared.names.SiteId.{SiteId}
@@ -16,21 +15,30 @@ use Rattle.walter_rules.specs.Knowledge.{Knowledge, preferred}
 use Rattle.walter_rules.specs.Objects.{precedes, with_object, rising, objects_of, objects_at, are_local}
 use Rattle.walter_rules.proofs.Membership.{first_in, later_in, in_cases, each_passes, kept_from, is_kept}
 
--- of two objects of which neither comes before the other
+-- an object comes before another one of its container that has a greater number
+comes_before : (a b : ObjId) → a.container ≡ b.container → a.local < b.local → precedes a b ≡ true
+comes_before a b same less =
+    or_right (nat_lt a.container b.container) (nat_eq a.container b.container && nat_lt a.local b.local)
+    (rw (eq-eqb a.container b.container same, lt-ltb a.local b.local less) refl)
+
+-- and before one of a later container
+container_before : (a b : ObjId) → a.container < b.container → precedes a b ≡ true
+container_before a b less = or_left (nat_lt a.container b.container) (nat_eq a.container b.container && nat_lt a.local b.local) (lt-ltb a.container b.container less)
+
+-- two objects of which neither comes before the other are one
 one_object : (a b : ObjId) → precedes a b ≡ false → precedes b a ≡ false → a ≡ b
 one_object a b first second =
-    let ab = or_parts (nat_lt a.container b.container) (nat_eq a.container b.container && nat_lt a.local b.local) first in
-    let ba = or_parts (nat_lt b.container a.container) (nat_eq b.container a.container && nat_lt b.local a.local) second in
-    let low = ltb-false a.container b.container ab.0 in
-    let high = ltb-false b.container a.container ba.0 in
-    let same : a.container ≡ b.container = omega (arith, low, high) in
-    let other : b.container ≡ a.container = sym same in
-    let c : a.local ≡ b.local = elim (cases_order a.local b.local) [
+    let same : a.container ≡ b.container = elim (cases_order a.container b.container) [
       | inl equal ↦ equal
-      | inr (inl less) ↦ absurd (both_ways (nat_eq a.container b.container && nat_lt a.local b.local) ab.1 (rw (eq-eqb a.container b.container same, lt-ltb a.local b.local less) refl))
-      | inr (inr more) ↦ absurd (both_ways (nat_eq b.container a.container && nat_lt b.local a.local) ba.1 (rw (eq-eqb b.container a.container other, lt-ltb b.local a.local more) refl))
+      | inr (inl less) ↦ absurd (both_ways (precedes a b) first (container_before a b less))
+      | inr (inr more) ↦ absurd (both_ways (precedes b a) second (container_before b a more))
     ] in
-    λ t. record { container = same t; local = c t }
+    let number : a.local ≡ b.local = elim (cases_order a.local b.local) [
+      | inl equal ↦ equal
+      | inr (inl less) ↦ absurd (both_ways (precedes a b) first (comes_before a b same less))
+      | inr (inr more) ↦ absurd (both_ways (precedes b a) second (comes_before b a (sym same) more))
+    ] in
+    λ t. record { container = same t; local = number t }
 
 -- the one more object is among them
 in_with : (oid : ObjId) (os : List ObjId) → Contains (with_object oid os) oid
@@ -74,6 +82,7 @@ with_from oid (o ∷ os) x within = elim (cases_Bool (precedes oid o)) [
   ]
 ]
 
+-- each object of a list is among its rising ones
 pub in_rising : (os : List ObjId) (x : ObjId) → Contains os x → Contains (rising os) x
 in_rising [] x within = within
 in_rising (o ∷ os) x within = elim (in_cases o os x within) [
@@ -81,6 +90,7 @@ in_rising (o ∷ os) x within = elim (in_cases o os x within) [
   | inr there ↦ kept_with o (rising os) x (in_rising os x there)
 ]
 
+-- and no other is
 pub rising_from : (os : List ObjId) (x : ObjId) → Contains (rising os) x → Contains os x
 rising_from [] x within = within
 rising_from (o ∷ os) x within = elim (with_from o (rising os) x within) [
@@ -90,18 +100,22 @@ rising_from (o ∷ os) x within = elim (with_from o (rising os) x within) [
 
 module _ (catalog : Catalog) (K : Knowledge) (site : SiteId) (updates : List Update) where
   -- the objects at a site are those of the write set that are preferred there
-  pub in_objects_at : (oid : ObjId) → Contains (write_set updates) oid → preferred catalog K oid ≡ site → Contains (objects_at catalog K site updates) oid
+  pub in_objects_at : (oid : ObjId) → Contains (write_set updates) oid → preferred catalog K oid ≡ site
+      → Contains (objects_at catalog K site updates) oid
   in_objects_at oid within here =
       is_kept (λ o. same_site (preferred catalog K o) site) (objects_of updates) oid (in_rising (write_set updates) oid within)
       (subst (λ s. same_site (preferred catalog K oid) s ≡ true) here (same_site_refl (preferred catalog K oid)))
 
-  pub objects_at_from : (oid : ObjId) → Contains (objects_at catalog K site updates) oid → Contains (write_set updates) oid × (preferred catalog K oid ≡ site)
+  -- and only those
+  pub objects_at_from : (oid : ObjId) → Contains (objects_at catalog K site updates) oid
+      → Contains (write_set updates) oid × (preferred catalog K oid ≡ site)
   objects_at_from oid within =
       let parts = kept_from (λ o. same_site (preferred catalog K o) site) (objects_of updates) oid within in
       (rising_from (write_set updates) oid parts.0, same_site-true (preferred catalog K oid) site parts.1)
 
   -- where all objects are local, each is preferred at the site
-  pub local_at : are_local catalog K site updates ≡ true → (oid : ObjId) → Contains (write_set updates) oid → preferred catalog K oid ≡ site
+  pub local_at : are_local catalog K site updates ≡ true → (oid : ObjId) → Contains (write_set updates) oid
+      → preferred catalog K oid ≡ site
   local_at all oid within =
       same_site-true (preferred catalog K oid) site
       (each_passes (λ o. same_site (preferred catalog K o) site) (objects_of updates) oid all (in_rising (write_set updates) oid within))

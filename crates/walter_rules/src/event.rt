@@ -4,7 +4,10 @@ use walter_base::{Call, Packet, SiteId};
 #[derive(Debug, Drop)]
 pub enum Input {
     /// A client, by its number in the scenario, sends a frame.
-    Call { client: u32, call: Call },
+    Call {
+        client: u32,
+        call: Call,
+    },
     /// A packet of another site comes, by its number among those that this one has put out to the site, from 1.
     Deliver {
         from: SiteId,
@@ -12,7 +15,9 @@ pub enum Input {
         packet: Packet,
     },
     /// The next commit of another site is to be committed here.
-    Advance { from: SiteId },
+    Advance {
+        from: SiteId,
+    },
     /// The site is to say again what its peers may have missed.
     Tick,
 }
