@@ -5,3 +5,4 @@ pub mod Spelled
 pub mod Facts
 pub mod AnyWriter
 pub mod Entries
+pub mod Moves
