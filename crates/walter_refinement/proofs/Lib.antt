@@ -6,3 +6,8 @@ pub mod Facts
 pub mod AnyWriter
 pub mod Entries
 pub mod Moves
+pub mod Going
+pub mod Keys
+pub mod Quiet
+pub mod Vectors
+pub mod CallSteps

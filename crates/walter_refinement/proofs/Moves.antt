@@ -96,14 +96,14 @@ module _ (W : Stands) (i : SiteId) (S : Standing) where
   at_away k apart = elim (views (λ z. z) k) [ inl here ↦ absurd (apart here.0) | inr away ↦ away.1 ]
 
   -- what goes for the site alone goes for all
-  higher : GoesOn (W i) S → IsHigher (numbers W) (numbers (at_site i S W))
+  pub higher : GoesOn (W i) S → IsHigher (numbers W) (numbers (at_site i S W))
   higher on x given_ = elim (views issued_of x.site) [
     | inl here ↦
         subst (λ z. IsIssued z x) (sym here.1) (on.issued x (subst (λ k. IsIssued (issued_of (W k)) x) (sym here.0) given_))
     | inr away ↦ subst (λ (z : Standing). IsIssued (issued_of z) x) (sym away.1) given_
   ]
 
-  fewer_held : HoldsFewer (W i) S → IsFewer (held W) (held (at_site i S W))
+  pub fewer_held : HoldsFewer (W i) S → IsFewer (held W) (held (at_site i S W))
   fewer_held few d t has = elim (views (held_by d.who) d.site) [
     | inl here ↦ subst (λ k. held_by d.who (W k) ≡ Some t) here.0 (few d.who t (sym here.1 ∙ has))
     | inr away ↦ ap (λ z. held_by d.who z) (sym away.1) ∙ has
@@ -160,7 +160,7 @@ module _ (W : Stands) (i : SiteId) (S : Standing) where
       subst (λ z. IsDecidedBy S z) (sym same) (was.0, (was.1.0, on.done u.0.slow was.1.0 was.1.1))
 
   -- a step that commits nothing commits nothing
-  not_by : (h : List Step) (step : Step) (x : Tid) → ((us : List Update) → step ≢ Commit x us) → IsCommitted x (h ++ step ∷ []) → IsCommitted x h
+  pub not_by : (h : List Step) (step : Step) (x : Tid) → ((us : List Update) → step ≢ Commit x us) → IsCommitted x (h ++ step ∷ []) → IsCommitted x h
   not_by h step x plain committed = elim ((committed_snoc x h step).0 committed) [ inl was ↦ was | inr new ↦ absurd (plain new.0 new.1) ]
 
   -- the site has committed the same, and holds what it holds now
