@@ -10,4 +10,6 @@ pub mod Going
 pub mod Keys
 pub mod Quiet
 pub mod Vectors
+pub mod Spelling
+pub mod Others
 pub mod CallSteps
