@@ -44,7 +44,7 @@ IsStill i (Some (Marks durable visible)) = Unit {0}
 other_site : (a b : SiteId) → a ≢ b → same_site a b ≡ false
 other_site a b apart = elim (site_cases a b) [ inl same ↦ absurd (apart same.1) | inr other ↦ other.0 ]
 
-still_log : (i : SiteId) (rec : Option Record) (log : List Held) → IsStill i rec → of_site i (log_after rec log) ≡ of_site i log
+pub still_log : (i : SiteId) (rec : Option Record) (log : List Held) → IsStill i rec → of_site i (log_after rec log) ≡ of_site i log
 still_log i None log still = refl
 still_log i (Some (Boot epoch)) log still = refl
 still_log i (Some (Own seq tx)) log still = absurd still
@@ -56,7 +56,7 @@ still_log i (Some (SlowBegin n tx)) log still = refl
 still_log i (Some (SlowEnd n)) log still = refl
 still_log i (Some (Marks durable visible)) log still = refl
 
-still_committed : (i : SiteId) (rec : Option Record) (committed : SiteId → ℕ) (k : SiteId) → IsStill i rec → committed_after i rec committed k ≡ committed k
+pub still_committed : (i : SiteId) (rec : Option Record) (committed : SiteId → ℕ) (k : SiteId) → IsStill i rec → committed_after i rec committed k ≡ committed k
 still_committed i None committed k still = refl
 still_committed i (Some (Boot epoch)) committed k still = refl
 still_committed i (Some (Own seq tx)) committed k still = absurd still

@@ -13,3 +13,4 @@ pub mod Vectors
 pub mod Spelling
 pub mod Others
 pub mod CallSteps
+pub mod OwnSteps

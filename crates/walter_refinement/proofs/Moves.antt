@@ -135,7 +135,7 @@ module _ (W : Stands) (i : SiteId) (S : Standing) where
   ]
 
   -- where each session that the site holds now is one of before, by its transaction, only decided ones are committed
-  still_decided : (h more : List Step) → GoesOn (W i) S → ((d : Key) (s : Session) → held W d ≡ Some s → IsCommitted s.tid h → IsDecidedBy (W d.site) s)
+  pub still_decided : (h more : List Step) → GoesOn (W i) S → ((d : Key) (s : Session) → held W d ≡ Some s → IsCommitted s.tid h → IsDecidedBy (W d.site) s)
       → ((who : ℕ) (t : Session) → held_by who S ≡ Some t → IsCommitted t.tid more → IsDecidedBy S t)
       → ((d : Key) (t : Session) → i ≢ d.site → held W d ≡ Some t → IsCommitted t.tid more → IsCommitted t.tid h)
       → (d : Key) (t : Session) → held (at_site i S W) d ≡ Some t → IsCommitted t.tid more → IsDecidedBy (at_site i S W d.site) t
@@ -164,7 +164,7 @@ module _ (W : Stands) (i : SiteId) (S : Standing) where
   not_by h step x plain committed = elim ((committed_snoc x h step).0 committed) [ inl was ↦ was | inr new ↦ absurd (plain new.0 new.1) ]
 
   -- the site has committed the same, and holds what it holds now
-  moved_to : (h : List Step) → HasSame i (W i) S → GoesOn (W i) S → IsSpelledAt (owns W) (counts W) (numbers W) (held (at_site i S W)) (spent W) h
+  pub moved_to : (h : List Step) → HasSame i (W i) S → GoesOn (W i) S → IsSpelledAt (owns W) (counts W) (numbers W) (held (at_site i S W)) (spent W) h
       → IsSpelledAt (owns (at_site i S W)) (counts (at_site i S W)) (numbers (at_site i S W)) (held (at_site i S W)) (spent (at_site i S W)) h
   moved_to h same on sp =
       spelled_same (owns W) (owns (at_site i S W)) (counts W) (counts (at_site i S W)) (numbers (at_site i S W)) (held (at_site i S W)) (spent (at_site i S W)) h (same_owns same) (same_counts same)
