@@ -14,3 +14,4 @@ pub mod Spelling
 pub mod Others
 pub mod CallSteps
 pub mod OwnSteps
+pub mod Flights
