@@ -3,11 +3,11 @@
 use Rattle.std.specs.Prelude.{◌≡◌, ◌+◌, ◌≤◌, ℕ, List, [], ◌∷◌, length, Some, None}
 use Rattle.std.specs.FinMap.{get}
 use Rattle.walter_base.specs.declared.catalog.Catalog.{Catalog}
-use Rattle.walter_base.specs.declared.message.Record.TheVariants.{Own, Got, Seen}
+use Rattle.walter_base.specs.declared.message.Record.TheVariants.{Own}
 use Rattle.walter_base.specs.declared.message.Reply.TheVariants.{Started, Value, Done, Committed}
 use Rattle.walter_base.specs.declared.message.Request.TheVariants.{Start as StartAsked, Read as ReadAsked, Write as WriteAsked, Commit as CommitAsked}
 use Rattle.walter_base.specs.declared.names.Kind.TheVariants.{Regular}
-use Rattle.walter_base.specs.declared.packet.Packet.TheVariants.{Propagate, Ack, Dsmark, Visible}
+use Rattle.walter_base.specs.declared.packet.Packet.TheVariants.{Propagate, Dsmark}
 use Rattle.walter_base.specs.declared.transaction.Tx.{Tx}
 use Rattle.walter_base.specs.declared.update.Update.{Update}
 use Rattle.walter_base.specs.declared.update.Update.TheVariants.{Write as WriteOf}
@@ -19,7 +19,7 @@ use Rattle.walter_rules.specs.declared.entry.Entry.{Entry}
 use Rattle.walter_rules.specs.declared.outcome.Outcome.TheVariants.{Replied}
 use Rattle.walter_rules.specs.Calls.{answers}
 use Rattle.walter_rules.specs.Deliveries.{passes, takes}
-use Rattle.walter_examples.specs.Entries.{site, object, first_of, first_commit_of, called, delivered, advanced, opening}
+use Rattle.walter_examples.specs.Entries.{site, object, first_of, first_commit_of, called, delivered, advanced, opening, receives, sees}
 
 -- three sites, none of which may be lost; a container of regular objects preferred at site 0, and one at site 1; short
 -- values; and journals with a place for the records
@@ -68,10 +68,9 @@ trail_0 cause =
 abbrev pub trail_1 : List ℕ → List ℕ → List Entry
 trail_1 cause effect =
     opening
-    ∷ delivered 5 0 1 (Propagate 1 (cause_tx cause))
-    (takes (Some (Got (site 0) 1 (cause_tx cause))) ((site 0, Ack 1) ∷ []))
+    ∷ delivered 5 0 1 (Propagate 1 (cause_tx cause)) (receives 0 (cause_tx cause))
     ∷ delivered 6 0 2 (Dsmark 1) (takes None [])
-    ∷ advanced 7 0 (takes (Some (Seen (site 0) 1)) ((site 0, Visible 1) ∷ []))
+    ∷ advanced 7 0 (sees 0)
     ∷ called 8 1 StartAsked (answers (Started (first_of 1)))
     ∷ called 9 1 (ReadAsked (object 1 1)) (answers (Value (Some cause)))
     ∷ called 10 1 (WriteAsked (object 2 1) effect) (answers Done)
@@ -92,15 +91,13 @@ abbrev pub trail_2 : List ℕ → List ℕ → List Entry
 trail_2 cause effect =
     opening
     ∷ delivered 12 1 1 (Propagate 1 (effect_tx effect)) (passes [])
-    ∷ delivered 13 0 1 (Propagate 1 (cause_tx cause))
-    (takes (Some (Got (site 0) 1 (cause_tx cause))) ((site 0, Ack 1) ∷ []))
-    ∷ delivered 14 1 1 (Propagate 1 (effect_tx effect))
-    (takes (Some (Got (site 1) 1 (effect_tx effect))) ((site 1, Ack 1) ∷ []))
+    ∷ delivered 13 0 1 (Propagate 1 (cause_tx cause)) (receives 0 (cause_tx cause))
+    ∷ delivered 14 1 1 (Propagate 1 (effect_tx effect)) (receives 1 (effect_tx effect))
     ∷ delivered 15 1 2 (Dsmark 1) (takes None [])
     ∷ delivered 16 0 2 (Dsmark 1) (takes None [])
     ∷ advanced 17 1 (passes [])
-    ∷ advanced 18 0 (takes (Some (Seen (site 0) 1)) ((site 0, Visible 1) ∷ []))
-    ∷ advanced 19 1 (takes (Some (Seen (site 1) 1)) ((site 1, Visible 1) ∷ []))
+    ∷ advanced 18 0 (sees 0)
+    ∷ advanced 19 1 (sees 1)
     ∷ []
 
 -- one trail for each site

@@ -5,12 +5,13 @@ use Rattle.std.specs.Prelude.{◌≡◌, ◌+◌, ◌≤◌, ℕ, List, [], ◌�
 use Rattle.std.specs.FinMap.{get}
 use Rattle.walter_base.specs.declared.catalog.Catalog.{Catalog}
 use Rattle.walter_base.specs.declared.message.Level.TheVariants.{Committed as IsCommitted}
-use Rattle.walter_base.specs.declared.message.Record.TheVariants.{Boot, Own, Got, Seen, Prepared, SlowBegin, Marks}
+use Rattle.walter_base.specs.declared.message.Record.TheVariants.{Boot, Own, Prepared, SlowBegin, Marks}
 use Rattle.walter_base.specs.declared.message.Reply.TheVariants.{Started, Done, Deciding, Level}
 use Rattle.walter_base.specs.declared.message.Request.TheVariants.{Start as StartAsked, Write as WriteAsked, Commit as CommitAsked, Level as LevelAsked}
 use Rattle.walter_base.specs.declared.names.Kind.TheVariants.{Regular}
 use Rattle.walter_base.specs.declared.packet.Answer.TheVariants.{Yes}
-use Rattle.walter_base.specs.declared.packet.Packet.TheVariants.{Propagate, Ack, Dsmark, Visible, Prepare, Vote}
+use Rattle.walter_base.specs.declared.packet.Packet.{Packet}
+use Rattle.walter_base.specs.declared.packet.Packet.TheVariants.{Propagate, Ack, Dsmark, Prepare, Vote}
 use Rattle.walter_base.specs.declared.transaction.Tx.{Tx}
 use Rattle.walter_base.specs.declared.update.Update.{Update}
 use Rattle.walter_base.specs.declared.update.Update.TheVariants.{Write as WriteOf}
@@ -24,7 +25,7 @@ use Rattle.walter_rules.specs.declared.event.Input.TheVariants.{Deliver, Tick}
 use Rattle.walter_rules.specs.declared.outcome.Outcome.TheVariants.{Replied, Taken, Failed}
 use Rattle.walter_rules.specs.Calls.{answers}
 use Rattle.walter_rules.specs.Deliveries.{passes, takes}
-use Rattle.walter_examples.specs.Entries.{site, object, first_of, entry, called, delivered, advanced, opening}
+use Rattle.walter_examples.specs.Entries.{site, object, first_of, entry, called, delivered, advanced, opening, receives, sees}
 
 -- two sites, none of which may be lost; a container of regular objects preferred at site 0; a short value; and journals with
 -- a place for the records
@@ -41,6 +42,10 @@ slow_write value = WriteOf (object 1 5) value
 
 abbrev pub slow_tx : List ℕ → Tx
 slow_tx value = record { tid = first_of 1; slow = 1; start = 0 ∷ 0 ∷ []; updates = slow_write value ∷ [] }
+
+-- site 0 is asked for its object
+abbrev pub slow_prepare : Packet
+slow_prepare = Prepare 1 (first_of 1) (0 ∷ 0 ∷ []) (object 1 5 ∷ [])
 
 -- the last YES: the record of the commit met a fault of the disk
 abbrev pub failed_decision : List ℕ → Entry
@@ -76,12 +81,10 @@ kept_decision value = record {
 abbrev pub asked_trail : List ℕ → List Entry
 asked_trail value =
     opening
-    ∷ delivered 5 1 1 (Prepare 1 (first_of 1) (0 ∷ 0 ∷ []) (object 1 5 ∷ []))
-    (takes (Some (Prepared (site 1) 1 (first_of 1) (object 1 5 ∷ []))) ((site 1, Vote 1 Yes) ∷ []))
-    ∷ delivered 10 1 2 (Propagate 1 (slow_tx value))
-    (takes (Some (Got (site 1) 1 (slow_tx value))) ((site 1, Ack 1) ∷ []))
+    ∷ delivered 5 1 1 slow_prepare (takes (Some (Prepared (site 1) 1 (first_of 1) (object 1 5 ∷ []))) ((site 1, Vote 1 Yes) ∷ []))
+    ∷ delivered 10 1 2 (Propagate 1 (slow_tx value)) (receives 1 (slow_tx value))
     ∷ delivered 12 1 3 (Dsmark 1) (takes None [])
-    ∷ advanced 13 1 (takes (Some (Seen (site 1) 1)) ((site 1, Visible 1) ∷ []))
+    ∷ advanced 13 1 (sees 1)
     ∷ []
 
 -- site 1 coordinates. Its commit is durable only where site 0 has acknowledged it.
@@ -93,7 +96,7 @@ coordinator_trail value =
     ∷ called 4 0 CommitAsked (record {
       wrote = Some (SlowBegin 1 (slow_tx value));
       outcome = Replied (Deciding (first_of 1));
-      sends = (site 0, Prepare 1 (first_of 1) (0 ∷ 0 ∷ []) (object 1 5 ∷ [])) ∷ [];
+      sends = (site 0, slow_prepare) ∷ [];
     })
     ∷ failed_decision value
     ∷ kept_decision value

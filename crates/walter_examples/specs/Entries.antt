@@ -1,12 +1,14 @@
 -- How an entry of a trail is written out.
-use Rattle.std.specs.Prelude.{ℕ, [], Some, None, Ok}
-use Rattle.walter_base.specs.declared.message.Record.TheVariants.{Boot}
+use Rattle.std.specs.Prelude.{ℕ, [], ◌∷◌, Some, None, Ok}
+use Rattle.walter_base.specs.declared.message.Record.TheVariants.{Boot, Got, Seen}
 use Rattle.walter_base.specs.declared.message.Request.{Request}
 use Rattle.walter_base.specs.declared.names.ObjId.{ObjId}
 use Rattle.walter_base.specs.declared.names.SiteId.{SiteId}
 use Rattle.walter_base.specs.declared.names.Tid.{Tid}
 use Rattle.walter_base.specs.declared.names.Version.{Version}
 use Rattle.walter_base.specs.declared.packet.Packet.{Packet}
+use Rattle.walter_base.specs.declared.packet.Packet.TheVariants.{Ack, Visible}
+use Rattle.walter_base.specs.declared.transaction.Tx.{Tx}
 use Rattle.walter_rules.specs.declared.entry.Entry.{Entry}
 use Rattle.walter_rules.specs.declared.event.Event.{Event}
 use Rattle.walter_rules.specs.declared.event.Event.TheVariants.{Given, Restart}
@@ -50,3 +52,11 @@ advanced stamp from came = entry stamp (Given (Advance (site from))) came
 -- a site comes up for the first time
 abbrev pub opening : Entry
 opening = entry 1 Restart (takes (Some (Boot 1)) [])
+
+-- the first commit of a site is received, and acknowledged to it
+abbrev pub receives : ℕ → Tx → Expected
+receives from tx = takes (Some (Got (site from) 1 tx)) ((site from, Ack 1) ∷ [])
+
+-- it is committed here, and its site is told so
+abbrev pub sees : ℕ → Expected
+sees from = takes (Some (Seen (site from) 1)) ((site from, Visible 1) ∷ [])
