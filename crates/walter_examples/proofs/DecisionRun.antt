@@ -15,7 +15,8 @@ pub decision_told : (catalog : Catalog) (value : List ℕ)
     → psi_of catalog (merge (decision_trails value)) ≡ decision_history value
 decision_told catalog value = refl
 
-module _ (catalog : Catalog) (capacity : ℕ) (value : List ℕ) (holds : HoldsDecision (among 2 catalog) capacity value) where
+module _ (catalog : Catalog) (capacity : ℕ) (value : List ℕ)
+    (holds : HoldsDecision (among 2 catalog) capacity value) where
   -- each entry of site 0 comes to what the rules say
   asked_right : FollowRightly (among 2 catalog) capacity (site 0) [] (asked_trail value)
   asked_right =

@@ -104,7 +104,8 @@ right_from_start catalog capacity i trail follow =
 
 -- so a trail is right that begins with the opening
 pub right_trail : {catalog : Catalog} {capacity : ℕ} {i : SiteId} {trail : List Entry}
-    → slice_get trail 0 ≡ Some opening → FollowRightly catalog capacity i [] trail → IsRightTrail catalog capacity i trail
+    → slice_get trail 0 ≡ Some opening → FollowRightly catalog capacity i [] trail
+    → IsRightTrail catalog capacity i trail
 right_trail {catalog} {capacity} {i} {trail} begins follow = record {
   opening = opening;
   begins = begins;
@@ -114,7 +115,8 @@ right_trail {catalog} {capacity} {i} {trail} begins follow = record {
 
 -- a packet that is the next behind so many on its way, put out with this stamp
 pub link : {trails : List (List Entry)} {i j : SiteId} {number : ℕ} {packet : Packet} {last stamp : ℕ} (before put : ℕ)
-    → number ≡ before + 1 → slice_get (put_out_to i (trail_of trails j)) before ≡ Some (put, packet) → put < stamp → stamp ≡ max last put + 1
+    → number ≡ before + 1 → slice_get (put_out_to i (trail_of trails j)) before ≡ Some (put, packet)
+    → put < stamp → stamp ≡ max last put + 1
     → IsLinked trails i j number packet last stamp
 link before put number source lower next =
     record { before = before; number_is = number; put = put; source = source; lower = lower; next = next }
@@ -147,8 +149,8 @@ rest_of trails i last stamp (Given Tick) rest linked = linked
 rest_of trails i last stamp Stop rest linked = linked
 rest_of trails i last stamp Restart rest linked = linked
 
--- the packet that the entry at a place delivers is linked: of the entries behind these, of the trails from a site on, and so
--- of all
+-- the packet that the entry at a place delivers is linked: of the entries behind these, of the trails from a site on,
+-- and so of all
 linked_behind : (trails : List (List Entry)) (i : SiteId) (older es : List Entry) (place : ℕ) (e : Entry) (j : SiteId)
     (number : ℕ) (packet : Packet)
     → FollowLinked trails i older es → slice_get es place ≡ Some e → e.event ≡ Given (Deliver j number packet)
@@ -201,7 +203,8 @@ one_right catalog capacity k (trail ∷ others) i (suc here) right site below =
 
 -- the trails that are written out are right and linked
 pub right_trails : (catalog : Catalog) (capacity : ℕ) (trails : List (List Entry))
-    → length trails ≡ catalog.sites → AllRight catalog capacity 0 trails → AllFollowLinked trails 0 trails → AreRightTrails catalog capacity trails
+    → length trails ≡ catalog.sites → AllRight catalog capacity 0 trails → AllFollowLinked trails 0 trails
+    → AreRightTrails catalog capacity trails
 right_trails catalog capacity trails all right linked = record {
   one_each = all;
   right = λ i below. one_right catalog capacity 0 trails i i.0 right (omega arith) (omega (arith, below, all));

@@ -1,5 +1,6 @@
--- A run of three sites. Site 0 commits a write; it reaches site 1, where a transaction that reads it writes another object
--- and commits. At site 2 the second commit comes first: it isn't received before its cause is, nor committed before it.
+-- A run of three sites. Site 0 commits a write; it reaches site 1, where a transaction that reads it writes another
+-- object and commits. At site 2 the second commit comes first: it isn't received before its cause is, nor committed
+-- before it.
 use Rattle.std.specs.Prelude.{◌≡◌, ◌+◌, ◌≤◌, ℕ, List, [], ◌∷◌, length, Some, None}
 use Rattle.std.specs.FinMap.{get}
 use Rattle.walter_base.specs.declared.catalog.Catalog.{Catalog}
@@ -21,8 +22,8 @@ use Rattle.walter_rules.specs.Calls.{answers}
 use Rattle.walter_rules.specs.Deliveries.{passes, takes}
 use Rattle.walter_examples.specs.Entries.{site, object, first_of, first_commit_of, called, delivered, advanced, opening, receives, sees}
 
--- three sites, none of which may be lost; a container of regular objects preferred at site 0, and one at site 1; short
--- values; and journals with a place for the records
+-- three sites, none of which may be lost; a container of regular objects preferred at site 0, and one at site 1;
+-- short values; and journals with a place for the records
 pub record HoldsCausalOrder (catalog : Catalog) (capacity : ℕ) (cause effect : List ℕ) : Type 0 where
   pub sites : catalog.sites ≡ 3
   pub tolerated : catalog.tolerated ≡ 0

@@ -1,6 +1,6 @@
--- A run of two sites. A client at site 1 writes an object that is preferred at site 0, and its slow commit is begun; site 0
--- locks the object and votes YES. The disk of site 1 fails while the decision is journaled; the restart finds the record, so
--- the transaction is committed, and site 0 commits it too.
+-- A run of two sites. A client at site 1 writes an object that is preferred at site 0, and its slow commit is begun;
+-- site 0 locks the object and votes YES. The disk of site 1 fails while the decision is journaled; the restart finds
+-- the record, so the transaction is committed, and site 0 commits it too.
 use Rattle.std.specs.Prelude.{◌≡◌, ◌+◌, ◌≤◌, ℕ, List, [], ◌∷◌, length, Some, None}
 use Rattle.std.specs.FinMap.{get}
 use Rattle.walter_base.specs.declared.catalog.Catalog.{Catalog}
@@ -27,8 +27,8 @@ use Rattle.walter_rules.specs.Calls.{answers}
 use Rattle.walter_rules.specs.Deliveries.{passes, takes}
 use Rattle.walter_examples.specs.Entries.{site, object, first_of, entry, called, delivered, advanced, opening, receives, sees}
 
--- two sites, none of which may be lost; a container of regular objects preferred at site 0; a short value; and journals with
--- a place for the records
+-- two sites, none of which may be lost; a container of regular objects preferred at site 0; a short value; and
+-- journals with a place for the records
 pub record HoldsDecision (catalog : Catalog) (capacity : ℕ) (value : List ℕ) : Type 0 where
   pub sites : catalog.sites ≡ 2
   pub tolerated : catalog.tolerated ≡ 0
@@ -81,7 +81,11 @@ kept_decision value = record {
 abbrev pub asked_trail : List ℕ → List Entry
 asked_trail value =
     opening
-    ∷ delivered 5 1 1 slow_prepare (takes (Some (Prepared (site 1) 1 (first_of 1) (object 1 5 ∷ []))) ((site 1, Vote 1 Yes) ∷ []))
+    ∷ delivered 5 1 1 slow_prepare (record {
+      wrote = Some (Prepared (site 1) 1 (first_of 1) (object 1 5 ∷ []));
+      outcome = Taken;
+      sends = (site 1, Vote 1 Yes) ∷ [];
+    })
     ∷ delivered 10 1 2 (Propagate 1 (slow_tx value)) (receives 1 (slow_tx value))
     ∷ delivered 12 1 3 (Dsmark 1) (takes None [])
     ∷ advanced 13 1 (sees 1)

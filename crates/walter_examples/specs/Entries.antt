@@ -38,8 +38,8 @@ entry stamp event came = record {
   came = record { outcome = came.outcome; kept = None; wrote = came.wrote; flight = None; sends = came.sends; dropped = 0 };
 }
 
--- a client's call; a packet of another site, by its number among those that were put out to this one; and the next commit
--- of another site
+-- a client's call; a packet of another site, by its number among those that were put out to this one; and the next
+-- commit of another site
 abbrev pub called : ℕ → ℕ → Request → Expected → Entry
 called stamp client request came = entry stamp (Given (Call client (Ok request))) came
 

@@ -6,9 +6,9 @@ ghost use Rattle.walter_refinement.specs.Spelled.{psi_of};
 ghost use Rattle.walter_rules.specs.Merges.{merge};
 ghost use Rattle.walter_runs.specs.Runs.{AreRightTrails};
 
-/// The right trails of two runs written out, over a catalog that has their containers and journals that have a place for
-/// their records, and the histories that they spell. In the first a commit comes to a site before its cause; in the second
-/// the disk fails while the decision of a slow commit is journaled, and the restart finds it.
+/// The right trails of two runs written out, over a catalog that has their containers and journals that have a place
+/// for their records, and the histories that they spell. In the first a commit comes to a site before its cause; in
+/// the second the disk fails while the decision of a slow commit is journaled, and the restart finds it.
 pub fn examples_spell()
     ensures causal_right { (catalog : Catalog) (capacity : ℕ) (cause effect : List ℕ)
         → HoldsCausalOrder catalog capacity cause effect → AreRightTrails catalog capacity (causal_trails cause effect) }

@@ -1,5 +1,5 @@
-//! Premises of the protocol, one at a time: the history that a run would spell where the premise is broken, and the one
-//! that it spells where the premise is kept.
+//! Premises of the protocol, one at a time: the history that a run would spell where the premise is broken, and the
+//! one that it spells where the premise is kept.
 use std::alloc::Global;
 use std::test::Fail;
 use walter_base::{Bytes, Cause, Mem, ObjId, SiteId, Tid, Update, Updates, Version};
@@ -26,8 +26,8 @@ const AWAY: SiteId = SiteId(1);
 
 const FAR: SiteId = SiteId(2);
 
-/// An object that is preferred at HOME, and one that is preferred at AWAY. A commit of the first at AWAY is a slow one: HOME
-/// locks the object, and says YES.
+/// An object that is preferred at HOME, and one that is preferred at AWAY. A commit of the first at AWAY is a slow
+/// one: HOME locks the object, and says YES.
 const X: ObjId = ObjId {
     container: 1,
     local: 1,
@@ -133,14 +133,14 @@ fn history_of(alloc: Global, moves: &[Move]) -> Mem<Vec<Step>> {
     Ok(steps)
 }
 
-/// Each row: how a premise is broken; the history then, and the place of its first step that isn't allowed, from 0; and the
-/// history where the premise is kept, all of which is allowed.
+/// Each row: how a premise is broken; the history then, and the place of its first step that isn't allowed, from 0;
+/// and the history where the premise is kept, all of which is allowed.
 #[test]
 fn each_premise_is_needed(rt: HostRuntime) -> Result<(), Fail> {
     let table: [(&str, &[Move], usize, &[Move]); 4] = [
         (
-            // OTHER is asked for at HOME, which says YES and stops. The lock is forgotten, and LATER commits before OTHER
-            // is decided. Where the lock is stable before the YES goes out, LATER meets it.
+            // OTHER is asked for at HOME, which says YES and stops. The lock is forgotten, and LATER commits before
+            // OTHER is decided. Where the lock is stable before the YES goes out, LATER meets it.
             "a YES goes out before its lock is stable",
             &[
                 Start(OTHER),
@@ -164,8 +164,9 @@ fn each_premise_is_needed(rt: HostRuntime) -> Result<(), Fail> {
             ],
         ),
         (
-            // The lock is stable, and OTHER commits by the YES; but HOME forgets the lock at its restart, and LATER commits
-            // there before OTHER has come. Where the lock outlives the stop, it goes when OTHER is committed at HOME.
+            // The lock is stable, and OTHER commits by the YES; but HOME forgets the lock at its restart, and LATER
+            // commits there before OTHER has come. Where the lock outlives the stop, it goes when OTHER is committed
+            // at HOME.
             "a lock is forgotten at a restart",
             &[
                 Start(OTHER),
@@ -230,8 +231,8 @@ fn each_premise_is_needed(rt: HostRuntime) -> Result<(), Fail> {
             ],
         ),
         (
-            // OTHER is committed at AWAY and received at HOME, but not yet committed there, so FIRST doesn't see it. Its
-            // version stands in the way of FIRST all the same.
+            // OTHER is committed at AWAY and received at HOME, but not yet committed there, so FIRST doesn't see it.
+            // Its version stands in the way of FIRST all the same.
             "a fast commit ignores what is received and not yet committed here",
             &[
                 Start(FIRST),
