@@ -74,6 +74,7 @@ IsSo catalog W j i (Dsmark durable) = Unit {0}
 IsSo catalog W j i (Visible committed) = committed ≤ counts W j i
 IsSo catalog W j i (Prepare n tid start objects) =
     (x : Tx) × (begun (slows W j n) ≡ Some x) × (tid ≡ x.tid) × (start ≡ x.start) × AgreesAt (home catalog) i x objects
+    × ((oid : ObjId) → Contains objects oid → home catalog oid ≡ i)
 IsSo catalog W j i (Vote n Yes) = (slows W i n ≢ Unused) × (parts W j i n ≢ Free)
 IsSo catalog W j i (Vote n (No conflict)) = (x : Tx) × (begun (slows W i n) ≡ Some x) × IsOver W x conflict
 IsSo catalog W j i (Release n) = (x : Tx) × (asked : List SiteId) × (slows W j n ≡ Dropped x asked)
@@ -148,8 +149,8 @@ pub record AreAgreed (catalog : Catalog) (W : Stands) (put : Put) : Type 0 where
   pub causal : (i : SiteId) → IsCausalLog (logs W i)
   -- one lock on an object; who has said YES has it; what isn't committed everywhere has it
   pub locked : AreLocked (home catalog) (owns W) (logs W) (counts W) (slows W) (parts W)
-  -- what was put out is so, and what was heard
-  pub said : (j i : SiteId) (packet : Packet) → put j i packet → IsSo catalog W j i packet
+  -- what was put out to another site is so, and what was heard
+  pub said : (j i : SiteId) (packet : Packet) → j ≢ i → put j i packet → IsSo catalog W j i packet
   pub heard : (i : SiteId) → IsHeardRight W put i
   -- what is in flight may come
   pub ready : (i : SiteId) (r : Record) → (W i).flight ≡ Some r → IsDue catalog W put i r

@@ -1,1 +1,4 @@
 pub mod Agreed
+pub mod Lost
+pub mod Grown
+pub mod Recorded
