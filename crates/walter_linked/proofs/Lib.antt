@@ -2,3 +2,4 @@ pub mod Agreed
 pub mod Lost
 pub mod Grown
 pub mod Recorded
+pub mod Due
