@@ -6,3 +6,4 @@ pub mod Due
 pub mod Said
 pub mod Heard
 pub mod Going
+pub mod Runs
