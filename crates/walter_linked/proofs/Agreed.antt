@@ -1,5 +1,5 @@
 -- What sites that are linked agree on, by how each stands and by what was put out. Nothing here speaks of a history.
-use Rattle.std.specs.Prelude.{◌≡◌, ◌≢◌, ◌+◌, ◌-◌, ◌<◌, ◌≤◌, ◌⊎◌, ℕ, true, false, List, [], length, slice_get, Option, Some, Contains, if◌then◌else◌}
+use Rattle.std.specs.Prelude.{◌≡◌, ◌≢◌, ◌+◌, ◌-◌, ◌≤◌, ◌⊎◌, ℕ, false, List, [], length, slice_get, Some, Contains, if◌then◌else◌}
 use Rattle.walter_base.specs.declared.catalog.Catalog.{Catalog}
 use Rattle.walter_base.specs.declared.message.Record.{Record}
 use Rattle.walter_base.specs.declared.message.Record.TheVariants.{Boot, Own, Got, Seen, Prepared, Released, SlowBegin, SlowEnd, Marks}
@@ -16,15 +16,12 @@ use Rattle.walter_base.specs.Names.{same_site}
 use Rattle.walter_base.specs.Values.{write_set}
 use Rattle.walter_base.specs.Vectors.{entry_at}
 use Rattle.walter_rules.specs.declared.held.Held.{Held}
-use Rattle.walter_rules.specs.Knowledge.{Knowledge, sites}
 use Rattle.walter_rules.specs.Log.{of_site, commit_at, sees}
 use Rattle.walter_rules.specs.Slow.{Slow, Unused, Undecided, Dropped, Part, Free, begun}
 use Rattle.walter_rules.specs.Standing.{Standing}
 use Rattle.walter_agreement.specs.Locking.{AreLocal, IsUnmodified, IsUnlocked, AgreesAt}
-use Rattle.walter_agreement.specs.Marks.{AreDurable, AreVisible}
 use Rattle.walter_agreement.proofs.CausalLogs.{IsCausalLog}
 use Rattle.walter_agreement.proofs.Locks.{AreLocked}
-use Rattle.walter_agreement.proofs.Marked.{AreMarked}
 use Rattle.walter_agreement.proofs.Numbers.{AreNumbered}
 use Rattle.walter_alone.proofs.Alone.{home}
 

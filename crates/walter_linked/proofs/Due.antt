@@ -1,7 +1,7 @@
 -- A record of each kind of what may come of an event may come.
-use Rattle.std.proofs.Common.{◌≡◌, ◌≢◌, ◌+◌, ◌<◌, ◌≤◌, ℕ, true, false, List, [], ◌∷◌, slice_get, Some, None, refl, ap, sym, ◌∙◌, subst, arith, inl, inr, ◌⊎◌}
+use Rattle.std.proofs.Common.{◌≡◌, ◌≢◌, ◌<◌, ◌≤◌, ℕ, true, List, [], ◌∷◌, slice_get, Some, None, refl, ap, sym, ◌∙◌, subst, inl, inr}
 use Rattle.std.specs.Prelude.{Option, Contains, IfSome, filter, map, not}
-use Rattle.std.proofs.lemmas.Bool.{cases_Bool, not-true, not-false}
+use Rattle.std.proofs.lemmas.Bool.{cases_Bool}
 use Rattle.std.proofs.lemmas.Option.{same_Some}
 use Rattle.walter_base.specs.declared.catalog.Catalog.{Catalog}
 use Rattle.walter_base.specs.declared.message.Record.{Record}
@@ -9,11 +9,10 @@ use Rattle.walter_base.specs.declared.names.ObjId.{ObjId}
 use Rattle.walter_base.specs.declared.names.SiteId.{SiteId}
 use Rattle.walter_base.specs.declared.names.Tid.{Tid}
 use Rattle.walter_base.specs.declared.names.Version.{Version}
-use Rattle.walter_base.specs.declared.packet.Answer.TheVariants.{Yes, No}
+use Rattle.walter_base.specs.declared.packet.Answer.TheVariants.{Yes}
 use Rattle.walter_base.specs.declared.packet.Packet.{Packet}
-use Rattle.walter_base.specs.declared.packet.Packet.TheVariants.{Propagate, Ack, Visible, Prepare, Vote, Release}
+use Rattle.walter_base.specs.declared.packet.Packet.TheVariants.{Propagate, Prepare, Vote, Release}
 use Rattle.walter_base.specs.declared.transaction.Tx.{Tx}
-use Rattle.walter_base.specs.declared.update.Update.{Update}
 use Rattle.walter_base.specs.Conflicts.{sees_version, first_outside, conflict_over}
 use Rattle.walter_base.specs.Values.{write_set}
 use Rattle.walter_base.specs.Vectors.{entry_at}
@@ -29,10 +28,9 @@ use Rattle.walter_rules.specs.Knowledge.{Knowledge}
 use Rattle.walter_rules.specs.Log.{version_of, wrote, row, sees as does_see}
 use Rattle.walter_rules.specs.Sessions.{tx_of}
 use Rattle.walter_rules.specs.Slow.{Undecided, Free, begun}
-use Rattle.walter_rules.specs.Standing.{Standing}
 use Rattle.walter_rules.proofs.Membership.{in_cases, is_kept}
 use Rattle.walter_agreement.specs.Locking.{IsUnmodified, IsUnlocked}
-use Rattle.walter_agreement.proofs.Cases.{none_not_some, object_is_in}
+use Rattle.walter_agreement.proofs.Cases.{object_is_in}
 use Rattle.walter_agreement.proofs.Lists.{place_mapped}
 use Rattle.walter_agreement.proofs.Owners.{unowned_unlocked}
 use Rattle.walter_alone.proofs.Alone.{IsAlone, home}

@@ -1,5 +1,5 @@
 -- Sites that agree agree still after a record that a restart found, and after an entry that is right.
-use Rattle.std.proofs.Common.{◌≡◌, ◌≢◌, ◌+◌, ◌<◌, ◌≤◌, ℕ, true, false, List, [], ◌∷◌, Some, None, refl, ap, sym, ◌∙◌, subst, arith, inl, inr, ◌⊎◌, if◌then◌else◌}
+use Rattle.std.proofs.Common.{◌≡◌, ◌≢◌, ◌<◌, ℕ, Some, None, refl, ap, sym, ◌∙◌, subst, arith, inl, inr, ◌⊎◌}
 use Rattle.std.specs.Prelude.{Option, Contains, IfSome}
 use Rattle.std.proofs.lemmas.Option.{same_Some}
 use Rattle.walter_base.specs.declared.catalog.Catalog.{Catalog}
@@ -17,16 +17,14 @@ use Rattle.walter_rules.specs.declared.event.Input.TheVariants.{Deliver}
 use Rattle.walter_rules.specs.declared.outcome.Outcome.{Outcome}
 use Rattle.walter_rules.specs.declared.outcome.Outcome.TheVariants.{Full}
 use Rattle.walter_rules.specs.Allowed.{IsTrueOf}
-use Rattle.walter_rules.specs.Knowledge.{Knowledge}
 use Rattle.walter_rules.specs.Learning.{recorded, after, lost}
 use Rattle.walter_rules.specs.Slow.{Unused}
 use Rattle.walter_rules.specs.Standing.{Standing, settled, flight_after, stands_after}
-use Rattle.walter_rules.specs.Trails.{IsOnly}
 use Rattle.walter_runs.proofs.Steps.{IsStep, stable, flies, unread_step, wants, finds_full}
 use Rattle.walter_alone.proofs.Alone.{IsAlone, home}
 use Rattle.walter_linked.proofs.Agreed.{Stands, Put, slows, IsSo, IsHeardRight, IsDue, AreAgreed}
 use Rattle.walter_linked.proofs.Due.{due_of}
-use Rattle.walter_linked.proofs.Grown.{IsRecorded, HasGrown, at_all, holds_all, has_grown, so_later, due_later}
+use Rattle.walter_linked.proofs.Grown.{IsRecorded, HasGrown, holds_all, has_grown, so_later, due_later}
 use Rattle.walter_linked.proofs.Heard.{step_taken, heard_later, heard_right}
 use Rattle.walter_linked.proofs.Lost.{lost_stands, lost_settled, lost_after}
 use Rattle.walter_linked.proofs.Recorded.{IsCore, recorded_core}
@@ -175,7 +173,7 @@ module _ (catalog : Catalog) (homes : (oid : ObjId) → (home catalog oid).0 < c
               subst (λ z. IsSo catalog W2 z k packet) (sym sent.0)
               (so_new catalog W put A alone i W2 G (core catalog W W2 put put2 A i (alone i) came.wrote R due) event K k packet (λ e. apart (sent.0 ∙ sym e)) same delivered
               (sent_by came step k packet sent.1))
-            )
+              )
         ])
         (heard_right catalog W W2 put put2 A G puts i event came.outcome came.wrote (step_taken catalog i (W i) event came step) delivered (ap (λ (S : Standing). S.knows) here))
         (λ r e. elim (flight_cases came.flight came.wrote came.outcome (W i).flight r (sym (ap (λ (S : Standing). S.flight) here) ∙ e)) [

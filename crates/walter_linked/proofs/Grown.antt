@@ -1,7 +1,7 @@
 -- How sites stand after a record of one of them, and what stays then: what was put out stays so, and what may come at another
 -- site may still come.
-use Rattle.std.proofs.Common.{◌≡◌, ◌≢◌, ◌+◌, ◌-◌, ◌≤◌, ◌⊎◌, ℕ, zero, suc, nat_eq, Bool, true, false, List, [], ◌∷◌, ◌++◌, slice_get, Some, None, refl, ap, sym, ◌∙◌, subst, arith, inl, inr, if◌then◌else◌}
-use Rattle.std.specs.Prelude.{Option, Contains, IfSome}
+use Rattle.std.proofs.Common.{◌≡◌, ◌≢◌, ◌+◌, ◌-◌, ◌≤◌, ℕ, zero, suc, nat_eq, Bool, true, false, List, slice_get, Some, None, refl, ap, sym, ◌∙◌, subst, arith, inl, inr, if◌then◌else◌}
+use Rattle.std.specs.Prelude.{Option}
 use Rattle.std.proofs.lemmas.List.Elements.{filter-append}
 use Rattle.std.proofs.lemmas.Bool.{cases_eq, ne_eqb}
 use Rattle.walter_base.specs.declared.catalog.Catalog.{Catalog}
@@ -21,15 +21,15 @@ use Rattle.walter_base.specs.Values.{write_set}
 use Rattle.walter_base.specs.Vectors.{entry_at}
 use Rattle.walter_rules.specs.declared.held.Held.{Held}
 use Rattle.walter_rules.specs.Knowledge.{Knowledge}
-use Rattle.walter_rules.specs.Learning.{recorded, lost, log_after, one_more, got_after, committed_after, slow_after, part_after, part_over, part_locked, part_unlocked, slow_number}
+use Rattle.walter_rules.specs.Learning.{recorded, lost, log_after, one_more, got_after, committed_after, slow_after, part_after, part_over, part_unlocked, slow_number}
 use Rattle.walter_rules.specs.Log.{is_of, of_site, commit_at}
-use Rattle.walter_rules.specs.Slow.{Slow, Unused, Undecided, Dropped, Decided, Part, Free, Locked, Over, begun, ended, decided, is_slow, unlocked}
+use Rattle.walter_rules.specs.Slow.{Slow, Unused, Undecided, Dropped, Decided, Free, Locked, Over, begun, ended, decided, is_slow}
 use Rattle.walter_rules.specs.Standing.{Standing}
 use Rattle.walter_agreement.specs.Locking.{IsUnmodified, IsUnlocked}
-use Rattle.walter_agreement.proofs.Cases.{site_cases, slow_cases, not_unused, none_not_some, locked_not_free}
+use Rattle.walter_agreement.proofs.Cases.{site_cases, slow_cases, not_unused}
 use Rattle.walter_agreement.proofs.Lists.{IsPrefix, prefix_refl, prefix_more, prefix_get}
 use Rattle.walter_alone.proofs.Alone.{home}
-use Rattle.walter_linked.proofs.Agreed.{Stands, Put, logs, owns, received, counts, slows, parts, IsOver, IsSo, IsDueOwn, IsDueGot, IsDueSeen, IsDuePrepared, IsDueSlow, IsDue}
+use Rattle.walter_linked.proofs.Agreed.{Stands, Put, logs, owns, received, counts, slows, parts, IsOver, IsSo, IsDue}
 
 -- site i has this record behind what it had, and the others stand as they stood
 pub record IsRecorded (catalog : Catalog) (i : SiteId) (rec : Option Record) (W W2 : Stands) : Type 0 where

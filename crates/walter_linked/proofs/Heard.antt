@@ -1,5 +1,5 @@
 -- What a site has heard of others is so.
-use Rattle.std.proofs.Common.{◌≡◌, ◌≢◌, ◌+◌, ◌≤◌, ℕ, nat_eq, max, true, false, List, [], ◌∷◌, ◌++◌, Some, None, refl, ap, sym, ◌∙◌, subst, arith, inl, inr, ◌⊎◌, if◌then◌else◌}
+use Rattle.std.proofs.Common.{◌≡◌, ◌≢◌, ◌≤◌, ℕ, nat_eq, true, false, List, [], ◌∷◌, ◌++◌, Some, refl, ap, sym, ◌∙◌, subst, arith, inl, inr, ◌⊎◌, if◌then◌else◌}
 use Rattle.std.specs.Prelude.{Option, Contains}
 use Rattle.std.proofs.lemmas.Bool.{eqb-true}
 use Rattle.std.proofs.lemmas.List.Elements.{Contains-append_cases}
@@ -13,7 +13,6 @@ use Rattle.walter_base.specs.declared.packet.Packet.{Packet}
 use Rattle.walter_base.specs.declared.packet.Packet.TheVariants.{Ack, Visible, Vote}
 use Rattle.walter_base.specs.declared.transaction.Conflict.{Conflict}
 use Rattle.walter_base.specs.declared.transaction.Conflict.TheVariants.{Dead}
-use Rattle.walter_base.specs.Names.{same_site}
 use Rattle.walter_psi.proofs.Lists.{Contains-nil, Contains-one}
 use Rattle.walter_rules.specs.declared.entry.Came.{Came}
 use Rattle.walter_rules.specs.declared.event.Event.{Event}
@@ -28,7 +27,7 @@ use Rattle.walter_rules.specs.Standing.{Standing, goes_down, knows_after}
 use Rattle.walter_rules.specs.Trails.{failure, want, fullness}
 use Rattle.walter_runs.proofs.Steps.{IsStep, stable, flies, unread_step, wants, finds_full}
 use Rattle.walter_agreement.proofs.Cases.{site_cases, none_not_some}
-use Rattle.walter_linked.proofs.Agreed.{Stands, Put, received, counts, IsSo, IsHeardRight, AreAgreed}
+use Rattle.walter_linked.proofs.Agreed.{Stands, Put, received, counts, IsHeardRight, AreAgreed}
 use Rattle.walter_linked.proofs.Grown.{HasGrown}
 
 -- a packet that is taken comes from another site, and a NO isn't that it is over there
@@ -161,8 +160,7 @@ module _ (catalog : Catalog) (W W2 : Stands) (put put2 : Put) (A : AreAgreed cat
   no_right Taken (Given (Deliver j number (Vote m (No other)))) taken delivered n conflict e =
       elim (nat_eq m n) as (λ b. nat_eq m n ≡ b → (if b then Some other else (W i).knows.said_no n) ≡ Some conflict → (p : SiteId) × (p ≢ i) × (conflict ≢ Dead) × put2 p i (Vote n (No conflict))) [
         | true ↦ λ is h.
-            let same : other ≡ conflict = same_Some other conflict h in
-            (
+            let same : other ≡ conflict = same_Some other conflict h in (
               j,
               taken.0,
               subst (λ z. z ≢ Dead) same taken.1,

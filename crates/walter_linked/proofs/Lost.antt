@@ -1,5 +1,5 @@
 -- What the records of a site tell goes on by records alone: replies, what is heard and a stop leave it.
-use Rattle.std.proofs.Common.{◌≡◌, ℕ, zero, suc, true, false, refl, ap, sym, ◌∙◌, Some, None, if◌then◌else◌}
+use Rattle.std.proofs.Common.{◌≡◌, ℕ, zero, suc, true, false, refl, ◌∙◌, Some, None, if◌then◌else◌}
 use Rattle.std.specs.Prelude.{Option}
 use Rattle.walter_base.specs.declared.catalog.Catalog.{Catalog}
 use Rattle.walter_base.specs.declared.message.Record.{Record}

@@ -1,6 +1,6 @@
 -- Numbers, logs and locks are kept by each record that may come.
-use Rattle.std.proofs.Common.{◌≡◌, ◌≢◌, ◌+◌, ◌-◌, ◌<◌, ◌≤◌, ◌⊎◌, ℕ, zero, suc, nat_eq, true, false, List, ◌∷◌, ◌++◌, [], length, slice_get, Some, None, refl, ap, sym, ◌∙◌, subst, arith, inl, inr, if◌then◌else◌}
-use Rattle.std.specs.Prelude.{Option, Contains, IfSome, option_map}
+use Rattle.std.proofs.Common.{◌≡◌, ◌≢◌, ◌+◌, ◌-◌, ◌<◌, ◌≤◌, ℕ, zero, suc, nat_eq, true, false, List, ◌∷◌, [], length, slice_get, Some, None, refl, ap, sym, ◌∙◌, subst, arith, inl, inr, if◌then◌else◌}
+use Rattle.std.specs.Prelude.{Option, IfSome, option_map}
 use Rattle.std.proofs.lemmas.Bool.{eqb-true}
 use Rattle.std.proofs.lemmas.List.{length-append}
 use Rattle.std.proofs.lemmas.Option.{same_Some}
@@ -10,32 +10,28 @@ use Rattle.walter_base.specs.declared.message.Record.TheVariants.{Boot, Own, Got
 use Rattle.walter_base.specs.declared.names.ObjId.{ObjId}
 use Rattle.walter_base.specs.declared.names.SiteId.{SiteId}
 use Rattle.walter_base.specs.declared.names.Tid.{Tid}
-use Rattle.walter_base.specs.declared.packet.Packet.{Packet}
 use Rattle.walter_base.specs.declared.packet.Packet.TheVariants.{Propagate, Prepare, Release}
 use Rattle.walter_base.specs.declared.transaction.Tx.{Tx}
-use Rattle.walter_base.specs.declared.update.Update.{Update}
 use Rattle.walter_base.specs.Names.{same_site}
-use Rattle.walter_base.specs.Values.{write_set}
 use Rattle.walter_base.specs.Vectors.{entry_at}
 use Rattle.walter_rules.specs.declared.held.Held.{Held}
 use Rattle.walter_rules.specs.Knowledge.{Knowledge}
-use Rattle.walter_rules.specs.Learning.{recorded, lost, log_after, got_after, committed_after, slow_after, part_after, part_over, slow_number}
+use Rattle.walter_rules.specs.Learning.{lost, log_after, got_after, committed_after, slow_after, part_after, part_over, slow_number}
 use Rattle.walter_rules.specs.Log.{of_site, commit_at}
 use Rattle.walter_rules.specs.Objects.{objects_at, participants}
-use Rattle.walter_rules.specs.Slow.{Slow, Unused, Undecided, Dropped, Decided, Part, Free, Locked, Over, begun, decided, is_slow, unlocked}
+use Rattle.walter_rules.specs.Slow.{Slow, Unused, Undecided, Dropped, Decided, Part, Free, Over, begun, decided, is_slow, unlocked}
 use Rattle.walter_rules.specs.Standing.{Standing}
 use Rattle.walter_rules.proofs.WrittenObjects.{in_objects_at, objects_at_from}
-use Rattle.walter_agreement.specs.Locking.{IsUnmodified, IsUnlocked, AgreesAt}
+use Rattle.walter_agreement.specs.Locking.{IsUnmodified}
 use Rattle.walter_agreement.proofs.Cases.{site_cases, slow_cases}
-use Rattle.walter_agreement.proofs.CausalLogs.{IsCausalLog, IsStartCovered, causal_pushed}
+use Rattle.walter_agreement.proofs.CausalLogs.{IsCausalLog, causal_pushed}
 use Rattle.walter_agreement.proofs.Lists.{prefix_length, prefix_get}
 use Rattle.walter_agreement.proofs.Locks.{AreLocked, unused_free, received as locked_received}
 use Rattle.walter_agreement.proofs.LocksKept.{IsOwnCommit, by_slow_begin, by_prepared, by_slow_end, by_boot, by_released, by_seen, by_fast, by_decision}
 use Rattle.walter_agreement.proofs.Numbers.{IsPushed, IsCounted, AreNumbered, counted_one_more, counted_rise, pushed_cases, pushed_of, owned_pushed, owned_kept, numbered_same, numbered_own, numbered_got, numbered_seen}
-use Rattle.walter_agreement.proofs.Tidy.{IsTidy}
 use Rattle.walter_alone.proofs.Alone.{IsAlone, home}
-use Rattle.walter_linked.proofs.Agreed.{Stands, Put, logs, owns, received, counts, slows, parts, IsSo, IsDue, AreAgreed}
-use Rattle.walter_linked.proofs.Grown.{IsRecorded, at_all, holds_all, log_here, got_here, committed_here, slow_here, part_here, log_away, got_away, committed_away, slow_away, part_away}
+use Rattle.walter_linked.proofs.Agreed.{Stands, Put, logs, owns, received, counts, slows, parts, IsDue, AreAgreed}
+use Rattle.walter_linked.proofs.Grown.{IsRecorded, at_all, log_here, got_here, committed_here, slow_here, part_here, log_away, got_away, committed_away, slow_away, part_away}
 
 -- what records alone tell
 pub record IsCore (catalog : Catalog) (W : Stands) : Type 0 where

@@ -1,5 +1,5 @@
 -- In each run the sites agree.
-use Rattle.std.proofs.Common.{◌≡◌, ◌≢◌, ◌+◌, ◌<◌, ◌≤◌, ℕ, true, false, List, [], ◌∷◌, Some, None, refl, ap, sym, ◌∙◌, subst, arith, inl, inr, ◌⊎◌, if◌then◌else◌}
+use Rattle.std.proofs.Common.{◌≡◌, ◌≢◌, ◌<◌, ◌≤◌, ℕ, false, List, [], ◌∷◌, Some, None, refl, ap, sym, ◌∙◌, subst, arith, inl, inr, ◌⊎◌}
 use Rattle.std.specs.Prelude.{Option, Contains, IfSome}
 use Rattle.std.specs.FinMap.{get}
 use Rattle.std.specs.Option.{option_map_or}
@@ -10,13 +10,11 @@ use Rattle.walter_base.specs.declared.message.Record.{Record}
 use Rattle.walter_base.specs.declared.names.ObjId.{ObjId}
 use Rattle.walter_base.specs.declared.names.SiteId.{SiteId}
 use Rattle.walter_base.specs.declared.packet.Packet.{Packet}
-use Rattle.walter_base.specs.Names.{same_site}
 use Rattle.walter_base.proofs.NameTests.{same_site_refl}
 use Rattle.walter_psi.proofs.Lists.{Contains-nil, Contains-one}
 use Rattle.walter_rules.specs.declared.entry.Entry.{Entry}
 use Rattle.walter_rules.specs.Merges.{Named, entries_of}
-use Rattle.walter_rules.specs.Sending.{Send}
-use Rattle.walter_rules.specs.Standing.{Standing, unmade, settled, stands_after}
+use Rattle.walter_rules.specs.Standing.{unmade, settled, stands_after}
 use Rattle.walter_rules.specs.Trails.{standing, IsFound, IsRightEntry, AreRight}
 use Rattle.walter_runs.specs.Runs.{stands, IsPut, IsNext, IsRun}
 use Rattle.walter_runs.proofs.Steps.{IsStep, step_of}
@@ -28,8 +26,7 @@ use Rattle.walter_agreement.proofs.Owners.{none_owned}
 use Rattle.walter_agreement.proofs.Tidy.{tidy_at_first}
 use Rattle.walter_alone.proofs.Alone.{IsAlone, issued_of, home}
 use Rattle.walter_linked.proofs.Agreed.{Stands, at_site, owns, logs, counts, slows, parts, IsDue, AreAgreed}
-use Rattle.walter_linked.proofs.Going.{if_some, agreed_settled, step_wrote, step_flight, step_grown, agreed_after}
-use Rattle.walter_linked.proofs.Grown.{HasGrown}
+use Rattle.walter_linked.proofs.Going.{if_some, agreed_settled, step_wrote, step_flight, agreed_after}
 
 -- where each container's preferred site is one of the sites, so is that of each object
 pub homes_below : (catalog : Catalog) → 0 < catalog.sites → ((id : ℕ) (container : Container) → get catalog.containers id ≡ Some container → container.preferred.0 < catalog.sites)

@@ -1,5 +1,5 @@
 -- What a site puts out to another says what is so.
-use Rattle.std.proofs.Common.{◌≡◌, ◌≢◌, ◌+◌, ◌-◌, ◌<◌, ◌≤◌, ℕ, true, false, List, [], ◌∷◌, slice_get, length, take, Some, None, refl, ap, sym, ◌∙◌, subst, arith, inl, inr, ◌⊎◌}
+use Rattle.std.proofs.Common.{◌≡◌, ◌≢◌, ◌-◌, ◌≤◌, ℕ, false, List, slice_get, length, take, Some, None, ap, sym, ◌∙◌, subst, arith, inl, inr}
 use Rattle.std.specs.Prelude.{Option, Contains, filter, map, not}
 use Rattle.std.proofs.lemmas.Bool.{not-true}
 use Rattle.std.proofs.lemmas.Option.{same_Some}
@@ -27,14 +27,14 @@ use Rattle.walter_rules.specs.Conflicts.{conflict_at}
 use Rattle.walter_rules.specs.Knowledge.{Knowledge}
 use Rattle.walter_rules.specs.Learning.{lost}
 use Rattle.walter_rules.specs.Log.{is_of, of_site, commit_at, version_of, wrote, row, sees}
-use Rattle.walter_rules.specs.Slow.{Slow, Unused, Free, Locked, Over, begun}
+use Rattle.walter_rules.specs.Slow.{Locked, begun}
 use Rattle.walter_rules.proofs.Membership.{kept_from, made_from}
 use Rattle.walter_rules.proofs.RuleTests.{one_meets}
 use Rattle.walter_rules.proofs.WrittenObjects.{in_objects_at, objects_at_from}
-use Rattle.walter_agreement.proofs.Cases.{not_unused, locked_not_free, object_in, HasEnded}
+use Rattle.walter_agreement.proofs.Cases.{not_unused, locked_not_free, object_in}
 use Rattle.walter_agreement.proofs.Lists.{prefix_get, place_filtered}
-use Rattle.walter_alone.proofs.Alone.{IsAlone, home}
-use Rattle.walter_linked.proofs.Agreed.{Stands, Put, logs, owns, received, counts, slows, parts, IsOver, IsSo, AreAgreed}
+use Rattle.walter_alone.proofs.Alone.{IsAlone}
+use Rattle.walter_linked.proofs.Agreed.{Stands, Put, logs, owns, slows, parts, IsOver, IsSo, AreAgreed}
 use Rattle.walter_linked.proofs.Grown.{HasGrown, over_later}
 use Rattle.walter_linked.proofs.Recorded.{IsCore, commit_held}
 
@@ -67,9 +67,14 @@ first_outside_held K snapshot oid version first =
     let outside = kept_from (λ v. not (sees_version snapshot v)) versions version (contains_at (filter (λ v. not (sees_version snapshot v)) versions) version 0 first) in
     let made = made_from version_of (row oid K.log) version outside.0 in
     let in_row = kept_from (wrote oid) K.log made.0 made.1 in
-    let place = place_of K.log made.0 in_row.0 in
-    (made.0, place.0, place.1, made.2, object_in oid (write_set made.0.tx.updates) in_row.1,
-        not-true (sees snapshot made.0) (ap (λ v. not (sees_version snapshot v)) made.2 ∙ outside.1))
+    let place = place_of K.log made.0 in_row.0 in (
+      made.0,
+      place.0,
+      place.1,
+      made.2,
+      object_in oid (write_set made.0.tx.updates) in_row.1,
+      not-true (sees snapshot made.0) (ap (λ v. not (sees_version snapshot v)) made.2 ∙ outside.1),
+    )
 
 module _ (catalog : Catalog) (W : Stands) (put : Put) (A : AreAgreed catalog W put) (alone : (k : SiteId) → IsAlone catalog k (W k)) (i : SiteId) where
   -- what a log has is an own commit of its site, by its number
@@ -91,41 +96,42 @@ module _ (catalog : Catalog) (W : Stands) (put : Put) (A : AreAgreed catalog W p
       let so = A.said to i (Prepare n met.tid met.start met.objects) apart (puts to met.number (Prepare n met.tid met.start met.objects) met.came) in
       let x = so.0 in
       let one = one_meets (W i).knows met.start met.objects conflict met.met in
-      let written : Contains (write_set x.updates) one.0 = (so.4 one.0 (so.5 one.0 one.1)).0 one.1 in
-      (x, so.1, elim conflict as (λ c. conflict_at (W i).knows met.start one.0 ≡ Some c → IsOver W x c) [
-        | Modified oid version ↦ λ is.
-            let over = over_modified one.0 oid (first_outside met.start (map version_of (row one.0 (logs W i)))) ((W i).knows.owner one.0) version is in
-            let held = first_outside_held (W i).knows met.start one.0 version over.1 in
-            let own = held_own held.0 held.1 held.2 in
-            let v : version_of held.0 ≡ version = held.3 in
-            (
-              subst (λ z. Contains (write_set x.updates) z) over.0 written,
-              (
-                held.0,
-                subst (λ (z : Version). slice_get (owns W z.site) (z.seq - 1) ≡ Some held.0) v own.1,
-                subst (λ (z : Version). 1 ≤ z.seq) v own.0,
-                subst (λ z. Contains (write_set held.0.tx.updates) z) over.0 held.4,
-                subst (λ s. sees s held.0 ≡ false) so.3 held.5,
-              ),
-            )
-        | LockedThere oid owner ↦ λ is.
-            let over = over_locked one.0 oid (first_outside met.start (map version_of (row one.0 (logs W i)))) ((W i).knows.owner one.0) owner is in
-            let lock = (alone i).owners.owned one.0 owner over.1 in
-            let held = A.locked.held i lock.0 lock.1 owner lock.2 lock.3 in
-            (
-              subst (λ z. Contains (write_set x.updates) z) over.0 written,
-              λ same.
-                  let tids : held.0.tid ≡ x.tid = sym held.2 ∙ same in
-                  let there = (alone to).tidy.named n x so.1 in
-                  let here = (alone lock.0).tidy.named lock.1 held.0 held.1 in
-                  let coordinator : lock.0 ≡ to = sym here.2 ∙ ap (λ (t : Tid). t.site) tids ∙ there.2 in
-                  let begun_there : begun (slows W to lock.1) ≡ Some held.0 = subst (λ z. begun (slows W z lock.1) ≡ Some held.0) coordinator held.1 in
-                  let number : lock.1 ≡ n = (alone to).tidy.apart lock.1 n held.0 x begun_there so.1 tids in
-                  locked_not_free (parts W i to n) owner lock.2
-                  (subst (λ z. parts W i z n ≡ Locked owner lock.2) coordinator (subst (λ m. parts W i lock.0 m ≡ Locked owner lock.2) number lock.3)) met.free,
-            )
-        | Dead ↦ λ is. tt
-      ] one.2)
+      let written : Contains (write_set x.updates) one.0 = (so.4 one.0 (so.5 one.0 one.1)).0 one.1 in (
+        x,
+        so.1,
+        elim conflict as (λ c. conflict_at (W i).knows met.start one.0 ≡ Some c → IsOver W x c) [
+          | Modified oid version ↦ λ is.
+              let over = over_modified one.0 oid (first_outside met.start (map version_of (row one.0 (logs W i)))) ((W i).knows.owner one.0) version is in
+              let held = first_outside_held (W i).knows met.start one.0 version over.1 in
+              let own = held_own held.0 held.1 held.2 in
+              let v : version_of held.0 ≡ version = held.3 in (
+                subst (λ z. Contains (write_set x.updates) z) over.0 written,
+                (
+                  held.0,
+                  subst (λ (z : Version). slice_get (owns W z.site) (z.seq - 1) ≡ Some held.0) v own.1,
+                  subst (λ (z : Version). 1 ≤ z.seq) v own.0,
+                  subst (λ z. Contains (write_set held.0.tx.updates) z) over.0 held.4,
+                  subst (λ s. sees s held.0 ≡ false) so.3 held.5,
+                ),
+              )
+          | LockedThere oid owner ↦ λ is.
+              let over = over_locked one.0 oid (first_outside met.start (map version_of (row one.0 (logs W i)))) ((W i).knows.owner one.0) owner is in
+              let lock = (alone i).owners.owned one.0 owner over.1 in
+              let held = A.locked.held i lock.0 lock.1 owner lock.2 lock.3 in (
+                subst (λ z. Contains (write_set x.updates) z) over.0 written,
+                λ same.
+                    let tids : held.0.tid ≡ x.tid = sym held.2 ∙ same in
+                    let there = (alone to).tidy.named n x so.1 in
+                    let here = (alone lock.0).tidy.named lock.1 held.0 held.1 in
+                    let coordinator : lock.0 ≡ to = sym here.2 ∙ ap (λ (t : Tid). t.site) tids ∙ there.2 in
+                    let begun_there : begun (slows W to lock.1) ≡ Some held.0 = subst (λ z. begun (slows W z lock.1) ≡ Some held.0) coordinator held.1 in
+                    let number : lock.1 ≡ n = (alone to).tidy.apart lock.1 n held.0 x begun_there so.1 tids in
+                    locked_not_free (parts W i to n) owner lock.2
+                    (subst (λ z. parts W i z n ≡ Locked owner lock.2) coordinator (subst (λ m. parts W i lock.0 m ≡ Locked owner lock.2) number lock.3)) met.free,
+              )
+          | Dead ↦ λ is. tt
+        ] one.2,
+      )
 
   module _ (W2 : Stands) (G : HasGrown W W2) (C : IsCore catalog W2) where
     pub so_new : (event : Event) (K : Knowledge) (to : SiteId) (packet : Packet) → to ≢ i → lost (W2 i).knows ≡ lost K
