@@ -1,5 +1,5 @@
 -- What sites that are linked agree on, by how each stands and by what was put out. Nothing here speaks of a history.
-use Rattle.std.specs.Prelude.{◌≡◌, ◌≢◌, ◌+◌, ◌-◌, ◌<◌, ◌≤◌, ◌⊎◌, ℕ, true, false, List, [], length, slice_get, Option, Some, Contains, if◌then◌else◌}
+use Rattle.std.specs.Prelude.{◌≡◌, ◌≢◌, ◌+◌, ◌-◌, ◌≤◌, ◌⊎◌, ℕ, false, List, [], length, slice_get, Some, Contains, if◌then◌else◌}
 use Rattle.walter_base.specs.declared.catalog.Catalog.{Catalog}
 use Rattle.walter_base.specs.declared.message.Record.{Record}
 use Rattle.walter_base.specs.declared.message.Record.TheVariants.{Boot, Own, Got, Seen, Prepared, Released, SlowBegin, SlowEnd, Marks}
@@ -16,15 +16,12 @@ use Rattle.walter_base.specs.Names.{same_site}
 use Rattle.walter_base.specs.Values.{write_set}
 use Rattle.walter_base.specs.Vectors.{entry_at}
 use Rattle.walter_rules.specs.declared.held.Held.{Held}
-use Rattle.walter_rules.specs.Knowledge.{Knowledge, sites}
 use Rattle.walter_rules.specs.Log.{of_site, commit_at, sees}
 use Rattle.walter_rules.specs.Slow.{Slow, Unused, Undecided, Dropped, Part, Free, begun}
 use Rattle.walter_rules.specs.Standing.{Standing}
 use Rattle.walter_agreement.specs.Locking.{AreLocal, IsUnmodified, IsUnlocked, AgreesAt}
-use Rattle.walter_agreement.specs.Marks.{AreDurable, AreVisible}
 use Rattle.walter_agreement.proofs.CausalLogs.{IsCausalLog}
 use Rattle.walter_agreement.proofs.Locks.{AreLocked}
-use Rattle.walter_agreement.proofs.Marked.{AreMarked}
 use Rattle.walter_agreement.proofs.Numbers.{AreNumbered}
 use Rattle.walter_alone.proofs.Alone.{home}
 
@@ -74,6 +71,7 @@ IsSo catalog W j i (Dsmark durable) = Unit {0}
 IsSo catalog W j i (Visible committed) = committed ≤ counts W j i
 IsSo catalog W j i (Prepare n tid start objects) =
     (x : Tx) × (begun (slows W j n) ≡ Some x) × (tid ≡ x.tid) × (start ≡ x.start) × AgreesAt (home catalog) i x objects
+    × ((oid : ObjId) → Contains objects oid → home catalog oid ≡ i)
 IsSo catalog W j i (Vote n Yes) = (slows W i n ≢ Unused) × (parts W j i n ≢ Free)
 IsSo catalog W j i (Vote n (No conflict)) = (x : Tx) × (begun (slows W i n) ≡ Some x) × IsOver W x conflict
 IsSo catalog W j i (Release n) = (x : Tx) × (asked : List SiteId) × (slows W j n ≡ Dropped x asked)
@@ -148,8 +146,8 @@ pub record AreAgreed (catalog : Catalog) (W : Stands) (put : Put) : Type 0 where
   pub causal : (i : SiteId) → IsCausalLog (logs W i)
   -- one lock on an object; who has said YES has it; what isn't committed everywhere has it
   pub locked : AreLocked (home catalog) (owns W) (logs W) (counts W) (slows W) (parts W)
-  -- what was put out is so, and what was heard
-  pub said : (j i : SiteId) (packet : Packet) → put j i packet → IsSo catalog W j i packet
+  -- what was put out to another site is so, and what was heard
+  pub said : (j i : SiteId) (packet : Packet) → j ≢ i → put j i packet → IsSo catalog W j i packet
   pub heard : (i : SiteId) → IsHeardRight W put i
   -- what is in flight may come
   pub ready : (i : SiteId) (r : Record) → (W i).flight ≡ Some r → IsDue catalog W put i r

@@ -188,17 +188,17 @@ module _ (catalog : Catalog) (i : SiteId) (S : Standing) where
       asked_lock = Given (Deliver j number (Prepare n tid start objects))
 
       -- a NO over what was met
-      refusal_true : (conflict : Conflict) → first_conflict S.knows start objects ≡ Some conflict
+      refusal_true : (conflict : Conflict) → S.knows.part j n ≡ Free → first_conflict S.knows start objects ≡ Some conflict
           → IsTrueOf catalog i S.knows asked_lock S.knows j (Vote n (No conflict))
-      refusal_true (Modified oid version) met = record { number = number; tid = tid; start = start; objects = objects; came = refl; met = met }
-      refusal_true (LockedThere oid owner) met = record { number = number; tid = tid; start = start; objects = objects; came = refl; met = met }
-      refusal_true Dead met = absurd (first_alive S.knows start objects Dead met refl)
+      refusal_true (Modified oid version) free met = record { free = free; number = number; tid = tid; start = start; objects = objects; came = refl; met = met }
+      refusal_true (LockedThere oid owner) free met = record { free = free; number = number; tid = tid; start = start; objects = objects; came = refl; met = met }
+      refusal_true Dead free met = absurd (first_alive S.knows start objects Dead met refl)
 
       -- a YES with the lock, or a NO
       free_by : are_lockable catalog S.knows i objects ≡ true → S.knows.part j n ≡ Free → (conflict : Option Conflict)
           → first_conflict S.knows start objects ≡ conflict
           → Allows catalog i S asked_lock (prepares j n tid objects conflict)
-      free_by regular free (Some conflict) met = answering asked_lock j (Vote n (No conflict)) (refusal_true conflict met)
+      free_by regular free (Some conflict) met = answering asked_lock j (Vote n (No conflict)) (refusal_true conflict free met)
       free_by regular free None none =
           recording asked_lock (Some (Prepared j n tid objects)) j (Vote n Yes)
           (IsKind.prepares j number n tid start objects peer free (lockable catalog i S.knows start objects regular none))

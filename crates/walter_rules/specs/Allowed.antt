@@ -170,8 +170,9 @@ pub data IsKind (catalog : Catalog) (i : SiteId) (S : Standing) : Event → Opti
   is_down : (event : Event) → IsKind catalog i S event None Down
   boots : S.up ≡ false → IsKind catalog i S Restart (Some (Boot (S.knows.epoch + 1))) Taken
 
--- a NO is over the conflict that the PREPARE met that came
+-- a NO is over the conflict that the PREPARE met that came, of which there is nothing here
 pub record IsMet (before : Knowledge) (event : Event) (to : SiteId) (n : ℕ) (conflict : Conflict) : Type 0 where
+  pub free : before.part to n ≡ Free
   pub number : ℕ
   pub tid : Tid
   pub start : List ℕ
