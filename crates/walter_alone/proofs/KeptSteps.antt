@@ -339,6 +339,7 @@ alone_of catalog i S I = record {
   outside = I.learned.outside;
   stopped = I.stopped;
   booted = I.booted;
+  boot = λ epoch is. subst (λ f. IfSome f (CanFollow catalog i S.knows)) is I.flies;
 }
 
 -- what holds of how a site stands by right entries, the newest first

@@ -147,13 +147,13 @@ module _ (catalog : Catalog) (i : SiteId) (W : Stands) (put : Put) (h : List Ste
       → Spells (at_site i (settled catalog i (Some rec) (W i)) W) (h ++ spelled_by W i (Some rec))
   kept_so (Boot epoch) down flies due = found_still (Boot epoch) tt tt (λ x g. rises x (subst (λ b. IsIssued (issued_by b (W i).knows) x) down g))
     where
-      rises : (x : Tid) → IsIssued (issued_by false (W i).knows) x → IsIssued (issued_of (settled catalog i (Some (Boot epoch)) (W i))) x
-      rises x g = subst (λ b. IsIssued (issued_by b (recorded catalog i (Some (Boot epoch)) (W i).knows)) x) (sym down) (later x g)
       later : (x : Tid) → IsIssued (issued_by false (W i).knows) x → IsIssued (issued_by false (recorded catalog i (Some (Boot epoch)) (W i).knows)) x
       later x g = let next = A.boot epoch flies in elim g [
         | inl before ↦ inl (omega (arith, before, next))
         | inr now ↦ let e = now.0 in inl (omega (arith, e, next))
       ]
+      rises : (x : Tid) → IsIssued (issued_by false (W i).knows) x → IsIssued (issued_of (settled catalog i (Some (Boot epoch)) (W i))) x
+      rises x g = subst (λ b. IsIssued (issued_by b (recorded catalog i (Some (Boot epoch)) (W i).knows)) x) (sym down) (later x g)
   kept_so (Own seq x) down flies due =
       let s : Session = record { tid = x.tid; snapshot = x.start; updates = x.updates; slow = x.slow } in
       let S1 = settled catalog i (Some (Own seq x)) (W i) in

@@ -93,13 +93,13 @@ module _ (catalog : Catalog) (i : SiteId) (W : Stands) (put : Put) (h : List Ste
   own_log x seq here = filter_push_kept (is_of i) (W i).knows.log (record { seq = seq; tx = x }) (ap (λ k. same_site k i) here ∙ same_site_refl i)
 
   -- a session that may commit is open, or its slow commit is being decided
-  not_decided : (s : Session) (seq : ℕ) → IsDueOwn catalog W i seq (tx_of s) → IsDecidedBy (W i) s → ⊥
+  pub not_decided : (s : Session) (seq : ℕ) → IsDueOwn catalog W i seq (tx_of s) → IsDecidedBy (W i) s → ⊥
   not_decided s seq due done = elim due.decided [
     | inl fast ↦ done.0 fast.0
     | inr slow ↦ decided_not_open (slows W i s.slow) done.1.0 (tx_of s) slow.1.0 done.1.1 slow.1.1
   ]
 
-  not_spent : (who : ℕ) (s : Session) (seq : ℕ) → held_by who (W i) ≡ Some s → IsDueOwn catalog W i seq (tx_of s) → spent_by who (W i) → ⊥
+  pub not_spent : (who : ℕ) (s : Session) (seq : ℕ) → held_by who (W i) ≡ Some s → IsDueOwn catalog W i seq (tx_of s) → spent_by who (W i) → ⊥
   not_spent who s seq has due gone =
       let is : gone.0 ≡ s = same_Some gone.0 s (sym gone.3 ∙ has) in
       elim due.decided [
