@@ -15,3 +15,5 @@ pub mod Others
 pub mod CallSteps
 pub mod OwnSteps
 pub mod Flights
+pub mod Causes
+pub mod Names
