@@ -17,3 +17,5 @@ pub mod OwnSteps
 pub mod Flights
 pub mod Causes
 pub mod Names
+pub mod KindSteps
+pub mod RunSteps
