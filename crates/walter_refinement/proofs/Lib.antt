@@ -19,3 +19,4 @@ pub mod Causes
 pub mod Names
 pub mod KindSteps
 pub mod RunSteps
+pub mod RunSpells
