@@ -7,3 +7,4 @@ pub mod Said
 pub mod Heard
 pub mod Going
 pub mod Runs
+pub mod MarksTold
