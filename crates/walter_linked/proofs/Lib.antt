@@ -8,3 +8,5 @@ pub mod Heard
 pub mod Going
 pub mod Runs
 pub mod MarksTold
+pub mod Marking
+pub mod MarkedRuns

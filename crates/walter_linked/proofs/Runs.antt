@@ -152,7 +152,7 @@ module _ (catalog : Catalog) (capacity : ℕ) (homes : (oid : ObjId) → (home c
       | inr apart ↦ subst (λ S. IsAlone catalog i S) (sym (found_away catalog older n i apart.1)) (run_alone older is i)
     ]
 
-    next_step : IsStep catalog n.0 (found catalog older n n.0) n.1.event n.1.came
+    pub next_step : IsStep catalog n.0 (found catalog older n n.0) n.1.event n.1.came
     next_step = subst (λ S. IsStep catalog n.0 S n.1.event n.1.came) (sym (found_here catalog older n))
         (step_of catalog capacity n.0 (settled catalog n.0 n.1.came.kept (stands catalog older n.0)) n.1.event n.1.came next.right.comes)
 
