@@ -1,6 +1,6 @@
 -- The owners of objects at one site are those of its locks, and each object is in one lock at most: kept where a lock comes
 -- or goes, and at the start of an epoch.
-use Rattle.std.proofs.Common.{◌≡◌, ◌≢◌, ◌⊎◌, ℕ, List, true, false, Some, None, if◌then◌else◌, ap, sym, ◌∙◌, refl, inl, inr}
+use Rattle.std.proofs.Common.{◌≡◌, ◌≢◌, ◌⊎◌, ℕ, List, Bool, true, false, Some, None, if◌then◌else◌, ap, sym, ◌∙◌, refl, inl, inr}
 use Rattle.std.specs.Prelude.{Contains, Option}
 use Rattle.std.proofs.lemmas.Option.{same_Some}
 use Rattle.walter_base.specs.declared.names.ObjId.{ObjId}
@@ -142,6 +142,48 @@ module _ (part : SiteId → ℕ → Part) (owner : ObjId → Option Tid) (O : Ar
               let f : ◌≡◌ {A = Option Tid} (Some u) (Some t) = sym (is_owner oid u e ∙ ap (λ z. if z then None else Some u) apart.0) ∙ h in
               (e ∙ f, λ j n objs a c. away j n (ap (λ z. same_site z i) (sym (site j n t objs a) ∙ ap (λ (y : Tid). y.site) (sym (same_Some u t f))) ∙ apart.0))
         ]
+      ] refl)
+
+  -- the same by which objects the locks of its own slow commits have
+  pub boot_here : (i : SiteId) (is_locked : ObjId → Bool) (part2 : SiteId → ℕ → Part) (owner2 : ObjId → Option Tid)
+      → ((oid : ObjId) → is_locked oid ≡ true → (n : ℕ) × (does_lock (part i n) oid ≡ true))
+      → ((n : ℕ) (t : Tid) (objs : List ObjId) (oid : ObjId) → part i n ≡ Locked t objs → has_object oid objs ≡ true → is_locked oid ≡ true)
+      → ((j : SiteId) (n : ℕ) → part2 j n ≡ (if same_site i j then unlocked (part j n) else part j n))
+      → ((oid : ObjId) → owner2 oid ≡ (if is_locked oid then None else owner oid)) → AreOwners part2 owner2
+  boot_here i is_locked part2 owner2 some all is_part is_owner =
+      let away : (j : SiteId) (n : ℕ) → same_site i j ≡ false
+      → part2 j n ≡ part j n = λ j n is. is_part j n ∙ ap (λ b. if b then unlocked (part j n) else part j n) is in
+      let here : (j : SiteId) (n : ℕ) (t : Tid) (objs : List ObjId) → same_site i j ≡ true
+      → part2 j n ≢ Locked t objs = λ j n t objs is h.
+      unlocked_not_locked (part j n) t objs (sym (is_part j n ∙ ap (λ b. if b then unlocked (part j n) else part j n) is) ∙ h) in
+      loosens part2 owner2
+      (λ j n. elim (site_cases i j) [
+        | inl same ↦ inr (λ t objs h. here j n t objs same.0 h)
+        | inr apart ↦ inl (away j n apart.0)
+      ])
+      (λ j n t objs oid a b c. elim (site_cases i j) [
+        | inl same ↦ absurd (here j n t objs same.0 b)
+        | inr apart ↦ elim (is_locked oid) as (λ z. is_locked oid ≡ z → owner2 oid ≡ Some t) [
+          | true ↦ λ is.
+              let l = some oid is in
+              elim (lock_cases (part i l.0) oid) [
+                | inl own ↦ absurd (apart.1 (O.single i j l.0 n own.0 t own.1 objs oid own.2 a own.3 c).0)
+                | inr none ↦ absurd (let e = l.1 in let f = none.0 in let g : true ≡ false = sym e ∙ f in cc)
+              ]
+          | false ↦ λ is. is_owner oid ∙ ap (λ z. if z then None else owner oid) is ∙ O.locked j n t objs oid a c
+        ] refl
+      ])
+      (λ oid t h. elim (is_locked oid) as (λ z. is_locked oid ≡ z → (owner oid ≡ Some t) × ((j : SiteId) (n : ℕ) (objs : List ObjId) → part j n ≡ Locked t objs → has_object oid objs ≡ true → part2 j n ≡ part j n)) [
+        | true ↦ λ is. absurd (none_not_some (owner2 oid) t (is_owner oid ∙ ap (λ z. if z then None else owner oid) is) h)
+        | false ↦ λ is. (
+          sym (is_owner oid ∙ ap (λ z. if z then None else owner oid) is) ∙ h,
+          λ j n objs a c. elim (site_cases i j) [
+            | inl same ↦
+                let own : part i n ≡ Locked t objs = ap (λ z. part z n) same.1 ∙ a in
+                absurd (let e = all n t objs oid own c in let f : true ≡ false = sym e ∙ is in cc)
+            | inr apart ↦ away j n apart.0
+          ],
+        )
       ] refl)
 
   -- a lock comes, on objects that no one owns

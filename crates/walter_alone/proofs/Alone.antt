@@ -1,6 +1,7 @@
 -- What a right trail keeps by itself, whatever other sites say.
 use Rattle.std.specs.Prelude.{◌≡◌, ◌≢◌, ◌+◌, ◌<◌, ◌≤◌, ◌⊎◌, ℕ, Bool, true, false, List, Some, Contains}
 use Rattle.walter_base.specs.declared.catalog.Catalog.{Catalog}
+use Rattle.walter_base.specs.declared.message.Record.TheVariants.{Boot}
 use Rattle.walter_base.specs.declared.names.ObjId.{ObjId}
 use Rattle.walter_base.specs.declared.names.SiteId.{SiteId}
 use Rattle.walter_base.specs.declared.names.Tid.{Tid}
@@ -56,3 +57,5 @@ pub record IsAlone (catalog : Catalog) (i : SiteId) (S : Standing) : Type 0 wher
   -- a site that is down knows what its records tell, and one that is up has an epoch
   pub stopped : S.up ≡ false → lost S.knows ≡ S.knows
   pub booted : S.up ≡ true → 0 < S.knows.epoch
+  -- a Boot in flight is of the next epoch
+  pub boot : (epoch : ℕ) → S.flight ≡ Some (Boot epoch) → epoch ≡ S.knows.epoch + 1

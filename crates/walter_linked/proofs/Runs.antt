@@ -50,6 +50,7 @@ alone_unmade catalog i = record {
   outside = λ k out. (refl, refl);
   stopped = λ down. refl;
   booted = λ up. absurd cc;
+  boot = λ epoch is. absurd cc;
 }
 
 -- the entries of a site with one more of it, and with one more of another

@@ -5,3 +5,13 @@ pub mod Spelled
 pub mod Facts
 pub mod AnyWriter
 pub mod Entries
+pub mod Moves
+pub mod Going
+pub mod Keys
+pub mod Quiet
+pub mod Vectors
+pub mod Spelling
+pub mod Others
+pub mod CallSteps
+pub mod OwnSteps
+pub mod Flights

@@ -1,0 +1,3 @@
+pub mod WrittenTrails
+pub mod CausalRun
+pub mod DecisionRun

@@ -1,0 +1,3 @@
+pub mod Entries
+pub mod CausalOrder
+pub mod DecisionInFlight
