@@ -10,3 +10,4 @@ pub mod Runs
 pub mod MarksTold
 pub mod Marking
 pub mod MarkedRuns
+pub mod Whole

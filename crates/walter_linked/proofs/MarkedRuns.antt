@@ -1,6 +1,6 @@
 -- In each run marks are true, and what clients are told of levels; and what a site has of another is that one's own commits.
-use Rattle.std.proofs.Common.{◌≡◌, ◌≢◌, ◌+◌, ◌-◌, ◌<◌, ◌≤◌, ℕ, zero, suc, nat_le, true, false, List, [], ◌∷◌, slice_get, Some, None, refl, ap, sym, ◌∙◌, subst, arith, inl, inr, ◌⊎◌, if◌then◌else◌}
-use Rattle.std.specs.Prelude.{Option, Contains, IfSome, Result, Ok}
+use Rattle.std.proofs.Common.{◌≡◌, ◌≢◌, ◌<◌, ◌≤◌, ℕ, nat_le, true, false, List, [], ◌∷◌, Some, None, refl, ap, sym, ◌∙◌, subst, arith, inl, inr, if◌then◌else◌}
+use Rattle.std.specs.Prelude.{Option, IfSome, Result, Ok}
 use Rattle.std.proofs.lemmas.Bool.{leb-true}
 use Rattle.std.proofs.lemmas.Option.{same_Some}
 use Rattle.walter_base.specs.declared.catalog.Catalog.{Catalog}
@@ -16,7 +16,6 @@ use Rattle.walter_base.specs.declared.message.Request.TheVariants.{Level as Leve
 use Rattle.walter_base.specs.declared.names.ObjId.{ObjId}
 use Rattle.walter_base.specs.declared.names.SiteId.{SiteId}
 use Rattle.walter_base.specs.declared.names.Tid.{Tid}
-use Rattle.walter_base.specs.declared.packet.Packet.{Packet}
 use Rattle.walter_base.specs.Names.{same_tid}
 use Rattle.walter_base.proofs.NameTests.{same_tid-true}
 use Rattle.walter_psi.proofs.Lists.{Contains-nil, place_of}
@@ -24,22 +23,21 @@ use Rattle.walter_rules.specs.declared.entry.Came.{Came}
 use Rattle.walter_rules.specs.declared.entry.Entry.{Entry}
 use Rattle.walter_rules.specs.declared.event.Event.{Event}
 use Rattle.walter_rules.specs.declared.event.Event.TheVariants.{Given, Restart}
-use Rattle.walter_rules.specs.declared.event.Input.TheVariants.{Call, Advance}
+use Rattle.walter_rules.specs.declared.event.Input.TheVariants.{Call}
 use Rattle.walter_rules.specs.declared.held.Held.{Held}
 use Rattle.walter_rules.specs.declared.outcome.Outcome.{Outcome}
 use Rattle.walter_rules.specs.declared.outcome.Outcome.TheVariants.{Replied}
 use Rattle.walter_rules.specs.Allowed.{IsKind, IsReadCall, of_value, of_counts, of_count, is_refused, starts, does, reads, ends, aborts, conflicts, commits, begins, waits, tells_version, tells_cause, levels_own, is_deciding, is_running, denies, passes, receives, hears_ack, hears_durable, hears_visible, marks_durable, marks_visible, prepares, hears_yes, decides, gives_up, releases, hears_released, sees, stops, is_down, boots}
 use Rattle.walter_rules.specs.Calls.{read_updates, seq_of, level_of_own}
-use Rattle.walter_rules.specs.Knowledge.{Knowledge, sites}
+use Rattle.walter_rules.specs.Knowledge.{sites}
 use Rattle.walter_rules.specs.Log.{of_site}
 use Rattle.walter_rules.specs.Marks.{durable_mark, visible_mark}
-use Rattle.walter_rules.specs.Merges.{Named, entries_of}
+use Rattle.walter_rules.specs.Merges.{Named}
 use Rattle.walter_rules.specs.Standing.{Standing, settled}
 use Rattle.walter_rules.specs.Trails.{standing, IsFound, IsRightEntry, AreRight, failure, want, fullness}
 use Rattle.walter_rules.proofs.Membership.{first_given}
-use Rattle.walter_runs.specs.Runs.{stands, IsPut, IsNext, IsRun}
+use Rattle.walter_runs.specs.Runs.{stands, IsPut, IsRun}
 use Rattle.walter_runs.proofs.Steps.{IsStep, stable, flies, unread_step, wants, finds_full}
-use Rattle.walter_agreement.specs.Marks.{AreDurable}
 use Rattle.walter_agreement.proofs.Cases.{none_not_some}
 use Rattle.walter_agreement.proofs.Lists.{prefix_get}
 use Rattle.walter_agreement.proofs.Marked.{none_marked}
@@ -48,7 +46,7 @@ use Rattle.walter_linked.specs.Marks.{IsDurableBy, IsVisibleBy, IsOwnCommit, Are
 use Rattle.walter_linked.proofs.Agreed.{Stands, Put, owns, received, counts, IsDue, AreAgreed}
 use Rattle.walter_linked.proofs.Going.{if_some}
 use Rattle.walter_linked.proofs.Grown.{at_all}
-use Rattle.walter_linked.proofs.Marking.{AreDurableIn, AreMarkedRight, IsTrueIn, wrote_true, marked_settled, marked_after}
+use Rattle.walter_linked.proofs.Marking.{AreMarkedRight, IsTrueIn, wrote_true, marked_settled, marked_after}
 use Rattle.walter_linked.proofs.MarksTold.{durable_true, visible_true}
 use Rattle.walter_linked.proofs.Recorded.{core_of}
 use Rattle.walter_linked.proofs.Runs.{found, found_here, found_away, stands_here, stands_away, put_later, put_cases, run_alone, found_alone, next_step, run_agrees, settled_agrees, kept_due, wrote_due}
@@ -80,14 +78,22 @@ module _ (catalog : Catalog) (homes : (oid : ObjId) → (home catalog oid).0 < c
       let one : 1 ≤ seq = let e = own.2 in omega (arith, e) in
       elim (nat_le seq (visible_mark catalog i (W i).knows)) as (λ b. nat_le seq (visible_mark catalog i (W i).knows) ≡ b
       → IsLevelRight catalog W i (Replied (Level (if b then Visible else if nat_le seq (durable_mark catalog i (W i).knows) then Durable else IsCommitted))) (Given (Call client (Ok (LevelAsked tid))))) [
-        | true ↦ λ is. (seq, own, λ k c.
-            let low = leb-true seq (visible_mark catalog i (W i).knows) is in
-            let all = visible_true catalog homes W (core_of catalog W put A) i (W i).knows refl (A.heard i).visible (M.marked.visibles i) k c in
-            omega (arith, low, all))
+        | true ↦ λ is. (
+          seq,
+          own,
+          λ k c.
+              let low = leb-true seq (visible_mark catalog i (W i).knows) is in
+              let all = visible_true catalog homes W (core_of catalog W put A) i (W i).knows refl (A.heard i).visible (M.marked.visibles i) k c in
+              omega (arith, low, all),
+        )
         | false ↦ λ isnt. elim (nat_le seq (durable_mark catalog i (W i).knows)) as (λ b. nat_le seq (durable_mark catalog i (W i).knows) ≡ b
             → IsLevelRight catalog W i (Replied (Level (if b then Durable else IsCommitted))) (Given (Call client (Ok (LevelAsked tid))))) [
-              | true ↦ λ is. (seq, own, durable_true catalog homes W (core_of catalog W put A) i (W i).knows refl (A.heard i).acknowledged (M.marked.durables i) seq one
-                  (leb-true seq (durable_mark catalog i (W i).knows) is))
+              | true ↦ λ is. (
+                seq,
+                own,
+                durable_true catalog homes W (core_of catalog W put A) i (W i).knows refl (A.heard i).acknowledged (M.marked.durables i) seq one
+                    (leb-true seq (durable_mark catalog i (W i).knows) is),
+              )
               | false ↦ λ low. tt
             ] refl
       ] refl

@@ -1,39 +1,35 @@
 -- What sites put out, journal and hear of marks stays true, step by step.
-use Rattle.std.proofs.Common.{◌≡◌, ◌≢◌, ◌+◌, ◌-◌, ◌<◌, ◌≤◌, ℕ, true, false, List, [], ◌∷◌, max, slice_get, Some, None, refl, ap, sym, ◌∙◌, subst, arith, inl, inr, ◌⊎◌, if◌then◌else◌}
-use Rattle.std.specs.Prelude.{Option, Contains, IfSome, Ok}
+use Rattle.std.proofs.Common.{◌≡◌, ◌≢◌, ◌+◌, ◌<◌, ◌≤◌, ℕ, true, false, Some, None, refl, ap, sym, ◌∙◌, subst, arith, inl, inr, ◌⊎◌, if◌then◌else◌}
+use Rattle.std.specs.Prelude.{Option, Contains, IfSome}
 use Rattle.std.proofs.lemmas.Option.{same_Some}
 use Rattle.walter_base.specs.declared.catalog.Catalog.{Catalog}
-use Rattle.walter_base.specs.declared.message.Level.TheVariants.{Durable, Visible}
 use Rattle.walter_base.specs.declared.message.Record.{Record}
-use Rattle.walter_base.specs.declared.message.Record.TheVariants.{Boot, Own, Got, Seen, Prepared, Released, SlowBegin, SlowEnd, Marks}
+use Rattle.walter_base.specs.declared.message.Record.TheVariants.{Own, Seen, Marks}
 use Rattle.walter_base.specs.declared.names.ObjId.{ObjId}
 use Rattle.walter_base.specs.declared.names.SiteId.{SiteId}
 use Rattle.walter_base.specs.declared.packet.Packet.{Packet}
 use Rattle.walter_base.specs.declared.packet.Packet.TheVariants.{Propagate, Ack, Dsmark, Visible as VisibleSaid, Prepare, Vote, Release, Released as ReleasedSaid}
-use Rattle.walter_base.specs.declared.transaction.Tx.{Tx}
-use Rattle.walter_base.specs.Names.{same_site}
 use Rattle.walter_rules.specs.declared.entry.Came.{Came}
 use Rattle.walter_rules.specs.declared.event.Event.{Event}
 use Rattle.walter_rules.specs.declared.event.Event.TheVariants.{Given}
 use Rattle.walter_rules.specs.declared.event.Input.TheVariants.{Deliver}
-use Rattle.walter_rules.specs.declared.held.Held.{Held}
 use Rattle.walter_rules.specs.declared.outcome.Outcome.{Outcome}
 use Rattle.walter_rules.specs.declared.outcome.Outcome.TheVariants.{Taken}
 use Rattle.walter_rules.specs.Allowed.{IsKind, IsTrueOf, is_refused, starts, does, reads, ends, aborts, conflicts, commits, begins, waits, tells_version, tells_cause, levels_own, is_deciding, is_running, denies, passes, receives, hears_ack, hears_durable, hears_visible, marks_durable, marks_visible, prepares, hears_yes, decides, gives_up, releases, hears_released, sees, stops, is_down, boots}
 use Rattle.walter_rules.specs.Knowledge.{Knowledge, sites}
-use Rattle.walter_rules.specs.Learning.{recorded, heard, after, lost, risen, said_durable_after, durable_after, visible_after, committed_after}
+use Rattle.walter_rules.specs.Learning.{heard, after, lost, said_durable_after, durable_after, visible_after, committed_after}
 use Rattle.walter_rules.specs.Marks.{durable_mark, visible_mark}
-use Rattle.walter_rules.specs.Standing.{Standing, settled, goes_down, knows_after, stands_after}
+use Rattle.walter_rules.specs.Standing.{Standing, settled, goes_down, stands_after}
 use Rattle.walter_runs.proofs.Steps.{IsStep, stable, flies, unread_step, wants, finds_full}
 use Rattle.walter_agreement.specs.Marks.{AreDurable, AreVisible}
 use Rattle.walter_agreement.proofs.Cases.{site_cases}
 use Rattle.walter_agreement.proofs.Marked.{AreMarked, IsTruePacket, IsTrueRecord, all_durable_later, durable_mark_true, marked_later, record_later}
 use Rattle.walter_alone.proofs.Alone.{IsAlone, home}
 use Rattle.walter_linked.proofs.Agreed.{Stands, Put, owns, received, counts, IsDue, AreAgreed}
-use Rattle.walter_linked.proofs.Going.{if_none, flight_cases, flight_by, sent_by, settled_recorded, grown, step_recorded, step_grown, wrote_by, agreed_after}
+use Rattle.walter_linked.proofs.Going.{if_none, flight_cases, sent_by, settled_recorded, grown, step_recorded, step_grown, wrote_by, agreed_after}
 use Rattle.walter_linked.proofs.Grown.{IsRecorded, HasGrown, holds_all}
 use Rattle.walter_linked.proofs.Heard.{IsTakenRight, step_taken, acknowledged_right, visible_right}
-use Rattle.walter_linked.proofs.Lost.{lost_after, lost_settled}
+use Rattle.walter_linked.proofs.Lost.{lost_after}
 use Rattle.walter_linked.proofs.MarksTold.{durable_true, visible_true}
 use Rattle.walter_linked.proofs.Recorded.{core_of}
 
@@ -77,9 +73,10 @@ module _ (catalog : Catalog) (homes : (oid : ObjId) → (home catalog oid).0 < c
       → (K : Knowledge) → K ≡ heard event Taken (W i).knows → AreDurableIn catalog W i (durable_mark catalog i K) × AreVisibleIn catalog W i (visible_mark catalog i K)
   marks_by event taken delivered K is =
       let L = heard event Taken (W i).knows in
-      subst (λ (z : Knowledge). AreDurableIn catalog W i (durable_mark catalog i z) × AreVisibleIn catalog W i (visible_mark catalog i z)) (sym is)
-      (durable_true catalog homes W (core_of catalog W put A) i L refl (acknowledged_right catalog W W put put A (grown_none W) (λ j k packet p. p) i Taken event taken delivered) (M.marked.durables i),
-      visible_true catalog homes W (core_of catalog W put A) i L refl (visible_right catalog W W put put A (grown_none W) (λ j k packet p. p) i Taken event taken delivered) (M.marked.visibles i))
+      subst (λ (z : Knowledge). AreDurableIn catalog W i (durable_mark catalog i z) × AreVisibleIn catalog W i (visible_mark catalog i z)) (sym is) (
+        durable_true catalog homes W (core_of catalog W put A) i L refl (acknowledged_right catalog W W put put A (grown_none W) (λ j k packet p. p) i Taken event taken delivered) (M.marked.durables i),
+        visible_true catalog homes W (core_of catalog W put A) i L refl (visible_right catalog W W put put A (grown_none W) (λ j k packet p. p) i Taken event taken delivered) (M.marked.visibles i),
+      )
 
   -- a record of each kind that speaks of marks is so
   true_of : (event : Event) (rec : Option Record) (outcome : Outcome) → IsKind catalog i (W i) event rec outcome

@@ -1,28 +1,26 @@
 -- A mark of a site that has heard what is so is true.
-use Rattle.std.proofs.Common.{◌≡◌, ◌≢◌, ◌+◌, ◌-◌, ◌<◌, ◌≤◌, ℕ, zero, suc, nat_eq, nat_le, ◌&&◌, Bool, true, false, List, [], ◌∷◌, length, slice_get, map, max, Some, None, refl, ap, sym, ◌∙◌, subst, arith, inl, inr, ◌⊎◌, if◌then◌else◌}
-use Rattle.std.specs.Prelude.{Option, Contains, option_map, not}
+use Rattle.std.proofs.Common.{◌≡◌, ◌≢◌, ◌+◌, ◌-◌, ◌<◌, ◌≤◌, ℕ, zero, suc, nat_eq, nat_le, ◌&&◌, Bool, true, false, List, [], ◌∷◌, length, slice_get, Some, refl, ap, sym, ◌∙◌, subst, arith, inl, inr, if◌then◌else◌}
+use Rattle.std.specs.Prelude.{Contains, option_map, not}
 use Rattle.std.specs.List.{count_by}
 use Rattle.std.specs.Option.{option_map_or}
 use Rattle.std.proofs.lemmas.Bool.{eqb-true, leb-true, cases_order}
 use Rattle.walter_base.specs.declared.catalog.Catalog.{Catalog}
 use Rattle.walter_base.specs.declared.names.ObjId.{ObjId}
 use Rattle.walter_base.specs.declared.names.SiteId.{SiteId}
-use Rattle.walter_base.specs.declared.transaction.Tx.{Tx}
-use Rattle.walter_base.specs.declared.update.Update.{Update}
 use Rattle.walter_base.specs.Names.{same_site}
 use Rattle.walter_base.specs.Values.{object_of}
 use Rattle.walter_base.proofs.NameTests.{both}
 use Rattle.walter_rules.specs.declared.held.Held.{Held}
 use Rattle.walter_rules.specs.Knowledge.{Knowledge, preferred, sites, peers}
 use Rattle.walter_rules.specs.Learning.{lost}
-use Rattle.walter_rules.specs.Log.{of_site, commit_at}
+use Rattle.walter_rules.specs.Log.{commit_at}
 use Rattle.walter_rules.specs.Marks.{passed, holds, is_at_homes, is_held, is_visible, durable_mark, visible_mark}
 use Rattle.walter_rules.proofs.Membership.{each_passes, made_from, is_kept}
 use Rattle.walter_agreement.specs.Marks.{IsDurable, AreDurable, AreVisible}
 use Rattle.walter_agreement.proofs.Cases.{site_cases, zero_or}
 use Rattle.walter_agreement.proofs.Marked.{durable_by_count, has_by_acks, visible_by_told, durable_mark_true, visible_mark_true, sites_below_distinct, site_below}
 use Rattle.walter_alone.proofs.Alone.{home}
-use Rattle.walter_linked.proofs.Agreed.{Stands, owns, logs, received, counts}
+use Rattle.walter_linked.proofs.Agreed.{Stands, owns, received, counts}
 use Rattle.walter_linked.proofs.Recorded.{IsCore}
 
 -- what stands at a place within a list
@@ -70,9 +68,10 @@ module _ (catalog : Catalog) (homes : (oid : ObjId) → (home catalog oid).0 < c
       (has_by_acks i (λ s. received W s i) K.acknowledged q (omega (arith, low, full, count, all)) acks)
       row.1 (leb-true (catalog.tolerated + 1) (count_by (holds i K q) (sites catalog)) parts.0)
       (λ oid c.
-      let made = made_from object_of row.0.tx.updates oid c in
-      (site_below catalog.sites (home catalog oid) (homes oid),
-      subst (λ o. holds i K q (home catalog o) ≡ true) made.2 (each_passes (λ update. holds i K q (preferred catalog K (object_of update))) row.0.tx.updates made.0 at made.1)))
+      let made = made_from object_of row.0.tx.updates oid c in (
+        site_below catalog.sites (home catalog oid) (homes oid),
+        subst (λ o. holds i K q (home catalog o) ≡ true) made.2 (each_passes (λ update. holds i K q (preferred catalog K (object_of update))) row.0.tx.updates made.0 at made.1),
+      ))
 
   -- so the durable mark is true, where its floor is
   pub durable_true : ((k : SiteId) → k ≢ i → K.acknowledged k ≤ received W k i) → AreDurable (home catalog) catalog.tolerated (owns W i) (λ s. received W s i) K.durable_floor

@@ -39,7 +39,7 @@ use Rattle.walter_linked.proofs.Grown.{HasGrown, over_later}
 use Rattle.walter_linked.proofs.Recorded.{IsCore, commit_held}
 
 -- a conflict over a version is over the first one outside, and one over a lock over the owner
-over_modified : (at oid : ObjId) (first : Option Version) (owner : Option Tid) (version : Version) → conflict_over at first owner ≡ Some (Modified oid version)
+pub over_modified : (at oid : ObjId) (first : Option Version) (owner : Option Tid) (version : Version) → conflict_over at first owner ≡ Some (Modified oid version)
     → (at ≡ oid) × (first ≡ Some version)
 over_modified at oid (Some v) owner version is =
     let e : Modified at v ≡ Modified oid version = same_Some (Modified at v) (Modified oid version) is in
@@ -49,7 +49,7 @@ over_modified at oid (Some v) owner version is =
 over_modified at oid None (Some t) version is = absurd (let e : LockedThere at t ≡ Modified oid version = same_Some (LockedThere at t) (Modified oid version) is in cc)
 over_modified at oid None None version is = absurd cc
 
-over_locked : (at oid : ObjId) (first : Option Version) (owner : Option Tid) (tid : Tid) → conflict_over at first owner ≡ Some (LockedThere oid tid)
+pub over_locked : (at oid : ObjId) (first : Option Version) (owner : Option Tid) (tid : Tid) → conflict_over at first owner ≡ Some (LockedThere oid tid)
     → (at ≡ oid) × (owner ≡ Some tid)
 over_locked at oid (Some v) owner tid is = absurd (let e : Modified at v ≡ LockedThere oid tid = same_Some (Modified at v) (LockedThere oid tid) is in cc)
 over_locked at oid None (Some t) tid is =

@@ -1,5 +1,5 @@
 -- What marks, levels and commits from other sites are to tell, by how all sites stand.
-use Rattle.std.specs.Prelude.{◌≡◌, ◌+◌, ℕ, List, ◌∷◌, slice_get, Some, ◌⊎◌, Ok}
+use Rattle.std.specs.Prelude.{◌≡◌, ◌+◌, ℕ, List, slice_get, Some, ◌⊎◌, Ok}
 use Rattle.walter_base.specs.declared.catalog.Catalog.{Catalog}
 use Rattle.walter_base.specs.declared.message.Level.TheVariants.{Durable, Visible}
 use Rattle.walter_base.specs.declared.message.Record.TheVariants.{Seen}
