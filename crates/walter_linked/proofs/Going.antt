@@ -35,7 +35,7 @@ pub if_some : {X : Type 0} (P : X → Type 0) (o : Option X) (x : X) → IfSome 
 if_some {X} P None x h e = absurd cc
 if_some {X} P (Some y) x h e = subst P (same_Some y x e) h
 
-if_none : {X : Type 0} (P : X → Type 0) (o : Option X) → o ≡ None → IfSome o P
+pub if_none : {X : Type 0} (P : X → Type 0) (o : Option X) → o ≡ None → IfSome o P
 if_none {X} P o e = subst (λ z. IfSome z P) (sym e) tt
 
 module _ (catalog : Catalog) (W W2 : Stands) (put put2 : Put) (A : AreAgreed catalog W put) (i : SiteId) (alone : IsAlone catalog i (W i)) (rec : Option Record)
@@ -76,7 +76,7 @@ module _ (catalog : Catalog) (W W2 : Stands) (put put2 : Put) (A : AreAgreed cat
 -- what a restart finds
 module _ (catalog : Catalog) (W W1 : Stands) (put : Put) (A : AreAgreed catalog W put) (i : SiteId) (alone : IsAlone catalog i (W i)) (kept : Option Record)
     (here : W1 i ≡ settled catalog i kept (W i)) (away : (k : SiteId) → k ≢ i → W1 k ≡ W k) (due : IfSome kept (IsDue catalog W put i)) where
-  settled_recorded : IsRecorded catalog i kept W W1
+  pub settled_recorded : IsRecorded catalog i kept W W1
   settled_recorded = record { here = ap (λ (S : Standing). lost S.knows) here ∙ lost_settled catalog i kept (W i); away = away }
 
   heard_settled : (rec : Option Record) (S : Standing) → ((k : SiteId) → (settled catalog i rec S).knows.acknowledged k ≡ S.knows.acknowledged k)
@@ -106,7 +106,7 @@ module _ (catalog : Catalog) (W W1 : Stands) (put : Put) (A : AreAgreed catalog 
           (λ j k packet p. p) r (A.ready i r e)
 
 -- the record in flight after an event is that of the event, or that before where there is no record
-flight_cases : (flight wrote : Option Record) (outcome : Outcome) (old : Option Record) (r : Record) → flight_after flight wrote outcome old ≡ Some r
+pub flight_cases : (flight wrote : Option Record) (outcome : Outcome) (old : Option Record) (r : Record) → flight_after flight wrote outcome old ≡ Some r
     → (flight ≡ Some r) ⊎ ((wrote ≡ None) × (old ≡ Some r))
 flight_cases (Some rec) wrote outcome old r e = inl e
 flight_cases None (Some rec) outcome old r e = absurd cc
@@ -117,14 +117,14 @@ flight_cases None None outcome old r e = inr (refl, e)
 module _ (catalog : Catalog) (homes : (oid : ObjId) → (home catalog oid).0 < catalog.sites) (W : Stands) (put : Put) (A : AreAgreed catalog W put) (alone : (k : SiteId) → IsAlone catalog k (W k))
     (i : SiteId) (event : Event) (came : Came) (step : IsStep catalog i (W i) event came)
     (delivered : (j : SiteId) (number : ℕ) (packet : Packet) → event ≡ Given (Deliver j number packet) → put j i packet) where
-  wrote_by : (c : Came) → IsStep catalog i (W i) event c → IfSome c.wrote (IsDue catalog W put i)
+  pub wrote_by : (c : Came) → IsStep catalog i (W i) event c → IfSome c.wrote (IsDue catalog W put i)
   wrote_by c (stable kind none sent) = due_of catalog homes W put A i (alone i) event c.wrote c.outcome kind delivered
   wrote_by c (flies rec outcome kind only) = if_none (IsDue catalog W put i) c.wrote only.wrote
   wrote_by c (unread_step restart down only) = if_none (IsDue catalog W put i) c.wrote only.wrote
   wrote_by c (wants takes only) = if_none (IsDue catalog W put i) c.wrote only.wrote
   wrote_by c (finds_full rec outcome need left kind only) = if_none (IsDue catalog W put i) c.wrote only.wrote
 
-  flight_by : (c : Came) → IsStep catalog i (W i) event c → IfSome c.flight (IsDue catalog W put i) × ((r : Record) → c.flight ≡ Some r → c.wrote ≡ None)
+  pub flight_by : (c : Came) → IsStep catalog i (W i) event c → IfSome c.flight (IsDue catalog W put i) × ((r : Record) → c.flight ≡ Some r → c.wrote ≡ None)
   flight_by c (stable kind none sent) = (if_none (IsDue catalog W put i) c.flight none, λ r e. absurd (let f : ◌≡◌ {A = Option Record} None (Some r) = sym none ∙ e in cc))
   flight_by c (flies rec outcome kind only) =
       (subst (λ o. IfSome o (IsDue catalog W put i)) (sym only.flight_is) (due_of catalog homes W put A i (alone i) event (Some rec) outcome kind delivered), λ r e. only.wrote)
@@ -132,7 +132,7 @@ module _ (catalog : Catalog) (homes : (oid : ObjId) → (home catalog oid).0 < c
   flight_by c (wants takes only) = (if_none (IsDue catalog W put i) c.flight only.flight_is, λ r e. only.wrote)
   flight_by c (finds_full rec outcome need left kind only) = (if_none (IsDue catalog W put i) c.flight only.flight_is, λ r e. only.wrote)
 
-  sent_by : (c : Came) → IsStep catalog i (W i) event c → (to : SiteId) (packet : Packet) → Contains c.sends (to, packet)
+  pub sent_by : (c : Came) → IsStep catalog i (W i) event c → (to : SiteId) (packet : Packet) → Contains c.sends (to, packet)
       → IsTrueOf catalog i (W i).knows event (after catalog i (W i).knows event c.outcome c.wrote) to packet
   sent_by c (stable kind none sent) to packet within = sent to packet within
   sent_by c (flies rec outcome kind only) to packet within = absurd (Contains-nil (to, packet) (subst (λ z. Contains z (to, packet)) only.sends within))
@@ -150,7 +150,7 @@ module _ (catalog : Catalog) (homes : (oid : ObjId) → (home catalog oid).0 < c
   module _ (W2 : Stands) (here : W2 i ≡ stands_after catalog i (W i) event came) (away : (k : SiteId) → k ≢ i → W2 k ≡ W k) (put2 : Put)
       (puts : (j k : SiteId) (packet : Packet) → put j k packet → put2 j k packet)
       (new : (j k : SiteId) (packet : Packet) → put2 j k packet → put j k packet ⊎ ((j ≡ i) × Contains came.sends (k, packet))) where
-    step_recorded : IsRecorded catalog i came.wrote W W2
+    pub step_recorded : IsRecorded catalog i came.wrote W W2
     step_recorded = record { here = ap (λ (S : Standing). lost S.knows) here ∙ lost_stands catalog i (W i) event came; away = away }
 
     pub step_grown : HasGrown W W2

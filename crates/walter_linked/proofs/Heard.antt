@@ -121,7 +121,7 @@ module _ (catalog : Catalog) (W W2 : Stands) (put put2 : Put) (A : AreAgreed cat
     said_no = λ n conflict e. let h = (A.heard i).said_no n conflict (sym (said_no n) ∙ e) in (h.0, h.1, h.2, puts h.0 i (Vote n (No conflict)) h.3);
   }
 
-  acknowledged_right : (outcome : Outcome) (event : Event) → IsTakenRight i outcome event
+  pub acknowledged_right : (outcome : Outcome) (event : Event) → IsTakenRight i outcome event
       → ((j : SiteId) (number : ℕ) (packet : Packet) → event ≡ Given (Deliver j number packet) → put j i packet)
       → (k : SiteId) → k ≢ i → acknowledged_after outcome event (W i).knows.acknowledged k ≤ received W2 k i
   acknowledged_right Taken (Given (Deliver j number (Ack got))) taken delivered k apart =
@@ -131,7 +131,7 @@ module _ (catalog : Catalog) (W W2 : Stands) (put put2 : Put) (A : AreAgreed cat
       risen_within j k got (W i).knows.acknowledged (λ z. received W2 z i) now (let a = (A.heard i).acknowledged k apart in let b = G.more k i in omega (arith, a, b))
   acknowledged_right outcome event taken delivered k apart = let a = (A.heard i).acknowledged k apart in let b = G.more k i in omega (arith, a, b)
 
-  visible_right : (outcome : Outcome) (event : Event) → IsTakenRight i outcome event
+  pub visible_right : (outcome : Outcome) (event : Event) → IsTakenRight i outcome event
       → ((j : SiteId) (number : ℕ) (packet : Packet) → event ≡ Given (Deliver j number packet) → put j i packet)
       → (k : SiteId) → k ≢ i → said_visible_after outcome event (W i).knows.visible k ≤ counts W2 k i
   visible_right Taken (Given (Deliver j number (Visible committed))) taken delivered k apart =

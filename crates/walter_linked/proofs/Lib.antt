@@ -7,3 +7,7 @@ pub mod Said
 pub mod Heard
 pub mod Going
 pub mod Runs
+pub mod MarksTold
+pub mod Marking
+pub mod MarkedRuns
+pub mod Whole

@@ -1,2 +1,6 @@
 //! What holds of each run of right and linked trails, whatever history it spells.
 #![tactic(auto)]
+
+mod laws;
+
+pub use laws::{holds_own_commits, marks_are_true};
