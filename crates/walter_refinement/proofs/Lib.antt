@@ -20,3 +20,4 @@ pub mod Names
 pub mod KindSteps
 pub mod RunSteps
 pub mod RunSpells
+pub mod Once
