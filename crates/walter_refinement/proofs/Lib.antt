@@ -21,3 +21,5 @@ pub mod KindSteps
 pub mod RunSteps
 pub mod RunSpells
 pub mod Once
+pub mod NamedAborts
+pub mod Trails
