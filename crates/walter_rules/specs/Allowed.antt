@@ -1,6 +1,6 @@
 -- The rules once more, as a relation: one case for each kind of thing that may come of an event, with what holds then. Proofs
 -- over runs go by these cases.
-use Rattle.std.specs.Prelude.{◌≡◌, ◌≢◌, ◌⊎◌, ℕ, ◌+◌, ◌<◌, ◌≤◌, nat_le, max, true, false, List, [], ◌∷◌, Option, Some, None, Contains, All, IsTrue, Result, Ok}
+use Rattle.std.specs.Prelude.{◌≡◌, ◌≢◌, ℕ, ◌+◌, ◌<◌, ◌≤◌, true, false, List, [], ◌∷◌, Option, Some, None, Contains, IsTrue, Result, Ok}
 use Rattle.walter_base.specs.declared.catalog.Catalog.{Catalog}
 use Rattle.walter_base.specs.declared.message.BadFrame.{BadFrame}
 use Rattle.walter_base.specs.declared.message.Level.TheVariants.{NotCommitted, Running, Deciding as BeingDecided}
@@ -27,20 +27,19 @@ use Rattle.walter_base.specs.Values.{value_of, count_of, counts_of, write_set}
 use Rattle.walter_base.specs.Vectors.{entry_at}
 use Rattle.walter_rules.specs.declared.event.Event.{Event}
 use Rattle.walter_rules.specs.declared.event.Event.TheVariants.{Given, Stop, Restart}
-use Rattle.walter_rules.specs.declared.event.Input.TheVariants.{Call, Deliver, Advance, Tick}
+use Rattle.walter_rules.specs.declared.event.Input.TheVariants.{Call, Deliver, Advance}
 use Rattle.walter_rules.specs.declared.outcome.Outcome.{Outcome}
 use Rattle.walter_rules.specs.declared.outcome.Outcome.TheVariants.{Replied, Taken, Passed, Down}
 use Rattle.walter_rules.specs.Calls.{Expected, next_tid, next_seq, next_slow, own_version, read_updates, seq_of, level_of_own, is_issued, is_undecided, is_open}
 use Rattle.walter_rules.specs.Conflicts.{conflict_at, first_conflict, cause_of}
 use Rattle.walter_rules.specs.Declarations.{is_declared, are_declared, are_lockable}
-use Rattle.walter_rules.specs.Deliveries.{is_peer, covers}
 use Rattle.walter_rules.specs.Knowledge.{Knowledge, preferred, session_of}
 use Rattle.walter_rules.specs.Learning.{after, heard}
 use Rattle.walter_rules.specs.Log.{commit_at}
 use Rattle.walter_rules.specs.Marks.{durable_mark, visible_mark}
 use Rattle.walter_rules.specs.Objects.{objects_at}
 use Rattle.walter_rules.specs.Sessions.{Session, with_slow, tx_of}
-use Rattle.walter_rules.specs.Slow.{Slow, Undecided, Dropped, Decided, Part, Free, Locked, Over, has_site}
+use Rattle.walter_rules.specs.Slow.{Undecided, Dropped, Decided, Free, Locked, Over}
 use Rattle.walter_rules.specs.Standing.{Standing}
 
 -- the update that a call asks for

@@ -1,5 +1,5 @@
 -- The rule of a client's call: what it is answered at a site that is up (docs/SITE.md).
-use Rattle.std.specs.Prelude.{ℕ, ℤ, zero, suc, ◌+◌, nat_eq, nat_le, nat_lt, Bool, true, false, not, ◌&&◌, ◌||◌, List, [], ◌∷◌, ◌++◌, length, flat_map, filter, filter_map, slice_get, Option, Some, None, option_map, Result, Ok, Err, if◌then◌else◌}
+use Rattle.std.specs.Prelude.{ℕ, ℤ, zero, suc, ◌+◌, nat_eq, nat_le, nat_lt, Bool, true, false, not, ◌&&◌, ◌||◌, List, [], ◌∷◌, ◌++◌, length, flat_map, filter, filter_map, slice_get, Option, Some, None, Result, Ok, Err, if◌then◌else◌}
 use Rattle.std.specs.FinMap.{get}
 use Rattle.std.specs.List.{list_any}
 use Rattle.walter_base.specs.declared.catalog.Catalog.{Catalog}
@@ -23,23 +23,21 @@ use Rattle.walter_base.specs.declared.names.Tid.{Tid}
 use Rattle.walter_base.specs.declared.names.Version.{Version}
 use Rattle.walter_base.specs.declared.transaction.Cause.TheVariants.{Asked}
 use Rattle.walter_base.specs.declared.transaction.Conflict.{Conflict}
-use Rattle.walter_base.specs.declared.transaction.Tx.{Tx}
 use Rattle.walter_base.specs.declared.update.Update.{Update}
 use Rattle.walter_base.specs.declared.update.Update.TheVariants.{Write as WriteOf, Add, Del}
 use Rattle.walter_base.specs.Names.{same_site, same_tid}
 use Rattle.walter_base.specs.Sizes.{size_of_updates}
 use Rattle.walter_base.specs.Values.{value_of, count_of, counts_of}
-use Rattle.walter_rules.specs.declared.held.Held.{Held}
 use Rattle.walter_rules.specs.declared.outcome.Outcome.{Outcome}
 use Rattle.walter_rules.specs.declared.outcome.Outcome.TheVariants.{Replied}
 use Rattle.walter_rules.specs.Conflicts.{first_conflict, cause_of}
-use Rattle.walter_rules.specs.Knowledge.{Knowledge, peers, from_to}
+use Rattle.walter_rules.specs.Knowledge.{Knowledge, from_to}
 use Rattle.walter_rules.specs.Learning.{recorded}
 use Rattle.walter_rules.specs.Log.{of_site, sees}
 use Rattle.walter_rules.specs.Marks.{durable_mark, visible_mark}
 use Rattle.walter_rules.specs.Objects.{objects_at, are_local, participants}
 use Rattle.walter_rules.specs.Sending.{Send, to_each, own_sends, prepare_of}
-use Rattle.walter_rules.specs.Sessions.{Session, Sessions, session_in, with_slow, tx_of}
+use Rattle.walter_rules.specs.Sessions.{Session, Sessions, with_slow, tx_of}
 use Rattle.walter_rules.specs.Slow.{Slow, Unused, Undecided, Dropped, Decided}
 
 -- what an event is to bring: at most one record, an outcome, and what is put out

@@ -1,5 +1,5 @@
 -- What stands in the way of a commit, by what a site knows (docs/SITE.md, "Conflicts").
-use Rattle.std.specs.Prelude.{◌≡◌, ℕ, List, map, filter_map, slice_get, Option, Some, None, Contains, IsTrue, IfSome}
+use Rattle.std.specs.Prelude.{ℕ, List, map, filter_map, slice_get, Option}
 use Rattle.walter_base.specs.declared.names.ObjId.{ObjId}
 use Rattle.walter_base.specs.declared.transaction.Cause.{Cause}
 use Rattle.walter_base.specs.declared.transaction.Cause.TheVariants.{Modified, Locked, Asked}
@@ -8,7 +8,6 @@ use Rattle.walter_base.specs.declared.transaction.Conflict.TheVariants.{Modified
 use Rattle.walter_base.specs.Conflicts.{conflict_on}
 use Rattle.walter_rules.specs.Knowledge.{Knowledge}
 use Rattle.walter_rules.specs.Log.{row, version_of}
-use Rattle.walter_rules.specs.Objects.{precedes}
 
 -- on one object: the first version in its row that the snapshot doesn't see, or else its lock
 abbrev pub conflict_at : Knowledge → List ℕ → ObjId → Option Conflict

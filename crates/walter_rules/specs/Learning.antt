@@ -1,6 +1,6 @@
 -- What a site knows after a record, after a reply, and after what a peer said; and what is left of it at a stop. Each field
 -- goes by itself, by the record, the reply or the packet first.
-use Rattle.std.specs.Prelude.{ℕ, zero, suc, ◌+◌, nat_eq, max, Bool, true, List, [], ◌∷◌, ◌++◌, Option, Some, None, Result, Ok, if◌then◌else◌}
+use Rattle.std.specs.Prelude.{ℕ, zero, suc, ◌+◌, nat_eq, max, Bool, List, [], ◌∷◌, ◌++◌, Option, Some, None, Result, Ok, if◌then◌else◌}
 use Rattle.std.specs.List.{list_any}
 use Rattle.walter_base.specs.declared.catalog.Catalog.{Catalog}
 use Rattle.walter_base.specs.declared.message.BadFrame.{BadFrame}

@@ -1,5 +1,5 @@
 -- Which objects a transaction writes, in order, and at which sites they are preferred.
-use Rattle.std.specs.Prelude.{nat_eq, nat_lt, Bool, not, ◌&&◌, ◌||◌, ℕ, List, [], ◌∷◌, filter, if◌then◌else◌}
+use Rattle.std.specs.Prelude.{nat_eq, nat_lt, Bool, ◌&&◌, ◌||◌, List, [], ◌∷◌, filter, if◌then◌else◌}
 use Rattle.std.specs.List.{list_any, list_all}
 use Rattle.walter_base.specs.declared.catalog.Catalog.{Catalog}
 use Rattle.walter_base.specs.declared.names.ObjId.{ObjId}

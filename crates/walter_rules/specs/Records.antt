@@ -10,7 +10,7 @@ use Rattle.walter_base.specs.Sizes.{CanBeSpelled, CanBeRecorded}
 use Rattle.walter_rules.specs.Calls.{next_seq, next_slow}
 use Rattle.walter_rules.specs.Declarations.{are_declared, are_lockable}
 use Rattle.walter_rules.specs.Deliveries.{is_peer, covers}
-use Rattle.walter_rules.specs.Knowledge.{Knowledge, fresh}
+use Rattle.walter_rules.specs.Knowledge.{Knowledge}
 use Rattle.walter_rules.specs.Learning.{recorded}
 use Rattle.walter_rules.specs.Log.{commit_at}
 use Rattle.walter_rules.specs.Objects.{objects_at}

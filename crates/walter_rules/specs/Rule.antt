@@ -1,5 +1,5 @@
 -- The rules of a site: what an event is to come to, by how the site stands (docs/SITE.md).
-use Rattle.std.specs.Prelude.{◌+◌, Bool, true, false, List, [], ◌∷◌, Option, Some, None, Result, Ok, Err}
+use Rattle.std.specs.Prelude.{◌+◌, Bool, true, false, [], Some, None, Result, Ok, Err}
 use Rattle.walter_base.specs.declared.catalog.Catalog.{Catalog}
 use Rattle.walter_base.specs.declared.message.BadFrame.{BadFrame as Bad}
 use Rattle.walter_base.specs.declared.message.Record.TheVariants.{Boot}
@@ -10,7 +10,7 @@ use Rattle.walter_rules.specs.declared.event.Event.{Event}
 use Rattle.walter_rules.specs.declared.event.Event.TheVariants.{Given, Stop, Restart}
 use Rattle.walter_rules.specs.declared.event.Input.{Input}
 use Rattle.walter_rules.specs.declared.event.Input.TheVariants.{Call, Deliver, Advance, Tick}
-use Rattle.walter_rules.specs.declared.outcome.Outcome.TheVariants.{Taken, Passed, Down}
+use Rattle.walter_rules.specs.declared.outcome.Outcome.TheVariants.{Taken, Down}
 use Rattle.walter_rules.specs.Calls.{Expected, call_rule, if_told, down_rule}
 use Rattle.walter_rules.specs.Deliveries.{passes, deliver_rule, advance_rule}
 use Rattle.walter_rules.specs.Knowledge.{Knowledge, peers, session_of}

@@ -1,5 +1,5 @@
 -- What a site puts out: to each peer by kind, and packets of one kind by number (docs/SITE.md, "What is put out").
-use Rattle.std.specs.Prelude.{ℕ, ◌+◌, nat_le, nat_lt, min, max, not, Bool, true, false, ◌&&◌, List, [], ◌∷◌, ◌++◌, map, filter_map, flat_map, Option, Some, None, option_map, if◌then◌else◌}
+use Rattle.std.specs.Prelude.{ℕ, ◌+◌, nat_le, nat_lt, min, max, not, ◌&&◌, List, [], ◌∷◌, ◌++◌, map, filter_map, flat_map, option_map, if◌then◌else◌}
 use Rattle.walter_base.specs.declared.catalog.Catalog.{Catalog}
 use Rattle.walter_base.specs.declared.names.SiteId.{SiteId}
 use Rattle.walter_base.specs.declared.packet.Packet.{Packet}

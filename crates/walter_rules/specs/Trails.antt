@@ -11,10 +11,10 @@ use Rattle.walter_base.specs.Sizes.{size_of_record}
 use Rattle.walter_rules.specs.declared.entry.Came.{Came}
 use Rattle.walter_rules.specs.declared.entry.Entry.{Entry}
 use Rattle.walter_rules.specs.declared.event.Event.{Event}
-use Rattle.walter_rules.specs.declared.event.Event.TheVariants.{Given, Stop, Restart}
+use Rattle.walter_rules.specs.declared.event.Event.TheVariants.{Given, Restart}
 use Rattle.walter_rules.specs.declared.event.Input.TheVariants.{Call, Deliver, Advance, Tick}
 use Rattle.walter_rules.specs.declared.outcome.Outcome.{Outcome}
-use Rattle.walter_rules.specs.declared.outcome.Outcome.TheVariants.{Replied, Taken, Failed, Full, Memory}
+use Rattle.walter_rules.specs.declared.outcome.Outcome.TheVariants.{Replied, Failed, Full, Memory}
 use Rattle.walter_rules.specs.Calls.{Expected}
 use Rattle.walter_rules.specs.Rule.{rule, MayWant}
 use Rattle.walter_rules.specs.Sending.{Send}

@@ -1,11 +1,10 @@
 -- Right and linked trails, merged and taken newest first, are a run.
-use Rattle.std.proofs.Common.{◌≡◌, ℕ, zero, suc, ◌+◌, ◌<◌, ◌≤◌, nat_lt, nat_le, true, false, List, [], ◌∷◌, ◌++◌, length, reverse, take, refl, ap, sym, ◌∙◌, subst, arith, if◌then◌else◌, slice_get, Some, inl, inr, ◌⊎◌}
-use Rattle.std.specs.Prelude.{Contains, Option, None, filter_map, flat_map, slice_index_or}
+use Rattle.std.proofs.Common.{◌≡◌, ℕ, zero, suc, ◌<◌, ◌≤◌, true, false, List, [], ◌∷◌, ◌++◌, length, reverse, take, refl, ap, sym, ◌∙◌, subst, arith, if◌then◌else◌, slice_get, Some, inl, inr}
+use Rattle.std.specs.Prelude.{Contains, Option, None, filter_map, slice_index_or}
 use Rattle.std.specs.List.{cons_option}
 use Rattle.std.proofs.lemmas.Bool.Decides.{leb_tells}
 use Rattle.std.proofs.lemmas.List.{append-nil, append_assoc, reverse-append, reverse-reverse}
 use Rattle.std.proofs.lemmas.List.Elements.{Contains-append_left, Contains-append_right, Contains-append_cases}
-use Rattle.std.proofs.lemmas.Option.{slice_get_within}
 use Rattle.walter_base.specs.declared.catalog.Catalog.{Catalog}
 use Rattle.walter_base.specs.declared.names.SiteId.{SiteId}
 use Rattle.walter_base.specs.declared.packet.Packet.{Packet}
@@ -16,10 +15,10 @@ use Rattle.walter_rules.specs.declared.entry.Entry.{Entry}
 use Rattle.walter_rules.specs.declared.event.Event.{Event}
 use Rattle.walter_rules.specs.declared.event.Event.TheVariants.{Given, Stop, Restart}
 use Rattle.walter_rules.specs.declared.event.Input.TheVariants.{Call, Deliver, Advance, Tick}
-use Rattle.walter_rules.specs.Merges.{Named, entries_of, named_from, merge, Stamped, sent_to, put_out_to, trail_of, AreLinked}
+use Rattle.walter_rules.specs.Merges.{Named, entries_of, named_from, merge, Stamped, sent_to, put_out_to, trail_of}
 use Rattle.walter_rules.specs.Sending.{Send}
-use Rattle.walter_rules.specs.Trails.{clock, IsNextStamp, IsRightEntry, AreRight, IsRightTrail}
-use Rattle.walter_runs.specs.Runs.{IsPut, IsNext, IsRun, AreRightTrails}
+use Rattle.walter_rules.specs.Trails.{clock, IsNextStamp, IsRightEntry, AreRight}
+use Rattle.walter_runs.specs.Runs.{IsNext, IsRun, AreRightTrails}
 use Rattle.walter_runs.proofs.Merging.{Rises, Leads, IsInOrder, in_order_is, leads_behind, no_greater, entries_of-append, entries_of-reverse, merged_of}
 
 -- a next stamp is above the last one
@@ -93,14 +92,14 @@ sent_by : (i : SiteId) (stamp : ℕ) (sends : List Send) (put : ℕ) (packet : P
 sent_by i stamp [] put packet c = absurd (Contains-nil (put, packet) c)
 sent_by i stamp (s ∷ sends) put packet c = elim (same_site s.0 i) as (λ b. same_site s.0 i ≡ b
     → Contains (cons_option (if b then Some (stamp, s.1) else None) (filter_map (stamped_for i stamp) sends)) (put, packet) → (stamp ≡ put) × Contains (s ∷ sends) (i, packet)) [
-  | true ↦ λ here stands. elim (Contains-append_cases ((stamp, s.1) ∷ []) (filter_map (stamped_for i stamp) sends) (put, packet) stands) [
-    | inl first ↦
-        let one : (stamp, s.1) ≡ (put, packet) = Contains-one (stamp, s.1) (put, packet) first in
-        (ap (λ (z : Stamped). z.0) one, subst (λ (z : Send). Contains (s ∷ sends) z) (λ t. (same_site-true s.0 i here t, (one t).1)) (contains_at (s ∷ sends) s 0 refl))
-    | inr later ↦ let rest = sent_by i stamp sends put packet later in (rest.0, Contains-append_right (s ∷ []) sends (i, packet) rest.1)
-  ]
-  | false ↦ λ other stands. let rest = sent_by i stamp sends put packet stands in (rest.0, Contains-append_right (s ∷ []) sends (i, packet) rest.1)
-] refl c
+      | true ↦ λ here stands. elim (Contains-append_cases ((stamp, s.1) ∷ []) (filter_map (stamped_for i stamp) sends) (put, packet) stands) [
+        | inl first ↦
+            let one : (stamp, s.1) ≡ (put, packet) = Contains-one (stamp, s.1) (put, packet) first in
+            (ap (λ (z : Stamped). z.0) one, subst (λ (z : Send). Contains (s ∷ sends) z) (λ t. (same_site-true s.0 i here t, (one t).1)) (contains_at (s ∷ sends) s 0 refl))
+        | inr later ↦ let rest = sent_by i stamp sends put packet later in (rest.0, Contains-append_right (s ∷ []) sends (i, packet) rest.1)
+      ]
+      | false ↦ λ other stands. let rest = sent_by i stamp sends put packet stands in (rest.0, Contains-append_right (s ∷ []) sends (i, packet) rest.1)
+    ] refl c
 
 -- in order, an entry of a lower stamp stands before one of a higher
 stands_before : (front rest : List Named) (n m : Named) → IsInOrder (front ++ n ∷ rest) → Contains (front ++ n ∷ rest) m → m.1.stamp < n.1.stamp → Contains front m

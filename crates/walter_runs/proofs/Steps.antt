@@ -1,20 +1,18 @@
 -- What an entry that is right may be: one of the kinds, whose record is stable; one whose record is in flight; or one of which
 -- nothing came.
-use Rattle.std.proofs.Common.{◌≡◌, ◌+◌, ◌<◌, ℕ, true, false, List, [], ◌∷◌, refl, ap, sym, ◌∙◌, subst, arith, Some, None, inl, inr, ◌⊎◌}
+use Rattle.std.proofs.Common.{◌≡◌, ℕ, false, List, [], ◌∷◌, sym, subst, Some, None, inl, inr}
 use Rattle.std.specs.Prelude.{Option, Contains}
 use Rattle.std.proofs.lemmas.List.Elements.{Contains-append_left, Contains-append_right, Contains-append_cases}
 use Rattle.walter_base.specs.declared.catalog.Catalog.{Catalog}
 use Rattle.walter_base.specs.declared.message.Record.{Record}
 use Rattle.walter_base.specs.declared.names.SiteId.{SiteId}
 use Rattle.walter_base.specs.declared.packet.Packet.{Packet}
-use Rattle.walter_psi.proofs.Lists.{Contains-nil, Contains-one, contains_at}
 use Rattle.walter_rules.specs.declared.entry.Came.{Came}
 use Rattle.walter_rules.specs.declared.event.Event.{Event}
 use Rattle.walter_rules.specs.declared.event.Event.TheVariants.{Restart}
 use Rattle.walter_rules.specs.declared.outcome.Outcome.{Outcome}
 use Rattle.walter_rules.specs.declared.outcome.Outcome.TheVariants.{Failed}
 use Rattle.walter_rules.specs.Allowed.{IsKind, IsTrueOf}
-use Rattle.walter_rules.specs.Calls.{Expected}
 use Rattle.walter_rules.specs.Learning.{after}
 use Rattle.walter_rules.specs.Rule.{rule}
 use Rattle.walter_rules.specs.Sending.{Send}
@@ -54,9 +52,9 @@ step_of catalog capacity i S event came (ruled fits is) =
     (subst (λ (w : Option Record). IsKind catalog i S event w came.outcome) (sym is.wrote) (subst (λ (o : Outcome). IsKind catalog i S event (rule catalog i S event).wrote o) (sym is.outcome) all.kind))
     is.flight
     (λ to packet c.
-        subst (λ (w : Option Record). IsTrueOf catalog i S.knows event (after catalog i S.knows event came.outcome w) to packet) (sym is.wrote)
-        (subst (λ (o : Outcome). IsTrueOf catalog i S.knows event (after catalog i S.knows event o (rule catalog i S event).wrote) to packet) (sym is.outcome)
-        (all.sent to packet (planned S.carried (rule catalog i S event).sends came.sends came.dropped (to, packet) is.sends c))))
+    subst (λ (w : Option Record). IsTrueOf catalog i S.knows event (after catalog i S.knows event came.outcome w) to packet) (sym is.wrote)
+    (subst (λ (o : Outcome). IsTrueOf catalog i S.knows event (after catalog i S.knows event o (rule catalog i S event).wrote) to packet) (sym is.outcome)
+    (all.sent to packet (planned S.carried (rule catalog i S event).sends came.sends came.dropped (to, packet) is.sends c))))
 step_of catalog capacity i S event came (met_fault rec is fits only) =
     let kind = (rule_allowed catalog i S event).0.kind in
     flies rec (rule catalog i S event).outcome (subst (λ (w : Option Record). IsKind catalog i S event w (rule catalog i S event).outcome) is kind) only
