@@ -126,13 +126,13 @@ module _ (P : Slow → Type 0) (unused : ¬ P Unused) (ends : (g : Slow) → P g
   slow_grows (Some (SlowEnd m)) new n h = kept_if ended ends (nat_eq m n) (K.slow n) h
   slow_grows (Some (Marks durable visible)) new n h = h
 
-begun_ended : (g : Slow) → begun (ended g) ≡ begun g
+pub begun_ended : (g : Slow) → begun (ended g) ≡ begun g
 begun_ended Unused = refl
 begun_ended (Undecided x asked) = refl
 begun_ended (Dropped x asked) = refl
 begun_ended (Decided x) = refl
 
-begun_decided : (g : Slow) → begun (decided g) ≡ begun g
+pub begun_decided : (g : Slow) → begun (decided g) ≡ begun g
 begun_decided Unused = refl
 begun_decided (Undecided x asked) = refl
 begun_decided (Dropped x asked) = refl
