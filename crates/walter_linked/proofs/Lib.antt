@@ -12,3 +12,4 @@ pub mod Marking
 pub mod MarkedRuns
 pub mod Whole
 pub mod Spent
+pub mod Once

@@ -1,14 +1,13 @@
 -- A transaction that committed fast is spent: no session, slow commit or record in flight is of it, and none will be. So no
 -- transaction commits twice.
-use Rattle.std.proofs.Common.{◌≡◌, ◌≢◌, ◌+◌, ◌<◌, ◌≤◌, ℕ, nat_eq, Bool, true, false, List, [], ◌∷◌, ◌++◌, length, slice_get, Some, None, refl, ap, sym, ◌∙◌, subst, arith, inl, inr, ◌⊎◌, if◌then◌else◌}
+use Rattle.std.proofs.Common.{◌≡◌, ◌≢◌, ◌+◌, ◌≤◌, ℕ, nat_eq, Bool, true, false, List, [], ◌∷◌, ◌++◌, Some, None, refl, ap, sym, ◌∙◌, subst, arith, inl, inr, ◌⊎◌, if◌then◌else◌}
 use Rattle.std.specs.Prelude.{Option, IfSome, Result, Ok, option_map, cond}
-use Rattle.std.specs.Map.{lookup}
-use Rattle.std.proofs.lemmas.Bool.{cases_order}
+use Rattle.std.proofs.lemmas.Bool.{cases_order, eq-eqb}
 use Rattle.std.proofs.lemmas.Option.{same_Some}
 use Rattle.walter_base.specs.declared.catalog.Catalog.{Catalog}
 use Rattle.walter_base.specs.declared.message.BadFrame.{BadFrame}
 use Rattle.walter_base.specs.declared.message.Record.{Record}
-use Rattle.walter_base.specs.declared.message.Record.TheVariants.{Boot, Own, Got, Seen, Prepared, Released, SlowBegin, SlowEnd, Marks}
+use Rattle.walter_base.specs.declared.message.Record.TheVariants.{Boot, Own, SlowBegin, SlowEnd}
 use Rattle.walter_base.specs.declared.message.Reply.{Reply}
 use Rattle.walter_base.specs.declared.message.Reply.TheVariants.{Started, Done, Committed, Aborted, Deciding, Ended, Unsure}
 use Rattle.walter_base.specs.declared.message.Request.{Request}
@@ -25,16 +24,15 @@ use Rattle.walter_rules.specs.declared.event.Input.TheVariants.{Call}
 use Rattle.walter_rules.specs.declared.outcome.Outcome.{Outcome}
 use Rattle.walter_rules.specs.declared.outcome.Outcome.TheVariants.{Replied, Passed, Down, Failed}
 use Rattle.walter_rules.specs.Allowed.{IsKind, IsReadCall, of_value, of_counts, of_count, is_refused, starts, does, reads, ends, aborts, conflicts, commits, begins, waits, tells_version, tells_cause, levels_own, is_deciding, is_running, denies, passes, receives, hears_ack, hears_durable, hears_visible, marks_durable, marks_visible, prepares, hears_yes, decides, gives_up, releases, hears_released, sees, stops, is_down, boots}
-use Rattle.walter_rules.specs.Calls.{read_updates, next_tid}
-use Rattle.walter_rules.specs.Knowledge.{Knowledge, session_of, vector_of}
-use Rattle.walter_rules.specs.Learning.{recorded, after, lost, epoch_after, starts_after, slow_after, updated, deciding, opened, closed, done, begun_by, sessions_after}
+use Rattle.walter_rules.specs.Calls.{read_updates, next_seq}
+use Rattle.walter_rules.specs.Knowledge.{Knowledge, session_of}
+use Rattle.walter_rules.specs.Learning.{after, lost, epoch_after, starts_after, slow_after, updated, deciding, opened, closed, done, begun_by, sessions_after}
 use Rattle.walter_rules.specs.Objects.{participants}
 use Rattle.walter_rules.specs.Sessions.{Session, Sessions, session_in, tx_of}
-use Rattle.walter_rules.specs.Slow.{Slow, Undecided, begun, ended, decided}
+use Rattle.walter_rules.specs.Slow.{Undecided, begun, ended, decided}
 use Rattle.walter_rules.specs.Standing.{Standing, goes_down, comes_up, up_after, knows_after}
 use Rattle.walter_rules.specs.Trails.{failure, want, fullness}
-use Rattle.walter_agreement.proofs.Cases.{none_not_some}
-use Rattle.walter_agreement.proofs.Issued.{Issued, IsIssued, next_not_issued}
+use Rattle.walter_agreement.proofs.Issued.{IsIssued, next_not_issued}
 use Rattle.walter_agreement.proofs.Tidy.{IsUnbegun}
 use Rattle.walter_alone.proofs.Alone.{IsAlone, issued_by, issued_of}
 use Rattle.walter_linked.proofs.Grown.{begun_ended, begun_decided}
@@ -54,7 +52,7 @@ pub record IsSpent (up : Bool) (K : Knowledge) (flight : Option Record) (t : Tid
 
 -- what was started stays so
 
-rises_down : (up : Bool) (K : Knowledge) (e : ℕ) → K.epoch ≤ e → (x : Tid) → IsIssued (issued_by up K) x → IsIssued (record { epoch = e + 1; starts = 0 }) x
+pub rises_down : (up : Bool) (K : Knowledge) (e : ℕ) → K.epoch ≤ e → (x : Tid) → IsIssued (issued_by up K) x → IsIssued (record { epoch = e + 1; starts = 0 }) x
 rises_down true K e later x is = elim is [
   | inl over ↦ inl (omega (arith, over, later))
   | inr here ↦ inl (let a = here.0 in omega (arith, a, later))
@@ -132,12 +130,12 @@ up_fullness Restart need left = refl
 -- sessions
 
 -- the session is of a transaction that is started just now
-abbrev IsStartedBy : Outcome → Tid → Type 0
+abbrev pub IsStartedBy : Outcome → Tid → Type 0
 IsStartedBy (Replied (Started tid)) t = tid ≡ t
 IsStartedBy outcome t = ⊥
 
 -- the session of a client was there, of the same transaction
-abbrev WasThere : Sessions → ℕ → Session → Type 0
+abbrev pub WasThere : Sessions → ℕ → Session → Type 0
 WasThere sessions c s = (z : Session) × (session_in c sessions ≡ Some z) × (z.tid ≡ s.tid)
 
 behind_cases : (c client : ℕ) (new : Session) (es : Sessions) (s : Session) → session_in c (es ++ (client, new) ∷ []) ≡ Some s → (session_in c es ≡ Some s) ⊎ (new ≡ s)
@@ -196,7 +194,7 @@ was_opened (Given (Call client call)) new es c s h = elim (behind_cases c client
 ]
 was_opened event new es c s h = inl (s, h, refl)
 
-session_cases : (event : Event) (outcome : Outcome) (wrote : Option Record) (snapshot : List ℕ) (es : Sessions) (c : ℕ) (s : Session)
+pub session_cases : (event : Event) (outcome : Outcome) (wrote : Option Record) (snapshot : List ℕ) (es : Sessions) (c : ℕ) (s : Session)
     → session_in c (sessions_after event outcome wrote snapshot es) ≡ Some s → WasThere es c s ⊎ IsStartedBy outcome s.tid
 session_cases event (Replied (Started tid)) wrote snapshot es c s h = elim (was_opened event (record { tid = tid; snapshot = snapshot; updates = []; slow = 0 }) es c s h) [
   | inl there ↦ inl there
@@ -213,7 +211,7 @@ session_cases event outcome wrote snapshot es c s h = inl (s, h, refl)
 -- slow commits
 
 -- none is of the transaction while no slow commit of it begins
-pub unbegun_after : (catalog : Catalog) (i : SiteId) (K : Knowledge) (t : Tid) → IsUnbegun K.slow t → (rec : Option Record) → IfSome rec (IsNotOf t) → IsUnbegun (slow_after catalog i K rec) t
+pub unbegun_after : (catalog : Catalog) (i : SiteId) (K : Knowledge) (t : Tid) → IsUnbegun K.slow t → (rec : Option Record) → ((n : ℕ) (x : Tx) → rec ≡ Some (SlowBegin n x) → x.tid ≢ t) → IsUnbegun (slow_after catalog i K rec) t
 unbegun_after catalog i K t un None so m y b = un m y b
 unbegun_after catalog i K t un (Some (Boot epoch)) so m y b = un m y (sym (begun_ended (K.slow m)) ∙ b)
 unbegun_after catalog i K t un (Some (Own seq x)) so m y b = elim (nat_eq x.slow m) as (λ c. begun (if c then decided (K.slow m) else K.slow m) ≡ Some y → y.tid ≢ t) [
@@ -222,7 +220,7 @@ unbegun_after catalog i K t un (Some (Own seq x)) so m y b = elim (nat_eq x.slow
 ] b
 unbegun_after catalog i K t un (Some (SlowBegin n x)) so m y b =
     elim (nat_eq n m) as (λ c. begun (if c then Undecided x (participants catalog K i x.updates) else K.slow m) ≡ Some y → y.tid ≢ t) [
-      | true ↦ λ e. subst (λ (z : Tx). z.tid ≢ t) (same_Some x y e) so
+      | true ↦ λ e. subst (λ (z : Tx). z.tid ≢ t) (same_Some x y e) (so n x refl)
       | false ↦ λ e. un m y e
     ] b
 unbegun_after catalog i K t un (Some (SlowEnd n)) so m y b = elim (nat_eq n m) as (λ c. begun (if c then ended (K.slow m) else K.slow m) ≡ Some y → y.tid ≢ t) [
@@ -245,6 +243,8 @@ module _ (catalog : Catalog) (i : SiteId) (S : Standing) (alone : IsAlone catalo
     pub fresh : (t : Tid) → IsStartedBy outcome t → IsIssued (issued_of S) t → ⊥
     pub fast : IfSome wrote (FliesRight S)
     pub not_of : (t : Tid) → IsSpent S.up S.knows S.flight t → IfSome wrote (IsNotOf t)
+    pub ends : (seq : ℕ) (x : Tx) → wrote ≡ Some (Own seq x) → x.slow ≡ 0 → (snapshot : List ℕ) (c : ℕ) (s : Session)
+        → session_in c (sessions_after event outcome wrote snapshot S.knows.sessions) ≡ Some s → s.tid ≢ x.tid
 
   read_fresh : (call : Result Request BadFrame) (reply : Reply) (updates : List Update) → IsReadCall call reply updates → (t : Tid) → IsStartedBy (Replied reply) t → ⊥
   read_fresh call reply updates (of_value oid all) t h = h
@@ -252,53 +252,69 @@ module _ (catalog : Catalog) (i : SiteId) (S : Standing) (alone : IsAlone catalo
   read_fresh call reply updates (of_count oid id all) t h = h
 
   -- names stay where no epoch begins
-  plainly : (event : Event) (wrote : Option Record) (outcome : Outcome) → comes_up event outcome ≡ false → epoch_after wrote S.knows.epoch ≡ S.knows.epoch
-      → ((t : Tid) → IsStartedBy outcome t → IsIssued (issued_of S) t → ⊥) → IfSome wrote (FliesRight S) → ((t : Tid) → IsSpent S.up S.knows S.flight t → IfSome wrote (IsNotOf t)) → KindBrings event wrote outcome
-  plainly event wrote outcome not_up same fresh fast not_of = record { rises = rises_same catalog i S event outcome wrote not_up same; fresh = fresh; fast = fast; not_of = not_of }
+  pub plainly : (event : Event) (wrote : Option Record) (outcome : Outcome) → comes_up event outcome ≡ false → epoch_after wrote S.knows.epoch ≡ S.knows.epoch
+      → ((t : Tid) → IsStartedBy outcome t → IsIssued (issued_of S) t → ⊥) → IfSome wrote (FliesRight S) → ((t : Tid) → IsSpent S.up S.knows S.flight t → IfSome wrote (IsNotOf t))
+      → ((seq : ℕ) (x : Tx) → wrote ≡ Some (Own seq x) → x.slow ≡ 0 → (snapshot : List ℕ) (c : ℕ) (s : Session)
+      → session_in c (sessions_after event outcome wrote snapshot S.knows.sessions) ≡ Some s → s.tid ≢ x.tid) → KindBrings event wrote outcome
+  plainly event wrote outcome not_up same fresh fast not_of ends_ = record { rises = rises_same catalog i S event outcome wrote not_up same; fresh = fresh; fast = fast; not_of = not_of; ends = ends_ }
 
   pub kind_brings : (event : Event) (wrote : Option Record) (outcome : Outcome) → IsKind catalog i S event wrote outcome → KindBrings event wrote outcome
-  kind_brings event wrote outcome (is_refused client call refusal) = plainly _ _ _ refl refl (λ t h. absurd h) tt (λ t p. tt)
+  kind_brings event wrote outcome (is_refused client call refusal) = plainly _ _ _ refl refl (λ t h. absurd h) tt (λ t p. tt) (λ seq x e. absurd cc)
   kind_brings event wrote outcome (starts client up none) = plainly _ _ _ refl refl
       (λ t h is. next_not_issued i (record { epoch = S.knows.epoch; starts = S.knows.starts }) (subst (λ (z : Tid). IsIssued (record { epoch = S.knows.epoch; starts = S.knows.starts }) z) (sym h) (subst (λ b. IsIssued (issued_by b S.knows) t) up is)))
-      tt (λ t p. tt)
-  kind_brings event wrote outcome (does client call s update has is declared) = plainly _ _ _ refl refl (λ t h. absurd h) tt (λ t p. tt)
-  kind_brings event wrote outcome (reads client call s reply has is) = plainly _ _ _ (read_up client call reply (read_updates S.knows s) is) refl (λ t h. absurd (read_fresh call reply (read_updates S.knows s) is t h)) tt (λ t p. tt)
+      tt (λ t p. tt) (λ seq x e. absurd cc)
+  kind_brings event wrote outcome (does client call s update has is declared) = plainly _ _ _ refl refl (λ t h. absurd h) tt (λ t p. tt) (λ seq x e. absurd cc)
+  kind_brings event wrote outcome (reads client call s reply has is) = plainly _ _ _ (read_up client call reply (read_updates S.knows s) is) refl (λ t h. absurd (read_fresh call reply (read_updates S.knows s) is t h)) tt (λ t p. tt) (λ seq x e. absurd cc)
     where
       read_up : (client : ℕ) (call : Result Request BadFrame) (reply : Reply) (updates : List Update) → IsReadCall call reply updates → comes_up (Given (Call client call)) (Replied reply) ≡ false
       read_up client call reply updates (of_value oid all) = refl
       read_up client call reply updates (of_counts oid all) = refl
       read_up client call reply updates (of_count oid id all) = refl
-  kind_brings event wrote outcome (ends client s has none) = plainly _ _ _ refl refl (λ t h. absurd h) tt (λ t p. tt)
-  kind_brings event wrote outcome (aborts client s has) = plainly _ _ _ refl refl (λ t h. absurd h) tt (λ t p. tt)
-  kind_brings event wrote outcome (conflicts client s conflict has first) = plainly _ _ _ refl refl (λ t h. absurd h) tt (λ t p. tt)
+  kind_brings event wrote outcome (ends client s has none) = plainly _ _ _ refl refl (λ t h. absurd h) tt (λ t p. tt) (λ seq x e. absurd cc)
+  kind_brings event wrote outcome (aborts client s has) = plainly _ _ _ refl refl (λ t h. absurd h) tt (λ t p. tt) (λ seq x e. absurd cc)
+  kind_brings event wrote outcome (conflicts client s conflict has first) = plainly _ _ _ refl refl (λ t h. absurd h) tt (λ t p. tt) (λ seq x e. absurd cc)
   kind_brings event wrote outcome (commits client s has some local clear) = plainly _ _ _ refl refl (λ t h. absurd h)
       (λ fast. ((alone.started client s has.session).1, alone.tidy.open_ client s has.session has.is_open)) (λ t p. p.unused client s has.session)
-  kind_brings event wrote outcome (begins client s has some clear) = plainly _ _ _ refl refl (λ t h. absurd h) tt (λ t p. p.unused client s has.session)
-  kind_brings event wrote outcome (waits client s tx asked has undecided) = plainly _ _ _ refl refl (λ t h. absurd h) tt (λ t p. tt)
-  kind_brings event wrote outcome (tells_version client s tx seq has done at) = plainly _ _ _ refl refl (λ t h. absurd h) tt (λ t p. tt)
-  kind_brings event wrote outcome (tells_cause client s tx asked conflict has dropped said) = plainly _ _ _ refl refl (λ t h. absurd h) tt (λ t p. tt)
-  kind_brings event wrote outcome (levels_own client tid seq up site at) = plainly _ _ _ refl refl (λ t h. absurd h) tt (λ t p. tt)
-  kind_brings event wrote outcome (is_deciding client tid up) = plainly _ _ _ refl refl (λ t h. absurd h) tt (λ t p. tt)
-  kind_brings event wrote outcome (is_running client tid up) = plainly _ _ _ refl refl (λ t h. absurd h) tt (λ t p. tt)
-  kind_brings event wrote outcome (denies client tid up site issued none not_undecided not_open) = plainly _ _ _ refl refl (λ t h. absurd h) tt (λ t p. tt)
-  kind_brings event wrote outcome (passes event_) = plainly event_ None Passed (up_passed event_) refl (λ t h. absurd h) tt (λ t p. tt)
-  kind_brings event wrote outcome (receives j number seq tx peer next) = plainly _ _ _ refl refl (λ t h. absurd h) tt (λ t p. tt)
-  kind_brings event wrote outcome (hears_ack j number got peer few) = plainly _ _ _ refl refl (λ t h. absurd h) tt (λ t p. tt)
-  kind_brings event wrote outcome (hears_durable j number durable peer) = plainly _ _ _ refl refl (λ t h. absurd h) tt (λ t p. tt)
-  kind_brings event wrote outcome (hears_visible j number committed peer few) = plainly _ _ _ refl refl (λ t h. absurd h) tt (λ t p. tt)
-  kind_brings event wrote outcome (marks_durable j number got K peer few is more) = plainly _ _ _ refl refl (λ t h. absurd h) tt (λ t p. tt)
-  kind_brings event wrote outcome (marks_visible j number committed K peer few is more) = plainly _ _ _ refl refl (λ t h. absurd h) tt (λ t p. tt)
-  kind_brings event wrote outcome (prepares j number n tid start objects peer free lockable) = plainly _ _ _ refl refl (λ t h. absurd h) tt (λ t p. tt)
-  kind_brings event wrote outcome (hears_yes p number n tx asked peer undecided c) = plainly _ _ _ refl refl (λ t h. absurd h) tt (λ t z. tt)
+      (λ seq x e fast snapshot c z h same.
+      let one : Own (next_seq i S.knows) (tx_of s) ≡ Own seq x = same_Some (Own (next_seq i S.knows) (tx_of s)) (Own seq x) e in
+      let tx_is : tx_of s ≡ x = cc in
+      elim (nat_eq client c) as (λ b. nat_eq client c ≡ b → (if b then None else session_of S.knows c) ≡ Some z → ⊥) [
+        | true ↦ λ is g. cc
+        | false ↦ λ isnt g.
+            let both_ : c ≡ client = alone.distinct c client z s g has.session (same ∙ ap (λ (y : Tx). y.tid) (sym tx_is)) in
+            let is : nat_eq client c ≡ true = eq-eqb client c (sym both_) in
+            cc
+      ] refl (sym (lookup-without client c S.knows.sessions) ∙ h))
+  kind_brings event wrote outcome (begins client s has some clear) = plainly _ _ _ refl refl (λ t h. absurd h) tt (λ t p. p.unused client s has.session) (λ seq x e. absurd cc)
+  kind_brings event wrote outcome (waits client s tx asked has undecided) = plainly _ _ _ refl refl (λ t h. absurd h) tt (λ t p. tt) (λ seq x e. absurd cc)
+  kind_brings event wrote outcome (tells_version client s tx seq has done at) = plainly _ _ _ refl refl (λ t h. absurd h) tt (λ t p. tt) (λ seq x e. absurd cc)
+  kind_brings event wrote outcome (tells_cause client s tx asked conflict has dropped said) = plainly _ _ _ refl refl (λ t h. absurd h) tt (λ t p. tt) (λ seq x e. absurd cc)
+  kind_brings event wrote outcome (levels_own client tid seq up site at) = plainly _ _ _ refl refl (λ t h. absurd h) tt (λ t p. tt) (λ seq x e. absurd cc)
+  kind_brings event wrote outcome (is_deciding client tid up) = plainly _ _ _ refl refl (λ t h. absurd h) tt (λ t p. tt) (λ seq x e. absurd cc)
+  kind_brings event wrote outcome (is_running client tid up) = plainly _ _ _ refl refl (λ t h. absurd h) tt (λ t p. tt) (λ seq x e. absurd cc)
+  kind_brings event wrote outcome (denies client tid up site issued none not_undecided not_open) = plainly _ _ _ refl refl (λ t h. absurd h) tt (λ t p. tt) (λ seq x e. absurd cc)
+  kind_brings event wrote outcome (passes event_) = plainly event_ None Passed (up_passed event_) refl (λ t h. absurd h) tt (λ t p. tt) (λ seq x e. absurd cc)
+  kind_brings event wrote outcome (receives j number seq tx peer next) = plainly _ _ _ refl refl (λ t h. absurd h) tt (λ t p. tt) (λ seq x e. absurd cc)
+  kind_brings event wrote outcome (hears_ack j number got peer few) = plainly _ _ _ refl refl (λ t h. absurd h) tt (λ t p. tt) (λ seq x e. absurd cc)
+  kind_brings event wrote outcome (hears_durable j number durable peer) = plainly _ _ _ refl refl (λ t h. absurd h) tt (λ t p. tt) (λ seq x e. absurd cc)
+  kind_brings event wrote outcome (hears_visible j number committed peer few) = plainly _ _ _ refl refl (λ t h. absurd h) tt (λ t p. tt) (λ seq x e. absurd cc)
+  kind_brings event wrote outcome (marks_durable j number got K peer few is more) = plainly _ _ _ refl refl (λ t h. absurd h) tt (λ t p. tt) (λ seq x e. absurd cc)
+  kind_brings event wrote outcome (marks_visible j number committed K peer few is more) = plainly _ _ _ refl refl (λ t h. absurd h) tt (λ t p. tt) (λ seq x e. absurd cc)
+  kind_brings event wrote outcome (prepares j number n tid start objects peer free lockable) = plainly _ _ _ refl refl (λ t h. absurd h) tt (λ t p. tt) (λ seq x e. absurd cc)
+  kind_brings event wrote outcome (hears_yes p number n tx asked peer undecided c) = plainly _ _ _ refl refl (λ t h. absurd h) tt (λ t z. tt) (λ seq x e. absurd cc)
   kind_brings event wrote outcome (decides p number n tx asked peer undecided c all) =
       let named = alone.tidy.named n tx (ap begun undecided) in
       plainly _ _ _ refl refl (λ t h. absurd h) (λ fast. absurd (named.1 (sym named.0 ∙ fast))) (λ t z. z.unbegun n tx (ap begun undecided))
-  kind_brings event wrote outcome (gives_up p number n tx asked conflict peer undecided c alive) = plainly _ _ _ refl refl (λ t h. absurd h) tt (λ t z. tt)
-  kind_brings event wrote outcome (releases j number n peer some) = plainly _ _ _ refl refl (λ t h. absurd h) tt (λ t p. tt)
-  kind_brings event wrote outcome (hears_released j number n peer) = plainly _ _ _ refl refl (λ t h. absurd h) tt (λ t p. tt)
-  kind_brings event wrote outcome (sees j tx peer due) = plainly _ _ _ refl refl (λ t h. absurd h) tt (λ t p. tt)
-  kind_brings event wrote outcome (stops up) = plainly _ _ _ refl refl (λ t h. absurd h) tt (λ t p. tt)
-  kind_brings event wrote outcome (is_down event_) = plainly event_ None Down (up_down event_) refl (λ t h. absurd h) tt (λ t p. tt)
+      (λ seq x e fast.
+      let one : Own (next_seq i S.knows) tx ≡ Own seq x = same_Some (Own (next_seq i S.knows) tx) (Own seq x) e in
+      let tx_is : tx ≡ x = cc in
+      absurd (named.1 (sym named.0 ∙ (ap (λ (y : Tx). y.slow) tx_is ∙ fast))))
+  kind_brings event wrote outcome (gives_up p number n tx asked conflict peer undecided c alive) = plainly _ _ _ refl refl (λ t h. absurd h) tt (λ t z. tt) (λ seq x e. absurd cc)
+  kind_brings event wrote outcome (releases j number n peer some) = plainly _ _ _ refl refl (λ t h. absurd h) tt (λ t p. tt) (λ seq x e. absurd cc)
+  kind_brings event wrote outcome (hears_released j number n peer) = plainly _ _ _ refl refl (λ t h. absurd h) tt (λ t p. tt) (λ seq x e. absurd cc)
+  kind_brings event wrote outcome (sees j tx peer due) = plainly _ _ _ refl refl (λ t h. absurd h) tt (λ t p. tt) (λ seq x e. absurd cc)
+  kind_brings event wrote outcome (stops up) = plainly _ _ _ refl refl (λ t h. absurd h) tt (λ t p. tt) (λ seq x e. absurd cc)
+  kind_brings event wrote outcome (is_down event_) = plainly event_ None Down (up_down event_) refl (λ t h. absurd h) tt (λ t p. tt) (λ seq x e. absurd cc)
   kind_brings event wrote outcome (boots down) = record {
     rises = λ x is. elim (subst (λ b. IsIssued (issued_by b S.knows) x) down is) [
       | inl over ↦ inl over
@@ -307,4 +323,5 @@ module _ (catalog : Catalog) (i : SiteId) (S : Standing) (alone : IsAlone catalo
     fresh = λ t h. absurd h;
     fast = tt;
     not_of = λ t p. tt;
+    ends = λ seq x e. absurd cc;
   }
