@@ -82,7 +82,8 @@ pub record IsHeardRight (W : Stands) (put : Put) (i : SiteId) : Type 0 where
   pub acknowledged : (k : SiteId) → k ≢ i → (W i).knows.acknowledged k ≤ received W k i
   pub visible : (k : SiteId) → k ≢ i → (W i).knows.visible k ≤ counts W k i
   pub said_yes : (n : ℕ) (p : SiteId) → Contains ((W i).knows.said_yes n) p → (p ≢ i) × put p i (Vote n Yes)
-  pub said_no : (n : ℕ) (conflict : Conflict) → (W i).knows.said_no n ≡ Some conflict → (p : SiteId) × (p ≢ i) × (conflict ≢ Dead) × put p i (Vote n (No conflict))
+  pub said_no : (n : ℕ) (conflict : Conflict) → (W i).knows.said_no n ≡ Some conflict
+      → (p : SiteId) × (p ≢ i) × (conflict ≢ Dead) × put p i (Vote n (No conflict))
 
 -- an own commit that may come: the next one; a fast one writes only what is preferred here, and nothing that it writes was
 -- changed behind its snapshot or is locked; a slow one is being decided, and each other site at which something is preferred

@@ -36,7 +36,8 @@ IsTakenRight i Taken (Given (Deliver j number (Vote n (No conflict)))) = (j ≢ 
 IsTakenRight i Taken (Given (Deliver j number packet)) = j ≢ i
 IsTakenRight i outcome event = Unit {0}
 
-kind_taken : (catalog : Catalog) (i : SiteId) (S : Standing) (event : Event) (rec : Option Record) (outcome : Outcome) → IsKind catalog i S event rec outcome → IsTakenRight i outcome event
+kind_taken : (catalog : Catalog) (i : SiteId) (S : Standing) (event : Event) (rec : Option Record) (outcome : Outcome)
+    → IsKind catalog i S event rec outcome → IsTakenRight i outcome event
 kind_taken catalog i S event rec outcome (is_refused client call refusal) = tt
 kind_taken catalog i S event rec outcome (starts client up none) = tt
 kind_taken catalog i S event rec outcome (does client call s update has is declared) = tt
@@ -85,7 +86,8 @@ fullness_taken i (Given (Call client call)) need left = tt
 fullness_taken i event need left = tt
 
 -- so it is of each step
-pub step_taken : (catalog : Catalog) (i : SiteId) (S : Standing) (event : Event) (came : Came) → IsStep catalog i S event came → IsTakenRight i came.outcome event
+pub step_taken : (catalog : Catalog) (i : SiteId) (S : Standing) (event : Event) (came : Came)
+    → IsStep catalog i S event came → IsTakenRight i came.outcome event
 step_taken catalog i S event came (stable kind none sent) = kind_taken catalog i S event came.wrote came.outcome kind
 step_taken catalog i S event came (flies rec outcome kind only) = subst (λ o. IsTakenRight i o event) (sym only.outcome_is) (failure_taken i event rec)
 step_taken catalog i S event came (unread_step restart down only) = subst (λ o. IsTakenRight i o event) (sym only.outcome_is) tt
@@ -93,14 +95,16 @@ step_taken catalog i S event came (wants takes only) = subst (λ o. IsTakenRight
 step_taken catalog i S event came (finds_full rec outcome need left kind only) = subst (λ o. IsTakenRight i o event) (sym only.outcome_is) (fullness_taken i event need left)
 
 -- a number that rose is that which was said, or what was there
-risen_within : (j k : SiteId) (number : ℕ) (said : SiteId → ℕ) (most : SiteId → ℕ) → number ≤ most j → said k ≤ most k → risen j number said k ≤ most k
+risen_within : (j k : SiteId) (number : ℕ) (said : SiteId → ℕ) (most : SiteId → ℕ) → number ≤ most j → said k ≤ most k
+    → risen j number said k ≤ most k
 risen_within j k number said most told was = elim (site_cases j k) [
   | inl same ↦ rw same.0 (let l = subst (λ z. number ≤ most z) same.1 told in omega (arith, l, was))
   | inr apart ↦ rw apart.0 was
 ]
 
 -- who is heard of a number was heard, or is the one
-heard_of_cases : (m n : ℕ) (j p : SiteId) (heard : ℕ → List SiteId) → Contains (heard_of m j heard n) p → Contains (heard n) p ⊎ ((m ≡ n) × (j ≡ p))
+heard_of_cases : (m n : ℕ) (j p : SiteId) (heard : ℕ → List SiteId) → Contains (heard_of m j heard n) p
+    → Contains (heard n) p ⊎ ((m ≡ n) × (j ≡ p))
 heard_of_cases m n j p heard c = elim (nat_eq m n) as (λ b. nat_eq m n ≡ b → Contains (if b then heard n ++ j ∷ [] else heard n) p → Contains (heard n) p ⊎ ((m ≡ n) × (j ≡ p))) [
   | true ↦ λ is within. elim (Contains-append_cases (heard n) (j ∷ []) p within) [
     | inl before ↦ inl before
@@ -112,8 +116,10 @@ heard_of_cases m n j p heard c = elim (nat_eq m n) as (λ b. nat_eq m n ≡ b �
 module _ (catalog : Catalog) (W W2 : Stands) (put put2 : Put) (A : AreAgreed catalog W put) (G : HasGrown W W2)
     (puts : (j k : SiteId) (packet : Packet) → put j k packet → put2 j k packet) (i : SiteId) where
   -- what was heard stays so, while nothing more is heard
-  pub heard_later : ((k : SiteId) → (W2 i).knows.acknowledged k ≡ (W i).knows.acknowledged k) → ((k : SiteId) → (W2 i).knows.visible k ≡ (W i).knows.visible k)
-      → ((n : ℕ) → (W2 i).knows.said_yes n ≡ (W i).knows.said_yes n) → ((n : ℕ) → (W2 i).knows.said_no n ≡ (W i).knows.said_no n) → IsHeardRight W2 put2 i
+  pub heard_later : ((k : SiteId) → (W2 i).knows.acknowledged k ≡ (W i).knows.acknowledged k)
+      → ((k : SiteId) → (W2 i).knows.visible k ≡ (W i).knows.visible k)
+      → ((n : ℕ) → (W2 i).knows.said_yes n ≡ (W i).knows.said_yes n)
+      → ((n : ℕ) → (W2 i).knows.said_no n ≡ (W i).knows.said_no n) → IsHeardRight W2 put2 i
   heard_later acknowledged visible said_yes said_no = record {
     acknowledged = λ k apart. let e = acknowledged k in let a = (A.heard i).acknowledged k apart in let b = G.more k i in omega (arith, e, a, b);
     visible = λ k apart. let e = visible k in let a = (A.heard i).visible k apart in let b = G.done k i in omega (arith, e, a, b);
@@ -143,7 +149,8 @@ module _ (catalog : Catalog) (W W2 : Stands) (put put2 : Put) (A : AreAgreed cat
 
   yes_right : (outcome : Outcome) (event : Event) → IsTakenRight i outcome event
       → ((j : SiteId) (number : ℕ) (packet : Packet) → event ≡ Given (Deliver j number packet) → put j i packet)
-      → (n : ℕ) (p : SiteId) → Contains (said_yes_after outcome event (W i).knows.said_yes n) p → (p ≢ i) × put2 p i (Vote n Yes)
+      → (n : ℕ) (p : SiteId) → Contains (said_yes_after outcome event (W i).knows.said_yes n) p
+      → (p ≢ i) × put2 p i (Vote n Yes)
   yes_right Taken (Given (Deliver j number (Vote m Yes))) taken delivered n p c = elim (heard_of_cases m n j p (W i).knows.said_yes c) [
     | inl before ↦ let h = (A.heard i).said_yes n p before in (h.0, puts p i (Vote n Yes) h.1)
     | inr now ↦ (
@@ -173,7 +180,8 @@ module _ (catalog : Catalog) (W W2 : Stands) (put put2 : Put) (A : AreAgreed cat
   -- what was heard of the packet that was delivered is so
   pub heard_right : (event : Event) (outcome : Outcome) (wrote : Option Record) → IsTakenRight i outcome event
       → ((j : SiteId) (number : ℕ) (packet : Packet) → event ≡ Given (Deliver j number packet) → put j i packet)
-      → (W2 i).knows ≡ knows_after event outcome (after catalog i (W i).knows event outcome wrote) → IsHeardRight W2 put2 i
+      → (W2 i).knows ≡ knows_after event outcome (after catalog i (W i).knows event outcome wrote)
+      → IsHeardRight W2 put2 i
   heard_right event outcome wrote taken delivered is =
       let K = after catalog i (W i).knows event outcome wrote in
       elim (goes_down event outcome) as (λ b. (W2 i).knows ≡ (if b then lost K else K) → IsHeardRight W2 put2 i) [

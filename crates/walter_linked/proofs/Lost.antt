@@ -20,7 +20,8 @@ freed_lost j zero K oid = refl
 freed_lost j (suc n) K oid = refl
 
 -- what is lost and then recorded is recorded and then lost
-pub lost_recorded : (catalog : Catalog) (i : SiteId) (rec : Option Record) (K : Knowledge) → lost (recorded catalog i rec K) ≡ recorded catalog i rec (lost K)
+pub lost_recorded : (catalog : Catalog) (i : SiteId) (rec : Option Record) (K : Knowledge)
+    → lost (recorded catalog i rec K) ≡ recorded catalog i rec (lost K)
 lost_recorded catalog i None K = refl
 lost_recorded catalog i (Some (Boot epoch)) K = refl
 lost_recorded catalog i (Some (Own seq x)) K = refl
@@ -51,6 +52,7 @@ pub lost_stands : (catalog : Catalog) (i : SiteId) (S : Standing) (event : Event
 lost_stands catalog i S event came = lost_knows event came.outcome (after catalog i S.knows event came.outcome came.wrote) ∙ lost_after catalog i S.knows event came.outcome came.wrote
 
 -- and after what a restart found
-pub lost_settled : (catalog : Catalog) (i : SiteId) (kept : Option Record) (S : Standing) → lost (settled catalog i kept S).knows ≡ recorded catalog i kept (lost S.knows)
+pub lost_settled : (catalog : Catalog) (i : SiteId) (kept : Option Record) (S : Standing)
+    → lost (settled catalog i kept S).knows ≡ recorded catalog i kept (lost S.knows)
 lost_settled catalog i None S = refl
 lost_settled catalog i (Some r) S = lost_recorded catalog i (Some r) S.knows

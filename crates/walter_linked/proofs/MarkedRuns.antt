@@ -58,7 +58,8 @@ IsLevelRight catalog W i (Replied (Level Visible)) (Given (Call client (Ok (Leve
 IsLevelRight catalog W i outcome event = Unit {0}
 
 -- the commit of a name is an own commit of that name
-seq_own : (catalog : Catalog) (W : Stands) (put : Put) → AreAgreed catalog W put → (i : SiteId) (tid : Tid) (seq : ℕ) → seq_of i (W i).knows tid ≡ Some seq → IsOwnCommit W i tid seq
+seq_own : (catalog : Catalog) (W : Stands) (put : Put) → AreAgreed catalog W put → (i : SiteId) (tid : Tid) (seq : ℕ)
+    → seq_of i (W i).knows tid ≡ Some seq → IsOwnCommit W i tid seq
 seq_own catalog W put A i tid seq at =
     let given = first_given (λ (h : Held). if same_tid tid h.tx.tid then Some h.seq else None) (of_site i (W i).knows.log) seq at in
     let r = given.0 in
@@ -70,7 +71,8 @@ seq_own catalog W put A i tid seq at =
       | false ↦ λ isnt e. absurd cc
     ] refl given.2
 
-module _ (catalog : Catalog) (homes : (oid : ObjId) → (home catalog oid).0 < catalog.sites) (W : Stands) (put : Put) (A : AreAgreed catalog W put) (M : AreMarkedRight catalog W put) (i : SiteId) where
+module _ (catalog : Catalog) (homes : (oid : ObjId) → (home catalog oid).0 < catalog.sites) (W : Stands) (put : Put)
+    (A : AreAgreed catalog W put) (M : AreMarkedRight catalog W put) (i : SiteId) where
   own_level : (client : ℕ) (tid : Tid) (seq : ℕ) → seq_of i (W i).knows tid ≡ Some seq
       → IsLevelRight catalog W i (Replied (Level (level_of_own catalog i (W i).knows seq))) (Given (Call client (Ok (LevelAsked tid))))
   own_level client tid seq at =
@@ -98,12 +100,14 @@ module _ (catalog : Catalog) (homes : (oid : ObjId) → (home catalog oid).0 < c
             ] refl
       ] refl
 
-  read_level : (client : ℕ) (call : Result Request BadFrame) (reply : Reply) (updates : List Update) → IsReadCall call reply updates → IsLevelRight catalog W i (Replied reply) (Given (Call client call))
+  read_level : (client : ℕ) (call : Result Request BadFrame) (reply : Reply) (updates : List Update)
+      → IsReadCall call reply updates → IsLevelRight catalog W i (Replied reply) (Given (Call client call))
   read_level client call reply updates (of_value oid all) = tt
   read_level client call reply updates (of_counts oid all) = tt
   read_level client call reply updates (of_count oid id all) = tt
 
-  kind_level : (event : Event) (rec : Option Record) (outcome : Outcome) → IsKind catalog i (W i) event rec outcome → IsLevelRight catalog W i outcome event
+  kind_level : (event : Event) (rec : Option Record) (outcome : Outcome) → IsKind catalog i (W i) event rec outcome
+      → IsLevelRight catalog W i outcome event
   kind_level event rec outcome (is_refused client call refusal) = tt
   kind_level event rec outcome (starts client up none) = tt
   kind_level event rec outcome (does client call s update has is declared) = tt
@@ -151,7 +155,8 @@ module _ (catalog : Catalog) (homes : (oid : ObjId) → (home catalog oid).0 < c
   fullness_level (Given (Call client call)) need left = tt
   fullness_level event need left = tt
 
-  step_level : (event : Event) (came : Came) → IsStep catalog i (W i) event came → IsLevelRight catalog W i came.outcome event
+  step_level : (event : Event) (came : Came) → IsStep catalog i (W i) event came
+      → IsLevelRight catalog W i came.outcome event
   step_level event came (stable kind none sent) = kind_level event came.wrote came.outcome kind
   step_level event came (flies rec outcome kind only) = subst (λ o. IsLevelRight catalog W i o event) (sym only.outcome_is) (failure_level event rec)
   step_level event came (unread_step restart down only) = subst (λ o. IsLevelRight catalog W i o event) (sym only.outcome_is) tt
@@ -163,7 +168,8 @@ abbrev IsAtAdvance : Option Record → Event → Type 0
 IsAtAdvance (Some (Seen j m)) event = event ≢ Restart
 IsAtAdvance rec event = Unit {0}
 
-seen_at : (catalog : Catalog) (i : SiteId) (S : Standing) (event : Event) (rec : Option Record) (outcome : Outcome) → IsKind catalog i S event rec outcome → IsAtAdvance rec event
+seen_at : (catalog : Catalog) (i : SiteId) (S : Standing) (event : Event) (rec : Option Record) (outcome : Outcome)
+    → IsKind catalog i S event rec outcome → IsAtAdvance rec event
 seen_at catalog i S event rec outcome (is_refused client call refusal) = tt
 seen_at catalog i S event rec outcome (starts client up none) = tt
 seen_at catalog i S event rec outcome (does client call s update has is declared) = tt
@@ -198,7 +204,8 @@ seen_at catalog i S event rec outcome (stops up) = tt
 seen_at catalog i S event rec outcome (is_down event_) = tt
 seen_at catalog i S event rec outcome (boots down) = tt
 
-step_seen : (catalog : Catalog) (i : SiteId) (S : Standing) (event : Event) (came : Came) → IsStep catalog i S event came → (j : SiteId) (m : ℕ) → came.wrote ≡ Some (Seen j m) → event ≢ Restart
+step_seen : (catalog : Catalog) (i : SiteId) (S : Standing) (event : Event) (came : Came)
+    → IsStep catalog i S event came → (j : SiteId) (m : ℕ) → came.wrote ≡ Some (Seen j m) → event ≢ Restart
 step_seen catalog i S event came (stable kind none sent) j m e = subst (λ w. IsAtAdvance w event) e (seen_at catalog i S event came.wrote came.outcome kind)
 step_seen catalog i S event came (flies rec outcome kind only) j m e = absurd (none_not_some came.wrote (Seen j m) only.wrote e)
 step_seen catalog i S event came (unread_step restart down only) j m e = absurd (none_not_some came.wrote (Seen j m) only.wrote e)
@@ -206,12 +213,14 @@ step_seen catalog i S event came (wants takes only) j m e = absurd (none_not_som
 step_seen catalog i S event came (finds_full rec outcome need left kind only) j m e = absurd (none_not_some came.wrote (Seen j m) only.wrote e)
 
 -- only a restart finds a record
-none_found : (S : Standing) (event : Event) (kept : Option Record) → IfSome kept (IsFound S event) → event ≢ Restart → kept ≡ None
+none_found : (S : Standing) (event : Event) (kept : Option Record) → IfSome kept (IsFound S event) → event ≢ Restart
+    → kept ≡ None
 none_found S event None h apart = refl
 none_found S event (Some r) h apart = absurd (apart h.restart)
 
 -- where nothing is found all stand as they stood
-found_none : (catalog : Catalog) (older : List Named) (n : Named) → n.1.came.kept ≡ None → found catalog older n ≡ stands catalog older
+found_none : (catalog : Catalog) (older : List Named) (n : Named) → n.1.came.kept ≡ None
+    → found catalog older n ≡ stands catalog older
 found_none catalog older n none =
     let each = at_all (found catalog older n) (stands catalog older) n.0 (found_here catalog older n ∙ ap (λ o. settled catalog n.0 o (stands catalog older n.0)) none) (found_away catalog older n) in
     λ t k. each k t
@@ -221,19 +230,24 @@ module _ (catalog : Catalog) (capacity : ℕ) (homes : (oid : ObjId) → (home c
     (settled_alone : (i : SiteId) → i.0 < catalog.sites → (older : List Entry) (e : Entry) → AreRight catalog capacity i older → IsRightEntry catalog capacity i older e
     → IsAlone catalog i (settled catalog i e.came.kept (standing catalog i older))) where
   -- behind what an entry found
-  found_marked : (older : List Named) (n : Named) → IsRun catalog capacity (n ∷ older) → AreMarkedRight catalog (stands catalog older) (IsPut older) → AreMarkedRight catalog (found catalog older n) (IsPut older)
+  found_marked : (older : List Named) (n : Named) → IsRun catalog capacity (n ∷ older)
+      → AreMarkedRight catalog (stands catalog older) (IsPut older)
+      → AreMarkedRight catalog (found catalog older n) (IsPut older)
   found_marked older n is M =
       marked_settled catalog (stands catalog older) (found catalog older n) (IsPut older) (run_agrees catalog capacity homes right_alone settled_alone older is.0) M n.0
       (run_alone catalog capacity homes right_alone settled_alone older is.0 n.0) n.1.came.kept (found_here catalog older n) (found_away catalog older n)
       (due_kept n.1.came.kept (kept_due catalog capacity homes right_alone settled_alone older n is))
       (λ r e. (if_some (IsFound (stands catalog older n.0) n.1.event) n.1.came.kept r is.1.right.kept e).in_flight)
     where
-      due_kept : (o : Option Record) → ((r : Record) → o ≡ Some r → IsDue catalog (stands catalog older) (IsPut older) n.0 r) → IfSome o (IsDue catalog (stands catalog older) (IsPut older) n.0)
+      due_kept : (o : Option Record)
+          → ((r : Record) → o ≡ Some r → IsDue catalog (stands catalog older) (IsPut older) n.0 r)
+          → IfSome o (IsDue catalog (stands catalog older) (IsPut older) n.0)
       due_kept None all = tt
       due_kept (Some r) all = all r refl
 
   -- in each run marks are true
-  pub run_marked : (run : List Named) → IsRun catalog capacity run → AreMarkedRight catalog (stands catalog run) (IsPut run)
+  pub run_marked : (run : List Named) → IsRun catalog capacity run
+      → AreMarkedRight catalog (stands catalog run) (IsPut run)
   run_marked [] is = record {
     marked = none_marked (home catalog) (sites catalog) catalog.tolerated (owns (stands catalog [])) (received (stands catalog [])) (counts (stands catalog [])) (IsPut [])
         (λ i. (stands catalog [] i).knows.durable_floor) (λ i. (stands catalog [] i).knows.visible_floor) (λ i. (stands catalog [] i).flight)

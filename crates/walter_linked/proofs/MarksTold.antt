@@ -51,9 +51,11 @@ passed_tests test (suc n) m one l =
       | false ↦ λ isnt low. passed_tests test n m one low
     ] refl l
 
-module _ (catalog : Catalog) (homes : (oid : ObjId) → (home catalog oid).0 < catalog.sites) (W : Stands) (C : IsCore catalog W) (i : SiteId) (K : Knowledge) (same : lost (W i).knows ≡ lost K) where
+module _ (catalog : Catalog) (homes : (oid : ObjId) → (home catalog oid).0 < catalog.sites) (W : Stands)
+    (C : IsCore catalog W) (i : SiteId) (K : Knowledge) (same : lost (W i).knows ≡ lost K) where
   -- own commit q, where it is held by so many as acknowledged it
-  held_durable : ((k : SiteId) → k ≢ i → K.acknowledged k ≤ received W k i) → (q : ℕ) → 1 ≤ q → q ≤ K.committed i → is_held catalog i K q ≡ true
+  held_durable : ((k : SiteId) → k ≢ i → K.acknowledged k ≤ received W k i) → (q : ℕ) → 1 ≤ q → q ≤ K.committed i
+      → is_held catalog i K q ≡ true
       → IsDurable (home catalog) catalog.tolerated (owns W i) (λ s. received W s i) q
   held_durable acks q one low held =
       let parts = both (nat_le (catalog.tolerated + 1) (count_by (holds i K q) (sites catalog))) (option_map_or (is_at_homes catalog i K q) (commit_at i q K.log) true) held in
@@ -74,13 +76,15 @@ module _ (catalog : Catalog) (homes : (oid : ObjId) → (home catalog oid).0 < c
       ))
 
   -- so the durable mark is true, where its floor is
-  pub durable_true : ((k : SiteId) → k ≢ i → K.acknowledged k ≤ received W k i) → AreDurable (home catalog) catalog.tolerated (owns W i) (λ s. received W s i) K.durable_floor
+  pub durable_true : ((k : SiteId) → k ≢ i → K.acknowledged k ≤ received W k i)
+      → AreDurable (home catalog) catalog.tolerated (owns W i) (λ s. received W s i) K.durable_floor
       → AreDurable (home catalog) catalog.tolerated (owns W i) (λ s. received W s i) (durable_mark catalog i K)
   durable_true acks floor = durable_mark_true (home catalog) catalog.tolerated (owns W i) (λ s. received W s i) K.durable_floor (passed (is_held catalog i K) (K.committed i)) floor
       (λ m one l. held_durable acks m one (let w = passed_within (is_held catalog i K) (K.committed i) in omega (arith, l, w)) (passed_tests (is_held catalog i K) (K.committed i) m one l))
 
   -- and the visible mark
-  pub visible_true : ((k : SiteId) → k ≢ i → K.visible k ≤ counts W k i) → AreVisible (sites catalog) (λ s. counts W s i) K.visible_floor
+  pub visible_true : ((k : SiteId) → k ≢ i → K.visible k ≤ counts W k i)
+      → AreVisible (sites catalog) (λ s. counts W s i) K.visible_floor
       → AreVisible (sites catalog) (λ s. counts W s i) (visible_mark catalog i K)
   visible_true told floor =
       let v = passed (is_visible catalog i K) (K.committed i) in

@@ -46,21 +46,26 @@ use Rattle.walter_linked.proofs.Spent.{IsNotOf, IsSpent, FliesRight, KindBrings,
 
 -- a site's fast own commits are spent, each is of another transaction, and what flies is right
 pub record AreSpent (i : SiteId) (S : Standing) : Type 0 where
-  pub rows : (p : ℕ) (r : Held) → slice_get (of_site i S.knows.log) p ≡ Some r → r.tx.slow ≡ 0 → IsSpent S.up S.knows S.flight r.tx.tid
-  pub once : (p q : ℕ) (r s : Held) → slice_get (of_site i S.knows.log) p ≡ Some r → slice_get (of_site i S.knows.log) q ≡ Some s → r.tx.slow ≡ 0 → s.tx.slow ≡ 0
+  pub rows : (p : ℕ) (r : Held) → slice_get (of_site i S.knows.log) p ≡ Some r → r.tx.slow ≡ 0
+      → IsSpent S.up S.knows S.flight r.tx.tid
+  pub once : (p q : ℕ) (r s : Held) → slice_get (of_site i S.knows.log) p ≡ Some r
+      → slice_get (of_site i S.knows.log) q ≡ Some s → r.tx.slow ≡ 0 → s.tx.slow ≡ 0
       → r.tx.tid ≡ s.tx.tid → p ≡ q
   pub flies_right : (r : Record) → S.flight ≡ Some r → FliesRight S r
 
 -- a fast commit of a record that isn't of the transaction is of another one
-not_of_own : (t : Tid) (rec : Option Record) → IfSome rec (IsNotOf t) → (seq : ℕ) (x : Tx) → rec ≡ Some (Own seq x) → x.tid ≢ t
+not_of_own : (t : Tid) (rec : Option Record) → IfSome rec (IsNotOf t) → (seq : ℕ) (x : Tx) → rec ≡ Some (Own seq x)
+    → x.tid ≢ t
 not_of_own t rec h seq x e = if_some (IsNotOf t) rec (Own seq x) h e
 
-not_of_begin : (t : Tid) (rec : Option Record) → IfSome rec (IsNotOf t) → (n : ℕ) (x : Tx) → rec ≡ Some (SlowBegin n x) → x.tid ≢ t
+not_of_begin : (t : Tid) (rec : Option Record) → IfSome rec (IsNotOf t) → (n : ℕ) (x : Tx) → rec ≡ Some (SlowBegin n x)
+    → x.tid ≢ t
 not_of_begin t rec h n x e = if_some (IsNotOf t) rec (SlowBegin n x) h e
 
 -- with a record the fast commits are spent still
 spent_on : (i : SiteId) (S S2 : Standing) (rec : Option Record) → AreSpent i S
-    → ((t : Tid) → IsSpent S.up S.knows S.flight t → IsSpent S2.up S2.knows S2.flight t) → ((t : Tid) → IsSpent S.up S.knows S.flight t → IfSome rec (IsNotOf t))
+    → ((t : Tid) → IsSpent S.up S.knows S.flight t → IsSpent S2.up S2.knows S2.flight t)
+    → ((t : Tid) → IsSpent S.up S.knows S.flight t → IfSome rec (IsNotOf t))
     → ((seq : ℕ) (x : Tx) → rec ≡ Some (Own seq x) → x.slow ≡ 0 → IsSpent S2.up S2.knows S2.flight x.tid)
     → ((p : ℕ) (r : Held) → slice_get (of_site i S2.knows.log) p ≡ Some r → (slice_get (of_site i S.knows.log) p ≡ Some r)
     ⊎ ((seq : ℕ) × (x : Tx) × (rec ≡ Some (Own seq x)) × (p ≡ length (of_site i S.knows.log)) × (x ≡ r.tx)))
@@ -84,7 +89,8 @@ spent_on i S S2 rec A later not_of new cases flying = record {
 }
 
 -- what is of a site in its log after a record that may come
-row_cases : (catalog : Catalog) (W : Stands) (put : Put) → AreAgreed catalog W put → (i : SiteId) (rec : Option Record) → IfSome rec (IsDue catalog W put i)
+row_cases : (catalog : Catalog) (W : Stands) (put : Put) → AreAgreed catalog W put → (i : SiteId) (rec : Option Record)
+    → IfSome rec (IsDue catalog W put i)
     → (p : ℕ) (r : Held) → slice_get (of_site i (log_after rec (logs W i))) p ≡ Some r
     → (slice_get (of_site i (logs W i)) p ≡ Some r) ⊎ ((seq : ℕ) × (x : Tx) × (rec ≡ Some (Own seq x)) × (p ≡ length (of_site i (logs W i))) × (x ≡ r.tx))
 row_cases catalog W put A i None due p r here = inl here
@@ -121,11 +127,13 @@ module _ (catalog : Catalog) (i : SiteId) (S : Standing) (alone : IsAlone catalo
   fullness_starts (Given (Call client call)) need left t h = h
   fullness_starts event need left t h = h
 
-  only_brings : (event : Event) (came : Came) (outcome : Outcome) (flight : Option Record) → IsOnly came outcome flight → KindBrings catalog i S alone event None outcome → KindBrings catalog i S alone event came.wrote came.outcome
+  only_brings : (event : Event) (came : Came) (outcome : Outcome) (flight : Option Record) → IsOnly came outcome flight
+      → KindBrings catalog i S alone event None outcome → KindBrings catalog i S alone event came.wrote came.outcome
   only_brings event came outcome flight only h =
       subst (λ w. KindBrings catalog i S alone event w came.outcome) (sym only.wrote) (subst (λ o. KindBrings catalog i S alone event None o) (sym only.outcome_is) h)
 
-  step_brings : (event : Event) (came : Came) → IsStep catalog i S event came → KindBrings catalog i S alone event came.wrote came.outcome
+  step_brings : (event : Event) (came : Came) → IsStep catalog i S event came
+      → KindBrings catalog i S alone event came.wrote came.outcome
   step_brings event came (stable kind none sent) = kind_brings catalog i S alone event came.wrote came.outcome kind
   step_brings event came (flies rec outcome kind only) =
       only_brings event came (failure event rec) (Some rec) only (plainly catalog i S alone event None (failure event rec) (up_failure event rec) refl (λ t h. absurd (failure_starts event rec t h)) tt (λ t p. tt) (λ seq x e. absurd cc))
@@ -155,8 +163,11 @@ module _ (catalog : Catalog) (i : SiteId) (S : Standing) (alone : IsAlone catalo
     slow_now = ap (λ (K : Knowledge). K.slow) (lost_knows event came.outcome (after catalog i S.knows event came.outcome came.wrote))
 
     -- a session behind it was there, or is of a transaction that starts
-    session_now : (P : Session → Type 0) → ((s : Session) (c : ℕ) → session_in c (sessions_after event came.outcome came.wrote (vector_of catalog (recorded catalog i came.wrote S.knows)) S.knows.sessions) ≡ Some s → P s)
-        → (c : ℕ) (s : Session) → session_of (knows_after event came.outcome (after catalog i S.knows event came.outcome came.wrote)) c ≡ Some s → P s
+    session_now : (P : Session → Type 0)
+        → ((s : Session) (c : ℕ) → session_in c (sessions_after event came.outcome came.wrote (vector_of catalog (recorded catalog i came.wrote S.knows)) S.knows.sessions) ≡ Some s → P s)
+        → (c : ℕ) (s : Session)
+        → session_of (knows_after event came.outcome (after catalog i S.knows event came.outcome came.wrote)) c ≡ Some s
+        → P s
     session_now P there c s =
         let A = after catalog i S.knows event came.outcome came.wrote in
         elim (goes_down event came.outcome) as (λ b. session_of (if b then lost A else A) c ≡ Some s → P s) [
@@ -200,7 +211,8 @@ module _ (catalog : Catalog) (i : SiteId) (S : Standing) (alone : IsAlone catalo
         }
 
     -- what flies behind it is right
-    flies_after : ((r : Record) → S.flight ≡ Some r → FliesRight S r) → (r : Record) → (stands_after catalog i S event came).flight ≡ Some r → FliesRight (stands_after catalog i S event came) r
+    flies_after : ((r : Record) → S.flight ≡ Some r → FliesRight S r) → (r : Record)
+        → (stands_after catalog i S event came).flight ≡ Some r → FliesRight (stands_after catalog i S event came) r
     flies_after before r e =
         let B = step_brings event came step in
         elim (flight_cases came.flight came.wrote came.outcome S.flight r e) [
@@ -208,7 +220,8 @@ module _ (catalog : Catalog) (i : SiteId) (S : Standing) (alone : IsAlone catalo
           | inr old ↦ rise B.rises old.0 r (before r old.1)
         ]
       where
-        rise : ((x : Tid) → IsIssued (issued_of S) x → IsIssued (issued_of (stands_after catalog i S event came)) x) → came.wrote ≡ None → (r : Record) → FliesRight S r
+        rise : ((x : Tid) → IsIssued (issued_of S) x → IsIssued (issued_of (stands_after catalog i S event came)) x)
+            → came.wrote ≡ None → (r : Record) → FliesRight S r
             → FliesRight (stands_after catalog i S event came) r
         rise up none (Own seq x) h = λ fast. (up x.tid (h fast).0, subst (λ f. IsUnbegun f x.tid) (sym (slow_now ∙ ap (λ o. slow_after catalog i S.knows o) none)) (h fast).1)
         rise up none (Boot epoch) h = tt
@@ -222,7 +235,8 @@ module _ (catalog : Catalog) (i : SiteId) (S : Standing) (alone : IsAlone catalo
 
   -- what a restart finds
   module _ (event : Event) (rec : Record) (is_found : IsFound S event rec) (A : AreSpent i S) where
-    rises_found : (t : Tid) → IsIssued (issued_of S) t → IsIssued (issued_by S.up (recorded catalog i (Some rec) S.knows)) t
+    rises_found : (t : Tid) → IsIssued (issued_of S) t
+        → IsIssued (issued_by S.up (recorded catalog i (Some rec) S.knows)) t
     rises_found t is =
         subst (λ b. IsIssued (issued_by b (recorded catalog i (Some rec) S.knows)) t) (sym is_found.down)
         (rises_down S.up S.knows (epoch_after (Some rec) S.knows.epoch) (later rec is_found.in_flight) t is)
@@ -231,7 +245,8 @@ module _ (catalog : Catalog) (i : SiteId) (S : Standing) (alone : IsAlone catalo
         later (Boot epoch) flying = let e = alone.boot epoch flying in omega (arith, e)
         later r flying = omega arith
 
-    spent_found : (t : Tid) → IsSpent S.up S.knows S.flight t → IsSpent S.up (recorded catalog i (Some rec) S.knows) None t
+    spent_found : (t : Tid) → IsSpent S.up S.knows S.flight t
+        → IsSpent S.up (recorded catalog i (Some rec) S.knows) None t
     spent_found t p = record {
       issued = rises_found t p.issued;
       unbegun = unbegun_after catalog i S.knows t p.unbegun (Some rec) (not_of_begin t (Some rec) (p.unflown rec is_found.in_flight));
@@ -239,7 +254,8 @@ module _ (catalog : Catalog) (i : SiteId) (S : Standing) (alone : IsAlone catalo
       unflown = λ r e. absurd cc;
     }
 
-    own_found : (seq : ℕ) (x : Tx) → rec ≡ Own seq x → x.slow ≡ 0 → IsSpent S.up (recorded catalog i (Some rec) S.knows) None x.tid
+    own_found : (seq : ℕ) (x : Tx) → rec ≡ Own seq x → x.slow ≡ 0
+        → IsSpent S.up (recorded catalog i (Some rec) S.knows) None x.tid
     own_found seq x is fast =
         let right = A.flies_right (Own seq x) (is_found.in_flight ∙ ap (λ z. Some z) is) fast in
         record {
@@ -263,7 +279,8 @@ module _ (catalog : Catalog) (capacity : ℕ) (homes : (oid : ObjId) → (home c
     (right_alone : (i : SiteId) → i.0 < catalog.sites → (older : List Entry) → AreRight catalog capacity i older → IsAlone catalog i (standing catalog i older))
     (settled_alone : (i : SiteId) → i.0 < catalog.sites → (older : List Entry) (e : Entry) → AreRight catalog capacity i older → IsRightEntry catalog capacity i older e
     → IsAlone catalog i (settled catalog i e.came.kept (standing catalog i older))) where
-  due_some : (W : Stands) (put : Put) (i : SiteId) (o : Option Record) → ((r : Record) → o ≡ Some r → IsDue catalog W put i r) → IfSome o (IsDue catalog W put i)
+  due_some : (W : Stands) (put : Put) (i : SiteId) (o : Option Record)
+      → ((r : Record) → o ≡ Some r → IsDue catalog W put i r) → IfSome o (IsDue catalog W put i)
   due_some W put i None all = tt
   due_some W put i (Some r) all = all r refl
 

@@ -46,7 +46,8 @@ core_of catalog W put A = record { numbered = A.numbered; counted = A.counted; c
 -- by equal parts
 pub locked_same : (preferred : ObjId → SiteId) (owns owns2 known known2 : SiteId → List Held) (counts counts2 : SiteId → SiteId → ℕ)
     (slows slows2 : SiteId → ℕ → Slow) (locks locks2 : SiteId → SiteId → ℕ → Part)
-    → ((k : SiteId) → owns2 k ≡ owns k) → ((k : SiteId) → known2 k ≡ known k) → ((p k : SiteId) → counts2 p k ≡ counts p k)
+    → ((k : SiteId) → owns2 k ≡ owns k) → ((k : SiteId) → known2 k ≡ known k)
+    → ((p k : SiteId) → counts2 p k ≡ counts p k)
     → ((j : SiteId) (n : ℕ) → slows2 j n ≡ slows j n) → ((p j : SiteId) (n : ℕ) → locks2 p j n ≡ locks p j n)
     → AreLocked preferred owns known counts slows locks → AreLocked preferred owns2 known2 counts2 slows2 locks2
 locked_same preferred owns owns2 known known2 counts counts2 slows slows2 locks locks2 a b c d e L =
@@ -90,8 +91,10 @@ part_over_some j zero part k m some = absurd (some refl)
 part_over_some j (suc n) part k m some = refl
 
 -- what is counted is what the logs have, where both have one more
-counted_pushed : (lists longer : SiteId → List Held) (got more : SiteId → SiteId → ℕ) (s j : SiteId) (r : Held) → IsPushed lists longer s r → IsCounted got more s j
-    → r.tx.tid.site ≡ j → ((i k : SiteId) → got i k ≡ length (of_site k (lists i))) → (i k : SiteId) → more i k ≡ length (of_site k (longer i))
+counted_pushed : (lists longer : SiteId → List Held) (got more : SiteId → SiteId → ℕ) (s j : SiteId) (r : Held)
+    → IsPushed lists longer s r → IsCounted got more s j
+    → r.tx.tid.site ≡ j → ((i k : SiteId) → got i k ≡ length (of_site k (lists i))) → (i k : SiteId)
+    → more i k ≡ length (of_site k (longer i))
 counted_pushed lists longer got more s j r push count site before i k =
     let was = before i k in
     elim (pushed_of lists longer s r push i k) [
@@ -108,7 +111,8 @@ counted_pushed lists longer got more s j r push count site before i k =
       ]
     ]
 
-module _ (catalog : Catalog) (W W2 : Stands) (put : Put) (A : AreAgreed catalog W put) (i : SiteId) (alone : IsAlone catalog i (W i)) where
+module _ (catalog : Catalog) (W W2 : Stands) (put : Put) (A : AreAgreed catalog W put) (i : SiteId)
+    (alone : IsAlone catalog i (W i)) where
   -- where no log gets longer and nothing more is counted
   quiet : (rec : Record) → IsRecorded catalog i (Some rec) W W2 → log_after (Some rec) (logs W i) ≡ logs W i
       → ((k : SiteId) → got_after i (Some rec) (received W i) k ≡ received W i k)
@@ -129,14 +133,20 @@ module _ (catalog : Catalog) (W W2 : Stands) (put : Put) (A : AreAgreed catalog 
       }
 
   -- slow commits and parts that no record of this kind changes
-  same_slows : (rec : Record) → IsRecorded catalog i (Some rec) W W2 → ((n : ℕ) → slow_after catalog i (lost (W i).knows) (Some rec) n ≡ slows W i n) → (j : SiteId) (n : ℕ) → slows W2 j n ≡ slows W j n
+  same_slows : (rec : Record) → IsRecorded catalog i (Some rec) W W2
+      → ((n : ℕ) → slow_after catalog i (lost (W i).knows) (Some rec) n ≡ slows W i n) → (j : SiteId) (n : ℕ)
+      → slows W2 j n ≡ slows W j n
   same_slows rec R same j n = at_all (λ z. slows W2 z n) (λ z. slows W z n) i (slow_here catalog i (Some rec) W W2 R n ∙ same n) (λ z apart. slow_away catalog i (Some rec) W W2 R z apart n) j
 
-  same_parts : (rec : Record) → IsRecorded catalog i (Some rec) W W2 → ((j : SiteId) (n : ℕ) → part_after catalog i (lost (W i).knows) (Some rec) j n ≡ parts W i j n) → (p j : SiteId) (n : ℕ) → parts W2 p j n ≡ parts W p j n
+  same_parts : (rec : Record) → IsRecorded catalog i (Some rec) W W2
+      → ((j : SiteId) (n : ℕ) → part_after catalog i (lost (W i).knows) (Some rec) j n ≡ parts W i j n)
+      → (p j : SiteId) (n : ℕ) → parts W2 p j n ≡ parts W p j n
   same_parts rec R same p j n = at_all (λ z. parts W2 z j n) (λ z. parts W z j n) i (part_here catalog i (Some rec) W W2 R j n ∙ same j n) (λ z apart. part_away catalog i (Some rec) W W2 R z apart j n) p
 
   -- by equal slow commits or parts
-  with_slows : ((j : SiteId) (n : ℕ) → slows W2 j n ≡ slows W j n) → AreLocked (home catalog) (owns W) (logs W) (counts W) (slows W) (parts W2) → AreLocked (home catalog) (owns W) (logs W) (counts W) (slows W2) (parts W2)
+  with_slows : ((j : SiteId) (n : ℕ) → slows W2 j n ≡ slows W j n)
+      → AreLocked (home catalog) (owns W) (logs W) (counts W) (slows W) (parts W2)
+      → AreLocked (home catalog) (owns W) (logs W) (counts W) (slows W2) (parts W2)
   with_slows same L = locked_same (home catalog) (owns W) (owns W) (logs W) (logs W) (counts W) (counts W) (slows W) (slows W2) (parts W2) (parts W2) (λ k. refl) (λ k. refl) (λ p k. refl) same (λ p j n. refl) L
 
   -- number 0 is never begun, and nothing is locked for it
@@ -169,7 +179,8 @@ module _ (catalog : Catalog) (W W2 : Stands) (put : Put) (A : AreAgreed catalog 
       (locked_same (home catalog) (owns W) (owns W) (logs W) (logs W) (counts W) (counts W) (slows W) (slows W2) (parts W) (parts W2) (λ k. refl) (λ k. refl) (λ p k. refl)
       (same_slows (Marks durable visible) R (λ n. refl)) (same_parts (Marks durable visible) R (λ j n. refl)) A.locked)
 
-  by_begin_record : (n : ℕ) (x : Tx) → IsRecorded catalog i (Some (SlowBegin n x)) W W2 → IsDue catalog W put i (SlowBegin n x) → IsCore catalog W2
+  by_begin_record : (n : ℕ) (x : Tx) → IsRecorded catalog i (Some (SlowBegin n x)) W W2
+      → IsDue catalog W put i (SlowBegin n x) → IsCore catalog W2
   by_begin_record n x R due = quiet (SlowBegin n x) R refl (λ k. refl) (λ k. refl)
       (by_slow_begin (home catalog) (owns W) (logs W) (counts W) (slows W) (parts W) A.locked i (slows W2) (parts W2) n
       (objects_at catalog (lost (W i).knows) i x.updates) x (participants catalog (lost (W i).knows) i x.updates)
@@ -180,7 +191,9 @@ module _ (catalog : Catalog) (W W2 : Stands) (put : Put) (A : AreAgreed catalog 
       (λ r p oid here w c pr. due.unmodified r p oid here w (objects_at_from catalog (lost (W i).knows) i x.updates oid c).0 pr)
       (λ j m owner locked oid h c o pr. due.unlocked j m owner locked oid h c (objects_at_from catalog (lost (W i).knows) i x.updates oid o).0 pr))
 
-  by_prepared_record : (j : SiteId) (n : ℕ) (tid : Tid) (objects : List ObjId) → IsRecorded catalog i (Some (Prepared j n tid objects)) W W2 → IsDue catalog W put i (Prepared j n tid objects) → IsCore catalog W2
+  by_prepared_record : (j : SiteId) (n : ℕ) (tid : Tid) (objects : List ObjId)
+      → IsRecorded catalog i (Some (Prepared j n tid objects)) W W2 → IsDue catalog W put i (Prepared j n tid objects)
+      → IsCore catalog W2
   by_prepared_record j n tid objects R due =
       let so = A.said j i (Prepare n tid due.start objects) due.apart due.said in
       quiet (Prepared j n tid objects) R refl (λ k. refl) (λ k. refl)
@@ -189,7 +202,8 @@ module _ (catalog : Catalog) (W W2 : Stands) (put : Put) (A : AreAgreed catalog 
       (λ p k m apart. part_away catalog i (Some (Prepared j n tid objects)) W W2 R p apart k m) (part_here catalog i (Some (Prepared j n tid objects)) W W2 R)
       due.free so.1 so.2 so.4 (subst (λ v. IsUnmodified (home catalog) i v objects (logs W i)) so.3 due.unmodified) due.unlocked))
 
-  by_released_record : (j : SiteId) (n : ℕ) → IsRecorded catalog i (Some (Released j n)) W W2 → IsDue catalog W put i (Released j n) → IsCore catalog W2
+  by_released_record : (j : SiteId) (n : ℕ) → IsRecorded catalog i (Some (Released j n)) W W2
+      → IsDue catalog W put i (Released j n) → IsCore catalog W2
   by_released_record j n R due =
       let so = A.said j i (Release n) due.0 due.1 in
       quiet (Released j n) R refl (λ k. refl) (λ k. refl)
@@ -197,7 +211,8 @@ module _ (catalog : Catalog) (W W2 : Stands) (put : Put) (A : AreAgreed catalog 
       (by_released (home catalog) (owns W) (logs W) (counts W) (slows W) (parts W) A.locked i (parts W2) j n so.0 so.1 A.numbered.own.counted due.0 so.2
       (λ p k m apart. part_away catalog i (Some (Released j n)) W W2 R p apart k m) (part_here catalog i (Some (Released j n)) W W2 R)))
 
-  by_seen_record : (j : SiteId) (seq : ℕ) → IsRecorded catalog i (Some (Seen j seq)) W W2 → IsDue catalog W put i (Seen j seq) → IsCore catalog W2
+  by_seen_record : (j : SiteId) (seq : ℕ) → IsRecorded catalog i (Some (Seen j seq)) W W2
+      → IsDue catalog W put i (Seen j seq) → IsCore catalog W2
   by_seen_record j seq R due =
       let rec : Option Record = Some (Seen j seq) in
       let next = due.next in
@@ -232,7 +247,8 @@ module _ (catalog : Catalog) (W W2 : Stands) (put : Put) (A : AreAgreed catalog 
             (λ some k n. part_here catalog i rec W W2 R k n ∙ ap (λ f. f k n) now ∙ part_over_some j held.0.tx.slow (parts W i) k n some));
       }
 
-  by_got_record : (j : SiteId) (seq : ℕ) (x : Tx) → IsRecorded catalog i (Some (Got j seq x)) W W2 → IsDue catalog W put i (Got j seq x) → IsCore catalog W2
+  by_got_record : (j : SiteId) (seq : ℕ) (x : Tx) → IsRecorded catalog i (Some (Got j seq x)) W W2
+      → IsDue catalog W put i (Got j seq x) → IsCore catalog W2
   by_got_record j seq x R due =
       let rec : Option Record = Some (Got j seq x) in
       let r : Held = record { seq = seq; tx = x } in
@@ -262,7 +278,8 @@ module _ (catalog : Catalog) (W W2 : Stands) (put : Put) (A : AreAgreed catalog 
             so.1 (let w = (A.numbered.held i).within j in omega (arith, w, c, next)) due.apart);
       }
 
-  by_own_record : (seq : ℕ) (x : Tx) → IsRecorded catalog i (Some (Own seq x)) W W2 → IsDue catalog W put i (Own seq x) → IsCore catalog W2
+  by_own_record : (seq : ℕ) (x : Tx) → IsRecorded catalog i (Some (Own seq x)) W W2 → IsDue catalog W put i (Own seq x)
+      → IsCore catalog W2
   by_own_record seq x R due =
       let rec : Option Record = Some (Own seq x) in
       let r : Held = record { seq = seq; tx = x } in
@@ -338,7 +355,8 @@ module _ (catalog : Catalog) (W W2 : Stands) (put : Put) (A : AreAgreed catalog 
   recorded_some (Marks durable visible) R due = by_marks_record durable visible R
 
   -- or none
-  pub recorded_core : (rec : Option Record) → IsRecorded catalog i rec W W2 → IfSome rec (IsDue catalog W put i) → IsCore catalog W2
+  pub recorded_core : (rec : Option Record) → IsRecorded catalog i rec W W2 → IfSome rec (IsDue catalog W put i)
+      → IsCore catalog W2
   recorded_core None R due =
       let same : (k : SiteId) → lost (W2 k).knows ≡ lost (W k).knows = at_all (λ k. lost (W2 k).knows) (λ k. lost (W k).knows) i R.here (λ k apart. ap (λ (S : Standing). lost S.knows) (R.away k apart)) in
       let same_log : (k : SiteId) → logs W2 k ≡ logs W k = λ k. ap (λ (K : Knowledge). K.log) (same k) in

@@ -39,7 +39,8 @@ use Rattle.walter_linked.proofs.Grown.{HasGrown, over_later}
 use Rattle.walter_linked.proofs.Recorded.{IsCore, commit_held}
 
 -- a conflict over a version is over the first one outside, and one over a lock over the owner
-pub over_modified : (at oid : ObjId) (first : Option Version) (owner : Option Tid) (version : Version) → conflict_over at first owner ≡ Some (Modified oid version)
+pub over_modified : (at oid : ObjId) (first : Option Version) (owner : Option Tid) (version : Version)
+    → conflict_over at first owner ≡ Some (Modified oid version)
     → (at ≡ oid) × (first ≡ Some version)
 over_modified at oid (Some v) owner version is =
     let e : Modified at v ≡ Modified oid version = same_Some (Modified at v) (Modified oid version) is in
@@ -49,7 +50,8 @@ over_modified at oid (Some v) owner version is =
 over_modified at oid None (Some t) version is = absurd (let e : LockedThere at t ≡ Modified oid version = same_Some (LockedThere at t) (Modified oid version) is in cc)
 over_modified at oid None None version is = absurd cc
 
-pub over_locked : (at oid : ObjId) (first : Option Version) (owner : Option Tid) (tid : Tid) → conflict_over at first owner ≡ Some (LockedThere oid tid)
+pub over_locked : (at oid : ObjId) (first : Option Version) (owner : Option Tid) (tid : Tid)
+    → conflict_over at first owner ≡ Some (LockedThere oid tid)
     → (at ≡ oid) × (owner ≡ Some tid)
 over_locked at oid (Some v) owner tid is = absurd (let e : Modified at v ≡ LockedThere oid tid = same_Some (Modified at v) (LockedThere oid tid) is in cc)
 over_locked at oid None (Some t) tid is =
@@ -60,7 +62,8 @@ over_locked at oid None (Some t) tid is =
 over_locked at oid None None tid is = absurd cc
 
 -- the first version outside is one of a transaction of the log that writes the object and isn't seen
-pub first_outside_held : (K : Knowledge) (snapshot : List ℕ) (oid : ObjId) (version : Version) → first_outside snapshot (map version_of (row oid K.log)) ≡ Some version
+pub first_outside_held : (K : Knowledge) (snapshot : List ℕ) (oid : ObjId) (version : Version)
+    → first_outside snapshot (map version_of (row oid K.log)) ≡ Some version
     → (r : Held) × (p : ℕ) × (slice_get K.log p ≡ Some r) × (version_of r ≡ version) × Contains (write_set r.tx.updates) oid × (sees snapshot r ≡ false)
 first_outside_held K snapshot oid version first =
     let versions = map version_of (row oid K.log) in
@@ -76,9 +79,11 @@ first_outside_held K snapshot oid version first =
       not-true (sees snapshot made.0) (ap (λ v. not (sees_version snapshot v)) made.2 ∙ outside.1),
     )
 
-module _ (catalog : Catalog) (W : Stands) (put : Put) (A : AreAgreed catalog W put) (alone : (k : SiteId) → IsAlone catalog k (W k)) (i : SiteId) where
+module _ (catalog : Catalog) (W : Stands) (put : Put) (A : AreAgreed catalog W put)
+    (alone : (k : SiteId) → IsAlone catalog k (W k)) (i : SiteId) where
   -- what a log has is an own commit of its site, by its number
-  pub held_own : (r : Held) (p : ℕ) → slice_get (logs W i) p ≡ Some r → (1 ≤ r.seq) × (slice_get (owns W r.tx.tid.site) (r.seq - 1) ≡ Some r)
+  pub held_own : (r : Held) (p : ℕ) → slice_get (logs W i) p ≡ Some r
+      → (1 ≤ r.seq) × (slice_get (owns W r.tx.tid.site) (r.seq - 1) ≡ Some r)
   held_own r p here =
       let k = r.tx.tid.site in
       let m = length (of_site k (take p (logs W i))) in

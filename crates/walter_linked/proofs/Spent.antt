@@ -74,7 +74,8 @@ starts_rise : (outcome : Outcome) (n : ℕ) → n ≤ starts_after outcome n
 starts_rise (Replied (Started tid)) n = omega arith
 starts_rise outcome n = omega arith
 
-rises_on : (up : Bool) (K A : Knowledge) → A.epoch ≡ K.epoch → K.starts ≤ A.starts → (x : Tid) → IsIssued (issued_by up K) x → IsIssued (issued_by up A) x
+rises_on : (up : Bool) (K A : Knowledge) → A.epoch ≡ K.epoch → K.starts ≤ A.starts → (x : Tid)
+    → IsIssued (issued_by up K) x → IsIssued (issued_by up A) x
 rises_on true K A same more x is = elim is [
   | inl over ↦ inl (omega (arith, over, same))
   | inr here ↦ let a = here.0 in let b = here.1 in inr (omega (arith, a, same), omega (arith, b, more))
@@ -85,8 +86,10 @@ rises_on false K A same more x is = elim is [
 ]
 
 -- behind an event that brings no site up, and no epoch
-rises_same : (catalog : Catalog) (i : SiteId) (S : Standing) (event : Event) (outcome : Outcome) (wrote : Option Record) → comes_up event outcome ≡ false → epoch_after wrote S.knows.epoch ≡ S.knows.epoch
-    → (x : Tid) → IsIssued (issued_of S) x → IsIssued (issued_by (up_after event outcome S.up) (knows_after event outcome (after catalog i S.knows event outcome wrote))) x
+rises_same : (catalog : Catalog) (i : SiteId) (S : Standing) (event : Event) (outcome : Outcome) (wrote : Option Record)
+    → comes_up event outcome ≡ false → epoch_after wrote S.knows.epoch ≡ S.knows.epoch
+    → (x : Tid) → IsIssued (issued_of S) x
+    → IsIssued (issued_by (up_after event outcome S.up) (knows_after event outcome (after catalog i S.knows event outcome wrote))) x
 rises_same catalog i S event outcome wrote not_up same x is =
     let A = after catalog i S.knows event outcome wrote in
     elim (goes_down event outcome) as (λ b. IsIssued (issued_by (if b then false else if comes_up event outcome then true else S.up) (if b then lost A else A)) x) [
@@ -138,7 +141,8 @@ IsStartedBy outcome t = ⊥
 abbrev pub WasThere : Sessions → ℕ → Session → Type 0
 WasThere sessions c s = (z : Session) × (session_in c sessions ≡ Some z) × (z.tid ≡ s.tid)
 
-behind_cases : (c client : ℕ) (new : Session) (es : Sessions) (s : Session) → session_in c (es ++ (client, new) ∷ []) ≡ Some s → (session_in c es ≡ Some s) ⊎ (new ≡ s)
+behind_cases : (c client : ℕ) (new : Session) (es : Sessions) (s : Session)
+    → session_in c (es ++ (client, new) ∷ []) ≡ Some s → (session_in c es ≡ Some s) ⊎ (new ≡ s)
 behind_cases c client new [] s h = elim (nat_eq c client) as (λ b. cond b (Some new) None ≡ Some s → (session_in c [] ≡ Some s) ⊎ (new ≡ s)) [
   | true ↦ λ e. inr (same_Some new s e)
   | false ↦ λ e. absurd cc
@@ -148,7 +152,8 @@ behind_cases c client new (e ∷ es) s h = elim (nat_eq c e.0) as (λ b. cond b 
   | false ↦ λ is. behind_cases c client new es s is
 ] h
 
-was_changed : (f : Session → Session) → ((z : Session) → (f z).tid ≡ z.tid) → (client : ℕ) (es : Sessions) (c : ℕ) (s : Session) → session_in c (changed client f es) ≡ Some s → WasThere es c s
+was_changed : (f : Session → Session) → ((z : Session) → (f z).tid ≡ z.tid)
+    → (client : ℕ) (es : Sessions) (c : ℕ) (s : Session) → session_in c (changed client f es) ≡ Some s → WasThere es c s
 was_changed f same client es c s h =
     elim (nat_eq client c) as (λ b. (if b then option_map f (session_in c es) else session_in c es) ≡ Some s → WasThere es c s) [
       | true ↦ λ e. elim (session_in c es) as (λ o. session_in c es ≡ o → option_map f o ≡ Some s → WasThere es c s) [
@@ -158,7 +163,8 @@ was_changed f same client es c s h =
       | false ↦ λ e. (s, e, refl)
     ] (sym (lookup-changed client c f es) ∙ h)
 
-was_without : (client : ℕ) (es : Sessions) (c : ℕ) (s : Session) → session_in c (without client es) ≡ Some s → WasThere es c s
+was_without : (client : ℕ) (es : Sessions) (c : ℕ) (s : Session) → session_in c (without client es) ≡ Some s
+    → WasThere es c s
 was_without client es c s h =
     elim (nat_eq client c) as (λ b. (if b then None else session_in c es) ≡ Some s → WasThere es c s) [
       | true ↦ λ e. absurd cc
@@ -175,19 +181,23 @@ deciding_same : (wrote : Option Record) (z : Session) → (deciding wrote z).tid
 deciding_same (Some (SlowBegin n tx)) z = refl
 deciding_same wrote z = refl
 
-was_closed : (event : Event) (es : Sessions) (c : ℕ) (s : Session) → session_in c (closed event es) ≡ Some s → WasThere es c s
+was_closed : (event : Event) (es : Sessions) (c : ℕ) (s : Session) → session_in c (closed event es) ≡ Some s
+    → WasThere es c s
 was_closed (Given (Call client call)) es c s h = was_without client es c s h
 was_closed event es c s h = (s, h, refl)
 
-was_done : (event : Event) (es : Sessions) (c : ℕ) (s : Session) → session_in c (done event es) ≡ Some s → WasThere es c s
+was_done : (event : Event) (es : Sessions) (c : ℕ) (s : Session) → session_in c (done event es) ≡ Some s
+    → WasThere es c s
 was_done (Given (Call client call)) es c s h = was_changed (updated call) (updated_same call) client es c s h
 was_done event es c s h = (s, h, refl)
 
-was_begun : (event : Event) (wrote : Option Record) (es : Sessions) (c : ℕ) (s : Session) → session_in c (begun_by event wrote es) ≡ Some s → WasThere es c s
+was_begun : (event : Event) (wrote : Option Record) (es : Sessions) (c : ℕ) (s : Session)
+    → session_in c (begun_by event wrote es) ≡ Some s → WasThere es c s
 was_begun (Given (Call client call)) wrote es c s h = was_changed (deciding wrote) (deciding_same wrote) client es c s h
 was_begun event wrote es c s h = (s, h, refl)
 
-was_opened : (event : Event) (new : Session) (es : Sessions) (c : ℕ) (s : Session) → session_in c (opened event new es) ≡ Some s → WasThere es c s ⊎ (new ≡ s)
+was_opened : (event : Event) (new : Session) (es : Sessions) (c : ℕ) (s : Session)
+    → session_in c (opened event new es) ≡ Some s → WasThere es c s ⊎ (new ≡ s)
 was_opened (Given (Call client call)) new es c s h = elim (behind_cases c client new es s h) [
   | inl there ↦ inl (s, there, refl)
   | inr now ↦ inr now
@@ -195,7 +205,8 @@ was_opened (Given (Call client call)) new es c s h = elim (behind_cases c client
 was_opened event new es c s h = inl (s, h, refl)
 
 pub session_cases : (event : Event) (outcome : Outcome) (wrote : Option Record) (snapshot : List ℕ) (es : Sessions) (c : ℕ) (s : Session)
-    → session_in c (sessions_after event outcome wrote snapshot es) ≡ Some s → WasThere es c s ⊎ IsStartedBy outcome s.tid
+    → session_in c (sessions_after event outcome wrote snapshot es) ≡ Some s
+    → WasThere es c s ⊎ IsStartedBy outcome s.tid
 session_cases event (Replied (Started tid)) wrote snapshot es c s h = elim (was_opened event (record { tid = tid; snapshot = snapshot; updates = []; slow = 0 }) es c s h) [
   | inl there ↦ inl there
   | inr now ↦ inr (ap (λ (y : Session). y.tid) now)
@@ -211,7 +222,9 @@ session_cases event outcome wrote snapshot es c s h = inl (s, h, refl)
 -- slow commits
 
 -- none is of the transaction while no slow commit of it begins
-pub unbegun_after : (catalog : Catalog) (i : SiteId) (K : Knowledge) (t : Tid) → IsUnbegun K.slow t → (rec : Option Record) → ((n : ℕ) (x : Tx) → rec ≡ Some (SlowBegin n x) → x.tid ≢ t) → IsUnbegun (slow_after catalog i K rec) t
+pub unbegun_after : (catalog : Catalog) (i : SiteId) (K : Knowledge) (t : Tid) → IsUnbegun K.slow t
+    → (rec : Option Record) → ((n : ℕ) (x : Tx) → rec ≡ Some (SlowBegin n x) → x.tid ≢ t)
+    → IsUnbegun (slow_after catalog i K rec) t
 unbegun_after catalog i K t un None so m y b = un m y b
 unbegun_after catalog i K t un (Some (Boot epoch)) so m y b = un m y (sym (begun_ended (K.slow m)) ∙ b)
 unbegun_after catalog i K t un (Some (Own seq x)) so m y b = elim (nat_eq x.slow m) as (λ c. begun (if c then decided (K.slow m) else K.slow m) ≡ Some y → y.tid ≢ t) [
@@ -239,26 +252,32 @@ FliesRight S rec = Unit {0}
 module _ (catalog : Catalog) (i : SiteId) (S : Standing) (alone : IsAlone catalog i S) where
   -- what a kind brings: names rise, a name that starts is the next, and a fast commit is of a transaction that was started
   pub record KindBrings (event : Event) (wrote : Option Record) (outcome : Outcome) : Type 0 where
-    pub rises : (x : Tid) → IsIssued (issued_of S) x → IsIssued (issued_by (up_after event outcome S.up) (knows_after event outcome (after catalog i S.knows event outcome wrote))) x
+    pub rises : (x : Tid) → IsIssued (issued_of S) x
+        → IsIssued (issued_by (up_after event outcome S.up) (knows_after event outcome (after catalog i S.knows event outcome wrote))) x
     pub fresh : (t : Tid) → IsStartedBy outcome t → IsIssued (issued_of S) t → ⊥
     pub fast : IfSome wrote (FliesRight S)
     pub not_of : (t : Tid) → IsSpent S.up S.knows S.flight t → IfSome wrote (IsNotOf t)
     pub ends : (seq : ℕ) (x : Tx) → wrote ≡ Some (Own seq x) → x.slow ≡ 0 → (snapshot : List ℕ) (c : ℕ) (s : Session)
         → session_in c (sessions_after event outcome wrote snapshot S.knows.sessions) ≡ Some s → s.tid ≢ x.tid
 
-  read_fresh : (call : Result Request BadFrame) (reply : Reply) (updates : List Update) → IsReadCall call reply updates → (t : Tid) → IsStartedBy (Replied reply) t → ⊥
+  read_fresh : (call : Result Request BadFrame) (reply : Reply) (updates : List Update) → IsReadCall call reply updates
+      → (t : Tid) → IsStartedBy (Replied reply) t → ⊥
   read_fresh call reply updates (of_value oid all) t h = h
   read_fresh call reply updates (of_counts oid all) t h = h
   read_fresh call reply updates (of_count oid id all) t h = h
 
   -- names stay where no epoch begins
-  pub plainly : (event : Event) (wrote : Option Record) (outcome : Outcome) → comes_up event outcome ≡ false → epoch_after wrote S.knows.epoch ≡ S.knows.epoch
-      → ((t : Tid) → IsStartedBy outcome t → IsIssued (issued_of S) t → ⊥) → IfSome wrote (FliesRight S) → ((t : Tid) → IsSpent S.up S.knows S.flight t → IfSome wrote (IsNotOf t))
+  pub plainly : (event : Event) (wrote : Option Record) (outcome : Outcome) → comes_up event outcome ≡ false
+      → epoch_after wrote S.knows.epoch ≡ S.knows.epoch
+      → ((t : Tid) → IsStartedBy outcome t → IsIssued (issued_of S) t → ⊥) → IfSome wrote (FliesRight S)
+      → ((t : Tid) → IsSpent S.up S.knows S.flight t → IfSome wrote (IsNotOf t))
       → ((seq : ℕ) (x : Tx) → wrote ≡ Some (Own seq x) → x.slow ≡ 0 → (snapshot : List ℕ) (c : ℕ) (s : Session)
-      → session_in c (sessions_after event outcome wrote snapshot S.knows.sessions) ≡ Some s → s.tid ≢ x.tid) → KindBrings event wrote outcome
+      → session_in c (sessions_after event outcome wrote snapshot S.knows.sessions) ≡ Some s
+      → s.tid ≢ x.tid) → KindBrings event wrote outcome
   plainly event wrote outcome not_up same fresh fast not_of ends_ = record { rises = rises_same catalog i S event outcome wrote not_up same; fresh = fresh; fast = fast; not_of = not_of; ends = ends_ }
 
-  pub kind_brings : (event : Event) (wrote : Option Record) (outcome : Outcome) → IsKind catalog i S event wrote outcome → KindBrings event wrote outcome
+  pub kind_brings : (event : Event) (wrote : Option Record) (outcome : Outcome) → IsKind catalog i S event wrote outcome
+      → KindBrings event wrote outcome
   kind_brings event wrote outcome (is_refused client call refusal) = plainly _ _ _ refl refl (λ t h. absurd h) tt (λ t p. tt) (λ seq x e. absurd cc)
   kind_brings event wrote outcome (starts client up none) = plainly _ _ _ refl refl
       (λ t h is. next_not_issued i (record { epoch = S.knows.epoch; starts = S.knows.starts }) (subst (λ (z : Tid). IsIssued (record { epoch = S.knows.epoch; starts = S.knows.starts }) z) (sym h) (subst (λ b. IsIssued (issued_by b S.knows) t) up is)))
@@ -266,7 +285,8 @@ module _ (catalog : Catalog) (i : SiteId) (S : Standing) (alone : IsAlone catalo
   kind_brings event wrote outcome (does client call s update has is declared) = plainly _ _ _ refl refl (λ t h. absurd h) tt (λ t p. tt) (λ seq x e. absurd cc)
   kind_brings event wrote outcome (reads client call s reply has is) = plainly _ _ _ (read_up client call reply (read_updates S.knows s) is) refl (λ t h. absurd (read_fresh call reply (read_updates S.knows s) is t h)) tt (λ t p. tt) (λ seq x e. absurd cc)
     where
-      read_up : (client : ℕ) (call : Result Request BadFrame) (reply : Reply) (updates : List Update) → IsReadCall call reply updates → comes_up (Given (Call client call)) (Replied reply) ≡ false
+      read_up : (client : ℕ) (call : Result Request BadFrame) (reply : Reply) (updates : List Update)
+          → IsReadCall call reply updates → comes_up (Given (Call client call)) (Replied reply) ≡ false
       read_up client call reply updates (of_value oid all) = refl
       read_up client call reply updates (of_counts oid all) = refl
       read_up client call reply updates (of_count oid id all) = refl

@@ -37,10 +37,13 @@ IsOwnCommit W i tid m = (p : ℕ) × (r : Held) × (m ≡ p + 1) × (slice_get (
 -- an entry commits another site's commit only where it is durable, and tells a client of the level of a transaction only
 -- what is so
 pub record AreMarksTrue (catalog : Catalog) (older : List Named) (n : Named) : Type 0 where
-  pub seen : (j : SiteId) (m : ℕ) → (n.1.came.wrote ≡ Some (Seen j m)) ⊎ (n.1.came.kept ≡ Some (Seen j m)) → IsDurableBy catalog (stands catalog older) j m
-  pub durable : (client : ℕ) (tid : Tid) → n.1.event ≡ Given (Call client (Ok (LevelAsked tid))) → n.1.came.outcome ≡ Replied (Level Durable)
+  pub seen : (j : SiteId) (m : ℕ) → (n.1.came.wrote ≡ Some (Seen j m)) ⊎ (n.1.came.kept ≡ Some (Seen j m))
+      → IsDurableBy catalog (stands catalog older) j m
+  pub durable : (client : ℕ) (tid : Tid) → n.1.event ≡ Given (Call client (Ok (LevelAsked tid)))
+      → n.1.came.outcome ≡ Replied (Level Durable)
       → (m : ℕ) × IsOwnCommit (stands catalog older) n.0 tid m × IsDurableBy catalog (stands catalog older) n.0 m
-  pub visible : (client : ℕ) (tid : Tid) → n.1.event ≡ Given (Call client (Ok (LevelAsked tid))) → n.1.came.outcome ≡ Replied (Level Visible)
+  pub visible : (client : ℕ) (tid : Tid) → n.1.event ≡ Given (Call client (Ok (LevelAsked tid)))
+      → n.1.came.outcome ≡ Replied (Level Visible)
       → (m : ℕ) × IsOwnCommit (stands catalog older) n.0 tid m × IsVisibleBy catalog (stands catalog older) n.0 m
 
 -- what a site has of another stands there as that one's own commit, by its number
