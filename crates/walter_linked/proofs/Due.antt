@@ -60,9 +60,11 @@ module _ (K : Knowledge) (snapshot : List ℕ) (oid : ObjId) (clear : conflict_a
     | inr isnt ↦
         let versions = map version_of (row oid K.log) in
         let none = (over_none oid (first_outside snapshot versions) (K.owner oid) clear).0 in
-        let in_row : Contains (row oid K.log) r = is_kept (wrote oid) K.log r (contains_at K.log r p here) (object_is_in oid (write_set r.tx.updates) w) in
+        let in_row : Contains (row oid K.log) r = is_kept (wrote oid) K.log r (contains_at K.log r p here)
+        (object_is_in oid (write_set r.tx.updates) w) in
         absurd (none_first (filter (λ version. not (sees_version snapshot version)) versions) (version_of r) none
-        (is_kept (λ version. not (sees_version snapshot version)) versions (version_of r) (mapped version_of (row oid K.log) r in_row) (ap not isnt)))
+        (is_kept (λ version. not (sees_version snapshot version)) versions (version_of r)
+        (mapped version_of (row oid K.log) r in_row) (ap not isnt)))
   ]
 
   pub clear_unowned : K.owner oid ≡ None
@@ -74,12 +76,14 @@ module _ (catalog : Catalog) (homes : (oid : ObjId) → (home catalog oid).0 < c
   unmodified_by : (snapshot : List ℕ) (objects : List ObjId)
       → ((oid : ObjId) → Contains objects oid → home catalog oid ≡ i → conflict_at (W i).knows snapshot oid ≡ None)
       → IsUnmodified (home catalog) i snapshot objects (logs W i)
-  unmodified_by snapshot objects clear r p oid here w c pr = clear_sees (W i).knows snapshot oid (clear oid c pr) r p here w
+  unmodified_by snapshot objects clear r p oid here w c pr = clear_sees (W i).knows snapshot oid
+      (clear oid c pr) r p here w
 
   unlocked_by : (snapshot : List ℕ) (objects : List ObjId)
       → ((oid : ObjId) → Contains objects oid → home catalog oid ≡ i → conflict_at (W i).knows snapshot oid ≡ None)
       → IsUnlocked (home catalog) i (parts W i) objects
-  unlocked_by snapshot objects clear = unowned_unlocked (W i).knows.part (W i).knows.owner alone.owners (home catalog) i objects (λ oid c pr. clear_unowned (W i).knows snapshot oid (clear oid c pr))
+  unlocked_by snapshot objects clear = unowned_unlocked (W i).knows.part (W i).knows.owner alone.owners
+      (home catalog) i objects (λ oid c pr. clear_unowned (W i).knows snapshot oid (clear oid c pr))
 
   -- the snapshot of a slow commit that is being decided is covered
   slow_covered : (W i).up ≡ true → (n : ℕ) (tx : Tx) (asked : List SiteId) → slows W i n ≡ Undecided tx asked
@@ -88,8 +92,10 @@ module _ (catalog : Catalog) (homes : (oid : ObjId) → (home catalog oid).0 < c
       let named = alone.tidy.named n tx (ap begun undecided) in
       let waiting = alone.tidy.waits up n tx asked undecided in
       let s = waiting.1 in
-      let own : begun (slows W i s.slow) ≡ Some (tx_of s) = alone.tidy.mine waiting.0 s waiting.2 (λ e. named.1 (sym waiting.3 ∙ e)) in
-      let same : tx_of s ≡ tx = same_Some (tx_of s) tx (sym own ∙ ap (λ m. begun (slows W i m)) waiting.3 ∙ ap begun undecided) in
+      let own : begun (slows W i s.slow) ≡ Some (tx_of s) = alone.tidy.mine waiting.0 s waiting.2
+      (λ e. named.1 (sym waiting.3 ∙ e)) in
+      let same : tx_of s ≡ tx = same_Some (tx_of s) tx (sym own ∙ ap (λ m. begun (slows W i m)) waiting.3
+      ∙ ap begun undecided) in
       subst (λ (x : Tx). entry_at x.start k ≤ counts W i k) same (alone.snapshots waiting.0 s waiting.2 k)
 
   -- a transaction of which some site was asked has updates
@@ -129,7 +135,14 @@ module _ (catalog : Catalog) (homes : (oid : ObjId) → (home catalog oid).0 < c
     next = refl;
     site = (alone.started client s has.session).0;
     some = some;
-    decided = inl (has.is_open, local, unmodified_by s.snapshot (write_set s.updates) clear, unlocked_by s.snapshot (write_set s.updates) clear, alone.snapshots client s has.session);
+    decided = inl (
+      has.is_open,
+      local,
+      unmodified_by s.snapshot (write_set s.updates) clear,
+      unlocked_by s.snapshot
+          (write_set s.updates) clear,
+      alone.snapshots client s has.session,
+    );
   }
   due_of event record_ outcome (begins client s has some clear) puts = record {
     next = refl;
@@ -174,7 +187,8 @@ module _ (catalog : Catalog) (homes : (oid : ObjId) → (home catalog oid).0 < c
         decided = inr (
           λ e. named.1 (sym named.0 ∙ e),
           (asked, ap (slows W i) named.0 ∙ undecided),
-          λ oid w away. subst (λ m. parts W (home catalog oid) i m ≢ Free) (sym named.0) (all_have n tx asked p undecided peer.apart (puts p number (Vote n Yes) refl) all oid w away),
+          λ oid w away. subst (λ m. parts W (home catalog oid) i m ≢ Free) (sym named.0)
+              (all_have n tx asked p undecided peer.apart (puts p number (Vote n Yes) refl) all oid w away),
           slow_covered peer.up n tx asked undecided,
         );
       }

@@ -80,7 +80,8 @@ front_of k xs ys p = record { rest = of_site k p.rest; is = ap (of_site k) p.is 
 
 -- counts rise
 one_more_grows : (j : SiteId) (f : SiteId → ℕ) (k : SiteId) → f k ≤ one_more j f k
-one_more_grows j f k = elim (same_site j k) as (λ b. f k ≤ (if b then f k + 1 else f k)) [ true ↦ omega arith | false ↦ omega arith ]
+one_more_grows j f k = elim (same_site j k) as (λ b. f k ≤
+    (if b then f k + 1 else f k)) [ true ↦ omega arith | false ↦ omega arith ]
 
 got_grows : (i : SiteId) (rec : Option Record) (got : SiteId → ℕ) (k : SiteId) → got k ≤ got_after i rec got k
 got_grows i None got k = omega arith
@@ -221,7 +222,9 @@ module _ (catalog : Catalog) (i : SiteId) (rec : Option Record) (W W2 : Stands) 
     pub has_grown : ((n : ℕ) (x : Tx) → rec ≡ Some (SlowBegin n x) → slows W i n ≡ Unused) → HasGrown W W2
     has_grown new = record {
       own = λ k q r. holds_all (λ z. slice_get (owns W z) q ≡ Some r → slice_get (owns W2 z) q ≡ Some r) i
-          (λ h. ap (λ l. slice_get (of_site i l) q) log_here ∙ prefix_get (of_site i (logs W i)) (of_site i (log_after rec (logs W i))) r q (front_of i (logs W i) (log_after rec (logs W i)) (log_grows rec (logs W i))) h)
+          (λ h. ap (λ l. slice_get (of_site i l) q) log_here ∙ prefix_get (of_site i (logs W i))
+          (of_site i (log_after rec (logs W i))) r q (front_of i (logs W i) (log_after rec (logs W i))
+          (log_grows rec (logs W i))) h)
           (λ z apart h. ap (λ l. slice_get (of_site z l) q) (log_away z apart) ∙ h) k;
       more = λ a k. holds_all (λ z. received W z k ≤ received W2 z k) i
           (let e = got_here k in let l = got_grows i rec (received W i) k in omega (arith, e, l))
@@ -230,10 +233,12 @@ module _ (catalog : Catalog) (i : SiteId) (rec : Option Record) (W W2 : Stands) 
           (let e = committed_here k in let l = committed_grows i rec (counts W i) k in omega (arith, e, l))
           (λ z apart. let e = committed_away z apart k in omega (arith, e)) a;
       begins = λ j n x. holds_all (λ z. begun (slows W z n) ≡ Some x → begun (slows W2 z n) ≡ Some x) i
-          (λ h. ap begun (slow_here n) ∙ slow_grows (λ g. begun g ≡ Some x) (λ e. cc) (λ g e. begun_ended g ∙ e) (λ g e. begun_decided g ∙ e) catalog i (lost (W i).knows) rec new n h)
+          (λ h. ap begun (slow_here n) ∙ slow_grows (λ g. begun g ≡ Some x) (λ e. cc) (λ g e. begun_ended g ∙ e)
+          (λ g e. begun_decided g ∙ e) catalog i (lost (W i).knows) rec new n h)
           (λ z apart h. ap begun (slow_away z apart n) ∙ h) j;
       drops = λ j n x asked. holds_all (λ z. slows W z n ≡ Dropped x asked → slows W2 z n ≡ Dropped x asked) i
-          (λ h. slow_here n ∙ slow_grows (λ g. g ≡ Dropped x asked) (λ e. cc) (λ g e. ap ended e) (λ g e. ap decided e) catalog i (lost (W i).knows) rec new n h)
+          (λ h. slow_here n ∙ slow_grows (λ g. g ≡ Dropped x asked) (λ e. cc) (λ g e. ap ended e)
+          (λ g e. ap decided e) catalog i (lost (W i).knows) rec new n h)
           (λ z apart h. slow_away z apart n ∙ h) j;
       holds = λ p j n. holds_all (λ z. j ≢ z → parts W z j n ≢ Free → parts W2 z j n ≢ Free) i
           (λ apart h e. part_grows catalog i (lost (W i).knows) j apart n h rec (sym (part_here j n) ∙ e))
@@ -250,7 +255,17 @@ is_begun (Decided x) h = (x, refl)
 module _ (catalog : Catalog) (W W2 : Stands) (G : HasGrown W W2) where
   -- what stands over a transaction stays
   pub over_later : (x : Tx) (conflict : Conflict) → IsOver W x conflict → IsOver W2 x conflict
-  over_later x (Modified oid version) h = (h.0, (h.1.0, G.own version.site (version.seq - 1) h.1.0 h.1.1, h.1.2, h.1.3, h.1.4))
+  over_later x (Modified oid version) h = (
+    h.0,
+    (
+      h.1.0,
+      G.own version.site
+          (version.seq - 1) h.1.0 h.1.1,
+      h.1.2,
+      h.1.3,
+      h.1.4,
+    ),
+  )
   over_later x (LockedThere oid owner) h = h
   over_later x Dead h = tt
 
@@ -282,7 +297,15 @@ module _ (catalog : Catalog) (W W2 : Stands) (put put2 : Put) (G : HasGrown W W2
     site = h.site;
     some = h.some;
     decided = elim h.decided [
-      | inl fast ↦ inl (fast.0, fast.1, due_by (λ K. IsUnmodified (home catalog) i x.start (write_set x.updates) K.log) fast.2, due_by (λ K. IsUnlocked (home catalog) i K.part (write_set x.updates)) fast.3, due_by (λ K. (k : SiteId) → entry_at x.start k ≤ K.committed k) fast.4)
+      | inl fast ↦ inl (
+        fast.0,
+        fast.1,
+        due_by (λ K. IsUnmodified (home catalog) i x.start
+            (write_set x.updates) K.log) fast.2,
+        due_by (λ K. IsUnlocked (home catalog) i K.part
+            (write_set x.updates)) fast.3,
+        due_by (λ K. (k : SiteId) → entry_at x.start k ≤ K.committed k) fast.4,
+      )
       | inr slow ↦ inr (
         slow.0,
         due_by (λ K. (asked : List SiteId) × (K.slow x.slow ≡ Undecided x asked)) slow.1,

@@ -40,16 +40,19 @@ pub recorded_none : (catalog : Catalog) (i : SiteId) (K : Knowledge) → recorde
 recorded_none catalog i K = refl
 
 -- what records tell after an event
-pub lost_after : (catalog : Catalog) (i : SiteId) (K : Knowledge) (event : Event) (outcome : Outcome) (wrote : Option Record)
+pub lost_after : (catalog : Catalog) (i : SiteId) (K : Knowledge) (event : Event) (outcome : Outcome)
+    (wrote : Option Record)
     → lost (after catalog i K event outcome wrote) ≡ recorded catalog i wrote (lost K)
 lost_after catalog i K event outcome wrote = lost_recorded catalog i wrote K
 
 pub lost_knows : (event : Event) (outcome : Outcome) (K : Knowledge) → lost (knows_after event outcome K) ≡ lost K
-lost_knows event outcome K = elim (goes_down event outcome) as (λ b. lost (if b then lost K else K) ≡ lost K) [ true ↦ refl | false ↦ refl ]
+lost_knows event outcome K = elim (goes_down event outcome) as
+    (λ b. lost (if b then lost K else K) ≡ lost K) [ true ↦ refl | false ↦ refl ]
 
 pub lost_stands : (catalog : Catalog) (i : SiteId) (S : Standing) (event : Event) (came : Came)
     → lost (stands_after catalog i S event came).knows ≡ recorded catalog i came.wrote (lost S.knows)
-lost_stands catalog i S event came = lost_knows event came.outcome (after catalog i S.knows event came.outcome came.wrote) ∙ lost_after catalog i S.knows event came.outcome came.wrote
+lost_stands catalog i S event came = lost_knows event came.outcome
+    (after catalog i S.knows event came.outcome came.wrote) ∙ lost_after catalog i S.knows event came.outcome came.wrote
 
 -- and after what a restart found
 pub lost_settled : (catalog : Catalog) (i : SiteId) (kept : Option Record) (S : Standing)

@@ -67,21 +67,25 @@ spent_on : (i : SiteId) (S S2 : Standing) (rec : Option Record) → AreSpent i S
     → ((t : Tid) → IsSpent S.up S.knows S.flight t → IsSpent S2.up S2.knows S2.flight t)
     → ((t : Tid) → IsSpent S.up S.knows S.flight t → IfSome rec (IsNotOf t))
     → ((seq : ℕ) (x : Tx) → rec ≡ Some (Own seq x) → x.slow ≡ 0 → IsSpent S2.up S2.knows S2.flight x.tid)
-    → ((p : ℕ) (r : Held) → slice_get (of_site i S2.knows.log) p ≡ Some r → (slice_get (of_site i S.knows.log) p ≡ Some r)
+    → ((p : ℕ) (r : Held) → slice_get (of_site i S2.knows.log) p ≡ Some r →
+    (slice_get (of_site i S.knows.log) p ≡ Some r)
     ⊎ ((seq : ℕ) × (x : Tx) × (rec ≡ Some (Own seq x)) × (p ≡ length (of_site i S.knows.log)) × (x ≡ r.tx)))
     → ((r : Record) → S2.flight ≡ Some r → FliesRight S2 r) → AreSpent i S2
 spent_on i S S2 rec A later not_of new cases flying = record {
   rows = λ p r here fast. elim (cases p r here) [
     | inl old ↦ later r.tx.tid (A.rows p r old fast)
-    | inr own ↦ subst (λ (y : Tx). IsSpent S2.up S2.knows S2.flight y.tid) own.4 (new own.0 own.1 own.2 (ap (λ (y : Tx). y.slow) own.4 ∙ fast))
+    | inr own ↦ subst (λ (y : Tx). IsSpent S2.up S2.knows S2.flight y.tid) own.4
+        (new own.0 own.1 own.2 (ap (λ (y : Tx). y.slow) own.4 ∙ fast))
   ];
   once = λ p q r s at_p at_q fast_r fast_s same. elim (cases p r at_p) [
     | inl old_r ↦ elim (cases q s at_q) [
       | inl old_s ↦ A.once p q r s old_r old_s fast_r fast_s same
-      | inr own ↦ absurd (not_of_own r.tx.tid rec (not_of r.tx.tid (A.rows p r old_r fast_r)) own.0 own.1 own.2 (ap (λ (y : Tx). y.tid) own.4 ∙ sym same))
+      | inr own ↦ absurd (not_of_own r.tx.tid rec (not_of r.tx.tid (A.rows p r old_r fast_r)) own.0 own.1 own.2
+          (ap (λ (y : Tx). y.tid) own.4 ∙ sym same))
     ]
     | inr own ↦ elim (cases q s at_q) [
-      | inl old_s ↦ absurd (not_of_own s.tx.tid rec (not_of s.tx.tid (A.rows q s old_s fast_s)) own.0 own.1 own.2 (ap (λ (y : Tx). y.tid) own.4 ∙ same))
+      | inl old_s ↦ absurd (not_of_own s.tx.tid rec (not_of s.tx.tid (A.rows q s old_s fast_s)) own.0 own.1 own.2
+          (ap (λ (y : Tx). y.tid) own.4 ∙ same))
       | inr other ↦ own.3 ∙ sym other.3
     ]
   ];
@@ -92,12 +96,14 @@ spent_on i S S2 rec A later not_of new cases flying = record {
 row_cases : (catalog : Catalog) (W : Stands) (put : Put) → AreAgreed catalog W put → (i : SiteId) (rec : Option Record)
     → IfSome rec (IsDue catalog W put i)
     → (p : ℕ) (r : Held) → slice_get (of_site i (log_after rec (logs W i))) p ≡ Some r
-    → (slice_get (of_site i (logs W i)) p ≡ Some r) ⊎ ((seq : ℕ) × (x : Tx) × (rec ≡ Some (Own seq x)) × (p ≡ length (of_site i (logs W i))) × (x ≡ r.tx))
+    → (slice_get (of_site i (logs W i)) p ≡ Some r) ⊎ ((seq : ℕ) × (x : Tx) × (rec ≡ Some (Own seq x)) ×
+    (p ≡ length (of_site i (logs W i))) × (x ≡ r.tx))
 row_cases catalog W put A i None due p r here = inl here
 row_cases catalog W put A i (Some (Own seq x)) due p r here =
     let h : Held = record { seq = seq; tx = x } in
     let own : is_of i h ≡ true = ap (λ z. same_site z i) due.site ∙ same_site_refl i in
-    elim (slice_get-push_cases (of_site i (logs W i)) h r p (ap (λ l. slice_get l p) (sym (filter_push_kept (is_of i) (logs W i) h own)) ∙ here)) [
+    elim (slice_get-push_cases (of_site i (logs W i)) h r p
+    (ap (λ l. slice_get l p) (sym (filter_push_kept (is_of i) (logs W i) h own)) ∙ here)) [
       | inl old ↦ inl old.1
       | inr last ↦ inr (seq, x, refl, last.0, ap (λ (z : Held). z.tx) last.1)
     ]
@@ -130,41 +136,74 @@ module _ (catalog : Catalog) (i : SiteId) (S : Standing) (alone : IsAlone catalo
   only_brings : (event : Event) (came : Came) (outcome : Outcome) (flight : Option Record) → IsOnly came outcome flight
       → KindBrings catalog i S alone event None outcome → KindBrings catalog i S alone event came.wrote came.outcome
   only_brings event came outcome flight only h =
-      subst (λ w. KindBrings catalog i S alone event w came.outcome) (sym only.wrote) (subst (λ o. KindBrings catalog i S alone event None o) (sym only.outcome_is) h)
+      subst (λ w. KindBrings catalog i S alone event w came.outcome) (sym only.wrote)
+      (subst (λ o. KindBrings catalog i S alone event None o) (sym only.outcome_is) h)
 
   step_brings : (event : Event) (came : Came) → IsStep catalog i S event came
       → KindBrings catalog i S alone event came.wrote came.outcome
   step_brings event came (stable kind none sent) = kind_brings catalog i S alone event came.wrote came.outcome kind
   step_brings event came (flies rec outcome kind only) =
-      only_brings event came (failure event rec) (Some rec) only (plainly catalog i S alone event None (failure event rec) (up_failure event rec) refl (λ t h. absurd (failure_starts event rec t h)) tt (λ t p. tt) (λ seq x e. absurd cc))
+      only_brings event came (failure event rec) (Some rec) only
+      (plainly catalog i S alone event None (failure event rec) (up_failure event rec) refl
+      (λ t h. absurd (failure_starts event rec t h)) tt (λ t p. tt) (λ seq x e. absurd cc))
   step_brings event came (unread_step restart down only) =
-      only_brings event came Failed None only (plainly catalog i S alone event None Failed (up_failed event) refl (λ t h. absurd h) tt (λ t p. tt) (λ seq x e. absurd cc))
+      only_brings event came Failed None only (plainly catalog i S alone event None Failed (up_failed event) refl
+      (λ t h. absurd h) tt (λ t p. tt) (λ seq x e. absurd cc))
   step_brings event came (wants takes only) =
-      only_brings event came (want event) None only (plainly catalog i S alone event None (want event) (up_want event) refl (λ t h. absurd (want_starts event t h)) tt (λ t p. tt) (λ seq x e. absurd cc))
+      only_brings event came (want event) None only (plainly catalog i S alone event None (want event)
+      (up_want event) refl (λ t h. absurd (want_starts event t h)) tt (λ t p. tt) (λ seq x e. absurd cc))
   step_brings event came (finds_full rec outcome need left kind only) =
       only_brings event came (fullness event need left) None only
-      (plainly catalog i S alone event None (fullness event need left) (up_fullness event need left) refl (λ t h. absurd (fullness_starts event need left t h)) tt (λ t p. tt) (λ seq x e. absurd cc))
+      (plainly catalog i S alone event None (fullness event need left) (up_fullness event need left) refl
+      (λ t h. absurd (fullness_starts event need left t h)) tt (λ t p. tt) (λ seq x e. absurd cc))
 
   -- and what it leaves in flight
   step_flies : (event : Event) (came : Came) → IsStep catalog i S event came
-      → IfSome came.flight (FliesRight S) × ((t : Tid) → IsSpent S.up S.knows S.flight t → IfSome came.flight (IsNotOf t)) × ((r : Record) → came.flight ≡ Some r → came.wrote ≡ None)
-  step_flies event came (stable kind none sent) =
-      (if_none (FliesRight S) came.flight none, λ t p. if_none (IsNotOf t) came.flight none, λ r e. absurd (none_not_some came.flight r none e))
+      → IfSome came.flight (FliesRight S) × ((t : Tid) → IsSpent S.up S.knows S.flight t → IfSome came.flight
+      (IsNotOf t)) × ((r : Record) → came.flight ≡ Some r → came.wrote ≡ None)
+  step_flies event came (stable kind none sent) = (
+    if_none (FliesRight S) came.flight none,
+    λ t p. if_none (IsNotOf t) came.flight none,
+    λ r e. absurd
+        (none_not_some came.flight r none e),
+  )
   step_flies event came (flies rec outcome kind only) =
-      let B = kind_brings catalog i S alone event (Some rec) outcome kind in
-      (subst (λ o. IfSome o (FliesRight S)) (sym only.flight_is) B.fast, λ t p. subst (λ o. IfSome o (IsNotOf t)) (sym only.flight_is) (B.not_of t p), λ r e. only.wrote)
-  step_flies event came (unread_step restart down only) = (if_none (FliesRight S) came.flight only.flight_is, λ t p. if_none (IsNotOf t) came.flight only.flight_is, λ r e. only.wrote)
-  step_flies event came (wants takes only) = (if_none (FliesRight S) came.flight only.flight_is, λ t p. if_none (IsNotOf t) came.flight only.flight_is, λ r e. only.wrote)
-  step_flies event came (finds_full rec outcome need left kind only) = (if_none (FliesRight S) came.flight only.flight_is, λ t p. if_none (IsNotOf t) came.flight only.flight_is, λ r e. only.wrote)
+      let B = kind_brings catalog i S alone event (Some rec) outcome kind in (
+        subst (λ o. IfSome o (FliesRight S)) (sym only.flight_is) B.fast,
+        λ t p. subst (λ o. IfSome o (IsNotOf t))
+            (sym only.flight_is) (B.not_of t p),
+        λ r e. only.wrote,
+      )
+  step_flies event came (unread_step restart down only) = (
+    if_none (FliesRight S) came.flight only.flight_is,
+    λ t p. if_none
+        (IsNotOf t) came.flight only.flight_is,
+    λ r e. only.wrote,
+  )
+  step_flies event came (wants takes only) = (
+    if_none (FliesRight S) came.flight only.flight_is,
+    λ t p. if_none
+        (IsNotOf t) came.flight only.flight_is,
+    λ r e. only.wrote,
+  )
+  step_flies event came (finds_full rec outcome need left kind only) = (
+    if_none (FliesRight S) came.flight only.flight_is,
+    λ t p. if_none
+        (IsNotOf t) came.flight only.flight_is,
+    λ r e. only.wrote,
+  )
 
   module _ (event : Event) (came : Came) (step : IsStep catalog i S event came) where
     -- the slow commits behind the event
-    slow_now : (knows_after event came.outcome (after catalog i S.knows event came.outcome came.wrote)).slow ≡ slow_after catalog i S.knows came.wrote
-    slow_now = ap (λ (K : Knowledge). K.slow) (lost_knows event came.outcome (after catalog i S.knows event came.outcome came.wrote))
+    slow_now : (knows_after event came.outcome (after catalog i S.knows event came.outcome came.wrote)).slow
+        ≡ slow_after catalog i S.knows came.wrote
+    slow_now = ap (λ (K : Knowledge). K.slow) (lost_knows event came.outcome
+        (after catalog i S.knows event came.outcome came.wrote))
 
     -- a session behind it was there, or is of a transaction that starts
     session_now : (P : Session → Type 0)
-        → ((s : Session) (c : ℕ) → session_in c (sessions_after event came.outcome came.wrote (vector_of catalog (recorded catalog i came.wrote S.knows)) S.knows.sessions) ≡ Some s → P s)
+        → ((s : Session) (c : ℕ) → session_in c (sessions_after event came.outcome came.wrote
+        (vector_of catalog (recorded catalog i came.wrote S.knows)) S.knows.sessions) ≡ Some s → P s)
         → (c : ℕ) (s : Session)
         → session_of (knows_after event came.outcome (after catalog i S.knows event came.outcome came.wrote)) c ≡ Some s
         → P s
@@ -177,16 +216,20 @@ module _ (catalog : Catalog) (i : SiteId) (S : Standing) (alone : IsAlone catalo
 
     -- what is spent stays so
     spent_after : (t : Tid) → IsSpent S.up S.knows S.flight t
-        → IsSpent (stands_after catalog i S event came).up (stands_after catalog i S event came).knows (stands_after catalog i S event came).flight t
+        → IsSpent (stands_after catalog i S event came).up (stands_after catalog i S event came).knows
+        (stands_after catalog i S event came).flight t
     spent_after t p =
         let B = step_brings event came step in
         record {
           issued = B.rises t p.issued;
-          unbegun = subst (λ f. IsUnbegun f t) (sym slow_now) (unbegun_after catalog i S.knows t p.unbegun came.wrote (not_of_begin t came.wrote (B.not_of t p)));
-          unused = session_now (λ s. s.tid ≢ t) (λ s c h e. elim (session_cases event came.outcome came.wrote (vector_of catalog (recorded catalog i came.wrote S.knows)) S.knows.sessions c s h) [
-            | inl was ↦ p.unused c was.0 was.1 (was.2 ∙ e)
-            | inr started ↦ B.fresh s.tid started (subst (λ z. IsIssued (issued_of S) z) (sym e) p.issued)
-          ]);
+          unbegun = subst (λ f. IsUnbegun f t) (sym slow_now)
+              (unbegun_after catalog i S.knows t p.unbegun came.wrote (not_of_begin t came.wrote (B.not_of t p)));
+          unused = session_now (λ s. s.tid ≢ t) (λ s c h e. elim
+              (session_cases event came.outcome came.wrote (vector_of catalog
+              (recorded catalog i came.wrote S.knows)) S.knows.sessions c s h) [
+                | inl was ↦ p.unused c was.0 was.1 (was.2 ∙ e)
+                | inr started ↦ B.fresh s.tid started (subst (λ z. IsIssued (issued_of S) z) (sym e) p.issued)
+              ]);
           unflown = λ r e. elim (flight_cases came.flight came.wrote came.outcome S.flight r e) [
             | inl flying ↦ if_some (IsNotOf t) came.flight r ((step_flies event came step).1 t p) flying
             | inr old ↦ p.unflown r old.1
@@ -195,15 +238,19 @@ module _ (catalog : Catalog) (i : SiteId) (S : Standing) (alone : IsAlone catalo
 
     -- a fast commit is spent
     spent_new : (seq : ℕ) (x : Tx) → came.wrote ≡ Some (Own seq x) → x.slow ≡ 0
-        → IsSpent (stands_after catalog i S event came).up (stands_after catalog i S event came).knows (stands_after catalog i S event came).flight x.tid
+        → IsSpent (stands_after catalog i S event came).up (stands_after catalog i S event came).knows
+        (stands_after catalog i S event came).flight x.tid
     spent_new seq x wrote fast =
         let B = step_brings event came step in
         let right = if_some (FliesRight S) came.wrote (Own seq x) B.fast wrote fast in
         record {
           issued = B.rises x.tid right.0;
           unbegun = subst (λ f. IsUnbegun f x.tid) (sym slow_now)
-              (unbegun_after catalog i S.knows x.tid right.1 came.wrote (λ n y e. absurd (let f : Own seq x ≡ SlowBegin n y = same_Some (Own seq x) (SlowBegin n y) (sym wrote ∙ e) in cc)));
-          unused = session_now (λ s. s.tid ≢ x.tid) (λ s c h. B.ends seq x wrote fast (vector_of catalog (recorded catalog i came.wrote S.knows)) c s h);
+              (unbegun_after catalog i S.knows x.tid right.1 came.wrote
+              (λ n y e. absurd (let f : Own seq x ≡ SlowBegin n y = same_Some (Own seq x) (SlowBegin n y)
+              (sym wrote ∙ e) in cc)));
+          unused = session_now (λ s. s.tid ≢ x.tid) (λ s c h. B.ends seq x wrote fast
+              (vector_of catalog (recorded catalog i came.wrote S.knows)) c s h);
           unflown = λ r e. elim (flight_cases came.flight came.wrote came.outcome S.flight r e) [
             | inl flying ↦ absurd (none_not_some came.wrote (Own seq x) ((step_flies event came step).2 r flying) wrote)
             | inr old ↦ absurd (none_not_some came.wrote (Own seq x) old.0 wrote)
@@ -216,14 +263,19 @@ module _ (catalog : Catalog) (i : SiteId) (S : Standing) (alone : IsAlone catalo
     flies_after before r e =
         let B = step_brings event came step in
         elim (flight_cases came.flight came.wrote came.outcome S.flight r e) [
-          | inl flying ↦ rise B.rises ((step_flies event came step).2 r flying) r (if_some (FliesRight S) came.flight r (step_flies event came step).0 flying)
+          | inl flying ↦ rise B.rises ((step_flies event came step).2 r flying) r
+              (if_some (FliesRight S) came.flight r (step_flies event came step).0 flying)
           | inr old ↦ rise B.rises old.0 r (before r old.1)
         ]
       where
         rise : ((x : Tid) → IsIssued (issued_of S) x → IsIssued (issued_of (stands_after catalog i S event came)) x)
             → came.wrote ≡ None → (r : Record) → FliesRight S r
             → FliesRight (stands_after catalog i S event came) r
-        rise up none (Own seq x) h = λ fast. (up x.tid (h fast).0, subst (λ f. IsUnbegun f x.tid) (sym (slow_now ∙ ap (λ o. slow_after catalog i S.knows o) none)) (h fast).1)
+        rise up none (Own seq x) h = λ fast. (
+          up x.tid (h fast).0,
+          subst (λ f. IsUnbegun f x.tid)
+              (sym (slow_now ∙ ap (λ o. slow_after catalog i S.knows o) none)) (h fast).1,
+        )
         rise up none (Boot epoch) h = tt
         rise up none (Got j seq x) h = tt
         rise up none (Seen j seq) h = tt
@@ -249,7 +301,8 @@ module _ (catalog : Catalog) (i : SiteId) (S : Standing) (alone : IsAlone catalo
         → IsSpent S.up (recorded catalog i (Some rec) S.knows) None t
     spent_found t p = record {
       issued = rises_found t p.issued;
-      unbegun = unbegun_after catalog i S.knows t p.unbegun (Some rec) (not_of_begin t (Some rec) (p.unflown rec is_found.in_flight));
+      unbegun = unbegun_after catalog i S.knows t p.unbegun (Some rec)
+          (not_of_begin t (Some rec) (p.unflown rec is_found.in_flight));
       unused = p.unused;
       unflown = λ r e. absurd cc;
     }
@@ -260,14 +313,18 @@ module _ (catalog : Catalog) (i : SiteId) (S : Standing) (alone : IsAlone catalo
         let right = A.flies_right (Own seq x) (is_found.in_flight ∙ ap (λ z. Some z) is) fast in
         record {
           issued = rises_found x.tid right.0;
-          unbegun = unbegun_after catalog i S.knows x.tid right.1 (Some rec) (λ n y e. absurd (let f : Own seq x ≡ SlowBegin n y = sym is ∙ same_Some rec (SlowBegin n y) e in cc));
-          unused = λ c s h. absurd (none_not_some (session_of S.knows c) s ((alone.tidy.down rec is_found.in_flight).1 c) h);
+          unbegun = unbegun_after catalog i S.knows x.tid right.1 (Some rec)
+              (λ n y e. absurd (let f : Own seq x ≡ SlowBegin n y = sym is ∙ same_Some rec (SlowBegin n y) e in cc));
+          unused = λ c s h. absurd (none_not_some (session_of S.knows c) s
+              ((alone.tidy.down rec is_found.in_flight).1 c) h);
           unflown = λ r e. absurd cc;
         }
 
   spent_settled : (event : Event) (kept : Option Record) → IfSome kept (IsFound S event) → AreSpent i S
-      → ((p : ℕ) (r : Held) → slice_get (of_site i (log_after kept S.knows.log)) p ≡ Some r → (slice_get (of_site i S.knows.log) p ≡ Some r)
-      ⊎ ((seq : ℕ) × (x : Tx) × (kept ≡ Some (Own seq x)) × (p ≡ length (of_site i S.knows.log)) × (x ≡ r.tx))) → AreSpent i (settled catalog i kept S)
+      → ((p : ℕ) (r : Held) → slice_get (of_site i (log_after kept S.knows.log)) p ≡ Some r →
+      (slice_get (of_site i S.knows.log) p ≡ Some r)
+      ⊎ ((seq : ℕ) × (x : Tx) × (kept ≡ Some (Own seq x)) × (p ≡ length (of_site i S.knows.log)) × (x ≡ r.tx)))
+      → AreSpent i (settled catalog i kept S)
   spent_settled event None is_found A cases = A
   spent_settled event (Some rec) is_found A cases = spent_on i S (settled catalog i (Some rec) S) (Some rec) A
       (spent_found event rec is_found A)
@@ -276,8 +333,10 @@ module _ (catalog : Catalog) (i : SiteId) (S : Standing) (alone : IsAlone catalo
       cases (λ r e. absurd cc)
 
 module _ (catalog : Catalog) (capacity : ℕ) (homes : (oid : ObjId) → (home catalog oid).0 < catalog.sites)
-    (right_alone : (i : SiteId) → i.0 < catalog.sites → (older : List Entry) → AreRight catalog capacity i older → IsAlone catalog i (standing catalog i older))
-    (settled_alone : (i : SiteId) → i.0 < catalog.sites → (older : List Entry) (e : Entry) → AreRight catalog capacity i older → IsRightEntry catalog capacity i older e
+    (right_alone : (i : SiteId) → i.0 < catalog.sites → (older : List Entry) → AreRight catalog capacity i older
+    → IsAlone catalog i (standing catalog i older))
+    (settled_alone : (i : SiteId) → i.0 < catalog.sites → (older : List Entry) (e : Entry)
+    → AreRight catalog capacity i older → IsRightEntry catalog capacity i older e
     → IsAlone catalog i (settled catalog i e.came.kept (standing catalog i older))) where
   due_some : (W : Stands) (put : Put) (i : SiteId) (o : Option Record)
       → ((r : Record) → o ≡ Some r → IsDue catalog W put i r) → IfSome o (IsDue catalog W put i)
@@ -298,26 +357,34 @@ module _ (catalog : Catalog) (capacity : ℕ) (homes : (oid : ObjId) → (home c
       let step = next_step catalog capacity homes right_alone settled_alone older n is.0 is.1 in
       let before : AreSpent n.0 (W1 n.0) = subst (AreSpent n.0) (sym (found_here catalog older n))
       (spent_settled catalog n.0 S alone n.1.event n.1.came.kept is.1.right.kept (run_spent older is.0 n.0)
-      (row_cases catalog W (IsPut older) A n.0 n.1.came.kept (due_some W (IsPut older) n.0 n.1.came.kept (kept_due catalog capacity homes right_alone settled_alone older n is)))) in
+      (row_cases catalog W (IsPut older) A n.0 n.1.came.kept
+      (due_some W (IsPut older) n.0 n.1.came.kept
+      (kept_due catalog capacity homes right_alone settled_alone older n is)))) in
       let S2 = stands_after catalog n.0 (W1 n.0) n.1.event n.1.came in
       let B = step_brings catalog n.0 (W1 n.0) alone1 n.1.event n.1.came step in
       let log_is : S2.knows.log ≡ log_after n.1.came.wrote (W1 n.0).knows.log =
-      ap (λ (K : Knowledge). K.log) (lost_knows n.1.event n.1.came.outcome (after catalog n.0 (W1 n.0).knows n.1.event n.1.came.outcome n.1.came.wrote)) in
+      ap (λ (K : Knowledge). K.log) (lost_knows n.1.event n.1.came.outcome
+      (after catalog n.0 (W1 n.0).knows n.1.event n.1.came.outcome n.1.came.wrote)) in
       let now : AreSpent n.0 S2 = spent_on n.0 (W1 n.0) S2 n.1.came.wrote before
       (spent_after catalog n.0 (W1 n.0) alone1 n.1.event n.1.came step) B.not_of
       (spent_new catalog n.0 (W1 n.0) alone1 n.1.event n.1.came step)
-      (λ p r here. row_cases catalog W1 (IsPut older) A1 n.0 n.1.came.wrote (due_some W1 (IsPut older) n.0 n.1.came.wrote (wrote_due catalog capacity homes right_alone settled_alone older n is)) p r
+      (λ p r here. row_cases catalog W1 (IsPut older) A1 n.0 n.1.came.wrote
+      (due_some W1 (IsPut older) n.0 n.1.came.wrote
+      (wrote_due catalog capacity homes right_alone settled_alone older n is)) p r
       (ap (λ l. slice_get (of_site n.0 l) p) (sym log_is) ∙ here))
       (flies_after catalog n.0 (W1 n.0) alone1 n.1.event n.1.came step before.flies_right) in
-      holds_all (λ i. AreSpent i (stands catalog (n ∷ older) i)) n.0 (subst (AreSpent n.0) (sym (stands_here catalog older n)) now)
-      (λ i apart. subst (AreSpent i) (sym (stands_away catalog older n i apart ∙ found_away catalog older n i apart)) (run_spent older is.0 i))
+      holds_all (λ i. AreSpent i (stands catalog (n ∷ older) i)) n.0
+      (subst (AreSpent n.0) (sym (stands_here catalog older n)) now)
+      (λ i apart. subst (AreSpent i) (sym (stands_away catalog older n i apart ∙ found_away catalog older n i apart))
+      (run_spent older is.0 i))
 
   -- no transaction has two own records
   pub run_once : (run : List Named) → IsRun catalog capacity run → AreOnce (stands catalog run)
   run_once run is i j p q r s at_p at_q same =
       let A = run_agrees catalog capacity homes right_alone settled_alone run is in
       let W = stands catalog run in
-      let sites_ : i ≡ j = sym (A.numbered.own.site i p r at_p) ∙ ap (λ (t : Tid). t.site) same ∙ A.numbered.own.site j q s at_q in
+      let sites_ : i ≡ j = sym (A.numbered.own.site i p r at_p) ∙ ap (λ (t : Tid). t.site) same
+      ∙ A.numbered.own.site j q s at_q in
       let here : slice_get (owns W i) q ≡ Some s = subst (λ z. slice_get (owns W z) q ≡ Some s) (sym sites_) at_q in
       let spent = run_spent run is i in
       let tidy = (run_alone catalog capacity homes right_alone settled_alone run is i).tidy in (
@@ -325,12 +392,15 @@ module _ (catalog : Catalog) (capacity : ℕ) (homes : (oid : ObjId) → (home c
         elim (zero_or r.tx.slow) [
           | inl fast_r ↦ elim (zero_or s.tx.slow) [
             | inl fast_s ↦ spent.once p q r s at_p here fast_r fast_s same
-            | inr slow_s ↦ absurd ((spent.rows p r at_p fast_r).unbegun s.tx.slow s.tx (ap begun (A.locked.slow i q s here slow_s)) (sym same))
+            | inr slow_s ↦ absurd ((spent.rows p r at_p fast_r).unbegun s.tx.slow s.tx
+                (ap begun (A.locked.slow i q s here slow_s)) (sym same))
           ]
           | inr slow_r ↦ elim (zero_or s.tx.slow) [
-            | inl fast_s ↦ absurd ((spent.rows q s here fast_s).unbegun r.tx.slow r.tx (ap begun (A.locked.slow i p r at_p slow_r)) same)
+            | inl fast_s ↦ absurd ((spent.rows q s here fast_s).unbegun r.tx.slow r.tx
+                (ap begun (A.locked.slow i p r at_p slow_r)) same)
             | inr slow_s ↦
-                let number = tidy.apart r.tx.slow s.tx.slow r.tx s.tx (ap begun (A.locked.slow i p r at_p slow_r)) (ap begun (A.locked.slow i q s here slow_s)) same in
+                let number = tidy.apart r.tx.slow s.tx.slow r.tx s.tx (ap begun (A.locked.slow i p r at_p slow_r))
+                (ap begun (A.locked.slow i q s here slow_s)) same in
                 A.locked.once i p q r s at_p here slow_r number
           ]
         ],

@@ -52,7 +52,8 @@ pub record IsSpent (up : Bool) (K : Knowledge) (flight : Option Record) (t : Tid
 
 -- what was started stays so
 
-pub rises_down : (up : Bool) (K : Knowledge) (e : ℕ) → K.epoch ≤ e → (x : Tid) → IsIssued (issued_by up K) x → IsIssued (record { epoch = e + 1; starts = 0 }) x
+pub rises_down : (up : Bool) (K : Knowledge) (e : ℕ) → K.epoch ≤ e → (x : Tid) → IsIssued (issued_by up K) x
+    → IsIssued (record { epoch = e + 1; starts = 0 }) x
 rises_down true K e later x is = elim is [
   | inl over ↦ inl (omega (arith, over, later))
   | inr here ↦ inl (let a = here.0 in omega (arith, a, later))
@@ -89,12 +90,15 @@ rises_on false K A same more x is = elim is [
 rises_same : (catalog : Catalog) (i : SiteId) (S : Standing) (event : Event) (outcome : Outcome) (wrote : Option Record)
     → comes_up event outcome ≡ false → epoch_after wrote S.knows.epoch ≡ S.knows.epoch
     → (x : Tid) → IsIssued (issued_of S) x
-    → IsIssued (issued_by (up_after event outcome S.up) (knows_after event outcome (after catalog i S.knows event outcome wrote))) x
+    → IsIssued (issued_by (up_after event outcome S.up)
+    (knows_after event outcome (after catalog i S.knows event outcome wrote))) x
 rises_same catalog i S event outcome wrote not_up same x is =
     let A = after catalog i S.knows event outcome wrote in
-    elim (goes_down event outcome) as (λ b. IsIssued (issued_by (if b then false else if comes_up event outcome then true else S.up) (if b then lost A else A)) x) [
+    elim (goes_down event outcome) as (λ b. IsIssued (issued_by
+    (if b then false else if comes_up event outcome then true else S.up) (if b then lost A else A)) x) [
       | true ↦ rises_down S.up S.knows (lost A).epoch (omega (arith, same)) x is
-      | false ↦ subst (λ b. IsIssued (issued_by (if b then true else S.up) A) x) (sym not_up) (rises_on S.up S.knows A same (starts_rise outcome S.knows.starts) x is)
+      | false ↦ subst (λ b. IsIssued (issued_by (if b then true else S.up) A) x) (sym not_up)
+          (rises_on S.up S.knows A same (starts_rise outcome S.knows.starts) x is)
     ]
 
 -- outcomes that bring no site up
@@ -143,19 +147,23 @@ WasThere sessions c s = (z : Session) × (session_in c sessions ≡ Some z) × (
 
 behind_cases : (c client : ℕ) (new : Session) (es : Sessions) (s : Session)
     → session_in c (es ++ (client, new) ∷ []) ≡ Some s → (session_in c es ≡ Some s) ⊎ (new ≡ s)
-behind_cases c client new [] s h = elim (nat_eq c client) as (λ b. cond b (Some new) None ≡ Some s → (session_in c [] ≡ Some s) ⊎ (new ≡ s)) [
-  | true ↦ λ e. inr (same_Some new s e)
-  | false ↦ λ e. absurd cc
-] h
-behind_cases c client new (e ∷ es) s h = elim (nat_eq c e.0) as (λ b. cond b (Some e.1) (session_in c (es ++ (client, new) ∷ [])) ≡ Some s → (cond b (Some e.1) (session_in c es) ≡ Some s) ⊎ (new ≡ s)) [
-  | true ↦ λ is. inl is
-  | false ↦ λ is. behind_cases c client new es s is
-] h
+behind_cases c client new [] s h = elim (nat_eq c client) as
+    (λ b. cond b (Some new) None ≡ Some s → (session_in c [] ≡ Some s) ⊎ (new ≡ s)) [
+      | true ↦ λ e. inr (same_Some new s e)
+      | false ↦ λ e. absurd cc
+    ] h
+behind_cases c client new (e ∷ es) s h = elim (nat_eq c e.0) as
+    (λ b. cond b (Some e.1) (session_in c (es ++ (client, new) ∷ [])) ≡ Some s →
+    (cond b (Some e.1) (session_in c es) ≡ Some s) ⊎ (new ≡ s)) [
+      | true ↦ λ is. inl is
+      | false ↦ λ is. behind_cases c client new es s is
+    ] h
 
 was_changed : (f : Session → Session) → ((z : Session) → (f z).tid ≡ z.tid)
     → (client : ℕ) (es : Sessions) (c : ℕ) (s : Session) → session_in c (changed client f es) ≡ Some s → WasThere es c s
 was_changed f same client es c s h =
-    elim (nat_eq client c) as (λ b. (if b then option_map f (session_in c es) else session_in c es) ≡ Some s → WasThere es c s) [
+    elim (nat_eq client c) as (λ b. (if b then option_map f (session_in c es) else session_in c es) ≡ Some s
+    → WasThere es c s) [
       | true ↦ λ e. elim (session_in c es) as (λ o. session_in c es ≡ o → option_map f o ≡ Some s → WasThere es c s) [
         | None ↦ λ is g. absurd cc
         | Some z ↦ λ is g. (z, is, sym (same z) ∙ ap (λ (y : Session). y.tid) (same_Some (f z) s g))
@@ -204,13 +212,15 @@ was_opened (Given (Call client call)) new es c s h = elim (behind_cases c client
 ]
 was_opened event new es c s h = inl (s, h, refl)
 
-pub session_cases : (event : Event) (outcome : Outcome) (wrote : Option Record) (snapshot : List ℕ) (es : Sessions) (c : ℕ) (s : Session)
+pub session_cases : (event : Event) (outcome : Outcome) (wrote : Option Record) (snapshot : List ℕ) (es : Sessions)
+    (c : ℕ) (s : Session)
     → session_in c (sessions_after event outcome wrote snapshot es) ≡ Some s
     → WasThere es c s ⊎ IsStartedBy outcome s.tid
-session_cases event (Replied (Started tid)) wrote snapshot es c s h = elim (was_opened event (record { tid = tid; snapshot = snapshot; updates = []; slow = 0 }) es c s h) [
-  | inl there ↦ inl there
-  | inr now ↦ inr (ap (λ (y : Session). y.tid) now)
-]
+session_cases event (Replied (Started tid)) wrote snapshot es c s h = elim
+    (was_opened event (record { tid = tid; snapshot = snapshot; updates = []; slow = 0 }) es c s h) [
+      | inl there ↦ inl there
+      | inr now ↦ inr (ap (λ (y : Session). y.tid) now)
+    ]
 session_cases event (Replied Done) wrote snapshot es c s h = inl (was_done event es c s h)
 session_cases event (Replied (Committed version)) wrote snapshot es c s h = inl (was_closed event es c s h)
 session_cases event (Replied (Aborted cause)) wrote snapshot es c s h = inl (was_closed event es c s h)
@@ -227,19 +237,22 @@ pub unbegun_after : (catalog : Catalog) (i : SiteId) (K : Knowledge) (t : Tid) �
     → IsUnbegun (slow_after catalog i K rec) t
 unbegun_after catalog i K t un None so m y b = un m y b
 unbegun_after catalog i K t un (Some (Boot epoch)) so m y b = un m y (sym (begun_ended (K.slow m)) ∙ b)
-unbegun_after catalog i K t un (Some (Own seq x)) so m y b = elim (nat_eq x.slow m) as (λ c. begun (if c then decided (K.slow m) else K.slow m) ≡ Some y → y.tid ≢ t) [
-  | true ↦ λ e. un m y (sym (begun_decided (K.slow m)) ∙ e)
-  | false ↦ λ e. un m y e
-] b
+unbegun_after catalog i K t un (Some (Own seq x)) so m y b = elim (nat_eq x.slow m) as
+    (λ c. begun (if c then decided (K.slow m) else K.slow m) ≡ Some y → y.tid ≢ t) [
+      | true ↦ λ e. un m y (sym (begun_decided (K.slow m)) ∙ e)
+      | false ↦ λ e. un m y e
+    ] b
 unbegun_after catalog i K t un (Some (SlowBegin n x)) so m y b =
-    elim (nat_eq n m) as (λ c. begun (if c then Undecided x (participants catalog K i x.updates) else K.slow m) ≡ Some y → y.tid ≢ t) [
+    elim (nat_eq n m) as (λ c. begun (if c then Undecided x (participants catalog K i x.updates) else K.slow m) ≡ Some y
+    → y.tid ≢ t) [
       | true ↦ λ e. subst (λ (z : Tx). z.tid ≢ t) (same_Some x y e) (so n x refl)
       | false ↦ λ e. un m y e
     ] b
-unbegun_after catalog i K t un (Some (SlowEnd n)) so m y b = elim (nat_eq n m) as (λ c. begun (if c then ended (K.slow m) else K.slow m) ≡ Some y → y.tid ≢ t) [
-  | true ↦ λ e. un m y (sym (begun_ended (K.slow m)) ∙ e)
-  | false ↦ λ e. un m y e
-] b
+unbegun_after catalog i K t un (Some (SlowEnd n)) so m y b = elim (nat_eq n m) as
+    (λ c. begun (if c then ended (K.slow m) else K.slow m) ≡ Some y → y.tid ≢ t) [
+      | true ↦ λ e. un m y (sym (begun_ended (K.slow m)) ∙ e)
+      | false ↦ λ e. un m y e
+    ] b
 unbegun_after catalog i K t un (Some rec) so m y b = un m y b
 
 -- what each kind has of it
@@ -253,7 +266,8 @@ module _ (catalog : Catalog) (i : SiteId) (S : Standing) (alone : IsAlone catalo
   -- what a kind brings: names rise, a name that starts is the next, and a fast commit is of a transaction that was started
   pub record KindBrings (event : Event) (wrote : Option Record) (outcome : Outcome) : Type 0 where
     pub rises : (x : Tid) → IsIssued (issued_of S) x
-        → IsIssued (issued_by (up_after event outcome S.up) (knows_after event outcome (after catalog i S.knows event outcome wrote))) x
+        → IsIssued (issued_by (up_after event outcome S.up)
+        (knows_after event outcome (after catalog i S.knows event outcome wrote))) x
     pub fresh : (t : Tid) → IsStartedBy outcome t → IsIssued (issued_of S) t → ⊥
     pub fast : IfSome wrote (FliesRight S)
     pub not_of : (t : Tid) → IsSpent S.up S.knows S.flight t → IfSome wrote (IsNotOf t)
@@ -278,63 +292,101 @@ module _ (catalog : Catalog) (i : SiteId) (S : Standing) (alone : IsAlone catalo
 
   pub kind_brings : (event : Event) (wrote : Option Record) (outcome : Outcome) → IsKind catalog i S event wrote outcome
       → KindBrings event wrote outcome
-  kind_brings event wrote outcome (is_refused client call refusal) = plainly _ _ _ refl refl (λ t h. absurd h) tt (λ t p. tt) (λ seq x e. absurd cc)
+  kind_brings event wrote outcome (is_refused client call refusal) = plainly _ _ _ refl refl (λ t h. absurd h) tt
+      (λ t p. tt) (λ seq x e. absurd cc)
   kind_brings event wrote outcome (starts client up none) = plainly _ _ _ refl refl
-      (λ t h is. next_not_issued i (record { epoch = S.knows.epoch; starts = S.knows.starts }) (subst (λ (z : Tid). IsIssued (record { epoch = S.knows.epoch; starts = S.knows.starts }) z) (sym h) (subst (λ b. IsIssued (issued_by b S.knows) t) up is)))
+      (λ t h is. next_not_issued i (record { epoch = S.knows.epoch; starts = S.knows.starts })
+      (subst (λ (z : Tid). IsIssued (record { epoch = S.knows.epoch; starts = S.knows.starts }) z) (sym h)
+      (subst (λ b. IsIssued (issued_by b S.knows) t) up is)))
       tt (λ t p. tt) (λ seq x e. absurd cc)
-  kind_brings event wrote outcome (does client call s update has is declared) = plainly _ _ _ refl refl (λ t h. absurd h) tt (λ t p. tt) (λ seq x e. absurd cc)
-  kind_brings event wrote outcome (reads client call s reply has is) = plainly _ _ _ (read_up client call reply (read_updates S.knows s) is) refl (λ t h. absurd (read_fresh call reply (read_updates S.knows s) is t h)) tt (λ t p. tt) (λ seq x e. absurd cc)
+  kind_brings event wrote outcome (does client call s update has is declared) = plainly _ _ _ refl refl
+      (λ t h. absurd h) tt (λ t p. tt) (λ seq x e. absurd cc)
+  kind_brings event wrote outcome (reads client call s reply has is) = plainly _ _ _
+      (read_up client call reply (read_updates S.knows s) is) refl
+      (λ t h. absurd (read_fresh call reply (read_updates S.knows s) is t h)) tt (λ t p. tt) (λ seq x e. absurd cc)
     where
       read_up : (client : ℕ) (call : Result Request BadFrame) (reply : Reply) (updates : List Update)
           → IsReadCall call reply updates → comes_up (Given (Call client call)) (Replied reply) ≡ false
       read_up client call reply updates (of_value oid all) = refl
       read_up client call reply updates (of_counts oid all) = refl
       read_up client call reply updates (of_count oid id all) = refl
-  kind_brings event wrote outcome (ends client s has none) = plainly _ _ _ refl refl (λ t h. absurd h) tt (λ t p. tt) (λ seq x e. absurd cc)
-  kind_brings event wrote outcome (aborts client s has) = plainly _ _ _ refl refl (λ t h. absurd h) tt (λ t p. tt) (λ seq x e. absurd cc)
-  kind_brings event wrote outcome (conflicts client s conflict has first) = plainly _ _ _ refl refl (λ t h. absurd h) tt (λ t p. tt) (λ seq x e. absurd cc)
+  kind_brings event wrote outcome (ends client s has none) = plainly _ _ _ refl refl (λ t h. absurd h) tt (λ t p. tt)
+      (λ seq x e. absurd cc)
+  kind_brings event wrote outcome (aborts client s has) = plainly _ _ _ refl refl (λ t h. absurd h) tt (λ t p. tt)
+      (λ seq x e. absurd cc)
+  kind_brings event wrote outcome (conflicts client s conflict has first) = plainly _ _ _ refl refl (λ t h. absurd h) tt
+      (λ t p. tt) (λ seq x e. absurd cc)
   kind_brings event wrote outcome (commits client s has some local clear) = plainly _ _ _ refl refl (λ t h. absurd h)
-      (λ fast. ((alone.started client s has.session).1, alone.tidy.open_ client s has.session has.is_open)) (λ t p. p.unused client s has.session)
+      (λ fast. ((alone.started client s has.session).1, alone.tidy.open_ client s has.session has.is_open))
+      (λ t p. p.unused client s has.session)
       (λ seq x e fast snapshot c z h same.
-      let one : Own (next_seq i S.knows) (tx_of s) ≡ Own seq x = same_Some (Own (next_seq i S.knows) (tx_of s)) (Own seq x) e in
+      let one : Own (next_seq i S.knows) (tx_of s) ≡ Own seq x = same_Some (Own (next_seq i S.knows) (tx_of s))
+      (Own seq x) e in
       let tx_is : tx_of s ≡ x = cc in
       elim (nat_eq client c) as (λ b. nat_eq client c ≡ b → (if b then None else session_of S.knows c) ≡ Some z → ⊥) [
         | true ↦ λ is g. cc
         | false ↦ λ isnt g.
-            let both_ : c ≡ client = alone.distinct c client z s g has.session (same ∙ ap (λ (y : Tx). y.tid) (sym tx_is)) in
+            let both_ : c ≡ client = alone.distinct c client z s g has.session
+            (same ∙ ap (λ (y : Tx). y.tid) (sym tx_is)) in
             let is : nat_eq client c ≡ true = eq-eqb client c (sym both_) in
             cc
       ] refl (sym (lookup-without client c S.knows.sessions) ∙ h))
-  kind_brings event wrote outcome (begins client s has some clear) = plainly _ _ _ refl refl (λ t h. absurd h) tt (λ t p. p.unused client s has.session) (λ seq x e. absurd cc)
-  kind_brings event wrote outcome (waits client s tx asked has undecided) = plainly _ _ _ refl refl (λ t h. absurd h) tt (λ t p. tt) (λ seq x e. absurd cc)
-  kind_brings event wrote outcome (tells_version client s tx seq has done at) = plainly _ _ _ refl refl (λ t h. absurd h) tt (λ t p. tt) (λ seq x e. absurd cc)
-  kind_brings event wrote outcome (tells_cause client s tx asked conflict has dropped said) = plainly _ _ _ refl refl (λ t h. absurd h) tt (λ t p. tt) (λ seq x e. absurd cc)
-  kind_brings event wrote outcome (levels_own client tid seq up site at) = plainly _ _ _ refl refl (λ t h. absurd h) tt (λ t p. tt) (λ seq x e. absurd cc)
-  kind_brings event wrote outcome (is_deciding client tid up) = plainly _ _ _ refl refl (λ t h. absurd h) tt (λ t p. tt) (λ seq x e. absurd cc)
-  kind_brings event wrote outcome (is_running client tid up) = plainly _ _ _ refl refl (λ t h. absurd h) tt (λ t p. tt) (λ seq x e. absurd cc)
-  kind_brings event wrote outcome (denies client tid up site issued none not_undecided not_open) = plainly _ _ _ refl refl (λ t h. absurd h) tt (λ t p. tt) (λ seq x e. absurd cc)
-  kind_brings event wrote outcome (passes event_) = plainly event_ None Passed (up_passed event_) refl (λ t h. absurd h) tt (λ t p. tt) (λ seq x e. absurd cc)
-  kind_brings event wrote outcome (receives j number seq tx peer next) = plainly _ _ _ refl refl (λ t h. absurd h) tt (λ t p. tt) (λ seq x e. absurd cc)
-  kind_brings event wrote outcome (hears_ack j number got peer few) = plainly _ _ _ refl refl (λ t h. absurd h) tt (λ t p. tt) (λ seq x e. absurd cc)
-  kind_brings event wrote outcome (hears_durable j number durable peer) = plainly _ _ _ refl refl (λ t h. absurd h) tt (λ t p. tt) (λ seq x e. absurd cc)
-  kind_brings event wrote outcome (hears_visible j number committed peer few) = plainly _ _ _ refl refl (λ t h. absurd h) tt (λ t p. tt) (λ seq x e. absurd cc)
-  kind_brings event wrote outcome (marks_durable j number got K peer few is more) = plainly _ _ _ refl refl (λ t h. absurd h) tt (λ t p. tt) (λ seq x e. absurd cc)
-  kind_brings event wrote outcome (marks_visible j number committed K peer few is more) = plainly _ _ _ refl refl (λ t h. absurd h) tt (λ t p. tt) (λ seq x e. absurd cc)
-  kind_brings event wrote outcome (prepares j number n tid start objects peer free lockable) = plainly _ _ _ refl refl (λ t h. absurd h) tt (λ t p. tt) (λ seq x e. absurd cc)
-  kind_brings event wrote outcome (hears_yes p number n tx asked peer undecided c) = plainly _ _ _ refl refl (λ t h. absurd h) tt (λ t z. tt) (λ seq x e. absurd cc)
+  kind_brings event wrote outcome (begins client s has some clear) = plainly _ _ _ refl refl (λ t h. absurd h) tt
+      (λ t p. p.unused client s has.session) (λ seq x e. absurd cc)
+  kind_brings event wrote outcome (waits client s tx asked has undecided) = plainly _ _ _ refl refl (λ t h. absurd h) tt
+      (λ t p. tt) (λ seq x e. absurd cc)
+  kind_brings event wrote outcome (tells_version client s tx seq has done at) = plainly _ _ _ refl refl
+      (λ t h. absurd h) tt (λ t p. tt) (λ seq x e. absurd cc)
+  kind_brings event wrote outcome (tells_cause client s tx asked conflict has dropped said) = plainly _ _ _ refl refl
+      (λ t h. absurd h) tt (λ t p. tt) (λ seq x e. absurd cc)
+  kind_brings event wrote outcome (levels_own client tid seq up site at) = plainly _ _ _ refl refl (λ t h. absurd h) tt
+      (λ t p. tt) (λ seq x e. absurd cc)
+  kind_brings event wrote outcome (is_deciding client tid up) = plainly _ _ _ refl refl (λ t h. absurd h) tt (λ t p. tt)
+      (λ seq x e. absurd cc)
+  kind_brings event wrote outcome (is_running client tid up) = plainly _ _ _ refl refl (λ t h. absurd h) tt (λ t p. tt)
+      (λ seq x e. absurd cc)
+  kind_brings event wrote outcome
+      (denies client tid up site issued none not_undecided not_open) = plainly _ _ _ refl refl (λ t h. absurd h) tt
+      (λ t p. tt) (λ seq x e. absurd cc)
+  kind_brings event wrote outcome (passes event_) = plainly event_ None Passed (up_passed event_) refl
+      (λ t h. absurd h) tt (λ t p. tt) (λ seq x e. absurd cc)
+  kind_brings event wrote outcome (receives j number seq tx peer next) = plainly _ _ _ refl refl (λ t h. absurd h) tt
+      (λ t p. tt) (λ seq x e. absurd cc)
+  kind_brings event wrote outcome (hears_ack j number got peer few) = plainly _ _ _ refl refl (λ t h. absurd h) tt
+      (λ t p. tt) (λ seq x e. absurd cc)
+  kind_brings event wrote outcome (hears_durable j number durable peer) = plainly _ _ _ refl refl (λ t h. absurd h) tt
+      (λ t p. tt) (λ seq x e. absurd cc)
+  kind_brings event wrote outcome (hears_visible j number committed peer few) = plainly _ _ _ refl refl
+      (λ t h. absurd h) tt (λ t p. tt) (λ seq x e. absurd cc)
+  kind_brings event wrote outcome (marks_durable j number got K peer few is more) = plainly _ _ _ refl refl
+      (λ t h. absurd h) tt (λ t p. tt) (λ seq x e. absurd cc)
+  kind_brings event wrote outcome (marks_visible j number committed K peer few is more) = plainly _ _ _ refl refl
+      (λ t h. absurd h) tt (λ t p. tt) (λ seq x e. absurd cc)
+  kind_brings event wrote outcome (prepares j number n tid start objects peer free lockable) = plainly _ _ _ refl refl
+      (λ t h. absurd h) tt (λ t p. tt) (λ seq x e. absurd cc)
+  kind_brings event wrote outcome (hears_yes p number n tx asked peer undecided c) = plainly _ _ _ refl refl
+      (λ t h. absurd h) tt (λ t z. tt) (λ seq x e. absurd cc)
   kind_brings event wrote outcome (decides p number n tx asked peer undecided c all) =
       let named = alone.tidy.named n tx (ap begun undecided) in
-      plainly _ _ _ refl refl (λ t h. absurd h) (λ fast. absurd (named.1 (sym named.0 ∙ fast))) (λ t z. z.unbegun n tx (ap begun undecided))
+      plainly _ _ _ refl refl (λ t h. absurd h) (λ fast. absurd (named.1 (sym named.0 ∙ fast)))
+      (λ t z. z.unbegun n tx (ap begun undecided))
       (λ seq x e fast.
       let one : Own (next_seq i S.knows) tx ≡ Own seq x = same_Some (Own (next_seq i S.knows) tx) (Own seq x) e in
       let tx_is : tx ≡ x = cc in
       absurd (named.1 (sym named.0 ∙ (ap (λ (y : Tx). y.slow) tx_is ∙ fast))))
-  kind_brings event wrote outcome (gives_up p number n tx asked conflict peer undecided c alive) = plainly _ _ _ refl refl (λ t h. absurd h) tt (λ t z. tt) (λ seq x e. absurd cc)
-  kind_brings event wrote outcome (releases j number n peer some) = plainly _ _ _ refl refl (λ t h. absurd h) tt (λ t p. tt) (λ seq x e. absurd cc)
-  kind_brings event wrote outcome (hears_released j number n peer) = plainly _ _ _ refl refl (λ t h. absurd h) tt (λ t p. tt) (λ seq x e. absurd cc)
-  kind_brings event wrote outcome (sees j tx peer due) = plainly _ _ _ refl refl (λ t h. absurd h) tt (λ t p. tt) (λ seq x e. absurd cc)
-  kind_brings event wrote outcome (stops up) = plainly _ _ _ refl refl (λ t h. absurd h) tt (λ t p. tt) (λ seq x e. absurd cc)
-  kind_brings event wrote outcome (is_down event_) = plainly event_ None Down (up_down event_) refl (λ t h. absurd h) tt (λ t p. tt) (λ seq x e. absurd cc)
+  kind_brings event wrote outcome
+      (gives_up p number n tx asked conflict peer undecided c alive) = plainly _ _ _ refl refl (λ t h. absurd h) tt
+      (λ t z. tt) (λ seq x e. absurd cc)
+  kind_brings event wrote outcome (releases j number n peer some) = plainly _ _ _ refl refl (λ t h. absurd h) tt
+      (λ t p. tt) (λ seq x e. absurd cc)
+  kind_brings event wrote outcome (hears_released j number n peer) = plainly _ _ _ refl refl (λ t h. absurd h) tt
+      (λ t p. tt) (λ seq x e. absurd cc)
+  kind_brings event wrote outcome (sees j tx peer due) = plainly _ _ _ refl refl (λ t h. absurd h) tt (λ t p. tt)
+      (λ seq x e. absurd cc)
+  kind_brings event wrote outcome (stops up) = plainly _ _ _ refl refl (λ t h. absurd h) tt (λ t p. tt)
+      (λ seq x e. absurd cc)
+  kind_brings event wrote outcome (is_down event_) = plainly event_ None Down (up_down event_) refl (λ t h. absurd h) tt
+      (λ t p. tt) (λ seq x e. absurd cc)
   kind_brings event wrote outcome (boots down) = record {
     rises = λ x is. elim (subst (λ b. IsIssued (issued_by b S.knows) x) down is) [
       | inl over ↦ inl over

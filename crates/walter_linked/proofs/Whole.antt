@@ -31,28 +31,33 @@ module _ (catalog : Catalog) (capacity : ℕ) (whole : IsWhole catalog) where
   pub whole_agrees : (run : List Named) → IsRun catalog capacity run
       → AreAgreed catalog (stands catalog run) (IsPut run)
   whole_agrees [] is = agreed_at_first catalog
-  whole_agrees (n ∷ older) is = run_agrees catalog capacity (run_homes n older is) (right_alone catalog capacity) (settled_alone catalog capacity) (n ∷ older) is
+  whole_agrees (n ∷ older) is = run_agrees catalog capacity (run_homes n older is) (right_alone catalog capacity)
+      (settled_alone catalog capacity) (n ∷ older) is
 
   -- what a site has of another is that one's own
   pub whole_got : (run : List Named) → IsRun catalog capacity run → AreGotRight catalog run
   whole_got [] is = λ i j p r here. absurd cc
-  whole_got (n ∷ older) is = got_right catalog capacity (run_homes n older is) (right_alone catalog capacity) (settled_alone catalog capacity) (n ∷ older) is
+  whole_got (n ∷ older) is = got_right catalog capacity (run_homes n older is) (right_alone catalog capacity)
+      (settled_alone catalog capacity) (n ∷ older) is
 
   -- no transaction has two own commits
   pub whole_once : (run : List Named) → IsRun catalog capacity run → AreOnce (stands catalog run)
   whole_once [] is = λ i j p q r s here. absurd cc
-  whole_once (n ∷ older) is = run_once catalog capacity (run_homes n older is) (right_alone catalog capacity) (settled_alone catalog capacity) (n ∷ older) is
+  whole_once (n ∷ older) is = run_once catalog capacity (run_homes n older is) (right_alone catalog capacity)
+      (settled_alone catalog capacity) (n ∷ older) is
 
   -- marks are true at each entry
   pub whole_marks : (older : List Named) (n : Named) → IsRun catalog capacity (n ∷ older) → AreMarksTrue catalog older n
-  whole_marks older n is = marks_true catalog capacity (run_homes n older is) (right_alone catalog capacity) (settled_alone catalog capacity) older n is
+  whole_marks older n is = marks_true catalog capacity (run_homes n older is) (right_alone catalog capacity)
+      (settled_alone catalog capacity) older n is
 
   -- so it is with right and linked trails
   pub trails_marks : (trails : List (List Entry)) → AreRightTrails catalog capacity trails
       → (newer older : List Named) (n : Named)
       → reverse (merge trails) ≡ newer ++ n ∷ older → AreMarksTrue catalog older n
   trails_marks trails are newer older n is =
-      whole_marks older n (run_behind catalog capacity newer (n ∷ older) (subst (IsRun catalog capacity) is (merged_run catalog capacity trails are)))
+      whole_marks older n (run_behind catalog capacity newer (n ∷ older)
+      (subst (IsRun catalog capacity) is (merged_run catalog capacity trails are)))
 
   pub trails_got : (trails : List (List Entry)) → AreRightTrails catalog capacity trails
       → AreGotRight catalog (reverse (merge trails))

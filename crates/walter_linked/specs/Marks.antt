@@ -24,7 +24,8 @@ own_commits W j = of_site j (W j).knows.log
 
 -- more sites than may be lost have commit m of site j, the preferred sites of all that it changed among them
 abbrev pub IsDurableBy : Catalog → (SiteId → Standing) → SiteId → ℕ → Type 0
-IsDurableBy catalog W j m = IsDurable (λ oid. preferred catalog fresh oid) catalog.tolerated (own_commits W j) (λ k. (W k).knows.got j) m
+IsDurableBy catalog W j m = IsDurable (λ oid. preferred catalog fresh oid) catalog.tolerated (own_commits W j)
+    (λ k. (W k).knows.got j) m
 
 -- each site of the catalog has committed it
 abbrev pub IsVisibleBy : Catalog → (SiteId → Standing) → SiteId → ℕ → Type 0
@@ -55,5 +56,6 @@ AreGotRight catalog run =
 -- no transaction has two own commits, at any two sites
 abbrev pub AreOnce : (SiteId → Standing) → Type 0
 AreOnce W =
-    (i j : SiteId) (p q : ℕ) (r s : Held) → slice_get (own_commits W i) p ≡ Some r → slice_get (own_commits W j) q ≡ Some s → r.tx.tid ≡ s.tx.tid
+    (i j : SiteId) (p q : ℕ) (r s : Held) → slice_get (own_commits W i) p ≡ Some r
+    → slice_get (own_commits W j) q ≡ Some s → r.tx.tid ≡ s.tx.tid
     → (i ≡ j) × (p ≡ q)
