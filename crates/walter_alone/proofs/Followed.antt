@@ -36,7 +36,8 @@ use Rattle.walter_alone.proofs.SoundSessions.{AreSound}
 use Rattle.walter_alone.proofs.TestsPass.{all_of, peer_passes, covers_pass}
 
 -- it goes by what the records tell alone
-pub follow_lost : (catalog : Catalog) (i : SiteId) (K : Knowledge) (rec : Record) → CanFollow catalog i K rec → CanFollow catalog i (lost K) rec
+pub follow_lost : (catalog : Catalog) (i : SiteId) (K : Knowledge) (rec : Record) → CanFollow catalog i K rec
+    → CanFollow catalog i (lost K) rec
 follow_lost catalog i K (Boot epoch) f = f
 follow_lost catalog i K (Own seq tx) f = record { booted = f.booted; next = f.next; here = f.here; slow = f.slow; declared = f.declared }
 follow_lost catalog i K (Got j seq tx) f = record { booted = f.booted; peer = f.peer; next = f.next; covered = f.covered; declared = f.declared }
@@ -53,12 +54,15 @@ freed_lost j zero K oid = refl
 freed_lost j (suc n) K oid = refl
 
 -- what is left behind a record goes by what was left before it
-pub lost_recorded : (catalog : Catalog) (i : SiteId) (K : Knowledge) (rec : Record) → lost (recorded catalog i (Some rec) K) ≡ recorded catalog i (Some rec) (lost K)
+pub lost_recorded : (catalog : Catalog) (i : SiteId) (K : Knowledge) (rec : Record)
+    → lost (recorded catalog i (Some rec) K) ≡ recorded catalog i (Some rec) (lost K)
 lost_recorded catalog i K (Boot epoch) = refl
 lost_recorded catalog i K (Own seq tx) = refl
 lost_recorded catalog i K (Got j seq tx) = refl
 lost_recorded catalog i K (Seen j seq) =
-    let same : (λ oid. freed_over j (slow_number (commit_at j seq K.log)) K oid) ≡ (λ oid. freed_over j (slow_number (commit_at j seq K.log)) (lost K) oid) = λ t oid. freed_lost j (slow_number (commit_at j seq K.log)) K oid t in
+    let same : (λ oid. freed_over j (slow_number (commit_at j seq K.log)) K oid) ≡
+    (λ oid. freed_over j (slow_number (commit_at j seq K.log)) (lost K) oid) = λ t oid. freed_lost j
+    (slow_number (commit_at j seq K.log)) K oid t in
     ap (λ (owner : ObjId → Option Tid). record (recorded catalog i (Some (Seen j seq)) (lost K)) { owner = owner }) same
 lost_recorded catalog i K (Prepared j n tid objects) = refl
 lost_recorded catalog i K (Released j n) = refl
@@ -69,13 +73,15 @@ lost_recorded catalog i K (Marks durable visible) = refl
 -- no more numbers pass than there are
 passed_within : (test : ℕ → Bool) (n : ℕ) → passed test n ≤ n
 passed_within test zero = omega arith
-passed_within test (suc n) = elim (nat_eq (passed test n) n && test (suc n)) as (λ b. (if b then suc n else passed test n) ≤ suc n) [
-  | true ↦ omega arith
-  | false ↦ let less = passed_within test n in omega (arith, less)
-]
+passed_within test (suc n) = elim (nat_eq (passed test n) n && test (suc n)) as
+    (λ b. (if b then suc n else passed test n) ≤ suc n) [
+      | true ↦ omega arith
+      | false ↦ let less = passed_within test n in omega (arith, less)
+    ]
 
 -- an object that meets no conflict has no owner
-over_none : (oid : ObjId) (version : Option Version) (owner : Option Tid) → conflict_over oid version owner ≡ None → owner ≡ None
+over_none : (oid : ObjId) (version : Option Version) (owner : Option Tid) → conflict_over oid version owner ≡ None
+    → owner ≡ None
 over_none oid (Some version) owner none = absurd cc
 over_none oid None (Some tid) none = absurd cc
 over_none oid None None none = refl
@@ -84,8 +90,10 @@ pub unowned : (K : Knowledge) (snapshot : List ℕ) (oid : ObjId) → conflict_a
 unowned K snapshot oid none = over_none oid (first_outside snapshot (map version_of (row oid K.log))) (K.owner oid) none
 
 -- the marks rise, and stay below the own commits
-marks_rise : (catalog : Catalog) (i : SiteId) (before K : Knowledge) → 0 < before.epoch → before.durable_floor ≤ before.committed i → before.visible_floor ≤ before.committed i
-    → before.durable_floor ≡ K.durable_floor → before.visible_floor ≡ K.visible_floor → before.committed i ≡ K.committed i
+marks_rise : (catalog : Catalog) (i : SiteId) (before K : Knowledge) → 0 < before.epoch
+    → before.durable_floor ≤ before.committed i → before.visible_floor ≤ before.committed i
+    → before.durable_floor ≡ K.durable_floor → before.visible_floor ≡ K.visible_floor
+    → before.committed i ≡ K.committed i
     → CanFollow catalog i before (Marks (durable_mark catalog i K) (visible_mark catalog i K))
 marks_rise catalog i before K booted durable visible same_durable same_visible same_own =
     let d = passed_within (is_held catalog i K) (K.committed i) in
@@ -106,7 +114,8 @@ module _ (catalog : Catalog) (i : SiteId) (S : Standing) (numbers : Issued) (L :
   from_peer j from = peer_passes catalog i j from.below from.apart
 
   -- the record of each kind
-  pub kind_follows : (event : Event) (wrote : Option Record) (outcome : Outcome) → IsKind catalog i S event wrote outcome → IfSome wrote (CanFollow catalog i S.knows)
+  pub kind_follows : (event : Event) (wrote : Option Record) (outcome : Outcome)
+      → IsKind catalog i S event wrote outcome → IfSome wrote (CanFollow catalog i S.knows)
   kind_follows event wrote outcome (commits client s open_ some local clear) = record {
     booted = booted open_.up;
     next = refl;
@@ -119,7 +128,8 @@ module _ (catalog : Catalog) (i : SiteId) (S : Standing) (numbers : Issued) (L :
     next = refl;
     named = refl;
     unlocked = all_of (λ oid. S.knows.owner oid ≡ None) (objects_at catalog S.knows i s.updates) (λ oid within.
-        let at = objects_at_from catalog S.knows i s.updates oid within in unowned S.knows s.snapshot oid (clear oid at.0 at.1));
+        let at = objects_at_from catalog S.knows i s.updates oid within in unowned S.knows s.snapshot oid
+        (clear oid at.0 at.1));
     declared = A.declared client s open_.session;
   }
   kind_follows event wrote outcome (receives j number seq tx from next) = record {
@@ -130,17 +140,22 @@ module _ (catalog : Catalog) (i : SiteId) (S : Standing) (numbers : Issued) (L :
     declared = next.declared;
   }
   kind_follows event wrote outcome (marks_durable j number got K from most is rises) =
-      subst (λ (N : Knowledge). CanFollow catalog i S.knows (Marks (durable_mark catalog i N) (visible_mark catalog i N))) (sym is)
-      (marks_rise catalog i S.knows (heard (Given (Deliver j number (Ack got))) Taken S.knows) (booted from.up) L.durable L.visible refl refl refl)
+      subst (λ (N : Knowledge). CanFollow catalog i S.knows
+      (Marks (durable_mark catalog i N) (visible_mark catalog i N))) (sym is)
+      (marks_rise catalog i S.knows (heard (Given (Deliver j number (Ack got))) Taken S.knows)
+      (booted from.up) L.durable L.visible refl refl refl)
   kind_follows event wrote outcome (marks_visible j number committed K from most is rises) =
-      subst (λ (N : Knowledge). CanFollow catalog i S.knows (Marks (durable_mark catalog i N) (visible_mark catalog i N))) (sym is)
-      (marks_rise catalog i S.knows (heard (Given (Deliver j number (Visible committed))) Taken S.knows) (booted from.up) L.durable L.visible refl refl refl)
+      subst (λ (N : Knowledge). CanFollow catalog i S.knows
+      (Marks (durable_mark catalog i N) (visible_mark catalog i N))) (sym is)
+      (marks_rise catalog i S.knows (heard (Given (Deliver j number (Visible committed))) Taken S.knows)
+      (booted from.up) L.durable L.visible refl refl refl)
   kind_follows event wrote outcome (prepares j number n tid start objects from free lockable) = record {
     booted = booted from.up;
     peer = from_peer j from;
     free = free;
     here = lockable.regular;
-    unlocked = all_of (λ oid. S.knows.owner oid ≡ None) objects (λ oid within. unowned S.knows start oid (lockable.clear oid within));
+    unlocked = all_of (λ oid. S.knows.owner oid ≡ None) objects
+        (λ oid within. unowned S.knows start oid (lockable.clear oid within));
   }
   kind_follows event wrote outcome (decides p number n tx asked from undecided within said) =
       let named = T.named n tx (ap begun undecided) in
@@ -163,7 +178,8 @@ module _ (catalog : Catalog) (i : SiteId) (S : Standing) (numbers : Issued) (L :
     peer = from_peer j from;
     next = refl;
     received = due.received;
-    covered = λ x held. covers_pass S.knows.committed x.start (subst (λ (z : Tx). Covers S.knows.committed z.start) (same_Some tx x (sym due.held ∙ held)) due.covered);
+    covered = λ x held. covers_pass S.knows.committed x.start
+        (subst (λ (z : Tx). Covers S.knows.committed z.start) (same_Some tx x (sym due.held ∙ held)) due.covered);
   }
   kind_follows event wrote outcome (boots down) = refl
   kind_follows event wrote outcome kind = tt

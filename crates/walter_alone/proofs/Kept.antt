@@ -53,7 +53,8 @@ pub record IsKept (catalog : Catalog) (i : SiteId) (up : Bool) (K : Knowledge) (
 -- before the first event
 pub kept_at_first : (catalog : Catalog) (i : SiteId) → IsKept catalog i false fresh None
 kept_at_first catalog i = record {
-  tidy = tidy_at_first i (λ c. session_of fresh c) fresh.slow false fresh.last (issued_by false fresh) (of_site i fresh.log) (λ c. refl) (λ n. refl);
+  tidy = tidy_at_first i (λ c. session_of fresh c) fresh.slow false fresh.last (issued_by false fresh)
+      (of_site i fresh.log) (λ c. refl) (λ n. refl);
   learned = learned_fresh catalog i;
   sound = none_sound catalog i (λ c. session_of fresh c) fresh.committed (issued_by false fresh) (λ c. refl);
   stopped = λ down. refl;
@@ -78,13 +79,16 @@ plain_last (Some (SlowBegin n tx)) last is = absurd is
 plain_last (Some rec) last is = refl
 
 -- own commits stay where they are
-own_grows_by : (i : SiteId) (log : List Held) (h : Held) (q : ℕ) (r : Held) → slice_get (of_site i log) q ≡ Some r → slice_get (of_site i (log ++ h ∷ [])) q ≡ Some r
+own_grows_by : (i : SiteId) (log : List Held) (h : Held) (q : ℕ) (r : Held) → slice_get (of_site i log) q ≡ Some r
+    → slice_get (of_site i (log ++ h ∷ [])) q ≡ Some r
 own_grows_by i log h q r is = elim (cases_Bool (is_of i h)) [
-  | inl own ↦ ap (λ t. slice_get t q) (filter_push_kept (is_of i) log h own) ∙ slice_get-append_left (of_site i log) (h ∷ []) r q is
+  | inl own ↦ ap (λ t. slice_get t q) (filter_push_kept (is_of i) log h own)
+      ∙ slice_get-append_left (of_site i log) (h ∷ []) r q is
   | inr other ↦ ap (λ t. slice_get t q) (filter_push_left (is_of i) log h other) ∙ is
 ]
 
-pub own_grows : (i : SiteId) (wrote : Option Record) (log : List Held) (q : ℕ) (r : Held) → slice_get (of_site i log) q ≡ Some r
+pub own_grows : (i : SiteId) (wrote : Option Record) (log : List Held) (q : ℕ) (r : Held)
+    → slice_get (of_site i log) q ≡ Some r
     → slice_get (of_site i (log_after wrote log)) q ≡ Some r
 own_grows i None log q r is = is
 own_grows i (Some (Own seq tx)) log q r is = own_grows_by i log (record { seq = seq; tx = tx }) q r is
@@ -93,9 +97,11 @@ own_grows i (Some rec) log q r is = is
 
 -- what is committed grows
 one_more_grows : (j : SiteId) (counts : SiteId → ℕ) (k : SiteId) → counts k ≤ one_more j counts k
-one_more_grows j counts k = elim (same_site j k) as (λ b. counts k ≤ (if b then counts k + 1 else counts k)) [ true ↦ omega arith | false ↦ omega arith ]
+one_more_grows j counts k = elim (same_site j k) as
+    (λ b. counts k ≤ (if b then counts k + 1 else counts k)) [ true ↦ omega arith | false ↦ omega arith ]
 
-committed_grows : (i : SiteId) (wrote : Option Record) (committed : SiteId → ℕ) (k : SiteId) → committed k ≤ committed_after i wrote committed k
+committed_grows : (i : SiteId) (wrote : Option Record) (committed : SiteId → ℕ) (k : SiteId)
+    → committed k ≤ committed_after i wrote committed k
 committed_grows i None committed k = omega arith
 committed_grows i (Some (Own seq tx)) committed k = one_more_grows i committed k
 committed_grows i (Some (Seen from seq)) committed k = one_more_grows from committed k
@@ -110,20 +116,26 @@ issued_down true K x is = elim is [
 issued_down false K x is = is
 
 -- the other slow commits stay where one begins
-begun_elsewhere : (catalog : Catalog) (i : SiteId) (K : Knowledge) (n : ℕ) (x : Tx) (m : ℕ) → (slow_after catalog i K (Some (SlowBegin n x)) m ≡ K.slow m) ⊎ (m ≡ n)
-begun_elsewhere catalog i K n x m = elim (nat_eq n m) as (λ b. nat_eq n m ≡ b → ((if b then Undecided x (participants catalog K i x.updates) else K.slow m) ≡ K.slow m) ⊎ (m ≡ n)) [
-  | true ↦ λ e. inr (sym (eqb-true n m e))
-  | false ↦ λ e. inl refl
-] refl
+begun_elsewhere : (catalog : Catalog) (i : SiteId) (K : Knowledge) (n : ℕ) (x : Tx) (m : ℕ)
+    → (slow_after catalog i K (Some (SlowBegin n x)) m ≡ K.slow m) ⊎ (m ≡ n)
+begun_elsewhere catalog i K n x m = elim (nat_eq n m) as
+    (λ b. nat_eq n m ≡ b → ((if b then Undecided x (participants catalog K i x.updates) else K.slow m) ≡ K.slow m) ⊎
+    (m ≡ n)) [
+      | true ↦ λ e. inr (sym (eqb-true n m e))
+      | false ↦ λ e. inl refl
+    ] refl
 
 -- none is in flight where a site is up
-pub none_flying : (catalog : Catalog) (i : SiteId) (K : Knowledge) (flight : Option Record) → IsKept catalog i true K flight → flight ≡ None
+pub none_flying : (catalog : Catalog) (i : SiteId) (K : Knowledge) (flight : Option Record)
+    → IsKept catalog i true K flight → flight ≡ None
 none_flying catalog i K None I = refl
 none_flying catalog i K (Some rec) I = absurd (let down = (I.tidy.down rec refl).0 in cc)
 
-module _ (catalog : Catalog) (i : SiteId) (up : Bool) (K : Knowledge) (flight : Option Record) (I : IsKept catalog i up K flight) where
+module _ (catalog : Catalog) (i : SiteId) (up : Bool) (K : Knowledge) (flight : Option Record)
+    (I : IsKept catalog i up K flight) where
   -- how the slow commits go on behind a plain record, and behind a Boot
-  on_own : (seq : ℕ) (tx : Tx) → CanFollow catalog i K (Own seq tx) → (n : ℕ) (x : Tx) (asked : List SiteId) → tx.slow ≡ n → K.slow n ≡ Undecided x asked
+  on_own : (seq : ℕ) (tx : Tx) → CanFollow catalog i K (Own seq tx) → (n : ℕ) (x : Tx) (asked : List SiteId)
+      → tx.slow ≡ n → K.slow n ≡ Undecided x asked
       → IsOwn (of_site i (log_after (Some (Own seq tx)) K.log)) x
   on_own seq tx f n x asked same open_ =
       let some : n ≢ 0 = (I.tidy.named n x (ap begun open_)).1 in
@@ -133,7 +145,8 @@ module _ (catalog : Catalog) (i : SiteId) (up : Bool) (K : Knowledge) (flight : 
       let own : is_of i h ≡ true = ap (λ z. same_site z i) f.here ∙ same_site_refl i in (
         length (of_site i K.log),
         h,
-        ap (λ t. slice_get t (length (of_site i K.log))) (filter_push_kept (is_of i) K.log h own) ∙ slice_get-push (of_site i K.log) h,
+        ap (λ t. slice_get t (length (of_site i K.log))) (filter_push_kept (is_of i) K.log h own)
+            ∙ slice_get-push (of_site i K.log) h,
         cc,
       )
     where
@@ -141,14 +154,17 @@ module _ (catalog : Catalog) (i : SiteId) (up : Bool) (K : Knowledge) (flight : 
       above zero some = absurd (some refl)
       above (suc n) some = omega arith
 
-  pub on_plain : (wrote : Option Record) → IsPlain wrote → IfSome wrote (CanFollow catalog i K) → IsOn K.slow (slow_after catalog i K wrote) (of_site i (log_after wrote K.log))
+  pub on_plain : (wrote : Option Record) → IsPlain wrote → IfSome wrote (CanFollow catalog i K)
+      → IsOn K.slow (slow_after catalog i K wrote) (of_site i (log_after wrote K.log))
   on_plain None is f = λ n. inl refl
   on_plain (Some (Boot epoch)) is f = absurd is
   on_plain (Some (SlowBegin m tx)) is f = absurd is
   on_plain (Some (Own seq tx)) is f =
       on_decided K.slow (slow_after catalog i K (Some (Own seq tx))) (of_site i (log_after (Some (Own seq tx)) K.log))
       (λ n. elim (nat_eq tx.slow n) as (λ b. nat_eq tx.slow n ≡ b → ((if b then decided (K.slow n) else K.slow n) ≡ K.slow n)
-      ⊎ (((if b then decided (K.slow n) else K.slow n) ≡ decided (K.slow n)) × ((x : Tx) (asked : List SiteId) → K.slow n ≡ Undecided x asked → IsOwn (of_site i (log_after (Some (Own seq tx)) K.log)) x))) [
+      ⊎ (((if b then decided (K.slow n) else K.slow n) ≡ decided (K.slow n)) ×
+      ((x : Tx) (asked : List SiteId) → K.slow n ≡ Undecided x asked
+      → IsOwn (of_site i (log_after (Some (Own seq tx)) K.log)) x))) [
         | true ↦ λ e. inr (refl, λ x asked h. on_own seq tx f n x asked (eqb-true tx.slow n e) h)
         | false ↦ λ e. inl refl
       ] refl)
@@ -164,7 +180,8 @@ module _ (catalog : Catalog) (i : SiteId) (up : Bool) (K : Knowledge) (flight : 
   on_boot epoch = on_ended K.slow (slow_after catalog i K (Some (Boot epoch))) (of_site i K.log) (λ n. inr refl)
 
   -- what it learns of a record that can follow
-  learned_then : i.0 < catalog.sites → (wrote : Option Record) → IfSome wrote (CanFollow catalog i K) → IsLearned catalog i (recorded catalog i wrote K)
+  learned_then : i.0 < catalog.sites → (wrote : Option Record) → IfSome wrote (CanFollow catalog i K)
+      → IsLearned catalog i (recorded catalog i wrote K)
   learned_then below None f = I.learned
   learned_then below (Some rec) f = learned_recorded catalog i K I.learned below rec f
 
@@ -195,7 +212,8 @@ module _ (catalog : Catalog) (i : SiteId) (up : Bool) (K : Knowledge) (flight : 
   CanBegin rec = Unit {0}
 
   -- the site goes down, with a record in flight or without one
-  pub falls : (flight2 : Option Record) → ((r : Record) → flight2 ≡ Some r → CanFollow catalog i K r × CanBegin r) → IsKept catalog i false (lost K) flight2
+  pub falls : (flight2 : Option Record) → ((r : Record) → flight2 ≡ Some r → CanFollow catalog i K r × CanBegin r)
+      → IsKept catalog i false (lost K) flight2
   falls flight2 new = record {
     tidy = goes_on i (λ c. session_of K c) K.slow flight up K.last (issued_by up K) (of_site i K.log) I.tidy
         (λ c. session_of (lost K) c) K.slow flight2 false (issued_by false K) (of_site i K.log)
@@ -213,23 +231,30 @@ module _ (catalog : Catalog) (i : SiteId) (up : Bool) (K : Knowledge) (flight : 
     flies = all_follow flight2 new;
   }
     where
-      all_follow : (flight2 : Option Record) → ((r : Record) → flight2 ≡ Some r → CanFollow catalog i K r × CanBegin r) → IfSome flight2 (CanFollow catalog i (lost K))
+      all_follow : (flight2 : Option Record) → ((r : Record) → flight2 ≡ Some r → CanFollow catalog i K r × CanBegin r)
+          → IfSome flight2 (CanFollow catalog i (lost K))
       all_follow None new = tt
       all_follow (Some rec) new = follow_lost catalog i K rec (new rec refl).0
 
 -- with a record in flight there are no sessions
-no_session : (catalog : Catalog) (i : SiteId) (K : Knowledge) (rec : Record) → IsKept catalog i false K (Some rec) → (c : ℕ) (s : Session) → session_of K c ≡ Some s → ⊥
+no_session : (catalog : Catalog) (i : SiteId) (K : Knowledge) (rec : Record) → IsKept catalog i false K (Some rec)
+    → (c : ℕ) (s : Session) → session_of K c ≡ Some s → ⊥
 no_session catalog i K rec I c s h = none_not_some (session_of K c) s ((I.tidy.down rec refl).1 c) h
 
 -- a restart found the record in flight: how slow commits and sessions are then
-settled_plain : (catalog : Catalog) (i : SiteId) (K : Knowledge) (rec : Record) → IsKept catalog i false K (Some rec) → IsPlain (Some rec)
-    → IsTidy i (λ c. session_of K c) (slow_after catalog i K (Some rec)) None false (last_after (Some rec) K.last) (issued_by false (recorded catalog i (Some rec) K)) (of_site i (log_after (Some rec) K.log))
+settled_plain : (catalog : Catalog) (i : SiteId) (K : Knowledge) (rec : Record) → IsKept catalog i false K (Some rec)
+    → IsPlain (Some rec)
+    → IsTidy i (λ c. session_of K c) (slow_after catalog i K (Some rec)) None false (last_after (Some rec) K.last)
+    (issued_by false (recorded catalog i (Some rec) K)) (of_site i (log_after (Some rec) K.log))
 settled_plain catalog i K rec I plain =
-    subst (λ l. IsTidy i (λ c. session_of K c) (slow_after catalog i K (Some rec)) None false l (issued_by false (recorded catalog i (Some rec) K)) (of_site i (log_after (Some rec) K.log)))
+    subst (λ l. IsTidy i (λ c. session_of K c) (slow_after catalog i K (Some rec)) None false l
+    (issued_by false (recorded catalog i (Some rec) K)) (of_site i (log_after (Some rec) K.log)))
     (sym (plain_last (Some rec) K.last plain))
     (goes_on i (λ c. session_of K c) K.slow (Some rec) false K.last (issued_by false K) (of_site i K.log) I.tidy
-    (λ c. session_of K c) (slow_after catalog i K (Some rec)) None false (issued_by false (recorded catalog i (Some rec) K)) (of_site i (log_after (Some rec) K.log))
-    (λ x is. subst (λ (e : ℕ). IsIssued (record { epoch = e + 1; starts = 0 }) x) (sym (plain_epoch (Some rec) K.epoch plain)) is)
+    (λ c. session_of K c) (slow_after catalog i K (Some rec)) None false
+    (issued_by false (recorded catalog i (Some rec) K)) (of_site i (log_after (Some rec) K.log))
+    (λ x is. subst (λ (e : ℕ). IsIssued (record { epoch = e + 1; starts = 0 }) x)
+    (sym (plain_epoch (Some rec) K.epoch plain)) is)
     (λ q r h. own_grows i (Some rec) K.log q r h)
     (on_plain catalog i false K (Some rec) I (Some rec) plain I.flies)
     (λ c s h. absurd (no_session catalog i K rec I c s h))
@@ -238,10 +263,12 @@ settled_plain catalog i K rec I plain =
     (λ n x h. absurd cc))
 
 settled_tidy : (catalog : Catalog) (i : SiteId) (K : Knowledge) (rec : Record) → IsKept catalog i false K (Some rec)
-    → IsTidy i (λ c. session_of K c) (slow_after catalog i K (Some rec)) None false (last_after (Some rec) K.last) (issued_by false (recorded catalog i (Some rec) K)) (of_site i (log_after (Some rec) K.log))
+    → IsTidy i (λ c. session_of K c) (slow_after catalog i K (Some rec)) None false (last_after (Some rec) K.last)
+    (issued_by false (recorded catalog i (Some rec) K)) (of_site i (log_after (Some rec) K.log))
 settled_tidy catalog i K (Boot epoch) I =
     goes_on i (λ c. session_of K c) K.slow (Some (Boot epoch)) false K.last (issued_by false K) (of_site i K.log) I.tidy
-    (λ c. session_of K c) (slow_after catalog i K (Some (Boot epoch))) None false (record { epoch = epoch + 1; starts = 0 }) (of_site i K.log)
+    (λ c. session_of K c) (slow_after catalog i K (Some (Boot epoch))) None false
+    (record { epoch = epoch + 1; starts = 0 }) (of_site i K.log)
     (λ x is. let next : epoch ≡ K.epoch + 1 = I.flies in elim is [
       | inl over ↦ inl (omega (arith, over, next))
       | inr here ↦ inl (let e = here.0 in omega (arith, e, next))
@@ -254,8 +281,10 @@ settled_tidy catalog i K (Boot epoch) I =
     (λ n x h. absurd cc)
 settled_tidy catalog i K (SlowBegin n x) I =
     let f = I.tidy.flight n x refl in
-    subst (λ l. IsTidy i (λ c. session_of K c) (slow_after catalog i K (Some (SlowBegin n x))) None false l (issued_by false K) (of_site i K.log)) (sym f.1)
-    (begins_one i (λ c. session_of K c) K.slow (Some (SlowBegin n x)) false K.last (issued_by false K) (of_site i K.log) I.tidy
+    subst (λ l. IsTidy i (λ c. session_of K c) (slow_after catalog i K (Some (SlowBegin n x))) None false l
+    (issued_by false K) (of_site i K.log)) (sym f.1)
+    (begins_one i (λ c. session_of K c) K.slow (Some (SlowBegin n x)) false K.last (issued_by false K)
+    (of_site i K.log) I.tidy
     n x (participants catalog K i x.updates) (λ c. session_of K c) (slow_after catalog i K (Some (SlowBegin n x))) false
     f.1 f.0 f.2 f.3 f.4
     (ap (λ b. if b then Undecided x (participants catalog K i x.updates) else K.slow n) (eq-eqb n n refl))
@@ -270,19 +299,22 @@ settled_tidy catalog i K (Released j n) I = settled_plain catalog i K (Released 
 settled_tidy catalog i K (SlowEnd n) I = settled_plain catalog i K (SlowEnd n) I tt
 settled_tidy catalog i K (Marks durable visible) I = settled_plain catalog i K (Marks durable visible) I tt
 
-pub settles : (catalog : Catalog) (i : SiteId) → i.0 < catalog.sites → (K : Knowledge) (rec : Record) → IsKept catalog i false K (Some rec)
+pub settles : (catalog : Catalog) (i : SiteId) → i.0 < catalog.sites → (K : Knowledge) (rec : Record)
+    → IsKept catalog i false K (Some rec)
     → IsKept catalog i false (recorded catalog i (Some rec) K) None
 settles catalog i below K rec I = record {
   tidy = settled_tidy catalog i K rec I;
   learned = learned_recorded catalog i K I.learned below rec I.flies;
-  sound = none_sound catalog i (λ c. session_of K c) (recorded catalog i (Some rec) K).committed (issued_by false (recorded catalog i (Some rec) K)) (I.tidy.down rec refl).1;
+  sound = none_sound catalog i (λ c. session_of K c) (recorded catalog i (Some rec) K).committed
+      (issued_by false (recorded catalog i (Some rec) K)) (I.tidy.down rec refl).1;
   stopped = λ down. lost_recorded catalog i K rec ∙ ap (recorded catalog i (Some rec)) (I.stopped refl);
   booted = λ up. absurd cc;
   flies = tt;
 }
 
 -- the site is up, and stays so
-module _ (catalog : Catalog) (i : SiteId) (K : Knowledge) (flight : Option Record) (I : IsKept catalog i true K flight) (below : i.0 < catalog.sites) where
+module _ (catalog : Catalog) (i : SiteId) (K : Knowledge) (flight : Option Record) (I : IsKept catalog i true K flight)
+    (below : i.0 < catalog.sites) where
   -- what it knows after an event
   abbrev pub Then : Event → Outcome → Option Record → Knowledge
   Then event outcome wrote = after catalog i K event outcome wrote
@@ -291,26 +323,34 @@ module _ (catalog : Catalog) (i : SiteId) (K : Knowledge) (flight : Option Recor
   HasThen event outcome wrote c = session_of (Then event outcome wrote) c
 
   -- with a plain record, or without one
-  stays : (event : Event) (outcome : Outcome) (wrote : Option Record) → IsPlain wrote → IfSome wrote (CanFollow catalog i K)
-      → ((x : Tid) → IsIssued (issued_by true K) x → IsIssued (record { epoch = K.epoch; starts = starts_after outcome K.starts }) x)
+  stays : (event : Event) (outcome : Outcome) (wrote : Option Record) → IsPlain wrote
+      → IfSome wrote (CanFollow catalog i K)
+      → ((x : Tid) → IsIssued (issued_by true K) x → IsIssued
+      (record { epoch = K.epoch; starts = starts_after outcome K.starts }) x)
       → AreFrom (λ c. session_of K c) (HasThen event outcome wrote) (issued_by true K)
-      → ((c n : ℕ) (s : Session) (x : Tx) (asked : List SiteId) → K.slow n ≡ Undecided x asked → session_of K c ≡ Some s → s.slow ≡ n → HasThen event outcome wrote c ≡ Some s)
-      → AreSound catalog i (HasThen event outcome wrote) (committed_after i wrote K.committed) (record { epoch = K.epoch; starts = starts_after outcome K.starts })
+      → ((c n : ℕ) (s : Session) (x : Tx) (asked : List SiteId) → K.slow n ≡ Undecided x asked → session_of K c ≡ Some s
+      → s.slow ≡ n → HasThen event outcome wrote c ≡ Some s)
+      → AreSound catalog i (HasThen event outcome wrote) (committed_after i wrote K.committed)
+      (record { epoch = K.epoch; starts = starts_after outcome K.starts })
       → IsKept catalog i true (Then event outcome wrote) None
   stays event outcome wrote plain f rise from waits sound =
       let on = on_plain catalog i true K flight I wrote plain f in
       let epoch : epoch_after wrote K.epoch ≡ K.epoch = plain_epoch wrote K.epoch plain in
       record {
-        tidy = subst (λ e. IsTidy i (HasThen event outcome wrote) (slow_after catalog i K wrote) None true (last_after wrote K.last) (record { epoch = e; starts = starts_after outcome K.starts }) (of_site i (log_after wrote K.log))) (sym epoch)
+        tidy = subst (λ e. IsTidy i (HasThen event outcome wrote) (slow_after catalog i K wrote) None true
+            (last_after wrote K.last) (record { epoch = e; starts = starts_after outcome K.starts })
+            (of_site i (log_after wrote K.log))) (sym epoch)
             (subst (λ l. IsTidy i (HasThen event outcome wrote) (slow_after catalog i K wrote) None true l (record { epoch = K.epoch; starts = starts_after outcome K.starts }) (of_site i (log_after wrote K.log))) (sym (plain_last wrote K.last plain))
             (goes_on i (λ c. session_of K c) K.slow flight true K.last (issued_by true K) (of_site i K.log) I.tidy
-            (HasThen event outcome wrote) (slow_after catalog i K wrote) None true (record { epoch = K.epoch; starts = starts_after outcome K.starts }) (of_site i (log_after wrote K.log))
+            (HasThen event outcome wrote) (slow_after catalog i K wrote) None true
+            (record { epoch = K.epoch; starts = starts_after outcome K.starts }) (of_site i (log_after wrote K.log))
             rise (λ q r h. own_grows i wrote K.log q r h) on from
             (λ up n x asked h. (refl, λ c s has number. waits c n s x asked (on_open K.slow (slow_after catalog i K wrote) (of_site i (log_after wrote K.log)) on n x asked h) has number))
             (λ r h. absurd cc)
             (λ n x h. absurd cc)));
         learned = learned_after catalog i K event outcome wrote (learned_then catalog i true K flight I below wrote f);
-        sound = subst (λ e. AreSound catalog i (HasThen event outcome wrote) (committed_after i wrote K.committed) (record { epoch = e; starts = starts_after outcome K.starts })) (sym epoch) sound;
+        sound = subst (λ e. AreSound catalog i (HasThen event outcome wrote) (committed_after i wrote K.committed)
+            (record { epoch = e; starts = starts_after outcome K.starts })) (sym epoch) sound;
         stopped = λ down. absurd cc;
         booted = λ up. subst (λ e. 0 < e) (sym epoch) (I.booted refl);
         flies = tt;
@@ -321,25 +361,32 @@ module _ (catalog : Catalog) (i : SiteId) (K : Knowledge) (flight : Option Recor
   WasSession c s = WasThere catalog (λ d. session_of K d) c s
 
   -- no transaction starts
-  moves : (event : Event) (outcome : Outcome) (wrote : Option Record) → IsPlain wrote → IfSome wrote (CanFollow catalog i K)
+  moves : (event : Event) (outcome : Outcome) (wrote : Option Record) → IsPlain wrote
+      → IfSome wrote (CanFollow catalog i K)
       → starts_after outcome K.starts ≡ K.starts
       → ((c : ℕ) (s : Session) → HasThen event outcome wrote c ≡ Some s
-      → (z : Session) × (session_of K c ≡ Some z) × (z.tid ≡ s.tid) × (z.slow ≡ s.slow) × (s.slow ≢ 0 → z ≡ s) × (z.snapshot ≡ s.snapshot)
+      → (z : Session) × (session_of K c ≡ Some z) × (z.tid ≡ s.tid) × (z.slow ≡ s.slow) × (s.slow ≢ 0 → z ≡ s) ×
+      (z.snapshot ≡ s.snapshot)
       × (are_declared catalog z.updates ≡ true → are_declared catalog s.updates ≡ true))
-      → ((c n : ℕ) (s : Session) (x : Tx) (asked : List SiteId) → K.slow n ≡ Undecided x asked → session_of K c ≡ Some s → s.slow ≡ n → HasThen event outcome wrote c ≡ Some s)
+      → ((c n : ℕ) (s : Session) (x : Tx) (asked : List SiteId) → K.slow n ≡ Undecided x asked → session_of K c ≡ Some s
+      → s.slow ≡ n → HasThen event outcome wrote c ≡ Some s)
       → IsKept catalog i true (Then event outcome wrote) None
   moves event outcome wrote plain f same from waits =
-      let rise : (x : Tid) → IsIssued (issued_by true K) x → IsIssued (record { epoch = K.epoch; starts = starts_after outcome K.starts }) x
+      let rise : (x : Tid) → IsIssued (issued_by true K) x
+      → IsIssued (record { epoch = K.epoch; starts = starts_after outcome K.starts }) x
       = λ x is. subst (λ n. IsIssued (record { epoch = K.epoch; starts = n }) x) (sym same) is in
       stays event outcome wrote plain f rise
       (λ c s h. let z = from c s h in inl (z.0, z.1, z.2, z.3, z.4))
       waits
-      (sound_from catalog i (λ c. session_of K c) K.committed (issued_by true K) I.sound (HasThen event outcome wrote) (committed_after i wrote K.committed) (record { epoch = K.epoch; starts = starts_after outcome K.starts })
+      (sound_from catalog i (λ c. session_of K c) K.committed (issued_by true K) I.sound (HasThen event outcome wrote)
+      (committed_after i wrote K.committed) (record { epoch = K.epoch; starts = starts_after outcome K.starts })
       (committed_grows i wrote K.committed) rise (λ c s h. let z = from c s h in (z.0, z.1, z.2, z.5, z.6)))
 
   -- the sessions stay
-  pub quiet : (event : Event) (outcome : Outcome) (wrote : Option Record) → IsPlain wrote → IfSome wrote (CanFollow catalog i K)
-      → starts_after outcome K.starts ≡ K.starts → sessions_after event outcome wrote (vector_of catalog (recorded catalog i wrote K)) K.sessions ≡ K.sessions
+  pub quiet : (event : Event) (outcome : Outcome) (wrote : Option Record) → IsPlain wrote
+      → IfSome wrote (CanFollow catalog i K)
+      → starts_after outcome K.starts ≡ K.starts → sessions_after event outcome wrote
+      (vector_of catalog (recorded catalog i wrote K)) K.sessions ≡ K.sessions
       → IsKept catalog i true (Then event outcome wrote) None
   quiet event outcome wrote plain f same all =
       let at : (c : ℕ) → HasThen event outcome wrote c ≡ session_of K c = λ c. ap (session_in c) all in
@@ -352,16 +399,19 @@ module _ (catalog : Catalog) (i : SiteId) (K : Knowledge) (flight : Option Recor
   undecided_some x asked h = (I.tidy.named 0 x (ap begun h)).1 refl
 
   -- the session of a client ends, whose slow commit isn't being decided
-  pub closes : (event : Event) (outcome : Outcome) (wrote : Option Record) (client : ℕ) (s : Session) → IsPlain wrote → IfSome wrote (CanFollow catalog i K)
+  pub closes : (event : Event) (outcome : Outcome) (wrote : Option Record) (client : ℕ) (s : Session) → IsPlain wrote
+      → IfSome wrote (CanFollow catalog i K)
       → starts_after outcome K.starts ≡ K.starts → session_of K client ≡ Some s
       → ((x : Tx) (asked : List SiteId) → K.slow s.slow ≡ Undecided x asked → ⊥)
       → ((c : ℕ) → HasThen event outcome wrote c ≡ (if nat_eq client c then None else session_of K c))
       → IsKept catalog i true (Then event outcome wrote) None
   closes event outcome wrote client s plain f same mine not_open is =
-      let there : (c : ℕ) → nat_eq client c ≡ false → HasThen event outcome wrote c ≡ session_of K c = λ c e. is c ∙ ap (λ b. if b then None else session_of K c) e in
+      let there : (c : ℕ) → nat_eq client c ≡ false → HasThen event outcome wrote c ≡ session_of K c = λ c e. is c
+      ∙ ap (λ b. if b then None else session_of K c) e in
       moves event outcome wrote plain f same
       (λ c t h. elim (cases_Bool (nat_eq client c)) [
-        | inl e ↦ absurd (none_not_some (HasThen event outcome wrote c) t (is c ∙ ap (λ b. if b then None else session_of K c) e) h)
+        | inl e ↦ absurd (none_not_some (HasThen event outcome wrote c) t
+            (is c ∙ ap (λ b. if b then None else session_of K c) e) h)
         | inr e ↦ (t, sym (there c e) ∙ h, refl, refl, λ some. refl, refl, λ d. d)
       ])
       (λ c n t x asked open_ has number. elim (cases_Bool (nat_eq client c)) [
@@ -372,15 +422,19 @@ module _ (catalog : Catalog) (i : SiteId) (K : Knowledge) (flight : Option Recor
       ])
 
   -- the open session of a client is changed
-  pub changes : (event : Event) (outcome : Outcome) (wrote : Option Record) (client : ℕ) (s : Session) (change : Session → Session) → IsPlain wrote → IfSome wrote (CanFollow catalog i K)
+  pub changes : (event : Event) (outcome : Outcome) (wrote : Option Record) (client : ℕ) (s : Session)
+      (change : Session → Session) → IsPlain wrote → IfSome wrote (CanFollow catalog i K)
       → starts_after outcome K.starts ≡ K.starts → session_of K client ≡ Some s → s.slow ≡ 0
-      → ((z : Session) → (change z).tid ≡ z.tid) → ((z : Session) → (change z).slow ≡ z.slow) → ((z : Session) → (change z).snapshot ≡ z.snapshot)
+      → ((z : Session) → (change z).tid ≡ z.tid) → ((z : Session) → (change z).slow ≡ z.slow)
+      → ((z : Session) → (change z).snapshot ≡ z.snapshot)
       → ((z : Session) → are_declared catalog z.updates ≡ true → are_declared catalog (change z).updates ≡ true)
       → ((c : ℕ) → HasThen event outcome wrote c ≡ (if nat_eq client c then option_map change (session_of K c) else session_of K c))
       → IsKept catalog i true (Then event outcome wrote) None
   changes event outcome wrote client s change plain f same mine is_open tid slow snapshot declared is =
-      let there : (c : ℕ) → nat_eq client c ≡ false → HasThen event outcome wrote c ≡ session_of K c = λ c e. is c ∙ ap (λ b. if b then option_map change (session_of K c) else session_of K c) e in
-      let here : (c : ℕ) → nat_eq client c ≡ true → (session_of K c ≡ Some s) × (HasThen event outcome wrote c ≡ Some (change s)) = λ c e.
+      let there : (c : ℕ) → nat_eq client c ≡ false → HasThen event outcome wrote c ≡ session_of K c = λ c e. is c
+      ∙ ap (λ b. if b then option_map change (session_of K c) else session_of K c) e in
+      let here : (c : ℕ) → nat_eq client c ≡ true → (session_of K c ≡ Some s) ×
+      (HasThen event outcome wrote c ≡ Some (change s)) = λ c e.
       let has : session_of K c ≡ Some s = ap (λ d. session_of K d) (sym (eqb-true client c e)) ∙ mine in
       (has, is c ∙ (ap (λ b. if b then option_map change (session_of K c) else session_of K c) e ∙ ap (λ o. option_map change o) has)) in
       moves event outcome wrote plain f same
@@ -413,42 +467,56 @@ module _ (catalog : Catalog) (i : SiteId) (K : Knowledge) (flight : Option Recor
       let event : Event = Given (Call client (Ok Start)) in
       let outcome : Outcome = Replied (Started (next_tid i K)) in
       let new : Session = record { tid = next_tid i K; snapshot = vector_of catalog K; updates = []; slow = 0 } in
-      let is : (c : ℕ) → HasThen event outcome None c ≡ (if nat_eq client c then Some new else session_of K c) = λ c. lookup-behind client c new K.sessions none in
+      let is : (c : ℕ) → HasThen event outcome None c ≡
+      (if nat_eq client c then Some new else session_of K c) = λ c. lookup-behind client c new K.sessions none in
       let fresh_ = next_not_issued i (issued_by true K) in
       let rise = issued_by_start (issued_by true K) in
       stays event outcome None tt tt rise
       (λ c s h. elim (cases_Bool (nat_eq client c)) [
         | inl e ↦
             let one : new ≡ s = same_Some new s (sym (is c ∙ ap (λ b. if b then Some new else session_of K c) e) ∙ h) in
-            inr (sym (ap (λ (z : Session). z.slow) one), subst (λ (z : Session). IsIssued (issued_by true K) z.tid → ⊥) one fresh_)
+            inr (
+              sym (ap (λ (z : Session). z.slow) one),
+              subst
+                  (λ (z : Session). IsIssued (issued_by true K) z.tid → ⊥) one fresh_,
+            )
         | inr e ↦ inl (s, sym (is c ∙ ap (λ b. if b then Some new else session_of K c) e) ∙ h, refl, refl, λ some. refl)
       ])
       (λ c n s x asked open_ has number. elim (cases_Bool (nat_eq client c)) [
-        | inl e ↦ absurd (none_not_some (session_of K c) s (ap (λ d. session_of K d) (sym (eqb-true client c e)) ∙ none) has)
+        | inl e ↦ absurd (none_not_some (session_of K c) s
+            (ap (λ d. session_of K d) (sym (eqb-true client c e)) ∙ none) has)
         | inr e ↦ is c ∙ (ap (λ b. if b then Some new else session_of K c) e ∙ has)
       ])
-      (sound_new catalog i (λ c. session_of K c) K.committed (issued_by true K) I.sound client new (HasThen event outcome None) (record { epoch = K.epoch; starts = K.starts + 1 })
+      (sound_new catalog i (λ c. session_of K c) K.committed (issued_by true K) I.sound client new
+      (HasThen event outcome None) (record { epoch = K.epoch; starts = K.starts + 1 })
       rise is refl (next_issued i (issued_by true K)) fresh_ (vector_within catalog K) refl)
 
   -- the slow commit of a client's transaction begins
   pub begins_slow : (client : ℕ) (s : Session) → session_of K client ≡ Some s → s.slow ≡ 0
       → CanFollow catalog i K (SlowBegin (next_slow K) (tx_of (with_slow (next_slow K) s)))
-      → IsKept catalog i true (Then (Given (Call client (Ok Commit))) (Replied (Deciding s.tid)) (Some (SlowBegin (next_slow K) (tx_of (with_slow (next_slow K) s))))) None
+      → IsKept catalog i true (Then (Given (Call client (Ok Commit))) (Replied (Deciding s.tid))
+      (Some (SlowBegin (next_slow K) (tx_of (with_slow (next_slow K) s))))) None
   begins_slow client s mine is_open f =
       let n : ℕ = next_slow K in
       let x : Tx = tx_of (with_slow n s) in
       let rec : Record = SlowBegin n x in
       let event : Event = Given (Call client (Ok Commit)) in
       let outcome : Outcome = Replied (Deciding s.tid) in
-      let is : (c : ℕ) → HasThen event outcome (Some rec) c ≡ (if nat_eq client c then option_map (with_slow n) (session_of K c) else session_of K c) = λ c. lookup-changed client c (with_slow n) K.sessions in
-      let there : (c : ℕ) → nat_eq client c ≡ false → HasThen event outcome (Some rec) c ≡ session_of K c = λ c e. is c ∙ ap (λ b. if b then option_map (with_slow n) (session_of K c) else session_of K c) e in
-      let has : (c : ℕ) → nat_eq client c ≡ true → session_of K c ≡ Some s = λ c e. ap (λ d. session_of K d) (sym (eqb-true client c e)) ∙ mine in
+      let is : (c : ℕ) → HasThen event outcome (Some rec) c ≡
+      (if nat_eq client c then option_map (with_slow n)
+      (session_of K c) else session_of K c) = λ c. lookup-changed client c (with_slow n) K.sessions in
+      let there : (c : ℕ) → nat_eq client c ≡ false → HasThen event outcome (Some rec) c ≡ session_of K c = λ c e. is c
+      ∙ ap (λ b. if b then option_map (with_slow n) (session_of K c) else session_of K c) e in
+      let has : (c : ℕ) → nat_eq client c ≡ true → session_of K c ≡ Some s = λ c e. ap (λ d. session_of K d)
+      (sym (eqb-true client c e)) ∙ mine in
       let here : (c : ℕ) → nat_eq client c ≡ true → HasThen event outcome (Some rec) c ≡ Some (with_slow n s) = λ c e.
-      is c ∙ (ap (λ b. if b then option_map (with_slow n) (session_of K c) else session_of K c) e ∙ ap (λ o. option_map (with_slow n) o) (has c e)) in
+      is c ∙ (ap (λ b. if b then option_map (with_slow n) (session_of K c) else session_of K c) e
+      ∙ ap (λ o. option_map (with_slow n) o) (has c e)) in
       let started = I.sound.started client s mine in
       record {
         tidy = begins_one i (λ c. session_of K c) K.slow flight true K.last (issued_by true K) (of_site i K.log) I.tidy
-            n x (participants catalog K i x.updates) (HasThen event outcome (Some rec)) (slow_after catalog i K (Some rec)) true
+            n x (participants catalog K i x.updates) (HasThen event outcome (Some rec))
+            (slow_after catalog i K (Some rec)) true
             refl refl started.0 started.1 (I.tidy.open_ client s mine is_open)
             (ap (λ b. if b then Undecided x (participants catalog K i x.updates) else K.slow n) (eq-eqb n n refl))
             (begun_elsewhere catalog i K n x)
@@ -468,8 +536,10 @@ module _ (catalog : Catalog) (i : SiteId) (K : Knowledge) (flight : Option Recor
               ],
               (client, with_slow n s, here client (eq-eqb client client refl), refl),
             ));
-        learned = learned_after catalog i K event outcome (Some rec) (learned_recorded catalog i K I.learned below rec f);
-        sound = sound_from catalog i (λ c. session_of K c) K.committed (issued_by true K) I.sound (HasThen event outcome (Some rec)) K.committed (issued_by true K)
+        learned = learned_after catalog i K event outcome (Some rec)
+            (learned_recorded catalog i K I.learned below rec f);
+        sound = sound_from catalog i (λ c. session_of K c) K.committed (issued_by true K) I.sound
+            (HasThen event outcome (Some rec)) K.committed (issued_by true K)
             (λ k. omega arith) (λ y h. h)
             (λ c t h. elim (cases_Bool (nat_eq client c)) [
               | inl e ↦
@@ -488,7 +558,8 @@ module _ (catalog : Catalog) (i : SiteId) (K : Knowledge) (flight : Option Recor
       }
 
 -- the site comes up
-pub boots_up : (catalog : Catalog) (i : SiteId) → i.0 < catalog.sites → (K : Knowledge) (flight : Option Record) → IsKept catalog i false K flight
+pub boots_up : (catalog : Catalog) (i : SiteId) → i.0 < catalog.sites → (K : Knowledge) (flight : Option Record)
+    → IsKept catalog i false K flight
     → IsKept catalog i true (after catalog i K Restart Taken (Some (Boot (K.epoch + 1)))) None
 boots_up catalog i below K flight I =
     let none : K.sessions ≡ [] = sym (ap (λ (L : Knowledge). L.sessions) (I.stopped refl)) in
@@ -497,7 +568,8 @@ boots_up catalog i below K flight I =
     let follow : CanFollow catalog i K rec = refl in
     record {
       tidy = goes_on i (λ c. session_of K c) K.slow flight false K.last (issued_by false K) (of_site i K.log) I.tidy
-          (λ c. session_of K c) (slow_after catalog i K (Some rec)) None true (record { epoch = K.epoch + 1; starts = K.starts }) (of_site i K.log)
+          (λ c. session_of K c) (slow_after catalog i K (Some rec)) None true
+          (record { epoch = K.epoch + 1; starts = K.starts }) (of_site i K.log)
           (λ x is. elim is [ inl over ↦ inl over | inr here ↦ inr (let e = here.0 in let l = here.1 in (e, omega (arith, l))) ])
           (λ q r h. h)
           (on_boot catalog i false K flight I (K.epoch + 1))
@@ -505,8 +577,10 @@ boots_up catalog i below K flight I =
           (λ up n x asked h. absurd (ended_not_undecided (K.slow n) x asked h))
           (λ r h. absurd cc)
           (λ n x h. absurd cc);
-      learned = learned_after catalog i K Restart Taken (Some rec) (learned_recorded catalog i K I.learned below rec follow);
-      sound = none_sound catalog i (λ c. session_of K c) K.committed (record { epoch = K.epoch + 1; starts = K.starts }) no_one;
+      learned = learned_after catalog i K Restart Taken (Some rec)
+          (learned_recorded catalog i K I.learned below rec follow);
+      sound = none_sound catalog i (λ c. session_of K c) K.committed
+          (record { epoch = K.epoch + 1; starts = K.starts }) no_one;
       stopped = λ down. absurd cc;
       booted = λ up. omega arith;
       flies = tt;

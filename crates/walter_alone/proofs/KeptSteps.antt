@@ -60,7 +60,8 @@ IsIdle Memory = Unit {0}
 IsIdle (Full need left) = Unit {0}
 IsIdle outcome = ⊥
 
-idle_stays : (event : Event) (outcome : Outcome) → IsIdle outcome → (goes_down event outcome ≡ false) × (comes_up event outcome ≡ false)
+idle_stays : (event : Event) (outcome : Outcome) → IsIdle outcome
+    → (goes_down event outcome ≡ false) × (comes_up event outcome ≡ false)
 idle_stays (Given input) (Replied (Refused refusal)) is = (refl, refl)
 idle_stays (Given input) Passed is = (refl, refl)
 idle_stays (Given input) Down is = (refl, refl)
@@ -78,7 +79,8 @@ idle_stays Restart Memory is = (refl, refl)
 idle_stays Restart (Full need left) is = (refl, refl)
 idle_stays event outcome is = absurd is
 
-idle_knows : (catalog : Catalog) (i : SiteId) (K : Knowledge) (event : Event) (outcome : Outcome) → IsIdle outcome → after catalog i K event outcome None ≡ K
+idle_knows : (catalog : Catalog) (i : SiteId) (K : Knowledge) (event : Event) (outcome : Outcome) → IsIdle outcome
+    → after catalog i K event outcome None ≡ K
 idle_knows catalog i K event (Replied (Refused refusal)) is = refl
 idle_knows catalog i K event Passed is = refl
 idle_knows catalog i K event Down is = refl
@@ -119,15 +121,20 @@ fault_falls Stop rec = refl
 fault_falls Restart rec = refl
 
 -- one update more
-more_declared : (catalog : Catalog) (updates : List Update) (update : Update) → is_declared catalog update ≡ true → are_declared catalog updates ≡ true
+more_declared : (catalog : Catalog) (updates : List Update) (update : Update) → is_declared catalog update ≡ true
+    → are_declared catalog updates ≡ true
     → are_declared catalog (updates ++ update ∷ []) ≡ true
-more_declared catalog updates update one all = list_all-append (is_declared catalog) updates (update ∷ []) ∙ rw (all, one) refl
+more_declared catalog updates update one all = list_all-append (is_declared catalog) updates (update ∷ [])
+    ∙ rw (all, one) refl
 
-module _ (catalog : Catalog) (i : SiteId) (below : i.0 < catalog.sites) (S : Standing) (I : IsKept catalog i S.up S.knows S.flight) where
+module _ (catalog : Catalog) (i : SiteId) (below : i.0 < catalog.sites) (S : Standing)
+    (I : IsKept catalog i S.up S.knows S.flight) where
   -- how it stands after this
   abbrev pub Then : Event → Outcome → Option Record → Option Record → Type 0
   Then event outcome wrote flight =
-      IsKept catalog i (up_after event outcome S.up) (knows_after event outcome (after catalog i S.knows event outcome wrote)) (flight_after flight wrote outcome S.flight)
+      IsKept catalog i (up_after event outcome S.up)
+      (knows_after event outcome (after catalog i S.knows event outcome wrote))
+      (flight_after flight wrote outcome S.flight)
 
   at_up : S.up ≡ true → IsKept catalog i true S.knows S.flight
   at_up up = subst (λ b. IsKept catalog i b S.knows S.flight) up I
@@ -135,8 +142,10 @@ module _ (catalog : Catalog) (i : SiteId) (below : i.0 < catalog.sites) (S : Sta
   back : S.up ≡ true → (outcome : Outcome) (wrote : Option Record) (K : Knowledge) → IsKept catalog i true K None
       → IsKept catalog i S.up K (flight_after None wrote outcome S.flight)
   back up outcome wrote K is =
-      let none : flight_after None wrote outcome S.flight ≡ None = ap (flight_after None wrote outcome) (none_flying catalog i S.knows S.flight (at_up up)) ∙ no_flight_after wrote outcome in
-      subst (λ b. IsKept catalog i b K (flight_after None wrote outcome S.flight)) (sym up) (subst (λ f. IsKept catalog i true K f) (sym none) is)
+      let none : flight_after None wrote outcome S.flight ≡ None = ap (flight_after None wrote outcome)
+      (none_flying catalog i S.knows S.flight (at_up up)) ∙ no_flight_after wrote outcome in
+      subst (λ b. IsKept catalog i b K (flight_after None wrote outcome S.flight)) (sym up)
+      (subst (λ f. IsKept catalog i true K f) (sym none) is)
 
   -- nothing changes
   idle : (event : Event) (outcome : Outcome) → IsIdle outcome → Then event outcome None None
@@ -144,20 +153,25 @@ module _ (catalog : Catalog) (i : SiteId) (below : i.0 < catalog.sites) (S : Sta
       let A : Knowledge = after catalog i S.knows event outcome None in
       let f : Option Record = flight_after None None outcome S.flight in
       let e = idle_stays event outcome is in
-      subst (λ b. IsKept catalog i (if b then false else if comes_up event outcome then true else S.up) (if b then lost A else A) f) (sym e.0)
+      subst (λ b. IsKept catalog i (if b then false else if comes_up event outcome then true else S.up)
+      (if b then lost A else A) f) (sym e.0)
       (subst (λ b. IsKept catalog i (if b then true else S.up) A f) (sym e.1)
-      (subst (λ (K : Knowledge). IsKept catalog i S.up K f) (sym (idle_knows catalog i S.knows event outcome is)) (by outcome)))
+      (subst (λ (K : Knowledge). IsKept catalog i S.up K f) (sym (idle_knows catalog i S.knows event outcome is))
+      (by outcome)))
     where
       by : (outcome : Outcome) → IsKept catalog i S.up S.knows (flight_after None None outcome S.flight)
       by (Full need left) = unflown catalog i S.up S.knows S.flight I
       by outcome = I
 
   -- it goes down
-  fallen : (event : Event) (outcome : Outcome) (f : Option Record) → goes_down event outcome ≡ true → IsKept catalog i false (lost S.knows) f
-      → IsKept catalog i (up_after event outcome S.up) (knows_after event outcome (after catalog i S.knows event outcome None)) f
+  fallen : (event : Event) (outcome : Outcome) (f : Option Record) → goes_down event outcome ≡ true
+      → IsKept catalog i false (lost S.knows) f
+      → IsKept catalog i (up_after event outcome S.up)
+      (knows_after event outcome (after catalog i S.knows event outcome None)) f
   fallen event outcome f down is =
       let A : Knowledge = after catalog i S.knows event outcome None in
-      subst (λ b. IsKept catalog i (if b then false else if comes_up event outcome then true else S.up) (if b then lost A else A) f) (sym down) is
+      subst (λ b. IsKept catalog i (if b then false else if comes_up event outcome then true else S.up)
+      (if b then lost A else A) f) (sym down) is
 
   -- the record that was in flight still is
   still : (r : Record) → S.flight ≡ Some r → CanFollow catalog i S.knows r × CanBegin catalog i S.up S.knows S.flight I r
@@ -168,8 +182,10 @@ module _ (catalog : Catalog) (i : SiteId) (below : i.0 < catalog.sites) (S : Sta
       by rec flying = tt
 
   -- the record of each kind can follow, and a slow commit can begin
-  kind_can : (event : Event) (wrote : Option Record) (outcome : Outcome) → IsKind catalog i S event wrote outcome → IfSome wrote (CanFollow catalog i S.knows)
-  kind_can event wrote outcome kind = kind_follows catalog i S (issued_by S.up S.knows) I.learned I.sound I.tidy I.booted event wrote outcome kind
+  kind_can : (event : Event) (wrote : Option Record) (outcome : Outcome) → IsKind catalog i S event wrote outcome
+      → IfSome wrote (CanFollow catalog i S.knows)
+  kind_can event wrote outcome kind = kind_follows catalog i S
+      (issued_by S.up S.knows) I.learned I.sound I.tidy I.booted event wrote outcome kind
 
   kind_begins : (event : Event) (wrote : Option Record) (outcome : Outcome) → IsKind catalog i S event wrote outcome
       → IfSome wrote (CanBegin catalog i S.up S.knows S.flight I)
@@ -179,97 +195,146 @@ module _ (catalog : Catalog) (i : SiteId) (below : i.0 < catalog.sites) (S : Sta
   kind_begins event wrote outcome kind = tt
 
   -- the sessions stay, with a plain record or without one
-  stays_quiet : S.up ≡ true → (event : Event) (outcome : Outcome) (wrote : Option Record) → IsPlain wrote → IfSome wrote (CanFollow catalog i S.knows)
-      → starts_after outcome S.knows.starts ≡ S.knows.starts → sessions_after event outcome wrote (vector_of catalog (recorded catalog i wrote S.knows)) S.knows.sessions ≡ S.knows.sessions
+  stays_quiet : S.up ≡ true → (event : Event) (outcome : Outcome) (wrote : Option Record) → IsPlain wrote
+      → IfSome wrote (CanFollow catalog i S.knows)
+      → starts_after outcome S.knows.starts ≡ S.knows.starts
+      → sessions_after event outcome wrote (vector_of catalog
+      (recorded catalog i wrote S.knows)) S.knows.sessions ≡ S.knows.sessions
       → IsKept catalog i S.up (after catalog i S.knows event outcome wrote) (flight_after None wrote outcome S.flight)
   stays_quiet up event outcome wrote plain f same all =
-      back up outcome wrote (after catalog i S.knows event outcome wrote) (quiet catalog i S.knows S.flight (at_up up) below event outcome wrote plain f same all)
+      back up outcome wrote (after catalog i S.knows event outcome wrote)
+      (quiet catalog i S.knows S.flight (at_up up) below event outcome wrote plain f same all)
 
   -- the session of the client ends
-  ends_session : (client : ℕ) (s : Session) (call : Result Request BadFrame) (outcome : Outcome) (wrote : Option Record) → S.up ≡ true → session_of S.knows client ≡ Some s
+  ends_session : (client : ℕ) (s : Session) (call : Result Request BadFrame) (outcome : Outcome) (wrote : Option Record)
+      → S.up ≡ true → session_of S.knows client ≡ Some s
       → ((x : Tx) (asked : List SiteId) → S.knows.slow s.slow ≡ Undecided x asked → ⊥)
-      → IsPlain wrote → IfSome wrote (CanFollow catalog i S.knows) → starts_after outcome S.knows.starts ≡ S.knows.starts
-      → ((c : ℕ) → session_of (after catalog i S.knows (Given (Call client call)) outcome wrote) c ≡ (if nat_eq client c then None else session_of S.knows c))
-      → IsKept catalog i S.up (after catalog i S.knows (Given (Call client call)) outcome wrote) (flight_after None wrote outcome S.flight)
+      → IsPlain wrote → IfSome wrote (CanFollow catalog i S.knows)
+      → starts_after outcome S.knows.starts ≡ S.knows.starts
+      → ((c : ℕ) → session_of (after catalog i S.knows (Given (Call client call)) outcome wrote) c ≡
+      (if nat_eq client c then None else session_of S.knows c))
+      → IsKept catalog i S.up (after catalog i S.knows (Given (Call client call)) outcome wrote)
+      (flight_after None wrote outcome S.flight)
   ends_session client s call outcome wrote up mine not_open plain f same is =
       back up outcome wrote (after catalog i S.knows (Given (Call client call)) outcome wrote)
-      (closes catalog i S.knows S.flight (at_up up) below (Given (Call client call)) outcome wrote client s plain f same mine not_open is)
+      (closes catalog i S.knows S.flight (at_up up) below
+      (Given (Call client call)) outcome wrote client s plain f same mine not_open is)
 
   -- an open one has no slow commit
-  open_none : (client : ℕ) (s : Session) → HasOpen S client s → (x : Tx) (asked : List SiteId) → S.knows.slow s.slow ≡ Undecided x asked → ⊥
+  open_none : (client : ℕ) (s : Session) → HasOpen S client s → (x : Tx) (asked : List SiteId)
+      → S.knows.slow s.slow ≡ Undecided x asked → ⊥
   open_none client s open_ x asked h = (I.tidy.named s.slow x (ap begun h)).1 open_.is_open
 
-  done_more : (client : ℕ) (call : Result Request BadFrame) (s : Session) (update : Update) → HasOpen S client s → is_declared catalog update ≡ true
-      → ((c : ℕ) → session_of (after catalog i S.knows (Given (Call client call)) (Replied Done) None) c ≡ (if nat_eq client c then option_map (with_update update) (session_of S.knows c) else session_of S.knows c))
-      → IsKept catalog i S.up (after catalog i S.knows (Given (Call client call)) (Replied Done) None) (flight_after None None (Replied Done) S.flight)
+  done_more : (client : ℕ) (call : Result Request BadFrame) (s : Session) (update : Update) → HasOpen S client s
+      → is_declared catalog update ≡ true
+      → ((c : ℕ) → session_of (after catalog i S.knows (Given (Call client call)) (Replied Done) None) c ≡
+      (if nat_eq client c then option_map (with_update update) (session_of S.knows c) else session_of S.knows c))
+      → IsKept catalog i S.up (after catalog i S.knows (Given (Call client call)) (Replied Done) None)
+      (flight_after None None (Replied Done) S.flight)
   done_more client call s update open_ declared is =
       back open_.up (Replied Done) None (after catalog i S.knows (Given (Call client call)) (Replied Done) None)
-      (changes catalog i S.knows S.flight (at_up open_.up) below (Given (Call client call)) (Replied Done) None client s (with_update update) tt tt refl open_.session open_.is_open
+      (changes catalog i S.knows S.flight (at_up open_.up) below (Given (Call client call)) (Replied Done) None client s
+      (with_update update) tt tt refl open_.session open_.is_open
       (λ z. refl) (λ z. refl) (λ z. refl) (λ z d. more_declared catalog z.updates update declared d) is)
 
-  done_kept : (client : ℕ) (call : Result Request BadFrame) (s : Session) (update : Update) → HasOpen S client s → IsUpdateCall call update → is_declared catalog update ≡ true
+  done_kept : (client : ℕ) (call : Result Request BadFrame) (s : Session) (update : Update) → HasOpen S client s
+      → IsUpdateCall call update → is_declared catalog update ≡ true
       → Then (Given (Call client call)) (Replied Done) None None
-  done_kept client call s update open_ (of_write oid bytes) declared = done_more client (Ok (Write oid bytes)) s (WriteOf oid bytes) open_ declared (λ c. lookup-changed client c (with_update (WriteOf oid bytes)) S.knows.sessions)
-  done_kept client call s update open_ (of_add oid id) declared = done_more client (Ok (SetAdd oid id)) s (Add oid id) open_ declared (λ c. lookup-changed client c (with_update (Add oid id)) S.knows.sessions)
-  done_kept client call s update open_ (of_del oid id) declared = done_more client (Ok (SetDel oid id)) s (Del oid id) open_ declared (λ c. lookup-changed client c (with_update (Del oid id)) S.knows.sessions)
+  done_kept client call s update open_ (of_write oid bytes) declared = done_more client (Ok (Write oid bytes)) s
+      (WriteOf oid bytes) open_ declared (λ c. lookup-changed client c
+      (with_update (WriteOf oid bytes)) S.knows.sessions)
+  done_kept client call s update open_ (of_add oid id) declared = done_more client (Ok (SetAdd oid id)) s
+      (Add oid id) open_ declared (λ c. lookup-changed client c (with_update (Add oid id)) S.knows.sessions)
+  done_kept client call s update open_ (of_del oid id) declared = done_more client (Ok (SetDel oid id)) s
+      (Del oid id) open_ declared (λ c. lookup-changed client c (with_update (Del oid id)) S.knows.sessions)
 
-  read_kept : (client : ℕ) (call : Result Request BadFrame) (reply : Reply) (updates : List Update) → S.up ≡ true → IsReadCall call reply updates
+  read_kept : (client : ℕ) (call : Result Request BadFrame) (reply : Reply) (updates : List Update) → S.up ≡ true
+      → IsReadCall call reply updates
       → Then (Given (Call client call)) (Replied reply) None None
-  read_kept client call reply updates up (of_value oid us) = stays_quiet up (Given (Call client (Ok (Read oid)))) (Replied (Value (value_of oid us))) None tt tt refl refl
-  read_kept client call reply updates up (of_counts oid us) = stays_quiet up (Given (Call client (Ok (SetRead oid)))) (Replied (Set (counts_of oid us))) None tt tt refl refl
-  read_kept client call reply updates up (of_count oid id us) = stays_quiet up (Given (Call client (Ok (SetReadId oid id)))) (Replied (Count (count_of oid id us))) None tt tt refl refl
+  read_kept client call reply updates up (of_value oid us) = stays_quiet up (Given (Call client (Ok (Read oid))))
+      (Replied (Value (value_of oid us))) None tt tt refl refl
+  read_kept client call reply updates up (of_counts oid us) = stays_quiet up (Given (Call client (Ok (SetRead oid))))
+      (Replied (Set (counts_of oid us))) None tt tt refl refl
+  read_kept client call reply updates up (of_count oid id us) = stays_quiet up
+      (Given (Call client (Ok (SetReadId oid id)))) (Replied (Count (count_of oid id us))) None tt tt refl refl
 
   -- each kind
-  kind_kept : (event : Event) (wrote : Option Record) (outcome : Outcome) → IsKind catalog i S event wrote outcome → Then event outcome wrote None
-  kind_kept event wrote outcome (is_refused client call refusal) = idle (Given (Call client call)) (Replied (Refused refusal)) tt
+  kind_kept : (event : Event) (wrote : Option Record) (outcome : Outcome) → IsKind catalog i S event wrote outcome
+      → Then event outcome wrote None
+  kind_kept event wrote outcome (is_refused client call refusal) = idle (Given (Call client call))
+      (Replied (Refused refusal)) tt
   kind_kept event wrote outcome (starts client up none) =
-      back up (Replied (Started (next_tid i S.knows))) None (after catalog i S.knows (Given (Call client (Ok Start))) (Replied (Started (next_tid i S.knows))) None)
+      back up (Replied (Started (next_tid i S.knows))) None
+      (after catalog i S.knows (Given (Call client (Ok Start))) (Replied (Started (next_tid i S.knows))) None)
       (starts_one catalog i S.knows S.flight (at_up up) below client none)
   kind_kept event wrote outcome (does client call s update open_ asks declared) = done_kept client call s update open_ asks declared
-  kind_kept event wrote outcome (reads client call s reply open_ asks) = read_kept client call reply (read_updates S.knows s) open_.up asks
+  kind_kept event wrote outcome (reads client call s reply open_ asks) = read_kept client call reply
+      (read_updates S.knows s) open_.up asks
   kind_kept event wrote outcome (ends client s open_ none) =
-      ends_session client s (Ok Commit) (Replied Ended) None open_.up open_.session (open_none client s open_) tt tt refl (λ c. lookup-without client c S.knows.sessions)
+      ends_session client s (Ok Commit) (Replied Ended) None open_.up open_.session
+      (open_none client s open_) tt tt refl (λ c. lookup-without client c S.knows.sessions)
   kind_kept event wrote outcome (aborts client s open_) =
-      ends_session client s (Ok Abort) (Replied (Aborted Asked)) None open_.up open_.session (open_none client s open_) tt tt refl (λ c. lookup-without client c S.knows.sessions)
+      ends_session client s (Ok Abort) (Replied (Aborted Asked)) None open_.up open_.session
+      (open_none client s open_) tt tt refl (λ c. lookup-without client c S.knows.sessions)
   kind_kept event wrote outcome (conflicts client s conflict open_ met) =
-      ends_session client s (Ok Commit) (Replied (Aborted (cause_of conflict))) None open_.up open_.session (open_none client s open_) tt tt refl (λ c. lookup-without client c S.knows.sessions)
+      ends_session client s (Ok Commit) (Replied (Aborted (cause_of conflict))) None open_.up open_.session
+      (open_none client s open_) tt tt refl (λ c. lookup-without client c S.knows.sessions)
   kind_kept event wrote outcome (commits client s open_ some local clear) =
-      ends_session client s (Ok Commit) (Replied (Committed (own_version i (next_seq i S.knows)))) (Some (Own (next_seq i S.knows) (tx_of s))) open_.up open_.session (open_none client s open_) tt
-      (kind_can event wrote outcome (commits client s open_ some local clear)) refl (λ c. lookup-without client c S.knows.sessions)
+      ends_session client s (Ok Commit) (Replied (Committed (own_version i (next_seq i S.knows))))
+      (Some (Own (next_seq i S.knows) (tx_of s))) open_.up open_.session (open_none client s open_) tt
+      (kind_can event wrote outcome (commits client s open_ some local clear)) refl
+      (λ c. lookup-without client c S.knows.sessions)
   kind_kept event wrote outcome (begins client s open_ some clear) =
       let n : ℕ = next_slow S.knows in
       let rec : Record = SlowBegin n (tx_of (with_slow n s)) in
-      back open_.up (Replied (Deciding s.tid)) (Some rec) (after catalog i S.knows (Given (Call client (Ok Commit))) (Replied (Deciding s.tid)) (Some rec))
-      (begins_slow catalog i S.knows S.flight (at_up open_.up) below client s open_.session open_.is_open (kind_can event wrote outcome (begins client s open_ some clear)))
+      back open_.up (Replied (Deciding s.tid)) (Some rec)
+      (after catalog i S.knows (Given (Call client (Ok Commit))) (Replied (Deciding s.tid)) (Some rec))
+      (begins_slow catalog i S.knows S.flight (at_up open_.up) below client s open_.session open_.is_open
+      (kind_can event wrote outcome (begins client s open_ some clear)))
   kind_kept event wrote outcome (waits client s tx asked begun_ undecided) =
-      stays_quiet begun_.up (Given (Call client (Ok Commit))) (Replied (Deciding s.tid)) None tt tt refl (changed-same client (deciding None) S.knows.sessions (λ z. refl))
+      stays_quiet begun_.up (Given (Call client (Ok Commit))) (Replied (Deciding s.tid)) None tt tt refl
+      (changed-same client (deciding None) S.knows.sessions (λ z. refl))
   kind_kept event wrote outcome (tells_version client s tx seq begun_ decided_ own) =
-      ends_session client s (Ok Commit) (Replied (Committed (own_version i seq))) None begun_.up begun_.session (λ x asked h. let e : Decided tx ≡ Undecided x asked = sym decided_ ∙ h in cc) tt tt refl
+      ends_session client s (Ok Commit) (Replied (Committed (own_version i seq))) None begun_.up begun_.session
+      (λ x asked h. let e : Decided tx ≡ Undecided x asked = sym decided_ ∙ h in cc) tt tt refl
       (λ c. lookup-without client c S.knows.sessions)
   kind_kept event wrote outcome (tells_cause client s tx asked conflict begun_ dropped_ said) =
-      ends_session client s (Ok Commit) (Replied (Aborted (cause_of conflict))) None begun_.up begun_.session (λ x others h. let e : Dropped tx asked ≡ Undecided x others = sym dropped_ ∙ h in cc) tt tt refl
+      ends_session client s (Ok Commit) (Replied (Aborted (cause_of conflict))) None begun_.up begun_.session
+      (λ x others h. let e : Dropped tx asked ≡ Undecided x others = sym dropped_ ∙ h in cc) tt tt refl
       (λ c. lookup-without client c S.knows.sessions)
   kind_kept event wrote outcome (levels_own client tid seq up here own) =
-      stays_quiet up (Given (Call client (Ok (LevelAsked tid)))) (Replied (Level (level_of_own catalog i S.knows seq))) None tt tt refl refl
-  kind_kept event wrote outcome (is_deciding client tid up) = stays_quiet up (Given (Call client (Ok (LevelAsked tid)))) (Replied (Level BeingDecided)) None tt tt refl refl
-  kind_kept event wrote outcome (is_running client tid up) = stays_quiet up (Given (Call client (Ok (LevelAsked tid)))) (Replied (Level Running)) None tt tt refl refl
-  kind_kept event wrote outcome (denies client tid up here issued none undecided open_) = stays_quiet up (Given (Call client (Ok (LevelAsked tid)))) (Replied (Level NotCommitted)) None tt tt refl refl
+      stays_quiet up (Given (Call client (Ok (LevelAsked tid))))
+      (Replied (Level (level_of_own catalog i S.knows seq))) None tt tt refl refl
+  kind_kept event wrote outcome (is_deciding client tid up) = stays_quiet up (Given (Call client (Ok (LevelAsked tid))))
+      (Replied (Level BeingDecided)) None tt tt refl refl
+  kind_kept event wrote outcome (is_running client tid up) = stays_quiet up (Given (Call client (Ok (LevelAsked tid))))
+      (Replied (Level Running)) None tt tt refl refl
+  kind_kept event wrote outcome (denies client tid up here issued none undecided open_) = stays_quiet up
+      (Given (Call client (Ok (LevelAsked tid)))) (Replied (Level NotCommitted)) None tt tt refl refl
   kind_kept event wrote outcome (passes ev) = idle ev Passed tt
   kind_kept event wrote outcome (receives j number seq tx from next) =
-      stays_quiet from.up (Given (Deliver j number (Propagate seq tx))) Taken (Some (Got j seq tx)) tt (kind_can event wrote outcome (receives j number seq tx from next)) refl refl
-  kind_kept event wrote outcome (hears_ack j number got from most) = stays_quiet from.up (Given (Deliver j number (Ack got))) Taken None tt tt refl refl
-  kind_kept event wrote outcome (hears_durable j number durable from) = stays_quiet from.up (Given (Deliver j number (Dsmark durable))) Taken None tt tt refl refl
-  kind_kept event wrote outcome (hears_visible j number committed from most) = stays_quiet from.up (Given (Deliver j number (Visible committed))) Taken None tt tt refl refl
+      stays_quiet from.up (Given (Deliver j number (Propagate seq tx))) Taken (Some (Got j seq tx)) tt
+      (kind_can event wrote outcome (receives j number seq tx from next)) refl refl
+  kind_kept event wrote outcome (hears_ack j number got from most) = stays_quiet from.up
+      (Given (Deliver j number (Ack got))) Taken None tt tt refl refl
+  kind_kept event wrote outcome (hears_durable j number durable from) = stays_quiet from.up
+      (Given (Deliver j number (Dsmark durable))) Taken None tt tt refl refl
+  kind_kept event wrote outcome (hears_visible j number committed from most) = stays_quiet from.up
+      (Given (Deliver j number (Visible committed))) Taken None tt tt refl refl
   kind_kept event wrote outcome (marks_durable j number got K from most is rises) =
-      stays_quiet from.up (Given (Deliver j number (Ack got))) Taken (Some (Marks (durable_mark catalog i K) (visible_mark catalog i K))) tt
+      stays_quiet from.up (Given (Deliver j number (Ack got))) Taken
+      (Some (Marks (durable_mark catalog i K) (visible_mark catalog i K))) tt
       (kind_can event wrote outcome (marks_durable j number got K from most is rises)) refl refl
   kind_kept event wrote outcome (marks_visible j number committed K from most is rises) =
-      stays_quiet from.up (Given (Deliver j number (Visible committed))) Taken (Some (Marks (durable_mark catalog i K) (visible_mark catalog i K))) tt
+      stays_quiet from.up (Given (Deliver j number (Visible committed))) Taken
+      (Some (Marks (durable_mark catalog i K) (visible_mark catalog i K))) tt
       (kind_can event wrote outcome (marks_visible j number committed K from most is rises)) refl refl
   kind_kept event wrote outcome (prepares j number n tid start objects from free lockable) =
-      stays_quiet from.up (Given (Deliver j number (Prepare n tid start objects))) Taken (Some (Prepared j n tid objects)) tt
+      stays_quiet from.up (Given (Deliver j number (Prepare n tid start objects))) Taken
+      (Some (Prepared j n tid objects)) tt
       (kind_can event wrote outcome (prepares j number n tid start objects from free lockable)) refl refl
-  kind_kept event wrote outcome (hears_yes p number n tx asked from undecided within) = stays_quiet from.up (Given (Deliver p number (Vote n Yes))) Taken None tt tt refl refl
+  kind_kept event wrote outcome (hears_yes p number n tx asked from undecided within) = stays_quiet from.up
+      (Given (Deliver p number (Vote n Yes))) Taken None tt tt refl refl
   kind_kept event wrote outcome (decides p number n tx asked from undecided within said) =
       stays_quiet from.up (Given (Deliver p number (Vote n Yes))) Taken (Some (Own (next_seq i S.knows) tx)) tt
       (kind_can event wrote outcome (decides p number n tx asked from undecided within said)) refl refl
@@ -277,17 +342,22 @@ module _ (catalog : Catalog) (i : SiteId) (below : i.0 < catalog.sites) (S : Sta
       stays_quiet from.up (Given (Deliver p number (Vote n (No conflict)))) Taken (Some (SlowEnd n)) tt
       (kind_can event wrote outcome (gives_up p number n tx asked conflict from undecided within alive)) refl refl
   kind_kept event wrote outcome (releases j number n from alive) =
-      stays_quiet from.up (Given (Deliver j number (Release n))) Taken (Some (Released j n)) tt (kind_can event wrote outcome (releases j number n from alive)) refl refl
-  kind_kept event wrote outcome (hears_released j number n from) = stays_quiet from.up (Given (Deliver j number (ReleasedSaid n))) Taken None tt tt refl refl
+      stays_quiet from.up (Given (Deliver j number (Release n))) Taken (Some (Released j n)) tt
+      (kind_can event wrote outcome (releases j number n from alive)) refl refl
+  kind_kept event wrote outcome (hears_released j number n from) = stays_quiet from.up
+      (Given (Deliver j number (ReleasedSaid n))) Taken None tt tt refl refl
   kind_kept event wrote outcome (sees j tx from due) =
-      stays_quiet from.up (Given (Advance j)) Taken (Some (Seen j (S.knows.committed j + 1))) tt (kind_can event wrote outcome (sees j tx from due)) refl refl
+      stays_quiet from.up (Given (Advance j)) Taken (Some (Seen j (S.knows.committed j + 1))) tt
+      (kind_can event wrote outcome (sees j tx from due)) refl refl
   kind_kept event wrote outcome (stops up) =
       falls catalog i S.up S.knows S.flight I S.flight still
   kind_kept event wrote outcome (is_down ev) = idle ev Down tt
-  kind_kept event wrote outcome (boots down) = boots_up catalog i below S.knows S.flight (subst (λ b. IsKept catalog i b S.knows S.flight) down I)
+  kind_kept event wrote outcome (boots down) = boots_up catalog i below S.knows S.flight
+      (subst (λ b. IsKept catalog i b S.knows S.flight) down I)
 
   -- what only this came of
-  by_only : (event : Event) (came : Came) (outcome : Outcome) (flight : Option Record) → IsOnly came outcome flight → Then event outcome None flight
+  by_only : (event : Event) (came : Came) (outcome : Outcome) (flight : Option Record) → IsOnly came outcome flight
+      → Then event outcome None flight
       → Then event came.outcome came.wrote came.flight
   by_only event came outcome flight only is =
       subst (λ (w : Option Record). Then event came.outcome w came.flight) (sym only.wrote)
@@ -295,39 +365,50 @@ module _ (catalog : Catalog) (i : SiteId) (below : i.0 < catalog.sites) (S : Sta
       (subst (λ (f : Option Record). Then event outcome None f) (sym only.flight_is) is))
 
   -- each step
-  step_kept : (event : Event) (came : Came) → IsStep catalog i S event came → Then event came.outcome came.wrote came.flight
+  step_kept : (event : Event) (came : Came) → IsStep catalog i S event came
+      → Then event came.outcome came.wrote came.flight
   step_kept event came (stable kind none said) =
-      subst (λ (f : Option Record). Then event came.outcome came.wrote f) (sym none) (kind_kept event came.wrote came.outcome kind)
+      subst (λ (f : Option Record). Then event came.outcome came.wrote f) (sym none)
+      (kind_kept event came.wrote came.outcome kind)
   step_kept event came (flies rec outcome kind only) =
       by_only event came (failure event rec) (Some rec) only
       (fallen event (failure event rec) (Some rec) (fault_falls event rec)
       (falls catalog i S.up S.knows S.flight I (Some rec)
-      (λ r h. subst (λ (z : Record). CanFollow catalog i S.knows z × CanBegin catalog i S.up S.knows S.flight I z) (same_Some rec r h) (kind_can event (Some rec) outcome kind, kind_begins event (Some rec) outcome kind))))
+      (λ r h. subst (λ (z : Record). CanFollow catalog i S.knows z × CanBegin catalog i S.up S.knows S.flight I z)
+      (same_Some rec r h) (kind_can event (Some rec) outcome kind, kind_begins event (Some rec) outcome kind))))
   step_kept event came (unread_step restart down only) =
-      by_only event came Failed None only (fallen event Failed S.flight (failed_falls event) (falls catalog i S.up S.knows S.flight I S.flight still))
-  step_kept event came (wants takes only) = by_only event came (want event) None only (idle event (want event) (want_idle event))
-  step_kept event came (finds_full rec outcome need left kind only) = by_only event came (fullness event need left) None only (idle event (fullness event need left) (fullness_idle event need left))
+      by_only event came Failed None only (fallen event Failed S.flight (failed_falls event)
+      (falls catalog i S.up S.knows S.flight I S.flight still))
+  step_kept event came (wants takes only) = by_only event came (want event) None only
+      (idle event (want event) (want_idle event))
+  step_kept event came (finds_full rec outcome need left kind only) = by_only event came
+      (fullness event need left) None only (idle event (fullness event need left) (fullness_idle event need left))
 
 -- a restart may find the record in flight
-pub settled_kept : (catalog : Catalog) (i : SiteId) → i.0 < catalog.sites → (S : Standing) (event : Event) (kept : Option Record) → IfSome kept (IsFound S event)
-    → IsKept catalog i S.up S.knows S.flight → IsKept catalog i (settled catalog i kept S).up (settled catalog i kept S).knows (settled catalog i kept S).flight
+pub settled_kept : (catalog : Catalog) (i : SiteId) → i.0 < catalog.sites
+    → (S : Standing) (event : Event) (kept : Option Record) → IfSome kept (IsFound S event)
+    → IsKept catalog i S.up S.knows S.flight → IsKept catalog i (settled catalog i kept S).up
+    (settled catalog i kept S).knows (settled catalog i kept S).flight
 settled_kept catalog i below S event None found I = I
 settled_kept catalog i below S event (Some rec) found I =
     subst (λ b. IsKept catalog i b (recorded catalog i (Some rec) S.knows) None) (sym found.down)
     (settles catalog i below S.knows rec (subst (λ f. IsKept catalog i false S.knows f) found.in_flight (subst (λ b. IsKept catalog i b S.knows S.flight) found.down I)))
 
 -- so it is with right entries, the newest first
-pub right_kept : (catalog : Catalog) (capacity : ℕ) (i : SiteId) → i.0 < catalog.sites → (older : List Entry) → AreRight catalog capacity i older
+pub right_kept : (catalog : Catalog) (capacity : ℕ) (i : SiteId) → i.0 < catalog.sites → (older : List Entry)
+    → AreRight catalog capacity i older
     → IsKept catalog i (standing catalog i older).up (standing catalog i older).knows (standing catalog i older).flight
 right_kept catalog capacity i below [] right = kept_at_first catalog i
 right_kept catalog capacity i below (e ∷ older) right =
     let S : Standing = standing catalog i older in
     step_kept catalog i below (settled catalog i e.came.kept S)
-    (settled_kept catalog i below S e.event e.came.kept right.1.kept (right_kept catalog capacity i below older right.0))
+    (settled_kept catalog i below S e.event e.came.kept right.1.kept
+    (right_kept catalog capacity i below older right.0))
     e.event e.came (step_of catalog capacity i (settled catalog i e.came.kept S) e.event e.came right.1.comes)
 
 -- and so it stands alone
-pub alone_of : (catalog : Catalog) (i : SiteId) (S : Standing) → IsKept catalog i S.up S.knows S.flight → IsAlone catalog i S
+pub alone_of : (catalog : Catalog) (i : SiteId) (S : Standing) → IsKept catalog i S.up S.knows S.flight
+    → IsAlone catalog i S
 alone_of catalog i S I = record {
   tidy = I.tidy;
   owners = I.learned.owners;
@@ -343,13 +424,18 @@ alone_of catalog i S I = record {
 }
 
 -- what holds of how a site stands by right entries, the newest first
-pub right_alone : (catalog : Catalog) (capacity : ℕ) (i : SiteId) → i.0 < catalog.sites → (older : List Entry) → AreRight catalog capacity i older
+pub right_alone : (catalog : Catalog) (capacity : ℕ) (i : SiteId) → i.0 < catalog.sites → (older : List Entry)
+    → AreRight catalog capacity i older
     → IsAlone catalog i (standing catalog i older)
-right_alone catalog capacity i below older right = alone_of catalog i (standing catalog i older) (right_kept catalog capacity i below older right)
+right_alone catalog capacity i below older right = alone_of catalog i (standing catalog i older)
+    (right_kept catalog capacity i below older right)
 
 -- and behind what was found of a record in flight, at the next right entry
-pub settled_alone : (catalog : Catalog) (capacity : ℕ) (i : SiteId) → i.0 < catalog.sites → (older : List Entry) (e : Entry) → AreRight catalog capacity i older
-    → IsRightEntry catalog capacity i older e → IsAlone catalog i (settled catalog i e.came.kept (standing catalog i older))
+pub settled_alone : (catalog : Catalog) (capacity : ℕ) (i : SiteId) → i.0 < catalog.sites
+    → (older : List Entry) (e : Entry) → AreRight catalog capacity i older
+    → IsRightEntry catalog capacity i older e → IsAlone catalog i
+    (settled catalog i e.came.kept (standing catalog i older))
 settled_alone catalog capacity i below older e right next =
     alone_of catalog i (settled catalog i e.came.kept (standing catalog i older))
-    (settled_kept catalog i below (standing catalog i older) e.event e.came.kept next.kept (right_kept catalog capacity i below older right))
+    (settled_kept catalog i below (standing catalog i older) e.event e.came.kept next.kept
+    (right_kept catalog capacity i below older right))

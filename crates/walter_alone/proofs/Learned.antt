@@ -38,9 +38,11 @@ pub record IsLearned (catalog : Catalog) (i : SiteId) (K : Knowledge) : Type 0 w
   -- the owners of objects are those of its locks
   pub owners : AreOwners K.part K.owner
   -- what is locked is preferred here
-  pub here : (j : SiteId) (n : ℕ) (t : Tid) (objs : List ObjId) (oid : ObjId) → K.part j n ≡ Locked t objs → Contains objs oid → home catalog oid ≡ i
+  pub here : (j : SiteId) (n : ℕ) (t : Tid) (objs : List ObjId) (oid : ObjId) → K.part j n ≡ Locked t objs
+      → Contains objs oid → home catalog oid ≡ i
   -- who is asked
-  pub asked : (n : ℕ) (tx : Tx) (asked : List SiteId) → (K.slow n ≡ Undecided tx asked) ⊎ (K.slow n ≡ Dropped tx asked) → IsAskedFor catalog i tx asked
+  pub asked : (n : ℕ) (tx : Tx) (asked : List SiteId) → (K.slow n ≡ Undecided tx asked) ⊎ (K.slow n ≡ Dropped tx asked)
+      → IsAskedFor catalog i tx asked
   -- sites that aren't of the catalog have committed nothing
   pub outside : (k : SiteId) → catalog.sites ≤ k.0 → (K.got k ≡ 0) × (K.committed k ≡ 0)
   -- its own slow commits have locks only where their numbers were given
@@ -65,7 +67,8 @@ learned_fresh catalog i = record {
 }
 
 -- it is so without the sessions, and without what peers have said
-pub learned_lost : (catalog : Catalog) (i : SiteId) (K : Knowledge) → IsLearned catalog i K → IsLearned catalog i (lost K)
+pub learned_lost : (catalog : Catalog) (i : SiteId) (K : Knowledge) → IsLearned catalog i K
+    → IsLearned catalog i (lost K)
 learned_lost catalog i K L = record {
   owners = L.owners;
   here = L.here;
@@ -77,7 +80,8 @@ learned_lost catalog i K L = record {
   visible = L.visible;
 }
 
-pub learned_after : (catalog : Catalog) (i : SiteId) (K : Knowledge) (event : Event) (outcome : Outcome) (wrote : Option Record)
+pub learned_after : (catalog : Catalog) (i : SiteId) (K : Knowledge) (event : Event) (outcome : Outcome)
+    (wrote : Option Record)
     → IsLearned catalog i (recorded catalog i wrote K) → IsLearned catalog i (after catalog i K event outcome wrote)
 learned_after catalog i K event outcome wrote L = record {
   owners = L.owners;
@@ -106,16 +110,20 @@ site_below catalog p within =
     omega (arith, below, e)
 
 in_sites : (catalog : Catalog) (p : SiteId) → p.0 < catalog.sites → Contains (sites catalog) p
-in_sites catalog p below = is_made site_at (range_with_len 0 catalog.sites) p.0 (in_range 0 catalog.sites p.0 (omega arith) (omega (arith, below)))
+in_sites catalog p below = is_made site_at (range_with_len 0 catalog.sites) p.0
+    (in_range 0 catalog.sites p.0 (omega arith) (omega (arith, below)))
 
 -- the sites that are asked for these updates
-pub participants_asked : (catalog : Catalog) (i : SiteId) (K : Knowledge) (tx : Tx) → IsAskedFor catalog i tx (participants catalog K i tx.updates)
+pub participants_asked : (catalog : Catalog) (i : SiteId) (K : Knowledge) (tx : Tx)
+    → IsAskedFor catalog i tx (participants catalog K i tx.updates)
 participants_asked catalog i K tx = record {
   there = λ p within.
-      let kept = kept_from (λ k. list_any (λ oid. same_site (preferred catalog K oid) k) (objects_of tx.updates)) (peers catalog i) p within in
+      let kept = kept_from (λ k. list_any (λ oid. same_site (preferred catalog K oid) k) (objects_of tx.updates))
+      (peers catalog i) p within in
       let peer = kept_from (λ k. not (same_site k i)) (sites catalog) p kept.0 in
       let one = one_passes (λ oid. same_site (preferred catalog K oid) p) (objects_of tx.updates) kept.1 in (
-        (λ e. let no_ : not (same_site i i) ≡ true = subst (λ (z : SiteId). not (same_site z i) ≡ true) e peer.1 in let is = same_site_refl i in absurd cc),
+        (λ e. let no_ : not (same_site i i) ≡ true = subst
+            (λ (z : SiteId). not (same_site z i) ≡ true) e peer.1 in let is = same_site_refl i in absurd cc),
         site_below catalog p peer.0,
         (one.0, rising_from (write_set tx.updates) one.0 one.1, same_site-true (preferred catalog K one.0) p one.2),
       );
@@ -126,23 +134,27 @@ participants_asked catalog i K tx = record {
         | inl same ↦ absurd (apart same.1)
         | inr other ↦ ap not other.0
       ]))
-      (some_pass (λ o. same_site (preferred catalog K o) p) (objects_of tx.updates) oid (in_rising (write_set tx.updates) oid within) (same_site_refl p));
+      (some_pass (λ o. same_site (preferred catalog K o) p) (objects_of tx.updates) oid
+      (in_rising (write_set tx.updates) oid within) (same_site_refl p));
 }
 
 module _ (catalog : Catalog) (i : SiteId) (K : Knowledge) (L : IsLearned catalog i K) where
   -- a slow commit of another is over here
   over_owners : (k : SiteId) (n : ℕ) → AreOwners (part_over k n K.part) (λ oid. freed_over k n K oid)
   over_owners k zero = L.owners
-  over_owners k (suc n) = release K.part K.owner L.owners k (suc n) (part_over k (suc n) K.part) (λ oid. freed_over k (suc n) K oid) (λ j m. refl) (λ oid. refl)
+  over_owners k (suc n) = release K.part K.owner L.owners k (suc n) (part_over k (suc n) K.part)
+      (λ oid. freed_over k (suc n) K oid) (λ j m. refl) (λ oid. refl)
 
   -- what is locked by an own slow commit
   some_locked : (oid : ObjId) → is_locked_here i K oid ≡ true → (n : ℕ) × (does_lock (K.part i n) oid ≡ true)
   some_locked oid is = let one = one_passes (λ n. does_lock (K.part i n) oid) (from_to 1 K.last) is in (one.0, one.2)
 
-  is_locked : (n : ℕ) (t : Tid) (objs : List ObjId) (oid : ObjId) → K.part i n ≡ Locked t objs → has_object oid objs ≡ true → is_locked_here i K oid ≡ true
+  is_locked : (n : ℕ) (t : Tid) (objs : List ObjId) (oid : ObjId) → K.part i n ≡ Locked t objs
+      → has_object oid objs ≡ true → is_locked_here i K oid ≡ true
   is_locked n t objs oid h has = elim (L.given_ n) [
     | inl free ↦ absurd (locked_not_free (K.part i n) t objs h free)
-    | inr within ↦ some_pass (λ m. does_lock (K.part i m) oid) (from_to 1 K.last) n (in_from_to n K.last within.0 within.1) (ap (λ a. does_lock a oid) h ∙ has)
+    | inr within ↦ some_pass (λ m. does_lock (K.part i m) oid) (from_to 1 K.last) n
+        (in_from_to n K.last within.0 within.1) (ap (λ a. does_lock a oid) h ∙ has)
   ]
 
   -- the next own slow commit has no lock yet
@@ -152,20 +164,30 @@ module _ (catalog : Catalog) (i : SiteId) (K : Knowledge) (L : IsLearned catalog
     | inr within ↦ absurd (let high = within.1 in omega (arith, next, high))
   ]
 
-  owners_then : (rec : Record) → CanFollow catalog i K rec → AreOwners (part_after catalog i K (Some rec)) (owner_after catalog i K (Some rec))
-  owners_then (Boot epoch) f = boot_here K.part K.owner L.owners i (is_locked_here i K) (part_after catalog i K (Some (Boot epoch))) (owner_after catalog i K (Some (Boot epoch))) some_locked is_locked (λ j n. refl) (λ oid. refl)
-  owners_then (Own seq tx) f = unlock K.part K.owner L.owners i tx.slow (part_after catalog i K (Some (Own seq tx))) (owner_after catalog i K (Some (Own seq tx))) (λ j n. refl) (λ oid. refl)
+  owners_then : (rec : Record) → CanFollow catalog i K rec
+      → AreOwners (part_after catalog i K (Some rec)) (owner_after catalog i K (Some rec))
+  owners_then (Boot epoch) f = boot_here K.part K.owner L.owners i (is_locked_here i K)
+      (part_after catalog i K (Some (Boot epoch))) (owner_after catalog i K (Some (Boot epoch))) some_locked is_locked
+      (λ j n. refl) (λ oid. refl)
+  owners_then (Own seq tx) f = unlock K.part K.owner L.owners i tx.slow (part_after catalog i K (Some (Own seq tx)))
+      (owner_after catalog i K (Some (Own seq tx))) (λ j n. refl) (λ oid. refl)
   owners_then (Got j seq tx) f = L.owners
   owners_then (Seen j seq) f = over_owners j (slow_number (commit_at j seq K.log))
   owners_then (Prepared j n tid objects) f =
-      lock K.part K.owner L.owners j n tid objects (part_after catalog i K (Some (Prepared j n tid objects))) (owner_after catalog i K (Some (Prepared j n tid objects)))
-      f.free (λ oid has. All-contains (λ o. K.owner o ≡ None) objects oid f.unlocked (object_in oid objects has)) (λ k m. refl) (λ oid. refl)
-  owners_then (Released j n) f = release K.part K.owner L.owners j n (part_after catalog i K (Some (Released j n))) (owner_after catalog i K (Some (Released j n))) (λ k m. refl) (λ oid. refl)
+      lock K.part K.owner L.owners j n tid objects (part_after catalog i K (Some (Prepared j n tid objects)))
+      (owner_after catalog i K (Some (Prepared j n tid objects)))
+      f.free (λ oid has. All-contains (λ o. K.owner o ≡ None) objects oid f.unlocked (object_in oid objects has))
+      (λ k m. refl) (λ oid. refl)
+  owners_then (Released j n) f = release K.part K.owner L.owners j n (part_after catalog i K (Some (Released j n)))
+      (owner_after catalog i K (Some (Released j n))) (λ k m. refl) (λ oid. refl)
   owners_then (SlowBegin n tx) f =
       let objects : List ObjId = objects_at catalog K i tx.updates in
-      lock K.part K.owner L.owners i n tx.tid objects (part_after catalog i K (Some (SlowBegin n tx))) (owner_after catalog i K (Some (SlowBegin n tx)))
-      (next_free n f.next) (λ oid has. All-contains (λ o. K.owner o ≡ None) objects oid f.unlocked (object_in oid objects has)) (λ k m. refl) (λ oid. refl)
-  owners_then (SlowEnd n) f = unlock K.part K.owner L.owners i n (part_after catalog i K (Some (SlowEnd n))) (owner_after catalog i K (Some (SlowEnd n))) (λ k m. refl) (λ oid. refl)
+      lock K.part K.owner L.owners i n tx.tid objects (part_after catalog i K (Some (SlowBegin n tx)))
+      (owner_after catalog i K (Some (SlowBegin n tx)))
+      (next_free n f.next) (λ oid has. All-contains (λ o. K.owner o ≡ None) objects oid f.unlocked
+      (object_in oid objects has)) (λ k m. refl) (λ oid. refl)
+  owners_then (SlowEnd n) f = unlock K.part K.owner L.owners i n (part_after catalog i K (Some (SlowEnd n)))
+      (owner_after catalog i K (Some (SlowEnd n))) (λ k m. refl) (λ oid. refl)
   owners_then (Marks durable visible) f = L.owners
 
   -- a part is as it was, or free, or over; or it is the one that was locked
@@ -181,8 +203,10 @@ module _ (catalog : Catalog) (i : SiteId) (K : Knowledge) (L : IsLearned catalog
   here_part : (j : SiteId) (n : ℕ) → IsHere (K.part j n)
   here_part j n t objs oid h within = L.here j n t objs oid h within
 
-  here_locked : (tid : Tid) (objects : List ObjId) → ((oid : ObjId) → Contains objects oid → home catalog oid ≡ i) → IsHere (Locked tid objects)
-  here_locked tid objects all t objs oid h within = let e : objects ≡ objs = cc in all oid (subst (λ os. Contains os oid) (sym e) within)
+  here_locked : (tid : Tid) (objects : List ObjId) → ((oid : ObjId) → Contains objects oid → home catalog oid ≡ i)
+      → IsHere (Locked tid objects)
+  here_locked tid objects all t objs oid h within = let e : objects ≡ objs = cc in all oid
+      (subst (λ os. Contains os oid) (sym e) within)
 
   here_if : (b : Bool) (x y : Part) → IsHere x → IsHere y → IsHere (if b then x else y)
   here_if true x y a c = a
@@ -192,9 +216,12 @@ module _ (catalog : Catalog) (i : SiteId) (K : Knowledge) (L : IsLearned catalog
   here_passed k zero j m = here_part j m
   here_passed k (suc n) j m = here_if (is_slow k (suc n) j m) Over (K.part j m) here_over (here_part j m)
 
-  here_then : (rec : Record) → CanFollow catalog i K rec → (j : SiteId) (n : ℕ) → IsHere (part_after catalog i K (Some rec) j n)
-  here_then (Boot epoch) f j n = here_if (same_site i j) (unlocked (K.part j n)) (K.part j n) (here_unlocked (K.part j n) (here_part j n)) (here_part j n)
-  here_then (Own seq tx) f j n = here_if (is_slow i tx.slow j n) (unlocked (K.part j n)) (K.part j n) (here_unlocked (K.part j n) (here_part j n)) (here_part j n)
+  here_then : (rec : Record) → CanFollow catalog i K rec → (j : SiteId) (n : ℕ)
+      → IsHere (part_after catalog i K (Some rec) j n)
+  here_then (Boot epoch) f j n = here_if (same_site i j) (unlocked (K.part j n)) (K.part j n)
+      (here_unlocked (K.part j n) (here_part j n)) (here_part j n)
+  here_then (Own seq tx) f j n = here_if (is_slow i tx.slow j n) (unlocked (K.part j n)) (K.part j n)
+      (here_unlocked (K.part j n) (here_part j n)) (here_part j n)
   here_then (Got k seq tx) f j n = here_part j n
   here_then (Seen k seq) f j n = here_passed k (slow_number (commit_at k seq K.log)) j n
   here_then (Prepared k m tid objects) f j n = here_if (is_slow k m j n) (Locked tid objects) (K.part j n)
@@ -206,14 +233,18 @@ module _ (catalog : Catalog) (i : SiteId) (K : Knowledge) (L : IsLearned catalog
   here_then (Released k m) f j n = here_if (is_slow k m j n) Over (K.part j n) here_over (here_part j n)
   here_then (SlowBegin m tx) f j n =
       let objects : List ObjId = objects_at catalog K i tx.updates in
-      here_if (is_slow i m j n) (Locked tx.tid objects) (K.part j n) (here_locked tx.tid objects (λ oid within. (objects_at_from catalog K i tx.updates oid within).1)) (here_part j n)
-  here_then (SlowEnd m) f j n = here_if (is_slow i m j n) (unlocked (K.part j n)) (K.part j n) (here_unlocked (K.part j n) (here_part j n)) (here_part j n)
+      here_if (is_slow i m j n) (Locked tx.tid objects) (K.part j n)
+      (here_locked tx.tid objects (λ oid within. (objects_at_from catalog K i tx.updates oid within).1))
+      (here_part j n)
+  here_then (SlowEnd m) f j n = here_if (is_slow i m j n) (unlocked (K.part j n)) (K.part j n)
+      (here_unlocked (K.part j n) (here_part j n)) (here_part j n)
   here_then (Marks durable visible) f j n = here_part j n
 
   -- who is asked, and what is written, of each slow commit
   abbrev pub IsSlowOf : Slow → Type 0
   IsSlowOf g =
-      ((tx : Tx) (asked : List SiteId) → (g ≡ Undecided tx asked) ⊎ (g ≡ Dropped tx asked) → IsAskedFor catalog i tx asked)
+      ((tx : Tx) (asked : List SiteId) → (g ≡ Undecided tx asked) ⊎ (g ≡ Dropped tx asked)
+      → IsAskedFor catalog i tx asked)
       × ((tx : Tx) → begun g ≡ Some tx → are_declared catalog tx.updates ≡ true)
 
   slow_before : (n : ℕ) → IsSlowOf (K.slow n)
@@ -241,13 +272,16 @@ module _ (catalog : Catalog) (i : SiteId) (K : Knowledge) (L : IsLearned catalog
   slow_if true x y a c = a
   slow_if false x y a c = c
 
-  slow_new : (tx : Tx) → are_declared catalog tx.updates ≡ true → IsSlowOf (Undecided tx (participants catalog K i tx.updates))
+  slow_new : (tx : Tx) → are_declared catalog tx.updates ≡ true
+      → IsSlowOf (Undecided tx (participants catalog K i tx.updates))
   slow_new tx declared = (
     λ x asked h. elim h [
       | inl e ↦
           let p : tx ≡ x = cc in
           let q : participants catalog K i tx.updates ≡ asked = cc in
-          subst (λ (z : List SiteId). IsAskedFor catalog i x z) q (subst (λ (z : Tx). IsAskedFor catalog i z (participants catalog K i tx.updates)) p (participants_asked catalog i K tx))
+          subst (λ (z : List SiteId). IsAskedFor catalog i x z) q
+          (subst (λ (z : Tx). IsAskedFor catalog i z (participants catalog K i tx.updates)) p
+          (participants_asked catalog i K tx))
       | inr e ↦ absurd cc
     ],
     λ x h. let p : tx ≡ x = cc in subst (λ (z : Tx). are_declared catalog z.updates ≡ true) p declared,
@@ -255,17 +289,21 @@ module _ (catalog : Catalog) (i : SiteId) (K : Knowledge) (L : IsLearned catalog
 
   slow_then : (rec : Record) → CanFollow catalog i K rec → (n : ℕ) → IsSlowOf (slow_after catalog i K (Some rec) n)
   slow_then (Boot epoch) f n = slow_ended (K.slow n) (slow_before n)
-  slow_then (Own seq tx) f n = slow_if (nat_eq tx.slow n) (decided (K.slow n)) (K.slow n) (slow_decided (K.slow n) (slow_before n)) (slow_before n)
+  slow_then (Own seq tx) f n = slow_if (nat_eq tx.slow n) (decided (K.slow n)) (K.slow n)
+      (slow_decided (K.slow n) (slow_before n)) (slow_before n)
   slow_then (Got j seq tx) f n = slow_before n
   slow_then (Seen j seq) f n = slow_before n
   slow_then (Prepared j m tid objects) f n = slow_before n
   slow_then (Released j m) f n = slow_before n
-  slow_then (SlowBegin m tx) f n = slow_if (nat_eq m n) (Undecided tx (participants catalog K i tx.updates)) (K.slow n) (slow_new tx f.declared) (slow_before n)
-  slow_then (SlowEnd m) f n = slow_if (nat_eq m n) (ended (K.slow n)) (K.slow n) (slow_ended (K.slow n) (slow_before n)) (slow_before n)
+  slow_then (SlowBegin m tx) f n = slow_if (nat_eq m n) (Undecided tx (participants catalog K i tx.updates)) (K.slow n)
+      (slow_new tx f.declared) (slow_before n)
+  slow_then (SlowEnd m) f n = slow_if (nat_eq m n) (ended (K.slow n)) (K.slow n) (slow_ended (K.slow n) (slow_before n))
+      (slow_before n)
   slow_then (Marks durable visible) f n = slow_before n
 
   -- one more of a site of the catalog is none of another
-  apart_same : (j k : SiteId) (counts : SiteId → ℕ) → j.0 < catalog.sites → catalog.sites ≤ k.0 → one_more j counts k ≡ counts k
+  apart_same : (j k : SiteId) (counts : SiteId → ℕ) → j.0 < catalog.sites → catalog.sites ≤ k.0
+      → one_more j counts k ≡ counts k
   apart_same j k counts below past = elim (site_cases j k) [
     | inl same ↦ absurd (let e : j.0 ≡ k.0 = ap (λ (s : SiteId). s.0) same.1 in omega (arith, below, past, e))
     | inr other ↦ ap (λ b. if b then counts k + 1 else counts k) other.0
@@ -274,9 +312,21 @@ module _ (catalog : Catalog) (i : SiteId) (K : Knowledge) (L : IsLearned catalog
   outside_then : i.0 < catalog.sites → (rec : Record) → CanFollow catalog i K rec → (k : SiteId) → catalog.sites ≤ k.0
       → (got_after i (Some rec) K.got k ≡ 0) × (committed_after i (Some rec) K.committed k ≡ 0)
   outside_then below (Boot epoch) f k past = L.outside k past
-  outside_then below (Own seq tx) f k past = (apart_same i k K.got below past ∙ (L.outside k past).0, apart_same i k K.committed below past ∙ (L.outside k past).1)
-  outside_then below (Got j seq tx) f k past = (apart_same j k K.got (peer_true catalog i j f.peer).0 past ∙ (L.outside k past).0, (L.outside k past).1)
-  outside_then below (Seen j seq) f k past = ((L.outside k past).0, apart_same j k K.committed (peer_true catalog i j f.peer).0 past ∙ (L.outside k past).1)
+  outside_then below (Own seq tx) f k past = (
+    apart_same i k K.got below past
+        ∙ (L.outside k past).0,
+    apart_same i k K.committed below past ∙ (L.outside k past).1,
+  )
+  outside_then below (Got j seq tx) f k past = (
+    apart_same j k K.got (peer_true catalog i j f.peer).0 past
+        ∙ (L.outside k past).0,
+    (L.outside k past).1,
+  )
+  outside_then below (Seen j seq) f k past = (
+    (L.outside k past).0,
+    apart_same j k K.committed
+        (peer_true catalog i j f.peer).0 past ∙ (L.outside k past).1,
+  )
   outside_then below (Prepared j n tid objects) f k past = L.outside k past
   outside_then below (Released j n) f k past = L.outside k past
   outside_then below (SlowBegin n tx) f k past = L.outside k past
@@ -293,7 +343,8 @@ module _ (catalog : Catalog) (i : SiteId) (K : Knowledge) (L : IsLearned catalog
     | inr free ↦ inl free
   ]
 
-  given_if : (last n : ℕ) (b : Bool) (x y : Part) → IsGivenUpTo last n x → IsGivenUpTo last n y → IsGivenUpTo last n (if b then x else y)
+  given_if : (last n : ℕ) (b : Bool) (x y : Part) → IsGivenUpTo last n x → IsGivenUpTo last n y
+      → IsGivenUpTo last n (if b then x else y)
   given_if last n true x y a c = a
   given_if last n false x y a c = c
 
@@ -317,15 +368,19 @@ module _ (catalog : Catalog) (i : SiteId) (K : Knowledge) (L : IsLearned catalog
     ])
   ]
 
-  given_then : (rec : Record) → CanFollow catalog i K rec → (n : ℕ) → IsGivenUpTo (recorded catalog i (Some rec) K).last n (part_after catalog i K (Some rec) i n)
-  given_then (Boot epoch) f n = given_if K.last n (same_site i i) (unlocked (K.part i n)) (K.part i n) (given_unlocked K.last n (K.part i n) (L.given_ n)) (L.given_ n)
-  given_then (Own seq tx) f n = given_if K.last n (is_slow i tx.slow i n) (unlocked (K.part i n)) (K.part i n) (given_unlocked K.last n (K.part i n) (L.given_ n)) (L.given_ n)
+  given_then : (rec : Record) → CanFollow catalog i K rec → (n : ℕ)
+      → IsGivenUpTo (recorded catalog i (Some rec) K).last n (part_after catalog i K (Some rec) i n)
+  given_then (Boot epoch) f n = given_if K.last n (same_site i i) (unlocked (K.part i n)) (K.part i n)
+      (given_unlocked K.last n (K.part i n) (L.given_ n)) (L.given_ n)
+  given_then (Own seq tx) f n = given_if K.last n (is_slow i tx.slow i n) (unlocked (K.part i n)) (K.part i n)
+      (given_unlocked K.last n (K.part i n) (L.given_ n)) (L.given_ n)
   given_then (Got k seq tx) f n = L.given_ n
   given_then (Seen k seq) f n = given_over k (slow_number (commit_at k seq K.log)) n (peer_true catalog i k f.peer).1
   given_then (Prepared k m tid objects) f n = not_own k m n (Locked tid objects) (peer_true catalog i k f.peer).1
   given_then (Released k m) f n = not_own k m n Over (peer_true catalog i k f.peer).1
   given_then (SlowBegin m tx) f n = given_begun m n (Locked tx.tid (objects_at catalog K i tx.updates)) f.next
-  given_then (SlowEnd m) f n = given_if K.last n (is_slow i m i n) (unlocked (K.part i n)) (K.part i n) (given_unlocked K.last n (K.part i n) (L.given_ n)) (L.given_ n)
+  given_then (SlowEnd m) f n = given_if K.last n (is_slow i m i n) (unlocked (K.part i n)) (K.part i n)
+      (given_unlocked K.last n (K.part i n) (L.given_ n)) (L.given_ n)
   given_then (Marks durable visible) f n = L.given_ n
 
   -- the marks
@@ -333,13 +388,15 @@ module _ (catalog : Catalog) (i : SiteId) (K : Knowledge) (L : IsLearned catalog
   AreBelow durable visible own = (durable ≤ own) × (visible ≤ own)
 
   more_below : (j : SiteId) → AreBelow K.durable_floor K.visible_floor (one_more j K.committed i)
-  more_below j = elim (same_site j i) as (λ b. AreBelow K.durable_floor K.visible_floor (if b then K.committed i + 1 else K.committed i)) [
-    | true ↦ (let l = L.durable in omega (arith, l), let l = L.visible in omega (arith, l))
-    | false ↦ (L.durable, L.visible)
-  ]
+  more_below j = elim (same_site j i) as (λ b. AreBelow K.durable_floor K.visible_floor
+      (if b then K.committed i + 1 else K.committed i)) [
+        | true ↦ (let l = L.durable in omega (arith, l), let l = L.visible in omega (arith, l))
+        | false ↦ (L.durable, L.visible)
+      ]
 
   marks_then : (rec : Record) → CanFollow catalog i K rec
-      → AreBelow (durable_after (Some rec) K.durable_floor) (visible_after (Some rec) K.visible_floor) (committed_after i (Some rec) K.committed i)
+      → AreBelow (durable_after (Some rec) K.durable_floor) (visible_after (Some rec) K.visible_floor)
+      (committed_after i (Some rec) K.committed i)
   marks_then (Boot epoch) f = (L.durable, L.visible)
   marks_then (Own seq tx) f = more_below i
   marks_then (Got j seq tx) f = (L.durable, L.visible)
@@ -351,7 +408,8 @@ module _ (catalog : Catalog) (i : SiteId) (K : Knowledge) (L : IsLearned catalog
   marks_then (Marks durable visible) f = (f.durable_own, f.visible_own)
 
   -- a record that can follow keeps it
-  pub learned_recorded : i.0 < catalog.sites → (rec : Record) → CanFollow catalog i K rec → IsLearned catalog i (recorded catalog i (Some rec) K)
+  pub learned_recorded : i.0 < catalog.sites → (rec : Record) → CanFollow catalog i K rec
+      → IsLearned catalog i (recorded catalog i (Some rec) K)
   learned_recorded below rec f = record {
     owners = owners_then rec f;
     here = here_then rec f;

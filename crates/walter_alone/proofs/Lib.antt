@@ -5,3 +5,5 @@ pub mod SoundSessions
 pub mod Followed
 pub mod Kept
 pub mod KeptSteps
+pub mod TrailJournaled
+pub mod Promised

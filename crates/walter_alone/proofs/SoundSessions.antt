@@ -18,14 +18,16 @@ use Rattle.walter_rules.specs.Sessions.{Session}
 use Rattle.walter_agreement.proofs.Cases.{none_not_some}
 use Rattle.walter_agreement.proofs.Issued.{Issued, IsIssued}
 
-pub record AreSound (catalog : Catalog) (i : SiteId) (sess : ℕ → Option Session) (committed : SiteId → ℕ) (numbers : Issued) : Type 0 where
+pub record AreSound (catalog : Catalog) (i : SiteId) (sess : ℕ → Option Session) (committed : SiteId → ℕ)
+    (numbers : Issued) : Type 0 where
   pub started : (c : ℕ) (s : Session) → sess c ≡ Some s → (s.tid.site ≡ i) × IsIssued numbers s.tid
   pub distinct : (c d : ℕ) (s t : Session) → sess c ≡ Some s → sess d ≡ Some t → s.tid ≡ t.tid → c ≡ d
   pub snapshots : (c : ℕ) (s : Session) → sess c ≡ Some s → (k : SiteId) → entry_at s.snapshot k ≤ committed k
   pub declared : (c : ℕ) (s : Session) → sess c ≡ Some s → are_declared catalog s.updates ≡ true
 
 -- where there are none
-pub none_sound : (catalog : Catalog) (i : SiteId) (sess : ℕ → Option Session) (committed : SiteId → ℕ) (numbers : Issued)
+pub none_sound : (catalog : Catalog) (i : SiteId) (sess : ℕ → Option Session) (committed : SiteId → ℕ)
+    (numbers : Issued)
     → ((c : ℕ) → sess c ≡ None) → AreSound catalog i sess committed numbers
 none_sound catalog i sess committed numbers none = record {
   started = λ c s h. absurd (none_not_some (sess c) s (none c) h);
@@ -52,7 +54,8 @@ module _ (catalog : Catalog) (i : SiteId) (sess : ℕ → Option Session) (commi
         let z = from c s h in
         let was = A.started c z.0 z.1 in
         (subst (λ (t : Tid). t.site ≡ i) z.2 was.0, subst (λ (t : Tid). IsIssued numbers2 t) z.2 (rise z.0.tid was.1));
-    distinct = λ c d s t h k same. let z = from c s h in let w = from d t k in A.distinct c d z.0 w.0 z.1 w.1 (z.2 ∙ (same ∙ sym w.2));
+    distinct = λ c d s t h k same. let z = from c s h in let w = from d t k in A.distinct c d z.0 w.0 z.1 w.1
+        (z.2 ∙ (same ∙ sym w.2));
     snapshots = λ c s h k.
         let z = from c s h in
         let was = A.snapshots c z.0 z.1 k in
@@ -72,7 +75,11 @@ module _ (catalog : Catalog) (i : SiteId) (sess : ℕ → Option Session) (commi
   sound_new client new sess2 numbers2 rise is site given_ fresh sees written =
       let cases : (c : ℕ) (s : Session) → sess2 c ≡ Some s → ((client ≡ c) × (new ≡ s)) ⊎ (sess c ≡ Some s) = λ c s h.
       elim (nat_eq client c) as (λ b. nat_eq client c ≡ b → ((client ≡ c) × (new ≡ s)) ⊎ (sess c ≡ Some s)) [
-        | true ↦ λ e. inl (eqb-true client c e, same_Some new s (sym (is c ∙ ap (λ b. if b then Some new else sess c) e) ∙ h))
+        | true ↦ λ e. inl (
+          eqb-true client c e,
+          same_Some new s
+              (sym (is c ∙ ap (λ b. if b then Some new else sess c) e) ∙ h),
+        )
         | false ↦ λ e. inr (sym (is c ∙ ap (λ b. if b then Some new else sess c) e) ∙ h)
       ] refl in
       record {
@@ -105,14 +112,16 @@ pub vector_within : (catalog : Catalog) (K : Knowledge) (k : SiteId) → entry_a
 vector_within catalog K k =
     let numbers : List ℕ = range_with_len 0 catalog.sites in
     let same : vector_of catalog K ≡ map (λ n. K.committed (site_at n)) numbers = map-map K.committed site_at numbers in
-    let many : length (map (λ n. K.committed (site_at n)) numbers) ≡ catalog.sites = length-map numbers (λ n. K.committed (site_at n)) ∙ length-range_with_len 0 catalog.sites in
+    let many : length (map (λ n. K.committed (site_at n)) numbers) ≡ catalog.sites = length-map numbers
+    (λ n. K.committed (site_at n)) ∙ length-range_with_len 0 catalog.sites in
     elim (cases_lt k.0 catalog.sites) [
       | inl within ↦
           let e : slice_index (map (λ n. K.committed (site_at n)) numbers) k.0 ≡ K.committed k = get_or-map-range_with_len (λ n. K.committed (site_at n)) 0 catalog.sites k.0 k.0 0 within (omega arith) in
           let f : entry_at (vector_of catalog K) k ≡ K.committed k = ap (λ v. entry_at v k) same ∙ e in
           omega (arith, f)
       | inr past ↦
-          let e : slice_index (map (λ n. K.committed (site_at n)) numbers) k.0 ≡ 0 = get_or_past (map (λ n. K.committed (site_at n)) numbers) k.0 0 (omega (arith, past, many)) in
+          let e : slice_index (map (λ n. K.committed (site_at n)) numbers) k.0 ≡ 0 = get_or_past
+          (map (λ n. K.committed (site_at n)) numbers) k.0 0 (omega (arith, past, many)) in
           let f : entry_at (vector_of catalog K) k ≡ 0 = ap (λ v. entry_at v k) same ∙ e in
           omega (arith, f)
     ]

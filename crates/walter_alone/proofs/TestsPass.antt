@@ -53,7 +53,8 @@ peer_passes catalog i j below apart = elim (cases_Bool (same_site j i)) [
 -- of each site so many are counted as the snapshot sees
 pub covers_pass : (counts : SiteId → ℕ) (snapshot : List ℕ) → Covers counts snapshot → covers counts snapshot ≡ true
 covers_pass counts snapshot all =
-    all_pass (λ k. nat_le (slice_index snapshot k) (counts (site_at k))) (range_with_len 0 (length snapshot)) (λ k within. le-leb (slice_index snapshot k) (counts (site_at k)) (all (site_at k)))
+    all_pass (λ k. nat_le (slice_index snapshot k) (counts (site_at k))) (range_with_len 0 (length snapshot))
+    (λ k within. le-leb (slice_index snapshot k) (counts (site_at k)) (all (site_at k)))
 
 -- a number from 1 to a last one
 pub in_from_to : (n last : ℕ) → 1 ≤ n → n ≤ last → Contains (from_to 1 last) n

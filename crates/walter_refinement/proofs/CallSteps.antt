@@ -88,7 +88,7 @@ module _ (catalog : Catalog) (i : SiteId) (W : Stands) (put : Put) (h : List Ste
       (λ e. was.0 (omega (arith, e)), was.1)
 
   -- a site whose reply closes a session goes on
-  goes_closed : (reply : Reply) → (replied_so reply).knows.sessions ≡ without client (W i).knows.sessions → (replied_so reply).flight ≡ (W i).flight
+  pub goes_closed : (reply : Reply) → (replied_so reply).knows.sessions ≡ without client (W i).knows.sessions → (replied_so reply).flight ≡ (W i).flight
       → ((x : Tid) → IsIssued (issued_of (W i)) x → IsIssued (issued_of (replied_so reply)) x) → IsQuiet (W i) (replied_so reply)
   goes_closed reply closed same issued =
       quiet_by (W i) (replied_so reply) issued (final_then catalog i (W i) (Given (Call client call)) (Replied reply) kept None None sends dropped tt)

@@ -15,3 +15,11 @@ pub mod Others
 pub mod CallSteps
 pub mod OwnSteps
 pub mod Flights
+pub mod Causes
+pub mod Names
+pub mod KindSteps
+pub mod RunSteps
+pub mod RunSpells
+pub mod Once
+pub mod NamedAborts
+pub mod Trails

@@ -1,0 +1,226 @@
+-- What each right entry of a site that is up promises.
+use Rattle.std.proofs.Common.{◌≡◌, ◌+◌, ◌<◌, ℕ, true, ◌&&◌, List, [], ◌∷◌, Some, None, IfSome, Ok, refl, ap, sym, ◌∙◌, subst}
+use Rattle.std.specs.Prelude.{Option}
+use Rattle.std.proofs.lemmas.Option.{same_Some}
+use Rattle.walter_base.specs.declared.catalog.Catalog.{Catalog}
+use Rattle.walter_base.specs.declared.message.Record.{Record}
+use Rattle.walter_base.specs.declared.message.Record.TheVariants.{Own, Got, Seen, Prepared}
+use Rattle.walter_base.specs.declared.message.Request.TheVariants.{Commit}
+use Rattle.walter_base.specs.declared.names.ObjId.{ObjId}
+use Rattle.walter_base.specs.declared.names.SiteId.{SiteId}
+use Rattle.walter_base.specs.declared.names.Tid.{Tid}
+use Rattle.walter_base.specs.declared.packet.Answer.TheVariants.{Yes}
+use Rattle.walter_base.specs.declared.packet.Packet.{Packet}
+use Rattle.walter_base.specs.declared.packet.Packet.TheVariants.{Propagate, Ack, Visible, Prepare, Vote}
+use Rattle.walter_base.specs.declared.transaction.Tx.{Tx}
+use Rattle.walter_base.specs.declared.update.Update.{Update}
+use Rattle.walter_base.specs.Names.{same_site}
+use Rattle.walter_base.specs.Values.{write_set}
+use Rattle.walter_base.proofs.NameTests.{same_site_refl}
+use Rattle.walter_rules.specs.declared.entry.Came.{Came}
+use Rattle.walter_rules.specs.declared.entry.Entry.{Entry}
+use Rattle.walter_rules.specs.declared.event.Event.{Event}
+use Rattle.walter_rules.specs.declared.event.Event.TheVariants.{Given, Restart}
+use Rattle.walter_rules.specs.declared.event.Input.{Input}
+use Rattle.walter_rules.specs.declared.event.Input.TheVariants.{Call, Deliver, Advance}
+use Rattle.walter_rules.specs.declared.outcome.Outcome.TheVariants.{Failed, Full, Memory}
+use Rattle.walter_rules.specs.Calls.{Expected, next_seq, if_local, decides, commits_open, commits_by, commits_for, commits_fast, call_rule, if_told}
+use Rattle.walter_rules.specs.Deliveries.{passes, takes, back, is_peer, is_enabled, advances, if_accepted, prepares, prepares_by, if_lockable, if_peer, packet_rule}
+use Rattle.walter_rules.specs.Knowledge.{preferred, session_of}
+use Rattle.walter_rules.specs.Objects.{objects_of, are_local}
+use Rattle.walter_rules.specs.Rule.{rule_where, rule}
+use Rattle.walter_rules.specs.Sending.{Send}
+use Rattle.walter_rules.specs.Sessions.{Session, tx_of}
+use Rattle.walter_rules.specs.Slow.{Part, Free, Locked, Over}
+use Rattle.walter_rules.specs.Standing.{Standing, settled}
+use Rattle.walter_rules.specs.Trails.{standing, need_of, left_behind, FitsIn, IsPutOut, failure, want, fullness, IsFound, Comes, ruled, met_fault, unread, no_memory, full, IsRightEntry}
+use Rattle.walter_rules.proofs.WrittenObjects.{rising_from}
+use Rattle.walter_alone.specs.Promises.{IsFree, committed, unsure, full as is_refused, no_memory as wants_memory, IsAnswered, IsWritten, is_stable, is_flying, is_full, is_lost, IsAtPeer, IsNext, IsReceived, IsDue, IsSeen, IsAsked, IsSaid, is_said, is_unsaid, IsLocked, is_locked, is_held}
+use Rattle.walter_alone.proofs.TestsPass.{all_pass}
+
+-- what a restart finds in the journal changes nothing where something is given
+settled_given : (catalog : Catalog) (i : SiteId) (S : Standing) (event : Event) (kept : Option Record) (input : Input)
+    → IfSome kept (IsFound S event) → event ≡ Given input
+    → settled catalog i kept S ≡ S
+settled_given catalog i S event None input found is = refl
+settled_given catalog i S event (Some rec) input found is = absurd
+    (let restart = found.restart in let e : Given input ≡ Restart = sym is ∙ restart in cc)
+
+-- so an entry at which something is given comes of how the site stood
+given_comes : (catalog : Catalog) (capacity : ℕ) (i : SiteId) (older : List Entry) (e : Entry) (input : Input)
+    → IsRightEntry catalog capacity i older e → e.event ≡ Given input
+    → Comes catalog capacity i (standing catalog i older) (Given input) e.came
+given_comes catalog capacity i older e input right is =
+    let S : Standing = standing catalog i older in
+    subst (λ (v : Event). Comes catalog capacity i S v e.came) is
+    (subst (λ (T : Standing). Comes catalog capacity i T e.event e.came)
+    (settled_given catalog i S e.event e.came.kept input right.kept is) right.comes)
+
+module _ (catalog : Catalog) (capacity : ℕ) (i : SiteId) (S : Standing) (came : Came) where
+  -- what a peer sends, or what is due of it
+  abbrev pub IsOfPeers : Input → Type 0
+  IsOfPeers (Deliver j number packet) = Unit {0}
+  IsOfPeers (Advance j) = Unit {0}
+  IsOfPeers input = ⊥
+
+  fails : (input : Input) (rec : Record) → IsOfPeers input → failure (Given input) rec ≡ Failed
+  fails (Deliver j number packet) rec of = refl
+  fails (Advance j) rec of = refl
+  fails input rec of = absurd of
+
+  wants : (input : Input) → IsOfPeers input → want (Given input) ≡ Memory
+  wants (Deliver j number packet) of = refl
+  wants (Advance j) of = refl
+  wants input of = absurd of
+
+  fills : (input : Input) (need left : ℕ) → IsOfPeers input → fullness (Given input) need left ≡ Full need left
+  fills (Deliver j number packet) need left of = refl
+  fills (Advance j) need left of = refl
+  fills input need left of = absurd of
+
+  -- where the rule has a record written
+  written : (input : Input) (rec : Record) (sends : List Send) → IsOfPeers input
+      → rule catalog i S (Given input) ≡ takes (Some rec) sends
+      → Comes catalog capacity i S (Given input) came → IsWritten capacity S rec sends came
+  written input rec sends of is (ruled fits as_ruled) =
+      is_stable (subst (λ (x : Expected). IfSome x.wrote (FitsIn capacity S)) is fits)
+      (as_ruled.wrote ∙ ap (λ (x : Expected). x.wrote) is)
+      (as_ruled.outcome ∙ ap (λ (x : Expected). x.outcome) is)
+      (subst (λ (x : Expected). IsPutOut S.carried x.sends came.sends came.dropped) is as_ruled.sends)
+  written input rec sends of is (met_fault r wrote fits only) =
+      let same : r ≡ rec = same_Some r rec (sym wrote ∙ ap (λ (x : Expected). x.wrote) is) in
+      is_flying (subst (FitsIn capacity S) same fits) (only.flight_is ∙ ap (λ (z : Record). Some z) same)
+      (only.outcome_is ∙ fails input r of)
+  written input rec sends of is (unread restart down only) = absurd (let e = restart in cc)
+  written input rec sends of is (no_memory takes_ only) = is_lost (only.outcome_is ∙ wants input of)
+  written input rec sends of is (full r wrote low only) =
+      let same : r ≡ rec = same_Some r rec (sym wrote ∙ ap (λ (x : Expected). x.wrote) is) in
+      is_full (subst (λ z. left_behind capacity S.records < need_of z) same low)
+      (only.outcome_is ∙ fills input (need_of r) (left_behind capacity S.records) of
+      ∙ ap (λ z. Full (need_of z) (left_behind capacity S.records)) same)
+
+  -- where it has none
+  said : (input : Input) (sends : List Send) → IsOfPeers input → rule catalog i S (Given input) ≡ passes sends
+      → Comes catalog capacity i S (Given input) came → IsSaid S sends came
+  said input sends of is (ruled fits as_ruled) =
+      is_said (as_ruled.outcome ∙ ap (λ (x : Expected). x.outcome) is)
+      (subst (λ (x : Expected). IsPutOut S.carried x.sends came.sends came.dropped) is as_ruled.sends)
+  said input sends of is (met_fault r wrote fits only) = absurd
+      (let e = sym wrote ∙ ap (λ (x : Expected). x.wrote) is in cc)
+  said input sends of is (unread restart down only) = absurd (let e = restart in cc)
+  said input sends of is (no_memory takes_ only) = is_unsaid (only.outcome_is ∙ wants input of)
+  said input sends of is (full r wrote low only) = absurd (let e = sym wrote ∙ ap (λ (x : Expected). x.wrote) is in cc)
+
+  -- the rule of a packet of a peer
+  peer_rule : (j : SiteId) (number : ℕ) (packet : Packet) → IsAtPeer catalog i S j
+      → rule catalog i S (Given (Deliver j number packet)) ≡ packet_rule catalog i S.knows j packet
+  peer_rule j number packet at =
+      ap (λ b. rule_where b catalog i S (Deliver j number packet)) at.up
+      ∙ ap (λ b. if_peer b (packet_rule catalog i S.knows j packet)) at.peer
+
+-- a commit of a peer that is accepted
+pub entry_received : (catalog : Catalog) (capacity : ℕ) (i : SiteId) (older : List Entry) (e : Entry) (j : SiteId)
+    (seq : ℕ) (tx : Tx) → IsRightEntry catalog capacity i older e
+    → IsNext catalog i (standing catalog i older) e.event j seq tx
+    → IsReceived capacity (standing catalog i older) j seq tx e.came
+entry_received catalog capacity i older e j seq tx right next =
+    let S : Standing = standing catalog i older in
+    written catalog capacity i S e.came (Deliver j next.number (Propagate seq tx)) (Got j seq tx) (back j (Ack seq)) tt
+    (peer_rule catalog capacity i S e.came j next.number (Propagate seq tx) next.at
+    ∙ ap (λ b. if_accepted b S.knows j seq tx) next.accepted)
+    (given_comes catalog capacity i older e (Deliver j next.number (Propagate seq tx)) right next.came)
+
+-- a commit of a peer that is due
+pub entry_seen : (catalog : Catalog) (capacity : ℕ) (i : SiteId) (older : List Entry) (e : Entry) (j : SiteId)
+    → IsRightEntry catalog capacity i older e
+    → IsDue catalog i (standing catalog i older) e.event j → IsSeen capacity (standing catalog i older) j e.came
+entry_seen catalog capacity i older e j right due =
+    let S : Standing = standing catalog i older in
+    let due_here : (is_peer catalog i j && is_enabled S.knows j) ≡ true = rw (due.at.peer, due.enabled) refl in
+    written catalog capacity i S e.came (Advance j) (Seen j (S.knows.committed j + 1))
+    (back j (Visible (S.knows.committed j + 1))) tt
+    (ap (λ b. rule_where b catalog i S (Advance j)) due.at.up ∙ ap (advances S.knows j) due_here)
+    (given_comes catalog capacity i older e (Advance j) right due.came)
+
+-- a PREPARE of objects that can be locked
+module _ (catalog : Catalog) (capacity : ℕ) (i : SiteId) (S : Standing) (event : Event) (came : Came) (j : SiteId)
+    (n : ℕ) (tid : Tid) (objects : List ObjId)
+    (asked : IsAsked catalog i S event j n tid objects) where
+  abbrev pub prepare : Input
+  prepare = Deliver j asked.number (Prepare n tid asked.start objects)
+
+  prepare_rule : rule catalog i S (Given prepare) ≡ prepares_by S.knows j n tid asked.start objects (S.knows.part j n)
+  prepare_rule = peer_rule catalog capacity i S came j asked.number (Prepare n tid asked.start objects) asked.at
+      ∙ ap (λ b. if_lockable b S.knows j n tid asked.start objects) asked.lockable
+
+  prepared_by : Comes catalog capacity i S (Given prepare) came → (part : Part) → S.knows.part j n ≡ part
+      → IsLocked capacity S j n tid objects came
+  prepared_by comes Free is =
+      is_locked is
+      (written catalog capacity i S came prepare (Prepared j n tid objects) (back j (Vote n Yes)) tt
+      (prepare_rule ∙ (ap (prepares_by S.knows j n tid asked.start objects) is ∙ ap (prepares j n tid objects) (asked.clear is))) comes)
+  prepared_by comes (Locked owner held) is =
+      is_held owner held is (said catalog capacity i S came prepare (back j (Vote n Yes)) tt
+      (prepare_rule ∙ ap (prepares_by S.knows j n tid asked.start objects) is) comes)
+  prepared_by comes Over is = absurd (asked.alive is)
+
+pub entry_locked : (catalog : Catalog) (capacity : ℕ) (i : SiteId) (older : List Entry) (e : Entry) (j : SiteId) (n : ℕ)
+    (tid : Tid) (objects : List ObjId)
+    → IsRightEntry catalog capacity i older e → IsAsked catalog i (standing catalog i older) e.event j n tid objects
+    → IsLocked capacity (standing catalog i older) j n tid objects e.came
+entry_locked catalog capacity i older e j n tid objects right asked =
+    let S : Standing = standing catalog i older in
+    prepared_by catalog capacity i S e.event e.came j n tid objects asked
+    (given_comes catalog capacity i older e (Deliver j asked.number (Prepare n tid asked.start objects)) right asked.came) (S.knows.part j n) refl
+
+-- a commit that meets no conflict, and whose objects are all preferred here
+module _ (catalog : Catalog) (capacity : ℕ) (i : SiteId) (S : Standing) (event : Event) (s : Session)
+    (free : IsFree catalog i S event s) where
+  local_passes : are_local catalog S.knows i s.updates ≡ true
+  local_passes = all_pass (λ oid. same_site (preferred catalog S.knows oid) i) (objects_of s.updates)
+      (λ oid within. ap (λ (z : SiteId). same_site z i) (free.local oid (rising_from (write_set s.updates) oid within))
+      ∙ same_site_refl i)
+
+  commits_whole : (updates : List Update) → s.updates ≡ updates
+      → commits_open catalog i S.knows s updates ≡ commits_fast catalog i S.knows s
+  commits_whole [] none = absurd (free.some none)
+  commits_whole (u ∷ us) are = ap (decides catalog i S.knows s) free.clear
+      ∙ ap (λ b. if_local b catalog i S.knows s) local_passes
+
+  rule_commits : rule catalog i S (Given (Call free.client (Ok Commit))) ≡ commits_fast catalog i S.knows s
+  rule_commits =
+      let client : ℕ = free.client in
+      ap (λ b. rule_where b catalog i S (Call client (Ok Commit))) free.is_open.up
+      ∙ (ap (λ gone. if_told (Ok Commit) gone (call_rule catalog i S.knows (Ok Commit) (session_of S.knows client))) free.owed
+      ∙ (ap (commits_for catalog i S.knows) free.is_open.session
+      ∙ (ap (commits_by catalog i S.knows s) free.is_open.is_open ∙ commits_whole s.updates refl)))
+
+  abbrev pub due : Record
+  due = Own (next_seq i S.knows) (tx_of s)
+
+  is_due : (rec : Record) → (rule catalog i S (Given (Call free.client (Ok Commit)))).wrote ≡ Some rec → due ≡ rec
+  is_due rec is = same_Some due rec (sym (ap (λ (x : Expected). x.wrote) rule_commits) ∙ is)
+
+  comes_answered : (came : Came) → Comes catalog capacity i S (Given (Call free.client (Ok Commit))) came
+      → IsAnswered capacity i S s came.outcome
+  comes_answered came (ruled fits as_ruled) =
+      committed (subst (λ (x : Expected). IfSome x.wrote (FitsIn capacity S)) rule_commits fits)
+      (as_ruled.outcome ∙ ap (λ (x : Expected). x.outcome) rule_commits)
+  comes_answered came (met_fault rec wrote fits only) =
+      let same = is_due rec wrote in
+      unsure (subst (FitsIn capacity S) (sym same) fits)
+      (only.outcome_is ∙ ap (failure (Given (Call free.client (Ok Commit)))) (sym same))
+  comes_answered came (unread restart down only) = absurd (let e = restart in cc)
+  comes_answered came (no_memory takes_ only) = wants_memory only.outcome_is
+  comes_answered came (full rec wrote low only) =
+      let same = is_due rec wrote in
+      is_refused (subst (λ r. left_behind capacity S.records < need_of r) (sym same) low)
+      (only.outcome_is ∙ ap (λ r. fullness (Given (Call free.client (Ok Commit))) (need_of r) (left_behind capacity S.records)) (sym same))
+
+pub entry_answered : (catalog : Catalog) (capacity : ℕ) (i : SiteId) (older : List Entry) (e : Entry) (s : Session)
+    → IsRightEntry catalog capacity i older e
+    → IsFree catalog i (standing catalog i older) e.event s
+    → IsAnswered capacity i (standing catalog i older) s e.came.outcome
+entry_answered catalog capacity i older e s right free =
+    comes_answered catalog capacity i (standing catalog i older) e.event s free e.came
+    (given_comes catalog capacity i older e (Call free.client (Ok Commit)) right free.asked)
