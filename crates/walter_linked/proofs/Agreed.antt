@@ -59,13 +59,15 @@ at_site i S W k = if same_site k i then S else W k
 abbrev pub IsOver : Stands → Tx → Conflict → Type 0
 IsOver W x (Modified oid version) =
     Contains (write_set x.updates) oid
-    × ((r : Held) × (slice_get (owns W version.site) (version.seq - 1) ≡ Some r) × (1 ≤ version.seq) × Contains (write_set r.tx.updates) oid × (sees x.start r ≡ false))
+    × ((r : Held) × (slice_get (owns W version.site) (version.seq - 1) ≡ Some r) × (1 ≤ version.seq)
+    × Contains (write_set r.tx.updates) oid × (sees x.start r ≡ false))
 IsOver W x (LockedThere oid owner) = Contains (write_set x.updates) oid × (owner ≢ x.tid)
 IsOver W x Dead = Unit {0}
 
 -- what a packet from j to i says is so
 abbrev pub IsSo : Catalog → Stands → SiteId → SiteId → Packet → Type 0
-IsSo catalog W j i (Propagate seq x) = (1 ≤ seq) × (slice_get (owns W j) (seq - 1) ≡ Some (record { seq = seq; tx = x }))
+IsSo catalog W j i (Propagate seq x) = (1 ≤ seq) ×
+    (slice_get (owns W j) (seq - 1) ≡ Some (record { seq = seq; tx = x }))
 IsSo catalog W j i (Ack got) = got ≤ received W j i
 IsSo catalog W j i (Dsmark durable) = Unit {0}
 IsSo catalog W j i (Visible committed) = committed ≤ counts W j i
@@ -82,7 +84,8 @@ pub record IsHeardRight (W : Stands) (put : Put) (i : SiteId) : Type 0 where
   pub acknowledged : (k : SiteId) → k ≢ i → (W i).knows.acknowledged k ≤ received W k i
   pub visible : (k : SiteId) → k ≢ i → (W i).knows.visible k ≤ counts W k i
   pub said_yes : (n : ℕ) (p : SiteId) → Contains ((W i).knows.said_yes n) p → (p ≢ i) × put p i (Vote n Yes)
-  pub said_no : (n : ℕ) (conflict : Conflict) → (W i).knows.said_no n ≡ Some conflict → (p : SiteId) × (p ≢ i) × (conflict ≢ Dead) × put p i (Vote n (No conflict))
+  pub said_no : (n : ℕ) (conflict : Conflict) → (W i).knows.said_no n ≡ Some conflict
+      → (p : SiteId) × (p ≢ i) × (conflict ≢ Dead) × put p i (Vote n (No conflict))
 
 -- an own commit that may come: the next one; a fast one writes only what is preferred here, and nothing that it writes was
 -- changed behind its snapshot or is locked; a slow one is being decided, and each other site at which something is preferred
@@ -91,10 +94,13 @@ pub record IsDueOwn (catalog : Catalog) (W : Stands) (i : SiteId) (seq : ℕ) (x
   pub next : seq ≡ counts W i i + 1
   pub site : x.tid.site ≡ i
   pub some : x.updates ≢ []
-  pub decided : ((x.slow ≡ 0) × AreLocal (home catalog) i x.updates × IsUnmodified (home catalog) i x.start (write_set x.updates) (logs W i)
-      × IsUnlocked (home catalog) i (parts W i) (write_set x.updates) × ((k : SiteId) → entry_at x.start k ≤ counts W i k))
+  pub decided : ((x.slow ≡ 0) × AreLocal (home catalog) i x.updates × IsUnmodified (home catalog) i x.start
+      (write_set x.updates) (logs W i)
+      × IsUnlocked (home catalog) i (parts W i) (write_set x.updates) ×
+      ((k : SiteId) → entry_at x.start k ≤ counts W i k))
       ⊎ ((x.slow ≢ 0) × ((asked : List SiteId) × (slows W i x.slow ≡ Undecided x asked))
-      × ((oid : ObjId) → Contains (write_set x.updates) oid → home catalog oid ≢ i → parts W (home catalog oid) i x.slow ≢ Free)
+      × ((oid : ObjId) → Contains (write_set x.updates) oid → home catalog oid ≢ i → parts W
+      (home catalog oid) i x.slow ≢ Free)
       × ((k : SiteId) → entry_at x.start k ≤ counts W i k))
 
 pub record IsDueGot (W : Stands) (put : Put) (i j : SiteId) (seq : ℕ) (x : Tx) : Type 0 where
@@ -111,7 +117,8 @@ pub record IsDueSeen (W : Stands) (i j : SiteId) (seq : ℕ) : Type 0 where
   pub held : commit_at j seq (logs W i) ≡ Some tx
   pub covered : (k : SiteId) → entry_at tx.start k ≤ counts W i k
 
-pub record IsDuePrepared (catalog : Catalog) (W : Stands) (put : Put) (i j : SiteId) (n : ℕ) (tid : Tid) (objects : List ObjId) : Type 0 where
+pub record IsDuePrepared (catalog : Catalog) (W : Stands) (put : Put) (i j : SiteId) (n : ℕ) (tid : Tid)
+    (objects : List ObjId) : Type 0 where
   pub apart : j ≢ i
   pub start : List ℕ
   pub said : put j i (Prepare n tid start objects)

@@ -46,55 +46,70 @@ mapped : {X Y : Type 0} (f : X → Y) (xs : List X) (x : X) → Contains xs x �
 mapped f xs x within = let p = place_of xs x within in contains_at (map f xs) (f x) p.0 (place_mapped f xs x p.0 p.1)
 
 -- an object without a conflict has neither a version outside nor an owner
-over_none : (oid : ObjId) (version : Option Version) (owner : Option Tid) → conflict_over oid version owner ≡ None → (version ≡ None) × (owner ≡ None)
+over_none : (oid : ObjId) (version : Option Version) (owner : Option Tid) → conflict_over oid version owner ≡ None
+    → (version ≡ None) × (owner ≡ None)
 over_none oid (Some version) owner none = absurd cc
 over_none oid None (Some owner) none = absurd cc
 over_none oid None None none = (refl, refl)
 
 module _ (K : Knowledge) (snapshot : List ℕ) (oid : ObjId) (clear : conflict_at K snapshot oid ≡ None) where
-  pub clear_sees : (r : Held) (p : ℕ) → slice_get K.log p ≡ Some r → Contains (write_set r.tx.updates) oid → does_see snapshot r ≡ true
+  pub clear_sees : (r : Held) (p : ℕ) → slice_get K.log p ≡ Some r → Contains (write_set r.tx.updates) oid
+      → does_see snapshot r ≡ true
   clear_sees r p here w = elim (cases_Bool (does_see snapshot r)) [
     | inl is ↦ is
     | inr isnt ↦
         let versions = map version_of (row oid K.log) in
         let none = (over_none oid (first_outside snapshot versions) (K.owner oid) clear).0 in
-        let in_row : Contains (row oid K.log) r = is_kept (wrote oid) K.log r (contains_at K.log r p here) (object_is_in oid (write_set r.tx.updates) w) in
+        let in_row : Contains (row oid K.log) r = is_kept (wrote oid) K.log r (contains_at K.log r p here)
+        (object_is_in oid (write_set r.tx.updates) w) in
         absurd (none_first (filter (λ version. not (sees_version snapshot version)) versions) (version_of r) none
-        (is_kept (λ version. not (sees_version snapshot version)) versions (version_of r) (mapped version_of (row oid K.log) r in_row) (ap not isnt)))
+        (is_kept (λ version. not (sees_version snapshot version)) versions (version_of r)
+        (mapped version_of (row oid K.log) r in_row) (ap not isnt)))
   ]
 
   pub clear_unowned : K.owner oid ≡ None
   clear_unowned = (over_none oid (first_outside snapshot (map version_of (row oid K.log))) (K.owner oid) clear).1
 
-module _ (catalog : Catalog) (homes : (oid : ObjId) → (home catalog oid).0 < catalog.sites) (W : Stands) (put : Put) (A : AreAgreed catalog W put) (i : SiteId) (alone : IsAlone catalog i (W i)) where
+module _ (catalog : Catalog) (homes : (oid : ObjId) → (home catalog oid).0 < catalog.sites) (W : Stands) (put : Put)
+    (A : AreAgreed catalog W put) (i : SiteId) (alone : IsAlone catalog i (W i)) where
   -- where no object of some meets a conflict, none is modified or locked
-  unmodified_by : (snapshot : List ℕ) (objects : List ObjId) → ((oid : ObjId) → Contains objects oid → home catalog oid ≡ i → conflict_at (W i).knows snapshot oid ≡ None)
+  unmodified_by : (snapshot : List ℕ) (objects : List ObjId)
+      → ((oid : ObjId) → Contains objects oid → home catalog oid ≡ i → conflict_at (W i).knows snapshot oid ≡ None)
       → IsUnmodified (home catalog) i snapshot objects (logs W i)
-  unmodified_by snapshot objects clear r p oid here w c pr = clear_sees (W i).knows snapshot oid (clear oid c pr) r p here w
+  unmodified_by snapshot objects clear r p oid here w c pr = clear_sees (W i).knows snapshot oid
+      (clear oid c pr) r p here w
 
-  unlocked_by : (snapshot : List ℕ) (objects : List ObjId) → ((oid : ObjId) → Contains objects oid → home catalog oid ≡ i → conflict_at (W i).knows snapshot oid ≡ None)
+  unlocked_by : (snapshot : List ℕ) (objects : List ObjId)
+      → ((oid : ObjId) → Contains objects oid → home catalog oid ≡ i → conflict_at (W i).knows snapshot oid ≡ None)
       → IsUnlocked (home catalog) i (parts W i) objects
-  unlocked_by snapshot objects clear = unowned_unlocked (W i).knows.part (W i).knows.owner alone.owners (home catalog) i objects (λ oid c pr. clear_unowned (W i).knows snapshot oid (clear oid c pr))
+  unlocked_by snapshot objects clear = unowned_unlocked (W i).knows.part (W i).knows.owner alone.owners
+      (home catalog) i objects (λ oid c pr. clear_unowned (W i).knows snapshot oid (clear oid c pr))
 
   -- the snapshot of a slow commit that is being decided is covered
-  slow_covered : (W i).up ≡ true → (n : ℕ) (tx : Tx) (asked : List SiteId) → slows W i n ≡ Undecided tx asked → (k : SiteId) → entry_at tx.start k ≤ counts W i k
+  slow_covered : (W i).up ≡ true → (n : ℕ) (tx : Tx) (asked : List SiteId) → slows W i n ≡ Undecided tx asked
+      → (k : SiteId) → entry_at tx.start k ≤ counts W i k
   slow_covered up n tx asked undecided k =
       let named = alone.tidy.named n tx (ap begun undecided) in
       let waiting = alone.tidy.waits up n tx asked undecided in
       let s = waiting.1 in
-      let own : begun (slows W i s.slow) ≡ Some (tx_of s) = alone.tidy.mine waiting.0 s waiting.2 (λ e. named.1 (sym waiting.3 ∙ e)) in
-      let same : tx_of s ≡ tx = same_Some (tx_of s) tx (sym own ∙ ap (λ m. begun (slows W i m)) waiting.3 ∙ ap begun undecided) in
+      let own : begun (slows W i s.slow) ≡ Some (tx_of s) = alone.tidy.mine waiting.0 s waiting.2
+      (λ e. named.1 (sym waiting.3 ∙ e)) in
+      let same : tx_of s ≡ tx = same_Some (tx_of s) tx (sym own ∙ ap (λ m. begun (slows W i m)) waiting.3
+      ∙ ap begun undecided) in
       subst (λ (x : Tx). entry_at x.start k ≤ counts W i k) same (alone.snapshots waiting.0 s waiting.2 k)
 
   -- a transaction of which some site was asked has updates
-  asked_some : (n : ℕ) (tx : Tx) (asked : List SiteId) (p : SiteId) → slows W i n ≡ Undecided tx asked → Contains asked p → tx.updates ≢ []
+  asked_some : (n : ℕ) (tx : Tx) (asked : List SiteId) (p : SiteId) → slows W i n ≡ Undecided tx asked
+      → Contains asked p → tx.updates ≢ []
   asked_some n tx asked p undecided c none =
       let there = (alone.asked n tx asked (inl undecided)).there p c in
       Contains-nil there.2.0 (subst (λ u. Contains (write_set u) there.2.0) none there.2.1)
 
   -- where each site that was asked has said YES, each other site has something of what it writes there
-  all_have : (n : ℕ) (tx : Tx) (asked : List SiteId) (p : SiteId) → slows W i n ≡ Undecided tx asked → p ≢ i → put p i (Vote n Yes)
-      → HaveSaidYes asked (p ∷ (W i).knows.said_yes n) → (oid : ObjId) → Contains (write_set tx.updates) oid → home catalog oid ≢ i → parts W (home catalog oid) i n ≢ Free
+  all_have : (n : ℕ) (tx : Tx) (asked : List SiteId) (p : SiteId) → slows W i n ≡ Undecided tx asked → p ≢ i
+      → put p i (Vote n Yes)
+      → HaveSaidYes asked (p ∷ (W i).knows.said_yes n) → (oid : ObjId) → Contains (write_set tx.updates) oid
+      → home catalog oid ≢ i → parts W (home catalog oid) i n ≢ Free
   all_have n tx asked p undecided apart voted all oid w away =
       let k = home catalog oid in
       let is_asked = (alone.asked n tx asked (inl undecided)).all oid w away (homes oid) in
@@ -105,7 +120,8 @@ module _ (catalog : Catalog) (homes : (oid : ObjId) → (home catalog oid).0 < c
       (A.said k i (Vote n Yes) away said).1
 
   -- by the kinds, where what is delivered was put out
-  pub due_of : (event : Event) (record_ : Option Record) (outcome : Outcome) → IsKind catalog i (W i) event record_ outcome
+  pub due_of : (event : Event) (record_ : Option Record) (outcome : Outcome)
+      → IsKind catalog i (W i) event record_ outcome
       → ((j : SiteId) (number : ℕ) (packet : Packet) → event ≡ Given (Deliver j number packet) → put j i packet)
       → IfSome record_ (IsDue catalog W put i)
   due_of event record_ outcome (is_refused client call refusal) puts = tt
@@ -119,7 +135,14 @@ module _ (catalog : Catalog) (homes : (oid : ObjId) → (home catalog oid).0 < c
     next = refl;
     site = (alone.started client s has.session).0;
     some = some;
-    decided = inl (has.is_open, local, unmodified_by s.snapshot (write_set s.updates) clear, unlocked_by s.snapshot (write_set s.updates) clear, alone.snapshots client s has.session);
+    decided = inl (
+      has.is_open,
+      local,
+      unmodified_by s.snapshot (write_set s.updates) clear,
+      unlocked_by s.snapshot
+          (write_set s.updates) clear,
+      alone.snapshots client s has.session,
+    );
   }
   due_of event record_ outcome (begins client s has some clear) puts = record {
     next = refl;
@@ -164,7 +187,8 @@ module _ (catalog : Catalog) (homes : (oid : ObjId) → (home catalog oid).0 < c
         decided = inr (
           λ e. named.1 (sym named.0 ∙ e),
           (asked, ap (slows W i) named.0 ∙ undecided),
-          λ oid w away. subst (λ m. parts W (home catalog oid) i m ≢ Free) (sym named.0) (all_have n tx asked p undecided peer.apart (puts p number (Vote n Yes) refl) all oid w away),
+          λ oid w away. subst (λ m. parts W (home catalog oid) i m ≢ Free) (sym named.0)
+              (all_have n tx asked p undecided peer.apart (puts p number (Vote n Yes) refl) all oid w away),
           slow_covered peer.up n tx asked undecided,
         );
       }

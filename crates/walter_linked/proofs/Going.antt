@@ -38,11 +38,13 @@ if_some {X} P (Some y) x h e = subst P (same_Some y x e) h
 pub if_none : {X : Type 0} (P : X → Type 0) (o : Option X) → o ≡ None → IfSome o P
 if_none {X} P o e = subst (λ z. IfSome z P) (sym e) tt
 
-module _ (catalog : Catalog) (W W2 : Stands) (put put2 : Put) (A : AreAgreed catalog W put) (i : SiteId) (alone : IsAlone catalog i (W i)) (rec : Option Record)
+module _ (catalog : Catalog) (W W2 : Stands) (put put2 : Put) (A : AreAgreed catalog W put) (i : SiteId)
+    (alone : IsAlone catalog i (W i)) (rec : Option Record)
     (R : IsRecorded catalog i rec W W2) (due : IfSome rec (IsDue catalog W put i)) where
   -- a slow commit that begins is new
   is_new : (n : ℕ) (x : Tx) → rec ≡ Some (SlowBegin n x) → slows W i n ≡ Unused
-  is_new n x e = let h = if_some (IsDue catalog W put i) rec (SlowBegin n x) due e in alone.tidy.number n (let l = h.next in omega (arith, l))
+  is_new n x e = let h = if_some (IsDue catalog W put i) rec (SlowBegin n x) due e in alone.tidy.number n
+      (let l = h.next in omega (arith, l))
 
   pub grown : HasGrown W W2
   grown = has_grown catalog i rec W W2 R is_new
@@ -53,7 +55,8 @@ module _ (catalog : Catalog) (W W2 : Stands) (put put2 : Put) (A : AreAgreed cat
   -- all of it, where what is new of the site and what it puts out is right
   pub agreed_on : ((j k : SiteId) (packet : Packet) → put j k packet → put2 j k packet)
       → ((j k : SiteId) (packet : Packet) → j ≢ k → put2 j k packet → put j k packet ⊎ IsSo catalog W2 j k packet)
-      → IsHeardRight W2 put2 i → ((r : Record) → (W2 i).flight ≡ Some r → IsDue catalog W2 put2 i r) → AreAgreed catalog W2 put2
+      → IsHeardRight W2 put2 i → ((r : Record) → (W2 i).flight ≡ Some r → IsDue catalog W2 put2 i r)
+      → AreAgreed catalog W2 put2
   agreed_on puts new heard flight = record {
     numbered = core.numbered;
     counted = core.counted;
@@ -70,16 +73,24 @@ module _ (catalog : Catalog) (W W2 : Stands) (put put2 : Put) (A : AreAgreed cat
         (λ n. ap (λ (S : Standing). S.knows.said_yes n) same) (λ n. ap (λ (S : Standing). S.knows.said_no n) same));
     ready = holds_all (λ k. (r : Record) → (W2 k).flight ≡ Some r → IsDue catalog W2 put2 k r) i flight (λ k apart r e.
         let same = R.away k apart in
-        due_later catalog W W2 put put2 grown k (ap (λ (S : Standing). lost S.knows) same) puts r (A.ready k r (sym (ap (λ (S : Standing). S.flight) same) ∙ e)));
+        due_later catalog W W2 put put2 grown k (ap (λ (S : Standing). lost S.knows) same) puts r
+        (A.ready k r (sym (ap (λ (S : Standing). S.flight) same) ∙ e)));
   }
 
 -- what a restart finds
-module _ (catalog : Catalog) (W W1 : Stands) (put : Put) (A : AreAgreed catalog W put) (i : SiteId) (alone : IsAlone catalog i (W i)) (kept : Option Record)
-    (here : W1 i ≡ settled catalog i kept (W i)) (away : (k : SiteId) → k ≢ i → W1 k ≡ W k) (due : IfSome kept (IsDue catalog W put i)) where
+module _ (catalog : Catalog) (W W1 : Stands) (put : Put) (A : AreAgreed catalog W put) (i : SiteId)
+    (alone : IsAlone catalog i (W i)) (kept : Option Record)
+    (here : W1 i ≡ settled catalog i kept (W i)) (away : (k : SiteId) → k ≢ i → W1 k ≡ W k)
+    (due : IfSome kept (IsDue catalog W put i)) where
   pub settled_recorded : IsRecorded catalog i kept W W1
-  settled_recorded = record { here = ap (λ (S : Standing). lost S.knows) here ∙ lost_settled catalog i kept (W i); away = away }
+  settled_recorded = record {
+    here = ap (λ (S : Standing). lost S.knows) here ∙ lost_settled catalog i kept
+        (W i);
+    away = away;
+  }
 
-  heard_settled : (rec : Option Record) (S : Standing) → ((k : SiteId) → (settled catalog i rec S).knows.acknowledged k ≡ S.knows.acknowledged k)
+  heard_settled : (rec : Option Record) (S : Standing)
+      → ((k : SiteId) → (settled catalog i rec S).knows.acknowledged k ≡ S.knows.acknowledged k)
       × ((k : SiteId) → (settled catalog i rec S).knows.visible k ≡ S.knows.visible k)
       × ((n : ℕ) → (settled catalog i rec S).knows.said_yes n ≡ S.knows.said_yes n)
       × ((n : ℕ) → (settled catalog i rec S).knows.said_no n ≡ S.knows.said_no n)
@@ -93,20 +104,25 @@ module _ (catalog : Catalog) (W W1 : Stands) (put : Put) (A : AreAgreed catalog 
       let same = heard_settled kept (W i) in
       agreed_on catalog W W1 put put A i alone kept R due (λ j k packet p. p) (λ j k packet apart p. inl p)
       (heard_later catalog W W1 put put A G (λ j k packet p. p) i
-      (λ k. ap (λ (S : Standing). S.knows.acknowledged k) here ∙ same.0 k) (λ k. ap (λ (S : Standing). S.knows.visible k) here ∙ same.1 k)
-      (λ n. ap (λ (S : Standing). S.knows.said_yes n) here ∙ same.2 n) (λ n. ap (λ (S : Standing). S.knows.said_no n) here ∙ same.3 n))
+      (λ k. ap (λ (S : Standing). S.knows.acknowledged k) here ∙ same.0 k)
+      (λ k. ap (λ (S : Standing). S.knows.visible k) here ∙ same.1 k)
+      (λ n. ap (λ (S : Standing). S.knows.said_yes n) here ∙ same.2 n)
+      (λ n. ap (λ (S : Standing). S.knows.said_no n) here ∙ same.3 n))
       (λ r e. settled_flight kept refl r (sym (ap (λ (S : Standing). S.flight) here) ∙ e))
     where
       -- with a record that was found none is in flight, and with none nothing is new
-      settled_flight : (rec : Option Record) → kept ≡ rec → (r : Record) → (settled catalog i rec (W i)).flight ≡ Some r → IsDue catalog W1 put i r
+      settled_flight : (rec : Option Record) → kept ≡ rec → (r : Record) → (settled catalog i rec (W i)).flight ≡ Some r
+          → IsDue catalog W1 put i r
       settled_flight (Some found) is r e = absurd cc
       settled_flight None is r e =
           due_later catalog W W1 put put (grown catalog W W1 put put A i alone kept settled_recorded due) i
-          (ap (λ (S : Standing). lost S.knows) here ∙ lost_settled catalog i kept (W i) ∙ ap (λ o. recorded catalog i o (lost (W i).knows)) is)
+          (ap (λ (S : Standing). lost S.knows) here ∙ lost_settled catalog i kept (W i)
+          ∙ ap (λ o. recorded catalog i o (lost (W i).knows)) is)
           (λ j k packet p. p) r (A.ready i r e)
 
 -- the record in flight after an event is that of the event, or that before where there is no record
-pub flight_cases : (flight wrote : Option Record) (outcome : Outcome) (old : Option Record) (r : Record) → flight_after flight wrote outcome old ≡ Some r
+pub flight_cases : (flight wrote : Option Record) (outcome : Outcome) (old : Option Record) (r : Record)
+    → flight_after flight wrote outcome old ≡ Some r
     → (flight ≡ Some r) ⊎ ((wrote ≡ None) × (old ≡ Some r))
 flight_cases (Some rec) wrote outcome old r e = inl e
 flight_cases None (Some rec) outcome old r e = absurd cc
@@ -114,9 +130,11 @@ flight_cases None None (Full need left) old r e = absurd cc
 flight_cases None None outcome old r e = inr (refl, e)
 
 -- what comes of a step
-module _ (catalog : Catalog) (homes : (oid : ObjId) → (home catalog oid).0 < catalog.sites) (W : Stands) (put : Put) (A : AreAgreed catalog W put) (alone : (k : SiteId) → IsAlone catalog k (W k))
+module _ (catalog : Catalog) (homes : (oid : ObjId) → (home catalog oid).0 < catalog.sites) (W : Stands) (put : Put)
+    (A : AreAgreed catalog W put) (alone : (k : SiteId) → IsAlone catalog k (W k))
     (i : SiteId) (event : Event) (came : Came) (step : IsStep catalog i (W i) event came)
-    (delivered : (j : SiteId) (number : ℕ) (packet : Packet) → event ≡ Given (Deliver j number packet) → put j i packet) where
+    (delivered : (j : SiteId) (number : ℕ) (packet : Packet) → event ≡ Given (Deliver j number packet)
+    → put j i packet) where
   pub wrote_by : (c : Came) → IsStep catalog i (W i) event c → IfSome c.wrote (IsDue catalog W put i)
   wrote_by c (stable kind none sent) = due_of catalog homes W put A i (alone i) event c.wrote c.outcome kind delivered
   wrote_by c (flies rec outcome kind only) = if_none (IsDue catalog W put i) c.wrote only.wrote
@@ -124,21 +142,39 @@ module _ (catalog : Catalog) (homes : (oid : ObjId) → (home catalog oid).0 < c
   wrote_by c (wants takes only) = if_none (IsDue catalog W put i) c.wrote only.wrote
   wrote_by c (finds_full rec outcome need left kind only) = if_none (IsDue catalog W put i) c.wrote only.wrote
 
-  pub flight_by : (c : Came) → IsStep catalog i (W i) event c → IfSome c.flight (IsDue catalog W put i) × ((r : Record) → c.flight ≡ Some r → c.wrote ≡ None)
-  flight_by c (stable kind none sent) = (if_none (IsDue catalog W put i) c.flight none, λ r e. absurd (let f : ◌≡◌ {A = Option Record} None (Some r) = sym none ∙ e in cc))
-  flight_by c (flies rec outcome kind only) =
-      (subst (λ o. IfSome o (IsDue catalog W put i)) (sym only.flight_is) (due_of catalog homes W put A i (alone i) event (Some rec) outcome kind delivered), λ r e. only.wrote)
-  flight_by c (unread_step restart down only) = (if_none (IsDue catalog W put i) c.flight only.flight_is, λ r e. only.wrote)
+  pub flight_by : (c : Came) → IsStep catalog i (W i) event c
+      → IfSome c.flight (IsDue catalog W put i) × ((r : Record) → c.flight ≡ Some r → c.wrote ≡ None)
+  flight_by c (stable kind none sent) = (
+    if_none (IsDue catalog W put i) c.flight none,
+    λ r e. absurd
+        (let f : ◌≡◌ {A = Option Record} None (Some r) = sym none ∙ e in cc),
+  )
+  flight_by c (flies rec outcome kind only) = (
+    subst (λ o. IfSome o (IsDue catalog W put i)) (sym only.flight_is)
+        (due_of catalog homes W put A i (alone i) event (Some rec) outcome kind delivered),
+    λ r e. only.wrote,
+  )
+  flight_by c (unread_step restart down only) = (
+    if_none
+        (IsDue catalog W put i) c.flight only.flight_is,
+    λ r e. only.wrote,
+  )
   flight_by c (wants takes only) = (if_none (IsDue catalog W put i) c.flight only.flight_is, λ r e. only.wrote)
-  flight_by c (finds_full rec outcome need left kind only) = (if_none (IsDue catalog W put i) c.flight only.flight_is, λ r e. only.wrote)
+  flight_by c (finds_full rec outcome need left kind only) =
+      (if_none (IsDue catalog W put i) c.flight only.flight_is, λ r e. only.wrote)
 
-  pub sent_by : (c : Came) → IsStep catalog i (W i) event c → (to : SiteId) (packet : Packet) → Contains c.sends (to, packet)
+  pub sent_by : (c : Came) → IsStep catalog i (W i) event c → (to : SiteId) (packet : Packet)
+      → Contains c.sends (to, packet)
       → IsTrueOf catalog i (W i).knows event (after catalog i (W i).knows event c.outcome c.wrote) to packet
   sent_by c (stable kind none sent) to packet within = sent to packet within
-  sent_by c (flies rec outcome kind only) to packet within = absurd (Contains-nil (to, packet) (subst (λ z. Contains z (to, packet)) only.sends within))
-  sent_by c (unread_step restart down only) to packet within = absurd (Contains-nil (to, packet) (subst (λ z. Contains z (to, packet)) only.sends within))
-  sent_by c (wants takes only) to packet within = absurd (Contains-nil (to, packet) (subst (λ z. Contains z (to, packet)) only.sends within))
-  sent_by c (finds_full rec outcome need left kind only) to packet within = absurd (Contains-nil (to, packet) (subst (λ z. Contains z (to, packet)) only.sends within))
+  sent_by c (flies rec outcome kind only) to packet within = absurd
+      (Contains-nil (to, packet) (subst (λ z. Contains z (to, packet)) only.sends within))
+  sent_by c (unread_step restart down only) to packet within = absurd
+      (Contains-nil (to, packet) (subst (λ z. Contains z (to, packet)) only.sends within))
+  sent_by c (wants takes only) to packet within = absurd
+      (Contains-nil (to, packet) (subst (λ z. Contains z (to, packet)) only.sends within))
+  sent_by c (finds_full rec outcome need left kind only) to packet within = absurd
+      (Contains-nil (to, packet) (subst (λ z. Contains z (to, packet)) only.sends within))
 
   -- the record that is written, and the one that is in flight, may come
   pub step_wrote : (r : Record) → came.wrote ≡ Some r → IsDue catalog W put i r
@@ -147,11 +183,17 @@ module _ (catalog : Catalog) (homes : (oid : ObjId) → (home catalog oid).0 < c
   pub step_flight : (r : Record) → came.flight ≡ Some r → IsDue catalog W put i r
   step_flight r e = if_some (IsDue catalog W put i) came.flight r (flight_by came step).0 e
 
-  module _ (W2 : Stands) (here : W2 i ≡ stands_after catalog i (W i) event came) (away : (k : SiteId) → k ≢ i → W2 k ≡ W k) (put2 : Put)
+  module _ (W2 : Stands) (here : W2 i ≡ stands_after catalog i (W i) event came)
+      (away : (k : SiteId) → k ≢ i → W2 k ≡ W k) (put2 : Put)
       (puts : (j k : SiteId) (packet : Packet) → put j k packet → put2 j k packet)
-      (new : (j k : SiteId) (packet : Packet) → put2 j k packet → put j k packet ⊎ ((j ≡ i) × Contains came.sends (k, packet))) where
+      (new : (j k : SiteId) (packet : Packet) → put2 j k packet → put j k packet ⊎
+      ((j ≡ i) × Contains came.sends (k, packet))) where
     pub step_recorded : IsRecorded catalog i came.wrote W W2
-    step_recorded = record { here = ap (λ (S : Standing). lost S.knows) here ∙ lost_stands catalog i (W i) event came; away = away }
+    step_recorded = record {
+      here = ap (λ (S : Standing). lost S.knows) here ∙ lost_stands catalog i
+          (W i) event came;
+      away = away;
+    }
 
     pub step_grown : HasGrown W W2
     step_grown = grown catalog W W2 put put2 A i (alone i) came.wrote step_recorded (wrote_by came step)
@@ -165,18 +207,23 @@ module _ (catalog : Catalog) (homes : (oid : ObjId) → (home catalog oid).0 < c
         let due = wrote_by came step in
         let G = step_grown in
         let K = after catalog i (W i).knows event came.outcome came.wrote in
-        let same : lost (W2 i).knows ≡ lost K = R.here ∙ sym (lost_after catalog i (W i).knows event came.outcome came.wrote) in
+        let same : lost (W2 i).knows ≡ lost K = R.here
+        ∙ sym (lost_after catalog i (W i).knows event came.outcome came.wrote) in
         agreed_on catalog W W2 put put2 A i (alone i) came.wrote R due puts
         (λ j k packet apart p. elim (new j k packet p) [
           | inl old ↦ inl old
           | inr sent ↦ inr (
               subst (λ z. IsSo catalog W2 z k packet) (sym sent.0)
-              (so_new catalog W put A alone i W2 G (core catalog W W2 put put2 A i (alone i) came.wrote R due) event K k packet (λ e. apart (sent.0 ∙ sym e)) same delivered
+              (so_new catalog W put A alone i W2 G (core catalog W W2 put put2 A i
+              (alone i) came.wrote R due) event K k packet (λ e. apart (sent.0 ∙ sym e)) same delivered
               (sent_by came step k packet sent.1))
               )
         ])
-        (heard_right catalog W W2 put put2 A G puts i event came.outcome came.wrote (step_taken catalog i (W i) event came step) delivered (ap (λ (S : Standing). S.knows) here))
-        (λ r e. elim (flight_cases came.flight came.wrote came.outcome (W i).flight r (sym (ap (λ (S : Standing). S.flight) here) ∙ e)) [
-          | inl flying ↦ due_later catalog W W2 put put2 G i (still ((flight_by came step).1 r flying)) puts r (step_flight r flying)
+        (heard_right catalog W W2 put put2 A G puts i event came.outcome came.wrote
+        (step_taken catalog i (W i) event came step) delivered (ap (λ (S : Standing). S.knows) here))
+        (λ r e. elim (flight_cases came.flight came.wrote came.outcome (W i).flight r
+        (sym (ap (λ (S : Standing). S.flight) here) ∙ e)) [
+          | inl flying ↦ due_later catalog W W2 put put2 G i (still ((flight_by came step).1 r flying)) puts r
+              (step_flight r flying)
           | inr old ↦ due_later catalog W W2 put put2 G i (still old.0) puts r (A.ready i r old.1)
         ])

@@ -37,7 +37,8 @@ pub record IsRecorded (catalog : Catalog) (i : SiteId) (rec : Option Record) (W 
   pub away : (k : SiteId) → k ≢ i → W2 k ≡ W k
 
 -- what is the same at one site and at the others is the same at all
-pub at_all : {X : Type 0} (f g : SiteId → X) (i : SiteId) → f i ≡ g i → ((k : SiteId) → k ≢ i → f k ≡ g k) → (k : SiteId) → f k ≡ g k
+pub at_all : {X : Type 0} (f g : SiteId → X) (i : SiteId) → f i ≡ g i → ((k : SiteId) → k ≢ i → f k ≡ g k)
+    → (k : SiteId) → f k ≡ g k
 at_all {X} f g i here away k = elim (site_cases k i) [
   | inl same ↦ subst (λ z. f z ≡ g z) (sym same.1) here
   | inr apart ↦ away k apart.1
@@ -56,7 +57,8 @@ pub record HasGrown (W W2 : Stands) : Type 0 where
   pub more : (i k : SiteId) → received W i k ≤ received W2 i k
   pub done : (i k : SiteId) → counts W i k ≤ counts W2 i k
   pub begins : (j : SiteId) (n : ℕ) (x : Tx) → begun (slows W j n) ≡ Some x → begun (slows W2 j n) ≡ Some x
-  pub drops : (j : SiteId) (n : ℕ) (x : Tx) (asked : List SiteId) → slows W j n ≡ Dropped x asked → slows W2 j n ≡ Dropped x asked
+  pub drops : (j : SiteId) (n : ℕ) (x : Tx) (asked : List SiteId) → slows W j n ≡ Dropped x asked
+      → slows W2 j n ≡ Dropped x asked
   pub holds : (p j : SiteId) (n : ℕ) → j ≢ p → parts W p j n ≢ Free → parts W2 p j n ≢ Free
 
 -- by a record the log gets longer
@@ -78,7 +80,8 @@ front_of k xs ys p = record { rest = of_site k p.rest; is = ap (of_site k) p.is 
 
 -- counts rise
 one_more_grows : (j : SiteId) (f : SiteId → ℕ) (k : SiteId) → f k ≤ one_more j f k
-one_more_grows j f k = elim (same_site j k) as (λ b. f k ≤ (if b then f k + 1 else f k)) [ true ↦ omega arith | false ↦ omega arith ]
+one_more_grows j f k = elim (same_site j k) as (λ b. f k ≤
+    (if b then f k + 1 else f k)) [ true ↦ omega arith | false ↦ omega arith ]
 
 got_grows : (i : SiteId) (rec : Option Record) (got : SiteId → ℕ) (k : SiteId) → got k ≤ got_after i rec got k
 got_grows i None got k = omega arith
@@ -92,7 +95,8 @@ got_grows i (Some (SlowBegin n x)) got k = omega arith
 got_grows i (Some (SlowEnd n)) got k = omega arith
 got_grows i (Some (Marks durable visible)) got k = omega arith
 
-committed_grows : (i : SiteId) (rec : Option Record) (committed : SiteId → ℕ) (k : SiteId) → committed k ≤ committed_after i rec committed k
+committed_grows : (i : SiteId) (rec : Option Record) (committed : SiteId → ℕ) (k : SiteId)
+    → committed k ≤ committed_after i rec committed k
 committed_grows i None committed k = omega arith
 committed_grows i (Some (Boot epoch)) committed k = omega arith
 committed_grows i (Some (Own seq x)) committed k = one_more_grows i committed k
@@ -106,12 +110,14 @@ committed_grows i (Some (Marks durable visible)) committed k = omega arith
 
 -- what is kept by an end, with a commit or without one, and isn't so of what isn't begun, is kept by each record that begins
 -- a new slow commit only
-module _ (P : Slow → Type 0) (unused : ¬ P Unused) (ends : (g : Slow) → P g → P (ended g)) (decides : (g : Slow) → P g → P (decided g)) (catalog : Catalog) (i : SiteId) (K : Knowledge) where
+module _ (P : Slow → Type 0) (unused : ¬ P Unused) (ends : (g : Slow) → P g → P (ended g))
+    (decides : (g : Slow) → P g → P (decided g)) (catalog : Catalog) (i : SiteId) (K : Knowledge) where
   kept_if : (f : Slow → Slow) → ((g : Slow) → P g → P (f g)) → (b : Bool) (g : Slow) → P g → P (if b then f g else g)
   kept_if f keeps true g h = keeps g h
   kept_if f keeps false g h = h
 
-  slow_grows : (rec : Option Record) → ((n : ℕ) (x : Tx) → rec ≡ Some (SlowBegin n x) → K.slow n ≡ Unused) → (n : ℕ) → P (K.slow n) → P (slow_after catalog i K rec n)
+  slow_grows : (rec : Option Record) → ((n : ℕ) (x : Tx) → rec ≡ Some (SlowBegin n x) → K.slow n ≡ Unused) → (n : ℕ)
+      → P (K.slow n) → P (slow_after catalog i K rec n)
   slow_grows None new n h = h
   slow_grows (Some (Boot epoch)) new n h = ends (K.slow n) h
   slow_grows (Some (Own seq x)) new n h = kept_if decided decides (nat_eq x.slow n) (K.slow n) h
@@ -126,20 +132,21 @@ module _ (P : Slow → Type 0) (unused : ¬ P Unused) (ends : (g : Slow) → P g
   slow_grows (Some (SlowEnd m)) new n h = kept_if ended ends (nat_eq m n) (K.slow n) h
   slow_grows (Some (Marks durable visible)) new n h = h
 
-begun_ended : (g : Slow) → begun (ended g) ≡ begun g
+pub begun_ended : (g : Slow) → begun (ended g) ≡ begun g
 begun_ended Unused = refl
 begun_ended (Undecided x asked) = refl
 begun_ended (Dropped x asked) = refl
 begun_ended (Decided x) = refl
 
-begun_decided : (g : Slow) → begun (decided g) ≡ begun g
+pub begun_decided : (g : Slow) → begun (decided g) ≡ begun g
 begun_decided Unused = refl
 begun_decided (Undecided x asked) = refl
 begun_decided (Dropped x asked) = refl
 begun_decided (Decided x) = refl
 
 -- what a site has of another's slow commit isn't free again
-module _ (catalog : Catalog) (i : SiteId) (K : Knowledge) (j : SiteId) (apart : j ≢ i) (n : ℕ) (some : K.part j n ≢ Free) where
+module _ (catalog : Catalog) (i : SiteId) (K : Knowledge) (j : SiteId) (apart : j ≢ i) (n : ℕ)
+    (some : K.part j n ≢ Free) where
   over_if : (b : Bool) → (if b then Over else K.part j n) ≢ Free
   over_if true e = cc
   over_if false e = some e
@@ -165,7 +172,8 @@ module _ (catalog : Catalog) (i : SiteId) (K : Knowledge) (j : SiteId) (apart : 
   part_grows (Some (Seen k seq)) = over_by k (slow_number (commit_at k seq K.log))
   part_grows (Some (Prepared k m tid objects)) = locked_if k m tid objects (is_slow k m j n)
     where
-      locked_if : (k : SiteId) (m : ℕ) (tid : Tid) (objects : List ObjId) (b : Bool) → (if b then Locked tid objects else K.part j n) ≢ Free
+      locked_if : (k : SiteId) (m : ℕ) (tid : Tid) (objects : List ObjId) (b : Bool)
+          → (if b then Locked tid objects else K.part j n) ≢ Free
       locked_if k m tid objects true e = cc
       locked_if k m tid objects false e = some e
   part_grows (Some (Released k m)) = over_if (is_slow k m j n)
@@ -176,61 +184,66 @@ module _ (catalog : Catalog) (i : SiteId) (K : Knowledge) (j : SiteId) (apart : 
   part_grows (Some (SlowEnd m)) = not_own m
   part_grows (Some (Marks durable visible)) = some
 
-module _ (catalog : Catalog) (i : SiteId) (rec : Option Record) (W W2 : Stands) (R : IsRecorded catalog i rec W W2) where
-  -- field by field at site i
-  pub log_here : logs W2 i ≡ log_after rec (logs W i)
-  log_here = ap (λ (K : Knowledge). K.log) R.here
+module _ (catalog : Catalog) (i : SiteId) (rec : Option Record) (W W2 : Stands) (R : IsRecorded catalog i rec W W2)
+  where
+    -- field by field at site i
+    pub log_here : logs W2 i ≡ log_after rec (logs W i)
+    log_here = ap (λ (K : Knowledge). K.log) R.here
 
-  pub got_here : (k : SiteId) → received W2 i k ≡ got_after i rec (received W i) k
-  got_here k = ap (λ (K : Knowledge). K.got k) R.here
+    pub got_here : (k : SiteId) → received W2 i k ≡ got_after i rec (received W i) k
+    got_here k = ap (λ (K : Knowledge). K.got k) R.here
 
-  pub committed_here : (k : SiteId) → counts W2 i k ≡ committed_after i rec (counts W i) k
-  committed_here k = ap (λ (K : Knowledge). K.committed k) R.here
+    pub committed_here : (k : SiteId) → counts W2 i k ≡ committed_after i rec (counts W i) k
+    committed_here k = ap (λ (K : Knowledge). K.committed k) R.here
 
-  pub slow_here : (n : ℕ) → slows W2 i n ≡ slow_after catalog i (lost (W i).knows) rec n
-  slow_here n = ap (λ (K : Knowledge). K.slow n) R.here
+    pub slow_here : (n : ℕ) → slows W2 i n ≡ slow_after catalog i (lost (W i).knows) rec n
+    slow_here n = ap (λ (K : Knowledge). K.slow n) R.here
 
-  pub part_here : (j : SiteId) (n : ℕ) → parts W2 i j n ≡ part_after catalog i (lost (W i).knows) rec j n
-  part_here j n = ap (λ (K : Knowledge). K.part j n) R.here
+    pub part_here : (j : SiteId) (n : ℕ) → parts W2 i j n ≡ part_after catalog i (lost (W i).knows) rec j n
+    part_here j n = ap (λ (K : Knowledge). K.part j n) R.here
 
-  -- and at another
-  pub log_away : (k : SiteId) → k ≢ i → logs W2 k ≡ logs W k
-  log_away k apart = ap (λ (S : Standing). S.knows.log) (R.away k apart)
+    -- and at another
+    pub log_away : (k : SiteId) → k ≢ i → logs W2 k ≡ logs W k
+    log_away k apart = ap (λ (S : Standing). S.knows.log) (R.away k apart)
 
-  pub got_away : (k : SiteId) → k ≢ i → (j : SiteId) → received W2 k j ≡ received W k j
-  got_away k apart j = ap (λ (S : Standing). S.knows.got j) (R.away k apart)
+    pub got_away : (k : SiteId) → k ≢ i → (j : SiteId) → received W2 k j ≡ received W k j
+    got_away k apart j = ap (λ (S : Standing). S.knows.got j) (R.away k apart)
 
-  pub committed_away : (k : SiteId) → k ≢ i → (j : SiteId) → counts W2 k j ≡ counts W k j
-  committed_away k apart j = ap (λ (S : Standing). S.knows.committed j) (R.away k apart)
+    pub committed_away : (k : SiteId) → k ≢ i → (j : SiteId) → counts W2 k j ≡ counts W k j
+    committed_away k apart j = ap (λ (S : Standing). S.knows.committed j) (R.away k apart)
 
-  pub slow_away : (k : SiteId) → k ≢ i → (n : ℕ) → slows W2 k n ≡ slows W k n
-  slow_away k apart n = ap (λ (S : Standing). S.knows.slow n) (R.away k apart)
+    pub slow_away : (k : SiteId) → k ≢ i → (n : ℕ) → slows W2 k n ≡ slows W k n
+    slow_away k apart n = ap (λ (S : Standing). S.knows.slow n) (R.away k apart)
 
-  pub part_away : (k : SiteId) → k ≢ i → (j : SiteId) (n : ℕ) → parts W2 k j n ≡ parts W k j n
-  part_away k apart j n = ap (λ (S : Standing). S.knows.part j n) (R.away k apart)
+    pub part_away : (k : SiteId) → k ≢ i → (j : SiteId) (n : ℕ) → parts W2 k j n ≡ parts W k j n
+    part_away k apart j n = ap (λ (S : Standing). S.knows.part j n) (R.away k apart)
 
-  -- so the stands have grown, where a slow commit that begins is new
-  pub has_grown : ((n : ℕ) (x : Tx) → rec ≡ Some (SlowBegin n x) → slows W i n ≡ Unused) → HasGrown W W2
-  has_grown new = record {
-    own = λ k q r. holds_all (λ z. slice_get (owns W z) q ≡ Some r → slice_get (owns W2 z) q ≡ Some r) i
-        (λ h. ap (λ l. slice_get (of_site i l) q) log_here ∙ prefix_get (of_site i (logs W i)) (of_site i (log_after rec (logs W i))) r q (front_of i (logs W i) (log_after rec (logs W i)) (log_grows rec (logs W i))) h)
-        (λ z apart h. ap (λ l. slice_get (of_site z l) q) (log_away z apart) ∙ h) k;
-    more = λ a k. holds_all (λ z. received W z k ≤ received W2 z k) i
-        (let e = got_here k in let l = got_grows i rec (received W i) k in omega (arith, e, l))
-        (λ z apart. let e = got_away z apart k in omega (arith, e)) a;
-    done = λ a k. holds_all (λ z. counts W z k ≤ counts W2 z k) i
-        (let e = committed_here k in let l = committed_grows i rec (counts W i) k in omega (arith, e, l))
-        (λ z apart. let e = committed_away z apart k in omega (arith, e)) a;
-    begins = λ j n x. holds_all (λ z. begun (slows W z n) ≡ Some x → begun (slows W2 z n) ≡ Some x) i
-        (λ h. ap begun (slow_here n) ∙ slow_grows (λ g. begun g ≡ Some x) (λ e. cc) (λ g e. begun_ended g ∙ e) (λ g e. begun_decided g ∙ e) catalog i (lost (W i).knows) rec new n h)
-        (λ z apart h. ap begun (slow_away z apart n) ∙ h) j;
-    drops = λ j n x asked. holds_all (λ z. slows W z n ≡ Dropped x asked → slows W2 z n ≡ Dropped x asked) i
-        (λ h. slow_here n ∙ slow_grows (λ g. g ≡ Dropped x asked) (λ e. cc) (λ g e. ap ended e) (λ g e. ap decided e) catalog i (lost (W i).knows) rec new n h)
-        (λ z apart h. slow_away z apart n ∙ h) j;
-    holds = λ p j n. holds_all (λ z. j ≢ z → parts W z j n ≢ Free → parts W2 z j n ≢ Free) i
-        (λ apart h e. part_grows catalog i (lost (W i).knows) j apart n h rec (sym (part_here j n) ∙ e))
-        (λ z other apart h e. h (sym (part_away z other j n) ∙ e)) p;
-  }
+    -- so the stands have grown, where a slow commit that begins is new
+    pub has_grown : ((n : ℕ) (x : Tx) → rec ≡ Some (SlowBegin n x) → slows W i n ≡ Unused) → HasGrown W W2
+    has_grown new = record {
+      own = λ k q r. holds_all (λ z. slice_get (owns W z) q ≡ Some r → slice_get (owns W2 z) q ≡ Some r) i
+          (λ h. ap (λ l. slice_get (of_site i l) q) log_here ∙ prefix_get (of_site i (logs W i))
+          (of_site i (log_after rec (logs W i))) r q (front_of i (logs W i) (log_after rec (logs W i))
+          (log_grows rec (logs W i))) h)
+          (λ z apart h. ap (λ l. slice_get (of_site z l) q) (log_away z apart) ∙ h) k;
+      more = λ a k. holds_all (λ z. received W z k ≤ received W2 z k) i
+          (let e = got_here k in let l = got_grows i rec (received W i) k in omega (arith, e, l))
+          (λ z apart. let e = got_away z apart k in omega (arith, e)) a;
+      done = λ a k. holds_all (λ z. counts W z k ≤ counts W2 z k) i
+          (let e = committed_here k in let l = committed_grows i rec (counts W i) k in omega (arith, e, l))
+          (λ z apart. let e = committed_away z apart k in omega (arith, e)) a;
+      begins = λ j n x. holds_all (λ z. begun (slows W z n) ≡ Some x → begun (slows W2 z n) ≡ Some x) i
+          (λ h. ap begun (slow_here n) ∙ slow_grows (λ g. begun g ≡ Some x) (λ e. cc) (λ g e. begun_ended g ∙ e)
+          (λ g e. begun_decided g ∙ e) catalog i (lost (W i).knows) rec new n h)
+          (λ z apart h. ap begun (slow_away z apart n) ∙ h) j;
+      drops = λ j n x asked. holds_all (λ z. slows W z n ≡ Dropped x asked → slows W2 z n ≡ Dropped x asked) i
+          (λ h. slow_here n ∙ slow_grows (λ g. g ≡ Dropped x asked) (λ e. cc) (λ g e. ap ended e)
+          (λ g e. ap decided e) catalog i (lost (W i).knows) rec new n h)
+          (λ z apart h. slow_away z apart n ∙ h) j;
+      holds = λ p j n. holds_all (λ z. j ≢ z → parts W z j n ≢ Free → parts W2 z j n ≢ Free) i
+          (λ apart h e. part_grows catalog i (lost (W i).knows) j apart n h rec (sym (part_here j n) ∙ e))
+          (λ z other apart h e. h (sym (part_away z other j n) ∙ e)) p;
+    }
 
 -- a slow commit that isn't unused is begun
 pub is_begun : (g : Slow) → g ≢ Unused → (x : Tx) × (begun g ≡ Some x)
@@ -242,7 +255,17 @@ is_begun (Decided x) h = (x, refl)
 module _ (catalog : Catalog) (W W2 : Stands) (G : HasGrown W W2) where
   -- what stands over a transaction stays
   pub over_later : (x : Tx) (conflict : Conflict) → IsOver W x conflict → IsOver W2 x conflict
-  over_later x (Modified oid version) h = (h.0, (h.1.0, G.own version.site (version.seq - 1) h.1.0 h.1.1, h.1.2, h.1.3, h.1.4))
+  over_later x (Modified oid version) h = (
+    h.0,
+    (
+      h.1.0,
+      G.own version.site
+          (version.seq - 1) h.1.0 h.1.1,
+      h.1.2,
+      h.1.3,
+      h.1.4,
+    ),
+  )
   over_later x (LockedThere oid owner) h = h
   over_later x Dead h = tt
 
@@ -261,7 +284,8 @@ module _ (catalog : Catalog) (W W2 : Stands) (G : HasGrown W W2) where
   so_later j i (ReleasedSaid n) apart h = tt
 
 -- what may come at a site may still come while nothing is recorded there, others go on and more is put out
-module _ (catalog : Catalog) (W W2 : Stands) (put put2 : Put) (G : HasGrown W W2) (i : SiteId) (same : lost (W2 i).knows ≡ lost (W i).knows)
+module _ (catalog : Catalog) (W W2 : Stands) (put put2 : Put) (G : HasGrown W W2) (i : SiteId)
+    (same : lost (W2 i).knows ≡ lost (W i).knows)
     (puts : (j k : SiteId) (packet : Packet) → put j k packet → put2 j k packet) where
   due_by : (P : Knowledge → Type 0) → P (lost (W i).knows) → P (lost (W2 i).knows)
   due_by P h = subst P (sym same) h
@@ -273,7 +297,15 @@ module _ (catalog : Catalog) (W W2 : Stands) (put put2 : Put) (G : HasGrown W W2
     site = h.site;
     some = h.some;
     decided = elim h.decided [
-      | inl fast ↦ inl (fast.0, fast.1, due_by (λ K. IsUnmodified (home catalog) i x.start (write_set x.updates) K.log) fast.2, due_by (λ K. IsUnlocked (home catalog) i K.part (write_set x.updates)) fast.3, due_by (λ K. (k : SiteId) → entry_at x.start k ≤ K.committed k) fast.4)
+      | inl fast ↦ inl (
+        fast.0,
+        fast.1,
+        due_by (λ K. IsUnmodified (home catalog) i x.start
+            (write_set x.updates) K.log) fast.2,
+        due_by (λ K. IsUnlocked (home catalog) i K.part
+            (write_set x.updates)) fast.3,
+        due_by (λ K. (k : SiteId) → entry_at x.start k ≤ K.committed k) fast.4,
+      )
       | inr slow ↦ inr (
         slow.0,
         due_by (λ K. (asked : List SiteId) × (K.slow x.slow ≡ Undecided x asked)) slow.1,

@@ -20,7 +20,8 @@ freed_lost j zero K oid = refl
 freed_lost j (suc n) K oid = refl
 
 -- what is lost and then recorded is recorded and then lost
-pub lost_recorded : (catalog : Catalog) (i : SiteId) (rec : Option Record) (K : Knowledge) → lost (recorded catalog i rec K) ≡ recorded catalog i rec (lost K)
+pub lost_recorded : (catalog : Catalog) (i : SiteId) (rec : Option Record) (K : Knowledge)
+    → lost (recorded catalog i rec K) ≡ recorded catalog i rec (lost K)
 lost_recorded catalog i None K = refl
 lost_recorded catalog i (Some (Boot epoch)) K = refl
 lost_recorded catalog i (Some (Own seq x)) K = refl
@@ -39,18 +40,22 @@ pub recorded_none : (catalog : Catalog) (i : SiteId) (K : Knowledge) → recorde
 recorded_none catalog i K = refl
 
 -- what records tell after an event
-pub lost_after : (catalog : Catalog) (i : SiteId) (K : Knowledge) (event : Event) (outcome : Outcome) (wrote : Option Record)
+pub lost_after : (catalog : Catalog) (i : SiteId) (K : Knowledge) (event : Event) (outcome : Outcome)
+    (wrote : Option Record)
     → lost (after catalog i K event outcome wrote) ≡ recorded catalog i wrote (lost K)
 lost_after catalog i K event outcome wrote = lost_recorded catalog i wrote K
 
 pub lost_knows : (event : Event) (outcome : Outcome) (K : Knowledge) → lost (knows_after event outcome K) ≡ lost K
-lost_knows event outcome K = elim (goes_down event outcome) as (λ b. lost (if b then lost K else K) ≡ lost K) [ true ↦ refl | false ↦ refl ]
+lost_knows event outcome K = elim (goes_down event outcome) as
+    (λ b. lost (if b then lost K else K) ≡ lost K) [ true ↦ refl | false ↦ refl ]
 
 pub lost_stands : (catalog : Catalog) (i : SiteId) (S : Standing) (event : Event) (came : Came)
     → lost (stands_after catalog i S event came).knows ≡ recorded catalog i came.wrote (lost S.knows)
-lost_stands catalog i S event came = lost_knows event came.outcome (after catalog i S.knows event came.outcome came.wrote) ∙ lost_after catalog i S.knows event came.outcome came.wrote
+lost_stands catalog i S event came = lost_knows event came.outcome
+    (after catalog i S.knows event came.outcome came.wrote) ∙ lost_after catalog i S.knows event came.outcome came.wrote
 
 -- and after what a restart found
-pub lost_settled : (catalog : Catalog) (i : SiteId) (kept : Option Record) (S : Standing) → lost (settled catalog i kept S).knows ≡ recorded catalog i kept (lost S.knows)
+pub lost_settled : (catalog : Catalog) (i : SiteId) (kept : Option Record) (S : Standing)
+    → lost (settled catalog i kept S).knows ≡ recorded catalog i kept (lost S.knows)
 lost_settled catalog i None S = refl
 lost_settled catalog i (Some r) S = lost_recorded catalog i (Some r) S.knows

@@ -34,12 +34,14 @@ pub passed_within : (test : ℕ → Bool) (n : ℕ) → passed test n ≤ n
 passed_within test zero = omega arith
 passed_within test (suc n) =
     let l = passed_within test n in
-    elim (nat_eq (passed test n) n && test (suc n)) as (λ b. (if b then suc n else passed test n) ≤ suc n) [ true ↦ omega arith | false ↦ omega (arith, l) ]
+    elim (nat_eq (passed test n) n && test (suc n)) as
+    (λ b. (if b then suc n else passed test n) ≤ suc n) [ true ↦ omega arith | false ↦ omega (arith, l) ]
 
 pub passed_tests : (test : ℕ → Bool) (n m : ℕ) → 1 ≤ m → m ≤ passed test n → test m ≡ true
 passed_tests test zero m one l = absurd (omega (arith, one, l))
 passed_tests test (suc n) m one l =
-    elim (nat_eq (passed test n) n && test (suc n)) as (λ b. (nat_eq (passed test n) n && test (suc n)) ≡ b → m ≤ (if b then suc n else passed test n) → test m ≡ true) [
+    elim (nat_eq (passed test n) n && test (suc n)) as
+    (λ b. (nat_eq (passed test n) n && test (suc n)) ≡ b → m ≤ (if b then suc n else passed test n) → test m ≡ true) [
       | true ↦ λ is low.
           let parts = both (nat_eq (passed test n) n) (test (suc n)) is in
           let full : passed test n ≡ n = eqb-true (passed test n) n parts.0 in
@@ -51,36 +53,48 @@ passed_tests test (suc n) m one l =
       | false ↦ λ isnt low. passed_tests test n m one low
     ] refl l
 
-module _ (catalog : Catalog) (homes : (oid : ObjId) → (home catalog oid).0 < catalog.sites) (W : Stands) (C : IsCore catalog W) (i : SiteId) (K : Knowledge) (same : lost (W i).knows ≡ lost K) where
+module _ (catalog : Catalog) (homes : (oid : ObjId) → (home catalog oid).0 < catalog.sites) (W : Stands)
+    (C : IsCore catalog W) (i : SiteId) (K : Knowledge) (same : lost (W i).knows ≡ lost K) where
   -- own commit q, where it is held by so many as acknowledged it
-  held_durable : ((k : SiteId) → k ≢ i → K.acknowledged k ≤ received W k i) → (q : ℕ) → 1 ≤ q → q ≤ K.committed i → is_held catalog i K q ≡ true
+  held_durable : ((k : SiteId) → k ≢ i → K.acknowledged k ≤ received W k i) → (q : ℕ) → 1 ≤ q → q ≤ K.committed i
+      → is_held catalog i K q ≡ true
       → IsDurable (home catalog) catalog.tolerated (owns W i) (λ s. received W s i) q
   held_durable acks q one low held =
-      let parts = both (nat_le (catalog.tolerated + 1) (count_by (holds i K q) (sites catalog))) (option_map_or (is_at_homes catalog i K q) (commit_at i q K.log) true) held in
+      let parts = both (nat_le (catalog.tolerated + 1) (count_by (holds i K q) (sites catalog)))
+      (option_map_or (is_at_homes catalog i K q) (commit_at i q K.log) true) held in
       let full = C.numbered.own.counted i in
       let all = C.counted i i in
       let count : counts W i i ≡ K.committed i = ap (λ (L : Knowledge). L.committed i) same in
       let row = there_is (owns W i) (q - 1) (omega (arith, one, low, full, count)) in
-      let commit : commit_at i q K.log ≡ Some row.0.tx = ap (λ (L : Knowledge). commit_at i q L.log) (sym same) ∙ ap (λ o. option_map (λ (h : Held). h.tx) o) row.1 in
-      let at : is_at_homes catalog i K q row.0.tx ≡ true = subst (λ o. option_map_or (is_at_homes catalog i K q) o true ≡ true) commit parts.1 in
-      durable_by_count (home catalog) catalog.tolerated (owns W i) (λ s. received W s i) q (sites catalog) (holds i K q) row.0
+      let commit : commit_at i q K.log ≡ Some row.0.tx = ap (λ (L : Knowledge). commit_at i q L.log) (sym same)
+      ∙ ap (λ o. option_map (λ (h : Held). h.tx) o) row.1 in
+      let at : is_at_homes catalog i K q row.0.tx ≡ true = subst
+      (λ o. option_map_or (is_at_homes catalog i K q) o true ≡ true) commit parts.1 in
+      durable_by_count (home catalog) catalog.tolerated (owns W i) (λ s. received W s i) q (sites catalog)
+      (holds i K q) row.0
       (sites_below_distinct catalog.sites)
       (has_by_acks i (λ s. received W s i) K.acknowledged q (omega (arith, low, full, count, all)) acks)
       row.1 (leb-true (catalog.tolerated + 1) (count_by (holds i K q) (sites catalog)) parts.0)
       (λ oid c.
       let made = made_from object_of row.0.tx.updates oid c in (
         site_below catalog.sites (home catalog oid) (homes oid),
-        subst (λ o. holds i K q (home catalog o) ≡ true) made.2 (each_passes (λ update. holds i K q (preferred catalog K (object_of update))) row.0.tx.updates made.0 at made.1),
+        subst (λ o. holds i K q (home catalog o) ≡ true) made.2
+            (each_passes (λ update. holds i K q (preferred catalog K
+            (object_of update))) row.0.tx.updates made.0 at made.1),
       ))
 
   -- so the durable mark is true, where its floor is
-  pub durable_true : ((k : SiteId) → k ≢ i → K.acknowledged k ≤ received W k i) → AreDurable (home catalog) catalog.tolerated (owns W i) (λ s. received W s i) K.durable_floor
+  pub durable_true : ((k : SiteId) → k ≢ i → K.acknowledged k ≤ received W k i)
+      → AreDurable (home catalog) catalog.tolerated (owns W i) (λ s. received W s i) K.durable_floor
       → AreDurable (home catalog) catalog.tolerated (owns W i) (λ s. received W s i) (durable_mark catalog i K)
-  durable_true acks floor = durable_mark_true (home catalog) catalog.tolerated (owns W i) (λ s. received W s i) K.durable_floor (passed (is_held catalog i K) (K.committed i)) floor
-      (λ m one l. held_durable acks m one (let w = passed_within (is_held catalog i K) (K.committed i) in omega (arith, l, w)) (passed_tests (is_held catalog i K) (K.committed i) m one l))
+  durable_true acks floor = durable_mark_true (home catalog) catalog.tolerated (owns W i)
+      (λ s. received W s i) K.durable_floor (passed (is_held catalog i K) (K.committed i)) floor
+      (λ m one l. held_durable acks m one (let w = passed_within (is_held catalog i K) (K.committed i) in omega
+      (arith, l, w)) (passed_tests (is_held catalog i K) (K.committed i) m one l))
 
   -- and the visible mark
-  pub visible_true : ((k : SiteId) → k ≢ i → K.visible k ≤ counts W k i) → AreVisible (sites catalog) (λ s. counts W s i) K.visible_floor
+  pub visible_true : ((k : SiteId) → k ≢ i → K.visible k ≤ counts W k i)
+      → AreVisible (sites catalog) (λ s. counts W s i) K.visible_floor
       → AreVisible (sites catalog) (λ s. counts W s i) (visible_mark catalog i K)
   visible_true told floor =
       let v = passed (is_visible catalog i K) (K.committed i) in
@@ -91,8 +105,10 @@ module _ (catalog : Catalog) (homes : (oid : ObjId) → (home catalog oid).0 < c
       (λ k c apart. elim (zero_or v) [
         | inl none ↦ omega (arith, none)
         | inr some ↦
-            let is : is_visible catalog i K v ≡ true = passed_tests (is_visible catalog i K) (K.committed i) v (omega (arith, some)) (omega arith) in
-            let peer : Contains (peers catalog i) k = is_kept (λ s. not (same_site s i)) (sites catalog) k c (elim (site_cases k i) [
+            let is : is_visible catalog i K v ≡ true = passed_tests (is_visible catalog i K) (K.committed i) v
+            (omega (arith, some)) (omega arith) in
+            let peer : Contains (peers catalog i) k = is_kept (λ s. not (same_site s i)) (sites catalog) k c
+            (elim (site_cases k i) [
               | inl here ↦ absurd (apart here.1)
               | inr other ↦ ap not other.0
             ]) in

@@ -29,10 +29,13 @@ use Rattle.walter_linked.proofs.Agreed.{Stands, at_site, owns, logs, counts, slo
 use Rattle.walter_linked.proofs.Going.{if_some, agreed_settled, step_wrote, step_flight, agreed_after}
 
 -- where each container's preferred site is one of the sites, so is that of each object
-pub homes_below : (catalog : Catalog) → 0 < catalog.sites → ((id : ℕ) (container : Container) → get catalog.containers id ≡ Some container → container.preferred.0 < catalog.sites)
+pub homes_below : (catalog : Catalog) → 0 < catalog.sites
+    → ((id : ℕ) (container : Container) → get catalog.containers id ≡ Some container
+    → container.preferred.0 < catalog.sites)
     → (oid : ObjId) → (home catalog oid).0 < catalog.sites
 homes_below catalog some all oid =
-    elim (get catalog.containers oid.container) as (λ o. get catalog.containers oid.container ≡ o → (option_map_or (λ (c : Container). c.preferred) o (record { 0 = 0 })).0 < catalog.sites) [
+    elim (get catalog.containers oid.container) as (λ o. get catalog.containers oid.container ≡ o →
+    (option_map_or (λ (c : Container). c.preferred) o (record { 0 = 0 })).0 < catalog.sites) [
       | None ↦ λ e. some
       | Some container ↦ λ e. all oid.container container e
     ] refl
@@ -54,18 +57,26 @@ alone_unmade catalog i = record {
 }
 
 -- the entries of a site with one more of it, and with one more of another
-pub entries_here : (i : SiteId) (e : Entry) (older : List Named) → entries_of i ((i, e) ∷ older) ≡ e ∷ entries_of i older
+pub entries_here : (i : SiteId) (e : Entry) (older : List Named)
+    → entries_of i ((i, e) ∷ older) ≡ e ∷ entries_of i older
 entries_here i e older = rw (same_site_refl i) refl
 
-pub entries_away : (k : SiteId) (n : Named) (older : List Named) → k ≢ n.0 → entries_of k (n ∷ older) ≡ entries_of k older
+pub entries_away : (k : SiteId) (n : Named) (older : List Named) → k ≢ n.0
+    → entries_of k (n ∷ older) ≡ entries_of k older
 entries_away k n older apart = elim (site_cases k n.0) [
   | inl same ↦ absurd (apart same.1)
   | inr other ↦ rw other.0 refl
 ]
 
 -- what was put out stays so
-pub put_later : (n : Named) (older : List Named) (j k : SiteId) (packet : Packet) → IsPut older j k packet → IsPut (n ∷ older) j k packet
-put_later n older j k packet put = record { entry = put.entry; here = Contains-append_right (n ∷ []) older (j, put.entry) put.here; sent = put.sent }
+pub put_later : (n : Named) (older : List Named) (j k : SiteId) (packet : Packet) → IsPut older j k packet
+    → IsPut (n ∷ older) j k packet
+put_later n older j k packet put = record {
+  entry = put.entry;
+  here = Contains-append_right (n ∷ []) older
+      (j, put.entry) put.here;
+  sent = put.sent;
+}
 
 -- and what was put out was so before, or by the last entry
 pub put_cases : (n : Named) (older : List Named) (j k : SiteId) (packet : Packet) → IsPut (n ∷ older) j k packet
@@ -73,23 +84,34 @@ pub put_cases : (n : Named) (older : List Named) (j k : SiteId) (packet : Packet
 put_cases n older j k packet put = elim (Contains-append_cases (n ∷ []) older (j, put.entry) put.here) [
   | inl now ↦
       let same : n ≡ (j, put.entry) = Contains-one n (j, put.entry) now in
-      inr (ap (λ (z : Named). z.0) (sym same), subst (λ (z : Named). Contains z.1.came.sends (k, packet)) (sym same) put.sent)
+      inr (
+        ap (λ (z : Named). z.0) (sym same),
+        subst (λ (z : Named). Contains z.1.came.sends (k, packet))
+            (sym same) put.sent,
+      )
   | inr before ↦ inl (record { entry = put.entry; here = before; sent = put.sent })
 ]
 
 -- the entries of each site of a run are right
-pub run_right : (catalog : Catalog) (capacity : ℕ) (run : List Named) → IsRun catalog capacity run → (i : SiteId) → AreRight catalog capacity i (entries_of i run)
+pub run_right : (catalog : Catalog) (capacity : ℕ) (run : List Named) → IsRun catalog capacity run → (i : SiteId)
+    → AreRight catalog capacity i (entries_of i run)
 run_right catalog capacity [] is i = tt
 run_right catalog capacity (n ∷ older) is i = elim (site_cases i n.0) [
-  | inl same ↦ rw same.0 (run_right catalog capacity older is.0 i, subst (λ k. IsRightEntry catalog capacity k (entries_of k older) n.1) (sym same.1) is.1.right)
+  | inl same ↦ rw same.0 (
+    run_right catalog capacity older is.0 i,
+    subst
+        (λ k. IsRightEntry catalog capacity k (entries_of k older) n.1) (sym same.1) is.1.right,
+  )
   | inr apart ↦ rw apart.0 (run_right catalog capacity older is.0 i)
 ]
 
 -- each site that has an entry in a run is one of the catalog
-pub none_outside : (catalog : Catalog) (capacity : ℕ) (run : List Named) → IsRun catalog capacity run → (i : SiteId) → catalog.sites ≤ i.0 → entries_of i run ≡ []
+pub none_outside : (catalog : Catalog) (capacity : ℕ) (run : List Named) → IsRun catalog capacity run → (i : SiteId)
+    → catalog.sites ≤ i.0 → entries_of i run ≡ []
 none_outside catalog capacity [] is i out = refl
 none_outside catalog capacity (n ∷ older) is i out = elim (site_cases i n.0) [
-  | inl same ↦ absurd (let l = is.1.below in let e : i.0 ≡ n.0.0 = ap (λ (k : SiteId). k.0) same.1 in omega (arith, l, e, out))
+  | inl same ↦ absurd (let l = is.1.below in let e : i.0 ≡ n.0.0 = ap (λ (k : SiteId). k.0) same.1 in omega
+      (arith, l, e, out))
   | inr apart ↦ rw apart.0 (none_outside catalog capacity older is.0 i out)
 ]
 
@@ -99,7 +121,8 @@ agreed_at_first catalog = record {
   numbered = numbered_none;
   counted = λ i k. refl;
   causal = λ i. causal_none;
-  locked = none_locked (home catalog) (owns (stands catalog [])) (logs (stands catalog [])) (counts (stands catalog [])) (slows (stands catalog [])) (parts (stands catalog [])) (λ k. refl) (λ j n. refl) (λ p j n. refl);
+  locked = none_locked (home catalog) (owns (stands catalog [])) (logs (stands catalog [])) (counts (stands catalog []))
+      (slows (stands catalog [])) (parts (stands catalog [])) (λ k. refl) (λ j n. refl) (λ p j n. refl);
   said = λ j i packet apart put. absurd (Contains-nil (j, put.entry) put.here);
   heard = λ i. record {
     acknowledged = λ k apart. omega arith;
@@ -112,63 +135,83 @@ agreed_at_first catalog = record {
 
 -- how the sites stand behind what the next entry found
 abbrev pub found : Catalog → List Named → Named → Stands
-found catalog older n = at_site n.0 (settled catalog n.0 n.1.came.kept (stands catalog older n.0)) (stands catalog older)
+found catalog older n = at_site n.0 (settled catalog n.0 n.1.came.kept (stands catalog older n.0))
+    (stands catalog older)
 
-pub found_here : (catalog : Catalog) (older : List Named) (n : Named) → found catalog older n n.0 ≡ settled catalog n.0 n.1.came.kept (stands catalog older n.0)
+pub found_here : (catalog : Catalog) (older : List Named) (n : Named)
+    → found catalog older n n.0 ≡ settled catalog n.0 n.1.came.kept (stands catalog older n.0)
 found_here catalog older n = rw (same_site_refl n.0) refl
 
-pub found_away : (catalog : Catalog) (older : List Named) (n : Named) (k : SiteId) → k ≢ n.0 → found catalog older n k ≡ stands catalog older k
+pub found_away : (catalog : Catalog) (older : List Named) (n : Named) (k : SiteId) → k ≢ n.0
+    → found catalog older n k ≡ stands catalog older k
 found_away catalog older n k apart = elim (site_cases k n.0) [
   | inl same ↦ absurd (apart same.1)
   | inr other ↦ rw other.0 refl
 ]
 
 -- how they stand behind the entry
-pub stands_here : (catalog : Catalog) (older : List Named) (n : Named) → stands catalog (n ∷ older) n.0 ≡ stands_after catalog n.0 (found catalog older n n.0) n.1.event n.1.came
+pub stands_here : (catalog : Catalog) (older : List Named) (n : Named)
+    → stands catalog (n ∷ older) n.0 ≡ stands_after catalog n.0 (found catalog older n n.0) n.1.event n.1.came
 stands_here catalog older n =
-    ap (λ es. standing catalog n.0 es) (entries_here n.0 n.1 older) ∙ ap (λ S. stands_after catalog n.0 S n.1.event n.1.came) (sym (found_here catalog older n))
+    ap (λ es. standing catalog n.0 es) (entries_here n.0 n.1 older)
+    ∙ ap (λ S. stands_after catalog n.0 S n.1.event n.1.came) (sym (found_here catalog older n))
 
-pub stands_away : (catalog : Catalog) (older : List Named) (n : Named) (k : SiteId) → k ≢ n.0 → stands catalog (n ∷ older) k ≡ found catalog older n k
-stands_away catalog older n k apart = ap (λ es. standing catalog k es) (entries_away k n older apart) ∙ sym (found_away catalog older n k apart)
+pub stands_away : (catalog : Catalog) (older : List Named) (n : Named) (k : SiteId) → k ≢ n.0
+    → stands catalog (n ∷ older) k ≡ found catalog older n k
+stands_away catalog older n k apart = ap (λ es. standing catalog k es) (entries_away k n older apart)
+    ∙ sym (found_away catalog older n k apart)
 
 -- Where each right trail keeps what each keeps by itself, before an entry and behind what it found, and objects are preferred
 -- at sites of the catalog:
 module _ (catalog : Catalog) (capacity : ℕ) (homes : (oid : ObjId) → (home catalog oid).0 < catalog.sites)
-    (right_alone : (i : SiteId) → i.0 < catalog.sites → (older : List Entry) → AreRight catalog capacity i older → IsAlone catalog i (standing catalog i older))
-    (settled_alone : (i : SiteId) → i.0 < catalog.sites → (older : List Entry) (e : Entry) → AreRight catalog capacity i older → IsRightEntry catalog capacity i older e
+    (right_alone : (i : SiteId) → i.0 < catalog.sites → (older : List Entry) → AreRight catalog capacity i older
+    → IsAlone catalog i (standing catalog i older))
+    (settled_alone : (i : SiteId) → i.0 < catalog.sites → (older : List Entry) (e : Entry)
+    → AreRight catalog capacity i older → IsRightEntry catalog capacity i older e
     → IsAlone catalog i (settled catalog i e.came.kept (standing catalog i older))) where
   -- each site of a run keeps it
-  pub run_alone : (run : List Named) → IsRun catalog capacity run → (i : SiteId) → IsAlone catalog i (stands catalog run i)
+  pub run_alone : (run : List Named) → IsRun catalog capacity run → (i : SiteId)
+      → IsAlone catalog i (stands catalog run i)
   run_alone run is i = elim (low_or i.0 catalog.sites) [
     | inl below ↦ right_alone i below (entries_of i run) (run_right catalog capacity run is i)
-    | inr out ↦ subst (λ es. IsAlone catalog i (standing catalog i es)) (sym (none_outside catalog capacity run is i out)) (alone_unmade catalog i)
+    | inr out ↦ subst (λ es. IsAlone catalog i (standing catalog i es))
+        (sym (none_outside catalog capacity run is i out)) (alone_unmade catalog i)
   ]
 
-  module _ (older : List Named) (n : Named) (is : IsRun catalog capacity older) (next : IsNext catalog capacity older n) where
-    pub found_alone : (i : SiteId) → IsAlone catalog i (found catalog older n i)
-    found_alone i = elim (site_cases i n.0) [
-      | inl same ↦
-          subst (λ k. IsAlone catalog k (found catalog older n k)) (sym same.1)
-          (subst (λ S. IsAlone catalog n.0 S) (sym (found_here catalog older n)) (settled_alone n.0 next.below (entries_of n.0 older) n.1 (run_right catalog capacity older is n.0) next.right))
-      | inr apart ↦ subst (λ S. IsAlone catalog i S) (sym (found_away catalog older n i apart.1)) (run_alone older is i)
-    ]
+  module _ (older : List Named) (n : Named) (is : IsRun catalog capacity older) (next : IsNext catalog capacity older n)
+    where
+      pub found_alone : (i : SiteId) → IsAlone catalog i (found catalog older n i)
+      found_alone i = elim (site_cases i n.0) [
+        | inl same ↦
+            subst (λ k. IsAlone catalog k (found catalog older n k)) (sym same.1)
+            (subst (λ S. IsAlone catalog n.0 S) (sym (found_here catalog older n))
+            (settled_alone n.0 next.below (entries_of n.0 older) n.1
+            (run_right catalog capacity older is n.0) next.right))
+        | inr apart ↦ subst (λ S. IsAlone catalog i S) (sym (found_away catalog older n i apart.1))
+            (run_alone older is i)
+      ]
 
-    pub next_step : IsStep catalog n.0 (found catalog older n n.0) n.1.event n.1.came
-    next_step = subst (λ S. IsStep catalog n.0 S n.1.event n.1.came) (sym (found_here catalog older n))
-        (step_of catalog capacity n.0 (settled catalog n.0 n.1.came.kept (stands catalog older n.0)) n.1.event n.1.came next.right.comes)
+      pub next_step : IsStep catalog n.0 (found catalog older n n.0) n.1.event n.1.came
+      next_step = subst (λ S. IsStep catalog n.0 S n.1.event n.1.came) (sym (found_here catalog older n))
+          (step_of catalog capacity n.0 (settled catalog n.0 n.1.came.kept
+          (stands catalog older n.0)) n.1.event n.1.came next.right.comes)
 
-    module _ (A : AreAgreed catalog (stands catalog older) (IsPut older)) where
-      kept_is : (kept : Option Record) → IfSome kept (IsFound (stands catalog older n.0) n.1.event) → IfSome kept (IsDue catalog (stands catalog older) (IsPut older) n.0)
-      kept_is None h = tt
-      kept_is (Some r) h = A.ready n.0 r h.in_flight
+      module _ (A : AreAgreed catalog (stands catalog older) (IsPut older)) where
+        kept_is : (kept : Option Record) → IfSome kept (IsFound (stands catalog older n.0) n.1.event)
+            → IfSome kept (IsDue catalog (stands catalog older) (IsPut older) n.0)
+        kept_is None h = tt
+        kept_is (Some r) h = A.ready n.0 r h.in_flight
 
-      agreed_found : AreAgreed catalog (found catalog older n) (IsPut older)
-      agreed_found = agreed_settled catalog (stands catalog older) (found catalog older n) (IsPut older) A n.0 (run_alone older is n.0) n.1.came.kept
-          (found_here catalog older n) (found_away catalog older n) (kept_is n.1.came.kept next.right.kept)
+        agreed_found : AreAgreed catalog (found catalog older n) (IsPut older)
+        agreed_found = agreed_settled catalog (stands catalog older) (found catalog older n) (IsPut older) A n.0
+            (run_alone older is n.0) n.1.came.kept
+            (found_here catalog older n) (found_away catalog older n) (kept_is n.1.came.kept next.right.kept)
 
-      agreed_next : AreAgreed catalog (stands catalog (n ∷ older)) (IsPut (n ∷ older))
-      agreed_next = agreed_after catalog homes (found catalog older n) (IsPut older) agreed_found found_alone n.0 n.1.event n.1.came next_step next.put
-          (stands catalog (n ∷ older)) (stands_here catalog older n) (stands_away catalog older n) (IsPut (n ∷ older)) (put_later n older) (put_cases n older)
+        agreed_next : AreAgreed catalog (stands catalog (n ∷ older)) (IsPut (n ∷ older))
+        agreed_next = agreed_after catalog homes (found catalog older n)
+            (IsPut older) agreed_found found_alone n.0 n.1.event n.1.came next_step next.put
+            (stands catalog (n ∷ older)) (stands_here catalog older n) (stands_away catalog older n) (IsPut (n ∷ older))
+            (put_later n older) (put_cases n older)
 
   -- in each run the sites agree
   pub run_agrees : (run : List Named) → IsRun catalog capacity run → AreAgreed catalog (stands catalog run) (IsPut run)
@@ -181,10 +224,13 @@ module _ (catalog : Catalog) (capacity : ℕ) (homes : (oid : ObjId) → (home c
     settled_agrees = agreed_found older n is.0 is.1 (run_agrees older is.0)
 
     pub kept_due : (r : Record) → n.1.came.kept ≡ Some r → IsDue catalog (stands catalog older) (IsPut older) n.0 r
-    kept_due r e = if_some (IsDue catalog (stands catalog older) (IsPut older) n.0) n.1.came.kept r (kept_is older n is.0 is.1 (run_agrees older is.0) n.1.came.kept is.1.right.kept) e
+    kept_due r e = if_some (IsDue catalog (stands catalog older) (IsPut older) n.0) n.1.came.kept r
+        (kept_is older n is.0 is.1 (run_agrees older is.0) n.1.came.kept is.1.right.kept) e
 
     pub wrote_due : (r : Record) → n.1.came.wrote ≡ Some r → IsDue catalog (found catalog older n) (IsPut older) n.0 r
-    wrote_due = step_wrote catalog homes (found catalog older n) (IsPut older) settled_agrees (found_alone older n is.0 is.1) n.0 n.1.event n.1.came (next_step older n is.0 is.1) is.1.put
+    wrote_due = step_wrote catalog homes (found catalog older n) (IsPut older) settled_agrees
+        (found_alone older n is.0 is.1) n.0 n.1.event n.1.came (next_step older n is.0 is.1) is.1.put
 
     pub flight_due : (r : Record) → n.1.came.flight ≡ Some r → IsDue catalog (found catalog older n) (IsPut older) n.0 r
-    flight_due = step_flight catalog homes (found catalog older n) (IsPut older) settled_agrees (found_alone older n is.0 is.1) n.0 n.1.event n.1.came (next_step older n is.0 is.1) is.1.put
+    flight_due = step_flight catalog homes (found catalog older n) (IsPut older) settled_agrees
+        (found_alone older n is.0 is.1) n.0 n.1.event n.1.came (next_step older n is.0 is.1) is.1.put

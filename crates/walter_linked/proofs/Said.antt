@@ -39,19 +39,23 @@ use Rattle.walter_linked.proofs.Grown.{HasGrown, over_later}
 use Rattle.walter_linked.proofs.Recorded.{IsCore, commit_held}
 
 -- a conflict over a version is over the first one outside, and one over a lock over the owner
-pub over_modified : (at oid : ObjId) (first : Option Version) (owner : Option Tid) (version : Version) → conflict_over at first owner ≡ Some (Modified oid version)
+pub over_modified : (at oid : ObjId) (first : Option Version) (owner : Option Tid) (version : Version)
+    → conflict_over at first owner ≡ Some (Modified oid version)
     → (at ≡ oid) × (first ≡ Some version)
 over_modified at oid (Some v) owner version is =
     let e : Modified at v ≡ Modified oid version = same_Some (Modified at v) (Modified oid version) is in
     let o : at ≡ oid = cc in
     let w : v ≡ version = cc in
     (o, ap (λ z. Some z) w)
-over_modified at oid None (Some t) version is = absurd (let e : LockedThere at t ≡ Modified oid version = same_Some (LockedThere at t) (Modified oid version) is in cc)
+over_modified at oid None (Some t) version is = absurd
+    (let e : LockedThere at t ≡ Modified oid version = same_Some (LockedThere at t) (Modified oid version) is in cc)
 over_modified at oid None None version is = absurd cc
 
-pub over_locked : (at oid : ObjId) (first : Option Version) (owner : Option Tid) (tid : Tid) → conflict_over at first owner ≡ Some (LockedThere oid tid)
+pub over_locked : (at oid : ObjId) (first : Option Version) (owner : Option Tid) (tid : Tid)
+    → conflict_over at first owner ≡ Some (LockedThere oid tid)
     → (at ≡ oid) × (owner ≡ Some tid)
-over_locked at oid (Some v) owner tid is = absurd (let e : Modified at v ≡ LockedThere oid tid = same_Some (Modified at v) (LockedThere oid tid) is in cc)
+over_locked at oid (Some v) owner tid is = absurd (let e : Modified at v ≡ LockedThere oid tid = same_Some
+    (Modified at v) (LockedThere oid tid) is in cc)
 over_locked at oid None (Some t) tid is =
     let e : LockedThere at t ≡ LockedThere oid tid = same_Some (LockedThere at t) (LockedThere oid tid) is in
     let o : at ≡ oid = cc in
@@ -60,11 +64,14 @@ over_locked at oid None (Some t) tid is =
 over_locked at oid None None tid is = absurd cc
 
 -- the first version outside is one of a transaction of the log that writes the object and isn't seen
-pub first_outside_held : (K : Knowledge) (snapshot : List ℕ) (oid : ObjId) (version : Version) → first_outside snapshot (map version_of (row oid K.log)) ≡ Some version
-    → (r : Held) × (p : ℕ) × (slice_get K.log p ≡ Some r) × (version_of r ≡ version) × Contains (write_set r.tx.updates) oid × (sees snapshot r ≡ false)
+pub first_outside_held : (K : Knowledge) (snapshot : List ℕ) (oid : ObjId) (version : Version)
+    → first_outside snapshot (map version_of (row oid K.log)) ≡ Some version
+    → (r : Held) × (p : ℕ) × (slice_get K.log p ≡ Some r) × (version_of r ≡ version)
+    × Contains (write_set r.tx.updates) oid × (sees snapshot r ≡ false)
 first_outside_held K snapshot oid version first =
     let versions = map version_of (row oid K.log) in
-    let outside = kept_from (λ v. not (sees_version snapshot v)) versions version (contains_at (filter (λ v. not (sees_version snapshot v)) versions) version 0 first) in
+    let outside = kept_from (λ v. not (sees_version snapshot v)) versions version
+    (contains_at (filter (λ v. not (sees_version snapshot v)) versions) version 0 first) in
     let made = made_from version_of (row oid K.log) version outside.0 in
     let in_row = kept_from (wrote oid) K.log made.0 made.1 in
     let place = place_of K.log made.0 in_row.0 in (
@@ -76,14 +83,17 @@ first_outside_held K snapshot oid version first =
       not-true (sees snapshot made.0) (ap (λ v. not (sees_version snapshot v)) made.2 ∙ outside.1),
     )
 
-module _ (catalog : Catalog) (W : Stands) (put : Put) (A : AreAgreed catalog W put) (alone : (k : SiteId) → IsAlone catalog k (W k)) (i : SiteId) where
+module _ (catalog : Catalog) (W : Stands) (put : Put) (A : AreAgreed catalog W put)
+    (alone : (k : SiteId) → IsAlone catalog k (W k)) (i : SiteId) where
   -- what a log has is an own commit of its site, by its number
-  pub held_own : (r : Held) (p : ℕ) → slice_get (logs W i) p ≡ Some r → (1 ≤ r.seq) × (slice_get (owns W r.tx.tid.site) (r.seq - 1) ≡ Some r)
+  pub held_own : (r : Held) (p : ℕ) → slice_get (logs W i) p ≡ Some r
+      → (1 ≤ r.seq) × (slice_get (owns W r.tx.tid.site) (r.seq - 1) ≡ Some r)
   held_own r p here =
       let k = r.tx.tid.site in
       let m = length (of_site k (take p (logs W i))) in
       let own : slice_get (owns W k) m ≡ Some r =
-      prefix_get (of_site k (logs W i)) (owns W k) r m ((A.numbered.held i).fronts k) (place_filtered (is_of k) (logs W i) r p here (same_site_refl k)) in
+      prefix_get (of_site k (logs W i)) (owns W k) r m ((A.numbered.held i).fronts k)
+      (place_filtered (is_of k) (logs W i) r p here (same_site_refl k)) in
       let number = A.numbered.own.numbered k m r own in
       let e : r.seq - 1 ≡ m = omega (arith, number) in
       (omega (arith, number), ap (λ n. slice_get (owns W k) n) e ∙ own)
@@ -93,7 +103,8 @@ module _ (catalog : Catalog) (W : Stands) (put : Put) (A : AreAgreed catalog W p
       → ((j : SiteId) (number : ℕ) (packet : Packet) → event ≡ Given (Deliver j number packet) → put j i packet)
       → IsMet (W i).knows event to n conflict → (x : Tx) × (begun (slows W to n) ≡ Some x) × IsOver W x conflict
   met_over event to n conflict apart puts met =
-      let so = A.said to i (Prepare n met.tid met.start met.objects) apart (puts to met.number (Prepare n met.tid met.start met.objects) met.came) in
+      let so = A.said to i (Prepare n met.tid met.start met.objects) apart
+      (puts to met.number (Prepare n met.tid met.start met.objects) met.came) in
       let x = so.0 in
       let one = one_meets (W i).knows met.start met.objects conflict met.met in
       let written : Contains (write_set x.updates) one.0 = (so.4 one.0 (so.5 one.0 one.1)).0 one.1 in (
@@ -101,7 +112,8 @@ module _ (catalog : Catalog) (W : Stands) (put : Put) (A : AreAgreed catalog W p
         so.1,
         elim conflict as (λ c. conflict_at (W i).knows met.start one.0 ≡ Some c → IsOver W x c) [
           | Modified oid version ↦ λ is.
-              let over = over_modified one.0 oid (first_outside met.start (map version_of (row one.0 (logs W i)))) ((W i).knows.owner one.0) version is in
+              let over = over_modified one.0 oid (first_outside met.start (map version_of (row one.0 (logs W i))))
+              ((W i).knows.owner one.0) version is in
               let held = first_outside_held (W i).knows met.start one.0 version over.1 in
               let own = held_own held.0 held.1 held.2 in
               let v : version_of held.0 ≡ version = held.3 in (
@@ -115,7 +127,8 @@ module _ (catalog : Catalog) (W : Stands) (put : Put) (A : AreAgreed catalog W p
                 ),
               )
           | LockedThere oid owner ↦ λ is.
-              let over = over_locked one.0 oid (first_outside met.start (map version_of (row one.0 (logs W i)))) ((W i).knows.owner one.0) owner is in
+              let over = over_locked one.0 oid (first_outside met.start (map version_of (row one.0 (logs W i))))
+              ((W i).knows.owner one.0) owner is in
               let lock = (alone i).owners.owned one.0 owner over.1 in
               let held = A.locked.held i lock.0 lock.1 owner lock.2 lock.3 in (
                 subst (λ z. Contains (write_set x.updates) z) over.0 written,
@@ -124,10 +137,12 @@ module _ (catalog : Catalog) (W : Stands) (put : Put) (A : AreAgreed catalog W p
                     let there = (alone to).tidy.named n x so.1 in
                     let here = (alone lock.0).tidy.named lock.1 held.0 held.1 in
                     let coordinator : lock.0 ≡ to = sym here.2 ∙ ap (λ (t : Tid). t.site) tids ∙ there.2 in
-                    let begun_there : begun (slows W to lock.1) ≡ Some held.0 = subst (λ z. begun (slows W z lock.1) ≡ Some held.0) coordinator held.1 in
+                    let begun_there : begun (slows W to lock.1) ≡ Some held.0 = subst
+                    (λ z. begun (slows W z lock.1) ≡ Some held.0) coordinator held.1 in
                     let number : lock.1 ≡ n = (alone to).tidy.apart lock.1 n held.0 x begun_there so.1 tids in
                     locked_not_free (parts W i to n) owner lock.2
-                    (subst (λ z. parts W i z n ≡ Locked owner lock.2) coordinator (subst (λ m. parts W i lock.0 m ≡ Locked owner lock.2) number lock.3)) met.free,
+                    (subst (λ z. parts W i z n ≡ Locked owner lock.2) coordinator
+                    (subst (λ m. parts W i lock.0 m ≡ Locked owner lock.2) number lock.3)) met.free,
               )
           | Dead ↦ λ is. tt
         ] one.2,
@@ -145,7 +160,8 @@ module _ (catalog : Catalog) (W : Stands) (put : Put) (A : AreAgreed catalog W p
         (omega (arith, above), held.1 ∙ (λ t. Some (record { seq = e t; tx = held.2 t })))
     so_new event K to (Ack got) apart same puts h = subst (λ (L : Knowledge). got ≤ L.got to) (sym same) h
     so_new event K to (Dsmark durable) apart same puts h = tt
-    so_new event K to (Visible committed) apart same puts h = subst (λ (L : Knowledge). committed ≤ L.committed to) (sym same) h
+    so_new event K to (Visible committed) apart same puts h = subst (λ (L : Knowledge). committed ≤ L.committed to)
+        (sym same) h
     so_new event K to (Prepare n tid start objects) apart same puts h = (
       h.0,
       ap (λ (L : Knowledge). begun (L.slow n)) same ∙ ap begun h.2,

@@ -9,40 +9,60 @@ use Rattle.walter_runs.proofs.Running.{merged_run}
 use Rattle.walter_alone.proofs.Alone.{home}
 use Rattle.walter_alone.proofs.KeptSteps.{right_alone, settled_alone}
 use Rattle.walter_linked.specs.Catalogs.{IsWhole}
-use Rattle.walter_linked.specs.Marks.{AreMarksTrue, AreGotRight}
+use Rattle.walter_linked.specs.Marks.{AreMarksTrue, AreGotRight, AreOnce}
 use Rattle.walter_linked.proofs.Agreed.{AreAgreed}
 use Rattle.walter_linked.proofs.MarkedRuns.{marks_true, got_right}
+use Rattle.walter_linked.proofs.Once.{run_once}
 use Rattle.walter_linked.proofs.Runs.{homes_below, agreed_at_first, run_agrees}
 
 -- the entries before some of a run are a run
-pub run_behind : (catalog : Catalog) (capacity : ℕ) (newer older : List Named) → IsRun catalog capacity (newer ++ older) → IsRun catalog capacity older
+pub run_behind : (catalog : Catalog) (capacity : ℕ) (newer older : List Named) → IsRun catalog capacity (newer ++ older)
+    → IsRun catalog capacity older
 run_behind catalog capacity [] older is = is
 run_behind catalog capacity (n ∷ newer) older is = run_behind catalog capacity newer older is.0
 
 module _ (catalog : Catalog) (capacity : ℕ) (whole : IsWhole catalog) where
   -- where a run has an entry each object is preferred at a site of the catalog
-  pub run_homes : (n : Named) (older : List Named) → IsRun catalog capacity (n ∷ older) → (oid : ObjId) → (home catalog oid).0 < catalog.sites
+  pub run_homes : (n : Named) (older : List Named) → IsRun catalog capacity (n ∷ older) → (oid : ObjId)
+      → (home catalog oid).0 < catalog.sites
   run_homes n older is = homes_below catalog (let l = is.1.below in omega (arith, l)) whole
 
   -- the sites of a run agree
-  pub whole_agrees : (run : List Named) → IsRun catalog capacity run → AreAgreed catalog (stands catalog run) (IsPut run)
+  pub whole_agrees : (run : List Named) → IsRun catalog capacity run
+      → AreAgreed catalog (stands catalog run) (IsPut run)
   whole_agrees [] is = agreed_at_first catalog
-  whole_agrees (n ∷ older) is = run_agrees catalog capacity (run_homes n older is) (right_alone catalog capacity) (settled_alone catalog capacity) (n ∷ older) is
+  whole_agrees (n ∷ older) is = run_agrees catalog capacity (run_homes n older is) (right_alone catalog capacity)
+      (settled_alone catalog capacity) (n ∷ older) is
 
   -- what a site has of another is that one's own
   pub whole_got : (run : List Named) → IsRun catalog capacity run → AreGotRight catalog run
   whole_got [] is = λ i j p r here. absurd cc
-  whole_got (n ∷ older) is = got_right catalog capacity (run_homes n older is) (right_alone catalog capacity) (settled_alone catalog capacity) (n ∷ older) is
+  whole_got (n ∷ older) is = got_right catalog capacity (run_homes n older is) (right_alone catalog capacity)
+      (settled_alone catalog capacity) (n ∷ older) is
+
+  -- no transaction has two own commits
+  pub whole_once : (run : List Named) → IsRun catalog capacity run → AreOnce (stands catalog run)
+  whole_once [] is = λ i j p q r s here. absurd cc
+  whole_once (n ∷ older) is = run_once catalog capacity (run_homes n older is) (right_alone catalog capacity)
+      (settled_alone catalog capacity) (n ∷ older) is
 
   -- marks are true at each entry
   pub whole_marks : (older : List Named) (n : Named) → IsRun catalog capacity (n ∷ older) → AreMarksTrue catalog older n
-  whole_marks older n is = marks_true catalog capacity (run_homes n older is) (right_alone catalog capacity) (settled_alone catalog capacity) older n is
+  whole_marks older n is = marks_true catalog capacity (run_homes n older is) (right_alone catalog capacity)
+      (settled_alone catalog capacity) older n is
 
   -- so it is with right and linked trails
-  pub trails_marks : (trails : List (List Entry)) → AreRightTrails catalog capacity trails → (newer older : List Named) (n : Named)
+  pub trails_marks : (trails : List (List Entry)) → AreRightTrails catalog capacity trails
+      → (newer older : List Named) (n : Named)
       → reverse (merge trails) ≡ newer ++ n ∷ older → AreMarksTrue catalog older n
   trails_marks trails are newer older n is =
-      whole_marks older n (run_behind catalog capacity newer (n ∷ older) (subst (IsRun catalog capacity) is (merged_run catalog capacity trails are)))
+      whole_marks older n (run_behind catalog capacity newer (n ∷ older)
+      (subst (IsRun catalog capacity) is (merged_run catalog capacity trails are)))
 
-  pub trails_got : (trails : List (List Entry)) → AreRightTrails catalog capacity trails → AreGotRight catalog (reverse (merge trails))
+  pub trails_got : (trails : List (List Entry)) → AreRightTrails catalog capacity trails
+      → AreGotRight catalog (reverse (merge trails))
   trails_got trails are = whole_got (reverse (merge trails)) (merged_run catalog capacity trails are)
+
+  pub trails_once : (trails : List (List Entry)) → AreRightTrails catalog capacity trails
+      → AreOnce (stands catalog (reverse (merge trails)))
+  trails_once trails are = whole_once (reverse (merge trails)) (merged_run catalog capacity trails are)

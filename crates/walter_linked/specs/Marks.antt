@@ -24,7 +24,8 @@ own_commits W j = of_site j (W j).knows.log
 
 -- more sites than may be lost have commit m of site j, the preferred sites of all that it changed among them
 abbrev pub IsDurableBy : Catalog → (SiteId → Standing) → SiteId → ℕ → Type 0
-IsDurableBy catalog W j m = IsDurable (λ oid. preferred catalog fresh oid) catalog.tolerated (own_commits W j) (λ k. (W k).knows.got j) m
+IsDurableBy catalog W j m = IsDurable (λ oid. preferred catalog fresh oid) catalog.tolerated (own_commits W j)
+    (λ k. (W k).knows.got j) m
 
 -- each site of the catalog has committed it
 abbrev pub IsVisibleBy : Catalog → (SiteId → Standing) → SiteId → ℕ → Type 0
@@ -37,10 +38,13 @@ IsOwnCommit W i tid m = (p : ℕ) × (r : Held) × (m ≡ p + 1) × (slice_get (
 -- an entry commits another site's commit only where it is durable, and tells a client of the level of a transaction only
 -- what is so
 pub record AreMarksTrue (catalog : Catalog) (older : List Named) (n : Named) : Type 0 where
-  pub seen : (j : SiteId) (m : ℕ) → (n.1.came.wrote ≡ Some (Seen j m)) ⊎ (n.1.came.kept ≡ Some (Seen j m)) → IsDurableBy catalog (stands catalog older) j m
-  pub durable : (client : ℕ) (tid : Tid) → n.1.event ≡ Given (Call client (Ok (LevelAsked tid))) → n.1.came.outcome ≡ Replied (Level Durable)
+  pub seen : (j : SiteId) (m : ℕ) → (n.1.came.wrote ≡ Some (Seen j m)) ⊎ (n.1.came.kept ≡ Some (Seen j m))
+      → IsDurableBy catalog (stands catalog older) j m
+  pub durable : (client : ℕ) (tid : Tid) → n.1.event ≡ Given (Call client (Ok (LevelAsked tid)))
+      → n.1.came.outcome ≡ Replied (Level Durable)
       → (m : ℕ) × IsOwnCommit (stands catalog older) n.0 tid m × IsDurableBy catalog (stands catalog older) n.0 m
-  pub visible : (client : ℕ) (tid : Tid) → n.1.event ≡ Given (Call client (Ok (LevelAsked tid))) → n.1.came.outcome ≡ Replied (Level Visible)
+  pub visible : (client : ℕ) (tid : Tid) → n.1.event ≡ Given (Call client (Ok (LevelAsked tid)))
+      → n.1.came.outcome ≡ Replied (Level Visible)
       → (m : ℕ) × IsOwnCommit (stands catalog older) n.0 tid m × IsVisibleBy catalog (stands catalog older) n.0 m
 
 -- what a site has of another stands there as that one's own commit, by its number
@@ -48,3 +52,10 @@ abbrev pub AreGotRight : Catalog → List Named → Type 0
 AreGotRight catalog run =
     (i j : SiteId) (p : ℕ) (r : Held) → slice_get (of_site j (stands catalog run i).knows.log) p ≡ Some r
     → (slice_get (own_commits (stands catalog run) j) p ≡ Some r) × (r.seq ≡ p + 1)
+
+-- no transaction has two own commits, at any two sites
+abbrev pub AreOnce : (SiteId → Standing) → Type 0
+AreOnce W =
+    (i j : SiteId) (p q : ℕ) (r s : Held) → slice_get (own_commits W i) p ≡ Some r
+    → slice_get (own_commits W j) q ≡ Some s → r.tx.tid ≡ s.tx.tid
+    → (i ≡ j) × (p ≡ q)
