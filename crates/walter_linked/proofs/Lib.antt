@@ -11,5 +11,3 @@ pub mod MarksTold
 pub mod Marking
 pub mod MarkedRuns
 pub mod Whole
-pub mod Spent
-pub mod Once

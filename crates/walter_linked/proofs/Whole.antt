@@ -9,10 +9,9 @@ use Rattle.walter_runs.proofs.Running.{merged_run}
 use Rattle.walter_alone.proofs.Alone.{home}
 use Rattle.walter_alone.proofs.KeptSteps.{right_alone, settled_alone}
 use Rattle.walter_linked.specs.Catalogs.{IsWhole}
-use Rattle.walter_linked.specs.Marks.{AreMarksTrue, AreGotRight, AreOnce}
+use Rattle.walter_linked.specs.Marks.{AreMarksTrue, AreGotRight}
 use Rattle.walter_linked.proofs.Agreed.{AreAgreed}
 use Rattle.walter_linked.proofs.MarkedRuns.{marks_true, got_right}
-use Rattle.walter_linked.proofs.Once.{run_once}
 use Rattle.walter_linked.proofs.Runs.{homes_below, agreed_at_first, run_agrees}
 
 -- the entries before some of a run are a run
@@ -40,12 +39,6 @@ module _ (catalog : Catalog) (capacity : ℕ) (whole : IsWhole catalog) where
   whole_got (n ∷ older) is = got_right catalog capacity (run_homes n older is) (right_alone catalog capacity)
       (settled_alone catalog capacity) (n ∷ older) is
 
-  -- no transaction has two own commits
-  pub whole_once : (run : List Named) → IsRun catalog capacity run → AreOnce (stands catalog run)
-  whole_once [] is = λ i j p q r s here. absurd cc
-  whole_once (n ∷ older) is = run_once catalog capacity (run_homes n older is) (right_alone catalog capacity)
-      (settled_alone catalog capacity) (n ∷ older) is
-
   -- marks are true at each entry
   pub whole_marks : (older : List Named) (n : Named) → IsRun catalog capacity (n ∷ older) → AreMarksTrue catalog older n
   whole_marks older n is = marks_true catalog capacity (run_homes n older is) (right_alone catalog capacity)
@@ -62,7 +55,3 @@ module _ (catalog : Catalog) (capacity : ℕ) (whole : IsWhole catalog) where
   pub trails_got : (trails : List (List Entry)) → AreRightTrails catalog capacity trails
       → AreGotRight catalog (reverse (merge trails))
   trails_got trails are = whole_got (reverse (merge trails)) (merged_run catalog capacity trails are)
-
-  pub trails_once : (trails : List (List Entry)) → AreRightTrails catalog capacity trails
-      → AreOnce (stands catalog (reverse (merge trails)))
-  trails_once trails are = whole_once (reverse (merge trails)) (merged_run catalog capacity trails are)

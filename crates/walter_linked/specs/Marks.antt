@@ -52,10 +52,3 @@ abbrev pub AreGotRight : Catalog → List Named → Type 0
 AreGotRight catalog run =
     (i j : SiteId) (p : ℕ) (r : Held) → slice_get (of_site j (stands catalog run i).knows.log) p ≡ Some r
     → (slice_get (own_commits (stands catalog run) j) p ≡ Some r) × (r.seq ≡ p + 1)
-
--- no transaction has two own commits, at any two sites
-abbrev pub AreOnce : (SiteId → Standing) → Type 0
-AreOnce W =
-    (i j : SiteId) (p q : ℕ) (r s : Held) → slice_get (own_commits W i) p ≡ Some r
-    → slice_get (own_commits W j) q ≡ Some s → r.tx.tid ≡ s.tx.tid
-    → (i ≡ j) × (p ≡ q)

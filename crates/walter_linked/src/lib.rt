@@ -3,4 +3,4 @@
 
 mod laws;
 
-pub use laws::{commits_once, marks_are_true};
+pub use laws::{holds_own_commits, marks_are_true};

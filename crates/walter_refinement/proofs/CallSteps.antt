@@ -1,41 +1,34 @@
 -- The entries of clients' calls that bring no record keep what is known of the history.
-use Rattle.std.proofs.Common.{◌≡◌, ◌≢◌, ℕ, zero, suc, ◌+◌, ◌<◌, ◌≤◌, nat_le, List, [], ◌∷◌, ◌++◌, flat_map, filter, length, refl, ap, sym, ◌∙◌, subst, arith, slice_get, Some, None, Bool, true, false, inl, inr, ◌⊎◌, if◌then◌else◌}
-use Rattle.std.specs.Prelude.{Option, Contains, Result, Ok}
-use Rattle.std.proofs.lemmas.List.{append-nil}
+use Rattle.std.proofs.Common.{◌≡◌, ◌≢◌, ℕ, zero, suc, ◌<◌, List, [], ◌∷◌, ◌++◌, refl, ap, sym, ◌∙◌, subst, arith, Some, None, true, inl, inr, ◌⊎◌}
+use Rattle.std.specs.Prelude.{Option, Result}
 use Rattle.std.proofs.lemmas.Option.{same_Some}
 use Rattle.walter_base.specs.declared.catalog.Catalog.{Catalog}
 use Rattle.walter_base.specs.declared.message.BadFrame.{BadFrame}
-use Rattle.walter_base.specs.declared.message.Level.TheVariants.{NotCommitted, Running, Deciding as BeingDecided, Committed as LevelCommitted, Durable, Visible}
 use Rattle.walter_base.specs.declared.message.Record.{Record}
 use Rattle.walter_base.specs.declared.message.Refusal.{Refusal}
 use Rattle.walter_base.specs.declared.message.Reply.{Reply}
-use Rattle.walter_base.specs.declared.message.Reply.TheVariants.{Started, Value, Done, Set, Count, Committed, Aborted, Deciding, Level, Ended, Refused}
+use Rattle.walter_base.specs.declared.message.Reply.TheVariants.{Started, Done, Aborted, Deciding, Ended, Refused}
 use Rattle.walter_base.specs.declared.message.Request.{Request}
-use Rattle.walter_base.specs.declared.message.Request.TheVariants.{Start as StartAsked, Read as ReadAsked, Write as WriteAsked, SetAdd, SetDel, SetRead, SetReadId, Commit as CommitAsked, Abort as AbortAsked, Level as LevelAsked}
 use Rattle.walter_base.specs.declared.names.ObjId.{ObjId}
 use Rattle.walter_base.specs.declared.names.SiteId.{SiteId}
 use Rattle.walter_base.specs.declared.names.Tid.{Tid}
 use Rattle.walter_base.specs.declared.transaction.Cause.{Cause}
-use Rattle.walter_base.specs.declared.transaction.Cause.TheVariants.{Asked}
 use Rattle.walter_base.specs.declared.update.Update.{Update}
-use Rattle.walter_base.specs.Vectors.{entry_at}
 use Rattle.walter_base.specs.ByClient.{without}
 use Rattle.walter_base.proofs.ByClient.{changed-same}
 use Rattle.walter_psi.specs.declared.step.Answer.{Answer}
 use Rattle.walter_psi.specs.declared.step.Step.{Step}
-use Rattle.walter_psi.specs.declared.step.Step.TheVariants.{Start, Op, Read, Commit, Abort, Told}
+use Rattle.walter_psi.specs.declared.step.Step.TheVariants.{Op, Read, Commit, Abort}
 use Rattle.walter_psi.specs.Legal.{IsAnswer, IsCauseOfAbort}
 use Rattle.walter_rules.specs.declared.event.Event.TheVariants.{Given}
 use Rattle.walter_rules.specs.declared.event.Input.TheVariants.{Call}
-use Rattle.walter_rules.specs.declared.outcome.Outcome.{Outcome}
 use Rattle.walter_rules.specs.declared.outcome.Outcome.TheVariants.{Replied}
-use Rattle.walter_rules.specs.Allowed.{HasOpen, IsUpdateCall, of_write, of_add, of_del, IsReadCall, of_value, of_counts, of_count}
+use Rattle.walter_rules.specs.Allowed.{HasOpen}
 use Rattle.walter_rules.specs.Calls.{next_tid, read_updates}
-use Rattle.walter_rules.specs.Knowledge.{Knowledge, session_of, vector_of}
+use Rattle.walter_rules.specs.Knowledge.{session_of, vector_of}
 use Rattle.walter_rules.specs.Learning.{deciding, updated}
-use Rattle.walter_rules.specs.Log.{of_site, sees}
 use Rattle.walter_rules.specs.Sending.{Send}
-use Rattle.walter_rules.specs.Sessions.{Session, session_in, with_update, with_slow}
+use Rattle.walter_rules.specs.Sessions.{Session, session_in, with_update}
 use Rattle.walter_rules.specs.Standing.{Standing}
 use Rattle.walter_agreement.proofs.Issued.{IsIssued, next_not_issued}
 use Rattle.walter_agreement.proofs.Numbers.{IsLogOf}
@@ -43,10 +36,10 @@ use Rattle.walter_alone.proofs.Alone.{IsAlone, issued_of, issued_by}
 use Rattle.walter_linked.proofs.Agreed.{Stands, Put, logs, owns, counts, at_site, AreAgreed}
 use Rattle.walter_refinement.specs.Spelled.{recorded, answered, of_session, aborted, did}
 use Rattle.walter_refinement.proofs.AnyWriter.{read_any, snapshot_within}
-use Rattle.walter_refinement.proofs.Entries.{IsFewer, IsWith, did_op, did_read, did_abort, did_start}
-use Rattle.walter_refinement.proofs.Going.{IsStill, BeginsNew, IsQuiet, quiet_by, then_, same_then, final_then, dropped_final, decided_final}
+use Rattle.walter_refinement.proofs.Entries.{IsFewer, did_op, did_read, did_abort, did_start}
+use Rattle.walter_refinement.proofs.Going.{IsQuiet, quiet_by, then_, same_then, final_then}
 use Rattle.walter_refinement.proofs.Keys.{opened_cases, changed_cases, without_cases, with_by, without_by}
-use Rattle.walter_refinement.proofs.Moves.{in_flight, held_by, held, numbers, spent, at_here, higher, Spells, IsDecidedBy, GoesOn, HoldsFewer, stepped, begins_new, fewer_held}
+use Rattle.walter_refinement.proofs.Moves.{in_flight, held_by, held, numbers, spent, at_here, higher, Spells, GoesOn, stepped, begins_new, fewer_held}
 use Rattle.walter_refinement.proofs.Quiet.{issued_same, live_open, quiet_entry}
 use Rattle.walter_refinement.proofs.Spelled.{Key, IsLive, IsSpelledAt}
 use Rattle.walter_refinement.proofs.Vectors.{vector_is}

@@ -1,33 +1,24 @@
 -- The cause of an abort was there: a version outside the snapshot, or another's lock.
-use Rattle.std.proofs.Common.{◌≡◌, ◌≢◌, ℕ, zero, suc, ◌+◌, ◌-◌, ◌<◌, ◌≤◌, List, [], ◌∷◌, map, refl, ap, sym, ◌∙◌, subst, arith, slice_get, Some, None, true, false, inl, inr, ◌⊎◌}
-use Rattle.std.specs.Prelude.{Option, Contains}
-use Rattle.std.proofs.lemmas.Option.{same_Some}
+use Rattle.std.proofs.Common.{◌≡◌, ◌≢◌, ℕ, ◌-◌, ◌≤◌, List, map, refl, ap, sym, ◌∙◌, subst, arith, slice_get, Some}
+use Rattle.std.specs.Prelude.{Contains}
 use Rattle.walter_base.specs.declared.catalog.Catalog.{Catalog}
 use Rattle.walter_base.specs.declared.names.ObjId.{ObjId}
 use Rattle.walter_base.specs.declared.names.SiteId.{SiteId}
 use Rattle.walter_base.specs.declared.names.Tid.{Tid}
 use Rattle.walter_base.specs.declared.names.Version.{Version}
-use Rattle.walter_base.specs.declared.packet.Answer.TheVariants.{No}
-use Rattle.walter_base.specs.declared.packet.Packet.TheVariants.{Vote}
 use Rattle.walter_base.specs.declared.transaction.Conflict.{Conflict}
 use Rattle.walter_base.specs.declared.transaction.Conflict.TheVariants.{Modified, Locked as LockedThere, Dead}
-use Rattle.walter_base.specs.declared.transaction.Tx.{Tx}
 use Rattle.walter_base.specs.Conflicts.{first_outside}
 use Rattle.walter_base.specs.Values.{write_set}
 use Rattle.walter_psi.specs.declared.step.Step.{Step}
 use Rattle.walter_psi.specs.Histories.{own_updates}
 use Rattle.walter_psi.specs.Legal.{IsCauseOfAbort, IsOutside}
 use Rattle.walter_rules.specs.declared.held.Held.{Held}
-use Rattle.walter_rules.specs.Allowed.{HasOpen, HasBegun}
-use Rattle.walter_rules.specs.Conflicts.{conflict_at, first_conflict, cause_of}
-use Rattle.walter_rules.specs.Knowledge.{Knowledge}
+use Rattle.walter_rules.specs.Allowed.{HasOpen}
+use Rattle.walter_rules.specs.Conflicts.{conflict_at, cause_of}
 use Rattle.walter_rules.specs.Log.{row, version_of}
-use Rattle.walter_rules.specs.Objects.{objects_at}
 use Rattle.walter_rules.specs.Sessions.{Session, tx_of}
-use Rattle.walter_rules.specs.Slow.{Dropped, begun}
-use Rattle.walter_rules.proofs.RuleTests.{one_meets}
-use Rattle.walter_rules.proofs.WrittenObjects.{objects_at_from}
-use Rattle.walter_agreement.proofs.Cases.{site_cases}
+use Rattle.walter_rules.specs.Slow.{begun}
 use Rattle.walter_alone.proofs.Alone.{IsAlone}
 use Rattle.walter_linked.proofs.Agreed.{Stands, Put, logs, owns, counts, slows, AreAgreed, IsOver}
 use Rattle.walter_linked.proofs.Said.{over_modified, over_locked, first_outside_held, held_own}
@@ -66,8 +57,7 @@ module _ (catalog : Catalog) (W : Stands) (put : Put) (h : List Step) (alone : (
         let over = over_modified at_ oid (first_outside s.snapshot (map version_of (row at_ (logs W i)))) ((W i).knows.owner at_) version is in
         let r = first_outside_held (W i).knows s.snapshot at_ version over.1 in
         let own = held_own catalog W put G alone i r.0 r.1 r.2 in
-        let v : version_of r.0 ≡ version = r.3 in
-        (
+        let v : version_of r.0 ≡ version = r.3 in (
           subst (λ z. Contains (write_set s.updates) z) over.0 within,
           (
             r.0,
@@ -80,8 +70,7 @@ module _ (catalog : Catalog) (W : Stands) (put : Put) (h : List Step) (alone : (
     | LockedThere oid owner ↦ λ is.
         let over = over_locked at_ oid (first_outside s.snapshot (map version_of (row at_ (logs W i)))) ((W i).knows.owner at_) owner is in
         let lock = (alone i).owners.owned at_ owner over.1 in
-        let x = G.locked.held i lock.0 lock.1 owner lock.2 lock.3 in
-        (
+        let x = G.locked.held i lock.0 lock.1 owner lock.2 lock.3 in (
           subst (λ z. Contains (write_set s.updates) z) over.0 within,
           λ same.
               let tids : x.0.tid ≡ s.tid = sym x.2 ∙ same in

@@ -1,9 +1,8 @@
 -- The entries by which a slow commit begins, those whose record is in flight, and a restart that found it.
-use Rattle.std.proofs.Common.{◌≡◌, ◌≢◌, ℕ, zero, suc, ◌+◌, ◌-◌, ◌<◌, ◌≤◌, nat_eq, List, [], ◌∷◌, ◌++◌, length, refl, ap, sym, ◌∙◌, subst, arith, slice_get, Some, None, Bool, true, false, inl, inr, ◌⊎◌, if◌then◌else◌}
-use Rattle.std.specs.Prelude.{Option, Contains, Ok, option_map}
+use Rattle.std.proofs.Common.{◌≡◌, ◌≢◌, ℕ, zero, suc, ◌-◌, List, [], ◌++◌, refl, ap, sym, ◌∙◌, subst, arith, Some, None, true, false, inl, inr, ◌⊎◌, if◌then◌else◌}
+use Rattle.std.specs.Prelude.{Option, Ok}
 use Rattle.std.proofs.lemmas.List.{append-nil}
 use Rattle.std.proofs.lemmas.Option.{same_Some}
-use Rattle.std.proofs.lemmas.Bool.{eq-eqb}
 use Rattle.walter_base.specs.declared.catalog.Catalog.{Catalog}
 use Rattle.walter_base.specs.declared.message.Record.{Record}
 use Rattle.walter_base.specs.declared.message.Record.TheVariants.{Boot, Own, Got, Seen, Prepared, Released, SlowBegin, SlowEnd, Marks}
@@ -12,13 +11,10 @@ use Rattle.walter_base.specs.declared.message.Request.TheVariants.{Commit as Com
 use Rattle.walter_base.specs.declared.names.SiteId.{SiteId}
 use Rattle.walter_base.specs.declared.names.Tid.{Tid}
 use Rattle.walter_base.specs.declared.packet.Packet.TheVariants.{Propagate}
-use Rattle.walter_base.specs.declared.transaction.Tx.{Tx}
-use Rattle.walter_base.specs.Names.{same_site}
 use Rattle.walter_psi.specs.declared.step.Step.{Step}
-use Rattle.walter_psi.specs.declared.step.Step.TheVariants.{Commit}
 use Rattle.walter_psi.specs.Histories.{IsCommitted}
 use Rattle.walter_rules.specs.declared.event.Event.{Event}
-use Rattle.walter_rules.specs.declared.event.Event.TheVariants.{Given, Restart}
+use Rattle.walter_rules.specs.declared.event.Event.TheVariants.{Given}
 use Rattle.walter_rules.specs.declared.event.Input.TheVariants.{Call}
 use Rattle.walter_rules.specs.declared.outcome.Outcome.{Outcome}
 use Rattle.walter_rules.specs.declared.outcome.Outcome.TheVariants.{Replied}
@@ -26,23 +22,21 @@ use Rattle.walter_rules.specs.Allowed.{HasOpen}
 use Rattle.walter_rules.specs.Calls.{next_slow}
 use Rattle.walter_rules.specs.Knowledge.{Knowledge, session_of}
 use Rattle.walter_rules.specs.Learning.{recorded, after, lost, deciding}
-use Rattle.walter_rules.specs.Log.{of_site}
 use Rattle.walter_rules.specs.Sending.{Send}
 use Rattle.walter_rules.specs.Sessions.{Session, with_slow, tx_of}
-use Rattle.walter_rules.specs.Slow.{Slow, Unused, Undecided, Dropped, Decided}
-use Rattle.walter_rules.specs.Standing.{Standing, settled, goes_down, comes_up}
+use Rattle.walter_rules.specs.Standing.{settled, goes_down, comes_up}
 use Rattle.walter_agreement.proofs.Issued.{IsIssued}
 use Rattle.walter_alone.proofs.Alone.{IsAlone, issued_of, issued_by}
-use Rattle.walter_linked.proofs.Agreed.{Stands, Put, logs, owns, counts, slows, at_site, AreAgreed, IsDue, IsDueOwn, IsDueSeen}
+use Rattle.walter_linked.proofs.Agreed.{Stands, Put, owns, counts, at_site, AreAgreed, IsDue, IsDueOwn}
 use Rattle.walter_refinement.specs.Spelled.{recorded as spelled_by, answered}
 use Rattle.walter_refinement.proofs.Entries.{moved, numbered_as}
-use Rattle.walter_refinement.proofs.Going.{IsStill, BeginsNew, IsFinal, final_stays, quiet_by, still_log, still_committed, dropped_final, decided_final, then_, same_then, final_then}
+use Rattle.walter_refinement.proofs.Going.{IsStill, BeginsNew, final_stays, quiet_by, still_log, still_committed, dropped_final, decided_final, then_, same_then, final_then}
 use Rattle.walter_refinement.proofs.Keys.{changed_cases, with_by}
-use Rattle.walter_refinement.proofs.Moves.{in_flight, held_by, held, numbers, spent_by, spent, Spells, IsDecidedBy, GoesOn, HoldsFewer, HasSame, views, quiet, unstepped, moved_to, still_decided}
+use Rattle.walter_refinement.proofs.Moves.{in_flight, held_by, held, numbers, spent, Spells, GoesOn, views, quiet, unstepped, moved_to, still_decided}
 use Rattle.walter_refinement.proofs.Others.{issued_fall}
 use Rattle.walter_refinement.proofs.OwnSteps.{not_decided, not_spent, owns_more, seen_here}
-use Rattle.walter_refinement.proofs.Quiet.{issued_same, live_open}
-use Rattle.walter_refinement.proofs.Spelled.{Key, IsLive, IsSpelledAt}
+use Rattle.walter_refinement.proofs.Quiet.{issued_same}
+use Rattle.walter_refinement.proofs.Spelled.{Key}
 use Rattle.walter_refinement.proofs.Spelling.{IsMute, mute_spells, still_spells}
 
 module _ (catalog : Catalog) (i : SiteId) (W : Stands) (put : Put) (h : List Step) (A : IsAlone catalog i (W i)) (G : AreAgreed catalog W put) (sp : Spells W h) where
@@ -56,7 +50,7 @@ module _ (catalog : Catalog) (i : SiteId) (W : Stands) (put : Put) (h : List Ste
   -- a slow commit begins, and its session has its number
   pub begun_so : (client : ℕ) (s : Session) (kept : Option Record) (sends : List Send) (dropped : ℕ) → HasOpen (W i) client s
       → Spells (at_site i (then_ catalog i (W i) (Given (Call client (Ok CommitAsked))) (Replied (Deciding s.tid)) kept (Some (SlowBegin (next_slow (W i).knows) (tx_of (with_slow (next_slow (W i).knows) s)))) None sends dropped) W)
-          (h ++ (spelled_by W i (Some (SlowBegin (next_slow (W i).knows) (tx_of (with_slow (next_slow (W i).knows) s)))) ++ answered i (W i) (Replied (Deciding s.tid)) (Given (Call client (Ok CommitAsked)))))
+      (h ++ (spelled_by W i (Some (SlowBegin (next_slow (W i).knows) (tx_of (with_slow (next_slow (W i).knows) s)))) ++ answered i (W i) (Replied (Deciding s.tid)) (Given (Call client (Ok CommitAsked)))))
   begun_so client s kept sends dropped open_ =
       let n = next_slow (W i).knows in
       let x = tx_of (with_slow n s) in
@@ -152,6 +146,7 @@ module _ (catalog : Catalog) (i : SiteId) (W : Stands) (put : Put) (h : List Ste
         | inl before ↦ inl (omega (arith, before, next))
         | inr now ↦ let e = now.0 in inl (omega (arith, e, next))
       ]
+
       rises : (x : Tid) → IsIssued (issued_by false (W i).knows) x → IsIssued (issued_of (settled catalog i (Some (Boot epoch)) (W i))) x
       rises x g = subst (λ b. IsIssued (issued_by b (recorded catalog i (Some (Boot epoch)) (W i).knows)) x) (sym down) (later x g)
   kept_so (Own seq x) down flies due =

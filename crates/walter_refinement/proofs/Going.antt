@@ -1,5 +1,5 @@
 -- How a site goes on by what came of an event: what it has committed, which names it has given, what it holds.
-use Rattle.std.proofs.Common.{◌≡◌, ◌≢◌, ℕ, zero, suc, ◌+◌, ◌<◌, ◌≤◌, nat_eq, List, [], ◌∷◌, ◌++◌, length, refl, ap, sym, ◌∙◌, subst, arith, Some, None, Bool, true, false, inl, inr, ◌⊎◌, if◌then◌else◌}
+use Rattle.std.proofs.Common.{◌≡◌, ◌≢◌, ℕ, zero, suc, nat_eq, List, refl, ap, sym, ◌∙◌, subst, Some, None, true, false, inl, inr, if◌then◌else◌}
 use Rattle.std.specs.Prelude.{Option}
 use Rattle.std.proofs.lemmas.Bool.{eqb-true}
 use Rattle.std.proofs.lemmas.Option.{same_Some}
@@ -14,18 +14,18 @@ use Rattle.walter_rules.specs.declared.entry.Came.{Came}
 use Rattle.walter_rules.specs.declared.event.Event.{Event}
 use Rattle.walter_rules.specs.declared.held.Held.{Held}
 use Rattle.walter_rules.specs.declared.outcome.Outcome.{Outcome}
-use Rattle.walter_rules.specs.Knowledge.{Knowledge, session_of, vector_of}
-use Rattle.walter_rules.specs.Learning.{log_after, committed_after, slow_after, recorded, sessions_after, after, lost}
+use Rattle.walter_rules.specs.Knowledge.{Knowledge, session_of}
+use Rattle.walter_rules.specs.Learning.{log_after, committed_after, slow_after, after, lost}
 use Rattle.walter_rules.specs.Log.{is_of, of_site}
 use Rattle.walter_rules.specs.Objects.{participants}
 use Rattle.walter_rules.specs.Sending.{Send}
-use Rattle.walter_rules.specs.Sessions.{Session, Sessions}
+use Rattle.walter_rules.specs.Sessions.{Session}
 use Rattle.walter_rules.specs.Slow.{Slow, Unused, Undecided, Dropped, Decided, ended, decided}
-use Rattle.walter_rules.specs.Standing.{Standing, settled, goes_down, up_after, knows_after, stands_after}
+use Rattle.walter_rules.specs.Standing.{Standing, goes_down, knows_after, stands_after}
 use Rattle.walter_agreement.proofs.Cases.{site_cases}
 use Rattle.walter_agreement.proofs.Issued.{IsIssued}
 use Rattle.walter_agreement.proofs.Lists.{filter_push_left}
-use Rattle.walter_alone.proofs.Alone.{issued_of, issued_by}
+use Rattle.walter_alone.proofs.Alone.{issued_of}
 use Rattle.walter_refinement.proofs.Moves.{in_flight, held_by, GoesOn, HoldsFewer, HasSame}
 
 -- a record that commits nothing here

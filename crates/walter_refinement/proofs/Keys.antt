@@ -1,5 +1,5 @@
 -- How what a site holds changes by a call, key by key.
-use Rattle.std.proofs.Common.{◌≡◌, ◌≢◌, ℕ, zero, suc, ◌+◌, nat_eq, List, [], ◌∷◌, ◌++◌, refl, ap, sym, ◌∙◌, subst, arith, Some, None, Bool, true, false, inl, inr, ◌⊎◌, if◌then◌else◌}
+use Rattle.std.proofs.Common.{◌≡◌, ◌≢◌, ℕ, nat_eq, [], ◌∷◌, ◌++◌, refl, ap, sym, ◌∙◌, subst, Some, None, true, false, inl, inr, ◌⊎◌}
 use Rattle.std.specs.Prelude.{Option, option_map}
 use Rattle.std.specs.Map.{lookup}
 use Rattle.std.proofs.lemmas.Bool.{eqb-true, eq-eqb}

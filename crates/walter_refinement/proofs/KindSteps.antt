@@ -1,78 +1,66 @@
 -- An entry of each kind keeps what is known of the history.
-use Rattle.std.proofs.Common.{◌≡◌, ◌≢◌, ℕ, zero, suc, ◌+◌, ◌<◌, ◌≤◌, nat_le, List, [], ◌∷◌, ◌++◌, refl, ap, sym, ◌∙◌, subst, arith, slice_get, Some, None, Bool, true, false, inl, inr, ◌⊎◌, if◌then◌else◌}
-use Rattle.std.specs.Prelude.{Option, Contains, IfSome, Result, Ok}
+use Rattle.std.proofs.Common.{◌≡◌, ◌≢◌, ℕ, zero, suc, ◌<◌, ◌≤◌, nat_le, List, [], ◌∷◌, ◌++◌, refl, ap, sym, ◌∙◌, subst, arith, slice_get, Some, None, true, false, inl, inr, if◌then◌else◌}
+use Rattle.std.specs.Prelude.{Option, Result, Ok}
 use Rattle.std.proofs.lemmas.Option.{same_Some}
 use Rattle.walter_base.specs.declared.catalog.Catalog.{Catalog}
 use Rattle.walter_base.specs.declared.message.BadFrame.{BadFrame}
 use Rattle.walter_base.specs.declared.message.Level.{Level as HowFar}
-use Rattle.walter_base.specs.declared.message.Level.TheVariants.{NotCommitted, Running, Deciding as BeingDecided, Committed as LevelCommitted, Durable, Visible}
+use Rattle.walter_base.specs.declared.message.Level.TheVariants.{NotCommitted, Committed as LevelCommitted, Durable, Visible}
 use Rattle.walter_base.specs.declared.message.Record.{Record}
-use Rattle.walter_base.specs.declared.message.Record.TheVariants.{Boot, Own, Got, Seen, Prepared, Released, SlowBegin, SlowEnd, Marks}
-use Rattle.walter_base.specs.declared.message.Refusal.TheVariants.{Memory as NoMemory, JournalFull}
+use Rattle.walter_base.specs.declared.message.Record.TheVariants.{Own}
 use Rattle.walter_base.specs.declared.message.Reply.{Reply}
-use Rattle.walter_base.specs.declared.message.Reply.TheVariants.{Started, Value, Done, Set, Count, Committed, Aborted, Deciding, Level, Ended, Unsure, Refused}
+use Rattle.walter_base.specs.declared.message.Reply.TheVariants.{Value, Done, Set, Count, Committed, Aborted, Level}
 use Rattle.walter_base.specs.declared.message.Request.{Request}
-use Rattle.walter_base.specs.declared.message.Request.TheVariants.{Start as StartAsked, Read as ReadAsked, Write as WriteAsked, SetAdd, SetDel, SetRead, SetReadId, Commit as CommitAsked, Abort as AbortAsked, Level as LevelAsked}
-use Rattle.walter_base.specs.declared.names.ObjId.{ObjId}
+use Rattle.walter_base.specs.declared.message.Request.TheVariants.{Read as ReadAsked, Write as WriteAsked, SetAdd, SetDel, SetRead, SetReadId, Commit as CommitAsked, Level as LevelAsked}
 use Rattle.walter_base.specs.declared.names.SiteId.{SiteId}
 use Rattle.walter_base.specs.declared.names.Tid.{Tid}
 use Rattle.walter_base.specs.declared.packet.Answer.TheVariants.{Yes, No}
-use Rattle.walter_base.specs.declared.packet.Packet.TheVariants.{Propagate, Ack, Dsmark, Visible as VisibleSaid, Prepare, Vote, Release, Released as ReleasedSaid}
-use Rattle.walter_base.specs.declared.transaction.Cause.TheVariants.{Asked}
+use Rattle.walter_base.specs.declared.packet.Packet.TheVariants.{Vote}
 use Rattle.walter_base.specs.declared.transaction.Conflict.{Conflict}
-use Rattle.walter_base.specs.declared.transaction.Conflict.TheVariants.{Dead}
 use Rattle.walter_base.specs.declared.transaction.Tx.{Tx}
 use Rattle.walter_base.specs.declared.update.Update.{Update}
 use Rattle.walter_base.specs.declared.update.Update.TheVariants.{Write as WriteOf, Add, Del}
 use Rattle.walter_base.specs.Values.{value_of, count_of, counts_of, AreCounts}
 use Rattle.walter_base.proofs.Counted.{counts_of_are}
-use Rattle.walter_psi.specs.declared.step.Answer.{Answer}
 use Rattle.walter_psi.specs.declared.step.Answer.TheVariants.{Value as ValueIs, Counts as CountsAre, Count as CountIs}
 use Rattle.walter_psi.specs.declared.step.Level.{Level as ToldLevel}
 use Rattle.walter_psi.specs.declared.step.Level.TheVariants.{NotCommitted as ToldNotCommitted, Committed as ToldCommitted, Durable as ToldDurable, Visible as ToldVisible}
 use Rattle.walter_psi.specs.declared.step.Notice.TheVariants.{Version as OfVersion, Level as OfLevel}
 use Rattle.walter_psi.specs.declared.step.Step.{Step}
-use Rattle.walter_psi.specs.declared.step.Step.TheVariants.{Read, Commit, Told}
-use Rattle.walter_psi.specs.Histories.{IsCommitted}
+use Rattle.walter_psi.specs.declared.step.Step.TheVariants.{Told}
 use Rattle.walter_rules.specs.declared.event.Event.{Event}
-use Rattle.walter_rules.specs.declared.event.Event.TheVariants.{Given, Stop, Restart}
-use Rattle.walter_rules.specs.declared.event.Input.TheVariants.{Call, Deliver, Advance, Tick}
-use Rattle.walter_rules.specs.declared.held.Held.{Held}
+use Rattle.walter_rules.specs.declared.event.Event.TheVariants.{Given}
+use Rattle.walter_rules.specs.declared.event.Input.TheVariants.{Call, Deliver}
 use Rattle.walter_rules.specs.declared.outcome.Outcome.{Outcome}
-use Rattle.walter_rules.specs.declared.outcome.Outcome.TheVariants.{Replied, Taken, Passed, Failed, Full, Memory, Down}
-use Rattle.walter_rules.specs.Allowed.{HasOpen, HasBegun, IsUpdateCall, of_write, of_add, of_del, IsReadCall, of_value, of_counts, of_count, IsKind, is_refused, starts, does, reads, ends, aborts, conflicts, commits, begins, waits, tells_version, tells_cause, levels_own, is_deciding, is_running, denies, passes, receives, hears_ack, hears_durable, hears_visible, marks_durable, marks_visible, prepares, hears_yes, decides, gives_up, releases, hears_released, sees, stops, is_down, boots}
-use Rattle.walter_rules.specs.Calls.{own_version, read_updates, level_of_own, seq_of, is_issued, is_undecided, is_open, next_seq, next_slow}
+use Rattle.walter_rules.specs.declared.outcome.Outcome.TheVariants.{Replied, Taken}
+use Rattle.walter_rules.specs.Allowed.{HasOpen, HasBegun, IsUpdateCall, of_write, of_add, of_del, IsReadCall, of_value, of_counts, of_count}
+use Rattle.walter_rules.specs.Calls.{own_version, read_updates, level_of_own, seq_of, is_issued, is_undecided, is_open, next_seq}
 use Rattle.walter_rules.specs.Conflicts.{first_conflict, cause_of}
-use Rattle.walter_rules.specs.Knowledge.{Knowledge, session_of}
-use Rattle.walter_rules.specs.Log.{of_site, version_of}
+use Rattle.walter_rules.specs.Log.{version_of}
 use Rattle.walter_rules.specs.Marks.{durable_mark, visible_mark}
 use Rattle.walter_rules.specs.Objects.{objects_at}
 use Rattle.walter_rules.specs.Sending.{Send}
 use Rattle.walter_rules.specs.Sessions.{Session, tx_of}
-use Rattle.walter_rules.specs.Slow.{Slow, Unused, Undecided, Dropped, Decided, begun}
-use Rattle.walter_rules.specs.Standing.{Standing}
-use Rattle.walter_rules.specs.Trails.{failure, fullness, want}
+use Rattle.walter_rules.specs.Slow.{Unused, Undecided, Dropped, Decided, begun}
 use Rattle.walter_rules.proofs.RuleTests.{one_meets}
 use Rattle.walter_rules.proofs.WrittenObjects.{objects_at_from}
 use Rattle.walter_rules.proofs.RuleTests.{first_alive}
-use Rattle.walter_agreement.proofs.Cases.{zero_or, low_or, none_not_some, same_open}
+use Rattle.walter_agreement.proofs.Cases.{zero_or, low_or, same_open}
 use Rattle.walter_agreement.proofs.Issued.{IsIssued}
-use Rattle.walter_agreement.proofs.Numbers.{AreOwned}
-use Rattle.walter_alone.proofs.Alone.{IsAlone, issued_of, issued_by}
-use Rattle.walter_linked.proofs.Agreed.{Stands, Put, logs, owns, counts, slows, at_site, AreAgreed, IsOver, IsDue, IsDueOwn}
+use Rattle.walter_alone.proofs.Alone.{IsAlone, issued_by}
+use Rattle.walter_linked.proofs.Agreed.{Stands, Put, owns, counts, at_site, AreAgreed, IsOver, IsDueOwn}
 use Rattle.walter_refinement.specs.Spelled.{recorded as spelled_by, answered, of_session, told, saw, saw_set, saw_count}
-use Rattle.walter_refinement.proofs.CallSteps.{refused, waits_on, ended, aborted_so, done_so, seen_so, goes_same, goes_closed, read_so, started_so, open_live, replied_so}
+use Rattle.walter_refinement.proofs.CallSteps.{aborted_so, done_so, seen_so, goes_same, goes_closed, read_so, open_live, replied_so}
 use Rattle.walter_refinement.proofs.Causes.{cause_there, over_here}
 use Rattle.walter_refinement.proofs.Entries.{did_tell_version, did_tell_level, did_deny}
 use Rattle.walter_refinement.proofs.Facts.{committed_exactly}
-use Rattle.walter_refinement.proofs.Flights.{begun_so, own_flies, none_flies}
-use Rattle.walter_refinement.proofs.Going.{IsStill, BeginsNew, then_}
-use Rattle.walter_refinement.proofs.Moves.{in_flight, held_by, held, numbers, spent, spent_by, Spells, IsDecidedBy}
+use Rattle.walter_refinement.proofs.Flights.{none_flies}
+use Rattle.walter_refinement.proofs.Going.{then_}
+use Rattle.walter_refinement.proofs.Moves.{held_by, held, numbers, spent, spent_by, Spells}
 use Rattle.walter_refinement.proofs.Names.{seq_some, seq_none, issued_true, open_found, undecided_found}
-use Rattle.walter_refinement.proofs.Others.{stays, falls, passed, was_down, taken, stopped, unread, booted}
-use Rattle.walter_refinement.proofs.OwnSteps.{committed_so, decided_so, seen_so as seen_there}
+use Rattle.walter_refinement.proofs.OwnSteps.{decided_so}
 use Rattle.walter_refinement.proofs.Quiet.{issued_same, live_open, quiet_entry}
-use Rattle.walter_refinement.proofs.Spelled.{Key, IsLive, IsSpelledAt}
+use Rattle.walter_refinement.proofs.Spelled.{IsSpelledAt}
 
 positive : (n : ℕ) → n ≢ 0 → 1 ≤ n
 positive zero some = absurd (some refl)
@@ -164,13 +152,13 @@ module _ (catalog : Catalog) (i : SiteId) (W : Stands) (put : Put) (h : List Ste
       (goes_same catalog i W put h (alone i) G sp client (Ok (LevelAsked tid)) kept sends dropped (Level NotCommitted) refl refl (λ x g. issued_same (W i).up (W i).knows (replied_so catalog i W put h (alone i) G sp client (Ok (LevelAsked tid)) kept sends dropped (Level NotCommitted)).knows x refl (omega arith) g))
       (λ after few. did_deny (owns W) (counts W) (numbers W) (held W) (spent W) h sp.spelled tid after
       (λ committed.
-          let row = (committed_exactly (owns W) (counts W) (numbers W) (held W) (spent W) h G.numbered.own sp.spelled tid).0 committed in
-          let site : row.0 ≡ i = sym (G.numbered.own.site row.0 row.1 row.2 row.3) ∙ (ap (λ (x : Tid). x.site) row.4 ∙ here) in
-          seq_none i (W i).knows tid none row.1 row.2 (subst (λ k. slice_get (owns W k) row.1 ≡ Some row.2) site row.3) row.4)
+      let row = (committed_exactly (owns W) (counts W) (numbers W) (held W) (spent W) h G.numbered.own sp.spelled tid).0 committed in
+      let site : row.0 ≡ i = sym (G.numbered.own.site row.0 row.1 row.2 row.3) ∙ (ap (λ (x : Tid). x.site) row.4 ∙ here) in
+      seq_none i (W i).knows tid none row.1 row.2 (subst (λ k. slice_get (owns W k) row.1 ≡ Some row.2) site row.3) row.4)
       (subst (λ k. IsIssued (numbers W k) tid) (sym here) (subst (λ b. IsIssued (issued_by b (W i).knows) tid) (sym up) (issued_true (W i).knows tid issued)))
       (λ c s has same.
-          let at_i : c.site ≡ i = sym (sp.spelled.home c s has) ∙ (ap (λ (x : Tid). x.site) same ∙ here) in
-          subst (λ k. spent_by c.who (W k)) (sym at_i) (lost_of tid up none not_deciding not_open c.who s (subst (λ k. held_by c.who (W k) ≡ Some s) at_i has) same))
+      let at_i : c.site ≡ i = sym (sp.spelled.home c s has) ∙ (ap (λ (x : Tid). x.site) same ∙ here) in
+      subst (λ k. spent_by c.who (W k)) (sym at_i) (lost_of tid up none not_deciding not_open c.who s (subst (λ k. held_by c.who (W k) ≡ Some s) at_i has) same))
       few)
 
   -- a client is told the version of its slow commit

@@ -1,6 +1,6 @@
 -- What the sites say of the history, and how it goes on where one of them goes on.
-use Rattle.std.proofs.Common.{◌≡◌, ◌≢◌, ℕ, zero, suc, ◌+◌, ◌<◌, ◌≤◌, List, [], ◌∷◌, ◌++◌, length, refl, ap, sym, ◌∙◌, subst, arith, slice_get, Some, None, Bool, true, false, inl, inr, ◌⊎◌, if◌then◌else◌}
-use Rattle.std.specs.Prelude.{Contains, Option}
+use Rattle.std.proofs.Common.{◌≡◌, ◌≢◌, ℕ, zero, suc, ◌+◌, ◌≤◌, List, [], ◌∷◌, ◌++◌, refl, ap, sym, ◌∙◌, subst, slice_get, Some, None, inl, inr, ◌⊎◌, if◌then◌else◌}
+use Rattle.std.specs.Prelude.{Option}
 use Rattle.std.proofs.lemmas.Option.{same_Some}
 use Rattle.walter_base.specs.declared.message.Record.{Record}
 use Rattle.walter_base.specs.declared.message.Record.TheVariants.{Own}
@@ -17,16 +17,16 @@ use Rattle.walter_psi.specs.Legal.{IsBlocked}
 use Rattle.walter_psi.proofs.OneMore.{committed_snoc}
 use Rattle.walter_psi.proofs.LegalFacts.{committed_started}
 use Rattle.walter_rules.specs.declared.held.Held.{Held}
-use Rattle.walter_rules.specs.Knowledge.{Knowledge, session_of}
+use Rattle.walter_rules.specs.Knowledge.{session_of}
 use Rattle.walter_rules.specs.Log.{of_site}
 use Rattle.walter_rules.specs.Sessions.{Session}
 use Rattle.walter_rules.specs.Slow.{Dropped, Decided}
 use Rattle.walter_rules.specs.Standing.{Standing}
 use Rattle.walter_agreement.proofs.Cases.{site_cases}
 use Rattle.walter_agreement.proofs.Issued.{Issued, IsIssued}
-use Rattle.walter_agreement.proofs.Numbers.{AreNumbered, AreOwned, IsPushed, IsCounted, pushed_by_test, counted_one_more}
+use Rattle.walter_agreement.proofs.Numbers.{AreOwned, IsPushed, IsCounted, pushed_by_test, counted_one_more}
 use Rattle.walter_alone.proofs.Alone.{issued_of}
-use Rattle.walter_linked.proofs.Agreed.{Stands, logs, owns, counts, at_site}
+use Rattle.walter_linked.proofs.Agreed.{Stands, owns, counts, at_site}
 use Rattle.walter_refinement.proofs.Entries.{IsFewer, IsHigher, fewer, did_commit, did_arrive}
 use Rattle.walter_refinement.proofs.Spelled.{Key, IsLive, IsSpelledAt, spelled_same}
 

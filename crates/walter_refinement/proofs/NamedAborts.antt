@@ -1,7 +1,7 @@
 -- Each abort but one that was asked for has its conflict, where it was met.
-use Rattle.std.proofs.Common.{◌≡◌, ◌≢◌, ℕ, zero, suc, ◌+◌, ◌<◌, ◌≤◌, List, [], ◌∷◌, ◌++◌, reverse, refl, ap, sym, ◌∙◌, subst, arith, slice_get, Some, None, Bool, true, false, inl, inr, ◌⊎◌}
+use Rattle.std.proofs.Common.{◌≡◌, ◌≢◌, ℕ, ◌<◌, List, [], ◌∷◌, ◌++◌, refl, ap, sym, ◌∙◌, subst, arith, Some, None, inl, inr}
 use Rattle.std.specs.Prelude.{Option, Contains, IfSome, Ok}
-use Rattle.std.proofs.lemmas.List.Elements.{Contains-append_cases, Contains-append_left, Contains-append_right}
+use Rattle.std.proofs.lemmas.List.Elements.{Contains-append_cases}
 use Rattle.std.proofs.lemmas.Option.{same_Some}
 use Rattle.walter_base.specs.declared.catalog.Catalog.{Catalog}
 use Rattle.walter_base.specs.declared.message.Record.{Record}
@@ -10,44 +10,39 @@ use Rattle.walter_base.specs.declared.message.Reply.TheVariants.{Aborted}
 use Rattle.walter_base.specs.declared.message.Request.TheVariants.{Commit as CommitAsked, Abort as AbortAsked}
 use Rattle.walter_base.specs.declared.names.ObjId.{ObjId}
 use Rattle.walter_base.specs.declared.names.SiteId.{SiteId}
-use Rattle.walter_base.specs.declared.names.Tid.{Tid}
 use Rattle.walter_base.specs.declared.packet.Answer.TheVariants.{No}
 use Rattle.walter_base.specs.declared.packet.Packet.{Packet}
 use Rattle.walter_base.specs.declared.packet.Packet.TheVariants.{Prepare, Vote}
 use Rattle.walter_base.specs.declared.transaction.Cause.{Cause}
-use Rattle.walter_base.specs.declared.transaction.Cause.TheVariants.{Modified, Locked, Asked}
+use Rattle.walter_base.specs.declared.transaction.Cause.TheVariants.{Asked}
 use Rattle.walter_base.specs.declared.transaction.Conflict.{Conflict}
 use Rattle.walter_base.specs.declared.transaction.Conflict.TheVariants.{Modified as ModifiedThere, Locked as LockedThere, Dead}
 use Rattle.walter_base.specs.declared.transaction.Tx.{Tx}
 use Rattle.walter_base.specs.Values.{write_set}
 use Rattle.walter_psi.proofs.Lists.{Contains-nil, Contains-one}
 use Rattle.walter_rules.specs.declared.entry.Came.{Came}
-use Rattle.walter_rules.specs.declared.entry.Entry.{Entry}
 use Rattle.walter_rules.specs.declared.event.Event.{Event}
 use Rattle.walter_rules.specs.declared.event.Event.TheVariants.{Given, Stop, Restart}
 use Rattle.walter_rules.specs.declared.event.Input.TheVariants.{Call, Deliver, Advance, Tick}
 use Rattle.walter_rules.specs.declared.outcome.Outcome.{Outcome}
 use Rattle.walter_rules.specs.declared.outcome.Outcome.TheVariants.{Replied, Failed}
-use Rattle.walter_rules.specs.Allowed.{HasOpen, HasBegun, IsTrueOf, IsMet, IsReadCall, of_value, of_counts, of_count, IsKind, is_refused, starts, does, reads, ends, aborts, conflicts, commits, begins, waits, tells_version, tells_cause, levels_own, is_deciding, is_running, denies, passes, receives, hears_ack, hears_durable, hears_visible, marks_durable, marks_visible, prepares, hears_yes, decides, gives_up, releases, hears_released, sees, stops, is_down, boots}
+use Rattle.walter_rules.specs.Allowed.{HasOpen, HasBegun, IsMet, of_value, of_counts, of_count, IsKind, is_refused, starts, does, reads, ends, aborts, conflicts, commits, begins, waits, tells_version, tells_cause, levels_own, is_deciding, is_running, denies, passes, receives, hears_ack, hears_durable, hears_visible, marks_durable, marks_visible, prepares, hears_yes, decides, gives_up, releases, hears_released, sees, stops, is_down, boots}
 use Rattle.walter_rules.specs.Conflicts.{conflict_at, first_conflict, cause_of}
-use Rattle.walter_rules.specs.Knowledge.{Knowledge, session_of}
-use Rattle.walter_rules.specs.Learning.{after}
+use Rattle.walter_rules.specs.Knowledge.{session_of}
 use Rattle.walter_rules.specs.Merges.{Named}
 use Rattle.walter_rules.specs.Objects.{objects_at}
 use Rattle.walter_rules.specs.Sessions.{Session, tx_of}
-use Rattle.walter_rules.specs.Slow.{begun}
 use Rattle.walter_rules.specs.Standing.{Standing, settled}
-use Rattle.walter_rules.specs.Trails.{IsFound, failure, fullness, want, IsOnly}
+use Rattle.walter_rules.specs.Trails.{IsFound, failure, fullness, want}
 use Rattle.walter_rules.proofs.RuleTests.{one_meets, first_alive}
 use Rattle.walter_rules.proofs.WrittenObjects.{objects_at_from}
 use Rattle.walter_runs.specs.Runs.{stands, IsPut, IsRun}
 use Rattle.walter_runs.proofs.Steps.{IsStep, stable, flies, unread_step, wants, finds_full}
 use Rattle.walter_alone.proofs.Alone.{home}
 use Rattle.walter_alone.proofs.KeptSteps.{right_alone, settled_alone}
-use Rattle.walter_linked.proofs.Agreed.{slows}
 use Rattle.walter_linked.proofs.Runs.{found, found_here, run_alone, next_step, run_agrees, put_later}
 use Rattle.walter_linked.proofs.Whole.{run_behind}
-use Rattle.walter_refinement.specs.Named.{IsMetAt, IsMetThere, IsConflictNamed, IsNamed}
+use Rattle.walter_refinement.specs.Named.{IsMetThere, IsConflictNamed, IsNamed}
 
 -- where an abort comes from, at a site that stands so
 pub data IsAbort (catalog : Catalog) (i : SiteId) (S : Standing) (event : Event) (cause : Cause) : Type 0 where
@@ -215,10 +210,12 @@ module _ (catalog : Catalog) (capacity : ℕ) (homes : (oid : ObjId) → (home c
     where
       stood : n.1.event ≢ Restart → found catalog older n n.0 ≡ stands catalog older n.0
       stood apart = not_found catalog older n n.1.came.kept refl is.1.right.kept apart
+
       by_conflict : (conflict : Conflict) → conflict ≢ Dead → cause ≡ cause_of conflict → IsConflictNamed catalog older n cause → IsNamed catalog older n cause
       by_conflict (ModifiedThere oid version) alive c named = subst (λ z. IsNamed catalog older n z) (sym c) (subst (λ z. IsConflictNamed catalog older n z) c named)
       by_conflict (LockedThere oid owner) alive c named = subst (λ z. IsNamed catalog older n z) (sym c) (subst (λ z. IsConflictNamed catalog older n z) c named)
       by_conflict Dead alive c named = absurd (alive refl)
+
       abort_named : IsAbort catalog n.0 (found catalog older n n.0) n.1.event cause → IsNamed catalog older n cause
       abort_named (was_asked client event c) = subst (λ z. IsNamed catalog older n z) (sym c) (client, event)
       abort_named (met_here client s conflict event open_ c first) =

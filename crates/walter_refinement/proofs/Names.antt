@@ -1,10 +1,9 @@
 -- What a site tells of a transaction by its name: its number among the own commits, or that there is none.
-use Rattle.std.proofs.Common.{◌≡◌, ◌≢◌, ℕ, zero, suc, ◌+◌, ◌<◌, ◌≤◌, nat_eq, nat_le, nat_lt, List, [], ◌∷◌, refl, ap, sym, ◌∙◌, subst, arith, slice_get, Some, None, Bool, true, false, ◌&&◌, inl, inr, ◌⊎◌, ◌||◌, ◌-◌, cond, if◌then◌else◌}
+use Rattle.std.proofs.Common.{◌≡◌, ◌≢◌, ℕ, ◌+◌, ◌≤◌, nat_eq, nat_le, nat_lt, List, [], ◌∷◌, refl, ap, sym, ◌∙◌, subst, arith, slice_get, Some, None, Bool, true, false, ◌&&◌, inl, inr, ◌||◌, ◌-◌, cond, if◌then◌else◌}
 use Rattle.std.specs.Prelude.{Option, Contains}
 use Rattle.std.specs.Map.{lookup}
 use Rattle.std.specs.List.{list_any}
-use Rattle.std.proofs.lemmas.Bool.{and_parts, ltb-true, leb-true, eqb-true, eq-eqb, or_cases}
-use Rattle.std.proofs.lemmas.Bool.Decides.{nat_tests}
+use Rattle.std.proofs.lemmas.Bool.{and_parts, ltb-true, leb-true, eqb-true, or_cases}
 use Rattle.std.proofs.lemmas.Option.{same_Some}
 use Rattle.walter_base.specs.declared.names.SiteId.{SiteId}
 use Rattle.walter_base.specs.declared.names.Tid.{Tid}
@@ -17,8 +16,8 @@ use Rattle.walter_rules.specs.Calls.{seq_of, is_issued, is_open, is_of_tid, is_u
 use Rattle.walter_rules.specs.Knowledge.{Knowledge, from_to}
 use Rattle.walter_rules.specs.Log.{of_site}
 use Rattle.walter_rules.specs.Sessions.{Session, Sessions}
-use Rattle.walter_rules.specs.Slow.{Slow, Undecided}
-use Rattle.walter_rules.proofs.Membership.{first_given, none_given, in_range, first_in, later_in}
+use Rattle.walter_rules.specs.Slow.{Undecided}
+use Rattle.walter_rules.proofs.Membership.{first_given, none_given, in_range}
 use Rattle.walter_agreement.proofs.Issued.{IsIssued}
 use Rattle.walter_alone.proofs.TestsPass.{some_pass}
 

@@ -1,6 +1,6 @@
 -- The own commits that a site's records tell are those of its log; so each stands once, where each transaction commits once.
-use Rattle.std.proofs.Common.{◌≡◌, ◌≢◌, ℕ, zero, suc, ◌+◌, ◌-◌, ◌<◌, ◌≤◌, List, [], ◌∷◌, ◌++◌, length, refl, ap, sym, ◌∙◌, subst, arith, slice_get, Some, None, Bool, true, false, inl, inr, ◌⊎◌}
-use Rattle.std.specs.Prelude.{Option, IfSome}
+use Rattle.std.proofs.Common.{◌≡◌, ◌≢◌, ℕ, zero, suc, ◌+◌, ◌-◌, ◌<◌, List, [], ◌∷◌, ◌++◌, length, refl, ap, sym, ◌∙◌, subst, arith, slice_get, Some, None, inl, inr}
+use Rattle.std.specs.Prelude.{Option}
 use Rattle.std.proofs.lemmas.List.{append-nil, append_assoc}
 use Rattle.std.proofs.lemmas.Option.{same_Some}
 use Rattle.walter_base.specs.declared.catalog.Catalog.{Catalog}
@@ -23,7 +23,7 @@ use Rattle.walter_agreement.proofs.Cases.{site_cases}
 use Rattle.walter_agreement.proofs.Lists.{filter_push_kept, filter_push_left}
 use Rattle.walter_alone.proofs.Alone.{home}
 use Rattle.walter_alone.proofs.KeptSteps.{right_alone, settled_alone}
-use Rattle.walter_linked.proofs.Agreed.{Stands, Put, owns, at_site, AreAgreed, IsDue}
+use Rattle.walter_linked.proofs.Agreed.{Stands, Put, owns, AreAgreed, IsDue}
 use Rattle.walter_linked.proofs.Runs.{found, found_here, stands_here, stands_away, found_away, run_agrees, settled_agrees, kept_due, wrote_due}
 use Rattle.walter_refinement.specs.Once.{StandsOnce}
 use Rattle.walter_refinement.proofs.Going.{after_log}

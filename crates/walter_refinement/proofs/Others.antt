@@ -1,27 +1,24 @@
 -- The entries that spell nothing keep what is known of the history.
-use Rattle.std.proofs.Common.{◌≡◌, ◌≢◌, ℕ, zero, suc, ◌+◌, ◌<◌, ◌≤◌, List, [], ◌∷◌, ◌++◌, refl, ap, sym, ◌∙◌, subst, arith, Some, None, Bool, true, false, inl, inr, ◌⊎◌, if◌then◌else◌}
+use Rattle.std.proofs.Common.{◌≡◌, ℕ, ◌+◌, List, [], ◌++◌, refl, ap, sym, ◌∙◌, subst, arith, Some, None, Bool, true, false, inl, inr, if◌then◌else◌}
 use Rattle.std.specs.Prelude.{Option}
 use Rattle.walter_base.specs.declared.catalog.Catalog.{Catalog}
 use Rattle.walter_base.specs.declared.message.Record.{Record}
 use Rattle.walter_base.specs.declared.message.Record.TheVariants.{Boot}
-use Rattle.walter_base.specs.declared.message.Refusal.{Refusal}
-use Rattle.walter_base.specs.declared.message.Reply.TheVariants.{Refused}
 use Rattle.walter_base.specs.declared.names.SiteId.{SiteId}
 use Rattle.walter_base.specs.declared.names.Tid.{Tid}
 use Rattle.walter_psi.specs.declared.step.Step.{Step}
 use Rattle.walter_rules.specs.declared.event.Event.{Event}
 use Rattle.walter_rules.specs.declared.event.Event.TheVariants.{Given, Stop, Restart}
 use Rattle.walter_rules.specs.declared.event.Input.{Input}
-use Rattle.walter_rules.specs.declared.event.Input.TheVariants.{Call, Deliver, Advance, Tick}
 use Rattle.walter_rules.specs.declared.outcome.Outcome.{Outcome}
-use Rattle.walter_rules.specs.declared.outcome.Outcome.TheVariants.{Replied, Taken, Passed, Failed, Full, Memory, Down, Refused as RefusedThere}
+use Rattle.walter_rules.specs.declared.outcome.Outcome.TheVariants.{Taken, Passed, Failed, Down}
 use Rattle.walter_rules.specs.Knowledge.{Knowledge, session_of, vector_of}
 use Rattle.walter_rules.specs.Learning.{epoch_after, starts_after, sessions_after, recorded, after, lost}
 use Rattle.walter_rules.specs.Sending.{Send}
 use Rattle.walter_rules.specs.Sessions.{Session, session_in}
-use Rattle.walter_rules.specs.Standing.{Standing, goes_down, comes_up, up_after, knows_after}
+use Rattle.walter_rules.specs.Standing.{goes_down, comes_up}
 use Rattle.walter_agreement.proofs.Issued.{IsIssued}
-use Rattle.walter_alone.proofs.Alone.{IsAlone, issued_of, issued_by}
+use Rattle.walter_alone.proofs.Alone.{issued_by}
 use Rattle.walter_linked.proofs.Agreed.{Stands, at_site}
 use Rattle.walter_refinement.specs.Spelled.{recorded as spelled_by, answered}
 use Rattle.walter_refinement.proofs.Going.{IsStill, BeginsNew, then_}

@@ -1,15 +1,14 @@
 -- The entries that commit something, here or of another site, and those whose own commit is in flight or was found.
-use Rattle.std.proofs.Common.{◌≡◌, ◌≢◌, ℕ, zero, suc, ◌+◌, ◌-◌, ◌<◌, ◌≤◌, nat_eq, List, [], ◌∷◌, ◌++◌, length, refl, ap, sym, ◌∙◌, subst, arith, slice_get, Some, None, Bool, true, false, inl, inr, ◌⊎◌, if◌then◌else◌}
-use Rattle.std.specs.Prelude.{Option, Contains, Ok, option_map}
+use Rattle.std.proofs.Common.{◌≡◌, ◌≢◌, ℕ, suc, ◌+◌, ◌-◌, ◌<◌, ◌≤◌, nat_eq, List, [], ◌∷◌, ◌++◌, length, refl, ap, sym, ◌∙◌, subst, arith, slice_get, Some, None, true, false, inl, inr, if◌then◌else◌}
+use Rattle.std.specs.Prelude.{Option, Ok, option_map}
 use Rattle.std.proofs.lemmas.List.{append-nil, append_assoc}
 use Rattle.std.proofs.lemmas.Option.{same_Some}
 use Rattle.std.proofs.lemmas.Bool.{eq-eqb}
 use Rattle.walter_base.specs.declared.catalog.Catalog.{Catalog}
 use Rattle.walter_base.specs.declared.message.Record.{Record}
-use Rattle.walter_base.specs.declared.message.Record.TheVariants.{Boot, Own, Got, Seen, Prepared, Released, SlowBegin, SlowEnd, Marks}
-use Rattle.walter_base.specs.declared.message.Reply.TheVariants.{Committed, Deciding}
+use Rattle.walter_base.specs.declared.message.Record.TheVariants.{Own, Seen}
+use Rattle.walter_base.specs.declared.message.Reply.TheVariants.{Committed}
 use Rattle.walter_base.specs.declared.message.Request.TheVariants.{Commit as CommitAsked}
-use Rattle.walter_base.specs.declared.names.ObjId.{ObjId}
 use Rattle.walter_base.specs.declared.names.SiteId.{SiteId}
 use Rattle.walter_base.specs.declared.names.Tid.{Tid}
 use Rattle.walter_base.specs.declared.packet.Answer.TheVariants.{Yes}
@@ -23,41 +22,35 @@ use Rattle.walter_base.proofs.NameTests.{same_site_refl}
 use Rattle.walter_psi.specs.declared.step.Notice.TheVariants.{Version as OfVersion}
 use Rattle.walter_psi.specs.declared.step.Step.{Step}
 use Rattle.walter_psi.specs.declared.step.Step.TheVariants.{Commit, Arrive, Told}
-use Rattle.walter_psi.specs.Histories.{IsCommitted}
 use Rattle.walter_psi.proofs.Lists.{slice_get-push}
 use Rattle.walter_psi.specs.Legal.{IsBlocked}
-use Rattle.walter_rules.specs.declared.event.Event.{Event}
-use Rattle.walter_rules.specs.declared.event.Event.TheVariants.{Given, Restart}
-use Rattle.walter_rules.specs.declared.event.Input.{Input}
+use Rattle.walter_rules.specs.declared.event.Event.TheVariants.{Given}
 use Rattle.walter_rules.specs.declared.event.Input.TheVariants.{Call, Deliver, Advance}
 use Rattle.walter_rules.specs.declared.held.Held.{Held}
-use Rattle.walter_rules.specs.declared.outcome.Outcome.{Outcome}
 use Rattle.walter_rules.specs.declared.outcome.Outcome.TheVariants.{Replied, Taken}
 use Rattle.walter_rules.specs.Allowed.{HasOpen}
 use Rattle.walter_rules.specs.Calls.{own_version}
-use Rattle.walter_rules.specs.Knowledge.{Knowledge, session_of}
-use Rattle.walter_rules.specs.Learning.{recorded, after, lost}
-use Rattle.walter_rules.specs.Log.{is_of, of_site, commit_at, version_of, sees}
+use Rattle.walter_rules.specs.Knowledge.{session_of}
+use Rattle.walter_rules.specs.Log.{is_of, of_site, version_of}
 use Rattle.walter_rules.specs.Sending.{Send}
 use Rattle.walter_rules.specs.Sessions.{Session, tx_of}
-use Rattle.walter_rules.specs.Slow.{Slow, Unused, Undecided, Dropped, Decided, begun, decided}
-use Rattle.walter_rules.specs.Standing.{Standing, settled}
-use Rattle.walter_agreement.proofs.Cases.{site_cases, none_not_some, decided_not_open, dropped_not_open, same_open}
+use Rattle.walter_rules.specs.Slow.{Dropped, decided}
+use Rattle.walter_rules.specs.Standing.{Standing}
+use Rattle.walter_agreement.proofs.Cases.{decided_not_open, dropped_not_open}
 use Rattle.walter_agreement.proofs.Issued.{IsIssued}
-use Rattle.walter_agreement.proofs.Lists.{filter_push_kept, IsPrefix, prefix_get}
+use Rattle.walter_agreement.proofs.Lists.{filter_push_kept, prefix_get}
 use Rattle.walter_agreement.proofs.Locks.{clear_fast, clear_slow, all_held}
 use Rattle.walter_agreement.proofs.Numbers.{AreOwned}
-use Rattle.walter_alone.proofs.Alone.{IsAlone, home, issued_of, issued_by}
-use Rattle.walter_linked.proofs.Agreed.{Stands, Put, logs, owns, counts, slows, parts, at_site, AreAgreed, IsDue, IsDueOwn, IsDueSeen}
+use Rattle.walter_alone.proofs.Alone.{IsAlone, home, issued_of}
+use Rattle.walter_linked.proofs.Agreed.{Stands, Put, logs, owns, counts, slows, parts, at_site, AreAgreed, IsDueOwn, IsDueSeen}
 use Rattle.walter_refinement.specs.Spelled.{recorded as spelled_by, answered, of_session, told, arrived}
-use Rattle.walter_refinement.proofs.Entries.{moved, did_tell_version}
+use Rattle.walter_refinement.proofs.Entries.{did_tell_version}
 use Rattle.walter_refinement.proofs.Facts.{row_held, not_blocked}
-use Rattle.walter_refinement.proofs.Going.{IsStill, BeginsNew, IsFinal, final_stays, quiet_by, still_log, still_committed, dropped_final, decided_final, then_, same_then, final_then}
+use Rattle.walter_refinement.proofs.Going.{IsFinal, quiet_by, then_}
 use Rattle.walter_refinement.proofs.Keys.{without_cases}
-use Rattle.walter_refinement.proofs.Moves.{in_flight, held_by, held, numbers, spent_by, spent, Spells, IsDecidedBy, GoesOn, HoldsFewer, HasSame, views, at_here, commits, arrives, quiet, moved_to, still_decided, not_by}
+use Rattle.walter_refinement.proofs.Moves.{in_flight, held_by, held, numbers, spent_by, spent, Spells, IsDecidedBy, at_here, commits, arrives, not_by}
 use Rattle.walter_refinement.proofs.Quiet.{issued_same, live_open}
-use Rattle.walter_refinement.proofs.Spelled.{Key, IsLive, IsSpelledAt}
-use Rattle.walter_refinement.proofs.Spelling.{still_spells}
+use Rattle.walter_refinement.proofs.Spelled.{IsLive, IsSpelledAt}
 
 -- one more step, that commits nothing, at the same stands
 pub one_more : (W : Stands) (h : List Step) (step : Step) → ((x : Tid) (us : List Update) → step ≢ Commit x us)
@@ -132,9 +125,9 @@ module _ (catalog : Catalog) (i : SiteId) (W : Stands) (put : Put) (h : List Ste
     -- a fast commit, and its reply
     pub committed_so : (client : ℕ) (s : Session) (seq : ℕ) → HasOpen (W i) client s → IsDueOwn catalog W i seq (tx_of s)
         → AreOwned (owns (at_site i (then_ catalog i (W i) (Given (Call client (Ok CommitAsked))) (Replied (Committed (own_version i seq))) kept (Some (Own seq (tx_of s))) None sends dropped) W))
-            (counts (at_site i (then_ catalog i (W i) (Given (Call client (Ok CommitAsked))) (Replied (Committed (own_version i seq))) kept (Some (Own seq (tx_of s))) None sends dropped) W))
+        (counts (at_site i (then_ catalog i (W i) (Given (Call client (Ok CommitAsked))) (Replied (Committed (own_version i seq))) kept (Some (Own seq (tx_of s))) None sends dropped) W))
         → Spells (at_site i (then_ catalog i (W i) (Given (Call client (Ok CommitAsked))) (Replied (Committed (own_version i seq))) kept (Some (Own seq (tx_of s))) None sends dropped) W)
-            (h ++ (spelled_by W i (Some (Own seq (tx_of s))) ++ answered i (W i) (Replied (Committed (own_version i seq))) (Given (Call client (Ok CommitAsked)))))
+        (h ++ (spelled_by W i (Some (Own seq (tx_of s))) ++ answered i (W i) (Replied (Committed (own_version i seq))) (Given (Call client (Ok CommitAsked)))))
     committed_so client s seq open_ due owned_after =
         let S2 = then_ catalog i (W i) (Given (Call client (Ok CommitAsked))) (Replied (Committed (own_version i seq))) kept (Some (Own seq (tx_of s))) None sends dropped in
         let W2 = at_site i S2 W in
@@ -159,7 +152,7 @@ module _ (catalog : Catalog) (i : SiteId) (W : Stands) (put : Put) (h : List Ste
     -- the commit of a slow one, by the last missing YES
     pub decided_so : (p : SiteId) (number n seq c : ℕ) (s : Session) → session_of (W i).knows c ≡ Some s → s.slow ≢ 0 → IsDueOwn catalog W i seq (tx_of s)
         → Spells (at_site i (then_ catalog i (W i) (Given (Deliver p number (Vote n Yes))) Taken kept (Some (Own seq (tx_of s))) None sends dropped) W)
-            (h ++ (spelled_by W i (Some (Own seq (tx_of s))) ++ answered i (W i) Taken (Given (Deliver p number (Vote n Yes)))))
+        (h ++ (spelled_by W i (Some (Own seq (tx_of s))) ++ answered i (W i) Taken (Given (Deliver p number (Vote n Yes)))))
     decided_so p number n seq c s has some due =
         let S2 = then_ catalog i (W i) (Given (Deliver p number (Vote n Yes))) Taken kept (Some (Own seq (tx_of s))) None sends dropped in
         owns_more S2 (suc c) s seq due has refl (λ k. refl) (λ m. refl)
@@ -190,7 +183,7 @@ module _ (catalog : Catalog) (i : SiteId) (W : Stands) (put : Put) (h : List Ste
 
     pub seen_so : (j : SiteId) (seq : ℕ) → IsDueSeen W i j seq
         → Spells (at_site i (then_ catalog i (W i) (Given (Advance j)) Taken kept (Some (Seen j seq)) None sends dropped) W)
-            (h ++ (spelled_by W i (Some (Seen j seq)) ++ answered i (W i) Taken (Given (Advance j))))
+        (h ++ (spelled_by W i (Some (Seen j seq)) ++ answered i (W i) Taken (Given (Advance j))))
     seen_so j seq due =
         let S2 = then_ catalog i (W i) (Given (Advance j)) Taken kept (Some (Seen j seq)) None sends dropped in
         subst (λ t. Spells (at_site i S2 W) (h ++ t)) (sym (append-nil (spelled_by W i (Some (Seen j seq)))))

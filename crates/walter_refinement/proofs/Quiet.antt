@@ -1,5 +1,5 @@
 -- An entry that spells nothing leaves what is known of the history.
-use Rattle.std.proofs.Common.{◌≡◌, ◌≢◌, ℕ, zero, suc, ◌+◌, ◌<◌, ◌≤◌, List, [], ◌∷◌, ◌++◌, refl, ap, sym, ◌∙◌, subst, arith, Some, None, Bool, true, false, inl, inr, ◌⊎◌}
+use Rattle.std.proofs.Common.{◌≡◌, ℕ, ◌+◌, ◌≤◌, List, [], ◌++◌, ap, sym, ◌∙◌, subst, arith, Some, Bool, true, false, inl, inr}
 use Rattle.std.specs.Prelude.{Option}
 use Rattle.std.proofs.lemmas.List.{append-nil}
 use Rattle.walter_base.specs.declared.catalog.Catalog.{Catalog}
@@ -7,19 +7,17 @@ use Rattle.walter_base.specs.declared.message.Record.{Record}
 use Rattle.walter_base.specs.declared.names.SiteId.{SiteId}
 use Rattle.walter_base.specs.declared.names.Tid.{Tid}
 use Rattle.walter_psi.specs.declared.step.Step.{Step}
-use Rattle.walter_psi.specs.Histories.{IsCommitted}
 use Rattle.walter_rules.specs.declared.event.Event.{Event}
 use Rattle.walter_rules.specs.declared.outcome.Outcome.{Outcome}
 use Rattle.walter_rules.specs.Knowledge.{Knowledge, session_of}
 use Rattle.walter_rules.specs.Sending.{Send}
 use Rattle.walter_rules.specs.Sessions.{Session}
-use Rattle.walter_rules.specs.Standing.{Standing}
 use Rattle.walter_agreement.proofs.Issued.{IsIssued}
 use Rattle.walter_alone.proofs.Alone.{issued_of, issued_by}
 use Rattle.walter_linked.proofs.Agreed.{Stands, owns, counts, at_site}
-use Rattle.walter_refinement.proofs.Going.{IsStill, BeginsNew, IsQuiet, quiet_by, then_, same_then, final_then}
-use Rattle.walter_refinement.proofs.Moves.{in_flight, held_by, held, Spells, IsDecidedBy, GoesOn, quiet}
-use Rattle.walter_refinement.proofs.Spelled.{Key, IsLive, IsDoneOrLive}
+use Rattle.walter_refinement.proofs.Going.{IsStill, BeginsNew, quiet_by, then_, same_then, final_then}
+use Rattle.walter_refinement.proofs.Moves.{in_flight, held, Spells, IsDecidedBy, quiet}
+use Rattle.walter_refinement.proofs.Spelled.{Key, IsLive}
 
 -- names stay given while the epoch stays and starts rise
 pub issued_same : (up : Bool) (K later : Knowledge) (x : Tid) → later.epoch ≡ K.epoch → K.starts ≤ later.starts → IsIssued (issued_by up K) x → IsIssued (issued_by up later) x

@@ -1,37 +1,35 @@
 -- Each run spells a history that is what its sites say, and so a legal one.
-use Rattle.std.proofs.Common.{◌≡◌, ◌≢◌, ℕ, zero, suc, ◌+◌, ◌<◌, ◌≤◌, List, [], ◌∷◌, ◌++◌, refl, ap, sym, ◌∙◌, subst, arith, Some, None, Bool, true, false, inl, inr, ◌⊎◌, if◌then◌else◌}
-use Rattle.std.specs.Prelude.{Option, Contains, IfSome}
+use Rattle.std.proofs.Common.{◌≡◌, ℕ, zero, suc, ◌<◌, List, [], ◌∷◌, ◌++◌, refl, ap, sym, ◌∙◌, subst, Some, None, inl, inr}
+use Rattle.std.specs.Prelude.{Option, IfSome}
 use Rattle.std.proofs.lemmas.List.{append-nil, append_assoc}
 use Rattle.walter_base.specs.declared.catalog.Catalog.{Catalog}
 use Rattle.walter_base.specs.declared.message.Record.{Record}
 use Rattle.walter_base.specs.declared.names.ObjId.{ObjId}
 use Rattle.walter_base.specs.declared.names.SiteId.{SiteId}
 use Rattle.walter_psi.specs.declared.step.Step.{Step}
-use Rattle.walter_psi.specs.Legal.{IsLegal}
 use Rattle.walter_rules.specs.declared.entry.Came.{Came}
 use Rattle.walter_rules.specs.declared.event.Event.{Event}
-use Rattle.walter_rules.specs.declared.event.Event.TheVariants.{Given, Stop, Restart}
+use Rattle.walter_rules.specs.declared.event.Event.TheVariants.{Restart}
 use Rattle.walter_rules.specs.declared.outcome.Outcome.{Outcome}
 use Rattle.walter_rules.specs.declared.outcome.Outcome.TheVariants.{Failed}
 use Rattle.walter_rules.specs.Allowed.{IsKind, is_refused, starts, does, reads, ends, aborts, conflicts, commits, begins, waits, tells_version, tells_cause, levels_own, is_deciding, is_running, denies, passes, receives, hears_ack, hears_durable, hears_visible, marks_durable, marks_visible, prepares, hears_yes, decides, gives_up, releases, hears_released, sees, stops, is_down, boots}
 use Rattle.walter_rules.specs.Merges.{Named}
 use Rattle.walter_rules.specs.Sessions.{Session}
 use Rattle.walter_rules.specs.Standing.{Standing, unmade, settled, stands_after}
-use Rattle.walter_rules.specs.Trails.{IsFound, failure}
-use Rattle.walter_runs.specs.Runs.{stands, IsPut, IsNext, IsRun}
+use Rattle.walter_rules.specs.Trails.{IsFound}
+use Rattle.walter_runs.specs.Runs.{stands, IsPut, IsRun}
 use Rattle.walter_runs.proofs.Steps.{IsStep, stable, flies, unread_step, wants, finds_full}
-use Rattle.walter_agreement.proofs.Cases.{site_cases}
 use Rattle.walter_agreement.proofs.Numbers.{AreOwned}
 use Rattle.walter_alone.proofs.Alone.{IsAlone, home}
 use Rattle.walter_alone.proofs.KeptSteps.{right_alone, settled_alone}
 use Rattle.walter_linked.proofs.Agreed.{Stands, Put, owns, counts, at_site, AreAgreed, IsDue}
-use Rattle.walter_linked.proofs.Runs.{found, found_here, found_away, stands_here, stands_away, run_alone, found_alone, next_step, run_agrees, settled_agrees, kept_due, wrote_due, flight_due}
-use Rattle.walter_refinement.specs.Spelled.{recorded, answered, steps_of, history}
+use Rattle.walter_linked.proofs.Runs.{found, stands_here, stands_away, run_alone, found_alone, next_step, run_agrees, settled_agrees, kept_due, wrote_due, flight_due}
+use Rattle.walter_refinement.specs.Spelled.{recorded, answered, history}
 use Rattle.walter_refinement.proofs.Entries.{spelled_none}
 use Rattle.walter_refinement.proofs.Flights.{kept_so}
 use Rattle.walter_refinement.proofs.Going.{IsStill, then_}
 use Rattle.walter_refinement.proofs.KindSteps.{Keeps}
-use Rattle.walter_refinement.proofs.Moves.{held, held_by, numbers, spent, Spells, views, at_here, at_away}
+use Rattle.walter_refinement.proofs.Moves.{held_by, numbers, spent, Spells, views}
 use Rattle.walter_refinement.proofs.Others.{unread}
 use Rattle.walter_refinement.proofs.RunSteps.{kind_keeps, kind_flies, wants_keep, full_keeps}
 use Rattle.walter_refinement.proofs.Spelled.{Key, IsSpelledAt}

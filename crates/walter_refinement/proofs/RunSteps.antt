@@ -1,17 +1,15 @@
 -- Each entry of a run keeps what is known of the history, so each run spells a legal one.
-use Rattle.std.proofs.Common.{◌≡◌, ◌≢◌, ℕ, zero, suc, ◌+◌, ◌-◌, ◌<◌, ◌≤◌, List, [], ◌∷◌, ◌++◌, refl, ap, sym, ◌∙◌, subst, arith, Some, None, Bool, true, false, inl, inr, ◌⊎◌, if◌then◌else◌}
-use Rattle.std.specs.Prelude.{Option, Contains, IfSome, Result, Ok}
-use Rattle.std.proofs.lemmas.List.{append-nil, append_assoc}
+use Rattle.std.proofs.Common.{◌≡◌, ◌≢◌, ℕ, ◌+◌, ◌-◌, ◌<◌, List, refl, ap, sym, ◌∙◌, subst, Some, None, true}
+use Rattle.std.specs.Prelude.{Option, IfSome, Ok}
 use Rattle.walter_base.specs.declared.catalog.Catalog.{Catalog}
 use Rattle.walter_base.specs.declared.message.Level.TheVariants.{Running, Deciding as BeingDecided}
 use Rattle.walter_base.specs.declared.message.Record.{Record}
-use Rattle.walter_base.specs.declared.message.Record.TheVariants.{Boot, Own, Got, Seen, Prepared, Released, SlowBegin, SlowEnd, Marks}
+use Rattle.walter_base.specs.declared.message.Record.TheVariants.{Boot, Own, Got, Seen, Prepared, Released, SlowEnd, Marks}
 use Rattle.walter_base.specs.declared.message.Refusal.TheVariants.{Memory as NoMemory, JournalFull}
 use Rattle.walter_base.specs.declared.message.Reply.TheVariants.{Unsure}
 use Rattle.walter_base.specs.declared.message.Request.TheVariants.{Start as StartAsked, Commit as CommitAsked, Abort as AbortAsked}
 use Rattle.walter_base.specs.declared.names.SiteId.{SiteId}
 use Rattle.walter_base.specs.declared.packet.Answer.TheVariants.{Yes, No}
-use Rattle.walter_base.specs.declared.packet.Packet.{Packet}
 use Rattle.walter_base.specs.declared.packet.Packet.TheVariants.{Propagate, Ack, Dsmark, Visible as VisibleSaid, Prepare, Vote, Release, Released as ReleasedSaid}
 use Rattle.walter_base.specs.declared.transaction.Cause.TheVariants.{Asked}
 use Rattle.walter_base.specs.declared.transaction.Tx.{Tx}
@@ -20,26 +18,25 @@ use Rattle.walter_rules.specs.declared.event.Event.{Event}
 use Rattle.walter_rules.specs.declared.event.Event.TheVariants.{Given, Stop, Restart}
 use Rattle.walter_rules.specs.declared.event.Input.TheVariants.{Call, Deliver, Advance, Tick}
 use Rattle.walter_rules.specs.declared.outcome.Outcome.{Outcome}
-use Rattle.walter_rules.specs.declared.outcome.Outcome.TheVariants.{Replied, Taken, Passed, Failed, Full, Memory, Down}
+use Rattle.walter_rules.specs.declared.outcome.Outcome.TheVariants.{Replied, Failed, Full, Memory}
 use Rattle.walter_rules.specs.Allowed.{IsKind, is_refused, starts, does, reads, ends, aborts, conflicts, commits, begins, waits, tells_version, tells_cause, levels_own, is_deciding, is_running, denies, passes, receives, hears_ack, hears_durable, hears_visible, marks_durable, marks_visible, prepares, hears_yes, decides, gives_up, releases, hears_released, sees, stops, is_down, boots}
 use Rattle.walter_rules.specs.Sending.{Send}
 use Rattle.walter_rules.specs.Calls.{next_seq}
 use Rattle.walter_rules.specs.Marks.{durable_mark, visible_mark}
 use Rattle.walter_rules.specs.Sessions.{Session, tx_of}
-use Rattle.walter_rules.specs.Slow.{Undecided, begun}
-use Rattle.walter_rules.specs.Standing.{Standing, goes_down}
+use Rattle.walter_rules.specs.Slow.{begun}
+use Rattle.walter_rules.specs.Standing.{goes_down}
 use Rattle.walter_rules.specs.Trails.{failure, fullness, want}
 use Rattle.walter_agreement.proofs.Cases.{same_open}
 use Rattle.walter_agreement.proofs.Numbers.{AreOwned}
 use Rattle.walter_alone.proofs.Alone.{IsAlone}
-use Rattle.walter_linked.proofs.Agreed.{Stands, Put, owns, counts, slows, at_site, AreAgreed, IsDue, IsDueOwn}
-use Rattle.walter_refinement.specs.Spelled.{recorded as spelled_by, answered}
+use Rattle.walter_linked.proofs.Agreed.{Stands, Put, owns, counts, at_site, AreAgreed, IsDue, IsDueOwn}
 use Rattle.walter_refinement.proofs.CallSteps.{refused, waits_on, ended, aborted_so, started_so, open_live}
 use Rattle.walter_refinement.proofs.Flights.{begun_so, own_flies}
-use Rattle.walter_refinement.proofs.Going.{IsStill, BeginsNew, then_}
+use Rattle.walter_refinement.proofs.Going.{then_}
 use Rattle.walter_refinement.proofs.KindSteps.{Keeps, updates_so, reads_so, levels_so, level_quiet, denies_so, tells_version_so, tells_cause_so, conflicts_so, decides_so}
 use Rattle.walter_refinement.proofs.Moves.{in_flight, Spells}
-use Rattle.walter_refinement.proofs.Others.{stays, falls, passed, was_down, taken, stopped, unread, booted}
+use Rattle.walter_refinement.proofs.Others.{stays, falls, passed, was_down, taken, stopped, booted}
 use Rattle.walter_refinement.proofs.OwnSteps.{committed_so, seen_so}
 
 module _ (catalog : Catalog) (i : SiteId) (W : Stands) (put : Put) (h : List Step) (below : i.0 < catalog.sites) (alone : (k : SiteId) → IsAlone catalog k (W k)) (G : AreAgreed catalog W put) (sp : Spells W h) (kept : Option Record) (sends : List Send) (dropped : ℕ) where

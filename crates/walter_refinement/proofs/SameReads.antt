@@ -1,5 +1,5 @@
 -- Two lists of transactions that agree on each site's own give the same counts, whatever their order.
-use Rattle.std.proofs.Common.{◌≡◌, ◌≢◌, ℕ, ◌+◌, List, [], ◌∷◌, ◌++◌, refl, ap, sym, ◌∙◌, subst, arith, Bool, true, false, inl, inr, ◌⊎◌, if◌then◌else◌}
+use Rattle.std.proofs.Common.{◌≡◌, ℕ, ◌+◌, List, [], ◌∷◌, ◌++◌, refl, ap, sym, ◌∙◌, subst, arith, Bool, true, false, inl, inr, if◌then◌else◌}
 use Rattle.std.specs.Prelude.{flat_map, filter, count_by, pos, ◌-ℤ◌}
 use Rattle.std.proofs.lemmas.List.Sums.{sum_by-append}
 use Rattle.std.proofs.lemmas.List.Concat.{flat_map-append}
@@ -10,7 +10,7 @@ use Rattle.walter_base.specs.declared.names.Tid.{Tid}
 use Rattle.walter_base.specs.declared.update.Update.{Update}
 use Rattle.walter_base.specs.Names.{same_site}
 use Rattle.walter_base.specs.Values.{value_of, count_of, adds, takes}
-use Rattle.walter_base.proofs.NameTests.{same_site-true, same_site_refl}
+use Rattle.walter_base.proofs.NameTests.{same_site_refl}
 use Rattle.walter_agreement.proofs.Cases.{site_cases}
 use Rattle.walter_psi.specs.declared.step.Answer.{Answer}
 use Rattle.walter_psi.specs.declared.step.Answer.TheVariants.{Value, Counts, Count}

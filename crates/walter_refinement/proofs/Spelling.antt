@@ -1,20 +1,18 @@
 -- Which outcomes and records spell nothing.
-use Rattle.std.proofs.Common.{◌≡◌, ◌≢◌, ℕ, ◌+◌, List, [], ◌∷◌, ◌++◌, refl, ap, sym, ◌∙◌, arith, Some, None, Bool, true, false}
+use Rattle.std.proofs.Common.{◌≡◌, [], refl, Some, None}
 use Rattle.std.specs.Prelude.{Option}
 use Rattle.walter_base.specs.declared.message.Record.{Record}
 use Rattle.walter_base.specs.declared.message.Record.TheVariants.{Boot, Own, Got, Seen, Prepared, Released, SlowBegin, SlowEnd, Marks}
 use Rattle.walter_base.specs.declared.message.Reply.TheVariants.{Started, Value, Done, Set, Count, Committed, Aborted, Deciding, Level, Ended, Refused, Unsure}
 use Rattle.walter_base.specs.declared.names.SiteId.{SiteId}
-use Rattle.walter_psi.specs.declared.step.Step.{Step}
 use Rattle.walter_rules.specs.declared.event.Event.{Event}
 use Rattle.walter_rules.specs.declared.event.Event.TheVariants.{Given, Stop, Restart}
 use Rattle.walter_rules.specs.declared.event.Input.TheVariants.{Call, Deliver, Advance, Tick}
 use Rattle.walter_rules.specs.declared.outcome.Outcome.{Outcome}
 use Rattle.walter_rules.specs.declared.outcome.Outcome.TheVariants.{Replied, Taken, Passed, Failed, Full, Memory, Down, Refused as RefusedThere}
-use Rattle.walter_rules.specs.Knowledge.{session_of}
 use Rattle.walter_rules.specs.Sessions.{Session}
 use Rattle.walter_rules.specs.Standing.{Standing, flight_after}
-use Rattle.walter_refinement.specs.Spelled.{recorded, replied, answered}
+use Rattle.walter_refinement.specs.Spelled.{recorded, answered}
 use Rattle.walter_refinement.proofs.Going.{IsStill}
 use Rattle.walter_refinement.proofs.Moves.{in_flight}
 

@@ -1,8 +1,7 @@
 -- What holds of each run holds of the merge of right and linked trails.
-use Rattle.std.proofs.Common.{◌≡◌, ◌<◌, ℕ, List, [], ◌∷◌, ◌++◌, reverse, refl, subst, arith, Some}
+use Rattle.std.proofs.Common.{◌≡◌, ℕ, List, [], ◌∷◌, ◌++◌, reverse, subst}
 use Rattle.walter_base.specs.declared.catalog.Catalog.{Catalog}
 use Rattle.walter_base.specs.declared.message.Reply.TheVariants.{Aborted}
-use Rattle.walter_base.specs.declared.names.ObjId.{ObjId}
 use Rattle.walter_base.specs.declared.transaction.Cause.{Cause}
 use Rattle.walter_psi.specs.Legal.{IsLegal}
 use Rattle.walter_rules.specs.declared.entry.Entry.{Entry}

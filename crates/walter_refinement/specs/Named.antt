@@ -1,5 +1,5 @@
 -- The conflict that an abort names, where it was found.
-use Rattle.std.specs.Prelude.{◌≡◌, ◌⊎◌, ℕ, List, [], ◌∷◌, ◌++◌, Option, Some, Contains, Ok}
+use Rattle.std.specs.Prelude.{◌≡◌, ◌⊎◌, ℕ, List, ◌∷◌, ◌++◌, Some, Contains, Ok}
 use Rattle.walter_base.specs.declared.catalog.Catalog.{Catalog}
 use Rattle.walter_base.specs.declared.message.Request.TheVariants.{Commit, Abort}
 use Rattle.walter_base.specs.declared.names.ObjId.{ObjId}

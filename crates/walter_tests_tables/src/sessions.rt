@@ -73,17 +73,3 @@ fn updates_and_stages_are_of_their_client(rt: HostRuntime) -> Result<(), Fail> {
     assert_eq!(rt; mine.stage, Stage::Committed(version));
     Ok(())
 }
-
-#[test]
-fn one_session_too_many_is_refused(rt: HostRuntime) -> Result<(), Fail> {
-    let mut sessions = Sessions::new(rt.alloc());
-    for client in 0..MOST_SESSIONS as u32 {
-        sessions.start(client, tid(1), Vts::zero(1))?;
-    }
-    assert!(rt; sessions.is_full());
-    let more = sessions.start(256, tid(1), Vts::zero(1));
-    assert_eq!(rt; more, Err(StartFault::SessionsFull));
-    sessions.end(3);
-    sessions.start(256, tid(1), Vts::zero(1))?;
-    Ok(())
-}

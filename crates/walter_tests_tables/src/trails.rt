@@ -1,14 +1,7 @@
 use std::alloc::Global;
 use std::test::Fail;
-use walter_base::{
-    BadFrame, Bytes, Mem, ObjId, Record, Reply, Request, SiteId, Tid, Tx, Update, Updates, Vts,
-};
-use walter_trail::{Entry, Held, Outcome, Trail, TrailEvent, merge};
-
-const OBJECT: ObjId = ObjId {
-    container: 1,
-    local: 5,
-};
+use walter_base::{Mem, Record};
+use walter_trail::{Entry, Outcome, Trail, TrailEvent, merge};
 
 // The opening of a trail, at this stamp.
 fn opening(stamp: u64) -> Entry {
@@ -45,47 +38,4 @@ fn a_merge_goes_by_stamp_and_then_by_site(rt: HostRuntime) -> Result<(), Fail> {
         [(1, 0), (1, 1), (2, 1), (3, 1), (4, 0)].as_slice()
     );
     Ok(())
-}
-
-/// Each of them can be copied; that a copy is as it should be is proved.
-fn copy_each<T: Clone + Drop>(items: &[T]) -> Result<(), Fail> {
-    for item in items {
-        item.clone()?;
-    }
-    Ok(())
-}
-
-#[test]
-fn entries_are_copied(rt: HostRuntime) -> Result<(), Fail> {
-    let alloc = rt.alloc();
-    copy_each(&[
-        TrailEvent::Stop,
-        TrailEvent::Call {
-            client: 2,
-            call: Ok(Request::Read(OBJECT)),
-        },
-        TrailEvent::Call {
-            client: 2,
-            call: Err(BadFrame { at: 3 }),
-        },
-    ])?;
-    copy_each(&[
-        Outcome::Passed,
-        Outcome::Replied(Reply::Done),
-        Outcome::Full { need: 9, left: 8 },
-    ])?;
-    copy_each(&[opening(7)])?;
-    let tx = Tx {
-        tid: Tid {
-            site: SiteId(0),
-            epoch: 1,
-            number: 2,
-        },
-        slow: 0,
-        start: Vts::zero(1),
-        updates: Updates::from(vec![in alloc;
-            Update::Write(OBJECT, Bytes::from_slice(alloc, b"x")?),
-        ]?),
-    };
-    copy_each(&[Held { seq: 4, tx }])
 }
