@@ -17,21 +17,26 @@ use Rattle.walter_rules.specs.Slow.{Slow, Unused, Undecided, Dropped, Decided, P
 -- two sites are the same or not, by their test too
 pub site_cases : (a b : SiteId) → ((same_site a b ≡ true) × (a ≡ b)) ⊎ ((same_site a b ≡ false) × (a ≢ b))
 site_cases a b =
-    elim (same_site a b) as (λ c. same_site a b ≡ c → ((same_site a b ≡ true) × (a ≡ b)) ⊎ ((same_site a b ≡ false) × (a ≢ b))) [
+    elim (same_site a b) as (λ c. same_site a b ≡ c → ((same_site a b ≡ true) × (a ≡ b))
+        ⊎ ((same_site a b ≡ false) × (a ≢ b))) [
       | true ↦ λ is. inl (is, same_site-true a b is)
-      | false ↦ λ is. inr (is, λ e. let t = same_site_refl a in let f : same_site a a ≡ false = subst (λ z. same_site a z ≡ false) (sym e) is in absurd (cc))
+      | false ↦ λ is. inr (is, λ e. let t = same_site_refl a in let f : same_site a a ≡ false =
+          subst (λ z. same_site a z ≡ false) (sym e) is in absurd (cc))
     ] refl
 
 -- two names of a slow commit name the same one or not
 pub slow_cases : (j : SiteId) (n : ℕ) (k : SiteId) (m : ℕ)
     → ((is_slow j n k m ≡ true) × (j ≡ k) × (n ≡ m)) ⊎ ((is_slow j n k m ≡ false) × (j ≡ k → n ≢ m))
 slow_cases j n k m =
-    elim (is_slow j n k m) as (λ c. is_slow j n k m ≡ c → ((is_slow j n k m ≡ true) × (j ≡ k) × (n ≡ m)) ⊎ ((is_slow j n k m ≡ false) × (j ≡ k → n ≢ m))) [
-      | true ↦ λ is. let parts = both (same_site j k) (nat_eq n m) is in inl (is, same_site-true j k parts.0, eqb-true n m parts.1)
+    elim (is_slow j n k m) as (λ c. is_slow j n k m ≡ c → ((is_slow j n k m ≡ true) × (j ≡ k) × (n ≡ m))
+        ⊎ ((is_slow j n k m ≡ false) × (j ≡ k → n ≢ m))) [
+      | true ↦ λ is. let parts = both (same_site j k) (nat_eq n m) is in
+          inl (is, same_site-true j k parts.0, eqb-true n m parts.1)
       | false ↦ λ is. inr (
         is,
         λ e f. let t : is_slow k m k m ≡ true = rw (same_site_refl k, eq-eqb m m refl) refl in
-            let g : is_slow k m k m ≡ false = subst (λ z. is_slow z m k m ≡ false) e (subst (λ z. is_slow j z k m ≡ false) f is) in absurd (cc),
+            let g : is_slow k m k m ≡ false = subst (λ z. is_slow z m k m ≡ false) e
+                (subst (λ z. is_slow j z k m ≡ false) f is) in absurd (cc),
       )
     ] refl
 
@@ -123,7 +128,8 @@ none_not_some {X} o x n s = let f : ◌≡◌ {A = Option X} None (Some x) = sym
 
 -- two equal names of a slow commit pass the test
 pub slow_itself : (j : SiteId) (n : ℕ) (k : SiteId) (m : ℕ) → j ≡ k → n ≡ m → is_slow j n k m ≡ true
-slow_itself j n k m ej en = subst (λ z. is_slow j n z m ≡ true) ej (subst (λ z. is_slow j n j z ≡ true) en (rw (same_site_refl j, eq-eqb n n refl) refl))
+slow_itself j n k m ej en = subst (λ z. is_slow j n z m ≡ true) ej
+    (subst (λ z. is_slow j n j z ≡ true) en (rw (same_site_refl j, eq-eqb n n refl) refl))
 
 -- a part locks the object or not, by its test too
 pub lock_cases : (a : Part) (oid : ObjId)
@@ -131,10 +137,14 @@ pub lock_cases : (a : Part) (oid : ObjId)
     ⊎ ((does_lock a oid ≡ false) × ((t : Tid) (objs : List ObjId) → a ≡ Locked t objs → has_object oid objs ≡ true → ⊥))
 lock_cases Free oid = inr (refl, λ t objs e. absurd cc)
 lock_cases (Locked u others) oid =
-    elim (has_object oid others) as (λ b. has_object oid others ≡ b → ((t : Tid) × (objs : List ObjId) × (Locked u others ≡ Locked t objs) × (has_object oid objs ≡ true) × (has_object oid others ≡ true))
-    ⊎ ((has_object oid others ≡ false) × ((t : Tid) (objs : List ObjId) → Locked u others ≡ Locked t objs → has_object oid objs ≡ true → ⊥))) [
+    elim (has_object oid others) as (λ b. has_object oid others ≡ b
+        → ((t : Tid) × (objs : List ObjId) × (Locked u others ≡ Locked t objs) × (has_object oid objs ≡ true)
+        × (has_object oid others ≡ true))
+    ⊎ ((has_object oid others ≡ false) × ((t : Tid) (objs : List ObjId) → Locked u others ≡ Locked t objs
+    → has_object oid objs ≡ true → ⊥))) [
       | true ↦ λ is. inl (u, others, refl, is, is)
-      | false ↦ λ is. inr (is, λ t objs e h. let f : others ≡ objs = cc in let g : has_object oid others ≡ true = ap (λ z. has_object oid z) f ∙ h in absurd (cc))
+      | false ↦ λ is. inr (is, λ t objs e h. let f : others ≡ objs = cc in let g : has_object oid others ≡ true =
+          ap (λ z. has_object oid z) f ∙ h in absurd (cc))
     ] refl
 lock_cases Over oid = inr (refl, λ t objs e. absurd cc)
 
@@ -146,7 +156,8 @@ test_equivalence {K} test is same = record {
   symm = λ x y. elim (test x y) as (λ b. test x y ≡ b → b ≡ test y x) [
     | true ↦ λ h. sym (subst (λ z. test z x ≡ true) (is x y h) (same x))
     | false ↦ λ h. elim (test y x) as (λ c. test y x ≡ c → false ≡ c) [
-      | true ↦ λ k. absurd (let f : test x x ≡ false = subst (λ z. test x z ≡ false) (is y x k) h in let g = same x in cc)
+      | true ↦ λ k. absurd (let f : test x x ≡ false = subst (λ z. test x z ≡ false) (is y x k) h in let g = same x in
+          cc)
       | false ↦ λ k. refl
     ] refl
   ] refl;
@@ -155,7 +166,8 @@ test_equivalence {K} test is same = record {
 
 -- the test for an object of a list is true exactly of those that it contains
 pub object_is_in : (oid : ObjId) (objs : List ObjId) → Contains objs oid → has_object oid objs ≡ true
-object_is_in oid objs h = list_any-from_Contains (test_equivalence same_object same_object-true same_object_refl) oid objs h
+object_is_in oid objs h =
+    list_any-from_Contains (test_equivalence same_object same_object-true same_object_refl) oid objs h
 
 pub object_in : (oid : ObjId) (objs : List ObjId) → has_object oid objs ≡ true → Contains objs oid
 object_in oid objs h = Contains-from_any same_object-true oid objs h
@@ -176,10 +188,12 @@ part_cases f locks locks2 i k m away here p j n = elim (site_cases p i) [
   | inr apart ↦ inl (away p j n apart.1)
   | inl same ↦ elim (slow_cases k m j n) [
     | inl it ↦
-        let now : locks2 i j n ≡ f (locks i j n) = here j n ∙ ap (λ b. if b then f (locks i j n) else locks i j n) it.0 in
+        let now : locks2 i j n ≡ f (locks i j n) = here j n
+            ∙ ap (λ b. if b then f (locks i j n) else locks i j n) it.0 in
         inr (same.1, sym it.1, sym it.2, subst (λ z. locks2 z j n ≡ f (locks z j n)) (sym same.1) now)
     | inr other ↦
-        let now : locks2 i j n ≡ locks i j n = here j n ∙ ap (λ b. if b then f (locks i j n) else locks i j n) other.0 in
+        let now : locks2 i j n ≡ locks i j n = here j n
+            ∙ ap (λ b. if b then f (locks i j n) else locks i j n) other.0 in
         inl (subst (λ z. locks2 z j n ≡ locks z j n) (sym same.1) now)
   ]
 ]
@@ -191,7 +205,8 @@ pub standing_cases : (f : Slow → Slow) (slows slows2 : SiteId → ℕ → Slow
     → (j : SiteId) (n : ℕ) → (slows2 j n ≡ slows j n) ⊎ ((j ≡ i) × (n ≡ m) × (slows2 j n ≡ f (slows j n)))
 standing_cases f slows slows2 i m away here j n = elim (site_cases j i) [
   | inr apart ↦ inl (away j n apart.1)
-  | inl same ↦ elim (nat_eq m n) as (λ b. nat_eq m n ≡ b → (slows2 j n ≡ slows j n) ⊎ ((j ≡ i) × (n ≡ m) × (slows2 j n ≡ f (slows j n)))) [
+  | inl same ↦ elim (nat_eq m n) as (λ b. nat_eq m n ≡ b → (slows2 j n ≡ slows j n)
+      ⊎ ((j ≡ i) × (n ≡ m) × (slows2 j n ≡ f (slows j n)))) [
     | true ↦ λ is.
         let now : slows2 i n ≡ f (slows i n) = here n ∙ ap (λ b. if b then f (slows i n) else slows i n) is in
         inr (same.1, sym (eqb-true m n is), subst (λ z. slows2 z n ≡ f (slows z n)) (sym same.1) now)

@@ -82,7 +82,8 @@ filter_both p q (x ∷ xs) =
     → filter p (if q x then x ∷ filter q xs else filter q xs) ≡ filter q (if b then x ∷ filter p xs else filter p xs)) [
       | true ↦ λ hp. elim (q x) as
           (λ c. q x ≡ c
-          → filter p (if c then x ∷ filter q xs else filter q xs) ≡ (if c then x ∷ filter q (filter p xs) else filter q (filter p xs))) [
+          → filter p (if c then x ∷ filter q xs else filter q xs)
+          ≡ (if c then x ∷ filter q (filter p xs) else filter q (filter p xs))) [
             | true ↦ λ hq. rw hp (ap (λ t. x ∷ t) (filter_both p q xs))
             | false ↦ λ hq. filter_both p q xs
           ] refl
@@ -99,7 +100,8 @@ pub filter_of_map : {X Y : Type 0} (p : Y → Bool) (f : X → Y) (xs : List X)
 filter_of_map p f [] = refl
 filter_of_map p f (x ∷ xs) =
     elim (p (f x)) as
-    (λ b. (if b then f x ∷ filter p (map f xs) else filter p (map f xs)) ≡ map f (if b then x ∷ filter (λ y. p (f y)) xs else filter (λ y. p (f y)) xs)) [
+    (λ b. (if b then f x ∷ filter p (map f xs) else filter p (map f xs)) ≡ map f
+        (if b then x ∷ filter (λ y. p (f y)) xs else filter (λ y. p (f y)) xs)) [
       | true ↦ ap (λ t. f x ∷ t) (filter_of_map p f xs)
       | false ↦ filter_of_map p f xs
     ]
@@ -129,7 +131,8 @@ place_filtered p (z ∷ xs) x zero h is = let e : z ≡ x = cc in rw (ap p e ∙
 place_filtered p (z ∷ xs) x (suc a) h is =
     let r = place_filtered p xs x a h is in
     elim (p z) as
-    (λ b. slice_get (if b then z ∷ filter p xs else filter p xs) (length (if b then z ∷ filter p (take a xs) else filter p (take a xs))) ≡ Some x) [ true ↦ r | false ↦ r ]
+    (λ b. slice_get (if b then z ∷ filter p xs else filter p xs)
+        (length (if b then z ∷ filter p (take a xs) else filter p (take a xs))) ≡ Some x) [ true ↦ r | false ↦ r ]
 
 -- of a list whose first element passes at least one is kept
 one_kept : {X : Type 0} (p : X → Bool) (z : X) (xs : List X) → p z ≡ true → 0 < length (filter p (z ∷ xs))
@@ -144,7 +147,8 @@ more_kept p (z ∷ xs) x zero (suc b) l h is = let e : z ≡ x = cc in one_kept 
 more_kept p (z ∷ xs) x (suc a) (suc b) l h is =
     let r = more_kept p xs x a b (omega arith) h is in
     elim (p z) as
-    (λ c. length (if c then z ∷ filter p (take a xs) else filter p (take a xs)) < length (if c then z ∷ filter p (take b xs) else filter p (take b xs))) [ true ↦ omega (arith, r) | false ↦ r ]
+    (λ c. length (if c then z ∷ filter p (take a xs) else filter p (take a xs)) < length
+        (if c then z ∷ filter p (take b xs) else filter p (take b xs))) [ true ↦ omega (arith, r) | false ↦ r ]
 
 -- what is kept is kept in order
 pub filter_order : {X : Type 0} (p : X → Bool) (xs : List X) (x y : X) (m n : ℕ) → m < n
@@ -154,10 +158,12 @@ filter_order p xs x y m n l hx hy =
     let u = filter_place p xs x m hx in
     let w = filter_place p xs y n hy in
     elim (cases_order u.0 w.0) [
-      | inl same ↦ let e = ap (λ k. length (filter p (take k xs))) same in let u2 = u.3 in let w2 = w.3 in absurd (omega (arith, l, e, u2, w2))
+      | inl same ↦ let e = ap (λ k. length (filter p (take k xs))) same in let u2 = u.3 in let w2 = w.3 in
+          absurd (omega (arith, l, e, u2, w2))
       | inr r ↦ elim r [
         | inl before ↦ (u.0, w.0, before, u.1, w.1)
-        | inr after ↦ let g = more_kept p xs y w.0 u.0 after w.1 w.2 in let u2 = u.3 in let w2 = w.3 in absurd (omega (arith, l, g, u2, w2))
+        | inr after ↦ let g = more_kept p xs y w.0 u.0 after w.1 w.2 in let u2 = u.3 in let w2 = w.3 in
+            absurd (omega (arith, l, g, u2, w2))
       ]
     ]
 

@@ -25,8 +25,8 @@ IsHeld part oid = (t : Tid) × (objs : List ObjId) × (part ≡ Locked t objs) �
 abbrev pub WritesAt : (ObjId → SiteId) → SiteId → Tx → ObjId → Type 0
 WritesAt preferred p x oid = Contains (write_set x.updates) oid × (preferred oid ≡ p)
 
--- of site k's own commits `owns k`, site p's commits in order `known p`, how many of site k's commits are committed at p
--- `counts p k`, site j's slow commits `slows j`, and what site p has of slow commit n of j `locks p j n`
+-- of site k's own commits `owns k`, site p's commits in order `known p`, how many of site k's commits are committed
+-- at p `counts p k`, site j's slow commits `slows j`, and what site p has of slow commit n of j `locks p j n`
 pub record AreLocked (preferred : ObjId → SiteId) (owns known : SiteId → List Held) (counts : SiteId → SiteId → ℕ)
     (slows : SiteId → ℕ → Slow) (locks : SiteId → SiteId → ℕ → Part) : Type 0 where
   -- each lock is that of a begun slow commit, on what it writes there
@@ -107,14 +107,16 @@ module _ (preferred : ObjId → SiteId) (owns known : SiteId → List Held) (cou
       → ((p j : SiteId) (n : ℕ) → (locks2 p j n ≡ locks p j n) ⊎ (IsLoosed p j (locks2 p j n) (slows2 j n)
       × (p ≢ j → (q : ℕ) (r : Held) → slice_get (owns j) q ≡ Some r → r.tx.slow ≢ 0 → r.tx.slow ≡ n → q < counts2 p j)))
       → ((p j : SiteId) (n : ℕ) → p ≢ j → locks p j n ≡ Over → locks2 p j n ≡ Over)
-      → ((p k : SiteId) (q : ℕ) (r : Held) → p ≢ k → slice_get (owns k) q ≡ Some r → counts p k ≤ q → q < counts2 p k → r.tx.slow ≢ 0
+      → ((p k : SiteId) (q : ℕ) (r : Held) → p ≢ k → slice_get (owns k) q ≡ Some r → counts p k ≤ q → q < counts2 p k
+      → r.tx.slow ≢ 0
       → locks2 p k r.tx.slow ≡ Over)
       → AreLocked preferred owns known counts2 slows2 locks2
   goes counts2 slows2 locks2 rise full ends go lasts risen =
       let stays : (j : SiteId) (n : ℕ) (x : Tx) → begun (slows j n) ≡ Some x
       → begun (slows2 j n) ≡ Some x = λ j n x h. elim (ends j n) [
         | inl same ↦ ap begun same ∙ h
-        | inr end ↦ let f : x ≡ end.0 = same_open (slows j n) x end.0 end.1 h end.2 in ap begun end.3 ∙ ap (λ z. Some z) (sym f)
+        | inr end ↦ let f : x ≡ end.0 = same_open (slows j n) x end.0 end.1 h end.2 in ap begun end.3
+            ∙ ap (λ z. Some z) (sym f)
       ] in
       let open_ : (j : SiteId) (n : ℕ) (x : Tx) (asked : List SiteId) → slows2 j n ≡ Undecided x asked
       → slows j n ≡ Undecided x asked = λ j n x asked o. elim (ends j n) [
@@ -135,7 +137,8 @@ module _ (preferred : ObjId → SiteId) (owns known : SiteId → List Held) (cou
           ]
           | inr loosed ↦ loosed.0.over h
         ];
-        single = λ p j k n m t u ws bs oid a b ca cb pr. L.single p j k n m t u ws bs oid (old p j n t ws a) (old p k m u bs b) ca cb pr;
+        single = λ p j k n m t u ws bs oid a b ca cb pr. L.single p j k n m t u ws bs oid (old p j n t ws a)
+            (old p k m u bs b) ca cb pr;
         clean = λ p j n t objs x asked h o. L.clean p j n t objs x asked (old p j n t objs h) (open_ j n x asked o);
         waits = λ p k q r oid here low w pr.
             let o = L.waits p k q r oid here (let l = rise p k in omega (arith, l, low)) w pr in
@@ -169,8 +172,11 @@ module _ (preferred : ObjId → SiteId) (owns known : SiteId → List Held) (cou
   -- a slow commit begins at c with its lock there, or its lock comes to i
   pub comes : (slows2 : SiteId → ℕ → Slow) (locks2 : SiteId → SiteId → ℕ → Part) (i c : SiteId) (m : ℕ)
       (objs : List ObjId) (x : Tx)
-      → ((j : SiteId) (n : ℕ) → (slows2 j n ≡ slows j n) ⊎ ((asked : List SiteId) × (slows j n ≡ Unused) × (slows2 j n ≡ Undecided x asked) × (j ≡ i) × (locks2 j j n ≡ Locked x.tid objs)))
-      → ((p j : SiteId) (n : ℕ) → (locks2 p j n ≡ locks p j n) ⊎ ((p ≡ i) × (j ≡ c) × (n ≡ m) × (locks2 p j n ≡ Locked x.tid objs)))
+      → ((j : SiteId) (n : ℕ) → (slows2 j n ≡ slows j n)
+      ⊎ ((asked : List SiteId) × (slows j n ≡ Unused) × (slows2 j n ≡ Undecided x asked) × (j ≡ i)
+      × (locks2 j j n ≡ Locked x.tid objs)))
+      → ((p j : SiteId) (n : ℕ) → (locks2 p j n ≡ locks p j n)
+      ⊎ ((p ≡ i) × (j ≡ c) × (n ≡ m) × (locks2 p j n ≡ Locked x.tid objs)))
       → locks i c m ≡ Free → begun (slows2 c m) ≡ Some x → AgreesAt preferred i x objs
       → IsUnmodified preferred i x.start objs (known i) → IsUnlocked preferred i (locks i) objs
       → AreLocked preferred owns known counts slows2 locks2
@@ -183,7 +189,8 @@ module _ (preferred : ObjId → SiteId) (owns known : SiteId → List Held) (cou
       let is_at : (j : SiteId) (n : ℕ) → j ≡ c → n ≡ m → begun (slows2 j n) ≡ Some x = λ j n ej en.
       subst (λ k. begun (slows2 k n) ≡ Some x) (sym ej) (subst (λ k. begun (slows2 c k) ≡ Some x) (sym en) is) in
       let free_at : (p j : SiteId) (n : ℕ) → p ≡ i → j ≡ c → n ≡ m → locks p j n ≡ Free = λ p j n ep ej en.
-      subst (λ z. locks z j n ≡ Free) (sym ep) (subst (λ z. locks i z n ≡ Free) (sym ej) (subst (λ z. locks i c z ≡ Free) (sym en) free)) in
+      subst (λ z. locks z j n ≡ Free) (sym ep)
+          (subst (λ z. locks i z n ≡ Free) (sym ej) (subst (λ z. locks i c z ≡ Free) (sym en) free)) in
       record {
         held = λ p j n t os h. elim (come p j n) [
           | inl same ↦ let o = L.held p j n t os (sym same ∙ h) in (o.0, ap begun (stays j n o.0 o.1) ∙ o.1, o.2, o.3)
@@ -191,7 +198,8 @@ module _ (preferred : ObjId → SiteId) (owns known : SiteId → List Held) (cou
               let f : Locked x.tid objs ≡ Locked t os = sym new.3 ∙ h in
               let ft : x.tid ≡ t = cc in
               let fo : objs ≡ os = cc in
-              (x, is_at j n new.1 new.2, sym ft, subst (λ z. AgreesAt preferred p x z) fo (subst (λ k. AgreesAt preferred k x objs) (sym new.0) agrees))
+              (x, is_at j n new.1 new.2, sym ft, subst (λ z. AgreesAt preferred p x z) fo
+                  (subst (λ k. AgreesAt preferred k x objs) (sym new.0) agrees))
         ];
         over = λ p j n h. elim (come p j n) [
           | inl same ↦ let o = L.over p j n (sym same ∙ h) in elim (begins j n) [
@@ -206,13 +214,15 @@ module _ (preferred : ObjId → SiteId) (owns known : SiteId → List Held) (cou
             | inr nb ↦
                 let f : Locked x.tid objs ≡ Locked u bs = sym nb.3 ∙ b in
                 let fo : objs ≡ bs = cc in
-                absurd (unlocked j n t ws oid (subst (λ z. locks z j n ≡ Locked t ws) nb.0 (sym sa ∙ a)) ca (subst (λ z. Contains z oid) (sym fo) cb) (pr ∙ nb.0))
+                absurd (unlocked j n t ws oid (subst (λ z. locks z j n ≡ Locked t ws) nb.0 (sym sa ∙ a)) ca
+                    (subst (λ z. Contains z oid) (sym fo) cb) (pr ∙ nb.0))
           ]
           | inr na ↦ elim (come p k l) [
             | inl sb ↦
                 let f : Locked x.tid objs ≡ Locked t ws = sym na.3 ∙ a in
                 let fo : objs ≡ ws = cc in
-                absurd (unlocked k l u bs oid (subst (λ z. locks z k l ≡ Locked u bs) na.0 (sym sb ∙ b)) cb (subst (λ z. Contains z oid) (sym fo) ca) (pr ∙ na.0))
+                absurd (unlocked k l u bs oid (subst (λ z. locks z k l ≡ Locked u bs) na.0 (sym sb ∙ b)) cb
+                    (subst (λ z. Contains z oid) (sym fo) ca) (pr ∙ na.0))
             | inr nb ↦ (na.1 ∙ sym nb.1, na.2 ∙ sym nb.2)
           ]
         ];
@@ -225,13 +235,16 @@ module _ (preferred : ObjId → SiteId) (owns known : SiteId → List Held) (cou
               let f : Locked x.tid objs ≡ Locked t os = sym new.3 ∙ h in
               let fo : objs ≡ os = cc in
               let e : x ≡ y = same_open (slows2 j n) x y asked (is_at j n new.1 new.2) o in
-              subst (λ (z : Tx). IsUnmodified preferred p z.start os (known p)) e (subst (λ z. IsUnmodified preferred p x.start z (known p)) fo (subst (λ k. IsUnmodified preferred k x.start objs (known k)) (sym new.0) unmodified))
+              subst (λ (z : Tx). IsUnmodified preferred p z.start os (known p)) e
+                  (subst (λ z. IsUnmodified preferred p x.start z (known p)) fo
+                      (subst (λ k. IsUnmodified preferred k x.start objs (known k)) (sym new.0) unmodified))
         ];
         waits = λ p k q r oid here low w pr.
             let o = L.waits p k q r oid here low w pr in
             elim (come p k r.tx.slow) [
               | inl same ↦ (o.0, o.1, same ∙ o.2, o.3)
-              | inr new ↦ absurd (locked_not_free (locks p k r.tx.slow) o.0 o.1 o.2 (free_at p k r.tx.slow new.0 new.1 new.2))
+              | inr new ↦ absurd (locked_not_free (locks p k r.tx.slow) o.0 o.1 o.2
+                  (free_at p k r.tx.slow new.0 new.1 new.2))
             ];
         fast = L.fast;
         slow = λ k q r here s. elim (begins k r.tx.slow) [
@@ -248,7 +261,8 @@ module _ (preferred : ObjId → SiteId) (owns known : SiteId → List Held) (cou
               ]
           | inr new ↦
               let e : x ≡ y = same_open (slows2 p n) x y asked (ap begun new.2) o in
-              (x.tid, objs, new.4, (agrees oid (pr ∙ new.3)).1 (subst (λ (z : Tx). Contains (write_set z.updates) oid) (sym e) w))
+              (x.tid, objs, new.4, (agrees oid (pr ∙ new.3)).1
+                  (subst (λ (z : Tx). Contains (write_set z.updates) oid) (sym e) w))
         ];
         gone = λ p k q r apart here low s.
             let o = L.gone p k q r apart here low s in
@@ -261,16 +275,20 @@ module _ (preferred : ObjId → SiteId) (owns known : SiteId → List Held) (cou
   -- a transaction commits at i, fast or by decision
   pub owned : (owns2 known2 : SiteId → List Held) (counts2 : SiteId → SiteId → ℕ) (slows2 : SiteId → ℕ → Slow)
       (locks2 : SiteId → SiteId → ℕ → Part) (i : SiteId) (r : Held)
-      → ((k : SiteId) (q : ℕ) (z : Held) → slice_get (owns2 k) q ≡ Some z → (slice_get (owns k) q ≡ Some z) ⊎ ((k ≡ i) × (q ≡ length (owns k)) × (r ≡ z)))
-      → ((p : SiteId) (q : ℕ) (z : Held) → slice_get (known2 p) q ≡ Some z → (slice_get (known p) q ≡ Some z) ⊎ ((p ≡ i) × (r ≡ z)))
+      → ((k : SiteId) (q : ℕ) (z : Held) → slice_get (owns2 k) q ≡ Some z → (slice_get (owns k) q ≡ Some z)
+      ⊎ ((k ≡ i) × (q ≡ length (owns k)) × (r ≡ z)))
+      → ((p : SiteId) (q : ℕ) (z : Held) → slice_get (known2 p) q ≡ Some z → (slice_get (known p) q ≡ Some z)
+      ⊎ ((p ≡ i) × (r ≡ z)))
       → ((p k : SiteId) → counts p k ≤ counts2 p k) → ((k : SiteId) → counts2 k k ≡ length (owns2 k))
       → ((p k : SiteId) → p ≢ k → (counts2 p k ≤ counts p k) × (counts p k ≤ length (owns k)))
       → ((j : SiteId) (n : ℕ) → DoesDecide (slows j n) (slows2 j n))
       → ((p j : SiteId) (n : ℕ) → (locks2 p j n ≡ locks p j n) ⊎ ((p ≡ j) × IsLoosed p j (locks2 p j n) (slows2 j n)))
-      → ((j : SiteId) (n : ℕ) (t : Tid) (objs : List ObjId) (oid : ObjId) → locks i j n ≡ Locked t objs → Contains objs oid
+      → ((j : SiteId) (n : ℕ) (t : Tid) (objs : List ObjId) (oid : ObjId) → locks i j n ≡ Locked t objs
+      → Contains objs oid
       → Contains (write_set r.tx.updates) oid → preferred oid ≡ i → (x : Tx) (asked : List SiteId)
       → slows2 j n ≢ Undecided x asked)
-      → ((p : SiteId) (oid : ObjId) → Contains (write_set r.tx.updates) oid → preferred oid ≡ p → p ≢ i → IsHeld (locks2 p i r.tx.slow) oid)
+      → ((p : SiteId) (oid : ObjId) → Contains (write_set r.tx.updates) oid → preferred oid ≡ p → p ≢ i
+      → IsHeld (locks2 p i r.tx.slow) oid)
       → (r.tx.slow ≡ 0 → AreLocal preferred i r.tx.updates) → (r.tx.slow ≢ 0 → slows2 i r.tx.slow ≡ Decided r.tx)
       → ((q : ℕ) (z : Held) → slice_get (owns i) q ≡ Some z → r.tx.slow ≢ 0 → z.tx.slow ≢ r.tx.slow)
       → AreLocked preferred owns2 known2 counts2 slows2 locks2
@@ -283,7 +301,8 @@ module _ (preferred : ObjId → SiteId) (owns known : SiteId → List Held) (cou
       let stays : (j : SiteId) (n : ℕ) (x : Tx) → begun (slows j n) ≡ Some x
       → begun (slows2 j n) ≡ Some x = λ j n x h. elim (decides j n) [
         | inl same ↦ ap begun same ∙ h
-        | inr end ↦ let f : x ≡ end.0 = same_open (slows j n) x end.0 end.1 h end.2 in ap begun end.3 ∙ ap (λ z. Some z) (sym f)
+        | inr end ↦ let f : x ≡ end.0 = same_open (slows j n) x end.0 end.1 h end.2 in ap begun end.3
+            ∙ ap (λ z. Some z) (sym f)
       ] in
       let open_ : (j : SiteId) (n : ℕ) (x : Tx) (asked : List SiteId) → slows2 j n ≡ Undecided x asked
       → slows j n ≡ Undecided x asked = λ j n x asked o. elim (decides j n) [
@@ -304,10 +323,13 @@ module _ (preferred : ObjId → SiteId) (owns known : SiteId → List Held) (cou
           ]
           | inr loosed ↦ loosed.1.over h
         ];
-        single = λ p j k n m t u ws bs oid a b ca cb pr. L.single p j k n m t u ws bs oid (old p j n t ws a) (old p k m u bs b) ca cb pr;
+        single = λ p j k n m t u ws bs oid a b ca cb pr. L.single p j k n m t u ws bs oid (old p j n t ws a)
+            (old p k m u bs b) ca cb pr;
         clean = λ p j n t objs x asked h o z q oid here w c pr. elim (know p q z here) [
           | inl was ↦ L.clean p j n t objs x asked (old p j n t objs h) (open_ j n x asked o) z q oid was w c pr
-          | inr new ↦ absurd (free j n t objs oid (subst (λ k. locks k j n ≡ Locked t objs) new.0 (old p j n t objs h)) c (subst (λ (y : Held). Contains (write_set y.tx.updates) oid) (sym new.1) w) (pr ∙ new.0) x asked o)
+          | inr new ↦ absurd (free j n t objs oid
+              (subst (λ k. locks k j n ≡ Locked t objs) new.0 (old p j n t objs h)) c
+                  (subst (λ (y : Held). Contains (write_set y.tx.updates) oid) (sym new.1) w) (pr ∙ new.0) x asked o)
         ];
         waits = λ p k q z oid here low w pr. elim (own k q z here) [
           | inl was ↦
@@ -318,19 +340,26 @@ module _ (preferred : ObjId → SiteId) (owns known : SiteId → List Held) (cou
               ]
           | inr new ↦ elim (site_cases p i) [
             | inl at_i ↦ absurd (own_site p k q z (at_i.1 ∙ sym new.0) here low)
-            | inr away ↦ subst (λ (y : Held). IsHeld (locks2 p k y.tx.slow) oid) new.2 (subst (λ a. IsHeld (locks2 p a r.tx.slow) oid) (sym new.0) (waits_new p oid (subst (λ (y : Held). Contains (write_set y.tx.updates) oid) (sym new.2) w) pr away.1))
+            | inr away ↦ subst (λ (y : Held). IsHeld (locks2 p k y.tx.slow) oid) new.2
+                (subst (λ a. IsHeld (locks2 p a r.tx.slow) oid) (sym new.0)
+                    (waits_new p oid (subst (λ (y : Held). Contains (write_set y.tx.updates) oid)
+                        (sym new.2) w) pr away.1))
           ]
         ];
         fast = λ k q z here s. elim (own k q z here) [
           | inl was ↦ L.fast k q z was s
-          | inr new ↦ subst (λ (y : Held). AreLocal preferred k y.tx.updates) new.2 (subst (λ a. AreLocal preferred a r.tx.updates) (sym new.0) (fast_new (ap (λ (y : Held). y.tx.slow) new.2 ∙ s)))
+          | inr new ↦ subst (λ (y : Held). AreLocal preferred k y.tx.updates) new.2
+              (subst (λ a. AreLocal preferred a r.tx.updates) (sym new.0)
+                  (fast_new (ap (λ (y : Held). y.tx.slow) new.2 ∙ s)))
         ];
         slow = λ k q z here s. elim (own k q z here) [
           | inl was ↦ elim (decides k z.tx.slow) [
             | inl same ↦ same ∙ L.slow k q z was s
             | inr end ↦ absurd (decided_not_open (slows k z.tx.slow) z.tx end.0 end.1 (L.slow k q z was s) end.2)
           ]
-          | inr new ↦ subst (λ (y : Held). slows2 k y.tx.slow ≡ Decided y.tx) new.2 (subst (λ a. slows2 a r.tx.slow ≡ Decided r.tx) (sym new.0) (slow_new (λ e. s (ap (λ (y : Held). y.tx.slow) (sym new.2) ∙ e))))
+          | inr new ↦ subst (λ (y : Held). slows2 k y.tx.slow ≡ Decided y.tx) new.2
+              (subst (λ a. slows2 a r.tx.slow ≡ Decided r.tx) (sym new.0)
+                  (slow_new (λ e. s (ap (λ (y : Held). y.tx.slow) (sym new.2) ∙ e))))
         ];
         once = λ k q p a b ha hb s e. elim (own k q a ha) [
           | inl wa ↦ elim (own k p b hb) [
@@ -342,7 +371,8 @@ module _ (preferred : ObjId → SiteId) (owns known : SiteId → List Held) (cou
           | inr na ↦ elim (own k p b hb) [
             | inl wb ↦
                 let same : b.tx.slow ≡ r.tx.slow = sym e ∙ ap (λ (y : Held). y.tx.slow) (sym na.2) in
-                absurd (once_new p b (subst (λ z. slice_get (owns z) p ≡ Some b) na.0 wb) (λ f. s (e ∙ (same ∙ f))) same)
+                absurd (once_new p b (subst (λ z. slice_get (owns z) p ≡ Some b) na.0 wb)
+                    (λ f. s (e ∙ (same ∙ f))) same)
             | inr nb ↦ na.1 ∙ sym nb.1
           ]
         ];
@@ -367,7 +397,8 @@ module _ (preferred : ObjId → SiteId) (owns known : SiteId → List Held) (cou
 
   -- a transaction of another site comes to i
   pub received : (known2 : SiteId → List Held) (i : SiteId) (r : Held) (k : SiteId) (q0 : ℕ)
-      → ((p : SiteId) (q : ℕ) (z : Held) → slice_get (known2 p) q ≡ Some z → (slice_get (known p) q ≡ Some z) ⊎ ((p ≡ i) × (r ≡ z)))
+      → ((p : SiteId) (q : ℕ) (z : Held) → slice_get (known2 p) q ≡ Some z → (slice_get (known p) q ≡ Some z)
+      ⊎ ((p ≡ i) × (r ≡ z)))
       → slice_get (owns k) q0 ≡ Some r → counts i k ≤ q0 → k ≢ i
       → AreLocked preferred owns known2 counts slows locks
   received known2 i r k q0 know owned_ low apart = record {
@@ -377,14 +408,18 @@ module _ (preferred : ObjId → SiteId) (owns known : SiteId → List Held) (cou
     clean = λ p j n t objs x asked h o z q oid here w c pr. elim (know p q z here) [
       | inl was ↦ L.clean p j n t objs x asked h o z q oid was w c pr
       | inr new ↦
-          let writes : Contains (write_set r.tx.updates) oid = subst (λ (y : Held). Contains (write_set y.tx.updates) oid) (sym new.1) w in
+          let writes : Contains (write_set r.tx.updates) oid =
+              subst (λ (y : Held). Contains (write_set y.tx.updates) oid) (sym new.1) w in
           let waiting = L.waits i k q0 r oid owned_ low writes (pr ∙ new.0) in
-          let one = L.single i j k n r.tx.slow t waiting.0 objs waiting.1 oid (subst (λ a. locks a j n ≡ Locked t objs) new.0 h) waiting.2 c waiting.3 (pr ∙ new.0) in
+          let one = L.single i j k n r.tx.slow t waiting.0 objs waiting.1 oid
+              (subst (λ a. locks a j n ≡ Locked t objs) new.0 h) waiting.2 c waiting.3 (pr ∙ new.0) in
           elim (zero_or r.tx.slow) [
             | inl fast_ ↦ absurd (apart (sym (L.fast k q0 r owned_ fast_ oid writes) ∙ (pr ∙ new.0)))
             | inr slow_ ↦
                 let d = L.slow k q0 r owned_ slow_ in
-                absurd (decided_not_open (slows k r.tx.slow) r.tx x asked d (subst (λ a. slows k a ≡ Undecided x asked) one.1 (subst (λ a. slows a n ≡ Undecided x asked) one.0 o)))
+                absurd (decided_not_open (slows k r.tx.slow) r.tx x asked d
+                    (subst (λ a. slows k a ≡ Undecided x asked) one.1
+                        (subst (λ a. slows a n ≡ Undecided x asked) one.0 o)))
           ]
     ];
     waits = L.waits;
@@ -397,7 +432,8 @@ module _ (preferred : ObjId → SiteId) (owns known : SiteId → List Held) (cou
 
   -- each committed version of what is written is seen, so nothing blocks: of a fast commit
   pub clear_fast : (i : SiteId) (v : List ℕ) (oids : List ObjId)
-      → ((p k : SiteId) (q : ℕ) (z : Held) → slice_get (owns k) q ≡ Some z → q < counts p k → (l : ℕ) × (slice_get (known p) l ≡ Some z))
+      → ((p k : SiteId) (q : ℕ) (z : Held) → slice_get (owns k) q ≡ Some z → q < counts p k → (l : ℕ)
+      × (slice_get (known p) l ≡ Some z))
       → ((oid : ObjId) → Contains oids oid → preferred oid ≡ i) → IsUnmodified preferred i v oids (known i)
       → IsUnlocked preferred i (locks i) oids
       → (k : SiteId) (q : ℕ) (z : Held) (oid : ObjId) → slice_get (owns k) q ≡ Some z
@@ -405,12 +441,14 @@ module _ (preferred : ObjId → SiteId) (owns known : SiteId → List Held) (cou
       → Contains oids oid → sees v z ≡ true
   clear_fast i v oids place local unmodified unlocked k q z oid here w c = elim (low_or q (counts i k)) [
     | inl low ↦ let l = place i k q z here low in unmodified z l.0 oid l.1 w c (local oid c)
-    | inr high ↦ let h = L.waits i k q z oid here high w (local oid c) in absurd (unlocked k z.tx.slow h.0 h.1 oid h.2 h.3 c (local oid c))
+    | inr high ↦ let h = L.waits i k q z oid here high w (local oid c) in
+        absurd (unlocked k z.tx.slow h.0 h.1 oid h.2 h.3 c (local oid c))
   ]
 
   -- of a slow one
   pub clear_slow : (i : SiteId) (n : ℕ) (x : Tx) (asked : List SiteId) → n ≢ 0 → slows i n ≡ Undecided x asked
-      → ((p k : SiteId) (q : ℕ) (z : Held) → slice_get (owns k) q ≡ Some z → q < counts p k → (l : ℕ) × (slice_get (known p) l ≡ Some z))
+      → ((p k : SiteId) (q : ℕ) (z : Held) → slice_get (owns k) q ≡ Some z → q < counts p k → (l : ℕ)
+      × (slice_get (known p) l ≡ Some z))
       → ((oid : ObjId) → Contains (write_set x.updates) oid → IsHeld (locks (preferred oid) i n) oid)
       → (k : SiteId) (q : ℕ) (z : Held) (oid : ObjId) → slice_get (owns k) q ≡ Some z
       → Contains (write_set z.tx.updates) oid
@@ -419,12 +457,15 @@ module _ (preferred : ObjId → SiteId) (owns known : SiteId → List Held) (cou
       let p = preferred oid in
       let mine = have oid c in
       elim (low_or q (counts p k)) [
-        | inl low ↦ let l = place p k q z here low in L.clean p i n mine.0 mine.1 x asked mine.2 open_ z l.0 oid l.1 w mine.3 refl
+        | inl low ↦ let l = place p k q z here low in
+            L.clean p i n mine.0 mine.1 x asked mine.2 open_ z l.0 oid l.1 w mine.3 refl
         | inr high ↦
             let h = L.waits p k q z oid here high w refl in
             let one = L.single p i k n z.tx.slow mine.0 h.0 mine.1 h.1 oid mine.2 h.2 mine.3 h.3 refl in
             let d = L.slow k q z here (λ e. some (one.1 ∙ e)) in
-            absurd (decided_not_open (slows k z.tx.slow) z.tx x asked d (subst (λ a. slows k a ≡ Undecided x asked) one.1 (subst (λ a. slows a n ≡ Undecided x asked) one.0 open_)))
+            absurd (decided_not_open (slows k z.tx.slow) z.tx x asked d
+                (subst (λ a. slows k a ≡ Undecided x asked) one.1
+                    (subst (λ a. slows a n ≡ Undecided x asked) one.0 open_)))
       ]
 
   -- a site that has something of a slow commit holds its lock, while it is undecided

@@ -59,9 +59,12 @@ module _ (preferred : ObjId → SiteId) (owns known : SiteId → List Held) (cou
   by_slow_begin slows2 locks2 m objs x asked away here away_ here_ unused agrees unmodified unlocked_ =
       let part = part_cases (λ a. Locked x.tid objs) locks locks2 i i m away_ here_ in
       let standing = standing_cases (λ g. Undecided x asked) slows slows2 i m away here in
-      let locked_now : locks2 i i m ≡ Locked x.tid objs = here_ i m ∙ ap (λ b. if b then Locked x.tid objs else locks i i m) (slow_itself i m i m refl refl) in
+      let locked_now : locks2 i i m ≡ Locked x.tid objs = here_ i m
+          ∙ ap (λ b. if b then Locked x.tid objs else locks i i m) (slow_itself i m i m refl refl) in
       let begun_now : begun (slows2 i m) ≡ Some x = elim (standing i m) [
-        | inl same ↦ absurd (let f = here m in not_unused (slows2 i m) x (ap begun (f ∙ ap (λ b. if b then Undecided x asked else slows i m) (eq-eqb m m refl))) (same ∙ unused))
+        | inl same ↦ absurd (let f = here m in
+            not_unused (slows2 i m) x
+                (ap begun (f ∙ ap (λ b. if b then Undecided x asked else slows i m) (eq-eqb m m refl))) (same ∙ unused))
         | inr now ↦ ap begun now.2
       ] in
       comes preferred owns known counts slows locks L slows2 locks2 i i m objs x
@@ -72,7 +75,8 @@ module _ (preferred : ObjId → SiteId) (owns known : SiteId → List Held) (cou
           subst (λ z. slows z n ≡ Unused) (sym now.0) (subst (λ z. slows i z ≡ Unused) (sym now.1) unused),
           now.2,
           now.0,
-          subst (λ z. locks2 z z n ≡ Locked x.tid objs) (sym now.0) (subst (λ z. locks2 i i z ≡ Locked x.tid objs) (sym now.1) locked_now),
+          subst (λ z. locks2 z z n ≡ Locked x.tid objs) (sym now.0)
+              (subst (λ z. locks2 i i z ≡ Locked x.tid objs) (sym now.1) locked_now),
         )
       ])
       part (unused_free preferred owns known counts slows locks L i i m unused) begun_now agrees unmodified unlocked_
@@ -96,7 +100,8 @@ module _ (preferred : ObjId → SiteId) (owns known : SiteId → List Held) (cou
   ends_here : (slows2 : SiteId → ℕ → Slow) (locks2 : SiteId → SiteId → ℕ → Part)
       → ((k : SiteId) → counts k k ≡ length (owns k))
       → ((j : SiteId) (n : ℕ) → DoesEnd (slows j n) (slows2 j n))
-      → ((p j : SiteId) (n : ℕ) → (locks2 p j n ≡ locks p j n) ⊎ ((p ≡ j) × (locks2 p j n ≡ unlocked (locks p j n)) × (slows2 j n ≡ ended (slows j n))))
+      → ((p j : SiteId) (n : ℕ) → (locks2 p j n ≡ locks p j n)
+      ⊎ ((p ≡ j) × (locks2 p j n ≡ unlocked (locks p j n)) × (slows2 j n ≡ ended (slows j n))))
       → AreLocked preferred owns known counts slows2 locks2
   ends_here slows2 locks2 full ends go =
       goes preferred owns known counts slows locks L counts slows2 locks2 (λ p k. omega arith) full ends
@@ -105,7 +110,8 @@ module _ (preferred : ObjId → SiteId) (owns known : SiteId → List Held) (cou
         | inr now ↦ elim (unlocked_or_free (locks p j n)) [
           | inl same ↦ inl (now.1 ∙ same)
           | inr free ↦ inr (
-            free_loosed p j (locks2 p j n) (slows2 j n) (now.1 ∙ free) (λ e x asked o. ended_not_undecided (slows j n) x asked (sym now.2 ∙ o)),
+            free_loosed p j (locks2 p j n) (slows2 j n) (now.1 ∙ free)
+                (λ e x asked o. ended_not_undecided (slows j n) x asked (sym now.2 ∙ o)),
             λ apart. absurd (apart now.0),
           )
         ]
@@ -125,7 +131,8 @@ module _ (preferred : ObjId → SiteId) (owns known : SiteId → List Held) (cou
       → ((j : SiteId) (n : ℕ) → locks2 i j n ≡ (if is_slow i m j n then unlocked (locks i j n) else locks i j n))
       → AreLocked preferred owns known counts slows2 locks2
   by_slow_end slows2 locks2 m full away here away_ here_ =
-      let now_ended : slows2 i m ≡ ended (slows i m) = here m ∙ ap (λ b. if b then ended (slows i m) else slows i m) (eq-eqb m m refl) in
+      let now_ended : slows2 i m ≡ ended (slows i m) = here m ∙ ap (λ b. if b then ended (slows i m) else slows i m)
+          (eq-eqb m m refl) in
       ends_here slows2 locks2 full
       (λ j n. elim (standing_cases ended slows slows2 i m away here j n) [
         | inl same ↦ inl same
@@ -133,7 +140,8 @@ module _ (preferred : ObjId → SiteId) (owns known : SiteId → List Held) (cou
       ])
       (λ p j n. elim (part_cases unlocked locks locks2 i i m away_ here_ p j n) [
         | inl same ↦ inl same
-        | inr now ↦ inr (now.0 ∙ sym now.1, now.3, subst (λ z. slows2 z n ≡ ended (slows z n)) (sym now.1) (subst (λ z. slows2 i z ≡ ended (slows i z)) (sym now.2) now_ended))
+        | inr now ↦ inr (now.0 ∙ sym now.1, now.3, subst (λ z. slows2 z n ≡ ended (slows z n)) (sym now.1)
+            (subst (λ z. slows2 i z ≡ ended (slows i z)) (sym now.2) now_ended))
       ])
 
   -- Boot: all slow commits of i that are undecided end
@@ -146,7 +154,8 @@ module _ (preferred : ObjId → SiteId) (owns known : SiteId → List Held) (cou
   by_boot slows2 locks2 full away here away_ here_ =
       ends_here slows2 locks2 full
       (λ j n. elim (site_cases j i) [
-        | inl same ↦ subst (λ g. DoesEnd (slows j n) g) (sym (subst (λ z. slows2 z n ≡ ended (slows z n)) (sym same.1) (here n))) (does_end (slows j n))
+        | inl same ↦ subst (λ g. DoesEnd (slows j n) g)
+            (sym (subst (λ z. slows2 z n ≡ ended (slows z n)) (sym same.1) (here n))) (does_end (slows j n))
         | inr apart ↦ inl (away j n apart.1)
       ])
       (λ p j n. elim (site_cases p i) [
@@ -154,10 +163,12 @@ module _ (preferred : ObjId → SiteId) (owns known : SiteId → List Held) (cou
         | inl at_i ↦ elim (site_cases j i) [
           | inl same ↦ inr (
             at_i.1 ∙ sym same.1,
-            subst (λ z. locks2 z j n ≡ unlocked (locks z j n)) (sym at_i.1) (here_ j n ∙ ap (λ b. if b then unlocked (locks i j n) else locks i j n) same.0),
+            subst (λ z. locks2 z j n ≡ unlocked (locks z j n)) (sym at_i.1)
+                (here_ j n ∙ ap (λ b. if b then unlocked (locks i j n) else locks i j n) same.0),
             subst (λ z. slows2 z n ≡ ended (slows z n)) (sym same.1) (here n),
           )
-          | inr apart ↦ inl (subst (λ z. locks2 z j n ≡ locks z j n) (sym at_i.1) (here_ j n ∙ ap (λ b. if b then unlocked (locks i j n) else locks i j n) apart.0))
+          | inr apart ↦ inl (subst (λ z. locks2 z j n ≡ locks z j n) (sym at_i.1)
+              (here_ j n ∙ ap (λ b. if b then unlocked (locks i j n) else locks i j n) apart.0))
         ]
       ])
 
@@ -175,9 +186,11 @@ module _ (preferred : ObjId → SiteId) (owns known : SiteId → List Held) (cou
       (λ p j n. elim (part_cases (λ a. Over) locks locks2 i k m away here p j n) [
         | inl same ↦ inl same
         | inr now ↦ inr (
-          over_loosed p j (locks2 p j n) (slows j n) now.3 (λ e. other (sym now.1 ∙ (sym e ∙ now.0))) (x, inl (asked, dropped_at j n now.1 now.2)),
+          over_loosed p j (locks2 p j n) (slows j n) now.3 (λ e. other (sym now.1 ∙ (sym e ∙ now.0)))
+              (x, inl (asked, dropped_at j n now.1 now.2)),
           λ apart q r has some e. absurd (
-              let f : Dropped x asked ≡ Decided r.tx = sym (dropped_at j n now.1 now.2) ∙ subst (λ z. slows j z ≡ Decided r.tx) e (L.slow j q r has some) in
+              let f : Dropped x asked ≡ Decided r.tx = sym (dropped_at j n now.1 now.2)
+                  ∙ subst (λ z. slows j z ≡ Decided r.tx) e (L.slow j q r has some) in
               cc
               ),
         )
@@ -199,7 +212,8 @@ module _ (preferred : ObjId → SiteId) (owns known : SiteId → List Held) (cou
   by_seen counts2 locks2 k r full other has others one away zero_ some_ =
       let rise : (p j : SiteId) → counts p j ≤ counts2 p j = λ p j. elim (others p j) [
         | inl same ↦ omega (arith, same)
-        | inr it ↦ subst (λ z. counts z j ≤ counts2 z j) (sym it.0) (subst (λ z. counts i z ≤ counts2 i z) (sym it.1) (omega (arith, one)))
+        | inr it ↦ subst (λ z. counts z j ≤ counts2 z j) (sym it.0)
+            (subst (λ z. counts i z ≤ counts2 i z) (sym it.1) (omega (arith, one)))
       ] in
       let full2 : (j : SiteId) → counts2 j j ≡ length (owns j) = λ j. elim (others j j) [
         | inl same ↦ same ∙ full j
@@ -207,7 +221,8 @@ module _ (preferred : ObjId → SiteId) (owns known : SiteId → List Held) (cou
       ] in
       let cases : (p j : SiteId) (n : ℕ)
       → (locks2 p j n ≡ locks p j n)
-      ⊎ ((p ≡ i) × (j ≡ k) × (n ≡ r.tx.slow) × (r.tx.slow ≢ 0) × (locks2 p j n ≡ Over)) = λ p j n. elim (zero_or r.tx.slow) [
+      ⊎ ((p ≡ i) × (j ≡ k) × (n ≡ r.tx.slow) × (r.tx.slow ≢ 0) × (locks2 p j n ≡ Over)) =
+      λ p j n. elim (zero_or r.tx.slow) [
         | inl z ↦ elim (site_cases p i) [
           | inl at_i ↦ inl (subst (λ y. locks2 y j n ≡ locks y j n) (sym at_i.1) (zero_ z j n))
           | inr apart ↦ inl (away p j n apart.1)
@@ -223,11 +238,15 @@ module _ (preferred : ObjId → SiteId) (owns known : SiteId → List Held) (cou
       (λ p j n. elim (cases p j n) [
         | inl same ↦ inl same
         | inr now ↦
-            let done : slows j n ≡ Decided r.tx = subst (λ z. slows z n ≡ Decided r.tx) (sym now.1) (subst (λ z. slows k z ≡ Decided r.tx) (sym now.2) (L.slow k (counts i k) r has now.3)) in
+            let done : slows j n ≡ Decided r.tx = subst (λ z. slows z n ≡ Decided r.tx) (sym now.1)
+                (subst (λ z. slows k z ≡ Decided r.tx) (sym now.2) (L.slow k (counts i k) r has now.3)) in
             inr (
-              over_loosed p j (locks2 p j n) (slows j n) now.4 (λ e. other (sym now.1 ∙ (sym e ∙ now.0))) (r.tx, inr done),
+              over_loosed p j (locks2 p j n) (slows j n) now.4 (λ e. other (sym now.1 ∙ (sym e ∙ now.0)))
+                  (r.tx, inr done),
               λ apart q z at some e.
-                  let same : q ≡ counts i k = L.once k q (counts i k) z r (subst (λ y. slice_get (owns y) q ≡ Some z) now.1 at) has some (e ∙ now.2) in
+                  let same : q ≡ counts i k =
+                      L.once k q (counts i k) z r (subst (λ y. slice_get (owns y) q ≡ Some z) now.1 at) has some
+                          (e ∙ now.2) in
                   let c = count_at p j now.0 now.1 in
                   omega (arith, same, c),
             )
@@ -242,11 +261,15 @@ module _ (preferred : ObjId → SiteId) (owns known : SiteId → List Held) (cou
             let c = count_at p j it.0 it.1 in
             let d : counts p j ≡ counts i k = ap (λ y. counts y j) it.0 ∙ ap (λ y. counts i y) it.1 in
             let place : q ≡ counts i k = omega (arith, c, d, low, high) in
-            let row : ◌≡◌ {A = Option Held} (Some z) (Some r) = sym at ∙ (ap (λ y. slice_get (owns y) q) it.1 ∙ (ap (λ y. slice_get (owns k) y) place ∙ has)) in
+            let row : ◌≡◌ {A = Option Held} (Some z) (Some r) = sym at
+                ∙ (ap (λ y. slice_get (owns y) q) it.1 ∙ (ap (λ y. slice_get (owns k) y) place ∙ has)) in
             let same : z ≡ r = same_Some z r row in
             let s : r.tx.slow ≢ 0 = λ e. some (ap (λ (y : Held). y.tx.slow) same ∙ e) in
-            let now : locks2 i k r.tx.slow ≡ Over = some_ s k r.tx.slow ∙ ap (λ b. if b then Over else locks i k r.tx.slow) (slow_itself k r.tx.slow k r.tx.slow refl refl) in
-            subst (λ y. locks2 y j z.tx.slow ≡ Over) (sym it.0) (subst (λ y. locks2 i y z.tx.slow ≡ Over) (sym it.1) (subst (λ (y : Held). locks2 i k y.tx.slow ≡ Over) (sym same) now))
+            let now : locks2 i k r.tx.slow ≡ Over = some_ s k r.tx.slow
+                ∙ ap (λ b. if b then Over else locks i k r.tx.slow) (slow_itself k r.tx.slow k r.tx.slow refl refl) in
+            subst (λ y. locks2 y j z.tx.slow ≡ Over) (sym it.0)
+                (subst (λ y. locks2 i y z.tx.slow ≡ Over) (sym it.1)
+                    (subst (λ (y : Held). locks2 i k y.tx.slow ≡ Over) (sym same) now))
       ])
 
   -- Own: a fast commit of i
@@ -267,15 +290,18 @@ module _ (preferred : ObjId → SiteId) (owns known : SiteId → List Held) (cou
       (locks2 : SiteId → SiteId → ℕ → Part) (r : Held) (asked : List SiteId)
       → IsOwnCommit i owns known owns2 known2 counts counts2 r → r.tx.slow ≢ 0
       → slows i r.tx.slow ≡ Undecided r.tx asked
-      → ((oid : ObjId) → Contains (write_set r.tx.updates) oid → preferred oid ≢ i → locks (preferred oid) i r.tx.slow ≢ Free)
+      → ((oid : ObjId) → Contains (write_set r.tx.updates) oid → preferred oid ≢ i
+      → locks (preferred oid) i r.tx.slow ≢ Free)
       → ((j : SiteId) (n : ℕ) → j ≢ i → slows2 j n ≡ slows j n)
       → ((n : ℕ) → slows2 i n ≡ (if nat_eq r.tx.slow n then decided (slows i n) else slows i n))
       → ((p j : SiteId) (n : ℕ) → p ≢ i → locks2 p j n ≡ locks p j n)
-      → ((j : SiteId) (n : ℕ) → locks2 i j n ≡ (if is_slow i r.tx.slow j n then unlocked (locks i j n) else locks i j n))
+      → ((j : SiteId) (n : ℕ)
+      → locks2 i j n ≡ (if is_slow i r.tx.slow j n then unlocked (locks i j n) else locks i j n))
       → AreLocked preferred owns2 known2 counts2 slows2 locks2
   by_decision owns2 known2 counts2 slows2 locks2 r asked C some open_ voted away here away_ here_ =
       let now_decided : slows2 i r.tx.slow ≡ Decided r.tx =
-      here r.tx.slow ∙ (ap (λ b. if b then decided (slows i r.tx.slow) else slows i r.tx.slow) (eq-eqb r.tx.slow r.tx.slow refl) ∙ ap decided open_) in
+      here r.tx.slow ∙ (ap (λ b. if b then decided (slows i r.tx.slow) else slows i r.tx.slow)
+          (eq-eqb r.tx.slow r.tx.slow refl) ∙ ap decided open_) in
       let decided_at : (j : SiteId) (n : ℕ) → j ≡ i → n ≡ r.tx.slow → slows2 j n ≡ Decided r.tx = λ j n ej en.
       subst (λ z. slows2 z n ≡ Decided r.tx) (sym ej) (subst (λ z. slows2 i z ≡ Decided r.tx) (sym en) now_decided) in
       let all = all_held preferred owns known counts slows locks L i r.tx.slow r.tx asked open_ voted in
@@ -290,7 +316,8 @@ module _ (preferred : ObjId → SiteId) (owns known : SiteId → List Held) (cou
           | inl same ↦ inl (now.3 ∙ same)
           | inr free ↦ inr (
             now.0 ∙ sym now.1,
-            free_loosed p j (locks2 p j n) (slows2 j n) (now.3 ∙ free) (λ e x others o. decided_not_open (slows2 j n) r.tx x others (decided_at j n now.1 now.2) o),
+            free_loosed p j (locks2 p j n) (slows2 j n) (now.3 ∙ free)
+                (λ e x others o. decided_not_open (slows2 j n) r.tx x others (decided_at j n now.1 now.2) o),
           )
         ]
       ])
@@ -306,4 +333,5 @@ module _ (preferred : ObjId → SiteId) (owns known : SiteId → List Held) (cou
       (λ s. now_decided)
       (λ q z at s same.
       let d : slows i z.tx.slow ≡ Decided z.tx = L.slow i q z at (λ e. s (sym same ∙ e)) in
-      decided_not_open (slows i z.tx.slow) z.tx r.tx asked d (subst (λ y. slows i y ≡ Undecided r.tx asked) (sym same) open_))
+      decided_not_open (slows i z.tx.slow) z.tx r.tx asked d
+          (subst (λ y. slows i y ≡ Undecided r.tx asked) (sym same) open_))

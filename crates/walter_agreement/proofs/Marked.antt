@@ -44,14 +44,16 @@ all_durable_later preferred f owned owned2 got got2 own more d e fewer are m one
 pub visible_later : (sites : List SiteId) (committed committed2 : SiteId → ℕ)
     → ((k : SiteId) → committed k ≤ committed2 k)
     → (v w : ℕ) → w ≤ v → AreVisible sites committed v → AreVisible sites committed2 w
-visible_later sites committed committed2 more v w fewer are k c = let a = are k c in let b = more k in omega (arith, a, b, fewer)
+visible_later sites committed committed2 more v w fewer are k c = let a = are k c in let b = more k in
+    omega (arith, a, b, fewer)
 
 -- by a test that only sites pass that have it: where so many of them pass, and the preferred ones do, it is durable
 pub durable_by_count : (preferred : ObjId → SiteId) (f : ℕ) (owned : List Held) (got : SiteId → ℕ) (m : ℕ)
     (sites : List SiteId) (has : SiteId → Bool) (r : Held)
     → AllPairs (λ a b. a ≢ b) sites → ((k : SiteId) → has k ≡ true → m ≤ got k) → slice_get owned (m - 1) ≡ Some r
     → f + 1 ≤ count_by has sites
-    → ((oid : ObjId) → Contains (map object_of r.tx.updates) oid → Contains sites (preferred oid) × (has (preferred oid) ≡ true))
+    → ((oid : ObjId) → Contains (map object_of r.tx.updates) oid → Contains sites (preferred oid)
+    × (has (preferred oid) ≡ true))
     → IsDurable preferred f owned got m
 durable_by_count preferred f owned got m sites has r distinct true_ here enough homes = record {
   row = r;
@@ -62,7 +64,8 @@ durable_by_count preferred f owned got m sites has r distinct true_ here enough 
   hold = λ k c. true_ k (All-contains (λ x. has x ≡ true) (filter has sites) k (filter_passes has sites) c);
   among = λ oid c.
       let h = homes oid c in
-      All-contains (λ x. has x ≡ true → Contains (filter has sites) x) sites (preferred oid) (All-Contains_filter has sites) h.0 h.1;
+      All-contains (λ x. has x ≡ true → Contains (filter has sites) x) sites (preferred oid)
+          (All-Contains_filter has sites) h.0 h.1;
 }
 
 -- who has commit m of site i by what was heard: the site itself, and each that acknowledged so many
@@ -97,10 +100,11 @@ durable_mark_true preferred f owned got floor counted below above m one l = elim
 pub visible_mark_true : (sites : List SiteId) (committed : SiteId → ℕ) (floor counted : ℕ)
     → AreVisible sites committed floor → AreVisible sites committed counted
     → AreVisible sites committed (max floor counted)
-visible_mark_true sites committed floor counted below above k c = let a = below k c in let b = above k c in omega (arith, a, b)
+visible_mark_true sites committed floor counted below above k c = let a = below k c in let b = above k c in
+    omega (arith, a, b)
 
--- a packet from k to j is so, of the own commits of each site, and of how many commits of j site k has, `got k j`, and has
--- committed, `committed k j`
+-- a packet from k to j is so, of the own commits of each site, and of how many commits of j site k has, `got k j`,
+-- and has committed, `committed k j`
 abbrev pub IsTruePacket : (ObjId → SiteId) → ℕ → (SiteId → List Held) → (SiteId → SiteId → ℕ) → (SiteId → SiteId → ℕ)
     → SiteId → SiteId → Packet → Type 0
 IsTruePacket preferred f owns got committed k j (Ack g) = g ≤ got k j
@@ -112,11 +116,12 @@ IsTruePacket preferred f owns got committed k j packet = Unit {0}
 abbrev pub IsTrueRecord : (ObjId → SiteId) → List SiteId → ℕ → (SiteId → List Held) → (SiteId → SiteId → ℕ)
     → (SiteId → SiteId → ℕ) → SiteId → Record → Type 0
 IsTrueRecord preferred sites f owns got committed i (Seen j m) = AreDurable preferred f (owns j) (λ s. got s j) m
-IsTrueRecord preferred sites f owns got committed i (Marks d v) = AreDurable preferred f (owns i) (λ s. got s i) d × AreVisible sites (λ s. committed s i) v
+IsTrueRecord preferred sites f owns got committed i (Marks d v) = AreDurable preferred f (owns i) (λ s. got s i) d
+    × AreVisible sites (λ s. committed s i) v
 IsTrueRecord preferred sites f owns got committed i written = Unit {0}
 
--- what was put out, the marks that were journaled, and the records in flight are so; and what other sites have committed is
--- durable
+-- what was put out, the marks that were journaled, and the records in flight are so; and what other sites have
+-- committed is durable
 pub record AreMarked (preferred : ObjId → SiteId) (sites : List SiteId) (f : ℕ) (owns : SiteId → List Held)
     (got committed : SiteId → SiteId → ℕ) (put : SiteId → SiteId → Packet → Type 0) (durable visible : SiteId → ℕ)
     (pend : SiteId → Option Record) : Type 0 where
@@ -129,7 +134,8 @@ pub record AreMarked (preferred : ObjId → SiteId) (sites : List SiteId) (f : �
 
 -- at first nothing was put out, no marks are above 0, and no site has committed anything of another
 pub none_marked : (preferred : ObjId → SiteId) (sites : List SiteId) (f : ℕ) (owns : SiteId → List Held)
-    (got committed : SiteId → SiteId → ℕ) (put : SiteId → SiteId → Packet → Type 0) (durable visible : SiteId → ℕ) (pend : SiteId → Option Record)
+    (got committed : SiteId → SiteId → ℕ) (put : SiteId → SiteId → Packet → Type 0) (durable visible : SiteId → ℕ)
+        (pend : SiteId → Option Record)
     → ((k j : SiteId) (packet : Packet) → ¬ put k j packet) → ((i : SiteId) → durable i ≡ 0)
     → ((i : SiteId) → visible i ≡ 0)
     → ((i : SiteId) → pend i ≡ None) → ((i j : SiteId) → i ≢ j → committed i j ≡ 0)
@@ -147,7 +153,8 @@ module _ (preferred : ObjId → SiteId) (sites : List SiteId) (f : ℕ) (owns ow
     (got got2 committed committed2 : SiteId → SiteId → ℕ)
     (own : (j : SiteId) (q : ℕ) (r : Held) → slice_get (owns j) q ≡ Some r → slice_get (owns2 j) q ≡ Some r)
     (more : (k j : SiteId) → got k j ≤ got2 k j) (done : (k j : SiteId) → committed k j ≤ committed2 k j) where
-  later : (j : SiteId) (d e : ℕ) → e ≤ d → AreDurable preferred f (owns j) (λ s. got s j) d → AreDurable preferred f (owns2 j) (λ s. got2 s j) e
+  later : (j : SiteId) (d e : ℕ) → e ≤ d → AreDurable preferred f (owns j) (λ s. got s j) d
+      → AreDurable preferred f (owns2 j) (λ s. got2 s j) e
   later j = all_durable_later preferred f (owns j) (owns2 j) (λ s. got s j) (λ s. got2 s j) (own j) (λ k. more k j)
 
   pub packet_later : (k j : SiteId) (packet : Packet) → IsTruePacket preferred f owns got committed k j packet
@@ -160,17 +167,22 @@ module _ (preferred : ObjId → SiteId) (sites : List SiteId) (f : ℕ) (owns ow
   pub record_later : (i : SiteId) (r : Record) → IsTrueRecord preferred sites f owns got committed i r
       → IsTrueRecord preferred sites f owns2 got2 committed2 i r
   record_later i (Seen j m) h = later j m m (omega arith) h
-  record_later i (Marks d v) h = (later i d d (omega arith) h.0, visible_later sites (λ s. committed s i) (λ s. committed2 s i) (λ k. done k i) v v (omega arith) h.1)
+  record_later i (Marks d v) h =
+      (later i d d (omega arith) h.0, visible_later sites (λ s. committed s i) (λ s. committed2 s i)
+          (λ k. done k i) v v (omega arith) h.1)
   record_later i written h = tt
 
   pub marked_later : (put put2 : SiteId → SiteId → Packet → Type 0) (durable durable2 visible visible2 : SiteId → ℕ)
       (pend pend2 : SiteId → Option Record)
       → AreMarked preferred sites f owns got committed put durable visible pend
-      → ((k j : SiteId) (packet : Packet) → put2 k j packet → put k j packet ⊎ IsTruePacket preferred f owns2 got2 committed2 k j packet)
+      → ((k j : SiteId) (packet : Packet) → put2 k j packet → put k j packet
+      ⊎ IsTruePacket preferred f owns2 got2 committed2 k j packet)
       → ((i : SiteId) → (durable2 i ≤ durable i) ⊎ AreDurable preferred f (owns2 i) (λ s. got2 s i) (durable2 i))
       → ((i : SiteId) → (visible2 i ≤ visible i) ⊎ AreVisible sites (λ s. committed2 s i) (visible2 i))
-      → ((i : SiteId) (r : Record) → pend2 i ≡ Some r → (pend i ≡ Some r) ⊎ IsTrueRecord preferred sites f owns2 got2 committed2 i r)
-      → ((i j : SiteId) → i ≢ j → (committed2 i j ≤ committed i j) ⊎ AreDurable preferred f (owns2 j) (λ s. got2 s j) (committed2 i j))
+      → ((i : SiteId) (r : Record) → pend2 i ≡ Some r → (pend i ≡ Some r)
+      ⊎ IsTrueRecord preferred sites f owns2 got2 committed2 i r)
+      → ((i j : SiteId) → i ≢ j → (committed2 i j ≤ committed i j) ⊎ AreDurable preferred f (owns2 j) (λ s. got2 s j)
+      (committed2 i j))
       → AreMarked preferred sites f owns2 got2 committed2 put2 durable2 visible2 pend2
   marked_later put put2 durable durable2 visible visible2 pend pend2 A puts durables visibles flights seen = record {
     packets = λ k j packet p. elim (puts k j packet p) [
@@ -182,7 +194,8 @@ module _ (preferred : ObjId → SiteId) (sites : List SiteId) (f : ℕ) (owns ow
       | inr new ↦ new
     ];
     visibles = λ i. elim (visibles i) [
-      | inl old ↦ visible_later sites (λ s. committed s i) (λ s. committed2 s i) (λ k. done k i) (visible i) (visible2 i) old (A.visibles i)
+      | inl old ↦ visible_later sites (λ s. committed s i) (λ s. committed2 s i) (λ k. done k i) (visible i)
+          (visible2 i) old (A.visibles i)
       | inr new ↦ new
     ];
     flights = λ i r h. elim (flights i r h) [

@@ -1,4 +1,5 @@
--- Own commits are numbered, and what a site holds of another is a front of that one's commits. Nothing here speaks of a history.
+-- Own commits are numbered, and what a site holds of another is a front of that one's commits. Nothing here speaks of
+-- a history.
 use Rattle.std.proofs.Common.{◌≡◌, ◌≢◌, ℕ, suc, ◌+◌, ◌<◌, ◌≤◌, List, [], ◌∷◌, ◌++◌, length, refl, ap, sym, ◌∙◌, subst, arith, slice_get, Some, inl, inr, ◌⊎◌, if◌then◌else◌}
 use Rattle.std.proofs.lemmas.List.{length-append}
 use Rattle.walter_base.specs.declared.names.SiteId.{SiteId}
@@ -17,7 +18,8 @@ IsPushed lists longer s r = (longer s ≡ lists s ++ r ∷ []) × ((i : SiteId) 
 -- one more commit of the second site is counted at the first, and the other counts are as they were
 abbrev pub IsCounted : (SiteId → SiteId → ℕ) → (SiteId → SiteId → ℕ) → SiteId → SiteId → Type 0
 IsCounted counts higher s j =
-    (i k : SiteId) → ((s ≡ i → j ≡ k → ⊥) × (higher i k ≡ counts i k)) ⊎ ((s ≡ i) × (j ≡ k) × (higher i k ≡ suc (counts i k)))
+    (i k : SiteId) → ((s ≡ i → j ≡ k → ⊥) × (higher i k ≡ counts i k))
+        ⊎ ((s ≡ i) × (j ≡ k) × (higher i k ≡ suc (counts i k)))
 
 -- own commits are of their site, numbered 1, 2, .., and all committed there
 pub record AreOwned (owns : SiteId → List Held) (counts : SiteId → SiteId → ℕ) : Type 0 where
@@ -51,7 +53,8 @@ counted_at counts higher s j here elsewhere i k =
     elim (site_cases s i) [
       | inl at_s ↦ elim (site_cases j k) [
         | inl of_j ↦
-            inr (at_s.1, of_j.1, subst (λ a. higher a k ≡ suc (counts a k)) at_s.1 (subst (λ b. higher s b ≡ suc (counts s b)) of_j.1 here))
+            inr (at_s.1, of_j.1, subst (λ a. higher a k ≡ suc (counts a k)) at_s.1
+                (subst (λ b. higher s b ≡ suc (counts s b)) of_j.1 here))
         | inr other ↦ let apart = λ (a : s ≡ i) (b : j ≡ k). other.1 b in inl (apart, elsewhere i k apart)
       ]
       | inr away ↦ let apart = λ (a : s ≡ i) (b : j ≡ k). away.1 a in inl (apart, elsewhere i k apart)
@@ -116,7 +119,8 @@ pushed_of logs longer s r push i k =
           let now : longer i ≡ logs i ++ r ∷ [] = subst (λ (j : SiteId). longer j ≡ logs j ++ r ∷ []) here.1 push.0 in
           elim (site_cases r.tx.tid.site k) [
             | inl ours ↦ inr (here.1, ours.1, ap (λ t. of_site k t) now ∙ filter_push_kept (is_of k) (logs i) r ours.0)
-            | inr theirs ↦ inl (λ a b. theirs.1 b, ap (λ t. of_site k t) now ∙ filter_push_left (is_of k) (logs i) r theirs.0)
+            | inr theirs ↦ inl (λ a b. theirs.1 b, ap (λ t. of_site k t) now
+                ∙ filter_push_left (is_of k) (logs i) r theirs.0)
           ]
       | inr away ↦ inl (λ a b. away.1 a, ap (λ t. of_site k t) (push.1 i away.1))
     ]
@@ -157,7 +161,8 @@ numbered_same owns more logs others counts higher same_owns same_logs same_count
     (subst (λ f. AreNumbered owns f higher) second (subst (λ f. AreNumbered owns logs f) third n))
 
 -- a site's own commit is appended to its log
-pub numbered_own : (owns more logs longer : SiteId → List Held) (counts higher : SiteId → SiteId → ℕ) (s : SiteId) (r : Held)
+pub numbered_own : (owns more logs longer : SiteId → List Held) (counts higher : SiteId → SiteId → ℕ) (s : SiteId)
+    (r : Held)
     → AreNumbered owns logs counts → IsPushed owns more s r → IsPushed logs longer s r → IsCounted counts higher s s
     → r.tx.tid.site ≡ s → r.seq ≡ counts s s + 1 → AreNumbered more longer higher
 numbered_own owns more logs longer counts higher s r n push append count ours next =
@@ -166,7 +171,8 @@ numbered_own owns more logs longer counts higher s r n push append count ours ne
     elim (site_cases s k) [
       | inl same ↦
           subst (λ (j : SiteId). of_site j (longer j) ≡ more j) same.1
-          (ap (λ t. of_site s t) append.0 ∙ (filter_push_kept (is_of s) (logs s) r (ap (λ a. same_site a s) ours ∙ same_site_refl s)
+          (ap (λ t. of_site s t) append.0
+              ∙ (filter_push_kept (is_of s) (logs s) r (ap (λ a. same_site a s) ours ∙ same_site_refl s)
           ∙ (ap (λ t. t ++ r ∷ []) (n.mine s) ∙ sym push.0)))
       | inr apart ↦ ap (λ t. of_site k t) (append.1 k apart.1) ∙ (n.mine k ∙ sym (push.1 k apart.1))
     ] in
@@ -242,13 +248,15 @@ numbered_got owns logs longer counts s j r n append apart next =
               let there : slice_get (owns k) (length (of_site k (logs i))) ≡ Some r =
               subst (λ (a : SiteId). slice_get (owns k) (length (of_site k (logs a))) ≡ Some r) one.0
               (subst (λ (b : SiteId). slice_get (owns b) (length (of_site b (logs s))) ≡ Some r) is next) in
-              subst (λ t. IsPrefix t (owns k)) (sym one.2) (prefix_push (of_site k (logs i)) (owns k) r ((n.held i).fronts k) there)
+              subst (λ t. IsPrefix t (owns k)) (sym one.2)
+                  (prefix_push (of_site k (logs i)) (owns k) r ((n.held i).fronts k) there)
         ];
         within = λ k.
             let before = (n.held i).within k in
             elim (pushed_of logs longer s r append i k) [
               | inl stays ↦ let size = ap length stays.1 in omega (arith, before, size)
-              | inr one ↦ let size = ap length one.2 ∙ length-append (of_site k (logs i)) (r ∷ []) in omega (arith, before, size)
+              | inr one ↦ let size = ap length one.2 ∙ length-append (of_site k (logs i)) (r ∷ []) in
+                  omega (arith, before, size)
             ];
       };
       mine = λ k. elim (pushed_of logs longer s r append k k) [

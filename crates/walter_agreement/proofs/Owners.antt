@@ -1,5 +1,5 @@
--- The owners of objects at one site are those of its locks, and each object is in one lock at most: kept where a lock comes
--- or goes, and at the start of an epoch.
+-- The owners of objects at one site are those of its locks, and each object is in one lock at most: kept where a lock
+-- comes or goes, and at the start of an epoch.
 use Rattle.std.proofs.Common.{◌≡◌, ◌≢◌, ◌⊎◌, ℕ, List, Bool, true, false, Some, None, if◌then◌else◌, ap, sym, ◌∙◌, refl, inl, inr}
 use Rattle.std.specs.Prelude.{Contains, Option}
 use Rattle.std.proofs.lemmas.Option.{same_Some}
@@ -49,9 +49,11 @@ module _ (part : SiteId → ℕ → Part) (owner : ObjId → Option Tid) (O : Ar
   -- locks go, and with them the owners of their objects
   pub loosens : (part2 : SiteId → ℕ → Part) (owner2 : ObjId → Option Tid)
       → ((j : SiteId) (n : ℕ) → (part2 j n ≡ part j n) ⊎ ((t : Tid) (objs : List ObjId) → part2 j n ≢ Locked t objs))
-      → ((j : SiteId) (n : ℕ) (t : Tid) (objs : List ObjId) (oid : ObjId) → part j n ≡ Locked t objs → part2 j n ≡ Locked t objs
+      → ((j : SiteId) (n : ℕ) (t : Tid) (objs : List ObjId) (oid : ObjId) → part j n ≡ Locked t objs
+      → part2 j n ≡ Locked t objs
       → has_object oid objs ≡ true → owner2 oid ≡ Some t)
-      → ((oid : ObjId) (t : Tid) → owner2 oid ≡ Some t → (owner oid ≡ Some t) × ((j : SiteId) (n : ℕ) (objs : List ObjId)
+      → ((oid : ObjId) (t : Tid) → owner2 oid ≡ Some t → (owner oid ≡ Some t)
+      × ((j : SiteId) (n : ℕ) (objs : List ObjId)
       → part j n ≡ Locked t objs → has_object oid objs ≡ true → part2 j n ≡ part j n))
       → AreOwners part2 owner2
   loosens part2 owner2 go keeps was =
@@ -66,7 +68,8 @@ module _ (part : SiteId → ℕ → Part) (owner : ObjId → Option Tid) (O : Ar
             let l = O.owned oid t o.0 in
             (l.0, l.1, l.2, o.1 l.0 l.1 l.2 l.3 l.4 ∙ l.3, l.4);
         locked = λ j n t objs oid h c. keeps j n t objs oid (old j n t objs h) h c;
-        single = λ j k n m t u ws bs oid a b ca cb. O.single j k n m t u ws bs oid (old j n t ws a) (old k m u bs b) ca cb;
+        single = λ j k n m t u ws bs oid a b ca cb. O.single j k n m t u ws bs oid (old j n t ws a)
+            (old k m u bs b) ca cb;
       }
 
   -- the lock of one slow commit goes
@@ -124,7 +127,8 @@ module _ (part : SiteId → ℕ → Part) (owner : ObjId → Option Tid) (O : Ar
       → part2 j n ≡ part j n = λ j n is. is_part j n ∙ ap (λ b. if b then unlocked (part j n) else part j n) is in
       let here : (j : SiteId) (n : ℕ) (t : Tid) (objs : List ObjId) → same_site j i ≡ true
       → part2 j n ≢ Locked t objs = λ j n t objs is h.
-      unlocked_not_locked (part j n) t objs (sym (is_part j n ∙ ap (λ b. if b then unlocked (part j n) else part j n) is) ∙ h) in
+      unlocked_not_locked (part j n) t objs
+          (sym (is_part j n ∙ ap (λ b. if b then unlocked (part j n) else part j n) is) ∙ h) in
       loosens part2 owner2
       (λ j n. elim (site_cases j i) [
         | inl same ↦ inr (λ t objs h. here j n t objs same.0 h)
@@ -132,22 +136,30 @@ module _ (part : SiteId → ℕ → Part) (owner : ObjId → Option Tid) (O : Ar
       ])
       (λ j n t objs oid a b c. elim (site_cases j i) [
         | inl same ↦ absurd (here j n t objs same.0 b)
-        | inr apart ↦ is_owner oid t (O.locked j n t objs oid a c) ∙ ap (λ z. if z then None else Some t) (ap (λ z. same_site z i) (site j n t objs a) ∙ apart.0)
+        | inr apart ↦ is_owner oid t (O.locked j n t objs oid a c) ∙ ap (λ z. if z then None else Some t)
+            (ap (λ z. same_site z i) (site j n t objs a) ∙ apart.0)
       ])
-      (λ oid t h. elim (owner oid) as (λ o. owner oid ≡ o → (owner oid ≡ Some t) × ((j : SiteId) (n : ℕ) (objs : List ObjId) → part j n ≡ Locked t objs → has_object oid objs ≡ true → part2 j n ≡ part j n)) [
+      (λ oid t h. elim (owner oid) as (λ o. owner oid ≡ o → (owner oid ≡ Some t)
+          × ((j : SiteId) (n : ℕ) (objs : List ObjId) → part j n ≡ Locked t objs → has_object oid objs ≡ true
+          → part2 j n ≡ part j n)) [
         | None ↦ λ e. absurd (none_not_some (owner2 oid) t (is_none oid e) h)
         | Some u ↦ λ e. elim (site_cases u.site i) [
-          | inl same ↦ absurd (none_not_some (owner2 oid) t (is_owner oid u e ∙ ap (λ z. if z then None else Some u) same.0) h)
+          | inl same ↦ absurd (none_not_some (owner2 oid) t
+              (is_owner oid u e ∙ ap (λ z. if z then None else Some u) same.0) h)
           | inr apart ↦
-              let f : ◌≡◌ {A = Option Tid} (Some u) (Some t) = sym (is_owner oid u e ∙ ap (λ z. if z then None else Some u) apart.0) ∙ h in
-              (e ∙ f, λ j n objs a c. away j n (ap (λ z. same_site z i) (sym (site j n t objs a) ∙ ap (λ (y : Tid). y.site) (sym (same_Some u t f))) ∙ apart.0))
+              let f : ◌≡◌ {A = Option Tid} (Some u) (Some t) =
+                  sym (is_owner oid u e ∙ ap (λ z. if z then None else Some u) apart.0) ∙ h in
+              (e ∙ f, λ j n objs a c. away j n
+                  (ap (λ z. same_site z i) (sym (site j n t objs a)
+                      ∙ ap (λ (y : Tid). y.site) (sym (same_Some u t f))) ∙ apart.0))
         ]
       ] refl)
 
   -- the same by which objects the locks of its own slow commits have
   pub boot_here : (i : SiteId) (is_locked : ObjId → Bool) (part2 : SiteId → ℕ → Part) (owner2 : ObjId → Option Tid)
       → ((oid : ObjId) → is_locked oid ≡ true → (n : ℕ) × (does_lock (part i n) oid ≡ true))
-      → ((n : ℕ) (t : Tid) (objs : List ObjId) (oid : ObjId) → part i n ≡ Locked t objs → has_object oid objs ≡ true → is_locked oid ≡ true)
+      → ((n : ℕ) (t : Tid) (objs : List ObjId) (oid : ObjId) → part i n ≡ Locked t objs → has_object oid objs ≡ true
+      → is_locked oid ≡ true)
       → ((j : SiteId) (n : ℕ) → part2 j n ≡ (if same_site i j then unlocked (part j n) else part j n))
       → ((oid : ObjId) → owner2 oid ≡ (if is_locked oid then None else owner oid)) → AreOwners part2 owner2
   boot_here i is_locked part2 owner2 some all is_part is_owner =
@@ -155,7 +167,8 @@ module _ (part : SiteId → ℕ → Part) (owner : ObjId → Option Tid) (O : Ar
       → part2 j n ≡ part j n = λ j n is. is_part j n ∙ ap (λ b. if b then unlocked (part j n) else part j n) is in
       let here : (j : SiteId) (n : ℕ) (t : Tid) (objs : List ObjId) → same_site i j ≡ true
       → part2 j n ≢ Locked t objs = λ j n t objs is h.
-      unlocked_not_locked (part j n) t objs (sym (is_part j n ∙ ap (λ b. if b then unlocked (part j n) else part j n) is) ∙ h) in
+      unlocked_not_locked (part j n) t objs
+          (sym (is_part j n ∙ ap (λ b. if b then unlocked (part j n) else part j n) is) ∙ h) in
       loosens part2 owner2
       (λ j n. elim (site_cases i j) [
         | inl same ↦ inr (λ t objs h. here j n t objs same.0 h)
@@ -173,8 +186,11 @@ module _ (part : SiteId → ℕ → Part) (owner : ObjId → Option Tid) (O : Ar
           | false ↦ λ is. is_owner oid ∙ ap (λ z. if z then None else owner oid) is ∙ O.locked j n t objs oid a c
         ] refl
       ])
-      (λ oid t h. elim (is_locked oid) as (λ z. is_locked oid ≡ z → (owner oid ≡ Some t) × ((j : SiteId) (n : ℕ) (objs : List ObjId) → part j n ≡ Locked t objs → has_object oid objs ≡ true → part2 j n ≡ part j n)) [
-        | true ↦ λ is. absurd (none_not_some (owner2 oid) t (is_owner oid ∙ ap (λ z. if z then None else owner oid) is) h)
+      (λ oid t h. elim (is_locked oid) as (λ z. is_locked oid ≡ z → (owner oid ≡ Some t)
+          × ((j : SiteId) (n : ℕ) (objs : List ObjId) → part j n ≡ Locked t objs → has_object oid objs ≡ true
+          → part2 j n ≡ part j n)) [
+        | true ↦ λ is. absurd (none_not_some (owner2 oid) t
+            (is_owner oid ∙ ap (λ z. if z then None else owner oid) is) h)
         | false ↦ λ is. (
           sym (is_owner oid ∙ ap (λ z. if z then None else owner oid) is) ∙ h,
           λ j n objs a c. elim (site_cases i j) [
@@ -205,9 +221,11 @@ module _ (part : SiteId → ℕ → Part) (owner : ObjId → Option Tid) (O : Ar
       → part2 j n ≡ Locked u os → (t ≡ u) × (objs ≡ os) = λ j n u os is h.
       let f : Locked t objs ≡ Locked u os = sym (here j n is) ∙ h in (cc, cc) in
       record {
-        owned = λ oid u h. elim (has_object oid objs) as (λ b. has_object oid objs ≡ b → (j : SiteId) × (n : ℕ) × (os : List ObjId) × (part2 j n ≡ Locked u os) × (has_object oid os ≡ true)) [
+        owned = λ oid u h. elim (has_object oid objs) as (λ b. has_object oid objs ≡ b → (j : SiteId) × (n : ℕ)
+            × (os : List ObjId) × (part2 j n ≡ Locked u os) × (has_object oid os ≡ true)) [
           | true ↦ λ w.
-              let f : ◌≡◌ {A = Option Tid} (Some t) (Some u) = sym (is_owner oid ∙ ap (λ b. if b then Some t else owner oid) w) ∙ h in
+              let f : ◌≡◌ {A = Option Tid} (Some t) (Some u) =
+                  sym (is_owner oid ∙ ap (λ b. if b then Some t else owner oid) w) ∙ h in
               (k, m, objs, here k m (slow_itself k m k m refl refl) ∙ ap (λ z. Locked z objs) (same_Some t u f), w)
           | false ↦ λ w.
               let l = O.owned oid u (sym (is_owner oid ∙ ap (λ b. if b then Some t else owner oid) w) ∙ h) in (
@@ -215,7 +233,8 @@ module _ (part : SiteId → ℕ → Part) (owner : ObjId → Option Tid) (O : Ar
                 l.1,
                 l.2,
                 elim (slow_cases k m l.0 l.1) [
-                  | inl same ↦ absurd (locked_not_free (part l.0 l.1) u l.2 l.3 (ap (λ z. part z l.1) (sym same.1) ∙ ap (λ z. part k z) (sym same.2) ∙ free))
+                  | inl same ↦ absurd (locked_not_free (part l.0 l.1) u l.2 l.3 (ap (λ z. part z l.1) (sym same.1)
+                      ∙ ap (λ z. part k z) (sym same.2) ∙ free))
                   | inr apart ↦ away l.0 l.1 apart.0 ∙ l.3
                 ],
                 l.4,
@@ -224,7 +243,8 @@ module _ (part : SiteId → ℕ → Part) (owner : ObjId → Option Tid) (O : Ar
         locked = λ j n u os oid h c. elim (slow_cases k m j n) [
           | inl same ↦
               let e = same_objects j n u os same.0 h in
-              is_owner oid ∙ ap (λ b. if b then Some t else owner oid) (ap (λ z. has_object oid z) e.1 ∙ c) ∙ ap (λ z. Some z) e.0
+              is_owner oid ∙ ap (λ b. if b then Some t else owner oid) (ap (λ z. has_object oid z) e.1 ∙ c)
+                  ∙ ap (λ z. Some z) e.0
           | inr apart ↦
               let was = sym (away j n apart.0) ∙ h in
               elim (has_object oid objs) as (λ b. has_object oid objs ≡ b → owner2 oid ≡ Some u) [

@@ -1,5 +1,5 @@
--- A site's slow commits and sessions belong together: each undecided slow commit of a site that is up has its session, and
--- no transaction has two numbers.
+-- A site's slow commits and sessions belong together: each undecided slow commit of a site that is up has its
+-- session, and no transaction has two numbers.
 use Rattle.std.proofs.Common.{◌≡◌, ◌≢◌, ◌+◌, ◌<◌, ◌⊎◌, ℕ, List, Bool, true, false, Some, None, slice_get, ap, refl, sym, ◌∙◌, subst, arith, inl, inr}
 use Rattle.std.specs.Prelude.{Option}
 use Rattle.std.proofs.lemmas.Option.{same_Some}
@@ -67,7 +67,9 @@ pub on_ended : (slows slows2 : ℕ → Slow) (owned2 : List Held)
     → ((n : ℕ) → (slows2 n ≡ slows n) ⊎ (slows2 n ≡ ended (slows n))) → IsOn slows slows2 owned2
 on_ended slows slows2 owned2 how n = elim (how n) [
   | inl same ↦ inl same
-  | inr end ↦ elim (slows n) as (λ g. slows2 n ≡ ended g → (slows2 n ≡ g) ⊎ ((x : Tx) × (asked : List SiteId) × (g ≡ Undecided x asked) × ((slows2 n ≡ Dropped x asked) ⊎ ((slows2 n ≡ Decided x) × IsOwn owned2 x)))) [
+  | inr end ↦ elim (slows n) as (λ g. slows2 n ≡ ended g → (slows2 n ≡ g)
+      ⊎ ((x : Tx) × (asked : List SiteId) × (g ≡ Undecided x asked)
+      × ((slows2 n ≡ Dropped x asked) ⊎ ((slows2 n ≡ Decided x) × IsOwn owned2 x)))) [
     | Unused ↦ λ e. inl e
     | Undecided x asked ↦ λ e. inr (x, asked, refl, inl e)
     | Dropped x asked ↦ λ e. inl e
@@ -76,11 +78,15 @@ on_ended slows slows2 owned2 how n = elim (how n) [
 ]
 
 pub on_decided : (slows slows2 : ℕ → Slow) (owned2 : List Held)
-    → ((n : ℕ) → (slows2 n ≡ slows n) ⊎ ((slows2 n ≡ decided (slows n)) × ((x : Tx) (asked : List SiteId) → slows n ≡ Undecided x asked → IsOwn owned2 x)))
+    → ((n : ℕ) → (slows2 n ≡ slows n)
+    ⊎ ((slows2 n ≡ decided (slows n)) × ((x : Tx) (asked : List SiteId) → slows n ≡ Undecided x asked
+    → IsOwn owned2 x)))
     → IsOn slows slows2 owned2
 on_decided slows slows2 owned2 how n = elim (how n) [
   | inl same ↦ inl same
-  | inr end ↦ elim (slows n) as (λ g. slows n ≡ g → slows2 n ≡ decided g → (slows2 n ≡ g) ⊎ ((x : Tx) × (asked : List SiteId) × (g ≡ Undecided x asked) × ((slows2 n ≡ Dropped x asked) ⊎ ((slows2 n ≡ Decided x) × IsOwn owned2 x)))) [
+  | inr end ↦ elim (slows n) as (λ g. slows n ≡ g → slows2 n ≡ decided g → (slows2 n ≡ g)
+      ⊎ ((x : Tx) × (asked : List SiteId) × (g ≡ Undecided x asked)
+      × ((slows2 n ≡ Dropped x asked) ⊎ ((slows2 n ≡ Decided x) × IsOwn owned2 x)))) [
     | Unused ↦ λ was e. inl e
     | Undecided x asked ↦ λ was e. inr (x, asked, refl, inr (e, end.1 x asked was))
     | Dropped x asked ↦ λ was e. inl e
@@ -197,7 +203,8 @@ module _ (i : SiteId) (sess : ℕ → Option Session) (slows : ℕ → Slow) (pe
       let cases : (m : ℕ) (y : Tx) → begun (slows2 m) ≡ Some y
       → (begun (slows m) ≡ Some y) ⊎ ((m ≡ n) × (x ≡ y)) = λ m y t. elim (others m) [
         | inl same ↦ inl (sym (ap begun same) ∙ t)
-        | inr new ↦ inr (new, let f : ◌≡◌ {A = Option Tx} (Some x) (Some y) = sym (ap begun now) ∙ subst (λ k. begun (slows2 k) ≡ Some y) new t in same_Some x y f)
+        | inr new ↦ inr (new, let f : ◌≡◌ {A = Option Tx} (Some x) (Some y) = sym (ap begun now)
+            ∙ subst (λ k. begun (slows2 k) ≡ Some y) new t in same_Some x y f)
       ] in
       let forth : (m : ℕ) (y : Tx) → begun (slows m) ≡ Some y → begun (slows2 m) ≡ Some y = λ m y t. elim (others m) [
         | inl same ↦ ap begun same ∙ t
@@ -212,7 +219,8 @@ module _ (i : SiteId) (sess : ℕ → Option Session) (slows : ℕ → Slow) (pe
           | inl old ↦ T.named m y old
           | inr new ↦
               let e = new.1 in
-              (subst (λ (z : Tx). z.slow ≡ m) e (is ∙ sym new.0), λ z. some (sym new.0 ∙ z), subst (λ (z : Tx). z.tid.site ≡ i) e site, subst (λ (z : Tx). IsIssued numbers z.tid) e given_)
+              (subst (λ (z : Tx). z.slow ≡ m) e (is ∙ sym new.0), λ z. some (sym new.0 ∙ z), subst
+                  (λ (z : Tx). z.tid.site ≡ i) e site, subst (λ (z : Tx). IsIssued numbers z.tid) e given_)
         ];
         apart = λ m k y z a b e. elim (cases m y a) [
           | inl oa ↦ elim (cases k z b) [
@@ -226,7 +234,8 @@ module _ (i : SiteId) (sess : ℕ → Option Session) (slows : ℕ → Slow) (pe
         ];
         mine = λ c s h m. elim (come c s h) [
           | inl was ↦ forth s.slow (tx_of s) (T.mine c s was.0 m)
-          | inr new ↦ let e : s.slow ≡ n = ap (λ (w : Tx). w.slow) new ∙ is in subst (λ k. begun (slows2 k) ≡ Some (tx_of s)) (sym e) (ap begun now ∙ ap (λ z. Some z) (sym new))
+          | inr new ↦ let e : s.slow ≡ n = ap (λ (w : Tx). w.slow) new ∙ is in
+              subst (λ k. begun (slows2 k) ≡ Some (tx_of s)) (sym e) (ap begun now ∙ ap (λ z. Some z) (sym new))
         ];
         open_ = λ c s h z m y t e. elim (come c s h) [
           | inl was ↦ elim (cases m y t) [
@@ -249,7 +258,8 @@ module _ (i : SiteId) (sess : ℕ → Option Session) (slows : ℕ → Slow) (pe
         flight = λ m y h. absurd cc;
         row = λ m y d. elim (others m) [
           | inl same ↦ T.row m y (sym same ∙ d)
-          | inr new ↦ absurd (let f : Undecided x asked ≡ Decided y = sym now ∙ subst (λ k. slows2 k ≡ Decided y) new d in cc)
+          | inr new ↦ absurd (let f : Undecided x asked ≡ Decided y = sym now
+              ∙ subst (λ k. slows2 k ≡ Decided y) new d in cc)
         ];
       }
 

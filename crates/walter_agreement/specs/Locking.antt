@@ -17,7 +17,8 @@ AreLocal preferred i updates = (oid : ObjId) → Contains (write_set updates) oi
 -- each version of one of these objects that is preferred here is seen
 abbrev pub IsUnmodified : (ObjId → SiteId) → SiteId → List ℕ → List ObjId → List Held → Type 0
 IsUnmodified preferred i vector objects log =
-    (r : Held) (p : ℕ) (oid : ObjId) → slice_get log p ≡ Some r → Contains (write_set r.tx.updates) oid → Contains objects oid
+    (r : Held) (p : ℕ) (oid : ObjId) → slice_get log p ≡ Some r → Contains (write_set r.tx.updates) oid
+        → Contains objects oid
     → preferred oid ≡ i → sees vector r ≡ true
 
 -- none of them that is preferred here is locked
@@ -30,4 +31,5 @@ IsUnlocked preferred i locks objects =
 abbrev pub AgreesAt : (ObjId → SiteId) → SiteId → Tx → List ObjId → Type 0
 AgreesAt preferred p x objects =
     (oid : ObjId) → preferred oid ≡ p
-    → (Contains objects oid → Contains (write_set x.updates) oid) × (Contains (write_set x.updates) oid → Contains objects oid)
+    → (Contains objects oid → Contains (write_set x.updates) oid)
+    × (Contains (write_set x.updates) oid → Contains objects oid)

@@ -5,8 +5,8 @@ use Rattle.walter_base.specs.declared.names.SiteId.{SiteId}
 use Rattle.walter_base.specs.Values.{object_of}
 use Rattle.walter_rules.specs.declared.held.Held.{Held}
 
--- At least f + 1 sites have commit m, counted from 1, of a site with these own commits, of which each site k has the first
--- `got k`; the preferred sites of all objects that it changed are among them
+-- At least f + 1 sites have commit m, counted from 1, of a site with these own commits, of which each site k has the
+-- first `got k`; the preferred sites of all objects that it changed are among them
 pub record IsDurable (preferred : ObjId → SiteId) (f : ℕ) (owned : List Held) (got : SiteId → ℕ) (m : ℕ) : Type 0 where
   pub row : Held
   pub here : slice_get owned (m - 1) ≡ Some row

@@ -34,24 +34,30 @@ issued_of S = issued_by S.up S.knows
 pub record IsAskedFor (catalog : Catalog) (i : SiteId) (tx : Tx) (asked : List SiteId) : Type 0 where
   pub there : (p : SiteId) → Contains asked p
       → (p ≢ i) × (p.0 < catalog.sites) × ((oid : ObjId) × Contains (write_set tx.updates) oid × (home catalog oid ≡ p))
-  pub all : (oid : ObjId) → Contains (write_set tx.updates) oid → home catalog oid ≢ i → (home catalog oid).0 < catalog.sites
+  pub all : (oid : ObjId) → Contains (write_set tx.updates) oid → home catalog oid ≢ i
+      → (home catalog oid).0 < catalog.sites
       → Contains asked (home catalog oid)
 
 -- what holds of how a site stands, by its own trail
 pub record IsAlone (catalog : Catalog) (i : SiteId) (S : Standing) : Type 0 where
   -- its slow commits and sessions belong together
-  pub tidy : IsTidy i (λ c. session_of S.knows c) S.knows.slow S.flight S.up S.knows.last (issued_of S) (of_site i S.knows.log)
+  pub tidy : IsTidy i (λ c. session_of S.knows c) S.knows.slow S.flight S.up S.knows.last (issued_of S)
+      (of_site i S.knows.log)
   -- the owners of objects are those of its locks
   pub owners : AreOwners S.knows.part S.knows.owner
   -- what is locked is preferred here
-  pub here : (j : SiteId) (n : ℕ) (t : Tid) (objs : List ObjId) (oid : ObjId) → S.knows.part j n ≡ Locked t objs → Contains objs oid → home catalog oid ≡ i
+  pub here : (j : SiteId) (n : ℕ) (t : Tid) (objs : List ObjId) (oid : ObjId) → S.knows.part j n ≡ Locked t objs
+      → Contains objs oid → home catalog oid ≡ i
   -- who is asked
-  pub asked : (n : ℕ) (tx : Tx) (asked : List SiteId) → (S.knows.slow n ≡ Undecided tx asked) ⊎ (S.knows.slow n ≡ Dropped tx asked) → IsAskedFor catalog i tx asked
+  pub asked : (n : ℕ) (tx : Tx) (asked : List SiteId) → (S.knows.slow n ≡ Undecided tx asked)
+      ⊎ (S.knows.slow n ≡ Dropped tx asked) → IsAskedFor catalog i tx asked
   -- sessions are of transactions that it has started, each client's of another one
   pub started : (c : ℕ) (s : Session) → session_of S.knows c ≡ Some s → (s.tid.site ≡ i) × IsIssued (issued_of S) s.tid
-  pub distinct : (c d : ℕ) (s t : Session) → session_of S.knows c ≡ Some s → session_of S.knows d ≡ Some t → s.tid ≡ t.tid → c ≡ d
+  pub distinct : (c d : ℕ) (s t : Session) → session_of S.knows c ≡ Some s → session_of S.knows d ≡ Some t
+      → s.tid ≡ t.tid → c ≡ d
   -- and see no more than is committed here
-  pub snapshots : (c : ℕ) (s : Session) → session_of S.knows c ≡ Some s → (k : SiteId) → entry_at s.snapshot k ≤ S.knows.committed k
+  pub snapshots : (c : ℕ) (s : Session) → session_of S.knows c ≡ Some s → (k : SiteId)
+      → entry_at s.snapshot k ≤ S.knows.committed k
   -- sites that aren't of the catalog have committed nothing
   pub outside : (k : SiteId) → catalog.sites ≤ k.0 → (S.knows.got k ≡ 0) × (S.knows.committed k ≡ 0)
   -- a site that is down knows what its records tell, and one that is up has an epoch

@@ -174,7 +174,8 @@ module _ (catalog : Catalog) (i : SiteId) (below : i.0 < catalog.sites) (S : Sta
       (if b then lost A else A) f) (sym down) is
 
   -- the record that was in flight still is
-  still : (r : Record) → S.flight ≡ Some r → CanFollow catalog i S.knows r × CanBegin catalog i S.up S.knows S.flight I r
+  still : (r : Record) → S.flight ≡ Some r → CanFollow catalog i S.knows r
+      × CanBegin catalog i S.up S.knows S.flight I r
   still r flying = (subst (λ f. IfSome f (CanFollow catalog i S.knows)) flying I.flies, by r flying)
     where
       by : (r : Record) → S.flight ≡ Some r → CanBegin catalog i S.up S.knows S.flight I r
@@ -267,7 +268,8 @@ module _ (catalog : Catalog) (i : SiteId) (below : i.0 < catalog.sites) (S : Sta
       back up (Replied (Started (next_tid i S.knows))) None
       (after catalog i S.knows (Given (Call client (Ok Start))) (Replied (Started (next_tid i S.knows))) None)
       (starts_one catalog i S.knows S.flight (at_up up) below client none)
-  kind_kept event wrote outcome (does client call s update open_ asks declared) = done_kept client call s update open_ asks declared
+  kind_kept event wrote outcome (does client call s update open_ asks declared) =
+      done_kept client call s update open_ asks declared
   kind_kept event wrote outcome (reads client call s reply open_ asks) = read_kept client call reply
       (read_updates S.knows s) open_.up asks
   kind_kept event wrote outcome (ends client s open_ none) =
@@ -392,7 +394,8 @@ pub settled_kept : (catalog : Catalog) (i : SiteId) → i.0 < catalog.sites
 settled_kept catalog i below S event None found I = I
 settled_kept catalog i below S event (Some rec) found I =
     subst (λ b. IsKept catalog i b (recorded catalog i (Some rec) S.knows) None) (sym found.down)
-    (settles catalog i below S.knows rec (subst (λ f. IsKept catalog i false S.knows f) found.in_flight (subst (λ b. IsKept catalog i b S.knows S.flight) found.down I)))
+    (settles catalog i below S.knows rec (subst (λ f. IsKept catalog i false S.knows f) found.in_flight
+        (subst (λ b. IsKept catalog i b S.knows S.flight) found.down I)))
 
 -- so it is with right entries, the newest first
 pub right_kept : (catalog : Catalog) (capacity : ℕ) (i : SiteId) → i.0 < catalog.sites → (older : List Entry)

@@ -228,7 +228,8 @@ module _ (catalog : Catalog) (i : SiteId) (K : Knowledge) (L : IsLearned catalog
       (here_locked tid objects (λ oid within.
       same_site-true (preferred catalog K oid) i
       (and_parts (is_of_kind catalog Regular oid) (same_site (preferred catalog K oid) i)
-      (each_passes (λ o. is_of_kind catalog Regular o && same_site (preferred catalog K o) i) objects oid f.here within)).1))
+      (each_passes (λ o. is_of_kind catalog Regular o && same_site
+          (preferred catalog K o) i) objects oid f.here within)).1))
       (here_part j n)
   here_then (Released k m) f j n = here_if (is_slow k m j n) Over (K.part j n) here_over (here_part j n)
   here_then (SlowBegin m tx) f j n =
@@ -255,7 +256,8 @@ module _ (catalog : Catalog) (i : SiteId) (K : Knowledge) (L : IsLearned catalog
   slow_ended (Undecided x asked) is = (
     λ tx others h. elim h [
       | inl e ↦ absurd cc
-      | inr e ↦ is.0 tx others (inl (let p : x ≡ tx = cc in let q : asked ≡ others = cc in ap (λ z. Undecided z asked) p ∙ ap (λ z. Undecided tx z) q))
+      | inr e ↦ is.0 tx others (inl (let p : x ≡ tx = cc in let q : asked ≡ others = cc in
+          ap (λ z. Undecided z asked) p ∙ ap (λ z. Undecided tx z) q))
     ],
     is.1,
   )

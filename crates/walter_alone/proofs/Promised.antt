@@ -158,7 +158,8 @@ module _ (catalog : Catalog) (capacity : ℕ) (i : SiteId) (S : Standing) (event
   prepared_by comes Free is =
       is_locked is
       (written catalog capacity i S came prepare (Prepared j n tid objects) (back j (Vote n Yes)) tt
-      (prepare_rule ∙ (ap (prepares_by S.knows j n tid asked.start objects) is ∙ ap (prepares j n tid objects) (asked.clear is))) comes)
+      (prepare_rule ∙ (ap (prepares_by S.knows j n tid asked.start objects) is
+          ∙ ap (prepares j n tid objects) (asked.clear is))) comes)
   prepared_by comes (Locked owner held) is =
       is_held owner held is (said catalog capacity i S came prepare (back j (Vote n Yes)) tt
       (prepare_rule ∙ ap (prepares_by S.knows j n tid asked.start objects) is) comes)
@@ -171,7 +172,8 @@ pub entry_locked : (catalog : Catalog) (capacity : ℕ) (i : SiteId) (older : Li
 entry_locked catalog capacity i older e j n tid objects right asked =
     let S : Standing = standing catalog i older in
     prepared_by catalog capacity i S e.event e.came j n tid objects asked
-    (given_comes catalog capacity i older e (Deliver j asked.number (Prepare n tid asked.start objects)) right asked.came) (S.knows.part j n) refl
+    (given_comes catalog capacity i older e
+        (Deliver j asked.number (Prepare n tid asked.start objects)) right asked.came) (S.knows.part j n) refl
 
 -- a commit that meets no conflict, and whose objects are all preferred here
 module _ (catalog : Catalog) (capacity : ℕ) (i : SiteId) (S : Standing) (event : Event) (s : Session)
@@ -191,7 +193,8 @@ module _ (catalog : Catalog) (capacity : ℕ) (i : SiteId) (S : Standing) (event
   rule_commits =
       let client : ℕ = free.client in
       ap (λ b. rule_where b catalog i S (Call client (Ok Commit))) free.is_open.up
-      ∙ (ap (λ gone. if_told (Ok Commit) gone (call_rule catalog i S.knows (Ok Commit) (session_of S.knows client))) free.owed
+      ∙ (ap (λ gone. if_told (Ok Commit) gone
+      (call_rule catalog i S.knows (Ok Commit) (session_of S.knows client))) free.owed
       ∙ (ap (commits_for catalog i S.knows) free.is_open.session
       ∙ (ap (commits_by catalog i S.knows s) free.is_open.is_open ∙ commits_whole s.updates refl)))
 
@@ -215,7 +218,8 @@ module _ (catalog : Catalog) (capacity : ℕ) (i : SiteId) (S : Standing) (event
   comes_answered came (full rec wrote low only) =
       let same = is_due rec wrote in
       is_refused (subst (λ r. left_behind capacity S.records < need_of r) (sym same) low)
-      (only.outcome_is ∙ ap (λ r. fullness (Given (Call free.client (Ok Commit))) (need_of r) (left_behind capacity S.records)) (sym same))
+      (only.outcome_is ∙ ap (λ r. fullness (Given (Call free.client (Ok Commit))) (need_of r)
+          (left_behind capacity S.records)) (sym same))
 
 pub entry_answered : (catalog : Catalog) (capacity : ℕ) (i : SiteId) (older : List Entry) (e : Entry) (s : Session)
     → IsRightEntry catalog capacity i older e

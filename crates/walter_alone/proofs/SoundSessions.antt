@@ -1,5 +1,5 @@
--- Sessions of a site: of transactions that it has started, each client's of another one, which see no more than is committed
--- here, and write what the catalog has.
+-- Sessions of a site: of transactions that it has started, each client's of another one, which see no more than is
+-- committed here, and write what the catalog has.
 use Rattle.std.proofs.Common.{◌≡◌, ◌≤◌, ◌⊎◌, ℕ, true, false, List, map, Some, None, slice_index, length, refl, ap, sym, ◌∙◌, subst, arith, inl, inr, if◌then◌else◌, nat_eq}
 use Rattle.std.specs.Prelude.{Option}
 use Rattle.std.specs.List.{range_with_len}
@@ -90,10 +90,12 @@ module _ (catalog : Catalog) (i : SiteId) (sess : ℕ → Option Session) (commi
         distinct = λ c d s t h k same. elim (cases c s h) [
           | inl a ↦ elim (cases d t k) [
             | inl b ↦ sym a.0 ∙ b.0
-            | inr b ↦ absurd (fresh (subst (λ (z : Tid). IsIssued numbers z) (sym (ap (λ (z : Session). z.tid) a.1 ∙ same)) (A.started d t b).1))
+            | inr b ↦ absurd (fresh (subst (λ (z : Tid). IsIssued numbers z)
+                (sym (ap (λ (z : Session). z.tid) a.1 ∙ same)) (A.started d t b).1))
           ]
           | inr a ↦ elim (cases d t k) [
-            | inl b ↦ absurd (fresh (subst (λ (z : Tid). IsIssued numbers z) (same ∙ sym (ap (λ (z : Session). z.tid) b.1)) (A.started c s a).1))
+            | inl b ↦ absurd (fresh (subst (λ (z : Tid). IsIssued numbers z)
+                (same ∙ sym (ap (λ (z : Session). z.tid) b.1)) (A.started c s a).1))
             | inr b ↦ A.distinct c d s t a b same
           ]
         ];
@@ -116,7 +118,8 @@ vector_within catalog K k =
     (λ n. K.committed (site_at n)) ∙ length-range_with_len 0 catalog.sites in
     elim (cases_lt k.0 catalog.sites) [
       | inl within ↦
-          let e : slice_index (map (λ n. K.committed (site_at n)) numbers) k.0 ≡ K.committed k = get_or-map-range_with_len (λ n. K.committed (site_at n)) 0 catalog.sites k.0 k.0 0 within (omega arith) in
+          let e : slice_index (map (λ n. K.committed (site_at n)) numbers) k.0 ≡ K.committed k =
+              get_or-map-range_with_len (λ n. K.committed (site_at n)) 0 catalog.sites k.0 k.0 0 within (omega arith) in
           let f : entry_at (vector_of catalog K) k ≡ K.committed k = ap (λ v. entry_at v k) same ∙ e in
           omega (arith, f)
       | inr past ↦

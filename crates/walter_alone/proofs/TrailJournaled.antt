@@ -1,5 +1,5 @@
--- What a site knows by right entries, without its clients' transactions and what its peers have said, is what its records tell,
--- each of which can follow those before it.
+-- What a site knows by right entries, without its clients' transactions and what its peers have said, is what its
+-- records tell, each of which can follow those before it.
 use Rattle.std.proofs.Common.{◌≡◌, ◌<◌, ℕ, Bool, true, false, List, [], ◌∷◌, ◌++◌, Some, None, IfSome, refl, ap, sym, ◌∙◌, subst, if◌then◌else◌}
 use Rattle.std.specs.Prelude.{Option}
 use Rattle.walter_base.specs.declared.catalog.Catalog.{Catalog}
@@ -61,7 +61,9 @@ left_after : (catalog : Catalog) (i : SiteId) (wrote : Option Record) (K : Knowl
     → lost (knows_after event outcome (after catalog i K event outcome wrote)) ≡ lost (recorded catalog i wrote K)
 left_after catalog i wrote K event outcome = by (goes_down event outcome)
   where
-    by : (down : Bool) → lost (if down then lost (after catalog i K event outcome wrote) else after catalog i K event outcome wrote) ≡ lost (recorded catalog i wrote K)
+    by : (down : Bool) → lost
+        (if down then lost (after catalog i K event outcome wrote) else after catalog i K event outcome wrote) ≡ lost
+            (recorded catalog i wrote K)
     by true = refl
     by false = refl
 

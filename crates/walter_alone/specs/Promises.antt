@@ -1,5 +1,5 @@
--- What each right entry of a site that is up promises, by how the site stood before it: of commits that meet no conflict, and
--- of what its peers send.
+-- What each right entry of a site that is up promises, by how the site stood before it: of commits that meet no
+-- conflict, and of what its peers send.
 use Rattle.std.specs.Prelude.{◌≡◌, ◌≢◌, ◌+◌, ◌<◌, ◌≤◌, ℕ, true, List, [], Some, None, Ok}
 use Rattle.walter_base.specs.declared.catalog.Catalog.{Catalog}
 use Rattle.walter_base.specs.declared.message.Record.{Record}
@@ -32,8 +32,8 @@ use Rattle.walter_rules.specs.Slow.{Free, Locked, Over}
 use Rattle.walter_rules.specs.Standing.{Standing}
 use Rattle.walter_rules.specs.Trails.{need_of, left_behind, FitsIn, IsPutOut}
 
--- a client that isn't owed a Gone asks, at a site that is up, for the commit of its open transaction, which has updates; each
--- object that it writes is preferred here, and none meets a conflict
+-- a client that isn't owed a Gone asks, at a site that is up, for the commit of its open transaction, which has
+-- updates; each object that it writes is preferred here, and none meets a conflict
 pub record IsFree (catalog : Catalog) (i : SiteId) (S : Standing) (event : Event) (s : Session) : Type 0 where
   pub client : ℕ
   pub asked : event ≡ Given (Call client (Ok Commit))
@@ -43,8 +43,8 @@ pub record IsFree (catalog : Catalog) (i : SiteId) (S : Standing) (event : Event
   pub local : AreLocal catalog i S.knows s.updates
   pub clear : first_conflict S.knows s.snapshot (objects_at catalog S.knows i s.updates) ≡ None
 
--- The record of a commit needs so much, and so much is left. Where it fits, the commit is answered Committed, or Unsure if the
--- disk fails; where it doesn't, it is refused; and it is refused anyway where memory runs out.
+-- The record of a commit needs so much, and so much is left. Where it fits, the commit is answered Committed, or
+-- Unsure if the disk fails; where it doesn't, it is refused; and it is refused anyway where memory runs out.
 pub data IsCommitAnswer (i : SiteId) (K : Knowledge) (s : Session) (need left : ℕ) (outcome : Outcome) : Type 0 where
   committed : need ≤ left → outcome ≡ Replied (Committed (own_version i (next_seq i K)))
       → IsCommitAnswer i K s need left outcome
@@ -56,8 +56,9 @@ abbrev pub IsAnswered : ℕ → SiteId → Standing → Session → Outcome → 
 IsAnswered capacity i S s outcome =
     IsCommitAnswer i S.knows s (need_of (Own (next_seq i S.knows) (tx_of s))) (left_behind capacity S.records) outcome
 
--- This record is to be journaled, and this to be put out. Where the record fits, it is stable, and the packets are put out or
--- counted as lost; or the disk fails, and it is in flight. Where it doesn't fit, the outcome says so; and memory may run out.
+-- This record is to be journaled, and this to be put out. Where the record fits, it is stable, and the packets are
+-- put out or counted as lost; or the disk fails, and it is in flight. Where it doesn't fit, the outcome says so; and
+-- memory may run out.
 pub data IsWritten (capacity : ℕ) (S : Standing) (rec : Record) (sends : List Send) (came : Came) : Type 0 where
   is_stable : FitsIn capacity S rec → came.wrote ≡ Some rec → came.outcome ≡ Taken
       → IsPutOut S.carried sends came.sends came.dropped
@@ -97,8 +98,8 @@ abbrev pub IsSeen : ℕ → Standing → SiteId → Came → Type 0
 IsSeen capacity S j came = IsWritten capacity S (Seen j (S.knows.committed j + 1))
     (back j (Visible (S.knows.committed j + 1))) came
 
--- a peer asks for the locks of its slow commit, which isn't over here; the objects can be locked, and where they aren't locked
--- for it yet, none meets a conflict
+-- a peer asks for the locks of its slow commit, which isn't over here; the objects can be locked, and where they
+-- aren't locked for it yet, none meets a conflict
 pub record IsAsked (catalog : Catalog) (i : SiteId) (S : Standing) (event : Event) (j : SiteId) (n : ℕ) (tid : Tid)
     (objects : List ObjId) : Type 0 where
   pub number : ℕ

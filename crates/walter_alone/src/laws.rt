@@ -10,27 +10,31 @@ ghost use Rattle.walter_rules.specs.Trails.{standing, IsRightEntry, AreRight};
 ghost use Rattle.walter_alone.specs.Journaled.{IsJournaled};
 ghost use Rattle.walter_alone.specs.Promises.{IsFree, IsAnswered, IsNext, IsReceived, IsDue, IsSeen, IsAsked, IsLocked};
 
-/// After each entry of a right trail what the site knows, but for its clients' transactions and what its peers have said, is
-/// what its records tell, each of which can follow those before it. So a restart, which goes by the records, ends no commit
-/// that was journaled, and invents none.
+/// After each entry of a right trail what the site knows, but for its clients' transactions and what its peers have
+/// said, is what its records tell, each of which can follow those before it. So a restart, which goes by the records,
+/// ends no commit that was journaled, and invents none.
 pub fn a_restart_keeps_what_is_journaled()
-    ensures records { (catalog : Catalog) (capacity : ℕ) (i : SiteId) → i.0 < catalog.sites → (older : List Entry) → AreRight catalog capacity i older → IsJournaled catalog i (standing catalog i older) }
+    ensures records { (catalog : Catalog) (capacity : ℕ) (i : SiteId) → i.0 < catalog.sites → (older : List Entry)
+        → AreRight catalog capacity i older → IsJournaled catalog i (standing catalog i older) }
 {}
 
-/// At a site that is up nothing is refused without a reason. A commit whose objects are all preferred here, and that meets no
-/// conflict, gives up only for want of memory or of place in the journal. So it is with a commit that a peer sends and that is
-/// the next of that peer, with one that can be committed here, and with the locks that a slow commit of a peer asks for.
+/// At a site that is up nothing is refused without a reason. A commit whose objects are all preferred here, and that
+/// meets no conflict, gives up only for want of memory or of place in the journal. So it is with a commit that a peer
+/// sends and that is the next of that peer, with one that can be committed here, and with the locks that a slow
+/// commit of a peer asks for.
 pub fn right_trails_keep_promises()
     ensures committed { (catalog : Catalog) (capacity : ℕ) (i : SiteId) (older : List Entry) (e : Entry) (s : Session)
         → IsRightEntry catalog capacity i older e → IsFree catalog i (standing catalog i older) e.event s
         → IsAnswered capacity i (standing catalog i older) s e.came.outcome }
-    ensures received { (catalog : Catalog) (capacity : ℕ) (i : SiteId) (older : List Entry) (e : Entry) (j : SiteId) (seq : ℕ) (tx : Tx)
+    ensures received { (catalog : Catalog) (capacity : ℕ) (i : SiteId) (older : List Entry) (e : Entry) (j : SiteId)
+        (seq : ℕ) (tx : Tx)
         → IsRightEntry catalog capacity i older e → IsNext catalog i (standing catalog i older) e.event j seq tx
         → IsReceived capacity (standing catalog i older) j seq tx e.came }
     ensures seen { (catalog : Catalog) (capacity : ℕ) (i : SiteId) (older : List Entry) (e : Entry) (j : SiteId)
         → IsRightEntry catalog capacity i older e → IsDue catalog i (standing catalog i older) e.event j
         → IsSeen capacity (standing catalog i older) j e.came }
-    ensures locked { (catalog : Catalog) (capacity : ℕ) (i : SiteId) (older : List Entry) (e : Entry) (j : SiteId) (n : ℕ) (tid : Tid) (objects : List ObjId)
+    ensures locked { (catalog : Catalog) (capacity : ℕ) (i : SiteId) (older : List Entry) (e : Entry) (j : SiteId)
+        (n : ℕ) (tid : Tid) (objects : List ObjId)
         → IsRightEntry catalog capacity i older e → IsAsked catalog i (standing catalog i older) e.event j n tid objects
         → IsLocked capacity (standing catalog i older) j n tid objects e.came }
 {}

@@ -71,7 +71,8 @@ by_rule {catalog} {capacity} {i} {older} {e} is next said fits =
             outcome = ap (λ (x : Expected). x.outcome) (sym said);
             wrote = ap (λ (x : Expected). x.wrote) (sym said);
             flight = refl;
-            sends = subst (λ (x : Expected). IsPutOut (standing catalog i older).carried x.sends e.came.sends 0) (sym said)
+            sends = subst (λ (x : Expected). IsPutOut (standing catalog i older).carried x.sends e.came.sends 0)
+                (sym said)
                 (all_sent (standing catalog i older).carried e.came.sends);
           });
     })
@@ -158,7 +159,8 @@ linked_behind : (trails : List (List Entry)) (i : SiteId) (older es : List Entry
 linked_behind trails i older [] place e j number packet follow at is = absurd cc
 linked_behind trails i older (x ∷ es) zero e j number packet follow at is =
     let same : x ≡ e = cc in
-    (subst (λ (event : Event). LinkedThen trails i (clock older) e.stamp event (FollowLinked trails i (e ∷ older) es)) is
+    (subst (λ (event : Event). LinkedThen trails i (clock older) e.stamp event
+        (FollowLinked trails i (e ∷ older) es)) is
     (subst (λ (y : Entry). LinkedThen trails i (clock older) y.stamp y.event (FollowLinked trails i (y ∷ older) es))
     same follow)).0
 linked_behind trails i older (x ∷ es) (suc place) e j number packet follow at is =

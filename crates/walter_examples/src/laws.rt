@@ -11,7 +11,8 @@ ghost use Rattle.walter_runs.specs.Runs.{AreRightTrails};
 /// the second the disk fails while the decision of a slow commit is journaled, and the restart finds it.
 pub fn examples_spell()
     ensures causal_right { (catalog : Catalog) (capacity : ℕ) (cause effect : List ℕ)
-        → HoldsCausalOrder catalog capacity cause effect → AreRightTrails catalog capacity (causal_trails cause effect) }
+        → HoldsCausalOrder catalog capacity cause effect
+        → AreRightTrails catalog capacity (causal_trails cause effect) }
     ensures causal_history { (catalog : Catalog) (cause effect : List ℕ)
         → psi_of catalog (merge (causal_trails cause effect)) ≡ causal_history cause effect }
     ensures decision_right { (catalog : Catalog) (capacity : ℕ) (value : List ℕ)

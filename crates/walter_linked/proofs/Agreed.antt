@@ -54,8 +54,8 @@ parts W p j n = (W p).knows.part j n
 abbrev pub at_site : SiteId → Standing → Stands → Stands
 at_site i S W k = if same_site k i then S else W k
 
--- a conflict that stands in the way of a transaction of a slow commit: a version that it doesn't see, of an object that it
--- writes; or another's lock on one
+-- a conflict that stands in the way of a transaction of a slow commit: a version that it doesn't see, of an object
+-- that it writes; or another's lock on one
 abbrev pub IsOver : Stands → Tx → Conflict → Type 0
 IsOver W x (Modified oid version) =
     Contains (write_set x.updates) oid
@@ -87,9 +87,9 @@ pub record IsHeardRight (W : Stands) (put : Put) (i : SiteId) : Type 0 where
   pub said_no : (n : ℕ) (conflict : Conflict) → (W i).knows.said_no n ≡ Some conflict
       → (p : SiteId) × (p ≢ i) × (conflict ≢ Dead) × put p i (Vote n (No conflict))
 
--- an own commit that may come: the next one; a fast one writes only what is preferred here, and nothing that it writes was
--- changed behind its snapshot or is locked; a slow one is being decided, and each other site at which something is preferred
--- has something of it
+-- an own commit that may come: the next one; a fast one writes only what is preferred here, and nothing that it
+-- writes was changed behind its snapshot or is locked; a slow one is being decided, and each other site at which
+-- something is preferred has something of it
 pub record IsDueOwn (catalog : Catalog) (W : Stands) (i : SiteId) (seq : ℕ) (x : Tx) : Type 0 where
   pub next : seq ≡ counts W i i + 1
   pub site : x.tid.site ≡ i

@@ -1,5 +1,5 @@
--- How sites stand after a record of one of them, and what stays then: what was put out stays so, and what may come at another
--- site may still come.
+-- How sites stand after a record of one of them, and what stays then: what was put out stays so, and what may come at
+-- another site may still come.
 use Rattle.std.proofs.Common.{◌≡◌, ◌≢◌, ◌+◌, ◌-◌, ◌≤◌, ℕ, zero, suc, nat_eq, Bool, true, false, List, slice_get, Some, None, refl, ap, sym, ◌∙◌, subst, arith, inl, inr, if◌then◌else◌}
 use Rattle.std.specs.Prelude.{Option}
 use Rattle.std.proofs.lemmas.List.Elements.{filter-append}
@@ -108,8 +108,8 @@ committed_grows i (Some (SlowBegin n x)) committed k = omega arith
 committed_grows i (Some (SlowEnd n)) committed k = omega arith
 committed_grows i (Some (Marks durable visible)) committed k = omega arith
 
--- what is kept by an end, with a commit or without one, and isn't so of what isn't begun, is kept by each record that begins
--- a new slow commit only
+-- what is kept by an end, with a commit or without one, and isn't so of what isn't begun, is kept by each record that
+-- begins a new slow commit only
 module _ (P : Slow → Type 0) (unused : ¬ P Unused) (ends : (g : Slow) → P g → P (ended g))
     (decides : (g : Slow) → P g → P (decided g)) (catalog : Catalog) (i : SiteId) (K : Knowledge) where
   kept_if : (f : Slow → Slow) → ((g : Slow) → P g → P (f g)) → (b : Bool) (g : Slow) → P g → P (if b then f g else g)

@@ -1,4 +1,5 @@
--- In each run marks are true, and what clients are told of levels; and what a site has of another is that one's own commits.
+-- In each run marks are true, and what clients are told of levels; and what a site has of another is that one's own
+-- commits.
 use Rattle.std.proofs.Common.{◌≡◌, ◌≢◌, ◌<◌, ◌≤◌, ℕ, nat_le, true, false, List, [], ◌∷◌, Some, None, refl, ap, sym, ◌∙◌, subst, arith, inl, inr, if◌then◌else◌}
 use Rattle.std.specs.Prelude.{Option, IfSome, Result, Ok}
 use Rattle.std.proofs.lemmas.Bool.{leb-true}

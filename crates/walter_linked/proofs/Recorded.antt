@@ -81,7 +81,8 @@ pub commit_held : (j : SiteId) (seq : ℕ) (log : List Held) (x : Tx) → commit
     → (r : Held) × (slice_get (of_site j log) (seq - 1) ≡ Some r) × (r.tx ≡ x)
 commit_held j seq log x at =
     elim (slice_get (of_site j log) (seq - 1)) as (λ o. slice_get (of_site j log) (seq - 1) ≡ o
-    → option_map (λ (h : Held). h.tx) o ≡ Some x → (r : Held) × (slice_get (of_site j log) (seq - 1) ≡ Some r) × (r.tx ≡ x)) [
+    → option_map (λ (h : Held). h.tx) o ≡ Some x → (r : Held) × (slice_get (of_site j log) (seq - 1) ≡ Some r)
+    × (r.tx ≡ x)) [
       | None ↦ λ here e. absurd cc
       | Some r ↦ λ here e. (r, here, same_Some r.tx x e)
     ] refl at

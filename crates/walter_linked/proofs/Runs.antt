@@ -161,8 +161,8 @@ pub stands_away : (catalog : Catalog) (older : List Named) (n : Named) (k : Site
 stands_away catalog older n k apart = ap (λ es. standing catalog k es) (entries_away k n older apart)
     ∙ sym (found_away catalog older n k apart)
 
--- Where each right trail keeps what each keeps by itself, before an entry and behind what it found, and objects are preferred
--- at sites of the catalog:
+-- Where each right trail keeps what each keeps by itself, before an entry and behind what it found, and objects are
+-- preferred at sites of the catalog:
 module _ (catalog : Catalog) (capacity : ℕ) (homes : (oid : ObjId) → (home catalog oid).0 < catalog.sites)
     (right_alone : (i : SiteId) → i.0 < catalog.sites → (older : List Entry) → AreRight catalog capacity i older
     → IsAlone catalog i (standing catalog i older))

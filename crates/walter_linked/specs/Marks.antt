@@ -35,8 +35,8 @@ IsVisibleBy catalog W j m = AreVisible (sites catalog) (λ k. (W k).knows.commit
 abbrev pub IsOwnCommit : (SiteId → Standing) → SiteId → Tid → ℕ → Type 0
 IsOwnCommit W i tid m = (p : ℕ) × (r : Held) × (m ≡ p + 1) × (slice_get (own_commits W i) p ≡ Some r) × (r.tx.tid ≡ tid)
 
--- an entry commits another site's commit only where it is durable, and tells a client of the level of a transaction only
--- what is so
+-- an entry commits another site's commit only where it is durable, and tells a client of the level of a transaction
+-- only what is so
 pub record AreMarksTrue (catalog : Catalog) (older : List Named) (n : Named) : Type 0 where
   pub seen : (j : SiteId) (m : ℕ) → (n.1.came.wrote ≡ Some (Seen j m)) ⊎ (n.1.came.kept ≡ Some (Seen j m))
       → IsDurableBy catalog (stands catalog older) j m

@@ -50,7 +50,8 @@ numbers W i = issued_of (W i)
 -- it has lost its slow commit
 abbrev pub spent_by : ℕ → Standing → Type 0
 spent_by who S =
-    (s : Session) × (tx : Tx) × (asked : List SiteId) × (held_by who S ≡ Some s) × (s.slow ≢ 0) × (S.knows.slow s.slow ≡ Dropped tx asked)
+    (s : Session) × (tx : Tx) × (asked : List SiteId) × (held_by who S ≡ Some s) × (s.slow ≢ 0)
+        × (S.knows.slow s.slow ≡ Dropped tx asked)
 
 abbrev pub spent : Stands → Key → Type 0
 spent W k = spent_by k.who (W k.site)
@@ -59,17 +60,19 @@ spent W k = spent_by k.who (W k.site)
 abbrev pub IsDecidedBy : Standing → Session → Type 0
 IsDecidedBy S s = (s.slow ≢ 0) × ((tx : Tx) × (S.knows.slow s.slow ≡ Decided tx))
 
--- the history is what the sites, that stand so, say; and of what they hold only that is committed whose slow commit is decided
+-- the history is what the sites, that stand so, say; and of what they hold only that is committed whose slow commit
+-- is decided
 pub record Spells (W : Stands) (h : List Step) : Type 0 where
   pub spelled : IsSpelledAt (owns W) (counts W) (numbers W) (held W) (spent W) h
   pub decided : (d : Key) (s : Session) → held W d ≡ Some s → IsCommitted s.tid h → IsDecidedBy (W d.site) s
 
--- a site goes on: the names that it gave stay given, a session with a slow commit stays as it is, and a slow commit that was
--- lost stays lost, and one that was decided stays so
+-- a site goes on: the names that it gave stay given, a session with a slow commit stays as it is, and a slow commit
+-- that was lost stays lost, and one that was decided stays so
 pub record GoesOn (before after : Standing) : Type 0 where
   pub issued : (x : Tid) → IsIssued (issued_of before) x → IsIssued (issued_of after) x
   pub begun : (who : ℕ) (t u : Session) → held_by who after ≡ Some t → held_by who before ≡ Some u → u.slow ≢ 0 → t ≡ u
-  pub lost : (n : ℕ) (tx : Tx) (asked : List SiteId) → before.knows.slow n ≡ Dropped tx asked → after.knows.slow n ≡ Dropped tx asked
+  pub lost : (n : ℕ) (tx : Tx) (asked : List SiteId) → before.knows.slow n ≡ Dropped tx asked
+      → after.knows.slow n ≡ Dropped tx asked
   pub done : (n : ℕ) (tx : Tx) → before.knows.slow n ≡ Decided tx → after.knows.slow n ≡ Decided tx
 
 -- what it holds it held
@@ -83,7 +86,8 @@ pub record HasSame (i : SiteId) (before after : Standing) : Type 0 where
 
 module _ (W : Stands) (i : SiteId) (S : Standing) where
   -- a site stands as it is now, or is another one and stands as it did
-  pub views : {X : Type 0} (F : Standing → X) (k : SiteId) → ((i ≡ k) × (F (at_site i S W k) ≡ F S)) ⊎ ((i ≢ k) × (at_site i S W k ≡ W k))
+  pub views : {X : Type 0} (F : Standing → X) (k : SiteId) → ((i ≡ k) × (F (at_site i S W k) ≡ F S))
+      ⊎ ((i ≢ k) × (at_site i S W k ≡ W k))
   views F k = elim (site_cases k i) [
     | inl same ↦ inl (sym same.1, ap (λ b. F (if b then S else W k)) same.0)
     | inr apart ↦ inr (λ e. apart.1 (sym e), ap (λ b. if b then S else W k) apart.0)
@@ -99,7 +103,8 @@ module _ (W : Stands) (i : SiteId) (S : Standing) where
   pub higher : GoesOn (W i) S → IsHigher (numbers W) (numbers (at_site i S W))
   higher on x given_ = elim (views issued_of x.site) [
     | inl here ↦
-        subst (λ z. IsIssued z x) (sym here.1) (on.issued x (subst (λ k. IsIssued (issued_of (W k)) x) (sym here.0) given_))
+        subst (λ z. IsIssued z x) (sym here.1)
+            (on.issued x (subst (λ k. IsIssued (issued_of (W k)) x) (sym here.0) given_))
     | inr away ↦ subst (λ (z : Standing). IsIssued (issued_of z) x) (sym away.1) given_
   ]
 
@@ -109,16 +114,19 @@ module _ (W : Stands) (i : SiteId) (S : Standing) where
     | inr away ↦ ap (λ z. held_by d.who z) (sym away.1) ∙ has
   ]
 
-  still_spent : GoesOn (W i) S → (d : Key) (t : Session) → held (at_site i S W) d ≡ Some t → spent W d → spent (at_site i S W) d
+  still_spent : GoesOn (W i) S → (d : Key) (t : Session) → held (at_site i S W) d ≡ Some t → spent W d
+      → spent (at_site i S W) d
   still_spent on d t has gone = elim (views (λ z. z) d.site) [
     | inl here ↦
         let now : held_by d.who S ≡ Some t = ap (λ z. held_by d.who z) (sym here.1) ∙ has in
         let u = gone.0 in
         let before : held_by d.who (W i) ≡ Some u = subst (λ k. held_by d.who (W k) ≡ Some u) (sym here.0) gone.3 in
         let same : t ≡ u = on.begun d.who t u now before gone.4 in
-        let drop : (W i).knows.slow u.slow ≡ Dropped gone.1 gone.2 = subst (λ k. (W k).knows.slow u.slow ≡ Dropped gone.1 gone.2) (sym here.0) gone.5 in
+        let drop : (W i).knows.slow u.slow ≡ Dropped gone.1 gone.2 =
+            subst (λ k. (W k).knows.slow u.slow ≡ Dropped gone.1 gone.2) (sym here.0) gone.5 in
         let after = on.lost u.slow gone.1 gone.2 drop in
-        (u, gone.1, gone.2, ap (λ z. held_by d.who z) here.1 ∙ (now ∙ ap (λ z. Some z) same), gone.4, ap (λ (z : Standing). z.knows.slow u.slow) here.1 ∙ after)
+        (u, gone.1, gone.2, ap (λ z. held_by d.who z) here.1 ∙ (now ∙ ap (λ z. Some z) same), gone.4, ap
+            (λ (z : Standing). z.knows.slow u.slow) here.1 ∙ after)
     | inr away ↦ subst (λ z. spent_by d.who z) (sym away.1) gone
   ]
 
@@ -135,13 +143,16 @@ module _ (W : Stands) (i : SiteId) (S : Standing) where
   ]
 
   -- where each session that the site holds now is one of before, by its transaction, only decided ones are committed
-  pub still_decided : (h more : List Step) → GoesOn (W i) S → ((d : Key) (s : Session) → held W d ≡ Some s → IsCommitted s.tid h → IsDecidedBy (W d.site) s)
+  pub still_decided : (h more : List Step) → GoesOn (W i) S
+      → ((d : Key) (s : Session) → held W d ≡ Some s → IsCommitted s.tid h → IsDecidedBy (W d.site) s)
       → ((who : ℕ) (t : Session) → held_by who S ≡ Some t → IsCommitted t.tid more → IsDecidedBy S t)
       → ((d : Key) (t : Session) → i ≢ d.site → held W d ≡ Some t → IsCommitted t.tid more → IsCommitted t.tid h)
-      → (d : Key) (t : Session) → held (at_site i S W) d ≡ Some t → IsCommitted t.tid more → IsDecidedBy (at_site i S W d.site) t
+      → (d : Key) (t : Session) → held (at_site i S W) d ≡ Some t → IsCommitted t.tid more
+      → IsDecidedBy (at_site i S W d.site) t
   still_decided h more on before here away d t has committed = elim (views (λ z. z) d.site) [
     | inl same ↦
-        subst (λ z. IsDecidedBy z t) (sym same.1) (here d.who t (ap (λ z. held_by d.who z) (sym same.1) ∙ has) committed)
+        subst (λ z. IsDecidedBy z t) (sym same.1)
+            (here d.who t (ap (λ z. held_by d.who z) (sym same.1) ∙ has) committed)
     | inr apart ↦
         let was : held W d ≡ Some t = ap (λ z. held_by d.who z) (sym apart.1) ∙ has in
         subst (λ z. IsDecidedBy z t) (sym apart.1) (before d t was (away d t apart.0 was committed))
@@ -149,9 +160,11 @@ module _ (W : Stands) (i : SiteId) (S : Standing) where
 
   -- a session that was held, with its transaction
   abbrev pub IsOfOld : Type 0
-  IsOfOld = (who : ℕ) (t : Session) → held_by who S ≡ Some t → (u : Session) × (held_by who (W i) ≡ Some u) × (u.tid ≡ t.tid)
+  IsOfOld = (who : ℕ) (t : Session) → held_by who S ≡ Some t → (u : Session) × (held_by who (W i) ≡ Some u)
+      × (u.tid ≡ t.tid)
 
-  old_decided : (h : List Step) → GoesOn (W i) S → IsOfOld → ((d : Key) (s : Session) → held W d ≡ Some s → IsCommitted s.tid h → IsDecidedBy (W d.site) s)
+  old_decided : (h : List Step) → GoesOn (W i) S → IsOfOld
+      → ((d : Key) (s : Session) → held W d ≡ Some s → IsCommitted s.tid h → IsDecidedBy (W d.site) s)
       → (who : ℕ) (t : Session) → held_by who S ≡ Some t → IsCommitted t.tid h → IsDecidedBy S t
   old_decided h on old before who t has committed =
       let u = old who t has in
@@ -160,52 +173,71 @@ module _ (W : Stands) (i : SiteId) (S : Standing) where
       subst (λ z. IsDecidedBy S z) (sym same) (was.0, (was.1.0, on.done u.0.slow was.1.0 was.1.1))
 
   -- a step that commits nothing commits nothing
-  pub not_by : (h : List Step) (step : Step) (x : Tid) → ((us : List Update) → step ≢ Commit x us) → IsCommitted x (h ++ step ∷ []) → IsCommitted x h
-  not_by h step x plain committed = elim ((committed_snoc x h step).0 committed) [ inl was ↦ was | inr new ↦ absurd (plain new.0 new.1) ]
+  pub not_by : (h : List Step) (step : Step) (x : Tid) → ((us : List Update) → step ≢ Commit x us)
+      → IsCommitted x (h ++ step ∷ []) → IsCommitted x h
+  not_by h step x plain committed = elim ((committed_snoc x h step).0 committed) [ inl was ↦ was | inr new ↦
+      absurd (plain new.0 new.1) ]
 
   -- the site has committed the same, and holds what it holds now
-  pub moved_to : (h : List Step) → HasSame i (W i) S → GoesOn (W i) S → IsSpelledAt (owns W) (counts W) (numbers W) (held (at_site i S W)) (spent W) h
-      → IsSpelledAt (owns (at_site i S W)) (counts (at_site i S W)) (numbers (at_site i S W)) (held (at_site i S W)) (spent (at_site i S W)) h
+  pub moved_to : (h : List Step) → HasSame i (W i) S → GoesOn (W i) S → IsSpelledAt (owns W) (counts W) (numbers W)
+      (held (at_site i S W)) (spent W) h
+      → IsSpelledAt (owns (at_site i S W)) (counts (at_site i S W)) (numbers (at_site i S W)) (held (at_site i S W))
+      (spent (at_site i S W)) h
   moved_to h same on sp =
-      spelled_same (owns W) (owns (at_site i S W)) (counts W) (counts (at_site i S W)) (numbers (at_site i S W)) (held (at_site i S W)) (spent (at_site i S W)) h (same_owns same) (same_counts same)
-      (fewer (owns W) (counts W) (numbers W) (held (at_site i S W)) (spent W) h sp (numbers (at_site i S W)) (held (at_site i S W)) (higher on) (λ d t has. has) (spent (at_site i S W)) (still_spent on))
+      spelled_same (owns W) (owns (at_site i S W)) (counts W) (counts (at_site i S W)) (numbers (at_site i S W))
+          (held (at_site i S W)) (spent (at_site i S W)) h (same_owns same) (same_counts same)
+      (fewer (owns W) (counts W) (numbers W) (held (at_site i S W)) (spent W) h sp (numbers (at_site i S W))
+          (held (at_site i S W)) (higher on) (λ d t has. has) (spent (at_site i S W)) (still_spent on))
 
   -- a step of it that commits nothing, where each session that it holds it held
-  pub stepped : (h : List Step) (step : Step) → ((x : Tid) (us : List Update) → step ≢ Commit x us) → HasSame i (W i) S → GoesOn (W i) S → IsOfOld
-      → IsSpelledAt (owns W) (counts W) (numbers W) (held (at_site i S W)) (spent W) (h ++ step ∷ []) → Spells W h → Spells (at_site i S W) (h ++ step ∷ [])
+  pub stepped : (h : List Step) (step : Step) → ((x : Tid) (us : List Update) → step ≢ Commit x us)
+      → HasSame i (W i) S → GoesOn (W i) S → IsOfOld
+      → IsSpelledAt (owns W) (counts W) (numbers W) (held (at_site i S W)) (spent W) (h ++ step ∷ []) → Spells W h
+      → Spells (at_site i S W) (h ++ step ∷ [])
   stepped h step plain same on old sp before = record {
     spelled = moved_to (h ++ step ∷ []) same on sp;
     decided = still_decided h (h ++ step ∷ []) on before.decided
-        (λ who t has committed. old_decided h on old before.decided who t has (not_by h step t.tid (plain t.tid) committed))
+        (λ who t has committed. old_decided h on old before.decided who t has
+            (not_by h step t.tid (plain t.tid) committed))
         (λ d t apart has committed. not_by h step t.tid (plain t.tid) committed);
   }
 
   -- no step of it, where each session that it holds it held
-  pub unstepped : (h : List Step) → HasSame i (W i) S → GoesOn (W i) S → IsOfOld → IsSpelledAt (owns W) (counts W) (numbers W) (held (at_site i S W)) (spent W) h → Spells W h
+  pub unstepped : (h : List Step) → HasSame i (W i) S → GoesOn (W i) S → IsOfOld
+      → IsSpelledAt (owns W) (counts W) (numbers W) (held (at_site i S W)) (spent W) h → Spells W h
       → Spells (at_site i S W) h
   unstepped h same on old sp before = record {
     spelled = moved_to h same on sp;
-    decided = still_decided h h on before.decided (old_decided h on old before.decided) (λ d t apart has committed. committed);
+    decided = still_decided h h on before.decided (old_decided h on old before.decided)
+        (λ d t apart has committed. committed);
   }
 
   -- it holds fewer
-  pub quiet : (h : List Step) → HasSame i (W i) S → GoesOn (W i) S → HoldsFewer (W i) S → Spells W h → Spells (at_site i S W) h
+  pub quiet : (h : List Step) → HasSame i (W i) S → GoesOn (W i) S → HoldsFewer (W i) S → Spells W h
+      → Spells (at_site i S W) h
   quiet h same on few sp =
       unstepped h same on (λ who t has. (t, few who t has, refl))
-      (fewer (owns W) (counts W) (numbers W) (held W) (spent W) h sp.spelled (numbers W) (held (at_site i S W)) (λ x given_. given_) (fewer_held few) (spent W) (λ d t has gone. gone)) sp
+      (fewer (owns W) (counts W) (numbers W) (held W) (spent W) h sp.spelled (numbers W) (held (at_site i S W))
+          (λ x given_. given_) (fewer_held few) (spent W) (λ d t has gone. gone)) sp
 
   -- a transaction starts, of a name that wasn't given
   pub begins_new : (h : List Step) (x : Tid) → HasSame i (W i) S → GoesOn (W i) S
       → ¬ IsIssued (numbers W x.site) x
       → ((who : ℕ) (t : Session) → held_by who S ≡ Some t → (t.tid ≡ x) ⊎ (held_by who (W i) ≡ Some t))
-      → IsSpelledAt (owns W) (counts W) (numbers (at_site i S W)) (held (at_site i S W)) (spent W) (h ++ Start x x.site ∷ []) → Spells W h
+      → IsSpelledAt (owns W) (counts W) (numbers (at_site i S W)) (held (at_site i S W)) (spent W)
+      (h ++ Start x x.site ∷ []) → Spells W h
       → Spells (at_site i S W) (h ++ Start x x.site ∷ [])
   begins_new h x same on unissued news sp before =
-      let quiet_step : (y : Tid) → IsCommitted y (h ++ Start x x.site ∷ []) → IsCommitted y h = λ y. not_by h (Start x x.site) y (λ us e. absurd cc) in
+      let quiet_step : (y : Tid) → IsCommitted y (h ++ Start x x.site ∷ []) → IsCommitted y h =
+          λ y. not_by h (Start x x.site) y (λ us e. absurd cc) in
       record {
         spelled =
-            spelled_same (owns W) (owns (at_site i S W)) (counts W) (counts (at_site i S W)) (numbers (at_site i S W)) (held (at_site i S W)) (spent (at_site i S W)) (h ++ Start x x.site ∷ []) (same_owns same) (same_counts same)
-            (fewer (owns W) (counts W) (numbers (at_site i S W)) (held (at_site i S W)) (spent W) (h ++ Start x x.site ∷ []) sp (numbers (at_site i S W)) (held (at_site i S W)) (λ y given_. given_) (λ d t has. has) (spent (at_site i S W)) (still_spent on));
+            spelled_same (owns W) (owns (at_site i S W)) (counts W) (counts (at_site i S W)) (numbers (at_site i S W))
+                (held (at_site i S W)) (spent (at_site i S W)) (h ++ Start x x.site ∷ []) (same_owns same)
+                    (same_counts same)
+            (fewer (owns W) (counts W) (numbers (at_site i S W)) (held (at_site i S W)) (spent W)
+                (h ++ Start x x.site ∷ []) sp (numbers (at_site i S W)) (held (at_site i S W)) (λ y given_. given_)
+                    (λ d t has. has) (spent (at_site i S W)) (still_spent on));
         decided = still_decided h (h ++ Start x x.site ∷ []) on before.decided
             (λ who t has committed. elim (news who t has) [
               | inl new ↦
@@ -219,23 +251,31 @@ module _ (W : Stands) (i : SiteId) (S : Standing) where
       }
 
   -- it has committed one more, and holds fewer
-  finish_more : (h : List Step) → GoesOn (W i) S → HoldsFewer (W i) S → IsSpelledAt (owns (at_site i S W)) (counts (at_site i S W)) (numbers W) (held W) (spent W) h
-      → IsSpelledAt (owns (at_site i S W)) (counts (at_site i S W)) (numbers (at_site i S W)) (held (at_site i S W)) (spent (at_site i S W)) h
+  finish_more : (h : List Step) → GoesOn (W i) S → HoldsFewer (W i) S → IsSpelledAt (owns (at_site i S W))
+      (counts (at_site i S W)) (numbers W) (held W) (spent W) h
+      → IsSpelledAt (owns (at_site i S W)) (counts (at_site i S W)) (numbers (at_site i S W)) (held (at_site i S W))
+      (spent (at_site i S W)) h
   finish_more h on few sp =
-      fewer (owns (at_site i S W)) (counts (at_site i S W)) (numbers W) (held W) (spent W) h sp (numbers (at_site i S W)) (held (at_site i S W)) (higher on) (fewer_held few) (spent (at_site i S W)) (still_spent on)
+      fewer (owns (at_site i S W)) (counts (at_site i S W)) (numbers W) (held W) (spent W) h sp
+          (numbers (at_site i S W)) (held (at_site i S W)) (higher on) (fewer_held few) (spent (at_site i S W))
+              (still_spent on)
 
   -- an own commit, of a session that is open, and is not held then unless its slow commit is decided
-  pub commits : (h : List Step) (who : ℕ) (s : Session) (r : Held) → AreOwned (owns W) (counts W) → GoesOn (W i) S → HoldsFewer (W i) S
+  pub commits : (h : List Step) (who : ℕ) (s : Session) (r : Held) → AreOwned (owns W) (counts W) → GoesOn (W i) S
+      → HoldsFewer (W i) S
       → of_site i S.knows.log ≡ of_site i (W i).knows.log ++ r ∷ []
-      → ((k : SiteId) → S.knows.committed k ≡ (if same_site i k then (W i).knows.committed k + 1 else (W i).knows.committed k))
+      → ((k : SiteId) → S.knows.committed k ≡ (if same_site i k then (W i).knows.committed k + 1 else
+      (W i).knows.committed k))
       → held_by who (W i) ≡ Some s → IsLive (owns W) (counts W) h s → (spent_by who (W i) → ⊥) → s.tid.site ≡ i
       → r.tx.tid ≡ s.tid → ((k : SiteId) → entry_at r.tx.start k ≡ entry_at s.snapshot k) → r.tx.updates ≡ s.updates
       → s.updates ≢ [] → ¬ IsBlocked s.tid s.updates h → (held_by who S ≡ Some s → IsDecidedBy S s)
       → Spells W h → Spells (at_site i S W) (h ++ Commit r.tx.tid r.tx.updates ∷ [])
   commits h who s r numbered on few log_is counts_are has live unspent site tid start updates some free closed sp =
-      let push : IsPushed (owns W) (owns (at_site i S W)) i r = pushed_by_test (owns W) (owns (at_site i S W)) i r (λ k. elim (views (λ z. of_site k z.knows.log) k) [
+      let push : IsPushed (owns W) (owns (at_site i S W)) i r = pushed_by_test (owns W) (owns (at_site i S W)) i r
+          (λ k. elim (views (λ z. of_site k z.knows.log) k) [
         | inl here ↦ elim (site_cases i k) [
-          | inl same ↦ here.1 ∙ (subst (λ j. of_site j S.knows.log ≡ of_site j (W j).knows.log ++ r ∷ []) here.0 log_is ∙ rw same.0 refl)
+          | inl same ↦ here.1 ∙ (subst
+              (λ j. of_site j S.knows.log ≡ of_site j (W j).knows.log ++ r ∷ []) here.0 log_is ∙ rw same.0 refl)
           | inr apart ↦ absurd (apart.1 here.0)
         ]
         | inr away ↦ elim (site_cases i k) [
@@ -243,13 +283,16 @@ module _ (W : Stands) (i : SiteId) (S : Standing) where
           | inr apart ↦ ap (λ (z : Standing). of_site k z.knows.log) away.1 ∙ rw apart.0 refl
         ]
       ]) in
-      let count : IsCounted (counts W) (counts (at_site i S W)) i i = counted_one_more (counts W) (counts (at_site i S W)) i i
+      let count : IsCounted (counts W) (counts (at_site i S W)) i i =
+          counted_one_more (counts W) (counts (at_site i S W)) i i
       (λ k. ap (λ (z : Standing). z.knows.committed k) at_here ∙ counts_are k)
       (λ j k apart. ap (λ (z : Standing). z.knows.committed k) (at_away j apart)) in
       let step : Step = Commit r.tx.tid r.tx.updates in
       record {
         spelled = finish_more (h ++ step ∷ []) on few
-            (did_commit (owns W) (counts W) (numbers W) (held W) (spent W) h sp.spelled (owns (at_site i S W)) (counts (at_site i S W)) (record { site = i; who = who }) s r numbered has live unspent tid start updates some free
+            (did_commit (owns W) (counts W) (numbers W) (held W) (spent W) h sp.spelled (owns (at_site i S W))
+                (counts (at_site i S W)) (record { site = i; who =
+                    who }) s r numbered has live unspent tid start updates some free
             (subst (λ j. IsPushed (owns W) (owns (at_site i S W)) j r) (sym site) push)
             (subst (λ j. IsCounted (counts W) (counts (at_site i S W)) j j) (sym site) count));
         decided = still_decided h (h ++ step ∷ []) on sp.decided
@@ -258,10 +301,13 @@ module _ (W : Stands) (i : SiteId) (S : Standing) where
               | inr new ↦
                   let e : step ≡ Commit t.tid new.0 = new.1 in
                   let same : r.tx.tid ≡ t.tid = cc in
-                  let one : record { site = i; who = w } ≡ record { site = i; who = who } = sp.spelled.alone (record { site = i; who = w }) (record { site = i; who = who }) t s (few w t had) has (sym same ∙ tid) in
+                  let one : record { site = i; who = w } ≡ record { site = i; who = who } =
+                      sp.spelled.alone (record { site = i; who = w }) (record { site = i; who = who }) t s
+                          (few w t had) has (sym same ∙ tid) in
                   let key : w ≡ who = ap (λ (k : Key). k.who) one in
                   let is : t ≡ s = same_Some t s (sym (few w t had) ∙ (ap (λ v. held_by v (W i)) key ∙ has)) in
-                  subst (λ z. IsDecidedBy S z) (sym is) (closed (subst (λ v. held_by v S ≡ Some s) key (had ∙ ap (λ z. Some z) is)))
+                  subst (λ z. IsDecidedBy S z) (sym is)
+                      (closed (subst (λ v. held_by v S ≡ Some s) key (had ∙ ap (λ z. Some z) is)))
             ])
             (λ d t apart had committed. elim ((committed_snoc t.tid h step).0 committed) [
               | inl was ↦ was
@@ -275,13 +321,16 @@ module _ (W : Stands) (i : SiteId) (S : Standing) where
   -- a commit of another site comes to stand here
   pub arrives : (h : List Step) (r : Held) → AreOwned (owns W) (counts W) → GoesOn (W i) S → HoldsFewer (W i) S
       → of_site i S.knows.log ≡ of_site i (W i).knows.log
-      → ((k : SiteId) → S.knows.committed k ≡ (if same_site r.tx.tid.site k then (W i).knows.committed k + 1 else (W i).knows.committed k))
+      → ((k : SiteId) → S.knows.committed k ≡ (if same_site r.tx.tid.site k then (W i).knows.committed k + 1 else
+      (W i).knows.committed k))
       → i ≢ r.tx.tid.site → slice_get (owns W r.tx.tid.site) ((W i).knows.committed r.tx.tid.site) ≡ Some r
-      → ((k : SiteId) → entry_at r.tx.start k ≤ (W i).knows.committed k) → Spells W h → Spells (at_site i S W) (h ++ Arrive r.tx.tid i ∷ [])
+      → ((k : SiteId) → entry_at r.tx.start k ≤ (W i).knows.committed k) → Spells W h
+      → Spells (at_site i S W) (h ++ Arrive r.tx.tid i ∷ [])
   arrives h r numbered on few log_is counts_are apart here covered sp =
       let j = r.tx.tid.site in
       let step : Step = Arrive r.tx.tid i in
-      let count : IsCounted (counts W) (counts (at_site i S W)) i j = counted_one_more (counts W) (counts (at_site i S W)) i j
+      let count : IsCounted (counts W) (counts (at_site i S W)) i j =
+          counted_one_more (counts W) (counts (at_site i S W)) i j
       (λ k. ap (λ (z : Standing). z.knows.committed k) at_here ∙ counts_are k)
       (λ a k away. ap (λ (z : Standing). z.knows.committed k) (at_away a away)) in
       let owned : (k : SiteId) → owns (at_site i S W) k ≡ owns W k = λ k. elim (views (λ z. of_site k z.knows.log) k) [
@@ -290,9 +339,12 @@ module _ (W : Stands) (i : SiteId) (S : Standing) where
       ] in
       record {
         spelled = finish_more (h ++ step ∷ []) on few
-            (spelled_same (owns W) (owns (at_site i S W)) (counts (at_site i S W)) (counts (at_site i S W)) (numbers W) (held W) (spent W) (h ++ step ∷ []) owned (λ a k. refl)
-            (did_arrive (owns W) (counts W) (numbers W) (held W) (spent W) h sp.spelled (counts (at_site i S W)) i r numbered apart here covered count));
+            (spelled_same (owns W) (owns (at_site i S W)) (counts (at_site i S W)) (counts (at_site i S W))
+                (numbers W) (held W) (spent W) (h ++ step ∷ []) owned (λ a k. refl)
+            (did_arrive (owns W) (counts W) (numbers W) (held W) (spent W) h sp.spelled
+                (counts (at_site i S W)) i r numbered apart here covered count));
         decided = still_decided h (h ++ step ∷ []) on sp.decided
-            (λ who t has committed. old_decided h on (λ v z at_v. (z, few v z at_v, refl)) sp.decided who t has (not_by h step t.tid (λ us e. absurd cc) committed))
+            (λ who t has committed. old_decided h on (λ v z at_v. (z, few v z at_v, refl)) sp.decided who t has
+                (not_by h step t.tid (λ us e. absurd cc) committed))
             (λ d t away has committed. not_by h step t.tid (λ us e. absurd cc) committed);
       }

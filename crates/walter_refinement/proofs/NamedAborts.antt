@@ -46,14 +46,20 @@ use Rattle.walter_refinement.specs.Named.{IsMetThere, IsConflictNamed, IsNamed}
 
 -- where an abort comes from, at a site that stands so
 pub data IsAbort (catalog : Catalog) (i : SiteId) (S : Standing) (event : Event) (cause : Cause) : Type 0 where
-  was_asked : (client : ℕ) → event ≡ Given (Call client (Ok AbortAsked)) → cause ≡ Asked → IsAbort catalog i S event cause
-  met_here : (client : ℕ) (s : Session) (conflict : Conflict) → event ≡ Given (Call client (Ok CommitAsked)) → HasOpen S client s → cause ≡ cause_of conflict
-      → first_conflict S.knows s.snapshot (objects_at catalog S.knows i s.updates) ≡ Some conflict → IsAbort catalog i S event cause
-  met_there : (client : ℕ) (s : Session) (conflict : Conflict) → event ≡ Given (Call client (Ok CommitAsked)) → HasBegun S client s → cause ≡ cause_of conflict
+  was_asked : (client : ℕ) → event ≡ Given (Call client (Ok AbortAsked)) → cause ≡ Asked
+      → IsAbort catalog i S event cause
+  met_here : (client : ℕ) (s : Session) (conflict : Conflict) → event ≡ Given (Call client (Ok CommitAsked))
+      → HasOpen S client s → cause ≡ cause_of conflict
+      → first_conflict S.knows s.snapshot (objects_at catalog S.knows i s.updates) ≡ Some conflict
+      → IsAbort catalog i S event cause
+  met_there : (client : ℕ) (s : Session) (conflict : Conflict) → event ≡ Given (Call client (Ok CommitAsked))
+      → HasBegun S client s → cause ≡ cause_of conflict
       → S.knows.said_no s.slow ≡ Some conflict → IsAbort catalog i S event cause
 
 -- only three kinds are aborts
-kind_aborts : (catalog : Catalog) (i : SiteId) (S : Standing) (event : Event) (wrote : Option Record) (outcome : Outcome) (cause : Cause) → IsKind catalog i S event wrote outcome → outcome ≡ Replied (Aborted cause) → IsAbort catalog i S event cause
+kind_aborts : (catalog : Catalog) (i : SiteId) (S : Standing) (event : Event) (wrote : Option Record)
+    (outcome : Outcome) (cause : Cause) → IsKind catalog i S event wrote outcome → outcome ≡ Replied (Aborted cause)
+        → IsAbort catalog i S event cause
 kind_aborts catalog i S event wrote outcome cause (is_refused client call refusal) e = absurd cc
 kind_aborts catalog i S event wrote outcome cause (starts client up none) e = absurd cc
 kind_aborts catalog i S event wrote outcome cause (does client call s update open_ is declared) e = absurd cc
@@ -62,12 +68,14 @@ kind_aborts catalog i S event wrote outcome cause (reads client call s reply ope
 kind_aborts catalog i S event wrote outcome cause (reads client call s reply open_ (of_count oid id us)) e = absurd cc
 kind_aborts catalog i S event wrote outcome cause (ends client s open_ none) e = absurd cc
 kind_aborts catalog i S event wrote outcome cause (aborts client s open_) e = was_asked client refl (cc)
-kind_aborts catalog i S event wrote outcome cause (conflicts client s conflict open_ first) e = met_here client s conflict refl open_ (cc) first
+kind_aborts catalog i S event wrote outcome cause (conflicts client s conflict open_ first) e =
+    met_here client s conflict refl open_ (cc) first
 kind_aborts catalog i S event wrote outcome cause (commits client s open_ some local clear) e = absurd cc
 kind_aborts catalog i S event wrote outcome cause (begins client s open_ some clear) e = absurd cc
 kind_aborts catalog i S event wrote outcome cause (waits client s tx asked begun_ undecided) e = absurd cc
 kind_aborts catalog i S event wrote outcome cause (tells_version client s tx seq begun_ decided is) e = absurd cc
-kind_aborts catalog i S event wrote outcome cause (tells_cause client s tx asked conflict begun_ lost said) e = met_there client s conflict refl begun_ (cc) said
+kind_aborts catalog i S event wrote outcome cause (tells_cause client s tx asked conflict begun_ lost said) e =
+    met_there client s conflict refl begun_ (cc) said
 kind_aborts catalog i S event wrote outcome cause (levels_own client tid seq up here is) e = absurd cc
 kind_aborts catalog i S event wrote outcome cause (is_deciding client tid up) e = absurd cc
 kind_aborts catalog i S event wrote outcome cause (is_running client tid up) e = absurd cc
@@ -79,10 +87,12 @@ kind_aborts catalog i S event wrote outcome cause (hears_durable j number durabl
 kind_aborts catalog i S event wrote outcome cause (hears_visible j number committed peer low) e = absurd cc
 kind_aborts catalog i S event wrote outcome cause (marks_durable j number got K peer low is rises) e = absurd cc
 kind_aborts catalog i S event wrote outcome cause (marks_visible j number committed K peer low is rises) e = absurd cc
-kind_aborts catalog i S event wrote outcome cause (prepares j number n tid start objects peer free lockable) e = absurd cc
+kind_aborts catalog i S event wrote outcome cause (prepares j number n tid start objects peer free lockable) e =
+    absurd cc
 kind_aborts catalog i S event wrote outcome cause (hears_yes p number n tx asked peer undecided asks) e = absurd cc
 kind_aborts catalog i S event wrote outcome cause (decides p number n tx asked peer undecided asks all) e = absurd cc
-kind_aborts catalog i S event wrote outcome cause (gives_up p number n tx asked conflict peer undecided asks alive) e = absurd cc
+kind_aborts catalog i S event wrote outcome cause
+    (gives_up p number n tx asked conflict peer undecided asks alive) e = absurd cc
 kind_aborts catalog i S event wrote outcome cause (releases j number n peer part) e = absurd cc
 kind_aborts catalog i S event wrote outcome cause (hears_released j number n peer) e = absurd cc
 kind_aborts catalog i S event wrote outcome cause (sees j tx peer due_there) e = absurd cc
@@ -123,25 +133,39 @@ no_fullness (Given Tick) need left cause e = cc
 no_fullness Stop need left cause e = cc
 no_fullness Restart need left cause e = cc
 
-step_aborts : (catalog : Catalog) (i : SiteId) (S : Standing) (event : Event) (came : Came) (cause : Cause) → IsStep catalog i S event came → came.outcome ≡ Replied (Aborted cause) → IsAbort catalog i S event cause
-step_aborts catalog i S event came cause (stable kind none sent) e = kind_aborts catalog i S event came.wrote came.outcome cause kind e
-step_aborts catalog i S event came cause (flies rec outcome kind only) e = absurd (no_failure event rec cause (sym only.outcome_is ∙ e))
-step_aborts catalog i S event came cause (unread_step restart down only) e = absurd (let f : Failed ≡ Replied (Aborted cause) = sym only.outcome_is ∙ e in cc)
+step_aborts : (catalog : Catalog) (i : SiteId) (S : Standing) (event : Event) (came : Came) (cause : Cause)
+    → IsStep catalog i S event came → came.outcome ≡ Replied (Aborted cause) → IsAbort catalog i S event cause
+step_aborts catalog i S event came cause (stable kind none sent) e =
+    kind_aborts catalog i S event came.wrote came.outcome cause kind e
+step_aborts catalog i S event came cause (flies rec outcome kind only) e =
+    absurd (no_failure event rec cause (sym only.outcome_is ∙ e))
+step_aborts catalog i S event came cause (unread_step restart down only) e =
+    absurd (let f : Failed ≡ Replied (Aborted cause) = sym only.outcome_is ∙ e in cc)
 step_aborts catalog i S event came cause (wants takes only) e = absurd (no_want event cause (sym only.outcome_is ∙ e))
-step_aborts catalog i S event came cause (finds_full rec outcome need left kind only) e = absurd (no_fullness event need left cause (sym only.outcome_is ∙ e))
+step_aborts catalog i S event came cause (finds_full rec outcome need left kind only) e =
+    absurd (no_fullness event need left cause (sym only.outcome_is ∙ e))
 
 -- a NO that an entry put out over a conflict was met there
-no_met : (catalog : Catalog) (p : SiteId) (S : Standing) (event : Event) (came : Came) (i : SiteId) (n : ℕ) (conflict : Conflict) → conflict ≢ Dead → IsStep catalog p S event came → Contains came.sends (i, Vote n (No conflict)) → IsMet S.knows event i n conflict
-no_met catalog p S event came i n (ModifiedThere oid version) alive (stable kind none sent) c = sent i (Vote n (No (ModifiedThere oid version))) c
-no_met catalog p S event came i n (LockedThere oid owner) alive (stable kind none sent) c = sent i (Vote n (No (LockedThere oid owner))) c
+no_met : (catalog : Catalog) (p : SiteId) (S : Standing) (event : Event) (came : Came) (i : SiteId) (n : ℕ)
+    (conflict : Conflict) → conflict ≢ Dead → IsStep catalog p S event came
+        → Contains came.sends (i, Vote n (No conflict)) → IsMet S.knows event i n conflict
+no_met catalog p S event came i n (ModifiedThere oid version) alive (stable kind none sent) c =
+    sent i (Vote n (No (ModifiedThere oid version))) c
+no_met catalog p S event came i n (LockedThere oid owner) alive (stable kind none sent) c =
+    sent i (Vote n (No (LockedThere oid owner))) c
 no_met catalog p S event came i n Dead alive (stable kind none sent) c = absurd (alive refl)
-no_met catalog p S event came i n conflict alive (flies rec outcome kind only) c = absurd (Contains-nil (i, Vote n (No conflict)) (subst (λ t. Contains t (i, Vote n (No conflict))) only.sends c))
-no_met catalog p S event came i n conflict alive (unread_step restart down only) c = absurd (Contains-nil (i, Vote n (No conflict)) (subst (λ t. Contains t (i, Vote n (No conflict))) only.sends c))
-no_met catalog p S event came i n conflict alive (wants takes only) c = absurd (Contains-nil (i, Vote n (No conflict)) (subst (λ t. Contains t (i, Vote n (No conflict))) only.sends c))
-no_met catalog p S event came i n conflict alive (finds_full rec outcome need left kind only) c = absurd (Contains-nil (i, Vote n (No conflict)) (subst (λ t. Contains t (i, Vote n (No conflict))) only.sends c))
+no_met catalog p S event came i n conflict alive (flies rec outcome kind only) c =
+    absurd (Contains-nil (i, Vote n (No conflict)) (subst (λ t. Contains t (i, Vote n (No conflict))) only.sends c))
+no_met catalog p S event came i n conflict alive (unread_step restart down only) c =
+    absurd (Contains-nil (i, Vote n (No conflict)) (subst (λ t. Contains t (i, Vote n (No conflict))) only.sends c))
+no_met catalog p S event came i n conflict alive (wants takes only) c =
+    absurd (Contains-nil (i, Vote n (No conflict)) (subst (λ t. Contains t (i, Vote n (No conflict))) only.sends c))
+no_met catalog p S event came i n conflict alive (finds_full rec outcome need left kind only) c =
+    absurd (Contains-nil (i, Vote n (No conflict)) (subst (λ t. Contains t (i, Vote n (No conflict))) only.sends c))
 
 -- an entry of the list stands between those that are newer and those before it
-split_at : (run : List Named) (m : Named) → Contains run m → (newer : List Named) × (before : List Named) × (run ≡ newer ++ m ∷ before)
+split_at : (run : List Named) (m : Named) → Contains run m → (newer : List Named) × (before : List Named)
+    × (run ≡ newer ++ m ∷ before)
 split_at [] m c = absurd (Contains-nil m c)
 split_at (n ∷ run) m c = elim (Contains-append_cases (n ∷ []) run m c) [
   | inl first ↦ ([], run, ap (λ z. z ∷ run) (Contains-one n m first))
@@ -149,33 +173,46 @@ split_at (n ∷ run) m c = elim (Contains-append_cases (n ∷ []) run m c) [
 ]
 
 -- what was put out before some entries was put out
-put_newer : (newer before : List Named) (j k : SiteId) (packet : Packet) → IsPut before j k packet → IsPut (newer ++ before) j k packet
+put_newer : (newer before : List Named) (j k : SiteId) (packet : Packet) → IsPut before j k packet
+    → IsPut (newer ++ before) j k packet
 put_newer [] before j k packet put = put
-put_newer (n ∷ newer) before j k packet put = put_later n (newer ++ before) j k packet (put_newer newer before j k packet put)
+put_newer (n ∷ newer) before j k packet put = put_later n (newer ++ before) j k packet
+    (put_newer newer before j k packet put)
 
 -- only a restart finds a record
-not_found : (catalog : Catalog) (older : List Named) (n : Named) (kept : Option Record) → n.1.came.kept ≡ kept → IfSome kept (IsFound (stands catalog older n.0) n.1.event) → n.1.event ≢ Restart → found catalog older n n.0 ≡ stands catalog older n.0
-not_found catalog older n None e is apart = found_here catalog older n ∙ ap (λ k. settled catalog n.0 k (stands catalog older n.0)) e
+not_found : (catalog : Catalog) (older : List Named) (n : Named) (kept : Option Record) → n.1.came.kept ≡ kept
+    → IfSome kept (IsFound (stands catalog older n.0) n.1.event) → n.1.event ≢ Restart
+    → found catalog older n n.0 ≡ stands catalog older n.0
+not_found catalog older n None e is apart = found_here catalog older n
+    ∙ ap (λ k. settled catalog n.0 k (stands catalog older n.0)) e
 not_found catalog older n (Some r) e is apart = absurd (apart is.restart)
 
 module _ (catalog : Catalog) (capacity : ℕ) (homes : (oid : ObjId) → (home catalog oid).0 < catalog.sites) where
   -- a NO of a site was met there
-  met_before : (older : List Named) (i : SiteId) (client : ℕ) (s : Session) (conflict : Conflict) → IsRun catalog capacity older → HasBegun (stands catalog older i) client s
-      → (p : SiteId) → p ≢ i → conflict ≢ Dead → IsPut older p i (Vote s.slow (No conflict)) → IsMetThere catalog older i s conflict
+  met_before : (older : List Named) (i : SiteId) (client : ℕ) (s : Session) (conflict : Conflict)
+      → IsRun catalog capacity older → HasBegun (stands catalog older i) client s
+      → (p : SiteId) → p ≢ i → conflict ≢ Dead → IsPut older p i (Vote s.slow (No conflict))
+      → IsMetThere catalog older i s conflict
   met_before older i client s conflict is begun_ p apart alive put =
       let right = right_alone catalog capacity in
       let settles = settled_alone catalog capacity in
       let at_ = split_at older (p, put.entry) put.here in
-      let run : IsRun catalog capacity ((p, put.entry) ∷ at_.1) = run_behind catalog capacity at_.0 ((p, put.entry) ∷ at_.1) (subst (λ z. IsRun catalog capacity z) at_.2 is) in
+      let run : IsRun catalog capacity ((p, put.entry) ∷ at_.1) =
+          run_behind catalog capacity at_.0 ((p, put.entry) ∷ at_.1) (subst (λ z. IsRun catalog capacity z) at_.2 is) in
       let step = next_step catalog capacity homes right settles at_.1 (p, put.entry) run.0 run.1 in
-      let met = no_met catalog p (found catalog at_.1 (p, put.entry) p) put.entry.event put.entry.came i s.slow conflict alive step put.sent in
+      let met = no_met catalog p
+          (found catalog at_.1 (p, put.entry) p) put.entry.event put.entry.came i s.slow conflict alive step put.sent in
       let away : put.entry.event ≢ Restart = λ e. let f = sym e ∙ met.came in cc in
-      let stood : found catalog at_.1 (p, put.entry) p ≡ stands catalog at_.1 p = not_found catalog at_.1 (p, put.entry) put.entry.came.kept refl run.1.right.kept away in
+      let stood : found catalog at_.1 (p, put.entry) p ≡ stands catalog at_.1 p =
+          not_found catalog at_.1 (p, put.entry) put.entry.came.kept refl run.1.right.kept away in
       let said = run.1.put i met.number (Prepare s.slow met.tid met.start met.objects) met.came in
       let said_now : IsPut older i p (Prepare s.slow met.tid met.start met.objects) =
-      subst (λ z. IsPut z i p (Prepare s.slow met.tid met.start met.objects)) (sym at_.2) (put_newer at_.0 ((p, put.entry) ∷ at_.1) i p _ (put_later (p, put.entry) at_.1 i p _ said)) in
-      let so = (run_agrees catalog capacity homes right settles older is).said i p (Prepare s.slow met.tid met.start met.objects) (λ e. apart (sym e)) said_now in
-      let mine = (run_alone catalog capacity homes right settles older is i).tidy.mine client s begun_.session (λ e. let l = begun_.begun in absurd (omega (arith, e, l))) in
+      subst (λ z. IsPut z i p (Prepare s.slow met.tid met.start met.objects)) (sym at_.2)
+          (put_newer at_.0 ((p, put.entry) ∷ at_.1) i p _ (put_later (p, put.entry) at_.1 i p _ said)) in
+      let so = (run_agrees catalog capacity homes right settles older is).said i p
+          (Prepare s.slow met.tid met.start met.objects) (λ e. apart (sym e)) said_now in
+      let mine = (run_alone catalog capacity homes right settles older is i).tidy.mine client s begun_.session
+          (λ e. let l = begun_.begun in absurd (omega (arith, e, l))) in
       let one : so.0 ≡ tx_of s = same_Some so.0 (tx_of s) (sym so.1 ∙ mine) in
       let tid : met.tid ≡ s.tid = so.2 ∙ ap (λ (x : Tx). x.tid) one in
       let start : met.start ≡ s.snapshot = so.3 ∙ ap (λ (x : Tx). x.start) one in
@@ -193,15 +230,18 @@ module _ (catalog : Catalog) (capacity : ℕ) (homes : (oid : ObjId) → (home c
         sent = put.sent;
         met = record {
           oid = at_conflict.0;
-          written = subst (λ (x : Tx). Contains (write_set x.updates) at_conflict.0) one ((so.4 at_conflict.0 here).0 at_conflict.1);
+          written = subst (λ (x : Tx). Contains (write_set x.updates) at_conflict.0) one
+              ((so.4 at_conflict.0 here).0 at_conflict.1);
           here = here;
           met = subst (λ (S : Standing). conflict_at S.knows s.snapshot at_conflict.0 ≡ Some conflict) stood
-              (subst (λ v. conflict_at (found catalog at_.1 (p, put.entry) p).knows v at_conflict.0 ≡ Some conflict) start at_conflict.2);
+              (subst (λ v. conflict_at (found catalog at_.1 (p, put.entry) p).knows v at_conflict.0
+                  ≡ Some conflict) start at_conflict.2);
         };
       }
 
   -- an abort of a run is named
-  pub run_named : (older : List Named) (n : Named) (cause : Cause) → IsRun catalog capacity (n ∷ older) → n.1.came.outcome ≡ Replied (Aborted cause) → IsNamed catalog older n cause
+  pub run_named : (older : List Named) (n : Named) (cause : Cause) → IsRun catalog capacity (n ∷ older)
+      → n.1.came.outcome ≡ Replied (Aborted cause) → IsNamed catalog older n cause
   run_named older n cause is e =
       let right = right_alone catalog capacity in
       let settles = settled_alone catalog capacity in
@@ -211,9 +251,12 @@ module _ (catalog : Catalog) (capacity : ℕ) (homes : (oid : ObjId) → (home c
       stood : n.1.event ≢ Restart → found catalog older n n.0 ≡ stands catalog older n.0
       stood apart = not_found catalog older n n.1.came.kept refl is.1.right.kept apart
 
-      by_conflict : (conflict : Conflict) → conflict ≢ Dead → cause ≡ cause_of conflict → IsConflictNamed catalog older n cause → IsNamed catalog older n cause
-      by_conflict (ModifiedThere oid version) alive c named = subst (λ z. IsNamed catalog older n z) (sym c) (subst (λ z. IsConflictNamed catalog older n z) c named)
-      by_conflict (LockedThere oid owner) alive c named = subst (λ z. IsNamed catalog older n z) (sym c) (subst (λ z. IsConflictNamed catalog older n z) c named)
+      by_conflict : (conflict : Conflict) → conflict ≢ Dead → cause ≡ cause_of conflict
+          → IsConflictNamed catalog older n cause → IsNamed catalog older n cause
+      by_conflict (ModifiedThere oid version) alive c named = subst (λ z. IsNamed catalog older n z) (sym c)
+          (subst (λ z. IsConflictNamed catalog older n z) c named)
+      by_conflict (LockedThere oid owner) alive c named = subst (λ z. IsNamed catalog older n z) (sym c)
+          (subst (λ z. IsConflictNamed catalog older n z) c named)
       by_conflict Dead alive c named = absurd (alive refl)
 
       abort_named : IsAbort catalog n.0 (found catalog older n n.0) n.1.event cause → IsNamed catalog older n cause
@@ -221,23 +264,28 @@ module _ (catalog : Catalog) (capacity : ℕ) (homes : (oid : ObjId) → (home c
       abort_named (met_here client s conflict event open_ c first) =
           let away : n.1.event ≢ Restart = λ f. let g = sym f ∙ event in cc in
           let same = stood away in
-          let one = one_meets (found catalog older n n.0).knows s.snapshot (objects_at catalog (found catalog older n n.0).knows n.0 s.updates) conflict first in
+          let one = one_meets (found catalog older n n.0).knows s.snapshot
+              (objects_at catalog (found catalog older n n.0).knows n.0 s.updates) conflict first in
           let within = objects_at_from catalog (found catalog older n n.0).knows n.0 s.updates one.0 one.1 in
-          by_conflict conflict (first_alive (found catalog older n n.0).knows s.snapshot (objects_at catalog (found catalog older n n.0).knows n.0 s.updates) conflict first) c (record {
+          by_conflict conflict (first_alive (found catalog older n n.0).knows s.snapshot
+              (objects_at catalog (found catalog older n n.0).knows n.0 s.updates) conflict first) c (record {
             client = client;
             asked = event;
             session = s;
             has = subst (λ (S : Standing). session_of S.knows client ≡ Some s) same open_.session;
             conflict = conflict;
             is = c;
-            met = inl (record { oid = one.0; written = within.0; here = within.1; met = subst (λ (S : Standing). conflict_at S.knows s.snapshot one.0 ≡ Some conflict) same one.2 });
+            met = inl (record { oid = one.0; written = within.0; here = within.1; met =
+                subst (λ (S : Standing). conflict_at S.knows s.snapshot one.0 ≡ Some conflict) same one.2 });
           })
       abort_named (met_there client s conflict event begun_ c said) =
           let away : n.1.event ≢ Restart = λ f. let g = sym f ∙ event in cc in
           let same = stood away in
           let begun_now : HasBegun (stands catalog older n.0) client s = subst (λ S. HasBegun S client s) same begun_ in
-          let said_now : (stands catalog older n.0).knows.said_no s.slow ≡ Some conflict = subst (λ (S : Standing). S.knows.said_no s.slow ≡ Some conflict) same said in
-          let no_ = ((run_agrees catalog capacity homes (right_alone catalog capacity) (settled_alone catalog capacity) older is.0).heard n.0).said_no s.slow conflict said_now in
+          let said_now : (stands catalog older n.0).knows.said_no s.slow ≡ Some conflict =
+              subst (λ (S : Standing). S.knows.said_no s.slow ≡ Some conflict) same said in
+          let no_ = ((run_agrees catalog capacity homes (right_alone catalog capacity)
+              (settled_alone catalog capacity) older is.0).heard n.0).said_no s.slow conflict said_now in
           by_conflict conflict no_.2 c (record {
             client = client;
             asked = event;

@@ -1,4 +1,5 @@
--- Where of two writers of an object one is always before the other, the last one decides the value, whatever the order of the list.
+-- Where of two writers of an object one is always before the other, the last one decides the value, whatever the
+-- order of the list.
 use Rattle.std.proofs.Common.{◌≡◌, ℕ, zero, suc, ◌<◌, List, [], ◌∷◌, ◌++◌, refl, ap, sym, ◌∙◌, subst, arith, slice_get, Some, None, Bool, true, false, inl, inr, ◌⊎◌, if◌then◌else◌}
 use Rattle.std.specs.Prelude.{Contains, flat_map, Option}
 use Rattle.std.proofs.lemmas.Bool.{cases_order}
@@ -140,11 +141,14 @@ is_last oid f (x ∷ xs) y h =
       | Some z ↦ λ is n.
           let e : z ≡ y = cc in
           let r = is_last oid f xs y (is ∙ ap (λ t. Some t) e) in
-          record { place = suc r.place; here = r.here; does = r.does; none_behind = λ q w l at. behind oid f x xs r.place q w (r.none_behind) l at }
+          record { place = suc r.place; here = r.here; does = r.does; none_behind =
+              λ q w l at. behind oid f x xs r.place q w (r.none_behind) l at }
       | None ↦ λ is n. elim (writes oid (f x)) as
           (λ b. writes oid (f x) ≡ b → (if b then Some x else None) ≡ Some y → IsLast oid f (x ∷ xs) y) [
             | true ↦ λ w m. let e : x ≡ y = cc in
-                record { place = 0; here = ap (λ t. Some t) e; does = subst (λ t. writes oid (f t) ≡ true) e w; none_behind = λ q z l at. first oid f x xs q z (no_writer oid f xs is) l at }
+                record { place = 0; here = ap (λ t. Some t) e; does =
+                    subst (λ t. writes oid (f t) ≡ true) e w; none_behind =
+                        λ q z l at. first oid f x xs q z (no_writer oid f xs is) l at }
             | false ↦ λ w m. absurd cc
           ] refl n
     ] refl h
@@ -156,14 +160,16 @@ IsIn xs ys = (p : ℕ) (x : Tid) → slice_get xs p ≡ Some x → (q : ℕ) × 
 -- of two writers of the object the one that stands first is before the other
 abbrev pub AreOrdered : (Tid → Tid → Type 0) → ObjId → (Tid → List Update) → List Tid → Type 0
 AreOrdered Before oid f xs =
-    (p q : ℕ) (x y : Tid) → p < q → slice_get xs p ≡ Some x → slice_get xs q ≡ Some y → writes oid (f x) ≡ true → writes oid (f y) ≡ true → Before x y
+    (p q : ℕ) (x y : Tid) → p < q → slice_get xs p ≡ Some x → slice_get xs q ≡ Some y → writes oid (f x) ≡ true
+        → writes oid (f y) ≡ true → Before x y
 
 -- where a last writer of another list stands
 stands : (oid : ObjId) (f : Tid → List Update) (ys : List Tid) (x y : Tid) (q : ℕ) (l : IsLast oid f ys y)
     → slice_get ys q ≡ Some x → writes oid (f x) ≡ true → (x ≡ y) ⊎ (q < l.place)
 stands oid f ys x y q l at does =
     elim (cases_order q l.place) [
-      | inl same ↦ inl (let e : ◌≡◌ {A = Option Tid} (Some x) (Some y) = sym at ∙ (ap (λ k. slice_get ys k) same ∙ l.here) in cc)
+      | inl same ↦ inl (let e : ◌≡◌ {A = Option Tid} (Some x) (Some y) = sym at
+          ∙ (ap (λ k. slice_get ys k) same ∙ l.here) in cc)
       | inr r ↦ elim r [
         | inl before ↦ inr before
         | inr after ↦ absurd (let n = l.none_behind q x after at in cc)
@@ -179,10 +185,12 @@ same_last Before oid f xs ys apart there back ordered_xs ordered_ys =
     elim (last_writer oid f xs) as (λ l. last_writer oid f xs ≡ l → l ≡ last_writer oid f ys) [
       | None ↦ λ none. elim (last_writer oid f ys) as (λ m. last_writer oid f ys ≡ m → None ≡ m) [
         | None ↦ λ e. refl
-        | Some y ↦ λ e. let l = is_last oid f ys y e in let at = back l.place y l.here in let n = no_writer oid f xs none at.0 y at.1 in let d = l.does in absurd cc
+        | Some y ↦ λ e. let l = is_last oid f ys y e in let at = back l.place y l.here in let n =
+            no_writer oid f xs none at.0 y at.1 in let d = l.does in absurd cc
       ] refl
       | Some x ↦ λ some. elim (last_writer oid f ys) as (λ m. last_writer oid f ys ≡ m → Some x ≡ m) [
-        | None ↦ λ e. let l = is_last oid f xs x some in let at = there l.place x l.here in let n = no_writer oid f ys e at.0 x at.1 in let d = l.does in absurd cc
+        | None ↦ λ e. let l = is_last oid f xs x some in let at = there l.place x l.here in let n =
+            no_writer oid f ys e at.0 x at.1 in let d = l.does in absurd cc
         | Some y ↦ λ e.
             let lx = is_last oid f xs x some in
             let ly = is_last oid f ys y e in
@@ -192,20 +200,23 @@ same_last Before oid f xs ys apart there back ordered_xs ordered_ys =
               | inl same ↦ ap (λ t. Some t) same
               | inr before ↦ elim (stands oid f xs y x ty.0 lx ty.1 ly.does) [
                 | inl same ↦ ap (λ t. Some t) (sym same)
-                | inr earlier ↦ absurd (apart x y (ordered_ys tx.0 ly.place x y before tx.1 ly.here lx.does ly.does) (ordered_xs ty.0 lx.place y x earlier ty.1 lx.here ly.does lx.does))
+                | inr earlier ↦ absurd (apart x y (ordered_ys tx.0 ly.place x y before tx.1 ly.here lx.does ly.does)
+                    (ordered_xs ty.0 lx.place y x earlier ty.1 lx.here ly.does lx.does))
               ]
             ]
       ] refl
     ] refl
 
 -- so they give the object the same value
-pub value_by_order : (Before : Tid → Tid → Type 0) (oid : ObjId) (f : Tid → List Update) (xs ys : List Tid) (own : List Update)
+pub value_by_order : (Before : Tid → Tid → Type 0) (oid : ObjId) (f : Tid → List Update) (xs ys : List Tid)
+    (own : List Update)
     → ((x y : Tid) → Before x y → Before y x → ⊥)
     → IsIn xs ys → IsIn ys xs → AreOrdered Before oid f xs → AreOrdered Before oid f ys
     → value_from None oid (flat_map f xs ++ own) ≡ value_from None oid (flat_map f ys ++ own)
 value_by_order Before oid f xs ys own apart there back ordered_xs ordered_ys =
     let same =
     value_by_last oid f xs None
-    ∙ (ap (λ l. decided_by l oid f None) (same_last Before oid f xs ys apart there back ordered_xs ordered_ys) ∙ sym (value_by_last oid f ys None)) in
+    ∙ (ap (λ l. decided_by l oid f None) (same_last Before oid f xs ys apart there back ordered_xs ordered_ys)
+    ∙ sym (value_by_last oid f ys None)) in
     value_from-append None oid (flat_map f xs) own
     ∙ (ap (λ v. value_from v oid own) same ∙ sym (value_from-append None oid (flat_map f ys) own))

@@ -1,5 +1,5 @@
--- Of every legal history: no log has a transaction twice; what a transaction's snapshot has stands before it in each log; of two
--- transactions that write one object, one is in the snapshot of the other.
+-- Of every legal history: no log has a transaction twice; what a transaction's snapshot has stands before it in each
+-- log; of two transactions that write one object, one is in the snapshot of the other.
 use Rattle.std.proofs.Common.{◌≡◌, ◌≢◌, ℕ, ◌<◌, List, [], ◌∷◌, ◌++◌, length, take, refl, ap, sym, ◌∙◌, subst, arith, slice_get, Some, inl, inr, ◌⊎◌}
 use Rattle.std.specs.Prelude.{Contains}
 use Rattle.std.proofs.lemmas.List.{append-nil, take_all}
@@ -42,7 +42,8 @@ sees_logged : (h : List Step) (step : Step) (s : SiteId) (x y : Tid) → IsLegal
 sees_logged h step s x y next here seen =
     elim (logged_is x s step here) [
       | inl commit ↦ subst (λ (k : SiteId). Contains (log k h) y) commit.2 (snapshot_logged x y h seen)
-      | inr arrive ↦ All-contains (λ z. Contains (log s h) z) (snapshot x h) y (legal_same h step (Arrive x s) arrive next).causal seen
+      | inr arrive ↦ All-contains (λ z. Contains (log s h) z) (snapshot x h) y
+          (legal_same h step (Arrive x s) arrive next).causal seen
     ]
 
 -- and is started
@@ -57,7 +58,8 @@ logged_started h step s x legal next here =
 -- what a transaction's snapshot has stands before it in each log
 abbrev pub ArriveAfter : List Step → Type 0
 ArriveAfter h =
-    (s : SiteId) (p : ℕ) (x y : Tid) → slice_get (log s h) p ≡ Some x → Contains (snapshot x h) y → (q : ℕ) × (q < p) × (slice_get (log s h) q ≡ Some y)
+    (s : SiteId) (p : ℕ) (x y : Tid) → slice_get (log s h) p ≡ Some x → Contains (snapshot x h) y → (q : ℕ) × (q < p)
+        × (slice_get (log s h) q ≡ Some y)
 
 -- so it is still after one more step
 arrive_more : (h : List Step) (step : Step) → IsLegal h → IsLegalStep h step → ArriveAfter h
@@ -85,24 +87,28 @@ arrive_more h step legal next before s p x y at seen =
                 let its : Contains (logged s step) x = subst (λ z. Contains (logged s step) z) last.1 here in
                 let started = logged_started h step s x legal next its in
                 let inside =
-                sees_logged h step s x y next its (subst (λ t. Contains t y) (snapshot_kept x h (step ∷ []) started) seen) in
+                sees_logged h step s x y next its
+                    (subst (λ t. Contains t y) (snapshot_kept x h (step ∷ []) started) seen) in
                 let r = place_of (log s h) y inside in
                 let l = slice_get_within (log s h) r.0 y r.1 in
-                (r.0, omega (arith, l, last.0), ap (λ t. slice_get t r.0) now ∙ slice_get-append_left (log s h) (more.0 ∷ []) y r.0 r.1)
+                (r.0, omega (arith, l, last.0), ap (λ t. slice_get t r.0) now
+                    ∙ slice_get-append_left (log s h) (more.0 ∷ []) y r.0 r.1)
           ]
     ]
 
 -- so it is in every legal history
 pub arrive_after : (h : List Step) → IsLegal h → ArriveAfter h
 arrive_after =
-    legal_induction ArriveAfter (λ s p x y at seen. absurd cc) (λ h step legal next before. arrive_more h step legal next before)
+    legal_induction ArriveAfter (λ s p x y at seen. absurd cc)
+        (λ h step legal next before. arrive_more h step legal next before)
 
 -- what commits at the site of another before that starts is in its snapshot
 before_start_seen : (h : List Step) (x y : Tid) → IsLegal h → CommitsBeforeStart h x y → Contains (snapshot y h) x
 before_start_seen h x y legal first =
     let within = slice_get_within h first.begun _ first.starts in
     let stood =
-    at_logged y.site (take first.begun h) x first.place (commits_at_take h x y.site first.begun first.place first.before first.commits) in
+    at_logged y.site (take first.begun h) x first.place
+        (commits_at_take h x y.site first.begun first.place first.before first.commits) in
     let then =
     subst (λ all. Contains all x) (sym (snapshot_at h y first.begun (length h) legal first.starts within)) stood in
     subst (λ all. Contains (snapshot y all) x) (take_all (length h) h (omega arith)) then

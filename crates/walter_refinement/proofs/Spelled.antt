@@ -53,7 +53,8 @@ pub record IsKept (owns : SiteId → List Held) (h : List Step) (r : Held) : Typ
   pub seen : Sees owns (λ k. entry_at r.tx.start k) (snapshot r.tx.tid h)
 
 -- an open transaction is as its session says
-pub record IsLive (owns : SiteId → List Held) (counts : SiteId → SiteId → ℕ) (h : List Step) (s : Session) : Type 0 where
+pub record IsLive (owns : SiteId → List Held) (counts : SiteId → SiteId → ℕ) (h : List Step)
+    (s : Session) : Type 0 where
   pub started : IsStarted s.tid h
   pub running : ¬ IsOver s.tid h
   pub same : own_updates s.tid h ≡ s.updates
@@ -66,7 +67,8 @@ IsDoneOrLive owns counts h s = IsCommitted s.tid h ⊎ IsLive owns counts h s
 
 -- the history is what the sites say: their own commits, what is committed where, the names they gave, the sessions they
 -- hold, and which of these have lost their commit
-pub record IsSpelledAt (owns : SiteId → List Held) (counts : SiteId → SiteId → ℕ) (numbers : SiteId → Issued) (sessions : Key → Option Session) (spent : Key → Type 0) (h : List Step) : Type 0 where
+pub record IsSpelledAt (owns : SiteId → List Held) (counts : SiteId → SiteId → ℕ) (numbers : SiteId → Issued)
+    (sessions : Key → Option Session) (spent : Key → Type 0) (h : List Step) : Type 0 where
   pub legal : IsLegal h
   -- the log of a site is what its committed vector sees
   pub logs : (i : SiteId) → Sees owns (counts i) (log i h)
@@ -107,13 +109,15 @@ pub sees_grow : (owns more : SiteId → List Held) (v : SiteId → ℕ) (xs : Li
     → ((k : SiteId) → IsPrefix (owns k) (more k)) → Sees owns v xs → Sees more v xs
 sees_grow owns more v xs grow h k =
     let l : v k ≤ length (owns k) = (h k).1 in
-    ((h k).0 ∙ ap (λ t. map tid_of t) (sym (prefix_take (owns k) (more k) (v k) (grow k) l)), let m = prefix_length (owns k) (more k) (grow k) in omega (arith, l, m))
+    ((h k).0 ∙ ap (λ t. map tid_of t) (sym (prefix_take (owns k) (more k) (v k) (grow k) l)), let m =
+        prefix_length (owns k) (more k) (grow k) in omega (arith, l, m))
 
 -- a transaction in a list stands among those of its site there, and the other way round
 pub in_by : (xs : List Tid) (y : Tid) → Contains xs y → (q : ℕ) × (slice_get (by y.site xs) q ≡ Some y)
 in_by xs y c =
     let p = place_of xs y c in
-    (length (by y.site (take p.0 xs)), place_filtered (λ (x : Tid). same_site x.site y.site) xs y p.0 p.1 (same_site_refl y.site))
+    (length (by y.site (take p.0 xs)), place_filtered (λ (x : Tid). same_site x.site y.site) xs y p.0 p.1
+        (same_site_refl y.site))
 
 pub by_in : (k : SiteId) (xs : List Tid) (y : Tid) (q : ℕ) → slice_get (by k xs) q ≡ Some y → Contains xs y
 by_in k xs y q h = let r = filter_place (λ (x : Tid). same_site x.site k) xs y q h in contains_at xs y r.0 r.1
@@ -134,7 +138,8 @@ seen_row owns v xs y h c =
     let m =
     map_place tid_of (take (v y.site) (owns y.site)) y q.0 (ap (λ t. slice_get t q.0) (sym (h y.site).0) ∙ q.1) in
     let l = slice_get-take_within (owns y.site) (v y.site) q.0 m.0 m.1 in
-    record { place = q.0; row = m.0; below = l; here = sym (slice_get-take (owns y.site) (v y.site) q.0 l) ∙ m.1; is = m.2 }
+    record { place = q.0; row = m.0; below = l; here = sym (slice_get-take (owns y.site) (v y.site) q.0 l) ∙ m.1; is =
+        m.2 }
 
 -- an own commit that the vector sees is in the list
 pub row_seen : (owns : SiteId → List Held) (v : SiteId → ℕ) (xs : List Tid) (k : SiteId) (q : ℕ) (r : Held)
@@ -150,16 +155,19 @@ kept_step owns h r step k none = record {
   started = started_kept r.tx.tid h (step ∷ []) k.started;
   same =
       committed_updates_snoc r.tx.tid h step
-      ∙ (ap (λ t. committed_updates h r.tx.tid ++ t) (given_none r.tx.tid step none) ∙ (append-nil (committed_updates h r.tx.tid) ∙ k.same));
+      ∙ (ap (λ t. committed_updates h r.tx.tid ++ t) (given_none r.tx.tid step none)
+      ∙ (append-nil (committed_updates h r.tx.tid) ∙ k.same));
   seen =
-      subst (λ t. Sees owns (λ j. entry_at r.tx.start j) t) (sym (snapshot_kept r.tx.tid h (step ∷ []) k.started)) k.seen;
+      subst (λ t. Sees owns (λ j. entry_at r.tx.start j) t)
+          (sym (snapshot_kept r.tx.tid h (step ∷ []) k.started)) k.seen;
 }
 
 -- so do commits that come
 pub kept_grow : (owns more : SiteId → List Held) (h : List Step) (r : Held)
     → ((k : SiteId) → IsPrefix (owns k) (more k)) → IsKept owns h r → IsKept more h r
 kept_grow owns more h r grow k =
-    record { started = k.started; same = k.same; seen = sees_grow owns more (λ j. entry_at r.tx.start j) (snapshot r.tx.tid h) grow k.seen }
+    record { started = k.started; same = k.same; seen = sees_grow owns more (λ j. entry_at r.tx.start j)
+        (snapshot r.tx.tid h) grow k.seen }
 
 -- a step does nothing for a transaction, nor ends it
 pub record IsAside (x : Tid) (step : Step) : Type 0 where
@@ -213,13 +221,15 @@ live_grow owns more counts higher h s grow rise l = record {
 }
 
 -- a transaction that is committed or open is so after a step that leaves it aside
-pub done_or_live_step : (owns : SiteId → List Held) (counts : SiteId → SiteId → ℕ) (h : List Step) (s : Session) (step : Step)
+pub done_or_live_step : (owns : SiteId → List Held) (counts : SiteId → SiteId → ℕ) (h : List Step) (s : Session)
+    (step : Step)
     → IsDoneOrLive owns counts h s → IsAside s.tid step → IsDoneOrLive owns counts (h ++ step ∷ []) s
 done_or_live_step owns counts h s step (inl committed) a = inl (committed_kept s.tid h (step ∷ []) committed)
 done_or_live_step owns counts h s step (inr l) a = inr (live_step owns counts h s step l a)
 
 -- after commits that come
-pub done_or_live_grow : (owns more : SiteId → List Held) (counts higher : SiteId → SiteId → ℕ) (h : List Step) (s : Session)
+pub done_or_live_grow : (owns more : SiteId → List Held) (counts higher : SiteId → SiteId → ℕ) (h : List Step)
+    (s : Session)
     → ((k : SiteId) → IsPrefix (owns k) (more k)) → ((i k : SiteId) → counts i k ≤ higher i k)
     → IsDoneOrLive owns counts h s → IsDoneOrLive more higher h s
 done_or_live_grow owns more counts higher h s grow rise (inl committed) = inl committed
@@ -243,7 +253,8 @@ pub log_quiet : (i : SiteId) (h : List Step) (step : Step) → logged i step ≡
 log_quiet i h step none = log_snoc i h step ∙ (ap (λ t. log i h ++ t) none ∙ append-nil (log i h))
 
 -- a log after a commit or an arrival is what the risen vector sees
-pub logs_step : (owns more : SiteId → List Held) (counts higher : SiteId → SiteId → ℕ) (h : List Step) (step : Step) (s : SiteId) (r : Held)
+pub logs_step : (owns more : SiteId → List Held) (counts higher : SiteId → SiteId → ℕ) (h : List Step) (step : Step)
+    (s : SiteId) (r : Held)
     → ((k : SiteId) → IsPrefix (owns k) (more k)) → IsCounted counts higher s r.tx.tid.site
     → slice_get (more r.tx.tid.site) (counts s r.tx.tid.site) ≡ Some r
     → ((i : SiteId) → logged i step ≡ (if same_site s i then r.tx.tid ∷ [] else []))
@@ -252,7 +263,8 @@ logs_step owns more counts higher h step s r grow c here says before i k =
     let old = sees_grow owns more (counts i) (log i h) grow (before i) k in
     let split : by k (log i (h ++ step ∷ [])) ≡ by k (log i h ++ (if same_site s i then r.tx.tid ∷ [] else [])) =
     ap (λ t. by k t) (log_snoc i h step ∙ ap (λ t. log i h ++ t) (says i)) in
-    let unmoved : by k (log i h ++ (if same_site s i then r.tx.tid ∷ [] else [])) ≡ by k (log i h) → higher i k ≡ counts i k
+    let unmoved : by k (log i h ++ (if same_site s i then r.tx.tid ∷ [] else [])) ≡ by k (log i h)
+        → higher i k ≡ counts i k
     → (by k (log i (h ++ step ∷ [])) ≡ map tid_of (take (higher i k) (more k))) × (higher i k ≤ length (more k)) =
     λ e f.
     (split ∙ (e ∙ (old.0 ∙ ap (λ n. map tid_of (take n (more k))) (sym f))), let l = old.1 in omega (arith, l, f)) in
@@ -262,7 +274,8 @@ logs_step owns more counts higher h step s r grow c here says before i k =
             | inl at_s ↦
                 elim (site_cases r.tx.tid.site k) [
                   | inl of_k ↦ absurd (same.0 at_s.1 of_k.1)
-                  | inr of_other ↦ unmoved (rw at_s.0 (filter_push_left (λ (x : Tid). same_site x.site k) (log i h) r.tx.tid of_other.0)) same.1
+                  | inr of_other ↦ unmoved (rw at_s.0
+                      (filter_push_left (λ (x : Tid). same_site x.site k) (log i h) r.tx.tid of_other.0)) same.1
                 ]
             | inr away ↦ unmoved (rw away.0 (ap (λ t. by k t) (append-nil (log i h)))) same.1
           ]
@@ -271,13 +284,17 @@ logs_step owns more counts higher h step s r grow c here says before i k =
           let ours : same_site r.tx.tid.site k ≡ true =
           subst (λ j. same_site r.tx.tid.site j ≡ true) one.1 (same_site_refl r.tx.tid.site) in
           let place : slice_get (more k) (counts i k) ≡ Some r =
-          subst (λ j. slice_get (more k) (counts j k) ≡ Some r) one.0 (subst (λ j. slice_get (more j) (counts s j) ≡ Some r) one.1 here) in
+          subst (λ j. slice_get (more k) (counts j k) ≡ Some r) one.0
+              (subst (λ j. slice_get (more j) (counts s j) ≡ Some r) one.1 here) in
           let taken : take (higher i k) (more k) ≡ take (counts i k) (more k) ++ r ∷ [] =
           ap (λ n. take n (more k)) one.2 ∙ take_push (more k) (counts i k) r place in
-          let pushed : by k (log i h ++ (if same_site s i then r.tx.tid ∷ [] else [])) ≡ by k (log i h) ++ r.tx.tid ∷ [] =
+          let pushed : by k (log i h ++ (if same_site s i then r.tx.tid ∷ [] else [])) ≡ by k (log i h)
+              ++ r.tx.tid ∷ [] =
           rw test (filter_push_kept (λ (x : Tid). same_site x.site k) (log i h) r.tx.tid ours) in (
             split
-                ∙ (pushed ∙ (ap (λ t. t ++ r.tx.tid ∷ []) old.0 ∙ (sym (map-append tid_of (take (counts i k) (more k)) (r ∷ [])) ∙ ap (λ t. map tid_of t) (sym taken)))),
+                ∙ (pushed ∙ (ap (λ t. t ++ r.tx.tid ∷ []) old.0
+                ∙ (sym (map-append tid_of (take (counts i k) (more k)) (r ∷ []))
+                ∙ ap (λ t. map tid_of t) (sym taken)))),
             let w = slice_get_within (more k) (counts i k) r place in omega (arith, w, one.2),
           )
     ]

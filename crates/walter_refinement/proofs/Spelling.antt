@@ -29,7 +29,8 @@ IsMute Memory = Unit {0}
 IsMute Down = Unit {0}
 IsMute RefusedThere = Unit {0}
 
-pub mute_spells : (i : SiteId) (S : Standing) (outcome : Outcome) (event : Event) → IsMute outcome → answered i S outcome event ≡ []
+pub mute_spells : (i : SiteId) (S : Standing) (outcome : Outcome) (event : Event) → IsMute outcome
+    → answered i S outcome event ≡ []
 mute_spells i S (Replied (Started tid)) (Given (Call client call)) mute = absurd mute
 mute_spells i S (Replied (Value value)) (Given (Call client call)) mute = absurd mute
 mute_spells i S (Replied Done) (Given (Call client call)) mute = absurd mute
@@ -69,7 +70,8 @@ still_spells W i (Some (SlowEnd n)) still = refl
 still_spells W i (Some (Marks durable visible)) still = refl
 
 -- where no record comes to be in flight, what is in flight is gone or was there
-pub flight_fewer : (wrote : Option Record) (outcome : Outcome) (old : Option Record) (s : Session) → in_flight (flight_after None wrote outcome old) ≡ Some s → in_flight old ≡ Some s
+pub flight_fewer : (wrote : Option Record) (outcome : Outcome) (old : Option Record) (s : Session)
+    → in_flight (flight_after None wrote outcome old) ≡ Some s → in_flight old ≡ Some s
 flight_fewer (Some rec) outcome old s is = absurd cc
 flight_fewer None (Replied reply) old s is = is
 flight_fewer None Taken old s is = is

@@ -21,20 +21,26 @@ use Rattle.walter_refinement.proofs.RunSpells.{run_spells}
 module _ (catalog : Catalog) (capacity : ℕ) (whole : IsWhole catalog) where
   run_legal : (run : List Named) → IsRun catalog capacity run → IsLegal (history catalog run)
   run_legal [] is = λ place step at. absurd cc
-  run_legal (n ∷ older) is = (run_spells catalog capacity (run_homes catalog capacity whole n older is) (n ∷ older) is).spelled.legal
+  run_legal (n ∷ older) is =
+      (run_spells catalog capacity (run_homes catalog capacity whole n older is) (n ∷ older) is).spelled.legal
 
-  pub trails_legal : (trails : List (List Entry)) → AreRightTrails catalog capacity trails → IsLegal (psi_of catalog (merge trails))
+  pub trails_legal : (trails : List (List Entry)) → AreRightTrails catalog capacity trails
+      → IsLegal (psi_of catalog (merge trails))
   trails_legal trails are = run_legal (reverse (merge trails)) (merged_run catalog capacity trails are)
 
   once_of : (run : List Named) → IsRun catalog capacity run → StandsOnce catalog run
   once_of [] is = record { once = λ i j place other seq number tx same here there tids. absurd cc }
   once_of (n ∷ older) is = run_once catalog capacity (run_homes catalog capacity whole n older is) (n ∷ older) is
 
-  pub trails_once : (trails : List (List Entry)) → AreRightTrails catalog capacity trails → StandsOnce catalog (reverse (merge trails))
+  pub trails_once : (trails : List (List Entry)) → AreRightTrails catalog capacity trails
+      → StandsOnce catalog (reverse (merge trails))
   trails_once trails are = once_of (reverse (merge trails)) (merged_run catalog capacity trails are)
 
-  pub trails_named : (trails : List (List Entry)) → AreRightTrails catalog capacity trails → (newer older : List Named) (n : Named) (cause : Cause)
-      → reverse (merge trails) ≡ newer ++ n ∷ older → n.1.came.outcome ≡ Replied (Aborted cause) → IsNamed catalog older n cause
+  pub trails_named : (trails : List (List Entry)) → AreRightTrails catalog capacity trails
+      → (newer older : List Named) (n : Named) (cause : Cause)
+      → reverse (merge trails) ≡ newer ++ n ∷ older → n.1.came.outcome ≡ Replied (Aborted cause)
+      → IsNamed catalog older n cause
   trails_named trails are newer older n cause is e =
-      let run = run_behind catalog capacity newer (n ∷ older) (subst (IsRun catalog capacity) is (merged_run catalog capacity trails are)) in
+      let run = run_behind catalog capacity newer (n ∷ older)
+          (subst (IsRun catalog capacity) is (merged_run catalog capacity trails are)) in
       run_named catalog capacity (run_homes catalog capacity whole n older run) older n cause run e

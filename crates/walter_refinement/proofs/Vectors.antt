@@ -25,10 +25,13 @@ twice : {X Y Z : Type 0} (g : Y → Z) (f : X → Y) (xs : List X) → map g (ma
 twice g f [] = refl
 twice g f (x ∷ xs) = ap (λ ys. g (f x) ∷ ys) (twice g f xs)
 
-pub vector_is : (catalog : Catalog) (i : SiteId) (S : Standing) → IsAlone catalog i S → i.0 < catalog.sites → (k : SiteId) → entry_at (vector_of catalog S.knows) k ≡ S.knows.committed k
+pub vector_is : (catalog : Catalog) (i : SiteId) (S : Standing) → IsAlone catalog i S → i.0 < catalog.sites
+    → (k : SiteId) → entry_at (vector_of catalog S.knows) k ≡ S.knows.committed k
 vector_is catalog i S A below k =
     let all = ap (λ v. slice_index v k.0) (twice S.knows.committed site_at (range_with_len 0 catalog.sites)) in
     elim (low_or k.0 catalog.sites) [
-      | inl low ↦ all ∙ (made_at (λ n. S.knows.committed (site_at n)) 0 catalog.sites k.0 low ∙ ap (λ n. S.knows.committed (site_at n)) (omega arith))
-      | inr past ↦ all ∙ (made_past (λ n. S.knows.committed (site_at n)) 0 catalog.sites k.0 past ∙ sym (A.outside k past).1)
+      | inl low ↦ all ∙ (made_at (λ n. S.knows.committed (site_at n)) 0 catalog.sites k.0 low
+          ∙ ap (λ n. S.knows.committed (site_at n)) (omega arith))
+      | inr past ↦ all ∙ (made_past (λ n. S.knows.committed (site_at n)) 0 catalog.sites k.0 past
+          ∙ sym (A.outside k past).1)
     ]

@@ -19,8 +19,9 @@ use Rattle.walter_rules.specs.Merges.{Named}
 use Rattle.walter_rules.specs.Sessions.{Session}
 use Rattle.walter_runs.specs.Runs.{stands}
 
--- At a site that knows this the transaction meets the conflict, over an object that it writes and that is preferred there: the
--- first version in the object's row that its snapshot doesn't see; or else, where it sees them all, the lock on the object.
+-- At a site that knows this the transaction meets the conflict, over an object that it writes and that is preferred
+-- there: the first version in the object's row that its snapshot doesn't see; or else, where it sees them all, the
+-- lock on the object.
 pub record IsMetAt (catalog : Catalog) (p : SiteId) (K : Knowledge) (s : Session) (conflict : Conflict) : Type 0 where
   pub oid : ObjId
   pub written : Contains (write_set s.updates) oid
@@ -28,7 +29,8 @@ pub record IsMetAt (catalog : Catalog) (p : SiteId) (K : Knowledge) (s : Session
   pub met : conflict_at K s.snapshot oid ≡ Some conflict
 
 -- another site met it, at a PREPARE of the transaction, and put out its NO
-pub record IsMetThere (catalog : Catalog) (older : List Named) (i : SiteId) (s : Session) (conflict : Conflict) : Type 0 where
+pub record IsMetThere (catalog : Catalog) (older : List Named) (i : SiteId) (s : Session)
+    (conflict : Conflict) : Type 0 where
   pub newer : List Named
   pub site : SiteId
   pub entry : Entry
@@ -48,7 +50,8 @@ pub record IsConflictNamed (catalog : Catalog) (older : List Named) (n : Named) 
   pub has : session_of (stands catalog older n.0).knows client ≡ Some session
   pub conflict : Conflict
   pub is : cause ≡ cause_of conflict
-  pub met : IsMetAt catalog n.0 (stands catalog older n.0).knows session conflict ⊎ IsMetThere catalog older n.0 session conflict
+  pub met : IsMetAt catalog n.0 (stands catalog older n.0).knows session conflict
+      ⊎ IsMetThere catalog older n.0 session conflict
 
 -- an abort was asked for, or its conflict is named
 abbrev pub IsNamed : Catalog → List Named → Named → Cause → Type 0

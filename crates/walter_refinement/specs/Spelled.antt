@@ -38,8 +38,8 @@ abbrev pub arrived : SiteId → Option Tx → List Step
 arrived i None = []
 arrived i (Some tx) = Arrive tx.tid i ∷ []
 
--- the step of a record of a site: its own commit commits, and another's that is seen arrives. Which one that is its own site
--- tells.
+-- the step of a record of a site: its own commit commits, and another's that is seen arrives. Which one that is its
+-- own site tells.
 abbrev pub recorded : (SiteId → Standing) → SiteId → Option Record → List Step
 recorded W i None = []
 recorded W i (Some (Own seq tx)) = Commit tx.tid tx.updates ∷ []

@@ -13,20 +13,24 @@ ghost use Rattle.walter_runs.specs.Runs.{AreRightTrails};
 use walter_base::Reply;
 use walter_rules::Outcome;
 
-/// The history that right and linked trails spell is one that parallel snapshot isolation allows, whatever packets are lost,
-/// repeated or reordered, and wherever sites stop, in a write or between.
+/// The history that right and linked trails spell is one that parallel snapshot isolation allows, whatever packets
+/// are lost, repeated or reordered, and wherever sites stop, in a write or between.
 pub fn trails_spell_legal()
-    ensures { (catalog : Catalog) (capacity : ℕ) (trails : List (List Entry)) → IsWhole catalog → AreRightTrails catalog capacity trails → IsLegal (psi_of catalog (merge trails)) }
+    ensures { (catalog : Catalog) (capacity : ℕ) (trails : List (List Entry)) → IsWhole catalog
+        → AreRightTrails catalog capacity trails → IsLegal (psi_of catalog (merge trails)) }
 {}
 
 /// No transaction commits twice, at one site or at two.
 pub fn commits_stand_once()
-    ensures { (catalog : Catalog) (capacity : ℕ) (trails : List (List Entry)) → IsWhole catalog → AreRightTrails catalog capacity trails → StandsOnce catalog (reverse (merge trails)) }
+    ensures { (catalog : Catalog) (capacity : ℕ) (trails : List (List Entry)) → IsWhole catalog
+        → AreRightTrails catalog capacity trails → StandsOnce catalog (reverse (merge trails)) }
 {}
 
-/// Each abort was asked for, or its conflict was met: where the commit was asked for, or earlier at a site that its slow commit
-/// asked, and that said NO over it.
+/// Each abort was asked for, or its conflict was met: where the commit was asked for, or earlier at a site that its
+/// slow commit asked, and that said NO over it.
 pub fn aborts_are_named()
-    ensures { (catalog : Catalog) (capacity : ℕ) (trails : List (List Entry)) → IsWhole catalog → AreRightTrails catalog capacity trails
-        → (newer older : List Named) (n : Named) (cause : Cause) → reverse (merge trails) ≡ newer ++ n ∷ older → n.1.came.outcome ≡ Outcome.Replied (Reply.Aborted cause) → IsNamed catalog older n cause }
+    ensures { (catalog : Catalog) (capacity : ℕ) (trails : List (List Entry)) → IsWhole catalog
+        → AreRightTrails catalog capacity trails
+        → (newer older : List Named) (n : Named) (cause : Cause) → reverse (merge trails) ≡ newer ++ n ∷ older
+        → n.1.came.outcome ≡ Outcome.Replied (Reply.Aborted cause) → IsNamed catalog older n cause }
 {}

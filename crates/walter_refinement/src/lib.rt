@@ -1,5 +1,5 @@
-//! Every run of right and linked trails spells a legal history, in which no transaction commits twice and each abort has its
-//! cause.
+//! Every run of right and linked trails spells a legal history, in which no transaction commits twice and each abort
+//! has its cause.
 #![tactic(auto)]
 
 mod laws;

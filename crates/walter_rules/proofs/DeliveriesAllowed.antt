@@ -1,5 +1,5 @@
--- What the rule says of a packet of another site, and of its next commit, is of one of the kinds, and what it puts out is
--- so, and in order.
+-- What the rule says of a packet of another site, and of its next commit, is of one of the kinds, and what it puts
+-- out is so, and in order.
 use Rattle.std.proofs.Common.{◌≡◌, ◌≢◌, ℕ, ◌+◌, ◌-◌, ◌<◌, ◌≤◌, min, max, Bool, true, false, not, ◌&&◌, nat_le, nat_lt, List, [], ◌∷◌, Option, Some, None, refl, sym, ◌∙◌, arith}
 use Rattle.std.specs.Prelude.{Contains}
 use Rattle.std.specs.List.{list_all}
@@ -66,7 +66,8 @@ module _ (catalog : Catalog) (i : SiteId) (S : Standing) where
   -- one packet goes back
   answering : (event : Event) (j : SiteId) (packet : Packet) → IsTrueOf catalog i S.knows event S.knows j packet
       → Allows catalog i S event (passes (back j packet))
-  answering event j packet so = passing event (back j packet) (one_sent catalog i S.knows event S.knows j packet so) (one_in_order (j, packet))
+  answering event j packet so = passing event (back j packet) (one_sent catalog i S.knows event S.knows j packet so)
+      (one_in_order (j, packet))
 
   -- with a record, or without one
   recording : (event : Event) (wrote : Option Record) (j : SiteId) (packet : Packet)
@@ -74,7 +75,8 @@ module _ (catalog : Catalog) (i : SiteId) (S : Standing) where
       → IsTrueOf catalog i S.knows event (after catalog i S.knows event Taken wrote) j packet
       → Allows catalog i S event (takes wrote (back j packet))
   recording event wrote j packet kind so = (
-    record { kind = kind; sent = one_sent catalog i S.knows event (after catalog i S.knows event Taken wrote) j packet so },
+    record { kind = kind; sent =
+        one_sent catalog i S.knows event (after catalog i S.knows event Taken wrote) j packet so },
     one_in_order (j, packet),
   )
 
@@ -85,11 +87,13 @@ module _ (catalog : Catalog) (i : SiteId) (S : Standing) where
     received seq tx true is =
         let next = accepted catalog S.knows j seq tx is in
         let number_is : seq ≡ S.knows.got j + 1 = next.next in
-        recording (Given (Deliver j number (Propagate seq tx))) (Some (Got j seq tx)) j (Ack seq) (IsKind.receives j number seq tx peer next)
+        recording (Given (Deliver j number (Propagate seq tx))) (Some (Got j seq tx)) j (Ack seq)
+            (IsKind.receives j number seq tx peer next)
         (rw (same_site_refl j) (omega (arith, number_is)))
     received seq tx false is =
         let event : Event = Given (Deliver j number (Propagate seq tx)) in
-        cond_both (nat_le seq (S.knows.got j)) (back j (Ack (S.knows.got j))) [] (λ sends. Allows catalog i S event (passes sends))
+        cond_both (nat_le seq (S.knows.got j)) (back j (Ack (S.knows.got j))) []
+            (λ sends. Allows catalog i S event (passes sends))
         (λ old. answering event j (Ack (S.knows.got j)) (omega arith)) (λ early. passing_quietly event)
 
     -- an ACK that is news
@@ -110,15 +114,18 @@ module _ (catalog : Catalog) (i : SiteId) (S : Standing) where
       above_window : (seq : ℕ) → Contains (into_window i K (S.knows.acknowledged j) (K.acknowledged j)) seq → 0 < seq
       above_window seq within =
           let first : ℕ = max (K.acknowledged j) (S.knows.acknowledged j + window) + 1 in
-          let least : first ≤ seq = range_from first (min (K.committed i) (K.acknowledged j + window) + 1 - first) seq within in
+          let least : first ≤ seq =
+              range_from first (min (K.committed i) (K.acknowledged j + window) + 1 - first) seq within in
           let above : 1 ≤ first = omega arith in
           omega (arith, least, above)
 
       -- what is put out is so by what is known after the event, where that has the same log and the mark that rose
       window_sent : (L : Knowledge) → K.log ≡ L.log
-          → (durable_mark catalog i S.knows < durable_mark catalog i K → durable_mark catalog i K ≡ durable_mark catalog i L)
+          → (durable_mark catalog i S.knows < durable_mark catalog i K
+          → durable_mark catalog i K ≡ durable_mark catalog i L)
           → AreTrue catalog i S.knows acked L acked_sends
-      window_sent L same mark = each_sent catalog i S.knows acked L (peers catalog i) (acknowledged_to catalog i S.knows K j) (λ k within.
+      window_sent L same mark = each_sent catalog i S.knows acked L (peers catalog i)
+          (acknowledged_to catalog i S.knows K j) (λ k within.
           let numbers : List ℕ = into_window i K (S.knows.acknowledged j) (K.acknowledged j) in
           both_to catalog i S.knows acked L k _ _
           (where_to catalog i S.knows acked L k (same_site j k) (propagates i K numbers) (λ here.
@@ -128,17 +135,21 @@ module _ (catalog : Catalog) (i : SiteId) (S : Standing) where
       -- where the durable mark rose it is recorded, and it is what the DSMARK says
       acked_by : (rose : Bool) → nat_lt (durable_mark catalog i S.knows) (durable_mark catalog i K) ≡ rose
           → got ≤ S.knows.committed i
-          → Allows catalog i S acked (takes (if_marks rose (durable_mark catalog i K) (visible_mark catalog i K)) acked_sends)
+          → Allows catalog i S acked
+          (takes (if_marks rose (durable_mark catalog i K) (visible_mark catalog i K)) acked_sends)
       acked_by true rose few = (
         record {
-          kind = IsKind.marks_durable j number got K peer few refl (ltb-true (durable_mark catalog i S.knows) (durable_mark catalog i K) rose);
-          sent = window_sent (after catalog i S.knows acked Taken (Some (Marks (durable_mark catalog i K) (visible_mark catalog i K)))) refl (λ less.
+          kind = IsKind.marks_durable j number got K peer few refl
+              (ltb-true (durable_mark catalog i S.knows) (durable_mark catalog i K) rose);
+          sent = window_sent (after catalog i S.knows acked Taken
+              (Some (Marks (durable_mark catalog i K) (visible_mark catalog i K)))) refl (λ less.
               mark_stays K.durable_floor _);
         },
         acknowledged_in_order catalog i S.knows K j,
       )
       acked_by false level few = (
-        record { kind = IsKind.hears_ack j number got peer few; sent = window_sent (after catalog i S.knows acked Taken None) refl (λ less. refl) },
+        record { kind = IsKind.hears_ack j number got peer few; sent =
+            window_sent (after catalog i S.knows acked Taken None) refl (λ less. refl) },
         acknowledged_in_order catalog i S.knows K j,
       )
 
@@ -147,7 +158,8 @@ module _ (catalog : Catalog) (i : SiteId) (S : Standing) where
           → Allows catalog i S acked (if_acknowledged test catalog i S.knows j got)
       acknowledged_by true is =
           let parts = and_parts (nat_le got (S.knows.committed i)) (nat_lt (S.knows.acknowledged j) got) is in
-          acked_by (nat_lt (durable_mark catalog i S.knows) (durable_mark catalog i K)) refl (leb-true got (S.knows.committed i) parts.0)
+          acked_by (nat_lt (durable_mark catalog i S.knows) (durable_mark catalog i K)) refl
+              (leb-true got (S.knows.committed i) parts.0)
       acknowledged_by false is = passing_quietly acked
 
     -- a VISIBLE that is news
@@ -164,8 +176,10 @@ module _ (catalog : Catalog) (i : SiteId) (S : Standing) where
       seen_by : (rose : Bool) → nat_lt (visible_mark catalog i S.knows) (visible_mark catalog i L) ≡ rose
           → committed ≤ S.knows.committed i
           → Allows catalog i S seen (takes (if_marks rose (durable_mark catalog i L) (visible_mark catalog i L)) [])
-      seen_by true rose few = quiet catalog i S seen (Some (Marks (durable_mark catalog i L) (visible_mark catalog i L))) Taken
-          (IsKind.marks_visible j number committed L peer few refl (ltb-true (visible_mark catalog i S.knows) (visible_mark catalog i L) rose))
+      seen_by true rose few = quiet catalog i S seen
+          (Some (Marks (durable_mark catalog i L) (visible_mark catalog i L))) Taken
+          (IsKind.marks_visible j number committed L peer few refl
+              (ltb-true (visible_mark catalog i S.knows) (visible_mark catalog i L) rose))
       seen_by false level few = quiet catalog i S seen None Taken (IsKind.hears_visible j number committed peer few)
 
       -- a VISIBLE that isn't news does nothing
@@ -173,7 +187,8 @@ module _ (catalog : Catalog) (i : SiteId) (S : Standing) where
           → Allows catalog i S seen (if_shown test catalog i S.knows j committed)
       shown_by true is =
           let parts = and_parts (nat_le committed (S.knows.committed i)) (nat_lt (S.knows.visible j) committed) is in
-          seen_by (nat_lt (visible_mark catalog i S.knows) (visible_mark catalog i L)) refl (leb-true committed (S.knows.committed i) parts.0)
+          seen_by (nat_lt (visible_mark catalog i S.knows) (visible_mark catalog i L)) refl
+              (leb-true committed (S.knows.committed i) parts.0)
       shown_by false is = passing_quietly seen
 
     -- where a number is greater than what was said before
@@ -188,20 +203,25 @@ module _ (catalog : Catalog) (i : SiteId) (S : Standing) where
       asked_lock = Given (Deliver j number (Prepare n tid start objects))
 
       -- a NO over what was met
-      refusal_true : (conflict : Conflict) → S.knows.part j n ≡ Free → first_conflict S.knows start objects ≡ Some conflict
+      refusal_true : (conflict : Conflict) → S.knows.part j n ≡ Free
+          → first_conflict S.knows start objects ≡ Some conflict
           → IsTrueOf catalog i S.knows asked_lock S.knows j (Vote n (No conflict))
-      refusal_true (Modified oid version) free met = record { free = free; number = number; tid = tid; start = start; objects = objects; came = refl; met = met }
-      refusal_true (LockedThere oid owner) free met = record { free = free; number = number; tid = tid; start = start; objects = objects; came = refl; met = met }
+      refusal_true (Modified oid version) free met = record { free = free; number = number; tid = tid; start =
+          start; objects = objects; came = refl; met = met }
+      refusal_true (LockedThere oid owner) free met = record { free = free; number = number; tid = tid; start =
+          start; objects = objects; came = refl; met = met }
       refusal_true Dead free met = absurd (first_alive S.knows start objects Dead met refl)
 
       -- a YES with the lock, or a NO
       free_by : are_lockable catalog S.knows i objects ≡ true → S.knows.part j n ≡ Free → (conflict : Option Conflict)
           → first_conflict S.knows start objects ≡ conflict
           → Allows catalog i S asked_lock (prepares j n tid objects conflict)
-      free_by regular free (Some conflict) met = answering asked_lock j (Vote n (No conflict)) (refusal_true conflict free met)
+      free_by regular free (Some conflict) met = answering asked_lock j (Vote n (No conflict))
+          (refusal_true conflict free met)
       free_by regular free None none =
           recording asked_lock (Some (Prepared j n tid objects)) j (Vote n Yes)
-          (IsKind.prepares j number n tid start objects peer free (lockable catalog i S.knows start objects regular none))
+          (IsKind.prepares j number n tid start objects peer free
+              (lockable catalog i S.knows start objects regular none))
           (tid, objects, rw (same_site_refl j, eq-eqb n n refl) refl)
 
       -- by what there is of the slow commit here
@@ -217,7 +237,8 @@ module _ (catalog : Catalog) (i : SiteId) (S : Standing) where
       lockable_by true is = prepared_by is (S.knows.part j n) refl
       lockable_by false is = passing_quietly asked_lock
 
-    module _ (n : ℕ) (tx : Tx) (asked : List SiteId) (undecided : S.knows.slow n ≡ Undecided tx asked) (is_asked : Contains asked j) where
+    module _ (n : ℕ) (tx : Tx) (asked : List SiteId) (undecided : S.knows.slow n ≡ Undecided tx asked)
+        (is_asked : Contains asked j) where
       -- a YES as an event
       abbrev said_yes : Event
       said_yes = Given (Deliver j number (Vote n Yes))
@@ -227,13 +248,17 @@ module _ (catalog : Catalog) (i : SiteId) (S : Standing) where
           → Allows catalog i S said_yes (commits_if_all catalog i S.knows tx test)
       all_by true all = (
         record {
-          kind = IsKind.decides j number n tx asked peer undecided is_asked (all_said asked (j ∷ S.knows.said_yes n) all);
-          sent = own_sent catalog i S.knows said_yes (after catalog i S.knows said_yes Taken (Some (Own (next_seq i S.knows) tx)))
-              S.knows (recorded catalog i (Some (Own (next_seq i S.knows) tx)) S.knows) refl (rw (same_site_refl i) (omega arith)) refl;
+          kind = IsKind.decides j number n tx asked peer undecided is_asked
+              (all_said asked (j ∷ S.knows.said_yes n) all);
+          sent = own_sent catalog i S.knows said_yes
+              (after catalog i S.knows said_yes Taken (Some (Own (next_seq i S.knows) tx)))
+              S.knows (recorded catalog i (Some (Own (next_seq i S.knows) tx)) S.knows) refl
+                  (rw (same_site_refl i) (omega arith)) refl;
         },
         own_in_order catalog i S.knows (recorded catalog i (Some (Own (next_seq i S.knows) tx)) S.knows),
       )
-      all_by false some = quiet catalog i S said_yes None Taken (IsKind.hears_yes j number n tx asked peer undecided is_asked)
+      all_by false some = quiet catalog i S said_yes None Taken
+          (IsKind.hears_yes j number n tx asked peer undecided is_asked)
 
       -- a YES counts once
       missing_by : (test : Bool) → Allows catalog i S said_yes (if_missing test catalog i S.knows j n tx asked)
@@ -266,7 +291,8 @@ module _ (catalog : Catalog) (i : SiteId) (S : Standing) where
     -- a vote of another site does nothing
     asked_by : (n : ℕ) (tx : Tx) (asked : List SiteId) (answer : Answer) → S.knows.slow n ≡ Undecided tx asked
         → (test : Bool) → has_site j asked ≡ test
-        → Allows catalog i S (Given (Deliver j number (Vote n answer))) (if_asked test catalog i S.knows j n tx asked answer)
+        → Allows catalog i S (Given (Deliver j number (Vote n answer)))
+        (if_asked test catalog i S.knows j n tx asked answer)
     asked_by n tx asked answer undecided true is = votes_allowed n tx asked undecided (has_site_true j asked is) answer
     asked_by n tx asked answer undecided false is = passing_quietly (Given (Deliver j number (Vote n answer)))
 
@@ -280,9 +306,11 @@ module _ (catalog : Catalog) (i : SiteId) (S : Standing) where
 
     -- what there is of a slow commit here goes with its RELEASE
     going : (n : ℕ) → S.knows.part j n ≢ Over
-        → Allows catalog i S (Given (Deliver j number (Release n))) (takes (Some (Released j n)) (back j (ReleasedSaid n)))
+        → Allows catalog i S (Given (Deliver j number (Release n)))
+        (takes (Some (Released j n)) (back j (ReleasedSaid n)))
     going n here =
-        recording (Given (Deliver j number (Release n))) (Some (Released j n)) j (ReleasedSaid n) (IsKind.releases j number n peer here)
+        recording (Given (Deliver j number (Release n))) (Some (Released j n)) j (ReleasedSaid n)
+            (IsKind.releases j number n peer here)
         (rw (same_site_refl j, eq-eqb n n refl) refl)
 
     -- a RELEASE is confirmed
@@ -296,7 +324,8 @@ module _ (catalog : Catalog) (i : SiteId) (S : Standing) where
     confirmed : (n : ℕ) (slow : Slow)
         → Allows catalog i S (Given (Deliver j number (ReleasedSaid n))) (confirms S.knows j n slow)
     confirmed n (Dropped tx asked) =
-        greater (Given (Deliver j number (ReleasedSaid n))) (has_site j asked && not (has_site j (S.knows.said_released n))) (IsKind.hears_released j number n peer)
+        greater (Given (Deliver j number (ReleasedSaid n)))
+            (has_site j asked && not (has_site j (S.knows.said_released n))) (IsKind.hears_released j number n peer)
     confirmed n Unused = passing_quietly (Given (Deliver j number (ReleasedSaid n)))
     confirmed n (Undecided tx asked) = passing_quietly (Given (Deliver j number (ReleasedSaid n)))
     confirmed n (Decided tx) = passing_quietly (Given (Deliver j number (ReleasedSaid n)))
@@ -307,9 +336,11 @@ module _ (catalog : Catalog) (i : SiteId) (S : Standing) where
     packet_allowed (Propagate seq tx) = received seq tx (accepts catalog S.knows j seq tx) refl
     packet_allowed (Ack got) = acknowledged_by got (is_news i S.knows (S.knows.acknowledged j) got) refl
     packet_allowed (Dsmark durable) =
-        greater (Given (Deliver j number (Dsmark durable))) (nat_lt (S.knows.durable j) durable) (IsKind.hears_durable j number durable peer)
+        greater (Given (Deliver j number (Dsmark durable))) (nat_lt (S.knows.durable j) durable)
+            (IsKind.hears_durable j number durable peer)
     packet_allowed (Visible committed) = shown_by committed (is_news i S.knows (S.knows.visible j) committed) refl
-    packet_allowed (Prepare n tid start objects) = lockable_by n tid start objects (are_lockable catalog S.knows i objects) refl
+    packet_allowed (Prepare n tid start objects) =
+        lockable_by n tid start objects (are_lockable catalog S.knows i objects) refl
     packet_allowed (Vote n answer) = voted n answer (S.knows.slow n) refl
     packet_allowed (Release n) = released n (S.knows.part j n) refl
     packet_allowed (ReleasedSaid n) = confirmed n (S.knows.slow n)

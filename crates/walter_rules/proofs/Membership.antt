@@ -50,7 +50,8 @@ module _ {X : Type 0} where
 
   -- what passes is kept
   pub is_kept : (p : X → Bool) (xs : List X) (x : X) → Contains xs x → p x ≡ true → Contains (filter p xs) x
-  is_kept p xs x within passes = All-contains (λ y. p y ≡ true → Contains (filter p xs) y) xs x (All-Contains_filter p xs) within passes
+  is_kept p xs x within passes = All-contains (λ y. p y ≡ true → Contains (filter p xs) y) xs x
+      (All-Contains_filter p xs) within passes
 
 -- what stands behind a value that may be none is that value, or stands there already
 behind_option : {Y : Type 0} (o : Option Y) (ys : List Y) (y : Y) → Contains (cons_option o ys) y

@@ -52,7 +52,8 @@ peer_true catalog i j is =
 pub covers_true : (counts : SiteId → ℕ) (snapshot : List ℕ) → covers counts snapshot ≡ true → Covers counts snapshot
 covers_true counts snapshot all k = elim (cases_lt k.0 (length snapshot)) [
   | inl within ↦ leb-true (slice_index snapshot k.0) (counts (site_at k.0))
-      (each_passes (λ n. nat_le (slice_index snapshot n) (counts (site_at n))) (range_with_len 0 (length snapshot)) k.0 all
+      (each_passes (λ n. nat_le (slice_index snapshot n) (counts (site_at n)))
+          (range_with_len 0 (length snapshot)) k.0 all
       (in_range 0 (length snapshot) k.0 (omega arith) (omega arith)))
   | inr past ↦ let none : slice_index snapshot k.0 ≡ 0 = get_or_past snapshot k.0 0 past in omega (arith, none)
 ]
@@ -73,7 +74,8 @@ all_said asked said all k within = has_site_true k said (each_passes (λ s. has_
 pub kind_of : (catalog : Catalog) (kind : Kind) (oid : ObjId) (container : Container)
     → get catalog.containers oid.container ≡ Some container
     → same_kind container.kind kind ≡ true → is_of_kind catalog kind oid ≡ true
-kind_of catalog kind oid container is same = ap (λ o. option_map_or (λ (c : Container). same_kind c.kind kind) o false) is ∙ same
+kind_of catalog kind oid container is same =
+    ap (λ o. option_map_or (λ (c : Container). same_kind c.kind kind) o false) is ∙ same
 
 module _ (K : Knowledge) (snapshot : List ℕ) where
   -- where there is no first conflict, no object of the list meets one
@@ -90,7 +92,8 @@ module _ (K : Knowledge) (snapshot : List ℕ) where
   pub clear_there : (catalog : Catalog) (i : SiteId) (updates : List Update)
       → first_conflict K snapshot (objects_at catalog K i updates) ≡ None
       → AreClear catalog i K snapshot updates
-  clear_there catalog i updates none oid within here = none_meets (objects_at catalog K i updates) none oid (in_objects_at catalog K i updates oid within here)
+  clear_there catalog i updates none oid within here = none_meets (objects_at catalog K i updates) none oid
+      (in_objects_at catalog K i updates oid within here)
 
 -- what is met on an object is a version or a lock
 alive_over : (oid : ObjId) (version : Option Version) (owner : Option Tid) (conflict : Conflict)
@@ -113,8 +116,10 @@ pub lockable : (catalog : Catalog) (i : SiteId) (K : Knowledge) (start : List �
     → first_conflict K start objects ≡ None → AreLockable catalog i K start objects
 lockable catalog i K start objects regular none = record {
   here = λ oid within.
-      let passes = each_passes (λ o. is_of_kind catalog Regular o && same_site (preferred catalog K o) i) objects oid regular within in
-      same_site-true (preferred catalog K oid) i (and_parts (is_of_kind catalog Regular oid) (same_site (preferred catalog K oid) i) passes).1;
+      let passes = each_passes (λ o. is_of_kind catalog Regular o && same_site
+          (preferred catalog K o) i) objects oid regular within in
+      same_site-true (preferred catalog K oid) i
+          (and_parts (is_of_kind catalog Regular oid) (same_site (preferred catalog K oid) i) passes).1;
   regular = regular;
   clear = none_meets K start objects none;
 }

@@ -1,5 +1,5 @@
--- What the rule says of an event is of one of the kinds; each packet that is to be put out says what is so, and the packets
--- are in order.
+-- What the rule says of an event is of one of the kinds; each packet that is to be put out says what is so, and the
+-- packets are in order.
 use Rattle.std.proofs.Common.{◌≡◌, ◌+◌, Bool, true, false, None, Some, refl}
 use Rattle.walter_base.specs.declared.catalog.Catalog.{Catalog}
 use Rattle.walter_base.specs.declared.message.Record.TheVariants.{Boot}
@@ -28,11 +28,13 @@ module _ (catalog : Catalog) (i : SiteId) (S : Standing) where
   -- what is given to a site that is up
   given_allowed : S.up ≡ true → (input : Input) → Allows catalog i S (Given input) (given_rule catalog i S input)
   given_allowed up (Call client call) =
-      told_allowed catalog i S client call (S.gone client) (call_rule catalog i S.knows call (session_of S.knows client))
+      told_allowed catalog i S client call (S.gone client)
+          (call_rule catalog i S.knows call (session_of S.knows client))
       (call_allowed catalog i S up client call (session_of S.knows client) refl)
   given_allowed up (Deliver from number packet) = deliver_allowed catalog i S up from number packet
   given_allowed up (Advance from) = advance_allowed catalog i S up from
-  given_allowed up Tick = passing catalog i S (Given Tick) (to_each (peers catalog i) (said_again catalog i S.knows)) (again_sent catalog i (Given Tick) S.knows)
+  given_allowed up Tick = passing catalog i S (Given Tick) (to_each (peers catalog i) (said_again catalog i S.knows))
+      (again_sent catalog i (Given Tick) S.knows)
       (again_in_order catalog i S.knows)
 
   -- what is given to one that is down

@@ -28,7 +28,8 @@ propagated seq (Some tx) packet is = (tx, refl, cc)
 module _ (catalog : Catalog) (i : SiteId) (before : Knowledge) (event : Event) (K : Knowledge) where
   -- each packet that is put out says what is so
   abbrev pub AreTrue : List Send → Type 0
-  AreTrue sends = (to : SiteId) (packet : Packet) → Contains sends (to, packet) → IsTrueOf catalog i before event K to packet
+  AreTrue sends = (to : SiteId) (packet : Packet) → Contains sends (to, packet)
+      → IsTrueOf catalog i before event K to packet
 
   -- the packets to one site
   abbrev pub AreTrueTo : SiteId → List Packet → Type 0
@@ -61,7 +62,8 @@ module _ (catalog : Catalog) (i : SiteId) (before : Knowledge) (event : Event) (
   -- where there is one that is so
   pub one_to : (to : SiteId) (packet : Packet) → IsTrueOf catalog i before event K to packet
       → AreTrueTo to (packet ∷ [])
-  one_to to packet so other within = subst (λ p. IsTrueOf catalog i before event K to p) (Contains-one packet other within) so
+  one_to to packet so other within = subst (λ p. IsTrueOf catalog i before event K to p)
+      (Contains-one packet other within) so
 
   -- where there are some that are so, followed by others that are
   pub both_to : (to : SiteId) (first second : List Packet) → AreTrueTo to first → AreTrueTo to second
@@ -81,14 +83,17 @@ module _ (catalog : Catalog) (i : SiteId) (before : Knowledge) (event : Event) (
       → ((seq : ℕ) → Contains numbers seq → 0 < seq)
       → AreTrueTo to (propagates i L numbers)
   propagates_to to L numbers same above packet within =
-      let from = given_from (λ seq. option_map (λ tx. Propagate seq tx) (commit_at i seq L.log)) numbers packet within in
+      let from = given_from (λ seq. option_map (λ tx. Propagate seq tx)
+          (commit_at i seq L.log)) numbers packet within in
       let one = propagated from.0 (commit_at i from.0 L.log) packet from.2 in
-      subst (λ p. IsTrueOf catalog i before event K to p) one.2 (above from.0 from.1, ap (λ log. commit_at i from.0 log) (sym same) ∙ one.1)
+      subst (λ p. IsTrueOf catalog i before event K to p) one.2
+          (above from.0 from.1, ap (λ log. commit_at i from.0 log) (sym same) ∙ one.1)
 
   -- a durable mark that rose to what it is now
   pub risen_to : (to : SiteId) (was now : ℕ) → (was < now → now ≡ durable_mark catalog i K)
       → AreTrueTo to (if_risen was now)
-  risen_to to was now is = where_to to (nat_lt was now) (Dsmark now ∷ []) (λ less. one_to to (Dsmark now) (is (ltb-true was now less)))
+  risen_to to was now is = where_to to (nat_lt was now) (Dsmark now ∷ [])
+      (λ less. one_to to (Dsmark now) (is (ltb-true was now less)))
 
   -- a packet of a number above 0
   pub some_to : (to : SiteId) (number : ℕ) (packet : Packet) → IsTrueOf catalog i before event K to packet
@@ -102,7 +107,8 @@ module _ (catalog : Catalog) (i : SiteId) (before : Knowledge) (event : Event) (
   own_sent was L same above mark = each_sent (peers catalog i) (own_to catalog i was L) (λ k within.
       both_to k _ _
       (where_to k (nat_le (L.committed i) (L.acknowledged k + window)) (propagates i L (L.committed i ∷ [])) (λ near.
-      propagates_to k L (L.committed i ∷ []) same (λ seq one. subst (λ n. 0 < n) (Contains-one (L.committed i) seq one) above)))
+      propagates_to k L (L.committed i ∷ []) same
+          (λ seq one. subst (λ n. 0 < n) (Contains-one (L.committed i) seq one) above)))
       (risen_to k (durable_mark catalog i was) (durable_mark catalog i L) (λ rose. mark)))
 
 -- what is said again at a tick, by what the site knows
@@ -111,7 +117,8 @@ module _ (catalog : Catalog) (i : SiteId) (event : Event) (K : Knowledge) where
   waits_true : (to : SiteId) (n : ℕ) (s : Slow) → K.slow n ≡ s
       → AreTrueTo catalog i K event K to (prepare_if_waits catalog K to n s)
   waits_true to n (Undecided tx asked) is =
-      where_to catalog i K event K to (has_site to asked && not (has_site to (K.said_yes n))) (prepare_of catalog K n tx to ∷ []) (λ waits.
+      where_to catalog i K event K to (has_site to asked && not (has_site to (K.said_yes n)))
+          (prepare_of catalog K n tx to ∷ []) (λ waits.
       one_to catalog i K event K to (prepare_of catalog K n tx to) (tx, asked, is, refl, refl, refl))
   waits_true to n Unused is = nothing_to catalog i K event K to
   waits_true to n (Dropped tx asked) is = nothing_to catalog i K event K to
@@ -121,7 +128,8 @@ module _ (catalog : Catalog) (i : SiteId) (event : Event) (K : Knowledge) where
   owed_true : (to : SiteId) (n : ℕ) (s : Slow) → K.slow n ≡ s
       → AreTrueTo catalog i K event K to (release_if_owed K to n s)
   owed_true to n (Dropped tx asked) is =
-      where_to catalog i K event K to (has_site to asked && not (has_site to (K.said_released n))) (Release n ∷ []) (λ owed.
+      where_to catalog i K event K to (has_site to asked && not (has_site to (K.said_released n))) (Release n ∷ [])
+          (λ owed.
       one_to catalog i K event K to (Release n) (tx, asked, is))
   owed_true to n Unused is = nothing_to catalog i K event K to
   owed_true to n (Undecided tx asked) is = nothing_to catalog i K event K to
@@ -144,7 +152,8 @@ module _ (catalog : Catalog) (i : SiteId) (event : Event) (K : Knowledge) where
   -- the numbers of the window are above 0
   window_above : (to : SiteId) (seq : ℕ) → Contains (in_window i K to) seq → 0 < seq
   window_above to seq within =
-      let least = range_from (K.acknowledged to + 1) (min (K.committed i) (K.acknowledged to + window) + 1 - (K.acknowledged to + 1)) seq within in
+      let least = range_from (K.acknowledged to + 1)
+          (min (K.committed i) (K.acknowledged to + window) + 1 - (K.acknowledged to + 1)) seq within in
       omega (arith, least)
 
   -- all that is said again is so
@@ -152,6 +161,8 @@ module _ (catalog : Catalog) (i : SiteId) (event : Event) (K : Knowledge) where
   again_sent = each_sent catalog i K event K (peers catalog i) (said_again catalog i K) (λ k within.
       both_to catalog i K event K k _ _ (propagates_to catalog i K event K k K (in_window i K k) refl (window_above k))
       (both_to catalog i K event K k _ _ (some_to catalog i K event K k (K.got k) (Ack (K.got k)) (omega arith))
-      (both_to catalog i K event K k _ _ (some_to catalog i K event K k (durable_mark catalog i K) (Dsmark (durable_mark catalog i K)) refl)
-      (both_to catalog i K event K k _ _ (some_to catalog i K event K k (K.committed k) (Visible (K.committed k)) (omega arith))
+      (both_to catalog i K event K k _ _ (some_to catalog i K event K k (durable_mark catalog i K)
+          (Dsmark (durable_mark catalog i K)) refl)
+      (both_to catalog i K event K k _ _ (some_to catalog i K event K k (K.committed k) (Visible (K.committed k))
+          (omega arith))
       (both_to catalog i K event K k _ _ (all_waits k (from_to 1 K.last)) (all_owed k (from_to 1 K.last)))))))

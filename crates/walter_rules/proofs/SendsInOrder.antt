@@ -42,7 +42,8 @@ module _ {X : Type 0} (R : X → X → Type 0) where
 
   -- the first element is in the relation to each of the rest
   pairs_first : (x : X) (xs : List X) → AllPairs R (x ∷ xs) → (y : X) → Contains xs y → R x y
-  pairs_first x xs pairs y within = subst (R x) within.2 (let inside = within.1 in pairs 0 (suc within.0) y (omega arith) (omega arith))
+  pairs_first x xs pairs y within =
+      subst (R x) within.2 (let inside = within.1 in pairs 0 (suc within.0) y (omega arith) (omega arith))
 
   -- and the rest is a list of such pairs
   pairs_rest : (x : X) (xs : List X) → AllPairs R (x ∷ xs) → AllPairs R xs
@@ -58,7 +59,8 @@ module _ {X : Type 0} (R : X → X → Type 0) where
         | inl here ↦ pairs_first x xs first y here
         | inr there ↦ across x y (first_in x xs) there
       ])
-      (pairs_append xs ys (pairs_rest x xs first) second (λ z y within there. across z y (later_in x xs z within) there))
+      (pairs_append xs ys (pairs_rest x xs first) second
+          (λ z y within there. across z y (later_in x xs z within) there))
 
 -- of what is mapped
 pairs_map : {X Y : Type 0} (R : Y → Y → Type 0) (f : X → Y) (xs : List X) → AllPairs (λ a b. R (f a) (f b)) xs
@@ -66,7 +68,8 @@ pairs_map : {X Y : Type 0} (R : Y → Y → Type 0) (f : X → Y) (xs : List X) 
 pairs_map R f [] pairs = pairs_none R
 pairs_map R f (x ∷ xs) pairs =
     pairs_before R (f x) (map f xs)
-    (λ y within. let made = made_from f xs y within in subst (R (f x)) made.2 (pairs_first (λ a b. R (f a) (f b)) x xs pairs made.0 made.1))
+    (λ y within. let made = made_from f xs y within in
+        subst (R (f x)) made.2 (pairs_first (λ a b. R (f a) (f b)) x xs pairs made.0 made.1))
     (pairs_map R f xs (pairs_rest (λ a b. R (f a) (f b)) x xs pairs))
 
 -- numbers that rise
@@ -116,7 +119,8 @@ each_in_order [] packets rise order = nothing_in_order
 each_in_order (k ∷ ks) packets rise order =
     let sent : SiteId → List Send = λ s. map (λ packet. (s, packet)) (packets s) in
     pairs_append IsSentFirst (sent k) (to_each ks packets)
-    (pairs_map IsSentFirst (λ (packet : Packet). (k, packet)) (packets k) (λ a b d before within. inr (refl, order k a b d before within)))
+    (pairs_map IsSentFirst (λ (packet : Packet). (k, packet)) (packets k)
+        (λ a b d before within. inr (refl, order k a b d before within)))
     (each_in_order ks packets (pairs_rest (λ a b. a.0 < b.0) k ks rise) order)
     (λ x y here there.
     let mine = made_from (λ (packet : Packet). (k, packet)) (packets k) x here in
@@ -162,7 +166,8 @@ no_block kind = record { order = pairs_none IsSaidFirst; kinds = λ packet withi
 
 -- and one packet is
 one_block : (packet : Packet) → IsBlock (kind_of packet) (packet ∷ [])
-one_block packet = record { order = pairs_one IsSaidFirst packet; kinds = λ other within. sym (ap kind_of (Contains-one packet other within)) }
+one_block packet = record { order = pairs_one IsSaidFirst packet; kinds =
+    λ other within. sym (ap kind_of (Contains-one packet other within)) }
 
 -- and what a test lets pass of a block
 where_block : (kind : ℕ) (test : Bool) (packets : List Packet) → IsBlock kind packets
@@ -222,7 +227,8 @@ given_listed h (x ∷ xs) = listed_first (h x) (filter_map h xs) ∙ ap (λ ys. 
 propagated_numbered : (n : ℕ) (o : Option Tx) (packet : Packet)
     → Contains (listed (option_map (λ tx. Propagate n tx) o)) packet → IsNumbered 1 n packet
 propagated_numbered n None packet within = absurd (Contains-nil packet within)
-propagated_numbered n (Some tx) packet within = subst (IsNumbered 1 n) (Contains-one (Propagate n tx) packet within) (refl, refl)
+propagated_numbered n (Some tx) packet within = subst (IsNumbered 1 n) (Contains-one (Propagate n tx) packet within)
+    (refl, refl)
 
 -- own commits of numbers that rise are a block
 propagates_block : (i : SiteId) (K : Knowledge) (numbers : List ℕ) → Rise numbers → IsBlock 1 (propagates i K numbers)
@@ -240,13 +246,15 @@ where_numbered : (kind n : ℕ) (test : Bool) (one packet : Packet) → IsNumber
     → Contains (if test then one ∷ [] else []) packet → IsNumbered kind n packet
 where_numbered kind n test one packet is within =
     cond_both test (one ∷ []) [] (λ packets. Contains packets packet → IsNumbered kind n packet)
-    (λ there here. subst (IsNumbered kind n) (Contains-one one packet here) is) (λ there here. absurd (Contains-nil packet here)) within
+    (λ there here. subst (IsNumbered kind n) (Contains-one one packet here) is)
+        (λ there here. absurd (Contains-nil packet here)) within
 
 -- a PREPARE that waits for its vote has the number of its slow commit
 waits_numbered : (catalog : Catalog) (K : Knowledge) (k : SiteId) (n : ℕ) (s : Slow) (packet : Packet)
     → Contains (prepare_if_waits catalog K k n s) packet → IsNumbered 5 n packet
 waits_numbered catalog K k n (Undecided tx asked) packet within =
-    where_numbered 5 n (has_site k asked && not (has_site k (K.said_yes n))) (prepare_of catalog K n tx k) packet (refl, refl) within
+    where_numbered 5 n (has_site k asked && not (has_site k (K.said_yes n))) (prepare_of catalog K n tx k) packet
+        (refl, refl) within
 waits_numbered catalog K k n Unused packet within = absurd (Contains-nil packet within)
 waits_numbered catalog K k n (Dropped tx asked) packet within = absurd (Contains-nil packet within)
 waits_numbered catalog K k n (Decided tx) packet within = absurd (Contains-nil packet within)
@@ -284,7 +292,8 @@ module _ (catalog : Catalog) (i : SiteId) where
   -- to all sites
   pub acknowledged_in_order : (was K : Knowledge) (j : SiteId)
       → AreInOrder (to_each (peers catalog i) (acknowledged_to catalog i was K j))
-  acknowledged_in_order was K j = each_in_order (peers catalog i) (acknowledged_to catalog i was K j) (peers_rise catalog i) (acknowledged_order was K j)
+  acknowledged_in_order was K j = each_in_order (peers catalog i) (acknowledged_to catalog i was K j)
+      (peers_rise catalog i) (acknowledged_order was K j)
 
   -- what tells that a slow commit is over
   pub releases_in_order : (n : ℕ) (asked : List SiteId) → AreInOrder (to_each (peers catalog i) (releases_to n asked))
@@ -295,7 +304,8 @@ module _ (catalog : Catalog) (i : SiteId) where
   pub prepares_in_order : (K : Knowledge) (updates : List Update) (n : ℕ) (tx : Tx)
       → AreInOrder (to_each (participants catalog K i updates) (λ k. prepare_of catalog K n tx k ∷ []))
   prepares_in_order K updates n tx =
-      each_in_order (participants catalog K i updates) (λ k. prepare_of catalog K n tx k ∷ []) (participants_rise catalog K i updates) (λ k.
+      each_in_order (participants catalog K i updates) (λ k. prepare_of catalog K n tx k ∷ [])
+          (participants_rise catalog K i updates) (λ k.
       pairs_one IsSaidFirst (prepare_of catalog K n tx k))
 
   -- what is said again
@@ -303,8 +313,10 @@ module _ (catalog : Catalog) (i : SiteId) where
   again_order K k =
       let numbers : List ℕ = from_to 1 K.last in
       let mark : ℕ = durable_mark catalog i K in
-      let waits = numbered_block 5 (λ n. prepare_if_waits catalog K k n (K.slow n)) (λ n. waits_numbered catalog K k n (K.slow n)) numbers (range_rises _ _) in
-      let owed = numbered_block 7 (λ n. release_if_owed K k n (K.slow n)) (λ n. owed_numbered K k n (K.slow n)) numbers (range_rises _ _) in
+      let waits = numbered_block 5 (λ n. prepare_if_waits catalog K k n (K.slow n))
+          (λ n. waits_numbered catalog K k n (K.slow n)) numbers (range_rises _ _) in
+      let owed = numbered_block 7 (λ n. release_if_owed K k n (K.slow n))
+          (λ n. owed_numbered K k n (K.slow n)) numbers (range_rises _ _) in
       (block_before 1 2 _ _ (omega arith) (propagates_block i K (in_window i K k) (range_rises _ _))
       (block_before 2 3 _ _ (omega arith) (some_block (K.got k) (Ack (K.got k)))
       (block_before 3 4 _ _ (omega arith) (some_block mark (Dsmark mark))

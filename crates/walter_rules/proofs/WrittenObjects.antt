@@ -1,5 +1,5 @@
--- The objects that a transaction writes, as a rising list, are those of its write set; and those that are preferred at a
--- site are kept by a test.
+-- The objects that a transaction writes, as a rising list, are those of its write set; and those that are preferred
+-- at a site are kept by a test.
 use Rattle.std.proofs.Common.{◌≡◌, ◌<◌, true, false, ◌&&◌, nat_lt, nat_eq, List, [], ◌∷◌, refl, sym, subst, inl, inr, ◌⊎◌}
 use Rattle.std.specs.Prelude.{Contains}
 use Rattle.std.proofs.lemmas.Bool.{or_left, or_right, cases_Bool, cases_order, eq-eqb, lt-ltb, both_ways}
@@ -23,7 +23,8 @@ comes_before a b same less =
 
 -- and before one of a later container
 container_before : (a b : ObjId) → a.container < b.container → precedes a b ≡ true
-container_before a b less = or_left (nat_lt a.container b.container) (nat_eq a.container b.container && nat_lt a.local b.local) (lt-ltb a.container b.container less)
+container_before a b less = or_left (nat_lt a.container b.container)
+    (nat_eq a.container b.container && nat_lt a.local b.local) (lt-ltb a.container b.container less)
 
 -- two objects of which neither comes before the other are one
 one_object : (a b : ObjId) → precedes a b ≡ false → precedes b a ≡ false → a ≡ b
@@ -103,7 +104,8 @@ module _ (catalog : Catalog) (K : Knowledge) (site : SiteId) (updates : List Upd
   pub in_objects_at : (oid : ObjId) → Contains (write_set updates) oid → preferred catalog K oid ≡ site
       → Contains (objects_at catalog K site updates) oid
   in_objects_at oid within here =
-      is_kept (λ o. same_site (preferred catalog K o) site) (objects_of updates) oid (in_rising (write_set updates) oid within)
+      is_kept (λ o. same_site (preferred catalog K o) site) (objects_of updates) oid
+          (in_rising (write_set updates) oid within)
       (subst (λ s. same_site (preferred catalog K oid) s ≡ true) here (same_site_refl (preferred catalog K oid)))
 
   -- and only those
@@ -118,4 +120,5 @@ module _ (catalog : Catalog) (K : Knowledge) (site : SiteId) (updates : List Upd
       → preferred catalog K oid ≡ site
   local_at all oid within =
       same_site-true (preferred catalog K oid) site
-      (each_passes (λ o. same_site (preferred catalog K o) site) (objects_of updates) oid all (in_rising (write_set updates) oid within))
+      (each_passes (λ o. same_site (preferred catalog K o) site) (objects_of updates) oid all
+          (in_rising (write_set updates) oid within))

@@ -1,5 +1,5 @@
--- The rules once more, as a relation: one case for each kind of thing that may come of an event, with what holds then. Proofs
--- over runs go by these cases.
+-- The rules once more, as a relation: one case for each kind of thing that may come of an event, with what holds
+-- then. Proofs over runs go by these cases.
 use Rattle.std.specs.Prelude.{◌≡◌, ◌≢◌, ℕ, ◌+◌, ◌<◌, ◌≤◌, true, false, List, [], ◌∷◌, Option, Some, None, Contains, IsTrue, Result, Ok}
 use Rattle.walter_base.specs.declared.catalog.Catalog.{Catalog}
 use Rattle.walter_base.specs.declared.message.BadFrame.{BadFrame}
@@ -51,8 +51,10 @@ pub data IsUpdateCall : Result Request BadFrame → Update → Type 0 where
 -- what a call that reads is answered, by these updates
 pub data IsReadCall : Result Request BadFrame → Reply → List Update → Type 0 where
   of_value : (oid : ObjId) (updates : List Update) → IsReadCall (Ok (Read oid)) (Value (value_of oid updates)) updates
-  of_counts : (oid : ObjId) (updates : List Update) → IsReadCall (Ok (SetRead oid)) (Set (counts_of oid updates)) updates
-  of_count : (oid : ObjId) (id : ℕ) (updates : List Update) → IsReadCall (Ok (SetReadId oid id)) (Count (count_of oid id updates)) updates
+  of_counts : (oid : ObjId) (updates : List Update)
+      → IsReadCall (Ok (SetRead oid)) (Set (counts_of oid updates)) updates
+  of_count : (oid : ObjId) (id : ℕ) (updates : List Update) → IsReadCall (Ok (SetReadId oid id))
+      (Count (count_of oid id updates)) updates
 
 -- the client has this transaction open, and the site is up
 pub record HasOpen (S : Standing) (client : ℕ) (s : Session) : Type 0 where
@@ -100,7 +102,8 @@ pub record IsDueThere (K : Knowledge) (j : SiteId) (tx : Tx) : Type 0 where
   pub held : commit_at j (K.committed j + 1) K.log ≡ Some tx
   pub covered : Covers K.committed tx.start
 
-pub record AreLockable (catalog : Catalog) (i : SiteId) (K : Knowledge) (start : List ℕ) (objects : List ObjId) : Type 0 where
+pub record AreLockable (catalog : Catalog) (i : SiteId) (K : Knowledge) (start : List ℕ)
+    (objects : List ObjId) : Type 0 where
   pub here : (oid : ObjId) → Contains objects oid → preferred catalog K oid ≡ i
   pub regular : IsTrue (are_lockable catalog K i objects)
   pub clear : (oid : ObjId) → Contains objects oid → conflict_at K start oid ≡ None
@@ -108,63 +111,97 @@ pub record AreLockable (catalog : Catalog) (i : SiteId) (K : Knowledge) (start :
 -- a mark rose: the durable one by an ACK, or the visible one by a VISIBLE
 pub data HasRisen (catalog : Catalog) (i : SiteId) (before K : Knowledge) : Packet → Type 0 where
   by_ack : (got : ℕ) → durable_mark catalog i before < durable_mark catalog i K → HasRisen catalog i before K (Ack got)
-  by_visible : (committed : ℕ) → visible_mark catalog i before < visible_mark catalog i K → HasRisen catalog i before K (Visible committed)
+  by_visible : (committed : ℕ) → visible_mark catalog i before < visible_mark catalog i K
+      → HasRisen catalog i before K (Visible committed)
 
 -- what may come of an event, by kinds: its record, where it has one, and its outcome
 pub data IsKind (catalog : Catalog) (i : SiteId) (S : Standing) : Event → Option Record → Outcome → Type 0 where
-  is_refused : (client : ℕ) (call : Result Request BadFrame) (refusal : Refusal) → IsKind catalog i S (Given (Call client call)) None (Replied (Refused refusal))
+  is_refused : (client : ℕ) (call : Result Request BadFrame) (refusal : Refusal)
+      → IsKind catalog i S (Given (Call client call)) None (Replied (Refused refusal))
   starts : (client : ℕ) → S.up ≡ true → session_of S.knows client ≡ None
       → IsKind catalog i S (Given (Call client (Ok Start))) None (Replied (Started (next_tid i S.knows)))
-  does : (client : ℕ) (call : Result Request BadFrame) (s : Session) (update : Update) → HasOpen S client s → IsUpdateCall call update → IsTrue (is_declared catalog update)
+  does : (client : ℕ) (call : Result Request BadFrame) (s : Session) (update : Update) → HasOpen S client s
+      → IsUpdateCall call update → IsTrue (is_declared catalog update)
       → IsKind catalog i S (Given (Call client call)) None (Replied Done)
-  reads : (client : ℕ) (call : Result Request BadFrame) (s : Session) (reply : Reply) → HasOpen S client s → IsReadCall call reply (read_updates S.knows s)
+  reads : (client : ℕ) (call : Result Request BadFrame) (s : Session) (reply : Reply) → HasOpen S client s
+      → IsReadCall call reply (read_updates S.knows s)
       → IsKind catalog i S (Given (Call client call)) None (Replied reply)
-  ends : (client : ℕ) (s : Session) → HasOpen S client s → s.updates ≡ [] → IsKind catalog i S (Given (Call client (Ok Commit))) None (Replied Ended)
-  aborts : (client : ℕ) (s : Session) → HasOpen S client s → IsKind catalog i S (Given (Call client (Ok Abort))) None (Replied (Aborted Asked))
-  conflicts : (client : ℕ) (s : Session) (conflict : Conflict) → HasOpen S client s → first_conflict S.knows s.snapshot (objects_at catalog S.knows i s.updates) ≡ Some conflict
+  ends : (client : ℕ) (s : Session) → HasOpen S client s → s.updates ≡ []
+      → IsKind catalog i S (Given (Call client (Ok Commit))) None (Replied Ended)
+  aborts : (client : ℕ) (s : Session) → HasOpen S client s → IsKind catalog i S (Given (Call client (Ok Abort))) None
+      (Replied (Aborted Asked))
+  conflicts : (client : ℕ) (s : Session) (conflict : Conflict) → HasOpen S client s
+      → first_conflict S.knows s.snapshot (objects_at catalog S.knows i s.updates) ≡ Some conflict
       → IsKind catalog i S (Given (Call client (Ok Commit))) None (Replied (Aborted (cause_of conflict)))
-  commits : (client : ℕ) (s : Session) → HasOpen S client s → s.updates ≢ [] → AreLocal catalog i S.knows s.updates → AreClear catalog i S.knows s.snapshot s.updates
-      → IsKind catalog i S (Given (Call client (Ok Commit))) (Some (Own (next_seq i S.knows) (tx_of s))) (Replied (Committed (own_version i (next_seq i S.knows))))
-  begins : (client : ℕ) (s : Session) → HasOpen S client s → s.updates ≢ [] → AreClear catalog i S.knows s.snapshot s.updates
-      → IsKind catalog i S (Given (Call client (Ok Commit))) (Some (SlowBegin (next_slow S.knows) (tx_of (with_slow (next_slow S.knows) s)))) (Replied (Deciding s.tid))
-  waits : (client : ℕ) (s : Session) (tx : Tx) (asked : List SiteId) → HasBegun S client s → S.knows.slow s.slow ≡ Undecided tx asked
+  commits : (client : ℕ) (s : Session) → HasOpen S client s → s.updates ≢ [] → AreLocal catalog i S.knows s.updates
+      → AreClear catalog i S.knows s.snapshot s.updates
+      → IsKind catalog i S (Given (Call client (Ok Commit))) (Some (Own (next_seq i S.knows) (tx_of s)))
+      (Replied (Committed (own_version i (next_seq i S.knows))))
+  begins : (client : ℕ) (s : Session) → HasOpen S client s → s.updates ≢ []
+      → AreClear catalog i S.knows s.snapshot s.updates
+      → IsKind catalog i S (Given (Call client (Ok Commit)))
+      (Some (SlowBegin (next_slow S.knows) (tx_of (with_slow (next_slow S.knows) s)))) (Replied (Deciding s.tid))
+  waits : (client : ℕ) (s : Session) (tx : Tx) (asked : List SiteId) → HasBegun S client s
+      → S.knows.slow s.slow ≡ Undecided tx asked
       → IsKind catalog i S (Given (Call client (Ok Commit))) None (Replied (Deciding s.tid))
-  tells_version : (client : ℕ) (s : Session) (tx : Tx) (seq : ℕ) → HasBegun S client s → S.knows.slow s.slow ≡ Decided tx → seq_of i S.knows s.tid ≡ Some seq
+  tells_version : (client : ℕ) (s : Session) (tx : Tx) (seq : ℕ) → HasBegun S client s
+      → S.knows.slow s.slow ≡ Decided tx → seq_of i S.knows s.tid ≡ Some seq
       → IsKind catalog i S (Given (Call client (Ok Commit))) None (Replied (Committed (own_version i seq)))
-  tells_cause : (client : ℕ) (s : Session) (tx : Tx) (asked : List SiteId) (conflict : Conflict) → HasBegun S client s → S.knows.slow s.slow ≡ Dropped tx asked
-      → S.knows.said_no s.slow ≡ Some conflict → IsKind catalog i S (Given (Call client (Ok Commit))) None (Replied (Aborted (cause_of conflict)))
+  tells_cause : (client : ℕ) (s : Session) (tx : Tx) (asked : List SiteId) (conflict : Conflict) → HasBegun S client s
+      → S.knows.slow s.slow ≡ Dropped tx asked
+      → S.knows.said_no s.slow ≡ Some conflict → IsKind catalog i S (Given (Call client (Ok Commit))) None
+      (Replied (Aborted (cause_of conflict)))
   levels_own : (client : ℕ) (tid : Tid) (seq : ℕ) → S.up ≡ true → tid.site ≡ i → seq_of i S.knows tid ≡ Some seq
-      → IsKind catalog i S (Given (Call client (Ok (LevelAsked tid)))) None (Replied (Level (level_of_own catalog i S.knows seq)))
-  is_deciding : (client : ℕ) (tid : Tid) → S.up ≡ true → IsKind catalog i S (Given (Call client (Ok (LevelAsked tid)))) None (Replied (Level BeingDecided))
-  is_running : (client : ℕ) (tid : Tid) → S.up ≡ true → IsKind catalog i S (Given (Call client (Ok (LevelAsked tid)))) None (Replied (Level Running))
-  denies : (client : ℕ) (tid : Tid) → S.up ≡ true → tid.site ≡ i → is_issued S.knows tid ≡ true → seq_of i S.knows tid ≡ None → is_undecided S.knows tid ≡ false
-      → is_open tid S.knows.sessions ≡ false → IsKind catalog i S (Given (Call client (Ok (LevelAsked tid)))) None (Replied (Level NotCommitted))
+      → IsKind catalog i S (Given (Call client (Ok (LevelAsked tid)))) None
+      (Replied (Level (level_of_own catalog i S.knows seq)))
+  is_deciding : (client : ℕ) (tid : Tid) → S.up ≡ true
+      → IsKind catalog i S (Given (Call client (Ok (LevelAsked tid)))) None (Replied (Level BeingDecided))
+  is_running : (client : ℕ) (tid : Tid) → S.up ≡ true
+      → IsKind catalog i S (Given (Call client (Ok (LevelAsked tid)))) None (Replied (Level Running))
+  denies : (client : ℕ) (tid : Tid) → S.up ≡ true → tid.site ≡ i → is_issued S.knows tid ≡ true
+      → seq_of i S.knows tid ≡ None → is_undecided S.knows tid ≡ false
+      → is_open tid S.knows.sessions ≡ false → IsKind catalog i S (Given (Call client (Ok (LevelAsked tid)))) None
+      (Replied (Level NotCommitted))
   passes : (event : Event) → IsKind catalog i S event None Passed
   receives : (j : SiteId) (number seq : ℕ) (tx : Tx) → IsFromPeer catalog i S j → IsNextCommit catalog S.knows j seq tx
       → IsKind catalog i S (Given (Deliver j number (Propagate seq tx))) (Some (Got j seq tx)) Taken
-  hears_ack : (j : SiteId) (number got : ℕ) → IsFromPeer catalog i S j → got ≤ S.knows.committed i → IsKind catalog i S (Given (Deliver j number (Ack got))) None Taken
-  hears_durable : (j : SiteId) (number durable : ℕ) → IsFromPeer catalog i S j → IsKind catalog i S (Given (Deliver j number (Dsmark durable))) None Taken
-  hears_visible : (j : SiteId) (number committed : ℕ) → IsFromPeer catalog i S j → committed ≤ S.knows.committed i → IsKind catalog i S (Given (Deliver j number (Visible committed))) None Taken
-  marks_durable : (j : SiteId) (number got : ℕ) (K : Knowledge) → IsFromPeer catalog i S j → got ≤ S.knows.committed i → K ≡ heard (Given (Deliver j number (Ack got))) Taken S.knows
+  hears_ack : (j : SiteId) (number got : ℕ) → IsFromPeer catalog i S j → got ≤ S.knows.committed i
+      → IsKind catalog i S (Given (Deliver j number (Ack got))) None Taken
+  hears_durable : (j : SiteId) (number durable : ℕ) → IsFromPeer catalog i S j
+      → IsKind catalog i S (Given (Deliver j number (Dsmark durable))) None Taken
+  hears_visible : (j : SiteId) (number committed : ℕ) → IsFromPeer catalog i S j → committed ≤ S.knows.committed i
+      → IsKind catalog i S (Given (Deliver j number (Visible committed))) None Taken
+  marks_durable : (j : SiteId) (number got : ℕ) (K : Knowledge) → IsFromPeer catalog i S j → got ≤ S.knows.committed i
+      → K ≡ heard (Given (Deliver j number (Ack got))) Taken S.knows
       → durable_mark catalog i S.knows < durable_mark catalog i K
-      → IsKind catalog i S (Given (Deliver j number (Ack got))) (Some (Marks (durable_mark catalog i K) (visible_mark catalog i K))) Taken
-  marks_visible : (j : SiteId) (number committed : ℕ) (K : Knowledge) → IsFromPeer catalog i S j → committed ≤ S.knows.committed i → K ≡ heard (Given (Deliver j number (Visible committed))) Taken S.knows
+      → IsKind catalog i S (Given (Deliver j number (Ack got)))
+      (Some (Marks (durable_mark catalog i K) (visible_mark catalog i K))) Taken
+  marks_visible : (j : SiteId) (number committed : ℕ) (K : Knowledge) → IsFromPeer catalog i S j
+      → committed ≤ S.knows.committed i → K ≡ heard (Given (Deliver j number (Visible committed))) Taken S.knows
       → visible_mark catalog i S.knows < visible_mark catalog i K
-      → IsKind catalog i S (Given (Deliver j number (Visible committed))) (Some (Marks (durable_mark catalog i K) (visible_mark catalog i K))) Taken
-  prepares : (j : SiteId) (number n : ℕ) (tid : Tid) (start : List ℕ) (objects : List ObjId) → IsFromPeer catalog i S j → S.knows.part j n ≡ Free
+      → IsKind catalog i S (Given (Deliver j number (Visible committed)))
+      (Some (Marks (durable_mark catalog i K) (visible_mark catalog i K))) Taken
+  prepares : (j : SiteId) (number n : ℕ) (tid : Tid) (start : List ℕ) (objects : List ObjId)
+      → IsFromPeer catalog i S j → S.knows.part j n ≡ Free
       → AreLockable catalog i S.knows start objects
-      → IsKind catalog i S (Given (Deliver j number (Prepare n tid start objects))) (Some (Prepared j n tid objects)) Taken
-  hears_yes : (p : SiteId) (number n : ℕ) (tx : Tx) (asked : List SiteId) → IsFromPeer catalog i S p → S.knows.slow n ≡ Undecided tx asked → Contains asked p
+      → IsKind catalog i S (Given (Deliver j number (Prepare n tid start objects)))
+      (Some (Prepared j n tid objects)) Taken
+  hears_yes : (p : SiteId) (number n : ℕ) (tx : Tx) (asked : List SiteId) → IsFromPeer catalog i S p
+      → S.knows.slow n ≡ Undecided tx asked → Contains asked p
       → IsKind catalog i S (Given (Deliver p number (Vote n Yes))) None Taken
-  decides : (p : SiteId) (number n : ℕ) (tx : Tx) (asked : List SiteId) → IsFromPeer catalog i S p → S.knows.slow n ≡ Undecided tx asked → Contains asked p
+  decides : (p : SiteId) (number n : ℕ) (tx : Tx) (asked : List SiteId) → IsFromPeer catalog i S p
+      → S.knows.slow n ≡ Undecided tx asked → Contains asked p
       → HaveSaidYes asked (p ∷ S.knows.said_yes n)
       → IsKind catalog i S (Given (Deliver p number (Vote n Yes))) (Some (Own (next_seq i S.knows) tx)) Taken
-  gives_up : (p : SiteId) (number n : ℕ) (tx : Tx) (asked : List SiteId) (conflict : Conflict) → IsFromPeer catalog i S p → S.knows.slow n ≡ Undecided tx asked → Contains asked p
+  gives_up : (p : SiteId) (number n : ℕ) (tx : Tx) (asked : List SiteId) (conflict : Conflict)
+      → IsFromPeer catalog i S p → S.knows.slow n ≡ Undecided tx asked → Contains asked p
       → conflict ≢ Dead → IsKind catalog i S (Given (Deliver p number (Vote n (No conflict)))) (Some (SlowEnd n)) Taken
   releases : (j : SiteId) (number n : ℕ) → IsFromPeer catalog i S j → S.knows.part j n ≢ Over
       → IsKind catalog i S (Given (Deliver j number (Release n))) (Some (Released j n)) Taken
-  hears_released : (j : SiteId) (number n : ℕ) → IsFromPeer catalog i S j → IsKind catalog i S (Given (Deliver j number (ReleasedSaid n))) None Taken
-  sees : (j : SiteId) (tx : Tx) → IsFromPeer catalog i S j → IsDueThere S.knows j tx → IsKind catalog i S (Given (Advance j)) (Some (Seen j (S.knows.committed j + 1))) Taken
+  hears_released : (j : SiteId) (number n : ℕ) → IsFromPeer catalog i S j
+      → IsKind catalog i S (Given (Deliver j number (ReleasedSaid n))) None Taken
+  sees : (j : SiteId) (tx : Tx) → IsFromPeer catalog i S j → IsDueThere S.knows j tx
+      → IsKind catalog i S (Given (Advance j)) (Some (Seen j (S.knows.committed j + 1))) Taken
   stops : S.up ≡ true → IsKind catalog i S Stop None Taken
   is_down : (event : Event) → IsKind catalog i S event None Down
   boots : S.up ≡ false → IsKind catalog i S Restart (Some (Boot (S.knows.epoch + 1))) Taken
@@ -186,16 +223,21 @@ IsTrueOf catalog i before event K to (Ack got) = got ≤ K.got to
 IsTrueOf catalog i before event K to (Dsmark durable) = durable ≡ durable_mark catalog i K
 IsTrueOf catalog i before event K to (Visible committed) = committed ≤ K.committed to
 IsTrueOf catalog i before event K to (Prepare n tid start objects) =
-    (tx : Tx) × (asked : List SiteId) × (K.slow n ≡ Undecided tx asked) × (tid ≡ tx.tid) × (start ≡ tx.start) × (objects ≡ objects_at catalog K to tx.updates)
-IsTrueOf catalog i before event K to (Vote n Yes) = (tid : Tid) × (objects : List ObjId) × (K.part to n ≡ Locked tid objects)
-IsTrueOf catalog i before event K to (Vote n (No (Modified oid version))) = IsMet before event to n (Modified oid version)
-IsTrueOf catalog i before event K to (Vote n (No (LockedThere oid owner))) = IsMet before event to n (LockedThere oid owner)
+    (tx : Tx) × (asked : List SiteId) × (K.slow n ≡ Undecided tx asked) × (tid ≡ tx.tid) × (start ≡ tx.start)
+        × (objects ≡ objects_at catalog K to tx.updates)
+IsTrueOf catalog i before event K to (Vote n Yes) = (tid : Tid) × (objects : List ObjId)
+    × (K.part to n ≡ Locked tid objects)
+IsTrueOf catalog i before event K to (Vote n (No (Modified oid version))) =
+    IsMet before event to n (Modified oid version)
+IsTrueOf catalog i before event K to (Vote n (No (LockedThere oid owner))) =
+    IsMet before event to n (LockedThere oid owner)
 IsTrueOf catalog i before event K to (Vote n (No Dead)) = K.part to n ≡ Over
 IsTrueOf catalog i before event K to (Release n) = (tx : Tx) × (asked : List SiteId) × (K.slow n ≡ Dropped tx asked)
 IsTrueOf catalog i before event K to (ReleasedSaid n) = K.part to n ≡ Over
 
 -- what an event is to bring is of one of the kinds, and each packet says what is so
-pub record IsAllowed (catalog : Catalog) (i : SiteId) (S : Standing) (event : Event) (expected : Expected) : Type 0 where
+pub record IsAllowed (catalog : Catalog) (i : SiteId) (S : Standing) (event : Event)
+    (expected : Expected) : Type 0 where
   pub kind : IsKind catalog i S event expected.wrote expected.outcome
   pub sent : (to : SiteId) (packet : Packet) → Contains expected.sends (to, packet)
       → IsTrueOf catalog i S.knows event (after catalog i S.knows event expected.outcome expected.wrote) to packet

@@ -88,7 +88,8 @@ abbrev pub begins_slow : Catalog → SiteId → Knowledge → Session → Expect
 begins_slow catalog i K s = record {
   wrote = Some (SlowBegin (next_slow K) (tx_of (with_slow (next_slow K) s)));
   outcome = Replied (Deciding s.tid);
-  sends = to_each (participants catalog K i s.updates) (λ k. prepare_of catalog K (next_slow K) (tx_of (with_slow (next_slow K) s)) k ∷ []);
+  sends = to_each (participants catalog K i s.updates)
+      (λ k. prepare_of catalog K (next_slow K) (tx_of (with_slow (next_slow K) s)) k ∷ []);
 }
 
 abbrev pub if_local : Bool → Catalog → SiteId → Knowledge → Session → Expected
@@ -103,7 +104,8 @@ decides catalog i K s None = if_local (are_local catalog K i s.updates) catalog 
 -- a transaction without updates ends
 abbrev pub commits_open : Catalog → SiteId → Knowledge → Session → List Update → Expected
 commits_open catalog i K s [] = answers Ended
-commits_open catalog i K s (update ∷ updates) = decides catalog i K s (first_conflict K s.snapshot (objects_at catalog K i s.updates))
+commits_open catalog i K s (update ∷ updates) =
+    decides catalog i K s (first_conflict K s.snapshot (objects_at catalog K i s.updates))
 
 -- the number of the own commit that is this transaction, if there is one
 abbrev pub seq_of : SiteId → Knowledge → Tid → Option ℕ
@@ -178,7 +180,8 @@ is_open tid sessions = list_any (λ e. same_tid tid e.1.tid && nat_eq e.1.slow 0
 -- how far an own commit of this number has come
 abbrev pub level_of_own : Catalog → SiteId → Knowledge → ℕ → HowFar
 level_of_own catalog i K seq =
-    if nat_le seq (visible_mark catalog i K) then Visible else if nat_le seq (durable_mark catalog i K) then Durable else IsCommitted
+    if nat_le seq (visible_mark catalog i K) then Visible
+    else if nat_le seq (durable_mark catalog i K) then Durable else IsCommitted
 
 abbrev pub level_of_other : Knowledge → Tid → HowFar
 level_of_other K tid = if is_undecided K tid then BeingDecided else if is_open tid K.sessions then Running else NotCommitted
@@ -225,14 +228,15 @@ abbrev pub with_open : Option Session → (Session → Expected) → Expected
 with_open None expected = refuses NoTx
 with_open (Some s) expected = expected s
 
--- What a client is answered, by its session. The refusals come in one order: a bad frame; the want of a session, one too
--- many of the client's or of all; an unknown container, the wrong kind; too long a value, too full a transaction, too wide
--- a set; a wrong site, a name that wasn't given.
+-- What a client is answered, by its session. The refusals come in one order: a bad frame; the want of a session, one
+-- too many of the client's or of all; an unknown container, the wrong kind; too long a value, too full a transaction,
+-- too wide a set; a wrong site, a name that wasn't given.
 abbrev pub call_rule : Catalog → SiteId → Knowledge → Result Request Bad → Option Session → Expected
 call_rule catalog i K (Err bad) session = refuses (BadFrame bad.at)
 call_rule catalog i K (Ok Start) session = starts_for i K session
 call_rule catalog i K (Ok (Read oid)) session =
-    with_open (open_in session) (λ s. if_regular (get catalog.containers oid.container) (answers (Value (value_of oid (read_updates K s)))))
+    with_open (open_in session)
+        (λ s. if_regular (get catalog.containers oid.container) (answers (Value (value_of oid (read_updates K s)))))
 call_rule catalog i K (Ok (Write oid bytes)) session =
     with_open (open_in session) (λ s. if_regular (get catalog.containers oid.container) (writes s oid bytes))
 call_rule catalog i K (Ok (SetAdd oid id)) session =
@@ -240,9 +244,11 @@ call_rule catalog i K (Ok (SetAdd oid id)) session =
 call_rule catalog i K (Ok (SetDel oid id)) session =
     with_open (open_in session) (λ s. if_cset (get catalog.containers oid.container) (updates_with s (Del oid id)))
 call_rule catalog i K (Ok (SetRead oid)) session =
-    with_open (open_in session) (λ s. if_cset (get catalog.containers oid.container) (shows (counts_of oid (read_updates K s))))
+    with_open (open_in session)
+        (λ s. if_cset (get catalog.containers oid.container) (shows (counts_of oid (read_updates K s))))
 call_rule catalog i K (Ok (SetReadId oid id)) session =
-    with_open (open_in session) (λ s. if_cset (get catalog.containers oid.container) (answers (Count (count_of oid id (read_updates K s)))))
+    with_open (open_in session)
+        (λ s. if_cset (get catalog.containers oid.container) (answers (Count (count_of oid id (read_updates K s)))))
 call_rule catalog i K (Ok Commit) session = commits_for catalog i K session
 call_rule catalog i K (Ok Abort) session = with_open (open_in session) (λ s. answers (Aborted Asked))
 call_rule catalog i K (Ok (LevelAsked tid)) session = tells_level catalog i K tid

@@ -21,7 +21,8 @@ same_kind Cset Cset = true
 
 -- whether the object's container is in the catalog, and of this kind
 abbrev pub is_of_kind : Catalog → Kind → ObjId → Bool
-is_of_kind catalog kind oid = option_map_or (λ container. same_kind container.kind kind) (get catalog.containers oid.container) false
+is_of_kind catalog kind oid = option_map_or (λ container. same_kind container.kind kind)
+    (get catalog.containers oid.container) false
 
 -- whether the update's object is in the catalog, and of its kind
 abbrev pub is_declared : Catalog → Update → Bool
@@ -34,4 +35,5 @@ are_declared catalog updates = list_all (is_declared catalog) updates
 
 -- whether all objects are regular, and preferred at the site
 abbrev pub are_lockable : Catalog → Knowledge → SiteId → List ObjId → Bool
-are_lockable catalog K i objects = list_all (λ oid. is_of_kind catalog Regular oid && same_site (preferred catalog K oid) i) objects
+are_lockable catalog K i objects =
+    list_all (λ oid. is_of_kind catalog Regular oid && same_site (preferred catalog K oid) i) objects

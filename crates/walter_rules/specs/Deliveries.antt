@@ -1,4 +1,5 @@
--- The rules of what comes from other sites, and of what is committed here of theirs (docs/SITE.md, "A site among others").
+-- The rules of what comes from other sites, and of what is committed here of theirs (docs/SITE.md, "A site among
+-- others").
 use Rattle.std.specs.Prelude.{ℕ, ◌+◌, nat_eq, nat_le, nat_lt, Bool, true, false, not, ◌&&◌, List, [], ◌∷◌, ◌++◌, length, slice_index, Option, Some, None, if◌then◌else◌}
 use Rattle.std.specs.List.{list_all, range_with_len}
 use Rattle.std.specs.Option.{option_map_or}
@@ -45,7 +46,8 @@ is_peer catalog i j = nat_lt j.0 catalog.sites && not (same_site j i)
 
 -- whether of each site so many are counted as the snapshot sees
 abbrev pub covers : (SiteId → ℕ) → List ℕ → Bool
-covers counts snapshot = list_all (λ k. nat_le (slice_index snapshot k) (counts (site_at k))) (range_with_len 0 (length snapshot))
+covers counts snapshot = list_all (λ k. nat_le (slice_index snapshot k) (counts (site_at k)))
+    (range_with_len 0 (length snapshot))
 
 -- a commit of another site is received where it is the next of that site, and what it has seen is received here
 abbrev pub accepts : Catalog → Knowledge → SiteId → ℕ → Tx → Bool
@@ -72,17 +74,20 @@ acknowledged_to catalog i before K j k =
 
 abbrev pub acknowledges : Catalog → SiteId → Knowledge → Knowledge → SiteId → Expected
 acknowledges catalog i before K j =
-    takes (if_marks (nat_lt (durable_mark catalog i before) (durable_mark catalog i K)) (durable_mark catalog i K) (visible_mark catalog i K))
+    takes (if_marks (nat_lt (durable_mark catalog i before) (durable_mark catalog i K)) (durable_mark catalog i K)
+        (visible_mark catalog i K))
     (to_each (peers catalog i) (acknowledged_to catalog i before K j))
 
 abbrev pub if_acknowledged : Bool → Catalog → SiteId → Knowledge → SiteId → ℕ → Expected
-if_acknowledged true catalog i K j got = acknowledges catalog i K (record K { acknowledged = risen j got K.acknowledged }) j
+if_acknowledged true catalog i K j got =
+    acknowledges catalog i K (record K { acknowledged = risen j got K.acknowledged }) j
 if_acknowledged false catalog i K j got = passes []
 
 -- the visible mark may rise where a peer has committed more
 abbrev pub shows_more : Catalog → SiteId → Knowledge → Knowledge → Expected
 shows_more catalog i before K =
-    takes (if_marks (nat_lt (visible_mark catalog i before) (visible_mark catalog i K)) (durable_mark catalog i K) (visible_mark catalog i K)) []
+    takes (if_marks (nat_lt (visible_mark catalog i before) (visible_mark catalog i K)) (durable_mark catalog i K)
+        (visible_mark catalog i K)) []
 
 abbrev pub if_shown : Bool → Catalog → SiteId → Knowledge → SiteId → ℕ → Expected
 if_shown true catalog i K j committed = shows_more catalog i K (record K { visible = risen j committed K.visible })
@@ -114,7 +119,8 @@ commits_if_all catalog i K tx true =
 commits_if_all catalog i K tx false = takes None []
 
 abbrev pub if_missing : Bool → Catalog → SiteId → Knowledge → SiteId → ℕ → Tx → List SiteId → Expected
-if_missing true catalog i K p n tx asked = commits_if_all catalog i K tx (list_all (λ k. has_site k (p ∷ K.said_yes n)) asked)
+if_missing true catalog i K p n tx asked =
+    commits_if_all catalog i K tx (list_all (λ k. has_site k (p ∷ K.said_yes n)) asked)
 if_missing false catalog i K p n tx asked = passes []
 
 -- each site that was asked is told that the slow commit is over
@@ -161,7 +167,8 @@ packet_rule catalog i K j (Propagate seq tx) = if_accepted (accepts catalog K j 
 packet_rule catalog i K j (Ack got) = if_acknowledged (is_news i K (K.acknowledged j) got) catalog i K j got
 packet_rule catalog i K j (Dsmark durable) = if_greater (nat_lt (K.durable j) durable)
 packet_rule catalog i K j (Visible committed) = if_shown (is_news i K (K.visible j) committed) catalog i K j committed
-packet_rule catalog i K j (Prepare n tid start objects) = if_lockable (are_lockable catalog K i objects) K j n tid start objects
+packet_rule catalog i K j (Prepare n tid start objects) =
+    if_lockable (are_lockable catalog K i objects) K j n tid start objects
 packet_rule catalog i K j (Vote n answer) = votes_by catalog i K j n answer (K.slow n)
 packet_rule catalog i K j (Release n) = releases j n (K.part j n)
 packet_rule catalog i K j (ReleasedSaid n) = confirms K j n (K.slow n)
@@ -173,8 +180,8 @@ if_peer false expected = passes []
 abbrev pub deliver_rule : Catalog → SiteId → Knowledge → SiteId → Packet → Expected
 deliver_rule catalog i K j packet = if_peer (is_peer catalog i j) (packet_rule catalog i K j packet)
 
--- the next commit of a site is committed here where it is received, its site has called it durable, and what it has seen is
--- committed here
+-- the next commit of a site is committed here where it is received, its site has called it durable, and what it has
+-- seen is committed here
 abbrev pub is_enabled : Knowledge → SiteId → Bool
 is_enabled K j =
     nat_le (K.committed j + 1) (K.got j) && (nat_le (K.committed j + 1) (K.durable j)

@@ -27,7 +27,8 @@ pub record Knowledge : Type 0 where
   -- the last number of an own slow commit, and the own slow commits by their numbers
   pub last : ℕ
   pub slow : ℕ → Slow
-  -- what there is here of the slow commits of each coordinator, itself among them; and the owner of the lock on an object
+  -- what there is here of the slow commits of each coordinator, itself among them; and the owner of the lock on an
+  -- object
   pub part : SiteId → ℕ → Part
   pub owner : ObjId → Option Tid
   -- the marks that were journaled last
@@ -72,7 +73,8 @@ session_of K client = session_in client K.sessions
 -- the site at which an object is preferred: that of its container, and the first where there is none, which no update
 -- names. It is read here alone, by what the site knows and the catalog.
 abbrev pub preferred : Catalog → Knowledge → ObjId → SiteId
-preferred catalog K oid = option_map_or (λ container. container.preferred) (get catalog.containers oid.container) (record { 0 = 0 })
+preferred catalog K oid = option_map_or (λ container. container.preferred) (get catalog.containers oid.container)
+    (record { 0 = 0 })
 
 abbrev pub site_at : ℕ → SiteId
 site_at k = record { 0 = k }

@@ -1,5 +1,5 @@
--- What a site knows after a record, after a reply, and after what a peer said; and what is left of it at a stop. Each field
--- goes by itself, by the record, the reply or the packet first.
+-- What a site knows after a record, after a reply, and after what a peer said; and what is left of it at a stop. Each
+-- field goes by itself, by the record, the reply or the packet first.
 use Rattle.std.specs.Prelude.{ℕ, zero, suc, ◌+◌, nat_eq, max, Bool, List, [], ◌∷◌, ◌++◌, Option, Some, None, Result, Ok, if◌then◌else◌}
 use Rattle.std.specs.List.{list_any}
 use Rattle.walter_base.specs.declared.catalog.Catalog.{Catalog}
@@ -68,7 +68,8 @@ last_after (Some rec) last = last
 -- a boot ends each slow commit that is being decided
 abbrev pub slow_after : Catalog → SiteId → Knowledge → Option Record → ℕ → Slow
 slow_after catalog i K None n = K.slow n
-slow_after catalog i K (Some (SlowBegin m tx)) n = if nat_eq m n then Undecided tx (participants catalog K i tx.updates) else K.slow n
+slow_after catalog i K (Some (SlowBegin m tx)) n =
+    if nat_eq m n then Undecided tx (participants catalog K i tx.updates) else K.slow n
 slow_after catalog i K (Some (SlowEnd m)) n = if nat_eq m n then ended (K.slow n) else K.slow n
 slow_after catalog i K (Some (Own seq tx)) n = if nat_eq tx.slow n then decided (K.slow n) else K.slow n
 slow_after catalog i K (Some (Boot epoch)) n = ended (K.slow n)
@@ -90,14 +91,15 @@ part_locked j n tid objects part k m = if is_slow j n k m then Locked tid object
 abbrev pub part_unlocked : SiteId → ℕ → (SiteId → ℕ → Part) → SiteId → ℕ → Part
 part_unlocked j n part k m = if is_slow j n k m then unlocked (part k m) else part k m
 
--- the lock of an own slow commit goes where it ends, and a boot ends them all; that of another's goes where it is released
--- or committed here, and then it is over here
+-- the lock of an own slow commit goes where it ends, and a boot ends them all; that of another's goes where it is
+-- released or committed here, and then it is over here
 abbrev pub part_after : Catalog → SiteId → Knowledge → Option Record → SiteId → ℕ → Part
 part_after catalog i K None j n = K.part j n
 part_after catalog i K (Some (Prepared k m tid objects)) j n = part_locked k m tid objects K.part j n
 part_after catalog i K (Some (Released k m)) j n = if is_slow k m j n then Over else K.part j n
 part_after catalog i K (Some (Seen k seq)) j n = part_over k (slow_number (commit_at k seq K.log)) K.part j n
-part_after catalog i K (Some (SlowBegin m tx)) j n = part_locked i m tx.tid (objects_at catalog K i tx.updates) K.part j n
+part_after catalog i K (Some (SlowBegin m tx)) j n =
+    part_locked i m tx.tid (objects_at catalog K i tx.updates) K.part j n
 part_after catalog i K (Some (SlowEnd m)) j n = part_unlocked i m K.part j n
 part_after catalog i K (Some (Own seq tx)) j n = part_unlocked i tx.slow K.part j n
 part_after catalog i K (Some (Boot epoch)) j n = if same_site i j then unlocked (K.part j n) else K.part j n
@@ -195,7 +197,8 @@ begun_by (Given (Call client call)) wrote sessions = changed client (deciding wr
 begun_by event wrote sessions = sessions
 
 abbrev pub sessions_after : Event → Outcome → Option Record → List ℕ → Sessions → Sessions
-sessions_after event (Replied (Started tid)) wrote snapshot sessions = opened event (record { tid = tid; snapshot = snapshot; updates = []; slow = 0 }) sessions
+sessions_after event (Replied (Started tid)) wrote snapshot sessions =
+    opened event (record { tid = tid; snapshot = snapshot; updates = []; slow = 0 }) sessions
 sessions_after event (Replied Done) wrote snapshot sessions = done event sessions
 sessions_after event (Replied (Committed version)) wrote snapshot sessions = closed event sessions
 sessions_after event (Replied (Aborted cause)) wrote snapshot sessions = closed event sessions
@@ -237,7 +240,8 @@ said_yes_after Taken (Given (Deliver j number (Vote m Yes))) said n = heard_of m
 said_yes_after outcome event said n = said n
 
 abbrev pub said_no_after : Outcome → Event → (ℕ → Option Conflict) → ℕ → Option Conflict
-said_no_after Taken (Given (Deliver j number (Vote m (No conflict)))) said n = if nat_eq m n then Some conflict else said n
+said_no_after Taken (Given (Deliver j number (Vote m (No conflict)))) said n =
+    if nat_eq m n then Some conflict else said n
 said_no_after outcome event said n = said n
 
 abbrev pub said_released_after : Outcome → Event → (ℕ → List SiteId) → ℕ → List SiteId
@@ -257,7 +261,8 @@ heard event outcome K = record K {
 
 -- what is known after an event that came to this outcome and made this record stable
 abbrev pub after : Catalog → SiteId → Knowledge → Event → Outcome → Option Record → Knowledge
-after catalog i K event outcome wrote = heard event outcome (answered catalog event outcome wrote (recorded catalog i wrote K))
+after catalog i K event outcome wrote =
+    heard event outcome (answered catalog event outcome wrote (recorded catalog i wrote K))
 
 -- what is left of it where the site loses its memory: what its records tell
 abbrev pub lost : Knowledge → Knowledge

@@ -1,4 +1,5 @@
--- The merge of the trails of all sites: their entries by stamp, and those of one stamp by site. And which trails are linked.
+-- The merge of the trails of all sites: their entries by stamp, and those of one stamp by site. And which trails are
+-- linked.
 use Rattle.std.specs.Prelude.{◌≡◌, ℕ, ◌+◌, ◌<◌, nat_eq, nat_lt, nat_le, max, Bool, ◌&&◌, ◌||◌, List, [], ◌∷◌, ◌++◌, map, flat_map, filter_map, slice_get, slice_index_or, take, reverse, Some, None, if◌then◌else◌}
 use Rattle.walter_base.specs.declared.names.SiteId.{SiteId}
 use Rattle.walter_base.specs.declared.packet.Packet.{Packet}
@@ -57,7 +58,8 @@ trail_of trails j = slice_index_or trails j.0 []
 
 -- a delivered packet is the one of its number among those that its sender put out to the site, by an entry of a lower
 -- stamp, and the stamp of its delivery is the next behind that one and behind the entry before
-pub record IsLinked (trails : List (List Entry)) (i j : SiteId) (number : ℕ) (packet : Packet) (last stamp : ℕ) : Type 0 where
+pub record IsLinked (trails : List (List Entry)) (i j : SiteId) (number : ℕ) (packet : Packet)
+    (last stamp : ℕ) : Type 0 where
   pub before : ℕ
   pub number_is : number ≡ before + 1
   pub put : ℕ

@@ -16,7 +16,8 @@ precedes a b = nat_lt a.container b.container || (nat_eq a.container b.container
 -- rising objects with one more
 abbrev pub with_object : ObjId → List ObjId → List ObjId
 with_object oid [] = oid ∷ []
-with_object oid (o ∷ os) = if precedes oid o then oid ∷ o ∷ os else if precedes o oid then o ∷ with_object oid os else o ∷ os
+with_object oid (o ∷ os) =
+    if precedes oid o then oid ∷ o ∷ os else if precedes o oid then o ∷ with_object oid os else o ∷ os
 
 -- the objects of a list, rising, each once
 abbrev pub rising : List ObjId → List ObjId
@@ -37,4 +38,5 @@ are_local catalog K site updates = list_all (λ oid. same_site (preferred catalo
 
 -- the other sites at which some are preferred
 abbrev pub participants : Catalog → Knowledge → SiteId → List Update → List SiteId
-participants catalog K i updates = filter (λ k. list_any (λ oid. same_site (preferred catalog K oid) k) (objects_of updates)) (peers catalog i)
+participants catalog K i updates =
+    filter (λ k. list_any (λ oid. same_site (preferred catalog K oid) k) (objects_of updates)) (peers catalog i)

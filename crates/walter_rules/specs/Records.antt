@@ -41,7 +41,8 @@ pub record IsNextSeen (catalog : Catalog) (i : SiteId) (K : Knowledge) (j : Site
   pub received : seq ≤ K.got j
   pub covered : (tx : Tx) → commit_at j seq K.log ≡ Some tx → IsTrue (covers K.committed tx.start)
 
-pub record CanPrepare (catalog : Catalog) (i : SiteId) (K : Knowledge) (j : SiteId) (n : ℕ) (objects : List ObjId) : Type 0 where
+pub record CanPrepare (catalog : Catalog) (i : SiteId) (K : Knowledge) (j : SiteId) (n : ℕ)
+    (objects : List ObjId) : Type 0 where
   pub booted : 0 < K.epoch
   pub peer : IsTrue (is_peer catalog i j)
   pub free : K.part j n ≡ Free
@@ -95,7 +96,8 @@ replayed catalog i K (rec ∷ records) = replayed catalog i (recorded catalog i 
 -- each can follow those before it
 abbrev pub CanAllFollow : Catalog → SiteId → Knowledge → List Record → Type 0
 CanAllFollow catalog i K [] = Unit {0}
-CanAllFollow catalog i K (rec ∷ records) = CanFollow catalog i K rec × CanAllFollow catalog i (recorded catalog i (Some rec) K) records
+CanAllFollow catalog i K (rec ∷ records) = CanFollow catalog i K rec
+    × CanAllFollow catalog i (recorded catalog i (Some rec) K) records
 
 -- the sizes of a record of a site among so many
 abbrev pub IsRecordAmong : ℕ → Record → Type 0

@@ -19,7 +19,8 @@ use Rattle.walter_rules.specs.Standing.{Standing}
 
 -- at a site that is up
 abbrev pub given_rule : Catalog → SiteId → Standing → Input → Expected
-given_rule catalog i S (Call client call) = if_told call (S.gone client) (call_rule catalog i S.knows call (session_of S.knows client))
+given_rule catalog i S (Call client call) =
+    if_told call (S.gone client) (call_rule catalog i S.knows call (session_of S.knows client))
 given_rule catalog i S (Deliver from number packet) = deliver_rule catalog i S.knows from packet
 given_rule catalog i S (Advance from) = advance_rule catalog i S.knows from
 given_rule catalog i S Tick = passes (to_each (peers catalog i) (said_again catalog i S.knows))
@@ -51,8 +52,8 @@ rule catalog i S (Given input) = rule_where S.up catalog i S input
 rule catalog i S Stop = stop_rule S.up
 rule catalog i S Restart = restart_rule S.up S.knows
 
--- a call that may want memory: not a bad frame, nor the count of one id, nor the end of a transaction that is asked for, nor
--- a Level
+-- a call that may want memory: not a bad frame, nor the count of one id, nor the end of a transaction that is asked
+-- for, nor a Level
 abbrev pub MayWant : Result Request Bad → Type 0
 MayWant (Err bad) = ⊥
 MayWant (Ok Start) = Unit {0}

@@ -48,8 +48,8 @@ into_window i K before now = from_to (max now (before + window) + 1) (min (K.com
 abbrev pub if_risen : ℕ → ℕ → List Packet
 if_risen before now = if nat_lt before now then Dsmark now ∷ [] else []
 
--- what an own commit puts out, from one knowledge to the next: itself to each peer in whose window it is, and the durable
--- mark where it rose
+-- what an own commit puts out, from one knowledge to the next: itself to each peer in whose window it is, and the
+-- durable mark where it rose
 abbrev pub own_to : Catalog → SiteId → Knowledge → Knowledge → SiteId → List Packet
 own_to catalog i before K k =
     (if nat_le (K.committed i) (K.acknowledged k + window) then propagates i K (K.committed i ∷ []) else [])
@@ -64,14 +64,16 @@ prepare_of catalog K n tx k = Prepare n tx.tid tx.start (objects_at catalog K k 
 
 -- to a site, of the slow commits that wait for its vote: its PREPARE
 abbrev pub prepare_if_waits : Catalog → Knowledge → SiteId → ℕ → Slow → List Packet
-prepare_if_waits catalog K k n (Undecided tx asked) = if has_site k asked && not (has_site k (K.said_yes n)) then prepare_of catalog K n tx k ∷ [] else []
+prepare_if_waits catalog K k n (Undecided tx asked) =
+    if has_site k asked && not (has_site k (K.said_yes n)) then prepare_of catalog K n tx k ∷ [] else []
 prepare_if_waits catalog K k n Unused = []
 prepare_if_waits catalog K k n (Dropped tx asked) = []
 prepare_if_waits catalog K k n (Decided tx) = []
 
 -- of those that ended without a commit, where it hasn't said RELEASED: its RELEASE
 abbrev pub release_if_owed : Knowledge → SiteId → ℕ → Slow → List Packet
-release_if_owed K k n (Dropped tx asked) = if has_site k asked && not (has_site k (K.said_released n)) then Release n ∷ [] else []
+release_if_owed K k n (Dropped tx asked) =
+    if has_site k asked && not (has_site k (K.said_released n)) then Release n ∷ [] else []
 release_if_owed K k n Unused = []
 release_if_owed K k n (Undecided tx asked) = []
 release_if_owed K k n (Decided tx) = []

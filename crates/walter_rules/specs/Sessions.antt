@@ -5,8 +5,8 @@ use Rattle.walter_base.specs.declared.transaction.Tx.{Tx}
 use Rattle.walter_base.specs.declared.update.Update.{Update}
 use Rattle.walter_base.specs.ByClient.{of_client}
 
--- a client's transaction: its name, its snapshot as a vector, its updates in order, and the number of its slow commit, 0
--- while it is open
+-- a client's transaction: its name, its snapshot as a vector, its updates in order, and the number of its slow
+-- commit, 0 while it is open
 pub record Session : Type 0 where
   pub tid : Tid
   pub snapshot : List ℕ

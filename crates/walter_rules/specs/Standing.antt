@@ -19,8 +19,8 @@ use Rattle.walter_rules.specs.Sending.{Send}
 use Rattle.walter_rules.specs.Sessions.{Session, Sessions, session_in}
 
 -- whether a site is up; what it knows, or what its records tell where it is down; its records in order; the record in
--- flight, which its journal has or hasn't; for each client the transaction that a stop ended, of which the client wasn't
--- told; and how many packets were put out to each site
+-- flight, which its journal has or hasn't; for each client the transaction that a stop ended, of which the client
+-- wasn't told; and how many packets were put out to each site
 pub record Standing : Type 0 where
   pub up : Bool
   pub knows : Knowledge
@@ -40,7 +40,8 @@ records_after (Some rec) records = records ++ rec ∷ []
 -- a restart found the record in flight in the journal
 abbrev pub settled : Catalog → SiteId → Option Record → Standing → Standing
 settled catalog i None S = S
-settled catalog i (Some rec) S = record S { knows = recorded catalog i (Some rec) S.knows; records = S.records ++ rec ∷ []; flight = None }
+settled catalog i (Some rec) S = record S { knows = recorded catalog i (Some rec) S.knows; records =
+    S.records ++ rec ∷ []; flight = None }
 
 -- whether the site goes down
 abbrev pub goes_down : Event → Outcome → Bool

@@ -23,7 +23,8 @@ use Rattle.walter_rules.specs.Standing.{Standing, unmade, settled, stands_after}
 -- how a site stands by these entries, the newest of which comes first
 abbrev pub standing : Catalog → SiteId → List Entry → Standing
 standing catalog i [] = unmade
-standing catalog i (e ∷ older) = stands_after catalog i (settled catalog i e.came.kept (standing catalog i older)) e.event e.came
+standing catalog i (e ∷ older) =
+    stands_after catalog i (settled catalog i e.came.kept (standing catalog i older)) e.event e.came
 
 -- the stamp of the newest entry
 abbrev pub clock : List Entry → ℕ
@@ -48,14 +49,16 @@ lane_places = 1024
 abbrev pub carried_one : SiteId → (SiteId → ℕ) → SiteId → ℕ
 carried_one to carried k = if same_site to k then carried k + 1 else carried k
 
--- Of what is to be put out, all is, in order; but what goes to a lane that has carried 1,024 packets may be lost there, and
--- is counted.
+-- Of what is to be put out, all is, in order; but what goes to a lane that has carried 1,024 packets may be lost
+-- there, and is counted.
 pub data IsPutOut : (SiteId → ℕ) → List Send → List Send → ℕ → Type 0 where
   all_out : (carried : SiteId → ℕ) → IsPutOut carried [] [] 0
   put_out : (carried : SiteId → ℕ) (send : Send) (planned sends : List Send) (dropped : ℕ)
-      → IsPutOut (carried_one send.0 carried) planned sends dropped → IsPutOut carried (send ∷ planned) (send ∷ sends) dropped
+      → IsPutOut (carried_one send.0 carried) planned sends dropped
+      → IsPutOut carried (send ∷ planned) (send ∷ sends) dropped
   drops : (carried : SiteId → ℕ) (send : Send) (planned sends : List Send) (dropped : ℕ)
-      → lane_places ≤ carried send.0 → IsPutOut carried planned sends dropped → IsPutOut carried (send ∷ planned) sends (dropped + 1)
+      → lane_places ≤ carried send.0 → IsPutOut carried planned sends dropped
+      → IsPutOut carried (send ∷ planned) sends (dropped + 1)
 
 -- it comes to what the rule says
 pub record IsAsRuled (S : Standing) (expected : Expected) (came : Came) : Type 0 where
@@ -87,8 +90,8 @@ abbrev pub fullness : Event → ℕ → ℕ → Outcome
 fullness (Given (Call client call)) need left = Replied (Refused (JournalFull need left))
 fullness event need left = Full need left
 
--- an event that may want memory: some calls, what comes from other sites, an Advance and a Tick at a site that is up; and a
--- restart of one that is down
+-- an event that may want memory: some calls, what comes from other sites, an Advance and a Tick at a site that is up;
+-- and a restart of one that is down
 abbrev pub TakesMemory : Bool → Event → Type 0
 TakesMemory true (Given (Call client call)) = MayWant call
 TakesMemory true (Given (Deliver from number packet)) = Unit {0}
@@ -97,9 +100,10 @@ TakesMemory true (Given Tick) = Unit {0}
 TakesMemory false Restart = Unit {0}
 TakesMemory up event = ⊥
 
--- what an event may come to: what the rule says; or its record met a fault of the disk; or the journal could not be read;
--- or memory ran out; or the record needs more than is left
-pub data Comes (catalog : Catalog) (capacity : ℕ) (i : SiteId) (S : Standing) (event : Event) (came : Came) : Type 0 where
+-- what an event may come to: what the rule says; or its record met a fault of the disk; or the journal could not be
+-- read; or memory ran out; or the record needs more than is left
+pub data Comes (catalog : Catalog) (capacity : ℕ) (i : SiteId) (S : Standing) (event : Event)
+    (came : Came) : Type 0 where
   ruled : IfSome (rule catalog i S event).wrote (FitsIn capacity S) → IsAsRuled S (rule catalog i S event) came
       → Comes catalog capacity i S event came
   met_fault : (rec : Record) → (rule catalog i S event).wrote ≡ Some rec → FitsIn capacity S rec
@@ -107,7 +111,8 @@ pub data Comes (catalog : Catalog) (capacity : ℕ) (i : SiteId) (S : Standing) 
   unread : event ≡ Restart → S.up ≡ false → IsOnly came Failed None → Comes catalog capacity i S event came
   no_memory : TakesMemory S.up event → IsOnly came (want event) None → Comes catalog capacity i S event came
   full : (rec : Record) → (rule catalog i S event).wrote ≡ Some rec → left_behind capacity S.records < need_of rec
-      → IsOnly came (fullness event (need_of rec) (left_behind capacity S.records)) None → Comes catalog capacity i S event came
+      → IsOnly came (fullness event (need_of rec) (left_behind capacity S.records)) None
+      → Comes catalog capacity i S event came
 
 -- a restart of a site that is down may find the record in flight
 pub record IsFound (S : Standing) (event : Event) (rec : Record) : Type 0 where

@@ -6,9 +6,11 @@ ghost use Rattle.walter_rules.specs.Allowed.{IsAllowed};
 ghost use Rattle.walter_rules.specs.Rule.{rule};
 ghost use Rattle.walter_rules.specs.Standing.{Standing};
 
-/// What the rules say of an event is of one of the kinds, however the site stands; each packet that is to be put out says
-/// what is so, and the packets are in order.
+/// What the rules say of an event is of one of the kinds, however the site stands; each packet that is to be put out
+/// says what is so, and the packets are in order.
 pub fn rules_are_allowed()
-    ensures allowed { (catalog : Catalog) (i : SiteId) (S : Standing) (event : Event) → IsAllowed catalog i S event (rule catalog i S event) }
-    ensures order { (catalog : Catalog) (i : SiteId) (S : Standing) (event : Event) → AreInOrder (rule catalog i S event).sends }
+    ensures allowed { (catalog : Catalog) (i : SiteId) (S : Standing) (event : Event)
+        → IsAllowed catalog i S event (rule catalog i S event) }
+    ensures order { (catalog : Catalog) (i : SiteId) (S : Standing) (event : Event)
+        → AreInOrder (rule catalog i S event).sends }
 {}

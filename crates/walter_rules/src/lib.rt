@@ -1,5 +1,5 @@
-//! The rules of a site among others, as definitions: what comes to a site, what it knows, what is to come of an event, and
-//! which trails are right and linked.
+//! The rules of a site among others, as definitions: what comes to a site, what it knows, what is to come of an
+//! event, and which trails are right and linked.
 #![tactic(auto)]
 
 mod entry;

@@ -1,5 +1,5 @@
--- A run: the entries of all sites, each with its site, the newest first; each is right after those of its own site, and what is
--- delivered was put out before.
+-- A run: the entries of all sites, each with its site, the newest first; each is right after those of its own site,
+-- and what is delivered was put out before.
 use Rattle.std.specs.Prelude.{◌≡◌, ◌<◌, ℕ, List, [], ◌∷◌, length, Contains}
 use Rattle.walter_base.specs.declared.catalog.Catalog.{Catalog}
 use Rattle.walter_base.specs.declared.names.SiteId.{SiteId}
@@ -25,7 +25,8 @@ pub record IsPut (run : List Named) (j i : SiteId) (packet : Packet) : Type 0 wh
 pub record IsNext (catalog : Catalog) (capacity : ℕ) (older : List Named) (n : Named) : Type 0 where
   pub below : n.0.0 < catalog.sites
   pub right : IsRightEntry catalog capacity n.0 (entries_of n.0 older) n.1
-  pub put : (j : SiteId) (number : ℕ) (packet : Packet) → n.1.event ≡ Given (Deliver j number packet) → IsPut older j n.0 packet
+  pub put : (j : SiteId) (number : ℕ) (packet : Packet) → n.1.event ≡ Given (Deliver j number packet)
+      → IsPut older j n.0 packet
 
 abbrev pub IsRun : Catalog → ℕ → List Named → Type 0
 IsRun catalog capacity [] = Unit {0}

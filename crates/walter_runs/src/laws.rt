@@ -6,5 +6,6 @@ ghost use Rattle.walter_runs.specs.Runs.{IsRun, AreRightTrails};
 
 /// The merge of right and linked trails, newest first, is a run.
 pub fn merges_are_runs()
-    ensures { (catalog : Catalog) (capacity : ℕ) (trails : List (List Entry)) → AreRightTrails catalog capacity trails → IsRun catalog capacity (reverse (merge trails)) }
+    ensures { (catalog : Catalog) (capacity : ℕ) (trails : List (List Entry)) → AreRightTrails catalog capacity trails
+        → IsRun catalog capacity (reverse (merge trails)) }
 {}
