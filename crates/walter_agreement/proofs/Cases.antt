@@ -18,10 +18,13 @@ use Rattle.walter_rules.specs.Slow.{Slow, Unused, Undecided, Dropped, Decided, P
 pub site_cases : (a b : SiteId) → ((same_site a b ≡ true) × (a ≡ b)) ⊎ ((same_site a b ≡ false) × (a ≢ b))
 site_cases a b =
     elim (same_site a b) as (λ c. same_site a b ≡ c → ((same_site a b ≡ true) × (a ≡ b))
-        ⊎ ((same_site a b ≡ false) × (a ≢ b))) [
+    ⊎ ((same_site a b ≡ false) × (a ≢ b))) [
       | true ↦ λ is. inl (is, same_site-true a b is)
-      | false ↦ λ is. inr (is, λ e. let t = same_site_refl a in let f : same_site a a ≡ false =
-          subst (λ z. same_site a z ≡ false) (sym e) is in absurd (cc))
+      | false ↦ λ is. inr (
+        is,
+        λ e. let t = same_site_refl a in let f : same_site a a ≡ false =
+            subst (λ z. same_site a z ≡ false) (sym e) is in absurd (cc),
+      )
     ] refl
 
 -- two names of a slow commit name the same one or not
@@ -29,14 +32,14 @@ pub slow_cases : (j : SiteId) (n : ℕ) (k : SiteId) (m : ℕ)
     → ((is_slow j n k m ≡ true) × (j ≡ k) × (n ≡ m)) ⊎ ((is_slow j n k m ≡ false) × (j ≡ k → n ≢ m))
 slow_cases j n k m =
     elim (is_slow j n k m) as (λ c. is_slow j n k m ≡ c → ((is_slow j n k m ≡ true) × (j ≡ k) × (n ≡ m))
-        ⊎ ((is_slow j n k m ≡ false) × (j ≡ k → n ≢ m))) [
+    ⊎ ((is_slow j n k m ≡ false) × (j ≡ k → n ≢ m))) [
       | true ↦ λ is. let parts = both (same_site j k) (nat_eq n m) is in
           inl (is, same_site-true j k parts.0, eqb-true n m parts.1)
       | false ↦ λ is. inr (
         is,
         λ e f. let t : is_slow k m k m ≡ true = rw (same_site_refl k, eq-eqb m m refl) refl in
             let g : is_slow k m k m ≡ false = subst (λ z. is_slow z m k m ≡ false) e
-                (subst (λ z. is_slow j z k m ≡ false) f is) in absurd (cc),
+            (subst (λ z. is_slow j z k m ≡ false) f is) in absurd (cc),
       )
     ] refl
 
@@ -138,13 +141,16 @@ pub lock_cases : (a : Part) (oid : ObjId)
 lock_cases Free oid = inr (refl, λ t objs e. absurd cc)
 lock_cases (Locked u others) oid =
     elim (has_object oid others) as (λ b. has_object oid others ≡ b
-        → ((t : Tid) × (objs : List ObjId) × (Locked u others ≡ Locked t objs) × (has_object oid objs ≡ true)
-        × (has_object oid others ≡ true))
+    → ((t : Tid) × (objs : List ObjId) × (Locked u others ≡ Locked t objs) × (has_object oid objs ≡ true)
+    × (has_object oid others ≡ true))
     ⊎ ((has_object oid others ≡ false) × ((t : Tid) (objs : List ObjId) → Locked u others ≡ Locked t objs
     → has_object oid objs ≡ true → ⊥))) [
       | true ↦ λ is. inl (u, others, refl, is, is)
-      | false ↦ λ is. inr (is, λ t objs e h. let f : others ≡ objs = cc in let g : has_object oid others ≡ true =
-          ap (λ z. has_object oid z) f ∙ h in absurd (cc))
+      | false ↦ λ is. inr (
+        is,
+        λ t objs e h. let f : others ≡ objs = cc in let g : has_object oid others ≡ true =
+            ap (λ z. has_object oid z) f ∙ h in absurd (cc),
+      )
     ] refl
 lock_cases Over oid = inr (refl, λ t objs e. absurd cc)
 
@@ -189,11 +195,11 @@ part_cases f locks locks2 i k m away here p j n = elim (site_cases p i) [
   | inl same ↦ elim (slow_cases k m j n) [
     | inl it ↦
         let now : locks2 i j n ≡ f (locks i j n) = here j n
-            ∙ ap (λ b. if b then f (locks i j n) else locks i j n) it.0 in
+        ∙ ap (λ b. if b then f (locks i j n) else locks i j n) it.0 in
         inr (same.1, sym it.1, sym it.2, subst (λ z. locks2 z j n ≡ f (locks z j n)) (sym same.1) now)
     | inr other ↦
         let now : locks2 i j n ≡ locks i j n = here j n
-            ∙ ap (λ b. if b then f (locks i j n) else locks i j n) other.0 in
+        ∙ ap (λ b. if b then f (locks i j n) else locks i j n) other.0 in
         inl (subst (λ z. locks2 z j n ≡ locks z j n) (sym same.1) now)
   ]
 ]
@@ -207,11 +213,11 @@ standing_cases f slows slows2 i m away here j n = elim (site_cases j i) [
   | inr apart ↦ inl (away j n apart.1)
   | inl same ↦ elim (nat_eq m n) as (λ b. nat_eq m n ≡ b → (slows2 j n ≡ slows j n)
       ⊎ ((j ≡ i) × (n ≡ m) × (slows2 j n ≡ f (slows j n)))) [
-    | true ↦ λ is.
-        let now : slows2 i n ≡ f (slows i n) = here n ∙ ap (λ b. if b then f (slows i n) else slows i n) is in
-        inr (same.1, sym (eqb-true m n is), subst (λ z. slows2 z n ≡ f (slows z n)) (sym same.1) now)
-    | false ↦ λ is.
-        let now : slows2 i n ≡ slows i n = here n ∙ ap (λ b. if b then f (slows i n) else slows i n) is in
-        inl (subst (λ z. slows2 z n ≡ slows z n) (sym same.1) now)
-  ] refl
+        | true ↦ λ is.
+            let now : slows2 i n ≡ f (slows i n) = here n ∙ ap (λ b. if b then f (slows i n) else slows i n) is in
+            inr (same.1, sym (eqb-true m n is), subst (λ z. slows2 z n ≡ f (slows z n)) (sym same.1) now)
+        | false ↦ λ is.
+            let now : slows2 i n ≡ slows i n = here n ∙ ap (λ b. if b then f (slows i n) else slows i n) is in
+            inl (subst (λ z. slows2 z n ≡ slows z n) (sym same.1) now)
+      ] refl
 ]

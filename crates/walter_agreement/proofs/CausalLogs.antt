@@ -28,7 +28,7 @@ causal_push log r causal covered p z here k =
       | inl old ↦
           let l = old.0 in
           subst (λ t. entry_at z.tx.start k ≤ length (of_site k t))
-              (sym (take-append-le p log (r ∷ []) (omega (arith, l)))) (causal p z old.1 k)
+          (sym (take-append-le p log (r ∷ []) (omega (arith, l)))) (causal p z old.1 k)
       | inr last ↦
           subst (λ t. entry_at z.tx.start k ≤ length (of_site k t)) (sym (take_at log (r ∷ []) p (sym last.0)))
           (subst (λ (w : Held). entry_at w.tx.start k ≤ length (of_site k log)) last.1 (covered k))

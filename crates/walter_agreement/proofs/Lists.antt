@@ -101,7 +101,7 @@ filter_of_map p f [] = refl
 filter_of_map p f (x ∷ xs) =
     elim (p (f x)) as
     (λ b. (if b then f x ∷ filter p (map f xs) else filter p (map f xs)) ≡ map f
-        (if b then x ∷ filter (λ y. p (f y)) xs else filter (λ y. p (f y)) xs)) [
+    (if b then x ∷ filter (λ y. p (f y)) xs else filter (λ y. p (f y)) xs)) [
       | true ↦ ap (λ t. f x ∷ t) (filter_of_map p f xs)
       | false ↦ filter_of_map p f xs
     ]
@@ -132,7 +132,7 @@ place_filtered p (z ∷ xs) x (suc a) h is =
     let r = place_filtered p xs x a h is in
     elim (p z) as
     (λ b. slice_get (if b then z ∷ filter p xs else filter p xs)
-        (length (if b then z ∷ filter p (take a xs) else filter p (take a xs))) ≡ Some x) [ true ↦ r | false ↦ r ]
+    (length (if b then z ∷ filter p (take a xs) else filter p (take a xs))) ≡ Some x) [ true ↦ r | false ↦ r ]
 
 -- of a list whose first element passes at least one is kept
 one_kept : {X : Type 0} (p : X → Bool) (z : X) (xs : List X) → p z ≡ true → 0 < length (filter p (z ∷ xs))
@@ -148,7 +148,7 @@ more_kept p (z ∷ xs) x (suc a) (suc b) l h is =
     let r = more_kept p xs x a b (omega arith) h is in
     elim (p z) as
     (λ c. length (if c then z ∷ filter p (take a xs) else filter p (take a xs)) < length
-        (if c then z ∷ filter p (take b xs) else filter p (take b xs))) [ true ↦ omega (arith, r) | false ↦ r ]
+    (if c then z ∷ filter p (take b xs) else filter p (take b xs))) [ true ↦ omega (arith, r) | false ↦ r ]
 
 -- what is kept is kept in order
 pub filter_order : {X : Type 0} (p : X → Bool) (xs : List X) (x y : X) (m n : ℕ) → m < n

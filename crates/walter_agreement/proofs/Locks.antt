@@ -190,16 +190,20 @@ module _ (preferred : ObjId → SiteId) (owns known : SiteId → List Held) (cou
       subst (λ k. begun (slows2 k n) ≡ Some x) (sym ej) (subst (λ k. begun (slows2 c k) ≡ Some x) (sym en) is) in
       let free_at : (p j : SiteId) (n : ℕ) → p ≡ i → j ≡ c → n ≡ m → locks p j n ≡ Free = λ p j n ep ej en.
       subst (λ z. locks z j n ≡ Free) (sym ep)
-          (subst (λ z. locks i z n ≡ Free) (sym ej) (subst (λ z. locks i c z ≡ Free) (sym en) free)) in
+      (subst (λ z. locks i z n ≡ Free) (sym ej) (subst (λ z. locks i c z ≡ Free) (sym en) free)) in
       record {
         held = λ p j n t os h. elim (come p j n) [
           | inl same ↦ let o = L.held p j n t os (sym same ∙ h) in (o.0, ap begun (stays j n o.0 o.1) ∙ o.1, o.2, o.3)
           | inr new ↦
               let f : Locked x.tid objs ≡ Locked t os = sym new.3 ∙ h in
               let ft : x.tid ≡ t = cc in
-              let fo : objs ≡ os = cc in
-              (x, is_at j n new.1 new.2, sym ft, subst (λ z. AgreesAt preferred p x z) fo
-                  (subst (λ k. AgreesAt preferred k x objs) (sym new.0) agrees))
+              let fo : objs ≡ os = cc in (
+                x,
+                is_at j n new.1 new.2,
+                sym ft,
+                subst (λ z. AgreesAt preferred p x z) fo
+                    (subst (λ k. AgreesAt preferred k x objs) (sym new.0) agrees),
+              )
         ];
         over = λ p j n h. elim (come p j n) [
           | inl same ↦ let o = L.over p j n (sym same ∙ h) in elim (begins j n) [
@@ -215,14 +219,14 @@ module _ (preferred : ObjId → SiteId) (owns known : SiteId → List Held) (cou
                 let f : Locked x.tid objs ≡ Locked u bs = sym nb.3 ∙ b in
                 let fo : objs ≡ bs = cc in
                 absurd (unlocked j n t ws oid (subst (λ z. locks z j n ≡ Locked t ws) nb.0 (sym sa ∙ a)) ca
-                    (subst (λ z. Contains z oid) (sym fo) cb) (pr ∙ nb.0))
+                (subst (λ z. Contains z oid) (sym fo) cb) (pr ∙ nb.0))
           ]
           | inr na ↦ elim (come p k l) [
             | inl sb ↦
                 let f : Locked x.tid objs ≡ Locked t ws = sym na.3 ∙ a in
                 let fo : objs ≡ ws = cc in
                 absurd (unlocked k l u bs oid (subst (λ z. locks z k l ≡ Locked u bs) na.0 (sym sb ∙ b)) cb
-                    (subst (λ z. Contains z oid) (sym fo) ca) (pr ∙ na.0))
+                (subst (λ z. Contains z oid) (sym fo) ca) (pr ∙ na.0))
             | inr nb ↦ (na.1 ∙ sym nb.1, na.2 ∙ sym nb.2)
           ]
         ];
@@ -236,8 +240,8 @@ module _ (preferred : ObjId → SiteId) (owns known : SiteId → List Held) (cou
               let fo : objs ≡ os = cc in
               let e : x ≡ y = same_open (slows2 j n) x y asked (is_at j n new.1 new.2) o in
               subst (λ (z : Tx). IsUnmodified preferred p z.start os (known p)) e
-                  (subst (λ z. IsUnmodified preferred p x.start z (known p)) fo
-                      (subst (λ k. IsUnmodified preferred k x.start objs (known k)) (sym new.0) unmodified))
+              (subst (λ z. IsUnmodified preferred p x.start z (known p)) fo
+              (subst (λ k. IsUnmodified preferred k x.start objs (known k)) (sym new.0) unmodified))
         ];
         waits = λ p k q r oid here low w pr.
             let o = L.waits p k q r oid here low w pr in
@@ -260,9 +264,13 @@ module _ (preferred : ObjId → SiteId) (owns known : SiteId → List Held) (cou
                 | inr new ↦ absurd (locked_not_free (locks p p n) h.0 h.1 h.2 (free_at p p n new.0 new.1 new.2))
               ]
           | inr new ↦
-              let e : x ≡ y = same_open (slows2 p n) x y asked (ap begun new.2) o in
-              (x.tid, objs, new.4, (agrees oid (pr ∙ new.3)).1
-                  (subst (λ (z : Tx). Contains (write_set z.updates) oid) (sym e) w))
+              let e : x ≡ y = same_open (slows2 p n) x y asked (ap begun new.2) o in (
+                x.tid,
+                objs,
+                new.4,
+                (agrees oid (pr ∙ new.3)).1
+                    (subst (λ (z : Tx). Contains (write_set z.updates) oid) (sym e) w),
+              )
         ];
         gone = λ p k q r apart here low s.
             let o = L.gone p k q r apart here low s in
@@ -329,7 +337,7 @@ module _ (preferred : ObjId → SiteId) (owns known : SiteId → List Held) (cou
           | inl was ↦ L.clean p j n t objs x asked (old p j n t objs h) (open_ j n x asked o) z q oid was w c pr
           | inr new ↦ absurd (free j n t objs oid
               (subst (λ k. locks k j n ≡ Locked t objs) new.0 (old p j n t objs h)) c
-                  (subst (λ (y : Held). Contains (write_set y.tx.updates) oid) (sym new.1) w) (pr ∙ new.0) x asked o)
+              (subst (λ (y : Held). Contains (write_set y.tx.updates) oid) (sym new.1) w) (pr ∙ new.0) x asked o)
         ];
         waits = λ p k q z oid here low w pr. elim (own k q z here) [
           | inl was ↦
@@ -342,15 +350,15 @@ module _ (preferred : ObjId → SiteId) (owns known : SiteId → List Held) (cou
             | inl at_i ↦ absurd (own_site p k q z (at_i.1 ∙ sym new.0) here low)
             | inr away ↦ subst (λ (y : Held). IsHeld (locks2 p k y.tx.slow) oid) new.2
                 (subst (λ a. IsHeld (locks2 p a r.tx.slow) oid) (sym new.0)
-                    (waits_new p oid (subst (λ (y : Held). Contains (write_set y.tx.updates) oid)
-                        (sym new.2) w) pr away.1))
+                (waits_new p oid (subst (λ (y : Held). Contains (write_set y.tx.updates) oid)
+                (sym new.2) w) pr away.1))
           ]
         ];
         fast = λ k q z here s. elim (own k q z here) [
           | inl was ↦ L.fast k q z was s
           | inr new ↦ subst (λ (y : Held). AreLocal preferred k y.tx.updates) new.2
               (subst (λ a. AreLocal preferred a r.tx.updates) (sym new.0)
-                  (fast_new (ap (λ (y : Held). y.tx.slow) new.2 ∙ s)))
+              (fast_new (ap (λ (y : Held). y.tx.slow) new.2 ∙ s)))
         ];
         slow = λ k q z here s. elim (own k q z here) [
           | inl was ↦ elim (decides k z.tx.slow) [
@@ -359,7 +367,7 @@ module _ (preferred : ObjId → SiteId) (owns known : SiteId → List Held) (cou
           ]
           | inr new ↦ subst (λ (y : Held). slows2 k y.tx.slow ≡ Decided y.tx) new.2
               (subst (λ a. slows2 a r.tx.slow ≡ Decided r.tx) (sym new.0)
-                  (slow_new (λ e. s (ap (λ (y : Held). y.tx.slow) (sym new.2) ∙ e))))
+              (slow_new (λ e. s (ap (λ (y : Held). y.tx.slow) (sym new.2) ∙ e))))
         ];
         once = λ k q p a b ha hb s e. elim (own k q a ha) [
           | inl wa ↦ elim (own k p b hb) [
@@ -372,7 +380,7 @@ module _ (preferred : ObjId → SiteId) (owns known : SiteId → List Held) (cou
             | inl wb ↦
                 let same : b.tx.slow ≡ r.tx.slow = sym e ∙ ap (λ (y : Held). y.tx.slow) (sym na.2) in
                 absurd (once_new p b (subst (λ z. slice_get (owns z) p ≡ Some b) na.0 wb)
-                    (λ f. s (e ∙ (same ∙ f))) same)
+                (λ f. s (e ∙ (same ∙ f))) same)
             | inr nb ↦ na.1 ∙ sym nb.1
           ]
         ];
@@ -409,17 +417,17 @@ module _ (preferred : ObjId → SiteId) (owns known : SiteId → List Held) (cou
       | inl was ↦ L.clean p j n t objs x asked h o z q oid was w c pr
       | inr new ↦
           let writes : Contains (write_set r.tx.updates) oid =
-              subst (λ (y : Held). Contains (write_set y.tx.updates) oid) (sym new.1) w in
+          subst (λ (y : Held). Contains (write_set y.tx.updates) oid) (sym new.1) w in
           let waiting = L.waits i k q0 r oid owned_ low writes (pr ∙ new.0) in
           let one = L.single i j k n r.tx.slow t waiting.0 objs waiting.1 oid
-              (subst (λ a. locks a j n ≡ Locked t objs) new.0 h) waiting.2 c waiting.3 (pr ∙ new.0) in
+          (subst (λ a. locks a j n ≡ Locked t objs) new.0 h) waiting.2 c waiting.3 (pr ∙ new.0) in
           elim (zero_or r.tx.slow) [
             | inl fast_ ↦ absurd (apart (sym (L.fast k q0 r owned_ fast_ oid writes) ∙ (pr ∙ new.0)))
             | inr slow_ ↦
                 let d = L.slow k q0 r owned_ slow_ in
                 absurd (decided_not_open (slows k r.tx.slow) r.tx x asked d
-                    (subst (λ a. slows k a ≡ Undecided x asked) one.1
-                        (subst (λ a. slows a n ≡ Undecided x asked) one.0 o)))
+                (subst (λ a. slows k a ≡ Undecided x asked) one.1
+                (subst (λ a. slows a n ≡ Undecided x asked) one.0 o)))
           ]
     ];
     waits = L.waits;
@@ -464,8 +472,8 @@ module _ (preferred : ObjId → SiteId) (owns known : SiteId → List Held) (cou
             let one = L.single p i k n z.tx.slow mine.0 h.0 mine.1 h.1 oid mine.2 h.2 mine.3 h.3 refl in
             let d = L.slow k q z here (λ e. some (one.1 ∙ e)) in
             absurd (decided_not_open (slows k z.tx.slow) z.tx x asked d
-                (subst (λ a. slows k a ≡ Undecided x asked) one.1
-                    (subst (λ a. slows a n ≡ Undecided x asked) one.0 open_)))
+            (subst (λ a. slows k a ≡ Undecided x asked) one.1
+            (subst (λ a. slows a n ≡ Undecided x asked) one.0 open_)))
       ]
 
   -- a site that has something of a slow commit holds its lock, while it is undecided

@@ -60,11 +60,11 @@ module _ (preferred : ObjId → SiteId) (owns known : SiteId → List Held) (cou
       let part = part_cases (λ a. Locked x.tid objs) locks locks2 i i m away_ here_ in
       let standing = standing_cases (λ g. Undecided x asked) slows slows2 i m away here in
       let locked_now : locks2 i i m ≡ Locked x.tid objs = here_ i m
-          ∙ ap (λ b. if b then Locked x.tid objs else locks i i m) (slow_itself i m i m refl refl) in
+      ∙ ap (λ b. if b then Locked x.tid objs else locks i i m) (slow_itself i m i m refl refl) in
       let begun_now : begun (slows2 i m) ≡ Some x = elim (standing i m) [
         | inl same ↦ absurd (let f = here m in
             not_unused (slows2 i m) x
-                (ap begun (f ∙ ap (λ b. if b then Undecided x asked else slows i m) (eq-eqb m m refl))) (same ∙ unused))
+            (ap begun (f ∙ ap (λ b. if b then Undecided x asked else slows i m) (eq-eqb m m refl))) (same ∙ unused))
         | inr now ↦ ap begun now.2
       ] in
       comes preferred owns known counts slows locks L slows2 locks2 i i m objs x
@@ -132,7 +132,7 @@ module _ (preferred : ObjId → SiteId) (owns known : SiteId → List Held) (cou
       → AreLocked preferred owns known counts slows2 locks2
   by_slow_end slows2 locks2 m full away here away_ here_ =
       let now_ended : slows2 i m ≡ ended (slows i m) = here m ∙ ap (λ b. if b then ended (slows i m) else slows i m)
-          (eq-eqb m m refl) in
+      (eq-eqb m m refl) in
       ends_here slows2 locks2 full
       (λ j n. elim (standing_cases ended slows slows2 i m away here j n) [
         | inl same ↦ inl same
@@ -140,8 +140,12 @@ module _ (preferred : ObjId → SiteId) (owns known : SiteId → List Held) (cou
       ])
       (λ p j n. elim (part_cases unlocked locks locks2 i i m away_ here_ p j n) [
         | inl same ↦ inl same
-        | inr now ↦ inr (now.0 ∙ sym now.1, now.3, subst (λ z. slows2 z n ≡ ended (slows z n)) (sym now.1)
-            (subst (λ z. slows2 i z ≡ ended (slows i z)) (sym now.2) now_ended))
+        | inr now ↦ inr (
+          now.0 ∙ sym now.1,
+          now.3,
+          subst (λ z. slows2 z n ≡ ended (slows z n)) (sym now.1)
+              (subst (λ z. slows2 i z ≡ ended (slows i z)) (sym now.2) now_ended),
+        )
       ])
 
   -- Boot: all slow commits of i that are undecided end
@@ -190,7 +194,7 @@ module _ (preferred : ObjId → SiteId) (owns known : SiteId → List Held) (cou
               (x, inl (asked, dropped_at j n now.1 now.2)),
           λ apart q r has some e. absurd (
               let f : Dropped x asked ≡ Decided r.tx = sym (dropped_at j n now.1 now.2)
-                  ∙ subst (λ z. slows j z ≡ Decided r.tx) e (L.slow j q r has some) in
+              ∙ subst (λ z. slows j z ≡ Decided r.tx) e (L.slow j q r has some) in
               cc
               ),
         )
@@ -239,14 +243,14 @@ module _ (preferred : ObjId → SiteId) (owns known : SiteId → List Held) (cou
         | inl same ↦ inl same
         | inr now ↦
             let done : slows j n ≡ Decided r.tx = subst (λ z. slows z n ≡ Decided r.tx) (sym now.1)
-                (subst (λ z. slows k z ≡ Decided r.tx) (sym now.2) (L.slow k (counts i k) r has now.3)) in
+            (subst (λ z. slows k z ≡ Decided r.tx) (sym now.2) (L.slow k (counts i k) r has now.3)) in
             inr (
               over_loosed p j (locks2 p j n) (slows j n) now.4 (λ e. other (sym now.1 ∙ (sym e ∙ now.0)))
                   (r.tx, inr done),
               λ apart q z at some e.
                   let same : q ≡ counts i k =
-                      L.once k q (counts i k) z r (subst (λ y. slice_get (owns y) q ≡ Some z) now.1 at) has some
-                          (e ∙ now.2) in
+                  L.once k q (counts i k) z r (subst (λ y. slice_get (owns y) q ≡ Some z) now.1 at) has some
+                  (e ∙ now.2) in
                   let c = count_at p j now.0 now.1 in
                   omega (arith, same, c),
             )
@@ -262,14 +266,14 @@ module _ (preferred : ObjId → SiteId) (owns known : SiteId → List Held) (cou
             let d : counts p j ≡ counts i k = ap (λ y. counts y j) it.0 ∙ ap (λ y. counts i y) it.1 in
             let place : q ≡ counts i k = omega (arith, c, d, low, high) in
             let row : ◌≡◌ {A = Option Held} (Some z) (Some r) = sym at
-                ∙ (ap (λ y. slice_get (owns y) q) it.1 ∙ (ap (λ y. slice_get (owns k) y) place ∙ has)) in
+            ∙ (ap (λ y. slice_get (owns y) q) it.1 ∙ (ap (λ y. slice_get (owns k) y) place ∙ has)) in
             let same : z ≡ r = same_Some z r row in
             let s : r.tx.slow ≢ 0 = λ e. some (ap (λ (y : Held). y.tx.slow) same ∙ e) in
             let now : locks2 i k r.tx.slow ≡ Over = some_ s k r.tx.slow
-                ∙ ap (λ b. if b then Over else locks i k r.tx.slow) (slow_itself k r.tx.slow k r.tx.slow refl refl) in
+            ∙ ap (λ b. if b then Over else locks i k r.tx.slow) (slow_itself k r.tx.slow k r.tx.slow refl refl) in
             subst (λ y. locks2 y j z.tx.slow ≡ Over) (sym it.0)
-                (subst (λ y. locks2 i y z.tx.slow ≡ Over) (sym it.1)
-                    (subst (λ (y : Held). locks2 i k y.tx.slow ≡ Over) (sym same) now))
+            (subst (λ y. locks2 i y z.tx.slow ≡ Over) (sym it.1)
+            (subst (λ (y : Held). locks2 i k y.tx.slow ≡ Over) (sym same) now))
       ])
 
   -- Own: a fast commit of i
@@ -301,7 +305,7 @@ module _ (preferred : ObjId → SiteId) (owns known : SiteId → List Held) (cou
   by_decision owns2 known2 counts2 slows2 locks2 r asked C some open_ voted away here away_ here_ =
       let now_decided : slows2 i r.tx.slow ≡ Decided r.tx =
       here r.tx.slow ∙ (ap (λ b. if b then decided (slows i r.tx.slow) else slows i r.tx.slow)
-          (eq-eqb r.tx.slow r.tx.slow refl) ∙ ap decided open_) in
+      (eq-eqb r.tx.slow r.tx.slow refl) ∙ ap decided open_) in
       let decided_at : (j : SiteId) (n : ℕ) → j ≡ i → n ≡ r.tx.slow → slows2 j n ≡ Decided r.tx = λ j n ej en.
       subst (λ z. slows2 z n ≡ Decided r.tx) (sym ej) (subst (λ z. slows2 i z ≡ Decided r.tx) (sym en) now_decided) in
       let all = all_held preferred owns known counts slows locks L i r.tx.slow r.tx asked open_ voted in
@@ -334,4 +338,4 @@ module _ (preferred : ObjId → SiteId) (owns known : SiteId → List Held) (cou
       (λ q z at s same.
       let d : slows i z.tx.slow ≡ Decided z.tx = L.slow i q z at (λ e. s (sym same ∙ e)) in
       decided_not_open (slows i z.tx.slow) z.tx r.tx asked d
-          (subst (λ y. slows i y ≡ Undecided r.tx asked) (sym same) open_))
+      (subst (λ y. slows i y ≡ Undecided r.tx asked) (sym same) open_))

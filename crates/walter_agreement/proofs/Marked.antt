@@ -65,7 +65,7 @@ durable_by_count preferred f owned got m sites has r distinct true_ here enough 
   among = λ oid c.
       let h = homes oid c in
       All-contains (λ x. has x ≡ true → Contains (filter has sites) x) sites (preferred oid)
-          (All-Contains_filter has sites) h.0 h.1;
+      (All-Contains_filter has sites) h.0 h.1;
 }
 
 -- who has commit m of site i by what was heard: the site itself, and each that acknowledged so many
@@ -135,7 +135,7 @@ pub record AreMarked (preferred : ObjId → SiteId) (sites : List SiteId) (f : �
 -- at first nothing was put out, no marks are above 0, and no site has committed anything of another
 pub none_marked : (preferred : ObjId → SiteId) (sites : List SiteId) (f : ℕ) (owns : SiteId → List Held)
     (got committed : SiteId → SiteId → ℕ) (put : SiteId → SiteId → Packet → Type 0) (durable visible : SiteId → ℕ)
-        (pend : SiteId → Option Record)
+    (pend : SiteId → Option Record)
     → ((k j : SiteId) (packet : Packet) → ¬ put k j packet) → ((i : SiteId) → durable i ≡ 0)
     → ((i : SiteId) → visible i ≡ 0)
     → ((i : SiteId) → pend i ≡ None) → ((i j : SiteId) → i ≢ j → committed i j ≡ 0)
@@ -167,9 +167,11 @@ module _ (preferred : ObjId → SiteId) (sites : List SiteId) (f : ℕ) (owns ow
   pub record_later : (i : SiteId) (r : Record) → IsTrueRecord preferred sites f owns got committed i r
       → IsTrueRecord preferred sites f owns2 got2 committed2 i r
   record_later i (Seen j m) h = later j m m (omega arith) h
-  record_later i (Marks d v) h =
-      (later i d d (omega arith) h.0, visible_later sites (λ s. committed s i) (λ s. committed2 s i)
-          (λ k. done k i) v v (omega arith) h.1)
+  record_later i (Marks d v) h = (
+    later i d d (omega arith) h.0,
+    visible_later sites (λ s. committed s i) (λ s. committed2 s i)
+        (λ k. done k i) v v (omega arith) h.1,
+  )
   record_later i written h = tt
 
   pub marked_later : (put put2 : SiteId → SiteId → Packet → Type 0) (durable durable2 visible visible2 : SiteId → ℕ)

@@ -19,7 +19,7 @@ IsPushed lists longer s r = (longer s ≡ lists s ++ r ∷ []) × ((i : SiteId) 
 abbrev pub IsCounted : (SiteId → SiteId → ℕ) → (SiteId → SiteId → ℕ) → SiteId → SiteId → Type 0
 IsCounted counts higher s j =
     (i k : SiteId) → ((s ≡ i → j ≡ k → ⊥) × (higher i k ≡ counts i k))
-        ⊎ ((s ≡ i) × (j ≡ k) × (higher i k ≡ suc (counts i k)))
+    ⊎ ((s ≡ i) × (j ≡ k) × (higher i k ≡ suc (counts i k)))
 
 -- own commits are of their site, numbered 1, 2, .., and all committed there
 pub record AreOwned (owns : SiteId → List Held) (counts : SiteId → SiteId → ℕ) : Type 0 where
@@ -53,8 +53,12 @@ counted_at counts higher s j here elsewhere i k =
     elim (site_cases s i) [
       | inl at_s ↦ elim (site_cases j k) [
         | inl of_j ↦
-            inr (at_s.1, of_j.1, subst (λ a. higher a k ≡ suc (counts a k)) at_s.1
-                (subst (λ b. higher s b ≡ suc (counts s b)) of_j.1 here))
+            inr (
+              at_s.1,
+              of_j.1,
+              subst (λ a. higher a k ≡ suc (counts a k)) at_s.1
+                  (subst (λ b. higher s b ≡ suc (counts s b)) of_j.1 here),
+            )
         | inr other ↦ let apart = λ (a : s ≡ i) (b : j ≡ k). other.1 b in inl (apart, elsewhere i k apart)
       ]
       | inr away ↦ let apart = λ (a : s ≡ i) (b : j ≡ k). away.1 a in inl (apart, elsewhere i k apart)
@@ -119,8 +123,11 @@ pushed_of logs longer s r push i k =
           let now : longer i ≡ logs i ++ r ∷ [] = subst (λ (j : SiteId). longer j ≡ logs j ++ r ∷ []) here.1 push.0 in
           elim (site_cases r.tx.tid.site k) [
             | inl ours ↦ inr (here.1, ours.1, ap (λ t. of_site k t) now ∙ filter_push_kept (is_of k) (logs i) r ours.0)
-            | inr theirs ↦ inl (λ a b. theirs.1 b, ap (λ t. of_site k t) now
-                ∙ filter_push_left (is_of k) (logs i) r theirs.0)
+            | inr theirs ↦ inl (
+              λ a b. theirs.1 b,
+              ap (λ t. of_site k t) now
+                  ∙ filter_push_left (is_of k) (logs i) r theirs.0,
+            )
           ]
       | inr away ↦ inl (λ a b. away.1 a, ap (λ t. of_site k t) (push.1 i away.1))
     ]
@@ -172,7 +179,7 @@ numbered_own owns more logs longer counts higher s r n push append count ours ne
       | inl same ↦
           subst (λ (j : SiteId). of_site j (longer j) ≡ more j) same.1
           (ap (λ t. of_site s t) append.0
-              ∙ (filter_push_kept (is_of s) (logs s) r (ap (λ a. same_site a s) ours ∙ same_site_refl s)
+          ∙ (filter_push_kept (is_of s) (logs s) r (ap (λ a. same_site a s) ours ∙ same_site_refl s)
           ∙ (ap (λ t. t ++ r ∷ []) (n.mine s) ∙ sym push.0)))
       | inr apart ↦ ap (λ t. of_site k t) (append.1 k apart.1) ∙ (n.mine k ∙ sym (push.1 k apart.1))
     ] in
@@ -249,7 +256,7 @@ numbered_got owns logs longer counts s j r n append apart next =
               subst (λ (a : SiteId). slice_get (owns k) (length (of_site k (logs a))) ≡ Some r) one.0
               (subst (λ (b : SiteId). slice_get (owns b) (length (of_site b (logs s))) ≡ Some r) is next) in
               subst (λ t. IsPrefix t (owns k)) (sym one.2)
-                  (prefix_push (of_site k (logs i)) (owns k) r ((n.held i).fronts k) there)
+              (prefix_push (of_site k (logs i)) (owns k) r ((n.held i).fronts k) there)
         ];
         within = λ k.
             let before = (n.held i).within k in

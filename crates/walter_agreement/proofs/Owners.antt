@@ -128,7 +128,7 @@ module _ (part : SiteId → ℕ → Part) (owner : ObjId → Option Tid) (O : Ar
       let here : (j : SiteId) (n : ℕ) (t : Tid) (objs : List ObjId) → same_site j i ≡ true
       → part2 j n ≢ Locked t objs = λ j n t objs is h.
       unlocked_not_locked (part j n) t objs
-          (sym (is_part j n ∙ ap (λ b. if b then unlocked (part j n) else part j n) is) ∙ h) in
+      (sym (is_part j n ∙ ap (λ b. if b then unlocked (part j n) else part j n) is) ∙ h) in
       loosens part2 owner2
       (λ j n. elim (site_cases j i) [
         | inl same ↦ inr (λ t objs h. here j n t objs same.0 h)
@@ -140,18 +140,20 @@ module _ (part : SiteId → ℕ → Part) (owner : ObjId → Option Tid) (O : Ar
             (ap (λ z. same_site z i) (site j n t objs a) ∙ apart.0)
       ])
       (λ oid t h. elim (owner oid) as (λ o. owner oid ≡ o → (owner oid ≡ Some t)
-          × ((j : SiteId) (n : ℕ) (objs : List ObjId) → part j n ≡ Locked t objs → has_object oid objs ≡ true
-          → part2 j n ≡ part j n)) [
+      × ((j : SiteId) (n : ℕ) (objs : List ObjId) → part j n ≡ Locked t objs → has_object oid objs ≡ true
+      → part2 j n ≡ part j n)) [
         | None ↦ λ e. absurd (none_not_some (owner2 oid) t (is_none oid e) h)
         | Some u ↦ λ e. elim (site_cases u.site i) [
           | inl same ↦ absurd (none_not_some (owner2 oid) t
               (is_owner oid u e ∙ ap (λ z. if z then None else Some u) same.0) h)
           | inr apart ↦
               let f : ◌≡◌ {A = Option Tid} (Some u) (Some t) =
-                  sym (is_owner oid u e ∙ ap (λ z. if z then None else Some u) apart.0) ∙ h in
-              (e ∙ f, λ j n objs a c. away j n
-                  (ap (λ z. same_site z i) (sym (site j n t objs a)
-                      ∙ ap (λ (y : Tid). y.site) (sym (same_Some u t f))) ∙ apart.0))
+              sym (is_owner oid u e ∙ ap (λ z. if z then None else Some u) apart.0) ∙ h in (
+                e ∙ f,
+                λ j n objs a c. away j n
+                    (ap (λ z. same_site z i) (sym (site j n t objs a)
+                    ∙ ap (λ (y : Tid). y.site) (sym (same_Some u t f))) ∙ apart.0),
+              )
         ]
       ] refl)
 
@@ -168,7 +170,7 @@ module _ (part : SiteId → ℕ → Part) (owner : ObjId → Option Tid) (O : Ar
       let here : (j : SiteId) (n : ℕ) (t : Tid) (objs : List ObjId) → same_site i j ≡ true
       → part2 j n ≢ Locked t objs = λ j n t objs is h.
       unlocked_not_locked (part j n) t objs
-          (sym (is_part j n ∙ ap (λ b. if b then unlocked (part j n) else part j n) is) ∙ h) in
+      (sym (is_part j n ∙ ap (λ b. if b then unlocked (part j n) else part j n) is) ∙ h) in
       loosens part2 owner2
       (λ j n. elim (site_cases i j) [
         | inl same ↦ inr (λ t objs h. here j n t objs same.0 h)
@@ -187,8 +189,8 @@ module _ (part : SiteId → ℕ → Part) (owner : ObjId → Option Tid) (O : Ar
         ] refl
       ])
       (λ oid t h. elim (is_locked oid) as (λ z. is_locked oid ≡ z → (owner oid ≡ Some t)
-          × ((j : SiteId) (n : ℕ) (objs : List ObjId) → part j n ≡ Locked t objs → has_object oid objs ≡ true
-          → part2 j n ≡ part j n)) [
+      × ((j : SiteId) (n : ℕ) (objs : List ObjId) → part j n ≡ Locked t objs → has_object oid objs ≡ true
+      → part2 j n ≡ part j n)) [
         | true ↦ λ is. absurd (none_not_some (owner2 oid) t
             (is_owner oid ∙ ap (λ z. if z then None else owner oid) is) h)
         | false ↦ λ is. (
@@ -223,28 +225,28 @@ module _ (part : SiteId → ℕ → Part) (owner : ObjId → Option Tid) (O : Ar
       record {
         owned = λ oid u h. elim (has_object oid objs) as (λ b. has_object oid objs ≡ b → (j : SiteId) × (n : ℕ)
             × (os : List ObjId) × (part2 j n ≡ Locked u os) × (has_object oid os ≡ true)) [
-          | true ↦ λ w.
-              let f : ◌≡◌ {A = Option Tid} (Some t) (Some u) =
+              | true ↦ λ w.
+                  let f : ◌≡◌ {A = Option Tid} (Some t) (Some u) =
                   sym (is_owner oid ∙ ap (λ b. if b then Some t else owner oid) w) ∙ h in
-              (k, m, objs, here k m (slow_itself k m k m refl refl) ∙ ap (λ z. Locked z objs) (same_Some t u f), w)
-          | false ↦ λ w.
-              let l = O.owned oid u (sym (is_owner oid ∙ ap (λ b. if b then Some t else owner oid) w) ∙ h) in (
-                l.0,
-                l.1,
-                l.2,
-                elim (slow_cases k m l.0 l.1) [
-                  | inl same ↦ absurd (locked_not_free (part l.0 l.1) u l.2 l.3 (ap (λ z. part z l.1) (sym same.1)
-                      ∙ ap (λ z. part k z) (sym same.2) ∙ free))
-                  | inr apart ↦ away l.0 l.1 apart.0 ∙ l.3
-                ],
-                l.4,
-              )
-        ] refl;
+                  (k, m, objs, here k m (slow_itself k m k m refl refl) ∙ ap (λ z. Locked z objs) (same_Some t u f), w)
+              | false ↦ λ w.
+                  let l = O.owned oid u (sym (is_owner oid ∙ ap (λ b. if b then Some t else owner oid) w) ∙ h) in (
+                    l.0,
+                    l.1,
+                    l.2,
+                    elim (slow_cases k m l.0 l.1) [
+                      | inl same ↦ absurd (locked_not_free (part l.0 l.1) u l.2 l.3 (ap (λ z. part z l.1) (sym same.1)
+                          ∙ ap (λ z. part k z) (sym same.2) ∙ free))
+                      | inr apart ↦ away l.0 l.1 apart.0 ∙ l.3
+                    ],
+                    l.4,
+                  )
+            ] refl;
         locked = λ j n u os oid h c. elim (slow_cases k m j n) [
           | inl same ↦
               let e = same_objects j n u os same.0 h in
               is_owner oid ∙ ap (λ b. if b then Some t else owner oid) (ap (λ z. has_object oid z) e.1 ∙ c)
-                  ∙ ap (λ z. Some z) e.0
+              ∙ ap (λ z. Some z) e.0
           | inr apart ↦
               let was = sym (away j n apart.0) ∙ h in
               elim (has_object oid objs) as (λ b. has_object oid objs ≡ b → owner2 oid ≡ Some u) [

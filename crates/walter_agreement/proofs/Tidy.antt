@@ -70,11 +70,11 @@ on_ended slows slows2 owned2 how n = elim (how n) [
   | inr end ↦ elim (slows n) as (λ g. slows2 n ≡ ended g → (slows2 n ≡ g)
       ⊎ ((x : Tx) × (asked : List SiteId) × (g ≡ Undecided x asked)
       × ((slows2 n ≡ Dropped x asked) ⊎ ((slows2 n ≡ Decided x) × IsOwn owned2 x)))) [
-    | Unused ↦ λ e. inl e
-    | Undecided x asked ↦ λ e. inr (x, asked, refl, inl e)
-    | Dropped x asked ↦ λ e. inl e
-    | Decided x ↦ λ e. inl e
-  ] end
+        | Unused ↦ λ e. inl e
+        | Undecided x asked ↦ λ e. inr (x, asked, refl, inl e)
+        | Dropped x asked ↦ λ e. inl e
+        | Decided x ↦ λ e. inl e
+      ] end
 ]
 
 pub on_decided : (slows slows2 : ℕ → Slow) (owned2 : List Held)
@@ -87,11 +87,11 @@ on_decided slows slows2 owned2 how n = elim (how n) [
   | inr end ↦ elim (slows n) as (λ g. slows n ≡ g → slows2 n ≡ decided g → (slows2 n ≡ g)
       ⊎ ((x : Tx) × (asked : List SiteId) × (g ≡ Undecided x asked)
       × ((slows2 n ≡ Dropped x asked) ⊎ ((slows2 n ≡ Decided x) × IsOwn owned2 x)))) [
-    | Unused ↦ λ was e. inl e
-    | Undecided x asked ↦ λ was e. inr (x, asked, refl, inr (e, end.1 x asked was))
-    | Dropped x asked ↦ λ was e. inl e
-    | Decided x ↦ λ was e. inl e
-  ] refl end.0
+        | Unused ↦ λ was e. inl e
+        | Undecided x asked ↦ λ was e. inr (x, asked, refl, inr (e, end.1 x asked was))
+        | Dropped x asked ↦ λ was e. inl e
+        | Decided x ↦ λ was e. inl e
+      ] refl end.0
 ]
 
 on_begun : (slows slows2 : ℕ → Slow) (owned2 : List Held) → IsOn slows slows2 owned2 → (n : ℕ)
@@ -203,8 +203,11 @@ module _ (i : SiteId) (sess : ℕ → Option Session) (slows : ℕ → Slow) (pe
       let cases : (m : ℕ) (y : Tx) → begun (slows2 m) ≡ Some y
       → (begun (slows m) ≡ Some y) ⊎ ((m ≡ n) × (x ≡ y)) = λ m y t. elim (others m) [
         | inl same ↦ inl (sym (ap begun same) ∙ t)
-        | inr new ↦ inr (new, let f : ◌≡◌ {A = Option Tx} (Some x) (Some y) = sym (ap begun now)
-            ∙ subst (λ k. begun (slows2 k) ≡ Some y) new t in same_Some x y f)
+        | inr new ↦ inr (
+          new,
+          let f : ◌≡◌ {A = Option Tx} (Some x) (Some y) = sym (ap begun now)
+              ∙ subst (λ k. begun (slows2 k) ≡ Some y) new t in same_Some x y f,
+        )
       ] in
       let forth : (m : ℕ) (y : Tx) → begun (slows m) ≡ Some y → begun (slows2 m) ≡ Some y = λ m y t. elim (others m) [
         | inl same ↦ ap begun same ∙ t
@@ -218,9 +221,13 @@ module _ (i : SiteId) (sess : ℕ → Option Session) (slows : ℕ → Slow) (pe
         named = λ m y t. elim (cases m y t) [
           | inl old ↦ T.named m y old
           | inr new ↦
-              let e = new.1 in
-              (subst (λ (z : Tx). z.slow ≡ m) e (is ∙ sym new.0), λ z. some (sym new.0 ∙ z), subst
-                  (λ (z : Tx). z.tid.site ≡ i) e site, subst (λ (z : Tx). IsIssued numbers z.tid) e given_)
+              let e = new.1 in (
+                subst (λ (z : Tx). z.slow ≡ m) e (is ∙ sym new.0),
+                λ z. some (sym new.0 ∙ z),
+                subst
+                    (λ (z : Tx). z.tid.site ≡ i) e site,
+                subst (λ (z : Tx). IsIssued numbers z.tid) e given_,
+              )
         ];
         apart = λ m k y z a b e. elim (cases m y a) [
           | inl oa ↦ elim (cases k z b) [

@@ -18,7 +18,7 @@ AreLocal preferred i updates = (oid : ObjId) → Contains (write_set updates) oi
 abbrev pub IsUnmodified : (ObjId → SiteId) → SiteId → List ℕ → List ObjId → List Held → Type 0
 IsUnmodified preferred i vector objects log =
     (r : Held) (p : ℕ) (oid : ObjId) → slice_get log p ≡ Some r → Contains (write_set r.tx.updates) oid
-        → Contains objects oid
+    → Contains objects oid
     → preferred oid ≡ i → sees vector r ≡ true
 
 -- none of them that is preferred here is locked

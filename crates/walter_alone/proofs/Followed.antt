@@ -39,22 +39,57 @@ use Rattle.walter_alone.proofs.TestsPass.{all_of, peer_passes, covers_pass}
 pub follow_lost : (catalog : Catalog) (i : SiteId) (K : Knowledge) (rec : Record) → CanFollow catalog i K rec
     → CanFollow catalog i (lost K) rec
 follow_lost catalog i K (Boot epoch) f = f
-follow_lost catalog i K (Own seq tx) f = record { booted = f.booted; next = f.next; here = f.here; slow =
-    f.slow; declared = f.declared }
-follow_lost catalog i K (Got j seq tx) f = record { booted = f.booted; peer = f.peer; next = f.next; covered =
-    f.covered; declared = f.declared }
-follow_lost catalog i K (Seen j seq) f = record { booted = f.booted; peer = f.peer; next = f.next; received =
-    f.received; covered = f.covered }
+follow_lost catalog i K (Own seq tx) f = record {
+  booted = f.booted;
+  next = f.next;
+  here = f.here;
+  slow =
+      f.slow;
+  declared = f.declared;
+}
+follow_lost catalog i K (Got j seq tx) f = record {
+  booted = f.booted;
+  peer = f.peer;
+  next = f.next;
+  covered =
+      f.covered;
+  declared = f.declared;
+}
+follow_lost catalog i K (Seen j seq) f = record {
+  booted = f.booted;
+  peer = f.peer;
+  next = f.next;
+  received =
+      f.received;
+  covered = f.covered;
+}
 follow_lost catalog i K (Prepared j n tid objects) f =
     record { booted = f.booted; peer = f.peer; free = f.free; here = f.here; unlocked = f.unlocked }
 follow_lost catalog i K (Released j n) f = record { booted = f.booted; peer = f.peer; alive = f.alive }
-follow_lost catalog i K (SlowBegin n tx) f = record { booted = f.booted; next = f.next; named = f.named; unlocked =
-    f.unlocked; declared = f.declared }
-follow_lost catalog i K (SlowEnd n) f = record { booted = f.booted; tx = f.tx; asked = f.asked; undecided =
-    f.undecided }
+follow_lost catalog i K (SlowBegin n tx) f = record {
+  booted = f.booted;
+  next = f.next;
+  named = f.named;
+  unlocked =
+      f.unlocked;
+  declared = f.declared;
+}
+follow_lost catalog i K (SlowEnd n) f = record {
+  booted = f.booted;
+  tx = f.tx;
+  asked = f.asked;
+  undecided =
+      f.undecided;
+}
 follow_lost catalog i K (Marks durable visible) f =
-    record { booted = f.booted; durable_rises = f.durable_rises; visible_rises = f.visible_rises; durable_own =
-        f.durable_own; visible_own = f.visible_own }
+    record {
+      booted = f.booted;
+      durable_rises = f.durable_rises;
+      visible_rises = f.visible_rises;
+      durable_own =
+          f.durable_own;
+      visible_own = f.visible_own;
+    }
 
 freed_lost : (j : SiteId) (n : ℕ) (K : Knowledge) (oid : ObjId) → freed_over j n K oid ≡ freed_over j n (lost K) oid
 freed_lost j zero K oid = refl

@@ -162,7 +162,7 @@ module _ (catalog : Catalog) (i : SiteId) (up : Bool) (K : Knowledge) (flight : 
   on_plain (Some (Own seq tx)) is f =
       on_decided K.slow (slow_after catalog i K (Some (Own seq tx))) (of_site i (log_after (Some (Own seq tx)) K.log))
       (λ n. elim (nat_eq tx.slow n) as (λ b. nat_eq tx.slow n ≡ b
-          → ((if b then decided (K.slow n) else K.slow n) ≡ K.slow n)
+      → ((if b then decided (K.slow n) else K.slow n) ≡ K.slow n)
       ⊎ (((if b then decided (K.slow n) else K.slow n) ≡ decided (K.slow n)) ×
       ((x : Tx) (asked : List SiteId) → K.slow n ≡ Undecided x asked
       → IsOwn (of_site i (log_after (Some (Own seq tx)) K.log)) x))) [
@@ -172,7 +172,7 @@ module _ (catalog : Catalog) (i : SiteId) (up : Bool) (K : Knowledge) (flight : 
   on_plain (Some (SlowEnd m)) is f =
       on_ended K.slow (slow_after catalog i K (Some (SlowEnd m))) (of_site i K.log)
       (λ n. elim (nat_eq m n) as (λ b. ((if b then ended (K.slow n) else K.slow n) ≡ K.slow n)
-          ⊎ ((if b then ended (K.slow n) else K.slow n) ≡ ended (K.slow n))) [
+      ⊎ ((if b then ended (K.slow n) else K.slow n) ≡ ended (K.slow n))) [
         | true ↦ inr refl
         | false ↦ inl refl
       ])
@@ -343,15 +343,18 @@ module _ (catalog : Catalog) (i : SiteId) (K : Knowledge) (flight : Option Recor
             (last_after wrote K.last) (record { epoch = e; starts = starts_after outcome K.starts })
             (of_site i (log_after wrote K.log))) (sym epoch)
             (subst (λ l. IsTidy i (HasThen event outcome wrote) (slow_after catalog i K wrote) None true l
-                (record { epoch = K.epoch; starts = starts_after outcome K.starts })
-                    (of_site i (log_after wrote K.log))) (sym (plain_last wrote K.last plain))
+            (record { epoch = K.epoch; starts = starts_after outcome K.starts })
+            (of_site i (log_after wrote K.log))) (sym (plain_last wrote K.last plain))
             (goes_on i (λ c. session_of K c) K.slow flight true K.last (issued_by true K) (of_site i K.log) I.tidy
             (HasThen event outcome wrote) (slow_after catalog i K wrote) None true
             (record { epoch = K.epoch; starts = starts_after outcome K.starts }) (of_site i (log_after wrote K.log))
             rise (λ q r h. own_grows i wrote K.log q r h) on from
-            (λ up n x asked h. (refl, λ c s has number. waits c n s x asked
-                (on_open K.slow (slow_after catalog i K wrote)
-                    (of_site i (log_after wrote K.log)) on n x asked h) has number))
+            (λ up n x asked h. (
+              refl,
+              λ c s has number. waits c n s x asked
+                  (on_open K.slow (slow_after catalog i K wrote)
+                  (of_site i (log_after wrote K.log)) on n x asked h) has number,
+            ))
             (λ r h. absurd cc)
             (λ n x h. absurd cc)));
         learned = learned_after catalog i K event outcome wrote (learned_then catalog i true K flight I below wrote f);
@@ -442,9 +445,11 @@ module _ (catalog : Catalog) (i : SiteId) (K : Knowledge) (flight : Option Recor
       ∙ ap (λ b. if b then option_map change (session_of K c) else session_of K c) e in
       let here : (c : ℕ) → nat_eq client c ≡ true → (session_of K c ≡ Some s) ×
       (HasThen event outcome wrote c ≡ Some (change s)) = λ c e.
-      let has : session_of K c ≡ Some s = ap (λ d. session_of K d) (sym (eqb-true client c e)) ∙ mine in
-      (has, is c ∙ (ap (λ b. if b then option_map change (session_of K c) else session_of K c) e
-          ∙ ap (λ o. option_map change o) has)) in
+      let has : session_of K c ≡ Some s = ap (λ d. session_of K d) (sym (eqb-true client c e)) ∙ mine in (
+        has,
+        is c ∙ (ap (λ b. if b then option_map change (session_of K c) else session_of K c) e
+            ∙ ap (λ o. option_map change o) has),
+      ) in
       moves event outcome wrote plain f same
       (λ c t h. elim (cases_Bool (nat_eq client c)) [
         | inl e ↦
@@ -578,8 +583,11 @@ boots_up catalog i below K flight I =
       tidy = goes_on i (λ c. session_of K c) K.slow flight false K.last (issued_by false K) (of_site i K.log) I.tidy
           (λ c. session_of K c) (slow_after catalog i K (Some rec)) None true
           (record { epoch = K.epoch + 1; starts = K.starts }) (of_site i K.log)
-          (λ x is. elim is [ inl over ↦ inl over | inr here ↦
-              inr (let e = here.0 in let l = here.1 in (e, omega (arith, l))) ])
+          (λ x is. elim is [
+            | inl over ↦ inl over
+            | inr here ↦
+                inr (let e = here.0 in let l = here.1 in (e, omega (arith, l)))
+          ])
           (λ q r h. h)
           (on_boot catalog i false K flight I (K.epoch + 1))
           (λ c s h. absurd (none_not_some (session_of K c) s (no_one c) h))

@@ -395,7 +395,7 @@ settled_kept catalog i below S event None found I = I
 settled_kept catalog i below S event (Some rec) found I =
     subst (λ b. IsKept catalog i b (recorded catalog i (Some rec) S.knows) None) (sym found.down)
     (settles catalog i below S.knows rec (subst (λ f. IsKept catalog i false S.knows f) found.in_flight
-        (subst (λ b. IsKept catalog i b S.knows S.flight) found.down I)))
+    (subst (λ b. IsKept catalog i b S.knows S.flight) found.down I)))
 
 -- so it is with right entries, the newest first
 pub right_kept : (catalog : Catalog) (capacity : ℕ) (i : SiteId) → i.0 < catalog.sites → (older : List Entry)

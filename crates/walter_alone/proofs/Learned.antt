@@ -229,7 +229,7 @@ module _ (catalog : Catalog) (i : SiteId) (K : Knowledge) (L : IsLearned catalog
       same_site-true (preferred catalog K oid) i
       (and_parts (is_of_kind catalog Regular oid) (same_site (preferred catalog K oid) i)
       (each_passes (λ o. is_of_kind catalog Regular o && same_site
-          (preferred catalog K o) i) objects oid f.here within)).1))
+      (preferred catalog K o) i) objects oid f.here within)).1))
       (here_part j n)
   here_then (Released k m) f j n = here_if (is_slow k m j n) Over (K.part j n) here_over (here_part j n)
   here_then (SlowBegin m tx) f j n =

@@ -159,7 +159,7 @@ module _ (catalog : Catalog) (capacity : ℕ) (i : SiteId) (S : Standing) (event
       is_locked is
       (written catalog capacity i S came prepare (Prepared j n tid objects) (back j (Vote n Yes)) tt
       (prepare_rule ∙ (ap (prepares_by S.knows j n tid asked.start objects) is
-          ∙ ap (prepares j n tid objects) (asked.clear is))) comes)
+      ∙ ap (prepares j n tid objects) (asked.clear is))) comes)
   prepared_by comes (Locked owner held) is =
       is_held owner held is (said catalog capacity i S came prepare (back j (Vote n Yes)) tt
       (prepare_rule ∙ ap (prepares_by S.knows j n tid asked.start objects) is) comes)
@@ -173,7 +173,7 @@ entry_locked catalog capacity i older e j n tid objects right asked =
     let S : Standing = standing catalog i older in
     prepared_by catalog capacity i S e.event e.came j n tid objects asked
     (given_comes catalog capacity i older e
-        (Deliver j asked.number (Prepare n tid asked.start objects)) right asked.came) (S.knows.part j n) refl
+    (Deliver j asked.number (Prepare n tid asked.start objects)) right asked.came) (S.knows.part j n) refl
 
 -- a commit that meets no conflict, and whose objects are all preferred here
 module _ (catalog : Catalog) (capacity : ℕ) (i : SiteId) (S : Standing) (event : Event) (s : Session)
@@ -219,7 +219,7 @@ module _ (catalog : Catalog) (capacity : ℕ) (i : SiteId) (S : Standing) (event
       let same = is_due rec wrote in
       is_refused (subst (λ r. left_behind capacity S.records < need_of r) (sym same) low)
       (only.outcome_is ∙ ap (λ r. fullness (Given (Call free.client (Ok Commit))) (need_of r)
-          (left_behind capacity S.records)) (sym same))
+      (left_behind capacity S.records)) (sym same))
 
 pub entry_answered : (catalog : Catalog) (capacity : ℕ) (i : SiteId) (older : List Entry) (e : Entry) (s : Session)
     → IsRightEntry catalog capacity i older e

@@ -119,7 +119,7 @@ vector_within catalog K k =
     elim (cases_lt k.0 catalog.sites) [
       | inl within ↦
           let e : slice_index (map (λ n. K.committed (site_at n)) numbers) k.0 ≡ K.committed k =
-              get_or-map-range_with_len (λ n. K.committed (site_at n)) 0 catalog.sites k.0 k.0 0 within (omega arith) in
+          get_or-map-range_with_len (λ n. K.committed (site_at n)) 0 catalog.sites k.0 k.0 0 within (omega arith) in
           let f : entry_at (vector_of catalog K) k ≡ K.committed k = ap (λ v. entry_at v k) same ∙ e in
           omega (arith, f)
       | inr past ↦

@@ -63,7 +63,7 @@ left_after catalog i wrote K event outcome = by (goes_down event outcome)
   where
     by : (down : Bool) → lost
         (if down then lost (after catalog i K event outcome wrote) else after catalog i K event outcome wrote) ≡ lost
-            (recorded catalog i wrote K)
+        (recorded catalog i wrote K)
     by true = refl
     by false = refl
 

@@ -160,7 +160,7 @@ linked_behind trails i older [] place e j number packet follow at is = absurd cc
 linked_behind trails i older (x ∷ es) zero e j number packet follow at is =
     let same : x ≡ e = cc in
     (subst (λ (event : Event). LinkedThen trails i (clock older) e.stamp event
-        (FollowLinked trails i (e ∷ older) es)) is
+    (FollowLinked trails i (e ∷ older) es)) is
     (subst (λ (y : Entry). LinkedThen trails i (clock older) y.stamp y.event (FollowLinked trails i (y ∷ older) es))
     same follow)).0
 linked_behind trails i older (x ∷ es) (suc place) e j number packet follow at is =

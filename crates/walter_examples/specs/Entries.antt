@@ -35,8 +35,15 @@ abbrev pub entry : ℕ → Event → Expected → Entry
 entry stamp event came = record {
   stamp = stamp;
   event = event;
-  came = record { outcome = came.outcome; kept = None; wrote = came.wrote; flight = None; sends =
-      came.sends; dropped = 0 };
+  came = record {
+    outcome = came.outcome;
+    kept = None;
+    wrote = came.wrote;
+    flight = None;
+    sends =
+        came.sends;
+    dropped = 0;
+  };
 }
 
 -- a client's call; a packet of another site, by its number among those that were put out to this one; and the next

@@ -48,12 +48,12 @@ in_same xs ys agree p x here =
     let there = place_filtered (λ (z : Tid). same_site z.site x.site) xs x p here (same_site_refl x.site) in
     let r =
     filter_place (λ (z : Tid). same_site z.site x.site) ys x place (ap (λ t. slice_get t place) (sym (agree x.site))
-        ∙ there) in
+    ∙ there) in
     (r.0, r.1)
 
 module _ (owns : SiteId → List Held) (counts : SiteId → SiteId → ℕ) (numbers : SiteId → Issued)
     (sessions : Key → Option Session) (spent : Key → Type 0) (h : List Step) (n : AreOwned owns counts)
-        (sp : IsSpelledAt owns counts numbers sessions spent h)
+    (sp : IsSpelledAt owns counts numbers sessions spent h)
     (held : List Held) (fronts : (k : SiteId) → IsPrefix (of_site k held) (owns k)) (causal : IsCausalLog held) where
   -- no transaction stands twice in the log that a site holds
   row_once : (a b : ℕ) (r s : Held) → slice_get held a ≡ Some r → slice_get held b ≡ Some s → r.tx.tid ≡ s.tx.tid
@@ -110,13 +110,13 @@ module _ (owns : SiteId → List Held) (counts : SiteId → SiteId → ℕ) (num
       let same : flat_map updates_of seen ≡ flat_map f xs =
       flat_map_same updates_of f tid_of seen (λ q r here. sym (kept_of q r here).same) in
       let snapshot_ordered : AreOrdered (λ x y. Contains (snapshot y h) x × IsCommitted x h
-          × IsCommitted y h) oid f ys =
+      × IsCommitted y h) oid f ys =
       λ p q x y less hx hy wx wy.
       let cx = logged_committed i x h sp.legal (contains_at (log i h) x p (in_log p x hx)) in
       let cy = logged_committed i y h sp.legal (contains_at (log i h) y q (in_log q y hy)) in
       let apart : x ≢ y =
       λ e. let d = one_place h i p q y sp.legal (subst (λ z. slice_get (log i h) p ≡ Some z) e (in_log p x hx))
-          (in_log q y hy) in
+      (in_log q y hy) in
       absurd (omega (arith, less, d)) in
       elim (one_seen h x y oid sp.legal apart (writes_some oid (f x) wx) (writes_some oid (f y) wy)) [
         | inl later ↦ let z = arrive_after h sp.legal i p x y (in_log p x hx) later in let d =
@@ -132,10 +132,10 @@ module _ (owns : SiteId → List Held) (counts : SiteId → SiteId → ℕ) (num
       let oy = row_owned owns held fronts places.1 my.0 places.4 in
       let cx =
       subst (λ z. IsCommitted z h) mx.2
-          (row_committed owns counts numbers sessions spent h n sp mx.0.tx.tid.site ox.0 mx.0 ox.1) in
+      (row_committed owns counts numbers sessions spent h n sp mx.0.tx.tid.site ox.0 mx.0 ox.1) in
       let cy =
       subst (λ z. IsCommitted z h) my.2
-          (row_committed owns counts numbers sessions spent h n sp my.0.tx.tid.site oy.0 my.0 oy.1) in
+      (row_committed owns counts numbers sessions spent h n sp my.0.tx.tid.site oy.0 my.0 oy.1) in
       let apart : x ≢ y =
       λ e. row_once places.0 places.1 mx.0 my.0 places.3 places.4 (mx.2 ∙ (e ∙ sym my.2)) places.2 in
       elim (one_seen h x y oid sp.legal apart (writes_some oid (f x) wx) (writes_some oid (f y) wy)) [
@@ -147,13 +147,13 @@ module _ (owns : SiteId → List Held) (counts : SiteId → SiteId → ℕ) (num
       ] in
       let value =
       value_by_order (λ x y. Contains (snapshot y h) x × IsCommitted x h × IsCommitted y h) oid f xs ys
-          (own_updates s.tid h)
+      (own_updates s.tid h)
       (λ x y b c. not_both_seen h x y sp.legal b.2 b.0 c.0) (in_same xs ys agree)
-          (in_same ys xs (λ k. sym (agree k))) log_ordered snapshot_ordered in
+      (in_same ys xs (λ k. sym (agree k))) log_ordered snapshot_ordered in
       answer_same oid (flat_map f xs ++ own_updates s.tid h) (flat_map f ys ++ own_updates s.tid h) a value
-          (λ id. count_of_same oid id f xs ys (own_updates s.tid h) agree)
+      (λ id. count_of_same oid id f xs ys (own_updates s.tid h) agree)
       (subst (λ us. IsAnswer oid us a) (ap (λ t. t ++ s.updates) same
-          ∙ ap (λ t. flat_map f xs ++ t) (sym l.same)) answer)
+      ∙ ap (λ t. flat_map f xs ++ t) (sym l.same)) answer)
 
 -- what a session's snapshot sees is in the log of its site
 pub snapshot_within : (owns : SiteId → List Held) (counts : SiteId → SiteId → ℕ) (h : List Step) (held : List Held)

@@ -63,22 +63,22 @@ module _ (catalog : Catalog) (i : SiteId) (W : Stands) (put : Put) (h : List Ste
       → Spells (at_site i (replied_so reply) W) (h ++ steps)
   nothing reply steps none issued sessions flights =
       quiet_entry catalog i W h steps (Given (Call client call))
-          (Replied reply) kept None None sends dropped none tt tt issued sessions flights sp
+      (Replied reply) kept None None sends dropped none tt tt issued sessions flights sp
 
   pub refused : (refusal : Refusal) → Spells (at_site i (replied_so (Refused refusal)) W)
       (h ++ (recorded W i None ++ answered i (W i) (Replied (Refused refusal)) (Given (Call client call))))
   refused refusal = nothing (Refused refusal) [] refl
       (λ x g. issued_same (W i).up (W i).knows (replied_so (Refused refusal)).knows x refl (omega arith) g)
-          (λ c s has. has) (λ s has. has)
+      (λ c s has. has) (λ s has. has)
 
   -- a Commit that still waits
   pub waits_on : (tid : Tid) → Spells (at_site i (replied_so (Deciding tid)) W)
       (h ++ (recorded W i None ++ answered i (W i) (Replied (Deciding tid)) (Given (Call client call))))
   waits_on tid =
       nothing (Deciding tid) [] refl (λ x g. issued_same (W i).up (W i).knows (replied_so (Deciding tid)).knows x refl
-          (omega arith) g)
+      (omega arith) g)
       (λ c s has. ap (λ ss. session_in c ss)
-          (sym (changed-same client (deciding None) (W i).knows.sessions (λ z. refl))) ∙ has) (λ s has. has)
+      (sym (changed-same client (deciding None) (W i).knows.sessions (λ z. refl))) ∙ has) (λ s has. has)
 
   -- what is held without a client's session
   without_mine : (reply : Reply) → (replied_so reply).knows.sessions ≡ without client (W i).knows.sessions
@@ -96,9 +96,9 @@ module _ (catalog : Catalog) (i : SiteId) (W : Stands) (put : Put) (h : List Ste
       → IsQuiet (W i) (replied_so reply)
   goes_closed reply closed same issued =
       quiet_by (W i) (replied_so reply) issued
-          (final_then catalog i (W i) (Given (Call client call)) (Replied reply) kept None None sends dropped tt)
+      (final_then catalog i (W i) (Given (Call client call)) (Replied reply) kept None None sends dropped tt)
       (λ c s has. (without_cases client c s (W i).knows.sessions (ap (λ ss. session_in c ss) (sym closed) ∙ has)).1)
-          (λ s has. ap (λ f. in_flight f) (sym same) ∙ has)
+      (λ s has. ap (λ f. in_flight f) (sym same) ∙ has)
 
   -- the end of a transaction without updates
   pub ended : Spells (at_site i (replied_so Ended) W)
@@ -115,15 +115,15 @@ module _ (catalog : Catalog) (i : SiteId) (W : Stands) (put : Put) (h : List Ste
   aborted_so s cause has live is =
       let S2 = replied_so (Aborted cause) in
       let q = goes_closed (Aborted cause) refl refl (λ x g. issued_same (W i).up (W i).knows S2.knows x refl
-          (omega arith) g) in
+      (omega arith) g) in
       let spelled : answered i (W i) (Replied (Aborted cause)) (Given (Call client call)) ≡ Abort s.tid cause ∷ [] =
-          ap (λ o. of_session (aborted cause) o) has in
+      ap (λ o. of_session (aborted cause) o) has in
       subst (λ t. Spells (at_site i S2 W) (h ++ t)) (sym spelled)
       (stepped W i S2 h (Abort s.tid cause) (λ x us e. absurd cc)
-          (same_then catalog i (W i) (Given (Call client call))
-              (Replied (Aborted cause)) kept None None sends dropped tt) q.on (λ who t now. (t, q.few who t now, refl))
+      (same_then catalog i (W i) (Given (Call client call))
+      (Replied (Aborted cause)) kept None None sends dropped tt) q.on (λ who t now. (t, q.few who t now, refl))
       (did_abort (owns W) (counts W) (numbers W) (held W) (spent W) h sp.spelled
-          (record { site = i; who = suc client }) s cause (held (at_site i S2 W)) has live
+      (record { site = i; who = suc client }) s cause (held (at_site i S2 W)) has live
       (without_by W i S2 (suc client) (without_mine (Aborted cause) refl refl)) is) sp)
 
   -- an update, of an open session
@@ -134,9 +134,9 @@ module _ (catalog : Catalog) (i : SiteId) (W : Stands) (put : Put) (h : List Ste
   done_so s update open_ becomes does =
       let S2 = replied_so Done in
       let mine : (w : ℕ) (t : Session) → held_by w S2 ≡ Some t → ((suc client ≡ w) × (with_update update s ≡ t))
-          ⊎ ((suc client ≢ w) × (held_by w (W i) ≡ Some t)) = λ w t has. elim w as
+      ⊎ ((suc client ≢ w) × (held_by w (W i) ≡ Some t)) = λ w t has. elim w as
       (λ w. held_by w S2 ≡ Some t → ((suc client ≡ w) × (with_update update s ≡ t))
-          ⊎ ((suc client ≢ w) × (held_by w (W i) ≡ Some t))) [
+      ⊎ ((suc client ≢ w) × (held_by w (W i) ≡ Some t))) [
         | zero ↦ λ now. inr (λ e. omega (arith, e), now)
         | suc c ↦ λ now. elim (changed_cases client c (updated call) s t (W i).knows.sessions open_.session now) [
           | inl here ↦ inl (ap (λ n. suc n) here.0, sym becomes ∙ here.1)
@@ -144,7 +144,7 @@ module _ (catalog : Catalog) (i : SiteId) (W : Stands) (put : Put) (h : List Ste
         ]
       ] has in
       let old : (w : ℕ) (t : Session) → held_by w S2 ≡ Some t → (u : Session) × (held_by w (W i) ≡ Some u)
-          × (u.tid ≡ t.tid) = λ w t has. elim (mine w t has) [
+      × (u.tid ≡ t.tid) = λ w t has. elim (mine w t has) [
         | inl here ↦ (s, ap (λ n. held_by n (W i)) (sym here.0) ∙ open_.session, ap (λ (z : Session). z.tid) here.1)
         | inr away ↦ (t, away.1, refl)
       ] in
@@ -160,12 +160,12 @@ module _ (catalog : Catalog) (i : SiteId) (W : Stands) (put : Put) (h : List Ste
         done = λ n tx is. is;
       } in
       let spelled : answered i (W i) (Replied Done) (Given (Call client call)) ≡ Op s.tid update ∷ [] =
-          ap (λ o. of_session (did call) o) open_.session ∙ does in
+      ap (λ o. of_session (did call) o) open_.session ∙ does in
       subst (λ t. Spells (at_site i S2 W) (h ++ t)) (sym spelled)
       (stepped W i S2 h (Op s.tid update) (λ x us e. absurd cc)
-          (same_then catalog i (W i) (Given (Call client call)) (Replied Done) kept None None sends dropped tt) on old
+      (same_then catalog i (W i) (Given (Call client call)) (Replied Done) kept None None sends dropped tt) on old
       (did_op (owns W) (counts W) (numbers W) (held W) (spent W) h sp.spelled
-          (record { site = i; who = suc client }) s update (held (at_site i S2 W)) open_.session (open_live s open_)
+      (record { site = i; who = suc client }) s update (held (at_site i S2 W)) open_.session (open_live s open_)
       (with_by W i S2 (suc client) (with_update update s) mine)) sp)
 
   -- a step that tells or reads something, where nothing that is held changes
@@ -180,7 +180,7 @@ module _ (catalog : Catalog) (i : SiteId) (W : Stands) (put : Put) (h : List Ste
       let S2 = replied_so reply in
       subst (λ t. Spells (at_site i S2 W) (h ++ t)) (sym spelled)
       (stepped W i S2 h step plain (same_then catalog i (W i) (Given (Call client call))
-          (Replied reply) kept None None sends dropped tt) q.on (λ who t now. (t, q.few who t now, refl))
+      (Replied reply) kept None None sends dropped tt) q.on (λ who t now. (t, q.few who t now, refl))
       (does (held (at_site i S2 W)) (fewer_held W i S2 q.few)) sp)
 
   -- a site whose reply leaves its sessions goes on
@@ -190,7 +190,7 @@ module _ (catalog : Catalog) (i : SiteId) (W : Stands) (put : Put) (h : List Ste
       → IsQuiet (W i) (replied_so reply)
   goes_same reply kept_ same issued =
       quiet_by (W i) (replied_so reply) issued
-          (final_then catalog i (W i) (Given (Call client call)) (Replied reply) kept None None sends dropped tt)
+      (final_then catalog i (W i) (Given (Call client call)) (Replied reply) kept None None sends dropped tt)
       (λ c s has. ap (λ ss. session_in c ss) (sym kept_) ∙ has) (λ s has. ap (λ f. in_flight f) (sym same) ∙ has)
 
   -- what a session reads
@@ -204,23 +204,23 @@ module _ (catalog : Catalog) (i : SiteId) (W : Stands) (put : Put) (h : List Ste
       let live = open_live s open_ in
       let here : s.tid.site ≡ i = sp.spelled.home (record { site = i; who = suc client }) s open_.session in
       let low = snapshot_within (owns W) (counts W) h (logs W i) s live
-          (subst (λ k. IsLogOf (owns W) (counts W k) (logs W i)) (sym here) (G.numbered.held i)) in
+      (subst (λ k. IsLogOf (owns W) (counts W k) (logs W i)) (sym here) (G.numbered.held i)) in
       seen_so reply (Read s.tid oid a) (λ x us e. absurd cc) spelled q
       (λ after few. did_read (owns W) (counts W) (numbers W) (held W) (spent W) h sp.spelled s oid a after live few
       (read_any (owns W) (counts W) (numbers W) (held W) (spent W) h G.numbered.own sp.spelled (logs W i)
-          (G.numbered.held i).fronts (G.causal i) s oid a live low answer))
+      (G.numbered.held i).fronts (G.causal i) s oid a live low answer))
 
   -- a transaction starts
   pub started_so : (W i).up ≡ true → i.0 < catalog.sites → session_of (W i).knows client ≡ None
       → Spells (at_site i (replied_so (Started (next_tid i (W i).knows))) W)
       (h ++ (recorded W i None ++ answered i (W i) (Replied (Started (next_tid i (W i).knows)))
-          (Given (Call client call))))
+      (Given (Call client call))))
   started_so up below none =
       let x = next_tid i (W i).knows in
       let S2 = replied_so (Started x) in
       let new : Session = record { tid = x; snapshot = vector_of catalog (W i).knows; updates = []; slow = 0 } in
       let mine : (w : ℕ) (t : Session) → held_by w S2 ≡ Some t → ((suc client ≡ w) × (new ≡ t))
-          ⊎ ((suc client ≢ w) × (held_by w (W i) ≡ Some t)) = λ w t has. elim w as
+      ⊎ ((suc client ≢ w) × (held_by w (W i) ≡ Some t)) = λ w t has. elim w as
       (λ w. held_by w S2 ≡ Some t → ((suc client ≡ w) × (new ≡ t)) ⊎ ((suc client ≢ w) × (held_by w (W i) ≡ Some t))) [
         | zero ↦ λ now. inr (λ e. omega (arith, e), now)
         | suc c ↦ λ now. elim (opened_cases client c new t (W i).knows.sessions none now) [
@@ -229,8 +229,8 @@ module _ (catalog : Catalog) (i : SiteId) (W : Stands) (put : Put) (h : List Ste
         ]
       ] has in
       let unissued : ¬ IsIssued (numbers W i) x =
-          λ given_. next_not_issued i (record { epoch = (W i).knows.epoch; starts = (W i).knows.starts })
-              (subst (λ b. IsIssued (issued_by b (W i).knows) x) up given_) in
+      λ given_. next_not_issued i (record { epoch = (W i).knows.epoch; starts = (W i).knows.starts })
+      (subst (λ b. IsIssued (issued_by b (W i).knows) x) up given_) in
       let on : GoesOn (W i) S2 = record {
         issued = λ y g. issued_same (W i).up (W i).knows S2.knows y refl (omega arith) g;
         begun = λ w t u now was some. elim (mine w t now) [
@@ -242,12 +242,15 @@ module _ (catalog : Catalog) (i : SiteId) (W : Stands) (put : Put) (h : List Ste
         done = λ n tx is. is;
       } in
       let now_issued : IsIssued (numbers (at_site i S2 W) i) x = subst (λ (z : Standing). IsIssued (issued_of z) x)
-          (sym (at_here W i S2)) (subst (λ b. IsIssued (issued_by b S2.knows) x) (sym up) (inr (refl, omega arith))) in
+      (sym (at_here W i S2)) (subst (λ b. IsIssued (issued_by b S2.knows) x) (sym up) (inr (refl, omega arith))) in
       begins_new W i S2 h x (same_then catalog i (W i) (Given (Call client call))
-          (Replied (Started x)) kept None None sends dropped tt) on unissued
-      (λ w t now. elim (mine w t now) [ inl here ↦ inl (ap (λ (z : Session). z.tid) (sym here.1)) | inr away ↦
-          inr away.1 ])
+      (Replied (Started x)) kept None None sends dropped tt) on unissued
+      (λ w t now. elim (mine w t now) [
+        | inl here ↦ inl (ap (λ (z : Session). z.tid) (sym here.1))
+        | inr away ↦
+            inr away.1
+      ])
       (did_start (owns W) (counts W) (numbers W) (held W) (spent W) h sp.spelled
-          (record { site = i; who = suc client }) x (vector_of catalog (W i).knows) (numbers (at_site i S2 W))
-              (held (at_site i S2 W)) refl unissued now_issued
+      (record { site = i; who = suc client }) x (vector_of catalog (W i).knows) (numbers (at_site i S2 W))
+      (held (at_site i S2 W)) refl unissued now_issued
       (λ k. vector_is catalog i (W i) A below k) (higher W i S2 on) (with_by W i S2 (suc client) new mine)) sp

@@ -28,7 +28,7 @@ use Rattle.walter_refinement.proofs.Spelled.{IsLive}
 
 module _ (catalog : Catalog) (W : Stands) (put : Put) (h : List Step) (alone : (k : SiteId) → IsAlone catalog k (W k))
     (G : AreAgreed catalog W put) (sp : Spells W h) (i : SiteId) (s : Session)
-        (live : IsLive (owns W) (counts W) h s) where
+    (live : IsLive (owns W) (counts W) h s) where
   -- what a session writes the history says
   writes_own : (oid : ObjId) → Contains (write_set s.updates) oid → Contains (write_set (own_updates s.tid h)) oid
   writes_own oid within = subst (λ us. Contains (write_set us) oid) (sym live.same) within
@@ -52,7 +52,7 @@ module _ (catalog : Catalog) (W : Stands) (put : Put) (h : List Step) (alone : (
       let r = over.1.0 in
       over_version oid version r over.0 over.1.1 over.1.2 over.1.3
       (modified (owns W) (counts W) (numbers W) (held W) (spent W) h G.numbered.own sp.spelled s version.site
-          (version.seq - 1) r oid live over.1.1 over.1.3 over.1.4)
+      (version.seq - 1) r oid live over.1.1 over.1.3 over.1.4)
   cause_there (LockedThere oid owner) alive over = (writes_own oid over.0, over.1)
   cause_there Dead alive over = absurd (alive refl)
 
@@ -62,34 +62,34 @@ module _ (catalog : Catalog) (W : Stands) (put : Put) (h : List Step) (alone : (
       → IsOver W (tx_of s) conflict
   over_here client open_ at_ conflict within met =
       elim conflict as (λ c. conflict_at (W i).knows s.snapshot at_ ≡ Some c → IsOver W (tx_of s) c) [
-    | Modified oid version ↦ λ is.
-        let over = over_modified at_ oid (first_outside s.snapshot (map version_of (row at_ (logs W i))))
+        | Modified oid version ↦ λ is.
+            let over = over_modified at_ oid (first_outside s.snapshot (map version_of (row at_ (logs W i))))
             ((W i).knows.owner at_) version is in
-        let r = first_outside_held (W i).knows s.snapshot at_ version over.1 in
-        let own = held_own catalog W put G alone i r.0 r.1 r.2 in
-        let v : version_of r.0 ≡ version = r.3 in (
-          subst (λ z. Contains (write_set s.updates) z) over.0 within,
-          (
-            r.0,
-            subst (λ (z : Version). slice_get (owns W z.site) (z.seq - 1) ≡ Some r.0) v own.1,
-            subst (λ (z : Version). 1 ≤ z.seq) v own.0,
-            subst (λ z. Contains (write_set r.0.tx.updates) z) over.0 r.4,
-            r.5,
-          ),
-        )
-    | LockedThere oid owner ↦ λ is.
-        let over = over_locked at_ oid (first_outside s.snapshot (map version_of (row at_ (logs W i))))
+            let r = first_outside_held (W i).knows s.snapshot at_ version over.1 in
+            let own = held_own catalog W put G alone i r.0 r.1 r.2 in
+            let v : version_of r.0 ≡ version = r.3 in (
+              subst (λ z. Contains (write_set s.updates) z) over.0 within,
+              (
+                r.0,
+                subst (λ (z : Version). slice_get (owns W z.site) (z.seq - 1) ≡ Some r.0) v own.1,
+                subst (λ (z : Version). 1 ≤ z.seq) v own.0,
+                subst (λ z. Contains (write_set r.0.tx.updates) z) over.0 r.4,
+                r.5,
+              ),
+            )
+        | LockedThere oid owner ↦ λ is.
+            let over = over_locked at_ oid (first_outside s.snapshot (map version_of (row at_ (logs W i))))
             ((W i).knows.owner at_) owner is in
-        let lock = (alone i).owners.owned at_ owner over.1 in
-        let x = G.locked.held i lock.0 lock.1 owner lock.2 lock.3 in (
-          subst (λ z. Contains (write_set s.updates) z) over.0 within,
-          λ same.
-              let tids : x.0.tid ≡ s.tid = sym x.2 ∙ same in
-              let named = (alone lock.0).tidy.named lock.1 x.0 x.1 in
-              let home = ((alone i).started client s open_.session).0 in
-              let coordinator : lock.0 ≡ i = sym named.2 ∙ (ap (λ (t : Tid). t.site) tids ∙ home) in
-              (alone i).tidy.open_ client s open_.session open_.is_open lock.1 x.0
+            let lock = (alone i).owners.owned at_ owner over.1 in
+            let x = G.locked.held i lock.0 lock.1 owner lock.2 lock.3 in (
+              subst (λ z. Contains (write_set s.updates) z) over.0 within,
+              λ same.
+                  let tids : x.0.tid ≡ s.tid = sym x.2 ∙ same in
+                  let named = (alone lock.0).tidy.named lock.1 x.0 x.1 in
+                  let home = ((alone i).started client s open_.session).0 in
+                  let coordinator : lock.0 ≡ i = sym named.2 ∙ (ap (λ (t : Tid). t.site) tids ∙ home) in
+                  (alone i).tidy.open_ client s open_.session open_.is_open lock.1 x.0
                   (subst (λ z. begun (slows W z lock.1) ≡ Some x.0) coordinator x.1) tids,
-        )
-    | Dead ↦ λ is. tt
-  ] met
+            )
+        | Dead ↦ λ is. tt
+      ] met

@@ -81,7 +81,7 @@ spelled_none numbers spent = record {
 
 module _ (owns : SiteId → List Held) (counts : SiteId → SiteId → ℕ) (numbers : SiteId → Issued)
     (sessions : Key → Option Session) (spent : Key → Type 0) (h : List Step)
-        (sp : IsSpelledAt owns counts numbers sessions spent h) where
+    (sp : IsSpelledAt owns counts numbers sessions spent h) where
   -- old sessions have two transactions, each of its site, and what was denied is lost
   alone_of : (after : Key → Option Session) → IsOld sessions after → (c d : Key) (s t : Session) → after c ≡ Some s
       → after d ≡ Some t → s.tid ≡ t.tid → c ≡ d
@@ -129,11 +129,17 @@ module _ (owns : SiteId → List Held) (counts : SiteId → SiteId → ℕ) (num
     alone = alone_of after old;
     home = home_of after old;
     begun =
-        λ x c. elim ((started_snoc x h step).0 c) [ inl was ↦ sp.begun x was | inr new ↦
-            absurd (p.no_start x new.0 new.1) ];
+        λ x c. elim ((started_snoc x h step).0 c) [
+          | inl was ↦ sp.begun x was
+          | inr new ↦
+              absurd (p.no_start x new.0 new.1)
+        ];
     denied =
-        λ x c. elim (Contains-push_cases h step (Told x (OfLevel NotCommitted)) c) [ inl was ↦
-            denied_of numbers after (λ y i. i) old x was | inr new ↦ absurd (p.no_notice x new) ];
+        λ x c. elim (Contains-push_cases h step (Told x (OfLevel NotCommitted)) c) [
+          | inl was ↦
+              denied_of numbers after (λ y i. i) old x was
+          | inr new ↦ absurd (p.no_notice x new)
+        ];
   }
 
   -- a plain step that does nothing for any transaction and ends none
@@ -142,7 +148,7 @@ module _ (owns : SiteId → List Held) (counts : SiteId → SiteId → ℕ) (num
       → IsSpelledAt owns counts numbers after spent (h ++ step ∷ [])
   quiet step after next p aside old =
       plain step after next p (λ d t there. done_or_live_step owns counts h t step (sp.live d t (old d t there))
-          (aside t.tid)) (fewer_old after old)
+      (aside t.tid)) (fewer_old after old)
 
   -- sessions end, names are given, and what is lost stays lost
   pub fewer : (higher : SiteId → Issued) (after : Key → Option Session) → IsHigher numbers higher
@@ -159,7 +165,7 @@ module _ (owns : SiteId → List Held) (counts : SiteId → SiteId → ℕ) (num
     begun = λ x st. rise x (sp.begun x st);
     denied =
         λ x told. let was = denied_of higher after rise (fewer_old after old) x told in
-            (was.0, λ c s has e. still c s has (was.1 c s has e));
+        (was.0, λ c s has e. still c s has (was.1 c s has e));
   }
 
   -- a session moves to another key of its site
@@ -184,13 +190,21 @@ module _ (owns : SiteId → List Held) (counts : SiteId → SiteId → ℕ) (num
       ]
     ];
     home =
-        λ d t has. elim (move d t has) [ inl a ↦ sp.home c t a.1
-            ∙ (sym near ∙ ap (λ (k : Key). k.site) (sym a.0)) | inr b ↦ sp.home d t b.1 ];
+        λ d t has. elim (move d t has) [
+          | inl a ↦ sp.home c t a.1
+              ∙ (sym near ∙ ap (λ (k : Key). k.site) (sym a.0))
+          | inr b ↦ sp.home d t b.1
+        ];
     begun = sp.begun;
     denied =
-        λ x told. let was = sp.denied x told in
-            (was.0, λ d t has e. elim (move d t has) [ inl a ↦ absurd (unspent (was.1 c t a.1 e)) | inr b ↦
-                was.1 d t b.1 e ]);
+        λ x told. let was = sp.denied x told in (
+          was.0,
+          λ d t has e. elim (move d t has) [
+            | inl a ↦ absurd (unspent (was.1 c t a.1 e))
+            | inr b ↦
+                was.1 d t b.1 e
+          ],
+        );
   }
 
   -- a session gets the number of its slow commit
@@ -207,8 +221,14 @@ module _ (owns : SiteId → List Held) (counts : SiteId → SiteId → ℕ) (num
         live = λ d t there. elim (with_mine d t there) [
           | inl here ↦ subst (λ z. IsDoneOrLive owns counts h z) here.1 (elim (sp.live c s has) [
             | inl committed ↦ inl committed
-            | inr l ↦ inr (record { started = l.started; running = l.running; same = l.same; seen = l.seen; below =
-                l.below })
+            | inr l ↦ inr (record {
+              started = l.started;
+              running = l.running;
+              same = l.same;
+              seen = l.seen;
+              below =
+                  l.below;
+            })
           ])
           | inr away ↦ sp.live d t away.1
         ];
@@ -225,8 +245,13 @@ module _ (owns : SiteId → List Held) (counts : SiteId → SiteId → ℕ) (num
   did_op c s u after has l with_mine =
       let step : Step = Op s.tid u in
       plain step after (l.started, l.running)
-      (record { none_logged = λ i. refl; no_commit = λ x us e. absurd cc; no_start =
-          λ x site e. absurd cc; no_notice = λ x e. absurd cc })
+      (record {
+        none_logged = λ i. refl;
+        no_commit = λ x us e. absurd cc;
+        no_start =
+            λ x site e. absurd cc;
+        no_notice = λ x e. absurd cc;
+      })
       (λ d t there. elim (with_mine d t there) [
         | inl here ↦
             subst (λ z. IsDoneOrLive owns counts (h ++ step ∷ []) z) here.1 (inr (record {
@@ -253,8 +278,13 @@ module _ (owns : SiteId → List Held) (counts : SiteId → SiteId → ℕ) (num
       → IsSpelledAt owns counts numbers after spent (h ++ Read s.tid oid a ∷ [])
   did_read s oid a after l old answer =
       quiet (Read s.tid oid a) after ((l.started, l.running), answer)
-      (record { none_logged = λ i. refl; no_commit = λ x us e. absurd cc; no_start =
-          λ x site e. absurd cc; no_notice = λ x e. absurd cc })
+      (record {
+        none_logged = λ i. refl;
+        no_commit = λ x us e. absurd cc;
+        no_start =
+            λ x site e. absurd cc;
+        no_notice = λ x e. absurd cc;
+      })
       (λ x. record { none_done = refl; no_commit = λ us e. absurd cc; no_abort = λ cause e. absurd cc })
       old
 
@@ -264,8 +294,13 @@ module _ (owns : SiteId → List Held) (counts : SiteId → SiteId → ℕ) (num
       → IsSpelledAt owns counts numbers after spent (h ++ Abort s.tid cause ∷ [])
   did_abort c s cause after has l closed is =
       plain (Abort s.tid cause) after ((l.started, l.running), is)
-      (record { none_logged = λ i. refl; no_commit = λ x us e. absurd cc; no_start =
-          λ x site e. absurd cc; no_notice = λ x e. absurd cc })
+      (record {
+        none_logged = λ i. refl;
+        no_commit = λ x us e. absurd cc;
+        no_start =
+            λ x site e. absurd cc;
+        no_notice = λ x e. absurd cc;
+      })
       (λ d t there.
       let away = closed d t there in
       done_or_live_step owns counts h t (Abort s.tid cause) (sp.live d t away.1) (record {
@@ -281,8 +316,13 @@ module _ (owns : SiteId → List Held) (counts : SiteId → SiteId → ℕ) (num
       → IsSpelledAt owns counts numbers after spent (h ++ Told x what ∷ [])
   did_tell x what after so good old =
       quiet (Told x what) after so
-      (record { none_logged = λ i. refl; no_commit = λ y us e. absurd cc; no_start =
-          λ y site e. absurd cc; no_notice = λ y e. good (let f : what ≡ OfLevel NotCommitted = cc in f) })
+      (record {
+        none_logged = λ i. refl;
+        no_commit = λ y us e. absurd cc;
+        no_start =
+            λ y site e. absurd cc;
+        no_notice = λ y e. good (let f : what ≡ OfLevel NotCommitted = cc in f);
+      })
       (λ y. record { none_done = refl; no_commit = λ us e. absurd cc; no_abort = λ cause e. absurd cc })
       old
 
@@ -292,7 +332,7 @@ module _ (owns : SiteId → List Held) (counts : SiteId → SiteId → ℕ) (num
       → IsSpelledAt owns counts numbers after spent (h ++ Told r.tx.tid (OfVersion (version_of r)) ∷ [])
   did_tell_version k p r after n here old =
       did_tell r.tx.tid (OfVersion (version_of r)) after
-          (row_version owns counts numbers sessions spent h n sp k p r here) (λ e. absurd cc) old
+      (row_version owns counts numbers sessions spent h n sp k p r here) (λ e. absurd cc) old
 
   -- a committed transaction has come to each level but the lowest
   committed_notice : (x : Tid) (level : Level) → level ≢ NotCommitted → IsCommitted x h
@@ -308,7 +348,7 @@ module _ (owns : SiteId → List Held) (counts : SiteId → SiteId → ℕ) (num
       → IsSpelledAt owns counts numbers after spent (h ++ Told r.tx.tid (OfLevel level) ∷ [])
   did_tell_level k p r level after n high here old =
       did_tell r.tx.tid (OfLevel level) after
-          (committed_notice r.tx.tid level high (row_committed owns counts numbers sessions spent h n sp k p r here))
+      (committed_notice r.tx.tid level high (row_committed owns counts numbers sessions spent h n sp k p r here))
       (λ e. high (let f : level ≡ NotCommitted = cc in f)) old
 
   -- Told that it isn't committed
@@ -330,13 +370,18 @@ module _ (owns : SiteId → List Held) (counts : SiteId → SiteId → ℕ) (num
         alone = λ a b s t hs ht. sp.alone a b s t (old a s hs) (old b t ht);
         home = λ c s hs. sp.home c s (old c s hs);
         begun =
-            λ y c. elim ((started_snoc y h step).0 c) [ inl was ↦ sp.begun y was | inr new ↦ let e = new.1 in
-                absurd cc ];
+            λ y c. elim ((started_snoc y h step).0 c) [
+              | inl was ↦ sp.begun y was
+              | inr new ↦ let e = new.1 in
+                  absurd cc
+            ];
         denied = λ y c. elim (Contains-push_cases h step (Told y (OfLevel NotCommitted)) c) [
           | inl was ↦ denied_of numbers after (λ z i. i) (fewer_old after old) y was
-          | inr new ↦ let e : x ≡ y = cc in
-              (subst (λ (z : Tid). IsIssued (numbers z.site) z) e issued, λ d t there f. none d t (old d t there)
-                  (f ∙ sym e))
+          | inr new ↦ let e : x ≡ y = cc in (
+            subst (λ (z : Tid). IsIssued (numbers z.site) z) e issued,
+            λ d t there f. none d t (old d t there)
+                (f ∙ sym e),
+          )
         ];
       }
 
@@ -353,7 +398,7 @@ module _ (owns : SiteId → List Held) (counts : SiteId → SiteId → ℕ) (num
       let live_other : (d : Key) (t : Session) → sessions d ≡ Some t → IsDoneOrLive owns counts (h ++ step ∷ []) t =
       λ d t there.
       done_or_live_step owns counts h t step (sp.live d t there)
-          (record { none_done = refl; no_commit = λ us e. absurd cc; no_abort = λ cause e. absurd cc }) in
+      (record { none_done = refl; no_commit = λ us e. absurd cc; no_abort = λ cause e. absurd cc }) in
       let started_other : (d : Key) (t : Session) → sessions d ≡ Some t → x ≢ t.tid = λ d t there e.
       fresh (subst (λ z. IsStarted z h) (sym e) (session_started owns counts h t sp.legal (sp.live d t there))) in
       record {
@@ -398,7 +443,7 @@ module _ (owns : SiteId → List Held) (counts : SiteId → SiteId → ℕ) (num
             λ d t there e. elim (with_mine d t there) [
               | inl here ↦ absurd (unissued
                   (subst (λ (z : Tid). IsIssued (numbers z.site) z)
-                      (sym (ap (λ (z : Session). z.tid) here.1 ∙ e)) was.0))
+                  (sym (ap (λ (z : Session). z.tid) here.1 ∙ e)) was.0))
               | inr away ↦ was.1 d t away.1 e
             ],
           )
@@ -420,13 +465,19 @@ module _ (owns : SiteId → List Held) (counts : SiteId → SiteId → ℕ) (num
       let fresh : ¬ IsCommitted x h = λ committed. l.running (inl committed) in
       let apart : (k : SiteId) (p : ℕ) (z : Held) → slice_get (owns k) p ≡ Some z → z.tx.tid ≢ x =
       λ k p z here e. fresh (subst (λ y. IsCommitted y h) e
-          (row_committed owns counts numbers sessions spent h n sp k p z here)) in
+      (row_committed owns counts numbers sessions spent h n sp k p z here)) in
       let last : slice_get (more x.site) (counts x.site x.site) ≡ Some r =
       ap (λ t. slice_get t (counts x.site x.site)) push.0
       ∙ (ap (λ m. slice_get (owns x.site ++ r ∷ []) m) (n.counted x.site) ∙ slice_get-push (owns x.site) r) in
       let legal_here : IsLegalCommit x s.updates h =
-      record { running = (l.started, l.running); some = some; own = sym l.same; free = free; final =
-          λ told. unspent ((sp.denied x told).1 c s has refl) } in
+      record {
+        running = (l.started, l.running);
+        some = some;
+        own = sym l.same;
+        free = free;
+        final =
+            λ told. unspent ((sp.denied x told).1 c s has refl);
+      } in
       let new_kept : IsKept more (h ++ step ∷ []) r = record {
         started = subst (λ y. IsStarted y (h ++ step ∷ [])) (sym is_tid) (started_kept x h (step ∷ []) l.started);
         same =
@@ -435,21 +486,21 @@ module _ (owns : SiteId → List Held) (counts : SiteId → SiteId → ℕ) (num
             ∙ (given_commit x s.updates ∙ sym is_updates)));
         seen = subst (λ y. Sees more (λ k. entry_at r.tx.start k) (snapshot y (h ++ step ∷ []))) (sym is_tid)
             (sees_same more (λ k. entry_at s.snapshot k) (λ k. entry_at r.tx.start k)
-                (snapshot x (h ++ step ∷ [])) starts
+            (snapshot x (h ++ step ∷ [])) starts
             (sees_grow owns more (λ k. entry_at s.snapshot k) (snapshot x (h ++ step ∷ [])) grow
-                (seen_step owns counts h s step l)));
+            (seen_step owns counts h s step l)));
       } in
       record {
         legal = legal_snoc h step sp.legal legal_here;
         logs =
             logs_step owns more counts higher h step x.site r grow
-                (subst (λ (y : Tid). IsCounted counts higher x.site y.site) (sym is_tid) count)
+            (subst (λ (y : Tid). IsCounted counts higher x.site y.site) (sym is_tid) count)
             (subst (λ (y : Tid). slice_get (more y.site) (counts x.site y.site) ≡ Some r) (sym is_tid) last)
             (λ i. ap (λ y. if same_site x.site i then y ∷ [] else []) (sym is_tid)) sp.logs;
         kept = λ k p z here. elim (pushed_cases owns more x.site r push k p z here) [
           | inl old ↦ kept_grow owns more (h ++ step ∷ []) z grow
               (kept_step owns h z step (sp.kept k p z old)
-                  (λ us e. apart k p z old (let f : x ≡ z.tx.tid = cc in sym f)))
+              (λ us e. apart k p z old (let f : x ≡ z.tx.tid = cc in sym f)))
           | inr new ↦ subst (λ w. IsKept more (h ++ step ∷ []) w) new.2 new_kept
         ];
         once = λ k p q a b ha hb e. elim (pushed_cases owns more x.site r push k p a ha) [
@@ -472,19 +523,25 @@ module _ (owns : SiteId → List Held) (counts : SiteId → SiteId → ℕ) (num
                     none_done = refl;
                     no_commit =
                         λ us e. let f : x ≡ t.tid = cc in let g = same_tid_refl x in
-                            absurd (let i : same_tid x x ≡ false =
-                                subst (λ y. same_tid y x ≡ false) (sym f) differs in cc);
+                        absurd (let i : same_tid x x ≡ false =
+                        subst (λ y. same_tid y x ≡ false) (sym f) differs in cc);
                     no_abort = λ cause e. absurd cc;
                   }))
             ] refl;
         alone = sp.alone;
         home = sp.home;
         begun =
-            λ y started. elim ((started_snoc y h step).0 started) [ inl old ↦ sp.begun y old | inr new ↦ let e =
-                new.1 in absurd cc ];
+            λ y started. elim ((started_snoc y h step).0 started) [
+              | inl old ↦ sp.begun y old
+              | inr new ↦ let e =
+                  new.1 in absurd cc
+            ];
         denied =
-            λ y told. elim (Contains-push_cases h step (Told y (OfLevel NotCommitted)) told) [ inl old ↦
-                sp.denied y old | inr new ↦ absurd cc ];
+            λ y told. elim (Contains-push_cases h step (Told y (OfLevel NotCommitted)) told) [
+              | inl old ↦
+                  sp.denied y old
+              | inr new ↦ absurd cc
+            ];
       }
 
   -- Commit: of a session's transaction, as its site holds it; the session stays, with a committed transaction
@@ -517,7 +574,7 @@ module _ (owns : SiteId → List Held) (counts : SiteId → SiteId → ℕ) (num
       let w = seen_row owns (λ j. entry_at r.tx.start j) (snapshot x h) y k.seen seen in
       let low : w.place < counts i y.site = let a = w.below in let b = covers y.site in omega (arith, a, b) in
       by_in y.site (log i h) y w.place (row_seen owns (counts i) (log i h) y.site w.place w.row (sp.logs i) low w.here
-          ∙ ap (λ z. Some z) w.is) in
+      ∙ ap (λ z. Some z) w.is) in
       let legal_here : IsLegalArrival x i h = record {
         committed = row_committed owns counts numbers sessions spent h n sp x.site (counts i x.site) r here;
         elsewhere = away;
@@ -531,15 +588,21 @@ module _ (owns : SiteId → List Held) (counts : SiteId → SiteId → ℕ) (num
         once = sp.once;
         live =
             λ d t there. done_or_live_grow owns owns counts higher (h ++ step ∷ []) t (λ j. prefix_refl (owns j))
-                (counted_rise counts higher i x.site count)
+            (counted_rise counts higher i x.site count)
             (done_or_live_step owns counts h t step (sp.live d t there)
-                (record { none_done = refl; no_commit = λ us e. absurd cc; no_abort = λ cause e. absurd cc }));
+            (record { none_done = refl; no_commit = λ us e. absurd cc; no_abort = λ cause e. absurd cc }));
         alone = sp.alone;
         home = sp.home;
         begun =
-            λ y started. elim ((started_snoc y h step).0 started) [ inl old ↦ sp.begun y old | inr new ↦ let e =
-                new.1 in absurd cc ];
+            λ y started. elim ((started_snoc y h step).0 started) [
+              | inl old ↦ sp.begun y old
+              | inr new ↦ let e =
+                  new.1 in absurd cc
+            ];
         denied =
-            λ y told. elim (Contains-push_cases h step (Told y (OfLevel NotCommitted)) told) [ inl old ↦
-                sp.denied y old | inr new ↦ absurd cc ];
+            λ y told. elim (Contains-push_cases h step (Told y (OfLevel NotCommitted)) told) [
+              | inl old ↦
+                  sp.denied y old
+              | inr new ↦ absurd cc
+            ];
       }

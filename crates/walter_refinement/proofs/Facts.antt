@@ -35,14 +35,14 @@ seen_take v k b zero (r ∷ xs) e h =
     ap (λ (j : SiteId). nat_le r.seq (entry_at v j)) f.1
     ∙ lt-leb r.seq (entry_at v k) (let g = f.0 in omega (arith, e, g)) in
     rw unseen (seen_take v k (b + 1) zero xs (omega (arith, e)) (λ q s l. let g = h (suc q) s l in
-        (let g0 = g.0 in omega (arith, g0), g.1)))
+    (let g0 = g.0 in omega (arith, g0), g.1)))
 seen_take v k b (suc n) (r ∷ xs) e h =
     let f = h 0 r refl in
     let seen : sees v r ≡ true =
     ap (λ (j : SiteId). nat_le r.seq (entry_at v j)) f.1
     ∙ le-leb r.seq (entry_at v k) (let g = f.0 in omega (arith, e, g)) in
     rw seen (ap (λ t. r ∷ t) (seen_take v k (b + 1) n xs (omega (arith, e)) (λ q s l. let g = h (suc q) s l in
-        (let g0 = g.0 in omega (arith, g0), g.1))))
+    (let g0 = g.0 in omega (arith, g0), g.1))))
 
 -- of what a log holds a vector sees of each site the first own commits, as many as it says
 pub log_seen : (owns : SiteId → List Held) (counts : SiteId → SiteId → ℕ) (held : List Held) (v : List ℕ)
@@ -55,7 +55,7 @@ log_seen owns counts held v n fronts low k =
     filter_of_map (λ (x : Tid). same_site x.site k) tid_of (filter (sees v) held)
     ∙ ap (λ t. map tid_of t) (filter_both (is_of k) (sees v) held) in
     let numbered : (q : ℕ) (r : Held) → slice_get (of_site k held) q ≡ Some r → (r.seq ≡ 0 + q + 1)
-        × (r.tx.tid.site ≡ k) =
+    × (r.tx.tid.site ≡ k) =
     λ q r here.
     let e = n.numbered k q r (prefix_get (of_site k held) (owns k) r q front here) in
     (omega (arith, e), same_site-true r.tx.tid.site k (filter_place (is_of k) held r q here).2) in
@@ -83,7 +83,7 @@ row_held owns count held is k q r here low =
 
 module _ (owns : SiteId → List Held) (counts : SiteId → SiteId → ℕ) (numbers : SiteId → Issued)
     (sessions : Key → Option Session) (spent : Key → Type 0) (h : List Step) (n : AreOwned owns counts)
-        (sp : IsSpelledAt owns counts numbers sessions spent h) where
+    (sp : IsSpelledAt owns counts numbers sessions spent h) where
   -- a committed transaction is an own commit of its site
   pub committed_row : (y : Tid) → IsCommitted y h → IsSeenRow owns (λ k. counts y.site k) y
   committed_row y c = seen_row owns (λ k. counts y.site k) (log y.site h) y (sp.logs y.site) (committed_logged y h c)
@@ -113,9 +113,12 @@ module _ (owns : SiteId → List Held) (counts : SiteId → SiteId → ℕ) (num
   pub row_version : (k : SiteId) (p : ℕ) (r : Held) → slice_get (owns k) p ≡ Some r
       → IsVersionOf h (version_of r) r.tx.tid
   row_version k p r here =
-      let there = ap (λ t. slice_get t p) (own_log k h sp.legal) ∙ row_logged k p r here in
-      (p, n.numbered k p r here, subst (λ (j : SiteId). slice_get (commits j h) p ≡ Some r.tx.tid)
-          (sym (n.site k p r here)) there)
+      let there = ap (λ t. slice_get t p) (own_log k h sp.legal) ∙ row_logged k p r here in (
+        p,
+        n.numbered k p r here,
+        subst (λ (j : SiteId). slice_get (commits j h) p ≡ Some r.tx.tid)
+            (sym (n.site k p r here)) there,
+      )
 
   -- where the vector doesn't see an own commit, what it sees doesn't have the transaction
   pub row_unseen : (v : List ℕ) (xs : List Tid) (k : SiteId) (p : ℕ) (r : Held) → Sees owns (λ j. entry_at v j) xs
@@ -155,7 +158,7 @@ module _ (owns : SiteId → List Held) (counts : SiteId → SiteId → ℕ) (num
       subst (λ us. Contains (write_set us) oid) (ap (λ z. committed_updates h z) (sym r.is) ∙ k.same) b.3.1 in
       let is_seen = clear y.site r.place r.row oid r.here writes b.3.2 in
       b.4 (subst (λ z. Contains (snapshot s.tid h) z) r.is
-          (seen_contained s.snapshot (snapshot s.tid h) y.site r.place r.row l.seen r.here is_seen))
+      (seen_contained s.snapshot (snapshot s.tid h) y.site r.place r.row l.seen r.here is_seen))
 
   -- an own commit that writes the object, and that the session's snapshot doesn't see, is a version outside it
   pub modified : (s : Session) (k : SiteId) (p : ℕ) (r : Held) (oid : ObjId) → IsLive owns counts h s

@@ -53,33 +53,33 @@ module _ (catalog : Catalog) (i : SiteId) (W : Stands) (put : Put) (h : List Ste
       → HasOpen (W i) client s
       → Spells (at_site i (then_ catalog i (W i) (Given (Call client (Ok CommitAsked)))
       (Replied (Deciding s.tid)) kept
-          (Some (SlowBegin (next_slow (W i).knows)
-              (tx_of (with_slow (next_slow (W i).knows) s)))) None sends dropped) W)
+      (Some (SlowBegin (next_slow (W i).knows)
+      (tx_of (with_slow (next_slow (W i).knows) s)))) None sends dropped) W)
       (h ++ (spelled_by W i (Some (SlowBegin (next_slow (W i).knows) (tx_of (with_slow (next_slow (W i).knows) s))))
-          ++ answered i (W i) (Replied (Deciding s.tid)) (Given (Call client (Ok CommitAsked)))))
+      ++ answered i (W i) (Replied (Deciding s.tid)) (Given (Call client (Ok CommitAsked)))))
   begun_so client s kept sends dropped open_ =
       let n = next_slow (W i).knows in
       let x = tx_of (with_slow n s) in
       let S2 = then_ catalog i (W i) (Given (Call client (Ok CommitAsked))) (Replied (Deciding s.tid)) kept
-          (Some (SlowBegin n x)) None sends dropped in
+      (Some (SlowBegin n x)) None sends dropped in
       let mine : (w : ℕ) (t : Session) → held_by w S2 ≡ Some t → ((suc client ≡ w) × (with_slow n s ≡ t))
-          ⊎ ((suc client ≢ w) × (held_by w (W i) ≡ Some t)) = λ w t has. elim w as
+      ⊎ ((suc client ≢ w) × (held_by w (W i) ≡ Some t)) = λ w t has. elim w as
       (λ w. held_by w S2 ≡ Some t → ((suc client ≡ w) × (with_slow n s ≡ t))
-          ⊎ ((suc client ≢ w) × (held_by w (W i) ≡ Some t))) [
+      ⊎ ((suc client ≢ w) × (held_by w (W i) ≡ Some t))) [
         | zero ↦ λ now. absurd (let none : ◌≡◌ {A = Option Session} None (Some t) = now in cc)
         | suc c ↦ λ now. elim (changed_cases client c (deciding (Some (SlowBegin n x))) s t
             (W i).knows.sessions open_.session now) [
-          | inl here ↦ inl (ap (λ k. suc k) here.0, here.1)
-          | inr away ↦ inr (λ e. away.0 (omega (arith, e)), away.1)
-        ]
+              | inl here ↦ inl (ap (λ k. suc k) here.0, here.1)
+              | inr away ↦ inr (λ e. away.0 (omega (arith, e)), away.1)
+            ]
       ] has in
       let old : (w : ℕ) (t : Session) → held_by w S2 ≡ Some t → (u : Session) × (held_by w (W i) ≡ Some u)
-          × (u.tid ≡ t.tid) = λ w t has. elim (mine w t has) [
+      × (u.tid ≡ t.tid) = λ w t has. elim (mine w t has) [
         | inl here ↦ (s, ap (λ k. held_by k (W i)) (sym here.0) ∙ open_.session, ap (λ (z : Session). z.tid) here.1)
         | inr away ↦ (t, away.1, refl)
       ] in
       let final = final_then catalog i (W i) (Given (Call client (Ok CommitAsked))) (Replied (Deciding s.tid)) kept
-          (Some (SlowBegin n x)) None sends dropped (A.tidy.number n (omega arith)) in
+      (Some (SlowBegin n x)) None sends dropped (A.tidy.number n (omega arith)) in
       let on : GoesOn (W i) S2 = record {
         issued = λ y g. issued_same (W i).up (W i).knows S2.knows y refl (omega arith) g;
         begun = λ w t u now was some. elim (mine w t now) [
@@ -93,10 +93,10 @@ module _ (catalog : Catalog) (i : SiteId) (W : Stands) (put : Put) (h : List Ste
       } in
       subst (λ t. Spells (at_site i S2 W) t) (sym (append-nil h))
       (unstepped W i S2 h (same_then catalog i (W i) (Given (Call client (Ok CommitAsked)))
-          (Replied (Deciding s.tid)) kept (Some (SlowBegin n x)) None sends dropped tt) on old
+      (Replied (Deciding s.tid)) kept (Some (SlowBegin n x)) None sends dropped tt) on old
       (numbered_as (owns W) (counts W) (numbers W) (held W) (spent W) h sp.spelled n
-          (record { site = i; who = suc client }) s (held (at_site i S2 W)) open_.session
-              (with_by W i S2 (suc client) (with_slow n s) mine)) sp)
+      (record { site = i; who = suc client }) s (held (at_site i S2 W)) open_.session
+      (with_by W i S2 (suc client) (with_slow n s) mine)) sp)
 
   -- an own commit is in flight: its session is nobody's then
   pub own_flies : (event : Event) (outcome : Outcome) (kept : Option Record) (sends : List Send) (dropped : ℕ) (c : ℕ)
@@ -108,16 +108,16 @@ module _ (catalog : Catalog) (i : SiteId) (W : Stands) (put : Put) (h : List Ste
       let S2 = then_ catalog i (W i) event outcome kept None (Some (Own seq (tx_of s))) sends dropped in
       let K = after catalog i (W i).knows event outcome None in
       let up_is : S2.up ≡ false =
-          ap (λ b. if b then false else if comes_up event outcome then true else (W i).up) fall in
+      ap (λ b. if b then false else if comes_up event outcome then true else (W i).up) fall in
       let knows_is : S2.knows ≡ lost K = ap (λ b. if b then lost K else K) fall in
       let e : S2.knows.epoch ≡ (W i).knows.epoch = ap (λ (L : Knowledge). L.epoch) knows_is in
       let key : Key = record { site = i; who = suc c } in
       let nobody : Key = record { site = i; who = zero } in
       let gone : (d : ℕ) (t : Session) → session_of S2.knows d ≡ Some t → ⊥ =
-          λ d t now. let none : ◌≡◌ {A = Option Session} None (Some t) = ap (λ (L : Knowledge). session_of L d)
-              (sym knows_is) ∙ now in absurd (cc) in
+      λ d t now. let none : ◌≡◌ {A = Option Session} None (Some t) = ap (λ (L : Knowledge). session_of L d)
+      (sym knows_is) ∙ now in absurd (cc) in
       let one : (w : ℕ) (t : Session) → held_by w S2 ≡ Some t → (w ≡ zero) × (s ≡ t) =
-          λ w t now. elim w as (λ w. held_by w S2 ≡ Some t → (w ≡ zero) × (s ≡ t)) [
+      λ w t now. elim w as (λ w. held_by w S2 ≡ Some t → (w ≡ zero) × (s ≡ t)) [
         | zero ↦ λ flies. (refl, same_Some s t flies)
         | suc d ↦ λ is. absurd (gone d t is)
       ] now in
@@ -132,11 +132,11 @@ module _ (catalog : Catalog) (i : SiteId) (W : Stands) (put : Put) (h : List Ste
       } in
       let undecided = not_decided catalog i W put h A G sp s seq due in
       subst (λ t. Spells (at_site i S2 W) t)
-          (sym (ap (λ t. h ++ t) (mute_spells i (W i) outcome event mute) ∙ append-nil h))
+      (sym (ap (λ t. h ++ t) (mute_spells i (W i) outcome event mute) ∙ append-nil h))
       (record {
         spelled = moved_to W i S2 h same on
             (moved (owns W) (counts W) (numbers W) (held W) (spent W) h sp.spelled
-                (held (at_site i S2 W)) key nobody refl (not_spent catalog i W put h A G sp (suc c) s seq has due)
+            (held (at_site i S2 W)) key nobody refl (not_spent catalog i W put h A G sp (suc c) s seq has due)
             (λ d t now. elim (views W i S2 (held_by d.who) d.site) [
               | inl here ↦
                   let its = one d.who t (sym here.1 ∙ now) in
@@ -145,8 +145,8 @@ module _ (catalog : Catalog) (i : SiteId) (W : Stands) (put : Put) (h : List Ste
             ]));
         decided = still_decided W i S2 h h on sp.decided
             (λ w t now committed. let its = one w t now in
-                absurd (undecided (sp.decided key s has
-                    (subst (λ (z : Session). IsCommitted z.tid h) (sym its.1) committed))))
+            absurd (undecided (sp.decided key s has
+            (subst (λ (z : Session). IsCommitted z.tid h) (sym its.1) committed))))
             (λ d t apart now committed. committed);
       })
 
@@ -157,10 +157,13 @@ module _ (catalog : Catalog) (i : SiteId) (W : Stands) (put : Put) (h : List Ste
   found_still rec is new issued =
       let S1 = settled catalog i (Some rec) (W i) in
       let q = quiet_by (W i) S1 issued (final_stays catalog i (W i).knows (Some rec) new) (λ c s has. has)
-          (λ t now. absurd (let none : ◌≡◌ {A = Option Session} None (Some t) = now in cc)) in
+      (λ t now. absurd (let none : ◌≡◌ {A = Option Session} None (Some t) = now in cc)) in
       subst (λ t. Spells (at_site i S1 W) t) (sym (ap (λ t. h ++ t) (still_spells W i (Some rec) is) ∙ append-nil h))
-      (quiet W i S1 h (record { owned = still_log i (Some rec) (W i).knows.log is; committed =
-          λ k. still_committed i (Some rec) (W i).knows.committed k is }) q.on q.few sp)
+      (quiet W i S1 h (record {
+        owned = still_log i (Some rec) (W i).knows.log is;
+        committed =
+            λ k. still_committed i (Some rec) (W i).knows.committed k is;
+      }) q.on q.few sp)
 
   same_names : (rec : Record) → (recorded catalog i (Some rec) (W i).knows).epoch ≡ (W i).knows.epoch → (x : Tid)
       → IsIssued (issued_of (W i)) x → IsIssued (issued_of (settled catalog i (Some rec) (W i))) x
@@ -188,22 +191,22 @@ module _ (catalog : Catalog) (i : SiteId) (W : Stands) (put : Put) (h : List Ste
       let s : Session = record { tid = x.tid; snapshot = x.start; updates = x.updates; slow = x.slow } in
       let S1 = settled catalog i (Some (Own seq x)) (W i) in
       owns_more catalog i W put h A G sp S1 zero s seq due (ap (λ f. in_flight f) flies) refl (λ k. refl) (λ n. refl)
-          (same_names (Own seq x) refl) (λ c t now. now) refl
+      (same_names (Own seq x) refl) (λ c t now. now) refl
       (λ fast now. absurd (let none : ◌≡◌ {A = Option Session} None (Some s) = now in cc))
   kept_so (Got j seq x) down flies due =
       found_still (Got j seq x)
-          (λ e. due.apart (sym (G.numbered.own.site j (seq - 1) (record { seq = seq; tx = x })
-              (G.said j i (Propagate seq x) due.apart due.said).1) ∙ e)) tt (same_names (Got j seq x) refl)
+      (λ e. due.apart (sym (G.numbered.own.site j (seq - 1) (record { seq = seq; tx = x })
+      (G.said j i (Propagate seq x) due.apart due.said).1) ∙ e)) tt (same_names (Got j seq x) refl)
   kept_so (Seen j seq) down flies due =
       seen_here catalog i W put h A G sp None [] 0 (settled catalog i (Some (Seen j seq)) (W i)) j seq due refl
-          (λ k. refl) (λ n. refl) (same_names (Seen j seq) refl) (λ c t now. now)
+      (λ k. refl) (λ n. refl) (same_names (Seen j seq) refl) (λ c t now. now)
       (λ t now. absurd (let none : ◌≡◌ {A = Option Session} None (Some t) = now in cc))
   kept_so (Prepared j n tid objects) down flies due = found_still (Prepared j n tid objects) tt tt
       (same_names (Prepared j n tid objects) refl)
   kept_so (Released j n) down flies due = found_still (Released j n) tt tt (same_names (Released j n) refl)
   kept_so (SlowBegin n x) down flies due =
       found_still (SlowBegin n x) tt (A.tidy.number n (let e = due.next in omega (arith, e)))
-          (same_names (SlowBegin n x) refl)
+      (same_names (SlowBegin n x) refl)
   kept_so (SlowEnd n) down flies due = found_still (SlowEnd n) tt tt (same_names (SlowEnd n) refl)
   kept_so (Marks durable visible) down flies due = found_still (Marks durable visible) tt tt
       (same_names (Marks durable visible) refl)

@@ -104,27 +104,40 @@ pub final_stays : (catalog : Catalog) (i : SiteId) (K : Knowledge) (rec : Option
 final_stays catalog i K None new n final = refl
 final_stays catalog i K (Some (Boot epoch)) new n final = final.not_ended
 final_stays catalog i K (Some (Own seq tx)) new n final =
-    elim (nat_eq tx.slow n) as (λ b. (if b then decided (K.slow n) else K.slow n) ≡ K.slow n) [ true ↦
-        final.not_decided | false ↦ refl ]
+    elim (nat_eq tx.slow n) as (λ b. (if b then decided (K.slow n) else K.slow n) ≡ K.slow n) [
+      | true ↦
+          final.not_decided
+      | false ↦ refl
+    ]
 final_stays catalog i K (Some (Got j seq tx)) new n final = refl
 final_stays catalog i K (Some (Seen j seq)) new n final = refl
 final_stays catalog i K (Some (Prepared j m tid objects)) new n final = refl
 final_stays catalog i K (Some (Released j m)) new n final = refl
 final_stays catalog i K (Some (SlowBegin m tx)) new n final =
     elim (nat_eq m n) as (λ b. nat_eq m n ≡ b
-        → (if b then Undecided tx (participants catalog K i tx.updates) else K.slow n) ≡ K.slow n) [
-  | true ↦ λ is. absurd (final.begun (subst (λ k. K.slow k ≡ Unused) (eqb-true m n is) new))
-  | false ↦ λ is. refl
-] refl
+    → (if b then Undecided tx (participants catalog K i tx.updates) else K.slow n) ≡ K.slow n) [
+      | true ↦ λ is. absurd (final.begun (subst (λ k. K.slow k ≡ Unused) (eqb-true m n is) new))
+      | false ↦ λ is. refl
+    ] refl
 final_stays catalog i K (Some (SlowEnd m)) new n final =
-    elim (nat_eq m n) as (λ b. (if b then ended (K.slow n) else K.slow n) ≡ K.slow n) [ true ↦
-        final.not_ended | false ↦ refl ]
+    elim (nat_eq m n) as (λ b. (if b then ended (K.slow n) else K.slow n) ≡ K.slow n) [
+      | true ↦
+          final.not_ended
+      | false ↦ refl
+    ]
 final_stays catalog i K (Some (Marks durable visible)) new n final = refl
 
 -- what came of an event, in its parts
 abbrev pub came_of : Outcome → Option Record → Option Record → Option Record → List Send → ℕ → Came
-came_of outcome kept wrote flight sends dropped = record { outcome = outcome; kept = kept; wrote = wrote; flight =
-    flight; sends = sends; dropped = dropped }
+came_of outcome kept wrote flight sends dropped = record {
+  outcome = outcome;
+  kept = kept;
+  wrote = wrote;
+  flight =
+      flight;
+  sends = sends;
+  dropped = dropped;
+}
 
 module _ (catalog : Catalog) (i : SiteId) (K : Knowledge) (event : Event) (outcome : Outcome)
     (wrote : Option Record) where
@@ -132,7 +145,7 @@ module _ (catalog : Catalog) (i : SiteId) (K : Knowledge) (event : Event) (outco
   pub after_log : (knows_after event outcome (after catalog i K event outcome wrote)).log ≡ log_after wrote K.log
   after_log = elim (goes_down event outcome) as
       (λ b. (if b then lost (after catalog i K event outcome wrote) else after catalog i K event outcome wrote).log
-          ≡ log_after wrote K.log) [ true ↦ refl | false ↦ refl ]
+      ≡ log_after wrote K.log) [ true ↦ refl | false ↦ refl ]
 
   pub after_committed : (k : SiteId) → (knows_after event outcome (after catalog i K event outcome wrote)).committed k
       ≡ committed_after i wrote K.committed k
@@ -143,7 +156,7 @@ module _ (catalog : Catalog) (i : SiteId) (K : Knowledge) (event : Event) (outco
       ≡ slow_after catalog i K wrote n
   after_slow n = elim (goes_down event outcome) as
       (λ b. (if b then lost (after catalog i K event outcome wrote) else after catalog i K event outcome wrote).slow n
-          ≡ slow_after catalog i K wrote n) [ true ↦ refl | false ↦ refl ]
+      ≡ slow_after catalog i K wrote n) [ true ↦ refl | false ↦ refl ]
 
 -- a site that stands so goes on, and holds fewer
 pub record IsQuiet (before after_ : Standing) : Type 0 where
@@ -157,7 +170,7 @@ pub quiet_by : (before after_ : Standing) → ((x : Tid) → IsIssued (issued_of
     → ((s : Session) → in_flight after_.flight ≡ Some s → in_flight before.flight ≡ Some s) → IsQuiet before after_
 quiet_by before after_ issued final sessions flight =
     let few : HoldsFewer before after_ = λ who s has. elim who as (λ w. held_by w after_ ≡ Some s
-        → held_by w before ≡ Some s) [
+    → held_by w before ≡ Some s) [
       | zero ↦ λ is. flight s is
       | suc c ↦ λ is. sessions c s is
     ] has in

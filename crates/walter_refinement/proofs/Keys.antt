@@ -18,9 +18,9 @@ use Rattle.walter_refinement.proofs.Spelled.{Key}
 client_cases : (a b : ℕ) → ((nat_eq a b ≡ true) × (a ≡ b)) ⊎ ((nat_eq a b ≡ false) × (a ≢ b))
 client_cases a b = elim (nat_eq a b) as (λ t. nat_eq a b ≡ t → ((nat_eq a b ≡ true) × (a ≡ b))
     ⊎ ((nat_eq a b ≡ false) × (a ≢ b))) [
-  | true ↦ λ is. inl (is, eqb-true a b is)
-  | false ↦ λ is. inr (is, λ e. let t = eq-eqb a b e in absurd (let f : true ≡ false = sym t ∙ is in cc))
-] refl
+      | true ↦ λ is. inl (is, eqb-true a b is)
+      | false ↦ λ is. inr (is, λ e. let t = eq-eqb a b e in absurd (let f : true ≡ false = sym t ∙ is in cc))
+    ] refl
 
 -- one session more, of a client that had none
 pub opened_cases : (client c : ℕ) (new t : Session) (ss : Sessions) → lookup (nat_eq client) ss ≡ None
@@ -39,7 +39,7 @@ changed_cases client c f s t ss is has = elim (client_cases client c) [
   | inl same ↦
       let now : lookup (nat_eq c) (changed client f ss) ≡ Some (f s) =
       lookup-changed client c f ss
-          ∙ (rw same.0 (ap (λ o. option_map f o) (ap (λ k. lookup (nat_eq k) ss) (sym same.1) ∙ is))) in
+      ∙ (rw same.0 (ap (λ o. option_map f o) (ap (λ k. lookup (nat_eq k) ss) (sym same.1) ∙ is))) in
       inl (same.1, same_Some (f s) t (sym now ∙ has))
   | inr other ↦ inr (other.1, sym (lookup-changed client c f ss ∙ rw other.0 refl) ∙ has)
 ]

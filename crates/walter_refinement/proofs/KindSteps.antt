@@ -68,12 +68,12 @@ positive (suc n) some = omega arith
 
 module _ (catalog : Catalog) (i : SiteId) (W : Stands) (put : Put) (h : List Step) (below : i.0 < catalog.sites)
     (alone : (k : SiteId) → IsAlone catalog k (W k)) (G : AreAgreed catalog W put) (sp : Spells W h)
-        (kept : Option Record) (sends : List Send) (dropped : ℕ) where
+    (kept : Option Record) (sends : List Send) (dropped : ℕ) where
   -- the site as it stands then, and what is to be known of the history
   abbrev pub Keeps : Event → Outcome → Option Record → Option Record → Type 0
   Keeps event outcome wrote flight =
       Spells (at_site i (then_ catalog i (W i) event outcome kept wrote flight sends dropped) W)
-          (h ++ (spelled_by W i wrote ++ answered i (W i) outcome event))
+      (h ++ (spelled_by W i wrote ++ answered i (W i) outcome event))
 
   -- an update that was asked for
   pub updates_so : (client : ℕ) (call : Result Request BadFrame) (s : Session) (update : Update)
@@ -91,33 +91,33 @@ module _ (catalog : Catalog) (i : SiteId) (W : Stands) (put : Put) (h : List Ste
       → Keeps (Given (Call client call)) (Replied reply) None None
   reads_so client call s reply updates open_ is (of_value oid us) =
       read_so catalog i W put h (alone i) G sp client (Ok (ReadAsked oid)) kept sends dropped s oid
-          (ValueIs (value_of oid updates)) (Value (value_of oid updates)) open_ (ap (λ u. value_of oid u) is)
+      (ValueIs (value_of oid updates)) (Value (value_of oid updates)) open_ (ap (λ u. value_of oid u) is)
       (ap (λ o. of_session (saw (Ok (ReadAsked oid)) (value_of oid updates)) o) open_.session)
       (goes_same catalog i W put h (alone i) G sp client (Ok (ReadAsked oid)) kept sends dropped
-          (Value (value_of oid updates)) refl refl
-              (λ x g. issued_same (W i).up (W i).knows
-                  (replied_so catalog i W put h (alone i) G sp client (Ok (ReadAsked oid)) kept sends dropped
-                      (Value (value_of oid updates))).knows x refl (omega arith) g))
+      (Value (value_of oid updates)) refl refl
+      (λ x g. issued_same (W i).up (W i).knows
+      (replied_so catalog i W put h (alone i) G sp client (Ok (ReadAsked oid)) kept sends dropped
+      (Value (value_of oid updates))).knows x refl (omega arith) g))
   reads_so client call s reply updates open_ is (of_counts oid us) =
       read_so catalog i W put h (alone i) G sp client (Ok (SetRead oid)) kept sends dropped s oid
-          (CountsAre (counts_of oid updates)) (Set (counts_of oid updates)) open_
-              (subst (λ u. AreCounts oid u (counts_of oid updates)) is (counts_of_are oid updates))
+      (CountsAre (counts_of oid updates)) (Set (counts_of oid updates)) open_
+      (subst (λ u. AreCounts oid u (counts_of oid updates)) is (counts_of_are oid updates))
       (ap (λ o. of_session (saw_set (Ok (SetRead oid)) (counts_of oid updates)) o) open_.session)
       (goes_same catalog i W put h (alone i) G sp client (Ok (SetRead oid)) kept sends dropped
-          (Set (counts_of oid updates)) refl refl
-              (λ x g. issued_same (W i).up (W i).knows
-                  (replied_so catalog i W put h (alone i) G sp client (Ok (SetRead oid)) kept sends dropped
-                      (Set (counts_of oid updates))).knows x refl (omega arith) g))
+      (Set (counts_of oid updates)) refl refl
+      (λ x g. issued_same (W i).up (W i).knows
+      (replied_so catalog i W put h (alone i) G sp client (Ok (SetRead oid)) kept sends dropped
+      (Set (counts_of oid updates))).knows x refl (omega arith) g))
   reads_so client call s reply updates open_ is (of_count oid id us) =
       read_so catalog i W put h (alone i) G sp client (Ok (SetReadId oid id)) kept sends dropped s oid
-          (CountIs id (count_of oid id updates)) (Count (count_of oid id updates)) open_
-              (ap (λ u. count_of oid id u) is)
+      (CountIs id (count_of oid id updates)) (Count (count_of oid id updates)) open_
+      (ap (λ u. count_of oid id u) is)
       (ap (λ o. of_session (saw_count (Ok (SetReadId oid id)) (count_of oid id updates)) o) open_.session)
       (goes_same catalog i W put h (alone i) G sp client (Ok (SetReadId oid id)) kept sends dropped
-          (Count (count_of oid id updates)) refl refl
-              (λ x g. issued_same (W i).up (W i).knows
-                  (replied_so catalog i W put h (alone i) G sp client (Ok (SetReadId oid id)) kept sends dropped
-                      (Count (count_of oid id updates))).knows x refl (omega arith) g))
+      (Count (count_of oid id updates)) refl refl
+      (λ x g. issued_same (W i).up (W i).knows
+      (replied_so catalog i W put h (alone i) G sp client (Ok (SetReadId oid id)) kept sends dropped
+      (Count (count_of oid id updates))).knows x refl (omega arith) g))
 
   -- a reply that tells how far an own commit has come
   tells_level_so : (client : ℕ) (tid : Tid) (seq : ℕ) (level : HowFar) (so : ToldLevel) → so ≢ ToldNotCommitted
@@ -127,43 +127,43 @@ module _ (catalog : Catalog) (i : SiteId) (W : Stands) (put : Put) (h : List Ste
   tells_level_so client tid seq level so high spelled_ is =
       let row = seq_some i (W i).knows tid seq is in
       seen_so catalog i W put h (alone i) G sp client (Ok (LevelAsked tid)) kept sends dropped (Level level)
-          (Told tid (OfLevel so)) (λ x us e. absurd cc) spelled_
+      (Told tid (OfLevel so)) (λ x us e. absurd cc) spelled_
       (goes_same catalog i W put h (alone i) G sp client (Ok (LevelAsked tid)) kept sends dropped
-          (Level level) refl refl (λ x g. issued_same (W i).up (W i).knows
-              (replied_so catalog i W put h (alone i) G sp client (Ok (LevelAsked tid)) kept sends dropped
-                  (Level level)).knows x refl (omega arith) g))
+      (Level level) refl refl (λ x g. issued_same (W i).up (W i).knows
+      (replied_so catalog i W put h (alone i) G sp client (Ok (LevelAsked tid)) kept sends dropped
+      (Level level)).knows x refl (omega arith) g))
       (λ after few. subst (λ x. IsSpelledAt (owns W) (counts W) (numbers W) after (spent W)
-          (h ++ Told x (OfLevel so) ∷ [])) row.3
+      (h ++ Told x (OfLevel so) ∷ [])) row.3
       (did_tell_level (owns W) (counts W) (numbers W) (held W)
-          (spent W) h sp.spelled i row.0 row.1 so after G.numbered.own high row.2 few))
+      (spent W) h sp.spelled i row.0 row.1 so after G.numbered.own high row.2 few))
 
   pub levels_so : (client : ℕ) (tid : Tid) (seq : ℕ) → seq_of i (W i).knows tid ≡ Some seq
       → Keeps (Given (Call client (Ok (LevelAsked tid))))
       (Replied (Level (level_of_own catalog i (W i).knows seq))) None None
   levels_so client tid seq is = elim (nat_le seq (visible_mark catalog i (W i).knows)) as
       (λ b. Keeps (Given (Call client (Ok (LevelAsked tid))))
-          (Replied (Level (if b then Visible else if nat_le seq
-              (durable_mark catalog i (W i).knows) then Durable else LevelCommitted))) None None) [
-    | true ↦ tells_level_so client tid seq Visible ToldVisible (λ e. absurd cc) refl is
-    | false ↦ elim (nat_le seq (durable_mark catalog i (W i).knows)) as
-        (λ b. Keeps (Given (Call client (Ok (LevelAsked tid))))
+      (Replied (Level (if b then Visible else if nat_le seq
+      (durable_mark catalog i (W i).knows) then Durable else LevelCommitted))) None None) [
+        | true ↦ tells_level_so client tid seq Visible ToldVisible (λ e. absurd cc) refl is
+        | false ↦ elim (nat_le seq (durable_mark catalog i (W i).knows)) as
+            (λ b. Keeps (Given (Call client (Ok (LevelAsked tid))))
             (Replied (Level (if b then Durable else LevelCommitted))) None None) [
-      | true ↦ tells_level_so client tid seq Durable ToldDurable (λ e. absurd cc) refl is
-      | false ↦ tells_level_so client tid seq LevelCommitted ToldCommitted (λ e. absurd cc) refl is
-    ]
-  ]
+              | true ↦ tells_level_so client tid seq Durable ToldDurable (λ e. absurd cc) refl is
+              | false ↦ tells_level_so client tid seq LevelCommitted ToldCommitted (λ e. absurd cc) refl is
+            ]
+      ]
 
   -- a reply that tells nothing
   pub level_quiet : (client : ℕ) (tid : Tid) (level : HowFar) → answered i (W i) (Replied (Level level))
       (Given (Call client (Ok (LevelAsked tid)))) ≡ [] → Keeps (Given (Call client (Ok (LevelAsked tid))))
-          (Replied (Level level)) None None
+      (Replied (Level level)) None None
   level_quiet client tid level none =
       quiet_entry catalog i W h (spelled_by W i None ++ answered i (W i) (Replied (Level level))
-          (Given (Call client (Ok (LevelAsked tid))))) (Given (Call client (Ok (LevelAsked tid))))
-              (Replied (Level level)) kept None None sends dropped none tt tt
+      (Given (Call client (Ok (LevelAsked tid))))) (Given (Call client (Ok (LevelAsked tid))))
+      (Replied (Level level)) kept None None sends dropped none tt tt
       (λ x g. issued_same (W i).up (W i).knows (then_ catalog i (W i) (Given (Call client (Ok (LevelAsked tid))))
-          (Replied (Level level)) kept None None sends dropped).knows x refl (omega arith) g) (λ c s has. has)
-              (λ s has. has) sp
+      (Replied (Level level)) kept None None sends dropped).knows x refl (omega arith) g) (λ c s has. has)
+      (λ s has. has) sp
 
   -- a session of the transaction that was denied has lost its slow commit
   lost_of : (tid : Tid) → (W i).up ≡ true → seq_of i (W i).knows tid ≡ None → is_undecided (W i).knows tid ≡ false
@@ -174,7 +174,7 @@ module _ (catalog : Catalog) (i : SiteId) (W : Stands) (put : Put) (h : List Ste
   lost_of tid up none not_deciding not_open (suc c) s has same = elim (zero_or s.slow) [
     | inl zero_ ↦ absurd (let found : is_open tid (W i).knows.sessions ≡ true =
         subst (λ x. is_open x (W i).knows.sessions ≡ true) same (open_found c s (W i).knows.sessions has zero_) in
-            let clash : true ≡ false = sym found ∙ not_open in cc)
+        let clash : true ≡ false = sym found ∙ not_open in cc)
     | inr some ↦
         let mine = (alone i).tidy.mine c s has some in
         elim ((W i).knows.slow s.slow) as (λ g. (W i).knows.slow s.slow ≡ g → spent_by (suc c) (W i)) [
@@ -189,9 +189,9 @@ module _ (catalog : Catalog) (i : SiteId) (W : Stands) (put : Put) (h : List Ste
                 | inr low ↦ low
               ] in
               absurd (let found : is_undecided (W i).knows tid ≡ true =
-                  subst (λ x. is_undecided (W i).knows x ≡ true) name
-                      (undecided_found (W i).knows s.slow tx asked is (positive s.slow some) within) in
-                          let clash : true ≡ false = sym found ∙ not_deciding in cc)
+              subst (λ x. is_undecided (W i).knows x ≡ true) name
+              (undecided_found (W i).knows s.slow tx asked is (positive s.slow some) within) in
+              let clash : true ≡ false = sym found ∙ not_deciding in cc)
           | Dropped tx asked ↦ λ is. (s, tx, asked, has, some, is)
           | Decided tx ↦ λ is.
               let own = (alone i).tidy.row s.slow tx is in
@@ -206,26 +206,26 @@ module _ (catalog : Catalog) (i : SiteId) (W : Stands) (put : Put) (h : List Ste
       → Keeps (Given (Call client (Ok (LevelAsked tid)))) (Replied (Level NotCommitted)) None None
   denies_so client tid up here issued none not_deciding not_open =
       seen_so catalog i W put h (alone i) G sp client (Ok (LevelAsked tid)) kept sends dropped (Level NotCommitted)
-          (Told tid (OfLevel ToldNotCommitted)) (λ x us e. absurd cc) refl
+      (Told tid (OfLevel ToldNotCommitted)) (λ x us e. absurd cc) refl
       (goes_same catalog i W put h (alone i) G sp client (Ok (LevelAsked tid)) kept sends dropped
-          (Level NotCommitted) refl refl
-              (λ x g. issued_same (W i).up (W i).knows
-                  (replied_so catalog i W put h (alone i) G sp client (Ok (LevelAsked tid)) kept sends dropped
-                      (Level NotCommitted)).knows x refl (omega arith) g))
+      (Level NotCommitted) refl refl
+      (λ x g. issued_same (W i).up (W i).knows
+      (replied_so catalog i W put h (alone i) G sp client (Ok (LevelAsked tid)) kept sends dropped
+      (Level NotCommitted)).knows x refl (omega arith) g))
       (λ after few. did_deny (owns W) (counts W) (numbers W) (held W) (spent W) h sp.spelled tid after
       (λ committed.
       let row = (committed_exactly (owns W) (counts W) (numbers W) (held W)
-          (spent W) h G.numbered.own sp.spelled tid).0 committed in
+      (spent W) h G.numbered.own sp.spelled tid).0 committed in
       let site : row.0 ≡ i = sym (G.numbered.own.site row.0 row.1 row.2 row.3)
-          ∙ (ap (λ (x : Tid). x.site) row.4 ∙ here) in
+      ∙ (ap (λ (x : Tid). x.site) row.4 ∙ here) in
       seq_none i (W i).knows tid none row.1 row.2
-          (subst (λ k. slice_get (owns W k) row.1 ≡ Some row.2) site row.3) row.4)
+      (subst (λ k. slice_get (owns W k) row.1 ≡ Some row.2) site row.3) row.4)
       (subst (λ k. IsIssued (numbers W k) tid) (sym here)
-          (subst (λ b. IsIssued (issued_by b (W i).knows) tid) (sym up) (issued_true (W i).knows tid issued)))
+      (subst (λ b. IsIssued (issued_by b (W i).knows) tid) (sym up) (issued_true (W i).knows tid issued)))
       (λ c s has same.
       let at_i : c.site ≡ i = sym (sp.spelled.home c s has) ∙ (ap (λ (x : Tid). x.site) same ∙ here) in
       subst (λ k. spent_by c.who (W k)) (sym at_i)
-          (lost_of tid up none not_deciding not_open c.who s (subst (λ k. held_by c.who (W k) ≡ Some s) at_i has) same))
+      (lost_of tid up none not_deciding not_open c.who s (subst (λ k. held_by c.who (W k) ≡ Some s) at_i has) same))
       few)
 
   -- a client is told the version of its slow commit
@@ -235,22 +235,25 @@ module _ (catalog : Catalog) (i : SiteId) (W : Stands) (put : Put) (h : List Ste
   tells_version_so client s seq begun_ is =
       let row = seq_some i (W i).knows s.tid seq is in
       let version : version_of row.1 ≡ own_version i seq =
-          (λ t. record { site = (ap (λ (x : Tid). x.site) row.3
-              ∙ ((alone i).started client s begun_.session).0) t; seq = row.4 t }) in
+      (λ t. record {
+        site = (ap (λ (x : Tid). x.site) row.3
+            ∙ ((alone i).started client s begun_.session).0) t;
+        seq = row.4 t;
+      }) in
       let S2 = replied_so catalog i W put h (alone i) G sp client (Ok CommitAsked) kept sends dropped
-          (Committed (own_version i seq)) in
+      (Committed (own_version i seq)) in
       seen_so catalog i W put h (alone i) G sp client (Ok CommitAsked) kept sends dropped
-          (Committed (own_version i seq)) (Told s.tid (OfVersion (own_version i seq))) (λ x us e. absurd cc)
+      (Committed (own_version i seq)) (Told s.tid (OfVersion (own_version i seq))) (λ x us e. absurd cc)
       (ap (λ o. of_session (told (own_version i seq)) o) begun_.session)
       (goes_closed catalog i W put h (alone i) G sp client (Ok CommitAsked) kept sends dropped
-          (Committed (own_version i seq)) refl refl (λ x g. issued_same (W i).up (W i).knows S2.knows x refl
-              (omega arith) g))
+      (Committed (own_version i seq)) refl refl (λ x g. issued_same (W i).up (W i).knows S2.knows x refl
+      (omega arith) g))
       (λ after few. subst (λ x. IsSpelledAt (owns W) (counts W) (numbers W) after (spent W)
-          (h ++ Told x (OfVersion (own_version i seq)) ∷ [])) row.3
+      (h ++ Told x (OfVersion (own_version i seq)) ∷ [])) row.3
       (subst (λ v. IsSpelledAt (owns W) (counts W) (numbers W) after (spent W)
-          (h ++ Told row.1.tx.tid (OfVersion v) ∷ [])) version
+      (h ++ Told row.1.tx.tid (OfVersion v) ∷ [])) version
       (did_tell_version (owns W) (counts W) (numbers W) (held W)
-          (spent W) h sp.spelled i row.0 row.1 after G.numbered.own row.2 few)))
+      (spent W) h sp.spelled i row.0 row.1 after G.numbered.own row.2 few)))
 
   -- and the conflict over which it was refused
   pub tells_cause_so : (client : ℕ) (s : Session) (tx : Tx) (asked : List SiteId) (conflict : Conflict)
@@ -260,13 +263,13 @@ module _ (catalog : Catalog) (i : SiteId) (W : Stands) (put : Put) (h : List Ste
   tells_cause_so client s tx asked conflict begun_ dropped_ said =
       let some : s.slow ≢ 0 = λ e. let l = begun_.begun in absurd (omega (arith, e, l)) in
       let live = live_open W h (record { site = i; who = suc client }) s sp begun_.session
-          (λ d. let clash : Dropped tx asked ≡ Decided d.1.0 = sym dropped_ ∙ d.1.1 in absurd cc) in
+      (λ d. let clash : Dropped tx asked ≡ Decided d.1.0 = sym dropped_ ∙ d.1.1 in absurd cc) in
       let no_ = (G.heard i).said_no s.slow conflict said in
       let so = G.said no_.0 i (Vote s.slow (No conflict)) no_.1 no_.3 in
       let mine = (alone i).tidy.mine client s begun_.session some in
       let one : so.0 ≡ tx_of s = same_Some so.0 (tx_of s) (sym so.1 ∙ mine) in
       aborted_so catalog i W put h (alone i) G sp client (Ok CommitAsked) kept sends dropped s
-          (cause_of conflict) begun_.session live
+      (cause_of conflict) begun_.session live
       (cause_there catalog W put h alone G sp i s live conflict no_.2 (subst (λ x. IsOver W x conflict) one so.2))
 
   -- a conflict at the site
@@ -278,9 +281,9 @@ module _ (catalog : Catalog) (i : SiteId) (W : Stands) (put : Put) (h : List Ste
       let one = one_meets (W i).knows s.snapshot (objects_at catalog (W i).knows i s.updates) conflict first in
       let within = objects_at_from catalog (W i).knows i s.updates one.0 one.1 in
       aborted_so catalog i W put h (alone i) G sp client (Ok CommitAsked) kept sends dropped s
-          (cause_of conflict) open_.session live
+      (cause_of conflict) open_.session live
       (cause_there catalog W put h alone G sp i s live conflict
-          (first_alive (W i).knows s.snapshot (objects_at catalog (W i).knows i s.updates) conflict first)
+      (first_alive (W i).knows s.snapshot (objects_at catalog (W i).knows i s.updates) conflict first)
       (over_here catalog W put h alone G sp i s live client open_ one.0 conflict within.0 one.2))
 
   -- the session of a slow commit that is being decided
@@ -292,8 +295,8 @@ module _ (catalog : Catalog) (i : SiteId) (W : Stands) (put : Put) (h : List Ste
       let some : w.1.slow ≢ 0 = λ e. ((alone i).tidy.named n tx (ap begun undecided)).1 (sym w.3 ∙ e) in
       let mine = (alone i).tidy.mine w.0 w.1 w.2 some in
       let one : tx_of w.1 ≡ tx = same_open ((W i).knows.slow w.1.slow) (tx_of w.1) tx asked mine
-          (ap (λ m. (W i).knows.slow m) w.3 ∙ undecided) in
+      (ap (λ m. (W i).knows.slow m) w.3 ∙ undecided) in
       subst (λ x. Keeps (Given (Deliver p number (Vote n Yes))) Taken (Some (Own (next_seq i (W i).knows) x)) None) one
       (decided_so catalog i W put h (alone i) G sp kept sends dropped p number n
-          (next_seq i (W i).knows) w.0 w.1 w.2 some (subst (λ x. IsDueOwn catalog W i (next_seq i (W i).knows) x)
-              (sym one) due))
+      (next_seq i (W i).knows) w.0 w.1 w.2 some (subst (λ x. IsDueOwn catalog W i (next_seq i (W i).knows) x)
+      (sym one) due))

@@ -51,7 +51,7 @@ numbers W i = issued_of (W i)
 abbrev pub spent_by : ℕ → Standing → Type 0
 spent_by who S =
     (s : Session) × (tx : Tx) × (asked : List SiteId) × (held_by who S ≡ Some s) × (s.slow ≢ 0)
-        × (S.knows.slow s.slow ≡ Dropped tx asked)
+    × (S.knows.slow s.slow ≡ Dropped tx asked)
 
 abbrev pub spent : Stands → Key → Type 0
 spent W k = spent_by k.who (W k.site)
@@ -104,7 +104,7 @@ module _ (W : Stands) (i : SiteId) (S : Standing) where
   higher on x given_ = elim (views issued_of x.site) [
     | inl here ↦
         subst (λ z. IsIssued z x) (sym here.1)
-            (on.issued x (subst (λ k. IsIssued (issued_of (W k)) x) (sym here.0) given_))
+        (on.issued x (subst (λ k. IsIssued (issued_of (W k)) x) (sym here.0) given_))
     | inr away ↦ subst (λ (z : Standing). IsIssued (issued_of z) x) (sym away.1) given_
   ]
 
@@ -123,10 +123,16 @@ module _ (W : Stands) (i : SiteId) (S : Standing) where
         let before : held_by d.who (W i) ≡ Some u = subst (λ k. held_by d.who (W k) ≡ Some u) (sym here.0) gone.3 in
         let same : t ≡ u = on.begun d.who t u now before gone.4 in
         let drop : (W i).knows.slow u.slow ≡ Dropped gone.1 gone.2 =
-            subst (λ k. (W k).knows.slow u.slow ≡ Dropped gone.1 gone.2) (sym here.0) gone.5 in
-        let after = on.lost u.slow gone.1 gone.2 drop in
-        (u, gone.1, gone.2, ap (λ z. held_by d.who z) here.1 ∙ (now ∙ ap (λ z. Some z) same), gone.4, ap
-            (λ (z : Standing). z.knows.slow u.slow) here.1 ∙ after)
+        subst (λ k. (W k).knows.slow u.slow ≡ Dropped gone.1 gone.2) (sym here.0) gone.5 in
+        let after = on.lost u.slow gone.1 gone.2 drop in (
+          u,
+          gone.1,
+          gone.2,
+          ap (λ z. held_by d.who z) here.1 ∙ (now ∙ ap (λ z. Some z) same),
+          gone.4,
+          ap
+              (λ (z : Standing). z.knows.slow u.slow) here.1 ∙ after,
+        )
     | inr away ↦ subst (λ z. spent_by d.who z) (sym away.1) gone
   ]
 
@@ -152,7 +158,7 @@ module _ (W : Stands) (i : SiteId) (S : Standing) where
   still_decided h more on before here away d t has committed = elim (views (λ z. z) d.site) [
     | inl same ↦
         subst (λ z. IsDecidedBy z t) (sym same.1)
-            (here d.who t (ap (λ z. held_by d.who z) (sym same.1) ∙ has) committed)
+        (here d.who t (ap (λ z. held_by d.who z) (sym same.1) ∙ has) committed)
     | inr apart ↦
         let was : held W d ≡ Some t = ap (λ z. held_by d.who z) (sym apart.1) ∙ has in
         subst (λ z. IsDecidedBy z t) (sym apart.1) (before d t was (away d t apart.0 was committed))
@@ -175,8 +181,11 @@ module _ (W : Stands) (i : SiteId) (S : Standing) where
   -- a step that commits nothing commits nothing
   pub not_by : (h : List Step) (step : Step) (x : Tid) → ((us : List Update) → step ≢ Commit x us)
       → IsCommitted x (h ++ step ∷ []) → IsCommitted x h
-  not_by h step x plain committed = elim ((committed_snoc x h step).0 committed) [ inl was ↦ was | inr new ↦
-      absurd (plain new.0 new.1) ]
+  not_by h step x plain committed = elim ((committed_snoc x h step).0 committed) [
+    | inl was ↦ was
+    | inr new ↦
+        absurd (plain new.0 new.1)
+  ]
 
   -- the site has committed the same, and holds what it holds now
   pub moved_to : (h : List Step) → HasSame i (W i) S → GoesOn (W i) S → IsSpelledAt (owns W) (counts W) (numbers W)
@@ -185,9 +194,9 @@ module _ (W : Stands) (i : SiteId) (S : Standing) where
       (spent (at_site i S W)) h
   moved_to h same on sp =
       spelled_same (owns W) (owns (at_site i S W)) (counts W) (counts (at_site i S W)) (numbers (at_site i S W))
-          (held (at_site i S W)) (spent (at_site i S W)) h (same_owns same) (same_counts same)
+      (held (at_site i S W)) (spent (at_site i S W)) h (same_owns same) (same_counts same)
       (fewer (owns W) (counts W) (numbers W) (held (at_site i S W)) (spent W) h sp (numbers (at_site i S W))
-          (held (at_site i S W)) (higher on) (λ d t has. has) (spent (at_site i S W)) (still_spent on))
+      (held (at_site i S W)) (higher on) (λ d t has. has) (spent (at_site i S W)) (still_spent on))
 
   -- a step of it that commits nothing, where each session that it holds it held
   pub stepped : (h : List Step) (step : Step) → ((x : Tid) (us : List Update) → step ≢ Commit x us)
@@ -198,7 +207,7 @@ module _ (W : Stands) (i : SiteId) (S : Standing) where
     spelled = moved_to (h ++ step ∷ []) same on sp;
     decided = still_decided h (h ++ step ∷ []) on before.decided
         (λ who t has committed. old_decided h on old before.decided who t has
-            (not_by h step t.tid (plain t.tid) committed))
+        (not_by h step t.tid (plain t.tid) committed))
         (λ d t apart has committed. not_by h step t.tid (plain t.tid) committed);
   }
 
@@ -218,7 +227,7 @@ module _ (W : Stands) (i : SiteId) (S : Standing) where
   quiet h same on few sp =
       unstepped h same on (λ who t has. (t, few who t has, refl))
       (fewer (owns W) (counts W) (numbers W) (held W) (spent W) h sp.spelled (numbers W) (held (at_site i S W))
-          (λ x given_. given_) (fewer_held few) (spent W) (λ d t has gone. gone)) sp
+      (λ x given_. given_) (fewer_held few) (spent W) (λ d t has gone. gone)) sp
 
   -- a transaction starts, of a name that wasn't given
   pub begins_new : (h : List Step) (x : Tid) → HasSame i (W i) S → GoesOn (W i) S
@@ -229,15 +238,15 @@ module _ (W : Stands) (i : SiteId) (S : Standing) where
       → Spells (at_site i S W) (h ++ Start x x.site ∷ [])
   begins_new h x same on unissued news sp before =
       let quiet_step : (y : Tid) → IsCommitted y (h ++ Start x x.site ∷ []) → IsCommitted y h =
-          λ y. not_by h (Start x x.site) y (λ us e. absurd cc) in
+      λ y. not_by h (Start x x.site) y (λ us e. absurd cc) in
       record {
         spelled =
             spelled_same (owns W) (owns (at_site i S W)) (counts W) (counts (at_site i S W)) (numbers (at_site i S W))
-                (held (at_site i S W)) (spent (at_site i S W)) (h ++ Start x x.site ∷ []) (same_owns same)
-                    (same_counts same)
+            (held (at_site i S W)) (spent (at_site i S W)) (h ++ Start x x.site ∷ []) (same_owns same)
+            (same_counts same)
             (fewer (owns W) (counts W) (numbers (at_site i S W)) (held (at_site i S W)) (spent W)
-                (h ++ Start x x.site ∷ []) sp (numbers (at_site i S W)) (held (at_site i S W)) (λ y given_. given_)
-                    (λ d t has. has) (spent (at_site i S W)) (still_spent on));
+            (h ++ Start x x.site ∷ []) sp (numbers (at_site i S W)) (held (at_site i S W)) (λ y given_. given_)
+            (λ d t has. has) (spent (at_site i S W)) (still_spent on));
         decided = still_decided h (h ++ Start x x.site ∷ []) on before.decided
             (λ who t has committed. elim (news who t has) [
               | inl new ↦
@@ -257,8 +266,8 @@ module _ (W : Stands) (i : SiteId) (S : Standing) where
       (spent (at_site i S W)) h
   finish_more h on few sp =
       fewer (owns (at_site i S W)) (counts (at_site i S W)) (numbers W) (held W) (spent W) h sp
-          (numbers (at_site i S W)) (held (at_site i S W)) (higher on) (fewer_held few) (spent (at_site i S W))
-              (still_spent on)
+      (numbers (at_site i S W)) (held (at_site i S W)) (higher on) (fewer_held few) (spent (at_site i S W))
+      (still_spent on)
 
   -- an own commit, of a session that is open, and is not held then unless its slow commit is decided
   pub commits : (h : List Step) (who : ℕ) (s : Session) (r : Held) → AreOwned (owns W) (counts W) → GoesOn (W i) S
@@ -272,7 +281,7 @@ module _ (W : Stands) (i : SiteId) (S : Standing) where
       → Spells W h → Spells (at_site i S W) (h ++ Commit r.tx.tid r.tx.updates ∷ [])
   commits h who s r numbered on few log_is counts_are has live unspent site tid start updates some free closed sp =
       let push : IsPushed (owns W) (owns (at_site i S W)) i r = pushed_by_test (owns W) (owns (at_site i S W)) i r
-          (λ k. elim (views (λ z. of_site k z.knows.log) k) [
+      (λ k. elim (views (λ z. of_site k z.knows.log) k) [
         | inl here ↦ elim (site_cases i k) [
           | inl same ↦ here.1 ∙ (subst
               (λ j. of_site j S.knows.log ≡ of_site j (W j).knows.log ++ r ∷ []) here.0 log_is ∙ rw same.0 refl)
@@ -284,15 +293,18 @@ module _ (W : Stands) (i : SiteId) (S : Standing) where
         ]
       ]) in
       let count : IsCounted (counts W) (counts (at_site i S W)) i i =
-          counted_one_more (counts W) (counts (at_site i S W)) i i
+      counted_one_more (counts W) (counts (at_site i S W)) i i
       (λ k. ap (λ (z : Standing). z.knows.committed k) at_here ∙ counts_are k)
       (λ j k apart. ap (λ (z : Standing). z.knows.committed k) (at_away j apart)) in
       let step : Step = Commit r.tx.tid r.tx.updates in
       record {
         spelled = finish_more (h ++ step ∷ []) on few
             (did_commit (owns W) (counts W) (numbers W) (held W) (spent W) h sp.spelled (owns (at_site i S W))
-                (counts (at_site i S W)) (record { site = i; who =
-                    who }) s r numbered has live unspent tid start updates some free
+            (counts (at_site i S W)) (record {
+              site = i;
+              who =
+                  who;
+            }) s r numbered has live unspent tid start updates some free
             (subst (λ j. IsPushed (owns W) (owns (at_site i S W)) j r) (sym site) push)
             (subst (λ j. IsCounted (counts W) (counts (at_site i S W)) j j) (sym site) count));
         decided = still_decided h (h ++ step ∷ []) on sp.decided
@@ -302,12 +314,12 @@ module _ (W : Stands) (i : SiteId) (S : Standing) where
                   let e : step ≡ Commit t.tid new.0 = new.1 in
                   let same : r.tx.tid ≡ t.tid = cc in
                   let one : record { site = i; who = w } ≡ record { site = i; who = who } =
-                      sp.spelled.alone (record { site = i; who = w }) (record { site = i; who = who }) t s
-                          (few w t had) has (sym same ∙ tid) in
+                  sp.spelled.alone (record { site = i; who = w }) (record { site = i; who = who }) t s
+                  (few w t had) has (sym same ∙ tid) in
                   let key : w ≡ who = ap (λ (k : Key). k.who) one in
                   let is : t ≡ s = same_Some t s (sym (few w t had) ∙ (ap (λ v. held_by v (W i)) key ∙ has)) in
                   subst (λ z. IsDecidedBy S z) (sym is)
-                      (closed (subst (λ v. held_by v S ≡ Some s) key (had ∙ ap (λ z. Some z) is)))
+                  (closed (subst (λ v. held_by v S ≡ Some s) key (had ∙ ap (λ z. Some z) is)))
             ])
             (λ d t apart had committed. elim ((committed_snoc t.tid h step).0 committed) [
               | inl was ↦ was
@@ -330,7 +342,7 @@ module _ (W : Stands) (i : SiteId) (S : Standing) where
       let j = r.tx.tid.site in
       let step : Step = Arrive r.tx.tid i in
       let count : IsCounted (counts W) (counts (at_site i S W)) i j =
-          counted_one_more (counts W) (counts (at_site i S W)) i j
+      counted_one_more (counts W) (counts (at_site i S W)) i j
       (λ k. ap (λ (z : Standing). z.knows.committed k) at_here ∙ counts_are k)
       (λ a k away. ap (λ (z : Standing). z.knows.committed k) (at_away a away)) in
       let owned : (k : SiteId) → owns (at_site i S W) k ≡ owns W k = λ k. elim (views (λ z. of_site k z.knows.log) k) [
@@ -340,11 +352,11 @@ module _ (W : Stands) (i : SiteId) (S : Standing) where
       record {
         spelled = finish_more (h ++ step ∷ []) on few
             (spelled_same (owns W) (owns (at_site i S W)) (counts (at_site i S W)) (counts (at_site i S W))
-                (numbers W) (held W) (spent W) (h ++ step ∷ []) owned (λ a k. refl)
+            (numbers W) (held W) (spent W) (h ++ step ∷ []) owned (λ a k. refl)
             (did_arrive (owns W) (counts W) (numbers W) (held W) (spent W) h sp.spelled
-                (counts (at_site i S W)) i r numbered apart here covered count));
+            (counts (at_site i S W)) i r numbered apart here covered count));
         decided = still_decided h (h ++ step ∷ []) on sp.decided
             (λ who t has committed. old_decided h on (λ v z at_v. (z, few v z at_v, refl)) sp.decided who t has
-                (not_by h step t.tid (λ us e. absurd cc) committed))
+            (not_by h step t.tid (λ us e. absurd cc) committed))
             (λ d t away has committed. not_by h step t.tid (λ us e. absurd cc) committed);
       }

@@ -59,7 +59,7 @@ pub data IsAbort (catalog : Catalog) (i : SiteId) (S : Standing) (event : Event)
 -- only three kinds are aborts
 kind_aborts : (catalog : Catalog) (i : SiteId) (S : Standing) (event : Event) (wrote : Option Record)
     (outcome : Outcome) (cause : Cause) → IsKind catalog i S event wrote outcome → outcome ≡ Replied (Aborted cause)
-        → IsAbort catalog i S event cause
+    → IsAbort catalog i S event cause
 kind_aborts catalog i S event wrote outcome cause (is_refused client call refusal) e = absurd cc
 kind_aborts catalog i S event wrote outcome cause (starts client up none) e = absurd cc
 kind_aborts catalog i S event wrote outcome cause (does client call s update open_ is declared) e = absurd cc
@@ -148,7 +148,7 @@ step_aborts catalog i S event came cause (finds_full rec outcome need left kind 
 -- a NO that an entry put out over a conflict was met there
 no_met : (catalog : Catalog) (p : SiteId) (S : Standing) (event : Event) (came : Came) (i : SiteId) (n : ℕ)
     (conflict : Conflict) → conflict ≢ Dead → IsStep catalog p S event came
-        → Contains came.sends (i, Vote n (No conflict)) → IsMet S.knows event i n conflict
+    → Contains came.sends (i, Vote n (No conflict)) → IsMet S.knows event i n conflict
 no_met catalog p S event came i n (ModifiedThere oid version) alive (stable kind none sent) c =
     sent i (Vote n (No (ModifiedThere oid version))) c
 no_met catalog p S event came i n (LockedThere oid owner) alive (stable kind none sent) c =
@@ -198,21 +198,21 @@ module _ (catalog : Catalog) (capacity : ℕ) (homes : (oid : ObjId) → (home c
       let settles = settled_alone catalog capacity in
       let at_ = split_at older (p, put.entry) put.here in
       let run : IsRun catalog capacity ((p, put.entry) ∷ at_.1) =
-          run_behind catalog capacity at_.0 ((p, put.entry) ∷ at_.1) (subst (λ z. IsRun catalog capacity z) at_.2 is) in
+      run_behind catalog capacity at_.0 ((p, put.entry) ∷ at_.1) (subst (λ z. IsRun catalog capacity z) at_.2 is) in
       let step = next_step catalog capacity homes right settles at_.1 (p, put.entry) run.0 run.1 in
       let met = no_met catalog p
-          (found catalog at_.1 (p, put.entry) p) put.entry.event put.entry.came i s.slow conflict alive step put.sent in
+      (found catalog at_.1 (p, put.entry) p) put.entry.event put.entry.came i s.slow conflict alive step put.sent in
       let away : put.entry.event ≢ Restart = λ e. let f = sym e ∙ met.came in cc in
       let stood : found catalog at_.1 (p, put.entry) p ≡ stands catalog at_.1 p =
-          not_found catalog at_.1 (p, put.entry) put.entry.came.kept refl run.1.right.kept away in
+      not_found catalog at_.1 (p, put.entry) put.entry.came.kept refl run.1.right.kept away in
       let said = run.1.put i met.number (Prepare s.slow met.tid met.start met.objects) met.came in
       let said_now : IsPut older i p (Prepare s.slow met.tid met.start met.objects) =
       subst (λ z. IsPut z i p (Prepare s.slow met.tid met.start met.objects)) (sym at_.2)
-          (put_newer at_.0 ((p, put.entry) ∷ at_.1) i p _ (put_later (p, put.entry) at_.1 i p _ said)) in
+      (put_newer at_.0 ((p, put.entry) ∷ at_.1) i p _ (put_later (p, put.entry) at_.1 i p _ said)) in
       let so = (run_agrees catalog capacity homes right settles older is).said i p
-          (Prepare s.slow met.tid met.start met.objects) (λ e. apart (sym e)) said_now in
+      (Prepare s.slow met.tid met.start met.objects) (λ e. apart (sym e)) said_now in
       let mine = (run_alone catalog capacity homes right settles older is i).tidy.mine client s begun_.session
-          (λ e. let l = begun_.begun in absurd (omega (arith, e, l))) in
+      (λ e. let l = begun_.begun in absurd (omega (arith, e, l))) in
       let one : so.0 ≡ tx_of s = same_Some so.0 (tx_of s) (sym so.1 ∙ mine) in
       let tid : met.tid ≡ s.tid = so.2 ∙ ap (λ (x : Tx). x.tid) one in
       let start : met.start ≡ s.snapshot = so.3 ∙ ap (λ (x : Tx). x.start) one in
@@ -235,7 +235,7 @@ module _ (catalog : Catalog) (capacity : ℕ) (homes : (oid : ObjId) → (home c
           here = here;
           met = subst (λ (S : Standing). conflict_at S.knows s.snapshot at_conflict.0 ≡ Some conflict) stood
               (subst (λ v. conflict_at (found catalog at_.1 (p, put.entry) p).knows v at_conflict.0
-                  ≡ Some conflict) start at_conflict.2);
+              ≡ Some conflict) start at_conflict.2);
         };
       }
 
@@ -265,27 +265,32 @@ module _ (catalog : Catalog) (capacity : ℕ) (homes : (oid : ObjId) → (home c
           let away : n.1.event ≢ Restart = λ f. let g = sym f ∙ event in cc in
           let same = stood away in
           let one = one_meets (found catalog older n n.0).knows s.snapshot
-              (objects_at catalog (found catalog older n n.0).knows n.0 s.updates) conflict first in
+          (objects_at catalog (found catalog older n n.0).knows n.0 s.updates) conflict first in
           let within = objects_at_from catalog (found catalog older n n.0).knows n.0 s.updates one.0 one.1 in
           by_conflict conflict (first_alive (found catalog older n n.0).knows s.snapshot
-              (objects_at catalog (found catalog older n n.0).knows n.0 s.updates) conflict first) c (record {
+          (objects_at catalog (found catalog older n n.0).knows n.0 s.updates) conflict first) c (record {
             client = client;
             asked = event;
             session = s;
             has = subst (λ (S : Standing). session_of S.knows client ≡ Some s) same open_.session;
             conflict = conflict;
             is = c;
-            met = inl (record { oid = one.0; written = within.0; here = within.1; met =
-                subst (λ (S : Standing). conflict_at S.knows s.snapshot one.0 ≡ Some conflict) same one.2 });
+            met = inl (record {
+              oid = one.0;
+              written = within.0;
+              here = within.1;
+              met =
+                  subst (λ (S : Standing). conflict_at S.knows s.snapshot one.0 ≡ Some conflict) same one.2;
+            });
           })
       abort_named (met_there client s conflict event begun_ c said) =
           let away : n.1.event ≢ Restart = λ f. let g = sym f ∙ event in cc in
           let same = stood away in
           let begun_now : HasBegun (stands catalog older n.0) client s = subst (λ S. HasBegun S client s) same begun_ in
           let said_now : (stands catalog older n.0).knows.said_no s.slow ≡ Some conflict =
-              subst (λ (S : Standing). S.knows.said_no s.slow ≡ Some conflict) same said in
+          subst (λ (S : Standing). S.knows.said_no s.slow ≡ Some conflict) same said in
           let no_ = ((run_agrees catalog capacity homes (right_alone catalog capacity)
-              (settled_alone catalog capacity) older is.0).heard n.0).said_no s.slow conflict said_now in
+          (settled_alone catalog capacity) older is.0).heard n.0).said_no s.slow conflict said_now in
           by_conflict conflict no_.2 c (record {
             client = client;
             asked = event;

@@ -28,9 +28,9 @@ number_for tid h = if same_tid tid h.tx.tid then Some h.seq else None
 number_is : (tid : Tid) (r : Held) (seq : ℕ) → number_for tid r ≡ Some seq → (r.tx.tid ≡ tid) × (r.seq ≡ seq)
 number_is tid r seq is = elim (same_tid tid r.tx.tid) as (λ b. same_tid tid r.tx.tid ≡ b
     → (if b then Some r.seq else None) ≡ Some seq → (r.tx.tid ≡ tid) × (r.seq ≡ seq)) [
-  | true ↦ λ same some. (sym (same_tid-true tid r.tx.tid same), same_Some r.seq seq some)
-  | false ↦ λ other none. absurd cc
-] refl is
+      | true ↦ λ same some. (sym (same_tid-true tid r.tx.tid same), same_Some r.seq seq some)
+      | false ↦ λ other none. absurd cc
+    ] refl is
 
 -- a number is that of an own commit of the transaction
 pub seq_some : (i : SiteId) (K : Knowledge) (tid : Tid) (seq : ℕ) → seq_of i K tid ≡ Some seq → (p : ℕ) × (r : Held)
@@ -55,10 +55,10 @@ pub issued_true : (K : Knowledge) (tid : Tid) → is_issued K tid ≡ true
     → IsIssued (record { epoch = K.epoch; starts = K.starts }) tid
 issued_true K tid is =
     let one = and_parts (nat_lt 0 tid.epoch)
-        (nat_lt 0 tid.number && (nat_lt tid.epoch K.epoch ||
-            (nat_eq tid.epoch K.epoch && nat_le tid.number K.starts))) is in
+    (nat_lt 0 tid.number && (nat_lt tid.epoch K.epoch ||
+    (nat_eq tid.epoch K.epoch && nat_le tid.number K.starts))) is in
     let two = and_parts (nat_lt 0 tid.number)
-        (nat_lt tid.epoch K.epoch || (nat_eq tid.epoch K.epoch && nat_le tid.number K.starts)) one.1 in
+    (nat_lt tid.epoch K.epoch || (nat_eq tid.epoch K.epoch && nat_le tid.number K.starts)) one.1 in
     elim (or_cases (nat_lt tid.epoch K.epoch) (nat_eq tid.epoch K.epoch && nat_le tid.number K.starts) two.1) [
       | inl past ↦ inl (ltb-true tid.epoch K.epoch past)
       | inr now ↦ let parts = and_parts (nat_eq tid.epoch K.epoch) (nat_le tid.number K.starts) now in
@@ -75,16 +75,16 @@ pub open_found : (client : ℕ) (s : Session) (ss : Sessions) → lookup (nat_eq
 open_found client s [] has zero_ = absurd cc
 open_found client s (e ∷ es) has zero_ =
     elim (nat_eq client e.0) as (λ b. cond b (Some e.1) (lookup (nat_eq client) es) ≡ Some s
-        → (same_tid s.tid e.1.tid && nat_eq e.1.slow 0 || list_any
-        (λ z. same_tid s.tid z.1.tid && nat_eq z.1.slow 0) es) ≡ true) [
-  | true ↦ λ is.
-      let one : e.1 ≡ s = same_Some e.1 s is in
-      let passes : (same_tid s.tid e.1.tid && nat_eq e.1.slow 0) ≡ true =
+    → (same_tid s.tid e.1.tid && nat_eq e.1.slow 0 || list_any
+    (λ z. same_tid s.tid z.1.tid && nat_eq z.1.slow 0) es) ≡ true) [
+      | true ↦ λ is.
+          let one : e.1 ≡ s = same_Some e.1 s is in
+          let passes : (same_tid s.tid e.1.tid && nat_eq e.1.slow 0) ≡ true =
           subst (λ (z : Session). (same_tid s.tid z.tid && nat_eq z.slow 0) ≡ true) (sym one)
-              (rw (same_tid_refl s.tid, zero_) refl) in
-      rw passes refl
-  | false ↦ λ is. later (same_tid s.tid e.1.tid && nat_eq e.1.slow 0) (open_found client s es is zero_)
-] has
+          (rw (same_tid_refl s.tid, zero_) refl) in
+          rw passes refl
+      | false ↦ λ is. later (same_tid s.tid e.1.tid && nat_eq e.1.slow 0) (open_found client s es is zero_)
+    ] has
   where
     later : (b : Bool) {c : Bool} → c ≡ true → (b || c) ≡ true
     later true is = refl
@@ -95,5 +95,5 @@ pub undecided_found : (K : Knowledge) (n : ℕ) (tx : Tx) (asked : List SiteId) 
     → n ≤ K.last → is_undecided K tx.tid ≡ true
 undecided_found K n tx asked is some within =
     any_true (λ m. is_of_tid tx.tid (K.slow m)) (from_to 1 K.last) n
-        (in_range 1 (K.last + 1 - 1) n some (omega (arith, within)))
+    (in_range 1 (K.last + 1 - 1) n some (omega (arith, within)))
     (ap (λ g. is_of_tid tx.tid g) is ∙ same_tid_refl tx.tid)

@@ -115,7 +115,7 @@ log_more i log (Own seq tx) of = filter_push_kept (is_of i) log (record { seq = 
     (ap (λ k. same_site k i) of ∙ same_site_refl i)
 log_more i log (Got j seq tx) of = filter_push_left (is_of i) log (record { seq = seq; tx = tx })
     (elim (site_cases tx.tid.site i) [ inl same ↦ absurd (of same.1) | inr other ↦ other.0 ])
-        ∙ sym (append-nil (of_site i log))
+    ∙ sym (append-nil (of_site i log))
 log_more i log (Boot epoch) of = sym (append-nil (of_site i log))
 log_more i log (Seen j seq) of = sym (append-nil (of_site i log))
 log_more i log (Prepared j n tid objects) of = sym (append-nil (of_site i log))
@@ -129,7 +129,7 @@ due_of_site : (catalog : Catalog) (W : Stands) (put : Put) (i : SiteId) → AreA
 due_of_site catalog W put i G (Own seq tx) due = due.site
 due_of_site catalog W put i G (Got j seq tx) due =
     λ e. due.apart (sym (G.numbered.own.site j (seq - 1) (record { seq = seq; tx = tx })
-        (G.said j i (Propagate seq tx) due.apart due.said).1) ∙ e)
+    (G.said j i (Propagate seq tx) due.apart due.said).1) ∙ e)
 due_of_site catalog W put i G (Boot epoch) due = tt
 due_of_site catalog W put i G (Seen j seq) due = tt
 due_of_site catalog W put i G (Prepared j n tid objects) due = tt
@@ -167,24 +167,24 @@ module _ (catalog : Catalog) (capacity : ℕ) (homes : (oid : ObjId) → (home c
         let settles = settled_alone catalog capacity in
         let S1 = settled catalog n.0 n.1.came.kept (stands catalog older n.0) in
         let first = tells_found older n is n.1.came.kept
-            (λ r e. due_of_site catalog (stands catalog older) (IsPut older) n.0
-                (run_agrees catalog capacity homes right settles older is.0) r
-                    (kept_due catalog capacity homes right settles older n is r e)) (records_tell older is.0 n.0) in
+        (λ r e. due_of_site catalog (stands catalog older) (IsPut older) n.0
+        (run_agrees catalog capacity homes right settles older is.0) r
+        (kept_due catalog capacity homes right settles older n is r e)) (records_tell older is.0 n.0) in
         let second = tells_more n.0 S1.records S1.knows.log n.1.came.wrote
-            (λ r e. due_of_site catalog (found catalog older n) (IsPut older) n.0
-                (settled_agrees catalog capacity homes right settles older n is) r
-                    (wrote_due catalog capacity homes right settles older n is r e)) first in
+        (λ r e. due_of_site catalog (found catalog older n) (IsPut older) n.0
+        (settled_agrees catalog capacity homes right settles older n is) r
+        (wrote_due catalog capacity homes right settles older n is r e)) first in
         let S2 = stands_after catalog n.0 S1 n.1.event n.1.came in
         let now : stands catalog (n ∷ older) n.0 ≡ S2 = stands_here catalog older n
-            ∙ ap (λ S. stands_after catalog n.0 S n.1.event n.1.came) (found_here catalog older n) in
+        ∙ ap (λ S. stands_after catalog n.0 S n.1.event n.1.came) (found_here catalog older n) in
         let then : owned_in S2.records ≡ of_site n.0 S2.knows.log = second
-            ∙ ap (λ l. of_site n.0 l)
-            (sym (after_log catalog n.0 S1.knows n.1.event n.1.came.outcome n.1.came.wrote)) in
+        ∙ ap (λ l. of_site n.0 l)
+        (sym (after_log catalog n.0 S1.knows n.1.event n.1.came.outcome n.1.came.wrote)) in
         subst (λ k. owned_in (stands catalog (n ∷ older) k).records ≡ owns (stands catalog (n ∷ older)) k)
-            (sym same.1) (subst (λ (S : Standing). owned_in S.records ≡ of_site n.0 S.knows.log) (sym now) then)
+        (sym same.1) (subst (λ (S : Standing). owned_in S.records ≡ of_site n.0 S.knows.log) (sym now) then)
     | inr apart ↦
         let was : stands catalog (n ∷ older) i ≡ stands catalog older i = stands_away catalog older n i apart.1
-            ∙ found_away catalog older n i apart.1 in
+        ∙ found_away catalog older n i apart.1 in
         subst (λ (S : Standing). owned_in S.records ≡ of_site i S.knows.log) (sym was) (records_tell older is.0 i)
   ]
 
@@ -193,21 +193,21 @@ module _ (catalog : Catalog) (capacity : ℕ) (homes : (oid : ObjId) → (home c
     once = λ i j place other seq number tx same here there tids.
         let sp = (run_spells catalog capacity homes run is).spelled in
         let own = (run_agrees catalog capacity homes (right_alone catalog capacity)
-            (settled_alone catalog capacity) run is).numbered.own in
+        (settled_alone catalog capacity) run is).numbered.own in
         let W = stands catalog run in
         let one = ap (λ t. slice_get t (rank (W i).records place)) (sym (records_tell run is i))
-            ∙ at_rank (W i).records place seq tx here in
+        ∙ at_rank (W i).records place seq tx here in
         let two = ap (λ t. slice_get t (rank (W j).records other)) (sym (records_tell run is j))
-            ∙ at_rank (W j).records other number same there in
+        ∙ at_rank (W j).records other number same there in
         let sites : i ≡ j = sym (own.site i (rank (W i).records place) (record { seq = seq; tx = tx }) one)
-            ∙ (ap (λ (x : Tid). x.site) tids ∙ own.site j (rank (W j).records other)
-            (record { seq = number; tx = same }) two) in
+        ∙ (ap (λ (x : Tid). x.site) tids ∙ own.site j (rank (W j).records other)
+        (record { seq = number; tx = same }) two) in
         let there_too : slice_get (W i).records other ≡ Some (Own number same) =
-            subst (λ k. slice_get (W k).records other ≡ Some (Own number same)) (sym sites) there in
+        subst (λ k. slice_get (W k).records other ≡ Some (Own number same)) (sym sites) there in
         let two_here : slice_get (owns W i) (rank (W i).records other) ≡ Some (record { seq = number; tx = same }) =
-            subst (λ k. slice_get (owns W k) (rank (W k).records other) ≡ Some (record { seq = number; tx = same }))
-                (sym sites) two in
+        subst (λ k. slice_get (owns W k) (rank (W k).records other) ≡ Some (record { seq = number; tx = same }))
+        (sym sites) two in
         let ranks = sp.once i (rank (W i).records place) (rank (W i).records other) (record { seq = seq; tx = tx })
-            (record { seq = number; tx = same }) one two_here tids in
+        (record { seq = number; tx = same }) one two_here tids in
         (sites, one_rank (W i).records place other seq number tx same here there_too ranks);
   }

@@ -141,14 +141,24 @@ is_last oid f (x ∷ xs) y h =
       | Some z ↦ λ is n.
           let e : z ≡ y = cc in
           let r = is_last oid f xs y (is ∙ ap (λ t. Some t) e) in
-          record { place = suc r.place; here = r.here; does = r.does; none_behind =
-              λ q w l at. behind oid f x xs r.place q w (r.none_behind) l at }
+          record {
+            place = suc r.place;
+            here = r.here;
+            does = r.does;
+            none_behind =
+                λ q w l at. behind oid f x xs r.place q w (r.none_behind) l at;
+          }
       | None ↦ λ is n. elim (writes oid (f x)) as
           (λ b. writes oid (f x) ≡ b → (if b then Some x else None) ≡ Some y → IsLast oid f (x ∷ xs) y) [
             | true ↦ λ w m. let e : x ≡ y = cc in
-                record { place = 0; here = ap (λ t. Some t) e; does =
-                    subst (λ t. writes oid (f t) ≡ true) e w; none_behind =
-                        λ q z l at. first oid f x xs q z (no_writer oid f xs is) l at }
+                record {
+                  place = 0;
+                  here = ap (λ t. Some t) e;
+                  does =
+                      subst (λ t. writes oid (f t) ≡ true) e w;
+                  none_behind =
+                      λ q z l at. first oid f x xs q z (no_writer oid f xs is) l at;
+                }
             | false ↦ λ w m. absurd cc
           ] refl n
     ] refl h
@@ -161,7 +171,7 @@ IsIn xs ys = (p : ℕ) (x : Tid) → slice_get xs p ≡ Some x → (q : ℕ) × 
 abbrev pub AreOrdered : (Tid → Tid → Type 0) → ObjId → (Tid → List Update) → List Tid → Type 0
 AreOrdered Before oid f xs =
     (p q : ℕ) (x y : Tid) → p < q → slice_get xs p ≡ Some x → slice_get xs q ≡ Some y → writes oid (f x) ≡ true
-        → writes oid (f y) ≡ true → Before x y
+    → writes oid (f y) ≡ true → Before x y
 
 -- where a last writer of another list stands
 stands : (oid : ObjId) (f : Tid → List Update) (ys : List Tid) (x y : Tid) (q : ℕ) (l : IsLast oid f ys y)

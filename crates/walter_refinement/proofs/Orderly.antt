@@ -59,7 +59,7 @@ logged_started h step s x legal next here =
 abbrev pub ArriveAfter : List Step → Type 0
 ArriveAfter h =
     (s : SiteId) (p : ℕ) (x y : Tid) → slice_get (log s h) p ≡ Some x → Contains (snapshot x h) y → (q : ℕ) × (q < p)
-        × (slice_get (log s h) q ≡ Some y)
+    × (slice_get (log s h) q ≡ Some y)
 
 -- so it is still after one more step
 arrive_more : (h : List Step) (step : Step) → IsLegal h → IsLegalStep h step → ArriveAfter h
@@ -88,11 +88,14 @@ arrive_more h step legal next before s p x y at seen =
                 let started = logged_started h step s x legal next its in
                 let inside =
                 sees_logged h step s x y next its
-                    (subst (λ t. Contains t y) (snapshot_kept x h (step ∷ []) started) seen) in
+                (subst (λ t. Contains t y) (snapshot_kept x h (step ∷ []) started) seen) in
                 let r = place_of (log s h) y inside in
-                let l = slice_get_within (log s h) r.0 y r.1 in
-                (r.0, omega (arith, l, last.0), ap (λ t. slice_get t r.0) now
-                    ∙ slice_get-append_left (log s h) (more.0 ∷ []) y r.0 r.1)
+                let l = slice_get_within (log s h) r.0 y r.1 in (
+                  r.0,
+                  omega (arith, l, last.0),
+                  ap (λ t. slice_get t r.0) now
+                      ∙ slice_get-append_left (log s h) (more.0 ∷ []) y r.0 r.1,
+                )
           ]
     ]
 
@@ -100,7 +103,7 @@ arrive_more h step legal next before s p x y at seen =
 pub arrive_after : (h : List Step) → IsLegal h → ArriveAfter h
 arrive_after =
     legal_induction ArriveAfter (λ s p x y at seen. absurd cc)
-        (λ h step legal next before. arrive_more h step legal next before)
+    (λ h step legal next before. arrive_more h step legal next before)
 
 -- what commits at the site of another before that starts is in its snapshot
 before_start_seen : (h : List Step) (x y : Tid) → IsLegal h → CommitsBeforeStart h x y → Contains (snapshot y h) x
@@ -108,7 +111,7 @@ before_start_seen h x y legal first =
     let within = slice_get_within h first.begun _ first.starts in
     let stood =
     at_logged y.site (take first.begun h) x first.place
-        (commits_at_take h x y.site first.begun first.place first.before first.commits) in
+    (commits_at_take h x y.site first.begun first.place first.before first.commits) in
     let then =
     subst (λ all. Contains all x) (sym (snapshot_at h y first.begun (length h) legal first.starts within)) stood in
     subst (λ all. Contains (snapshot y all) x) (take_all (length h) h (omega arith)) then

@@ -53,21 +53,21 @@ module _ (catalog : Catalog) (i : SiteId) (W : Stands) (h : List Step) (sp : Spe
   stays wrote mute still new no_fall no_rise epoch starts sessions =
       let S2 = then_ catalog i (W i) event outcome kept wrote None sends dropped in
       let up_is : S2.up ≡ (W i).up =
-          ap (λ b. if b then false else if comes_up event outcome then true else (W i).up) no_fall
-              ∙ ap (λ b. if b then true else (W i).up) no_rise in
+      ap (λ b. if b then false else if comes_up event outcome then true else (W i).up) no_fall
+      ∙ ap (λ b. if b then true else (W i).up) no_rise in
       let K = after catalog i (W i).knows event outcome wrote in
       let knows_is : S2.knows ≡ K = ap (λ b. if b then lost K else K) no_fall in
       let e : S2.knows.epoch ≡ (W i).knows.epoch = ap (λ (L : Knowledge). L.epoch) knows_is ∙ epoch in
       let n : S2.knows.starts ≡ (W i).knows.starts = ap (λ (L : Knowledge). L.starts) knows_is
-          ∙ starts (W i).knows.starts in
+      ∙ starts (W i).knows.starts in
       quiet_entry catalog i W h
-          (spelled_by W i wrote ++ answered i (W i) outcome event) event outcome kept wrote None sends dropped
+      (spelled_by W i wrote ++ answered i (W i) outcome event) event outcome kept wrote None sends dropped
       (ap (λ t. t ++ answered i (W i) outcome event) (still_spells W i wrote still)
-          ∙ mute_spells i (W i) outcome event mute) still new
+      ∙ mute_spells i (W i) outcome event mute) still new
       (λ x g. subst (λ b. IsIssued (issued_by b S2.knows) x) (sym up_is)
-          (issued_same (W i).up (W i).knows S2.knows x e (omega (arith, n)) g))
+      (issued_same (W i).up (W i).knows S2.knows x e (omega (arith, n)) g))
       (λ c s has. sessions c s (vector_of catalog (recorded catalog i wrote (W i).knows))
-          (ap (λ (L : Knowledge). session_of L c) (sym knows_is) ∙ has))
+      (ap (λ (L : Knowledge). session_of L c) (sym knows_is) ∙ has))
       (λ s has. flight_fewer wrote outcome (W i).flight s has) sp
 
   -- the site loses its memory
@@ -79,17 +79,17 @@ module _ (catalog : Catalog) (i : SiteId) (W : Stands) (h : List Step) (sp : Spe
   falls flight mute fall flights =
       let S2 = then_ catalog i (W i) event outcome kept None flight sends dropped in
       let up_is : S2.up ≡ false =
-          ap (λ b. if b then false else if comes_up event outcome then true else (W i).up) fall in
+      ap (λ b. if b then false else if comes_up event outcome then true else (W i).up) fall in
       let K = after catalog i (W i).knows event outcome None in
       let knows_is : S2.knows ≡ lost K = ap (λ b. if b then lost K else K) fall in
       let e : S2.knows.epoch ≡ (W i).knows.epoch = ap (λ (L : Knowledge). L.epoch) knows_is in
       quiet_entry catalog i W h
-          (spelled_by W i None ++ answered i (W i) outcome event) event outcome kept None flight sends dropped
-              (mute_spells i (W i) outcome event mute) tt tt
+      (spelled_by W i None ++ answered i (W i) outcome event) event outcome kept None flight sends dropped
+      (mute_spells i (W i) outcome event mute) tt tt
       (λ x g. subst (λ b. IsIssued (issued_by b S2.knows) x) (sym up_is)
-          (issued_fall (W i).up (W i).knows S2.knows x e g))
+      (issued_fall (W i).up (W i).knows S2.knows x e g))
       (λ c s has. absurd (let none : ◌≡◌ {A = Option Session} None (Some s) = ap (λ (L : Knowledge). session_of L c)
-          (sym knows_is) ∙ has in cc))
+      (sym knows_is) ∙ has in cc))
       flights sp
 
 -- an outcome at which nothing of the sort comes, whatever the event
@@ -106,14 +106,14 @@ module _ (catalog : Catalog) (i : SiteId) (W : Stands) (h : List Step) (sp : Spe
       (h ++ (spelled_by W i None ++ answered i (W i) Passed event))
   passed event = let u = still_up event in
       stays catalog i W h sp event Passed kept sends dropped None tt tt tt u.0 u.1 refl (λ n. refl)
-          (λ c s vector has. has)
+      (λ c s vector has. has)
 
   pub was_down : (event : Event)
       → Spells (at_site i (then_ catalog i (W i) event Down kept None None sends dropped) W)
       (h ++ (spelled_by W i None ++ answered i (W i) Down event))
   was_down event = let u = still_up event in
       stays catalog i W h sp event Down kept sends dropped None tt tt tt u.2 u.3 refl (λ n. refl)
-          (λ c s vector has. has)
+      (λ c s vector has. has)
 
   -- an input is taken, whose record commits nothing here
   pub taken : (input : Input) (wrote : Option Record) → IsStill i wrote → BeginsNew (W i).knows wrote
@@ -122,7 +122,7 @@ module _ (catalog : Catalog) (i : SiteId) (W : Stands) (h : List Step) (sp : Spe
       (h ++ (spelled_by W i wrote ++ answered i (W i) Taken (Given input)))
   taken input wrote still new epoch =
       stays catalog i W h sp (Given input) Taken kept sends dropped wrote tt still new refl refl epoch (λ n. refl)
-          (λ c s vector has. has)
+      (λ c s vector has. has)
 
   pub stopped : Spells (at_site i (then_ catalog i (W i) Stop Taken kept None None sends dropped) W)
       (h ++ (spelled_by W i None ++ answered i (W i) Taken Stop))
@@ -139,7 +139,7 @@ module _ (catalog : Catalog) (i : SiteId) (W : Stands) (h : List Step) (sp : Spe
       (h ++ (spelled_by W i (Some (Boot ((W i).knows.epoch + 1))) ++ answered i (W i) Taken Restart))
   booted down =
       quiet_entry catalog i W h [] Restart Taken kept
-          (Some (Boot ((W i).knows.epoch + 1))) None sends dropped refl tt tt
+      (Some (Boot ((W i).knows.epoch + 1))) None sends dropped refl tt tt
       (λ x g. elim (subst (λ b. IsIssued (issued_by b (W i).knows) x) down g) [
         | inl before ↦ inl before
         | inr now ↦ let e = now.0 in let l = now.1 in inr (e, omega (arith, l))

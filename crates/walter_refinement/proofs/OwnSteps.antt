@@ -66,9 +66,9 @@ row_of : (log : List Held) (place : ℕ) (tx : Tx) → option_map (λ (z : Held)
     → (r : Held) × (slice_get log place ≡ Some r) × (r.tx ≡ tx)
 row_of log place tx is = elim (slice_get log place) as (λ o. slice_get log place ≡ o
     → option_map (λ (z : Held). z.tx) o ≡ Some tx → (r : Held) × (slice_get log place ≡ Some r) × (r.tx ≡ tx)) [
-  | None ↦ λ at none. absurd cc
-  | Some r ↦ λ at some. (r, at, same_Some r.tx tx some)
-] refl is
+      | None ↦ λ at none. absurd cc
+      | Some r ↦ λ at some. (r, at, same_Some r.tx tx some)
+    ] refl is
 
 module _ (catalog : Catalog) (i : SiteId) (W : Stands) (put : Put) (h : List Step) (A : IsAlone catalog i (W i))
     (G : AreAgreed catalog W put) (sp : Spells W h) where
@@ -77,18 +77,18 @@ module _ (catalog : Catalog) (i : SiteId) (W : Stands) (put : Put) (h : List Ste
       → ¬ IsBlocked s.tid s.updates h
   own_free s seq due live =
       let place : (p k : SiteId) (q : ℕ) (z : Held) → slice_get (owns W k) q ≡ Some z → q < counts W p k → (l : ℕ)
-          × (slice_get (logs W p) l ≡ Some z) =
+      × (slice_get (logs W p) l ≡ Some z) =
       λ p k q z here low. row_held (owns W) (counts W p) (logs W p) (G.numbered.held p) k q z here low in
       not_blocked (owns W) (counts W) (numbers W) (held W) (spent W) h G.numbered.own sp.spelled s live
-          (elim due.decided [
+      (elim due.decided [
         | inl fast ↦ λ k q r oid here w c.
             clear_fast (home catalog) (owns W) (logs W) (counts W) (slows W) (parts W) G.locked i s.snapshot
-                (write_set s.updates) place (λ o within. fast.1 o within) fast.2 fast.3 k q r oid here w c
+            (write_set s.updates) place (λ o within. fast.1 o within) fast.2 fast.3 k q r oid here w c
         | inr slow ↦ λ k q r oid here w c.
             clear_slow (home catalog) (owns W) (logs W) (counts W) (slows W) (parts W) G.locked i s.slow
-                (tx_of s) slow.1.0 slow.0 slow.1.1 place
+            (tx_of s) slow.1.0 slow.0 slow.1.1 place
             (all_held (home catalog) (owns W) (logs W) (counts W) (slows W) (parts W) G.locked i s.slow
-                (tx_of s) slow.1.0 slow.1.1 slow.2) k q r oid here w c
+            (tx_of s) slow.1.0 slow.1.1 slow.2) k q r oid here w c
       ])
 
   -- its record makes the log of own commits longer by it
@@ -128,19 +128,25 @@ module _ (catalog : Catalog) (i : SiteId) (W : Stands) (put : Put) (h : List Ste
   owns_more S who s seq due has log_is counts_are slow_is issued sessions gone closed =
       let final : (n : ℕ) → IsFinal ((W i).knows.slow n) → S.knows.slow n ≡ (W i).knows.slow n = λ n f.
       slow_is n ∙ elim (nat_eq s.slow n) as (λ b. (if b then decided ((W i).knows.slow n) else (W i).knows.slow n)
-          ≡ (W i).knows.slow n) [ true ↦ f.not_decided | false ↦ refl ] in
+      ≡ (W i).knows.slow n) [ true ↦ f.not_decided | false ↦ refl ] in
       let q = quiet_by (W i) S issued final sessions
-          (λ t now. absurd (let none : ◌≡◌ {A = Option Session} None (Some t) = ap (λ f. in_flight f) (sym gone)
-              ∙ now in cc)) in
+      (λ t now. absurd (let none : ◌≡◌ {A = Option Session} None (Some t) = ap (λ f. in_flight f) (sym gone)
+      ∙ now in cc)) in
       let live = live_open W h (record { site = i; who = who }) s sp has (not_decided s seq due) in
       commits W i S h who s (record { seq = seq; tx = tx_of s }) G.numbered.own q.on q.few
-          (ap (λ l. of_site i l) log_is ∙ own_log (tx_of s) seq due.site) counts_are has live
+      (ap (λ l. of_site i l) log_is ∙ own_log (tx_of s) seq due.site) counts_are has live
       (not_spent who s seq has due) due.site refl (λ k. refl) refl due.some (own_free s seq due live)
       (λ now. elim due.decided [
         | inl fast ↦ absurd (closed fast.0 now)
-        | inr slow ↦ (slow.0, (tx_of s, slow_is s.slow
-            ∙ (ap (λ b. if b then decided ((W i).knows.slow s.slow) else (W i).knows.slow s.slow)
-            (eq-eqb s.slow s.slow refl) ∙ ap decided slow.1.1)))
+        | inr slow ↦ (
+          slow.0,
+          (
+            tx_of s,
+            slow_is s.slow
+                ∙ (ap (λ b. if b then decided ((W i).knows.slow s.slow) else (W i).knows.slow s.slow)
+                (eq-eqb s.slow s.slow refl) ∙ ap decided slow.1.1),
+          ),
+        )
       ]) sp
 
   module _ (kept : Option Record) (sends : List Send) (dropped : ℕ) where
@@ -150,17 +156,17 @@ module _ (catalog : Catalog) (i : SiteId) (W : Stands) (put : Put) (h : List Ste
         → AreOwned (owns (at_site i (then_ catalog i (W i) (Given (Call client (Ok CommitAsked)))
         (Replied (Committed (own_version i seq))) kept (Some (Own seq (tx_of s))) None sends dropped) W))
         (counts (at_site i (then_ catalog i (W i) (Given (Call client (Ok CommitAsked)))
-            (Replied (Committed (own_version i seq))) kept (Some (Own seq (tx_of s))) None sends dropped) W))
+        (Replied (Committed (own_version i seq))) kept (Some (Own seq (tx_of s))) None sends dropped) W))
         → Spells (at_site i (then_ catalog i (W i) (Given (Call client (Ok CommitAsked)))
         (Replied (Committed (own_version i seq))) kept (Some (Own seq (tx_of s))) None sends dropped) W)
         (h ++ (spelled_by W i (Some (Own seq (tx_of s))) ++ answered i (W i) (Replied (Committed (own_version i seq)))
-            (Given (Call client (Ok CommitAsked)))))
+        (Given (Call client (Ok CommitAsked)))))
     committed_so client s seq open_ due owned_after =
         let S2 = then_ catalog i (W i) (Given (Call client (Ok CommitAsked)))
-            (Replied (Committed (own_version i seq))) kept (Some (Own seq (tx_of s))) None sends dropped in
+        (Replied (Committed (own_version i seq))) kept (Some (Own seq (tx_of s))) None sends dropped in
         let W2 = at_site i S2 W in
         let first : Spells W2 (h ++ Commit s.tid s.updates ∷ []) =
-            owns_more S2 (suc client) s seq due open_.session refl (λ k. refl) (λ n. refl)
+        owns_more S2 (suc client) s seq due open_.session refl (λ k. refl) (λ n. refl)
         (λ x g. issued_same (W i).up (W i).knows S2.knows x refl (omega arith) g)
         (λ c t now. (without_cases client c t (W i).knows.sessions now).1) refl
         (λ fast now. (without_cases client client s (W i).knows.sessions now).0 refl) in
@@ -174,14 +180,14 @@ module _ (catalog : Catalog) (i : SiteId) (W : Stands) (put : Put) (h : List Ste
         let second : Spells W2 ((h ++ Commit s.tid s.updates ∷ []) ++ step ∷ []) =
         one_more W2 (h ++ Commit s.tid s.updates ∷ []) step (λ x us e. absurd cc)
         (did_tell_version (owns W2) (counts W2) (numbers W2) (held W2) (spent W2)
-            (h ++ Commit s.tid s.updates ∷ []) first.spelled i (length (owns W i)) r (held W2) owned_after here
-                (λ d t has. has)) first in
+        (h ++ Commit s.tid s.updates ∷ []) first.spelled i (length (owns W i)) r (held W2) owned_after here
+        (λ d t has. has)) first in
         let spelled_ : answered i (W i) (Replied (Committed (own_version i seq)))
-            (Given (Call client (Ok CommitAsked))) ≡ step ∷ [] =
+        (Given (Call client (Ok CommitAsked))) ≡ step ∷ [] =
         ap (λ o. of_session (told (own_version i seq)) o) open_.session ∙ ap (λ v. Told s.tid (OfVersion v) ∷ [])
-            (sym version) in
+        (sym version) in
         subst (λ t. Spells W2 (h ++ (Commit s.tid s.updates ∷ [] ++ t))) (sym spelled_)
-            (subst (λ t. Spells W2 t) (append_assoc h (Commit s.tid s.updates ∷ []) (step ∷ [])) second)
+        (subst (λ t. Spells W2 t) (append_assoc h (Commit s.tid s.updates ∷ []) (step ∷ [])) second)
 
     -- the commit of a slow one, by the last missing YES
     pub decided_so : (p : SiteId) (number n seq c : ℕ) (s : Session) → session_of (W i).knows c ≡ Some s → s.slow ≢ 0
@@ -189,13 +195,13 @@ module _ (catalog : Catalog) (i : SiteId) (W : Stands) (put : Put) (h : List Ste
         → Spells (at_site i (then_ catalog i (W i) (Given (Deliver p number (Vote n Yes))) Taken kept
         (Some (Own seq (tx_of s))) None sends dropped) W)
         (h ++ (spelled_by W i (Some (Own seq (tx_of s))) ++ answered i (W i) Taken
-            (Given (Deliver p number (Vote n Yes)))))
+        (Given (Deliver p number (Vote n Yes)))))
     decided_so p number n seq c s has some due =
         let S2 = then_ catalog i (W i) (Given (Deliver p number (Vote n Yes))) Taken kept
-            (Some (Own seq (tx_of s))) None sends dropped in
+        (Some (Own seq (tx_of s))) None sends dropped in
         owns_more S2 (suc c) s seq due has refl (λ k. refl) (λ m. refl)
         (λ x g. issued_same (W i).up (W i).knows S2.knows x refl (omega arith) g) (λ d t now. now) refl
-            (λ fast. absurd (some fast))
+        (λ fast. absurd (some fast))
 
     -- a commit of another site comes to stand here
     pub seen_here : (S : Standing) (j : SiteId) (seq : ℕ) → IsDueSeen W i j seq
@@ -210,7 +216,7 @@ module _ (catalog : Catalog) (i : SiteId) (W : Stands) (put : Put) (h : List Ste
     seen_here S j seq due log_is counts_are slow_is issued sessions flights =
         let row = row_of (of_site j (logs W i)) (seq - 1) due.tx due.held in
         let there : slice_get (owns W j) (seq - 1) ≡ Some row.0 = prefix_get (of_site j (logs W i)) (owns W j) row.0
-            (seq - 1) ((G.numbered.held i).fronts j) row.1 in
+        (seq - 1) ((G.numbered.held i).fronts j) row.1 in
         let next = due.next in
         let place : seq - 1 ≡ counts W i j = omega (arith, next) in
         let of_j : row.0.tx.tid.site ≡ j = G.numbered.own.site j (seq - 1) row.0 there in
@@ -220,10 +226,10 @@ module _ (catalog : Catalog) (i : SiteId) (W : Stands) (put : Put) (h : List Ste
         subst (λ t. Spells (at_site i S W) (h ++ t)) (sym spelled_)
         (arrives W i S h row.0 G.numbered.own q.on q.few (ap (λ l. of_site i l) log_is)
         (λ k. counts_are k ∙ ap (λ z. if same_site z k then (W i).knows.committed k + 1 else (W i).knows.committed k)
-            (sym of_j))
+        (sym of_j))
         (λ e. due.apart (sym (e ∙ of_j)))
         (subst (λ z. slice_get (owns W z) (counts W i z) ≡ Some row.0) (sym of_j)
-            (subst (λ n. slice_get (owns W j) n ≡ Some row.0) place there))
+        (subst (λ n. slice_get (owns W j) n ≡ Some row.0) place there))
         (λ k. subst (λ (x : Tx). entry_at x.start k ≤ (W i).knows.committed k) (sym row.2) (due.covered k)) sp)
 
     pub seen_so : (j : SiteId) (seq : ℕ) → IsDueSeen W i j seq
@@ -234,4 +240,4 @@ module _ (catalog : Catalog) (i : SiteId) (W : Stands) (put : Put) (h : List Ste
         let S2 = then_ catalog i (W i) (Given (Advance j)) Taken kept (Some (Seen j seq)) None sends dropped in
         subst (λ t. Spells (at_site i S2 W) (h ++ t)) (sym (append-nil (spelled_by W i (Some (Seen j seq)))))
         (seen_here S2 j seq due refl (λ k. refl) (λ n. refl) (λ x g. issued_same (W i).up (W i).knows S2.knows x refl
-            (omega arith) g) (λ c t now. now) (λ t now. absurd cc))
+        (omega arith) g) (λ c t now. now) (λ t now. absurd cc))

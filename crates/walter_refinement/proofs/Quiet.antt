@@ -56,6 +56,6 @@ pub quiet_entry : (catalog : Catalog) (i : SiteId) (W : Stands) (h steps : List 
 quiet_entry catalog i W h steps event outcome kept wrote flight sends dropped none still new issued sessions flights sp =
     let S2 = then_ catalog i (W i) event outcome kept wrote flight sends dropped in
     let q = quiet_by (W i) S2 issued
-        (final_then catalog i (W i) event outcome kept wrote flight sends dropped new) sessions flights in
+    (final_then catalog i (W i) event outcome kept wrote flight sends dropped new) sessions flights in
     subst (λ t. Spells (at_site i S2 W) t) (sym (ap (λ t. h ++ t) none ∙ append-nil h))
     (quiet W i S2 h (same_then catalog i (W i) event outcome kept wrote flight sends dropped still) q.on q.few sp)

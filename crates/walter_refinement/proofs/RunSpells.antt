@@ -54,39 +54,39 @@ step_keeps catalog i W put h below alone G sp event came (stable kind none sent)
     subst (λ f. Keeps catalog i W put h below alone G sp came.kept came.sends came.dropped event came.outcome came.wrote f) (sym none)
     (kind_keeps catalog i W put h below alone G sp came.kept came.sends came.dropped event came.wrote came.outcome kind (if_due (IsDue catalog W put i) came.wrote due)
     (subst (λ f. AreOwned (owns
-        (at_site i (then_ catalog i (W i) event came.outcome came.kept came.wrote f came.sends came.dropped) W))
-            (counts (at_site i (then_ catalog i
-                (W i) event came.outcome came.kept came.wrote f came.sends came.dropped) W))) none numbered))
+    (at_site i (then_ catalog i (W i) event came.outcome came.kept came.wrote f came.sends came.dropped) W))
+    (counts (at_site i (then_ catalog i
+    (W i) event came.outcome came.kept came.wrote f came.sends came.dropped) W))) none numbered))
 step_keeps catalog i W put h below alone G sp event came (flies rec outcome kind only) due due_flight numbered =
     subst (λ f. Keeps catalog i W put h below alone G sp came.kept came.sends came.dropped event came.outcome came.wrote f) (sym only.flight_is)
     (subst (λ w. Keeps catalog i W put h below alone G sp came.kept came.sends came.dropped event came.outcome w
-        (Some rec)) (sym only.wrote)
+    (Some rec)) (sym only.wrote)
     (subst (λ o. Keeps catalog i W put h below alone G sp came.kept came.sends came.dropped event o None (Some rec))
-        (sym only.outcome_is)
+    (sym only.outcome_is)
     (kind_flies catalog i W put h below alone G sp came.kept came.sends came.dropped event (Some rec) outcome kind
-        (due_flight rec only.flight_is))))
+    (due_flight rec only.flight_is))))
 step_keeps catalog i W put h below alone G sp event came (unread_step restart down only) due due_flight numbered =
     subst (λ f. Keeps catalog i W put h below alone G sp came.kept came.sends came.dropped event came.outcome came.wrote f) (sym only.flight_is)
     (subst (λ w. Keeps catalog i W put h below alone G sp came.kept came.sends came.dropped event came.outcome w None)
-        (sym only.wrote)
+    (sym only.wrote)
     (subst (λ o. Keeps catalog i W put h below alone G sp came.kept came.sends came.dropped event o None None)
-        (sym only.outcome_is)
+    (sym only.outcome_is)
     (subst (λ e. Keeps catalog i W put h below alone G sp came.kept came.sends came.dropped e Failed None None)
-        (sym restart) (unread catalog i W h sp came.kept came.sends came.dropped))))
+    (sym restart) (unread catalog i W h sp came.kept came.sends came.dropped))))
 step_keeps catalog i W put h below alone G sp event came (wants takes only) due due_flight numbered =
     subst (λ f. Keeps catalog i W put h below alone G sp came.kept came.sends came.dropped event came.outcome came.wrote f) (sym only.flight_is)
     (subst (λ w. Keeps catalog i W put h below alone G sp came.kept came.sends came.dropped event came.outcome w None)
-        (sym only.wrote)
+    (sym only.wrote)
     (subst (λ o. Keeps catalog i W put h below alone G sp came.kept came.sends came.dropped event o None None)
-        (sym only.outcome_is)
+    (sym only.outcome_is)
     (wants_keep catalog i W put h below alone G sp came.kept came.sends came.dropped event)))
 step_keeps catalog i W put h below alone G sp event came
     (finds_full rec outcome need left kind only) due due_flight numbered =
     subst (λ f. Keeps catalog i W put h below alone G sp came.kept came.sends came.dropped event came.outcome came.wrote f) (sym only.flight_is)
     (subst (λ w. Keeps catalog i W put h below alone G sp came.kept came.sends came.dropped event came.outcome w None)
-        (sym only.wrote)
+    (sym only.wrote)
     (subst (λ o. Keeps catalog i W put h below alone G sp came.kept came.sends came.dropped event o None None)
-        (sym only.outcome_is)
+    (sym only.outcome_is)
     (full_keeps catalog i W put h below alone G sp came.kept came.sends came.dropped event need left)))
 
 -- the record of a restart commits nothing
@@ -160,7 +160,7 @@ module _ (catalog : Catalog) (capacity : ℕ) (homes : (oid : ObjId) → (home c
         (history catalog older ++ recorded (stands catalog older) n.0 kept)
     found_spells None found_ due =
         subst (λ t. Spells (at_site n.0 (stands catalog older n.0) (stands catalog older)) t)
-            (sym (append-nil (history catalog older)))
+        (sym (append-nil (history catalog older)))
         (subst (λ (W : Stands). Spells W (history catalog older)) (λ t k. sym (same_at k) t) sp)
       where
         same_at : (k : SiteId) → at_site n.0 (stands catalog older n.0) (stands catalog older) k
@@ -172,9 +172,9 @@ module _ (catalog : Catalog) (capacity : ℕ) (homes : (oid : ObjId) → (home c
     found_spells (Some r) found_ due =
         kept_so catalog n.0 (stands catalog older) (IsPut older) (history catalog older)
         (run_alone catalog capacity homes (right_alone catalog capacity)
-            (settled_alone catalog capacity) older is.0 n.0)
+        (settled_alone catalog capacity) older is.0 n.0)
         (run_agrees catalog capacity homes (right_alone catalog capacity)
-            (settled_alone catalog capacity) older is.0) sp r found_.down found_.in_flight (due r refl)
+        (settled_alone catalog capacity) older is.0) sp r found_.down found_.in_flight (due r refl)
 
     -- the steps of the entry are those behind what was found
     same_steps : (kept : Option Record) → IfSome kept (IsFound (stands catalog older n.0) n.1.event)
@@ -182,13 +182,13 @@ module _ (catalog : Catalog) (capacity : ℕ) (homes : (oid : ObjId) → (home c
         (stands catalog older) n.0) n.1.event n.1.came
         → recorded (at_site n.0 (settled catalog n.0 kept (stands catalog older n.0))
         (stands catalog older)) n.0 n.1.came.wrote ++ answered n.0
-            (at_site n.0 (settled catalog n.0 kept (stands catalog older n.0))
-                (stands catalog older) n.0) n.1.came.outcome n.1.event
+        (at_site n.0 (settled catalog n.0 kept (stands catalog older n.0))
+        (stands catalog older) n.0) n.1.came.outcome n.1.event
         ≡ recorded (stands catalog older) n.0 n.1.came.wrote ++ answered n.0
-            (stands catalog older n.0) n.1.came.outcome n.1.event
+        (stands catalog older n.0) n.1.came.outcome n.1.event
     same_steps None found_ step =
         ap (λ (W : Stands). recorded W n.0 n.1.came.wrote ++ answered n.0 (W n.0) n.1.came.outcome n.1.event)
-            (λ t k. same_at k t)
+        (λ t k. same_at k t)
       where
         same_at : (k : SiteId) → at_site n.0 (stands catalog older n.0) (stands catalog older) k
             ≡ stands catalog older k
@@ -200,7 +200,7 @@ module _ (catalog : Catalog) (capacity : ℕ) (homes : (oid : ObjId) → (home c
         let W1 = at_site n.0 (settled catalog n.0 (Some r) (stands catalog older n.0)) (stands catalog older) in
         let still = restart_step_still catalog n.0 (W1 n.0) n.1.event n.1.came found_.restart step in
         let quiet : (S : Standing) → answered n.0 S n.1.came.outcome n.1.event ≡ [] =
-            λ S. ap (λ e. answered n.0 S n.1.came.outcome e) found_.restart in
+        λ S. ap (λ e. answered n.0 S n.1.came.outcome e) found_.restart in
         (λ t. still_spells W1 n.0 n.1.came.wrote still t ++ quiet (W1 n.0) t)
         ∙ sym (λ t. still_spells (stands catalog older) n.0 n.1.came.wrote still t ++ quiet
         (stands catalog older n.0) t)
@@ -215,33 +215,33 @@ module _ (catalog : Catalog) (capacity : ℕ) (homes : (oid : ObjId) → (home c
         let G = settled_agrees catalog capacity homes right settles older n is in
         let step = next_step catalog capacity homes right settles older n is.0 is.1 in
         let first = found_spells n.1.came.kept is.1.right.kept
-            (kept_due catalog capacity homes right settles older n is) in
+        (kept_due catalog capacity homes right settles older n is) in
         let W2 : Stands = at_site i (stands_after catalog i (W1 i) n.1.event n.1.came) W1 in
         let same : (k : SiteId) → W2 k ≡ stands catalog (n ∷ older) k =
-            λ k. elim (views W1 i (stands_after catalog i (W1 i) n.1.event n.1.came) (λ z. z) k) [
+        λ k. elim (views W1 i (stands_after catalog i (W1 i) n.1.event n.1.came) (λ z. z) k) [
           | inl here ↦ here.1 ∙ (sym (stands_here catalog older n) ∙ ap (λ j. stands catalog (n ∷ older) j) here.0)
           | inr away ↦ away.1 ∙ sym (stands_away catalog older n k (λ e. away.0 (sym e)))
         ] in
         let path : W2 ≡ stands catalog (n ∷ older) = (λ t k. same k t) in
         let all = (run_agrees catalog capacity homes right settles (n ∷ older) is).numbered.own in
         let numbered : AreOwned (owns W2) (counts W2) = subst (λ (W : Stands). AreOwned (owns W) (counts W))
-            (sym path) all in
+        (sym path) all in
         let second = step_keeps catalog i W1 (IsPut older)
-            (history catalog older ++ recorded
-                (stands catalog older) i n.1.came.kept) is.1.below alone G first n.1.event n.1.came step
+        (history catalog older ++ recorded
+        (stands catalog older) i n.1.came.kept) is.1.below alone G first n.1.event n.1.came step
         (wrote_due catalog capacity homes right settles older n is)
-            (flight_due catalog capacity homes right settles older n is) numbered in
+        (flight_due catalog capacity homes right settles older n is) numbered in
         let steps = same_steps n.1.came.kept is.1.right.kept step in
         let joined : (history catalog older ++ recorded (stands catalog older) i n.1.came.kept) ++
-            (recorded W1 i n.1.came.wrote ++ answered i (W1 i) n.1.came.outcome n.1.event) ≡ history catalog
-                (n ∷ older) =
+        (recorded W1 i n.1.came.wrote ++ answered i (W1 i) n.1.came.outcome n.1.event) ≡ history catalog
+        (n ∷ older) =
         append_assoc (history catalog older) (recorded (stands catalog older) i n.1.came.kept)
-            (recorded W1 i n.1.came.wrote ++ answered i (W1 i) n.1.came.outcome n.1.event)
+        (recorded W1 i n.1.came.wrote ++ answered i (W1 i) n.1.came.outcome n.1.event)
         ∙ ap (λ t. history catalog older ++ (recorded (stands catalog older) i n.1.came.kept ++ t)) steps in
         subst (λ t. Spells (stands catalog (n ∷ older)) t) joined
-            (subst (λ (W : Stands). Spells W
-                ((history catalog older ++ recorded (stands catalog older) i n.1.came.kept) ++
-                    (recorded W1 i n.1.came.wrote ++ answered i (W1 i) n.1.came.outcome n.1.event))) path second)
+        (subst (λ (W : Stands). Spells W
+        ((history catalog older ++ recorded (stands catalog older) i n.1.came.kept) ++
+        (recorded W1 i n.1.came.wrote ++ answered i (W1 i) n.1.came.outcome n.1.event))) path second)
 
   -- each run spells what its sites say
   pub run_spells : (run : List Named) → IsRun catalog capacity run → Spells (stands catalog run) (history catalog run)

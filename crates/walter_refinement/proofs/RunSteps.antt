@@ -41,7 +41,7 @@ use Rattle.walter_refinement.proofs.OwnSteps.{committed_so, seen_so}
 
 module _ (catalog : Catalog) (i : SiteId) (W : Stands) (put : Put) (h : List Step) (below : i.0 < catalog.sites)
     (alone : (k : SiteId) → IsAlone catalog k (W k)) (G : AreAgreed catalog W put) (sp : Spells W h)
-        (kept : Option Record) (sends : List Send) (dropped : ℕ) where
+    (kept : Option Record) (sends : List Send) (dropped : ℕ) where
   abbrev pub Kept : Event → Outcome → Option Record → Option Record → Type 0
   Kept event outcome wrote flight =
       Keeps catalog i W put h below alone G sp kept sends dropped event outcome wrote flight
@@ -50,7 +50,7 @@ module _ (catalog : Catalog) (i : SiteId) (W : Stands) (put : Put) (h : List Ste
   abbrev pub IsNumberedThen : Event → Outcome → Option Record → Type 0
   IsNumberedThen event outcome wrote =
       AreOwned (owns (at_site i (then_ catalog i (W i) event outcome kept wrote None sends dropped) W))
-          (counts (at_site i (then_ catalog i (W i) event outcome kept wrote None sends dropped) W))
+      (counts (at_site i (then_ catalog i (W i) event outcome kept wrote None sends dropped) W))
 
   -- what comes of each kind, where its record is stable
   pub kind_keeps : (event : Event) (wrote : Option Record) (outcome : Outcome)
@@ -68,7 +68,7 @@ module _ (catalog : Catalog) (i : SiteId) (W : Stands) (put : Put) (h : List Ste
       ended catalog i W put h (alone i) G sp client (Ok CommitAsked) kept sends dropped
   kind_keeps event wrote outcome (aborts client s open_) due numbered =
       aborted_so catalog i W put h (alone i) G sp client (Ok AbortAsked) kept sends dropped s Asked open_.session
-          (open_live catalog i W put h (alone i) G sp client (Ok AbortAsked) kept sends dropped s open_) tt
+      (open_live catalog i W put h (alone i) G sp client (Ok AbortAsked) kept sends dropped s open_) tt
   kind_keeps event wrote outcome (conflicts client s conflict open_ first) due numbered =
       conflicts_so catalog i W put h below alone G sp kept sends dropped client s conflict open_ first
   kind_keeps event wrote outcome (commits client s open_ some local clear) due numbered =
@@ -93,7 +93,7 @@ module _ (catalog : Catalog) (i : SiteId) (W : Stands) (put : Put) (h : List Ste
   kind_keeps event wrote outcome (receives j number seq tx peer next) due numbered =
       taken catalog i W h sp kept sends dropped (Deliver j number (Propagate seq tx)) (Some (Got j seq tx))
       (λ e. due.apart (sym (G.numbered.own.site j (seq - 1) (record { seq = seq; tx = tx })
-          (G.said j i (Propagate seq tx) due.apart due.said).1) ∙ e)) tt refl
+      (G.said j i (Propagate seq tx) due.apart due.said).1) ∙ e)) tt refl
   kind_keeps event wrote outcome (hears_ack j number got peer low) due numbered =
       taken catalog i W h sp kept sends dropped (Deliver j number (Ack got)) None tt tt refl
   kind_keeps event wrote outcome (hears_durable j number durable peer) due numbered =
@@ -106,7 +106,7 @@ module _ (catalog : Catalog) (i : SiteId) (W : Stands) (put : Put) (h : List Ste
       taken catalog i W h sp kept sends dropped (Deliver j number (VisibleSaid committed)) wrote tt tt refl
   kind_keeps event wrote outcome (prepares j number n tid start objects peer free lockable) due numbered =
       taken catalog i W h sp kept sends dropped (Deliver j number (Prepare n tid start objects))
-          (Some (Prepared j n tid objects)) tt tt refl
+      (Some (Prepared j n tid objects)) tt tt refl
   kind_keeps event wrote outcome (hears_yes p number n tx asked peer undecided asks) due numbered =
       taken catalog i W h sp kept sends dropped (Deliver p number (Vote n Yes)) None tt tt refl
   kind_keeps event wrote outcome (decides p number n tx asked peer undecided asks all) due numbered =
@@ -145,11 +145,11 @@ module _ (catalog : Catalog) (i : SiteId) (W : Stands) (put : Put) (h : List Ste
   kind_flies event wrote outcome (conflicts client s conflict open_ first) due = tt
   kind_flies event wrote outcome (commits client s open_ some local clear) due =
       own_flies catalog i W put h (alone i) G sp (Given (Call client (Ok CommitAsked)))
-          (Replied (Unsure s.tid)) kept sends dropped client s _ tt refl open_.up open_.session due
+      (Replied (Unsure s.tid)) kept sends dropped client s _ tt refl open_.up open_.session due
   kind_flies event wrote outcome (begins client s open_ some clear) due =
       falls catalog i W h sp (Given (Call client (Ok CommitAsked)))
-          (Replied (Unsure s.tid)) kept sends dropped wrote tt refl
-              (λ t has. absurd (let clash : ◌≡◌ {A = Option Session} None (Some t) = has in cc))
+      (Replied (Unsure s.tid)) kept sends dropped wrote tt refl
+      (λ t has. absurd (let clash : ◌≡◌ {A = Option Session} None (Some t) = has in cc))
   kind_flies event wrote outcome (waits client s tx asked begun_ undecided) due = tt
   kind_flies event wrote outcome (tells_version client s tx seq begun_ decided is) due = tt
   kind_flies event wrote outcome (tells_cause client s tx asked conflict begun_ lost said) due = tt
@@ -174,11 +174,11 @@ module _ (catalog : Catalog) (i : SiteId) (W : Stands) (put : Put) (h : List Ste
       let some : w.1.slow ≢ 0 = λ e. ((alone i).tidy.named n tx (ap begun undecided)).1 (sym w.3 ∙ e) in
       let mine = (alone i).tidy.mine w.0 w.1 w.2 some in
       let one : tx_of w.1 ≡ tx = same_open ((W i).knows.slow w.1.slow) (tx_of w.1) tx asked mine
-          (ap (λ m. (W i).knows.slow m) w.3 ∙ undecided) in
+      (ap (λ m. (W i).knows.slow m) w.3 ∙ undecided) in
       subst (λ (x : Tx). Kept event Failed None (Some (Own (next_seq i (W i).knows) x))) one
       (own_flies catalog i W put h (alone i) G sp event Failed kept sends dropped w.0 w.1
-          (next_seq i (W i).knows) tt refl peer.up w.2 (subst (λ x. IsDueOwn catalog W i (next_seq i (W i).knows) x)
-              (sym one) due))
+      (next_seq i (W i).knows) tt refl peer.up w.2 (subst (λ x. IsDueOwn catalog W i (next_seq i (W i).knows) x)
+      (sym one) due))
   kind_flies event wrote outcome (gives_up p number n tx asked conflict peer undecided asks alive) due =
       falls_with event (SlowEnd n) refl refl
   kind_flies event wrote outcome (releases j number n peer part) due = falls_with event (Released j n) refl refl
@@ -195,11 +195,11 @@ module _ (catalog : Catalog) (i : SiteId) (W : Stands) (put : Put) (h : List Ste
       refused catalog i W put h (alone i) G sp client call kept sends dropped NoMemory
   wants_keep (Given (Deliver from number packet)) =
       stays catalog i W h sp (Given
-          (Deliver from number packet)) Memory kept sends dropped None tt tt tt refl refl refl (λ n. refl)
-              (λ c s vector has. has)
+      (Deliver from number packet)) Memory kept sends dropped None tt tt tt refl refl refl (λ n. refl)
+      (λ c s vector has. has)
   wants_keep (Given (Advance from)) =
       stays catalog i W h sp (Given (Advance from)) Memory kept sends dropped None tt tt tt refl refl refl (λ n. refl)
-          (λ c s vector has. has)
+      (λ c s vector has. has)
   wants_keep (Given Tick) = stays catalog i W h sp (Given Tick) Memory kept sends dropped None tt tt tt refl refl refl
       (λ n. refl) (λ c s vector has. has)
   wants_keep Stop = stays catalog i W h sp Stop Memory kept sends dropped None tt tt tt refl refl refl (λ n. refl)
@@ -212,15 +212,15 @@ module _ (catalog : Catalog) (i : SiteId) (W : Stands) (put : Put) (h : List Ste
       refused catalog i W put h (alone i) G sp client call kept sends dropped (JournalFull need left)
   full_keeps (Given (Deliver from number packet)) need left =
       stays catalog i W h sp (Given (Deliver from number packet))
-          (Full need left) kept sends dropped None tt tt tt refl refl refl (λ n. refl) (λ c s vector has. has)
+      (Full need left) kept sends dropped None tt tt tt refl refl refl (λ n. refl) (λ c s vector has. has)
   full_keeps (Given (Advance from)) need left = stays catalog i W h sp (Given (Advance from))
       (Full need left) kept sends dropped None tt tt tt refl refl refl (λ n. refl) (λ c s vector has. has)
   full_keeps (Given Tick) need left =
       stays catalog i W h sp (Given Tick) (Full need left) kept sends dropped None tt tt tt refl refl refl (λ n. refl)
-          (λ c s vector has. has)
+      (λ c s vector has. has)
   full_keeps Stop need left =
       stays catalog i W h sp Stop (Full need left) kept sends dropped None tt tt tt refl refl refl (λ n. refl)
-          (λ c s vector has. has)
+      (λ c s vector has. has)
   full_keeps Restart need left =
       stays catalog i W h sp Restart (Full need left) kept sends dropped None tt tt tt refl refl refl (λ n. refl)
-          (λ c s vector has. has)
+      (λ c s vector has. has)

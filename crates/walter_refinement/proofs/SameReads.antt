@@ -39,12 +39,24 @@ split_at k [] x rest h = absurd cc
 split_at k (y ∷ ys) x rest h =
     elim (same_site y.site k) as
     (λ b. same_site y.site k ≡ b → (if b then y ∷ by k ys else by k ys) ≡ x ∷ rest → Split k (y ∷ ys) x rest) [
-      | true ↦ λ is h. let e : y ≡ x = cc in record { before = []; after = ys; is = ap (λ z. z ∷ ys) e; none =
-          refl; others = cc }
+      | true ↦ λ is h. let e : y ≡ x = cc in record {
+        before = [];
+        after = ys;
+        is = ap (λ z. z ∷ ys) e;
+        none =
+            refl;
+        others = cc;
+      }
       | false ↦ λ is h.
           let s = split_at k ys x rest h in
-          record { before = y ∷ s.before; after = s.after; is = ap (λ t. y ∷ t) s.is; none = rw is s.none; others =
-              s.others }
+          record {
+            before = y ∷ s.before;
+            after = s.after;
+            is = ap (λ t. y ∷ t) s.is;
+            none = rw is s.none;
+            others =
+                s.others;
+          }
     ] refl h
 
 -- a list without one of any site is empty
@@ -52,7 +64,7 @@ none_of_any : (ys : List Tid) → ((k : SiteId) → by k ys ≡ []) → ys ≡ [
 none_of_any [] h = refl
 none_of_any (y ∷ ys) h =
     let e : by y.site (y ∷ ys) ≡ [] = h y.site in let t = same_site_refl y.site in
-        absurd (let f : y ∷ by y.site ys ≡ [] = rw t at e in cc)
+    absurd (let f : y ∷ by y.site ys ≡ [] = rw t at e in cc)
 
 -- lists that agree on each site's own give the same counts
 pub count_same : (p : Update → Bool) (f : Tid → List Update) (xs ys : List Tid) → ((k : SiteId) → by k xs ≡ by k ys)

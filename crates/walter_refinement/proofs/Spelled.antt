@@ -108,16 +108,20 @@ sees_same owns v w xs same h k =
 pub sees_grow : (owns more : SiteId → List Held) (v : SiteId → ℕ) (xs : List Tid)
     → ((k : SiteId) → IsPrefix (owns k) (more k)) → Sees owns v xs → Sees more v xs
 sees_grow owns more v xs grow h k =
-    let l : v k ≤ length (owns k) = (h k).1 in
-    ((h k).0 ∙ ap (λ t. map tid_of t) (sym (prefix_take (owns k) (more k) (v k) (grow k) l)), let m =
-        prefix_length (owns k) (more k) (grow k) in omega (arith, l, m))
+    let l : v k ≤ length (owns k) = (h k).1 in (
+      (h k).0 ∙ ap (λ t. map tid_of t) (sym (prefix_take (owns k) (more k) (v k) (grow k) l)),
+      let m =
+          prefix_length (owns k) (more k) (grow k) in omega (arith, l, m),
+    )
 
 -- a transaction in a list stands among those of its site there, and the other way round
 pub in_by : (xs : List Tid) (y : Tid) → Contains xs y → (q : ℕ) × (slice_get (by y.site xs) q ≡ Some y)
 in_by xs y c =
-    let p = place_of xs y c in
-    (length (by y.site (take p.0 xs)), place_filtered (λ (x : Tid). same_site x.site y.site) xs y p.0 p.1
-        (same_site_refl y.site))
+    let p = place_of xs y c in (
+      length (by y.site (take p.0 xs)),
+      place_filtered (λ (x : Tid). same_site x.site y.site) xs y p.0 p.1
+          (same_site_refl y.site),
+    )
 
 pub by_in : (k : SiteId) (xs : List Tid) (y : Tid) (q : ℕ) → slice_get (by k xs) q ≡ Some y → Contains xs y
 by_in k xs y q h = let r = filter_place (λ (x : Tid). same_site x.site k) xs y q h in contains_at xs y r.0 r.1
@@ -138,8 +142,14 @@ seen_row owns v xs y h c =
     let m =
     map_place tid_of (take (v y.site) (owns y.site)) y q.0 (ap (λ t. slice_get t q.0) (sym (h y.site).0) ∙ q.1) in
     let l = slice_get-take_within (owns y.site) (v y.site) q.0 m.0 m.1 in
-    record { place = q.0; row = m.0; below = l; here = sym (slice_get-take (owns y.site) (v y.site) q.0 l) ∙ m.1; is =
-        m.2 }
+    record {
+      place = q.0;
+      row = m.0;
+      below = l;
+      here = sym (slice_get-take (owns y.site) (v y.site) q.0 l) ∙ m.1;
+      is =
+          m.2;
+    }
 
 -- an own commit that the vector sees is in the list
 pub row_seen : (owns : SiteId → List Held) (v : SiteId → ℕ) (xs : List Tid) (k : SiteId) (q : ℕ) (r : Held)
@@ -159,15 +169,19 @@ kept_step owns h r step k none = record {
       ∙ (append-nil (committed_updates h r.tx.tid) ∙ k.same));
   seen =
       subst (λ t. Sees owns (λ j. entry_at r.tx.start j) t)
-          (sym (snapshot_kept r.tx.tid h (step ∷ []) k.started)) k.seen;
+      (sym (snapshot_kept r.tx.tid h (step ∷ []) k.started)) k.seen;
 }
 
 -- so do commits that come
 pub kept_grow : (owns more : SiteId → List Held) (h : List Step) (r : Held)
     → ((k : SiteId) → IsPrefix (owns k) (more k)) → IsKept owns h r → IsKept more h r
 kept_grow owns more h r grow k =
-    record { started = k.started; same = k.same; seen = sees_grow owns more (λ j. entry_at r.tx.start j)
-        (snapshot r.tx.tid h) grow k.seen }
+    record {
+      started = k.started;
+      same = k.same;
+      seen = sees_grow owns more (λ j. entry_at r.tx.start j)
+          (snapshot r.tx.tid h) grow k.seen;
+    }
 
 -- a step does nothing for a transaction, nor ends it
 pub record IsAside (x : Tid) (step : Step) : Type 0 where
@@ -264,7 +278,7 @@ logs_step owns more counts higher h step s r grow c here says before i k =
     let split : by k (log i (h ++ step ∷ [])) ≡ by k (log i h ++ (if same_site s i then r.tx.tid ∷ [] else [])) =
     ap (λ t. by k t) (log_snoc i h step ∙ ap (λ t. log i h ++ t) (says i)) in
     let unmoved : by k (log i h ++ (if same_site s i then r.tx.tid ∷ [] else [])) ≡ by k (log i h)
-        → higher i k ≡ counts i k
+    → higher i k ≡ counts i k
     → (by k (log i (h ++ step ∷ [])) ≡ map tid_of (take (higher i k) (more k))) × (higher i k ≤ length (more k)) =
     λ e f.
     (split ∙ (e ∙ (old.0 ∙ ap (λ n. map tid_of (take n (more k))) (sym f))), let l = old.1 in omega (arith, l, f)) in
@@ -285,11 +299,11 @@ logs_step owns more counts higher h step s r grow c here says before i k =
           subst (λ j. same_site r.tx.tid.site j ≡ true) one.1 (same_site_refl r.tx.tid.site) in
           let place : slice_get (more k) (counts i k) ≡ Some r =
           subst (λ j. slice_get (more k) (counts j k) ≡ Some r) one.0
-              (subst (λ j. slice_get (more j) (counts s j) ≡ Some r) one.1 here) in
+          (subst (λ j. slice_get (more j) (counts s j) ≡ Some r) one.1 here) in
           let taken : take (higher i k) (more k) ≡ take (counts i k) (more k) ++ r ∷ [] =
           ap (λ n. take n (more k)) one.2 ∙ take_push (more k) (counts i k) r place in
           let pushed : by k (log i h ++ (if same_site s i then r.tx.tid ∷ [] else [])) ≡ by k (log i h)
-              ++ r.tx.tid ∷ [] =
+          ++ r.tx.tid ∷ [] =
           rw test (filter_push_kept (λ (x : Tid). same_site x.site k) (log i h) r.tx.tid ours) in (
             split
                 ∙ (pushed ∙ (ap (λ t. t ++ r.tx.tid ∷ []) old.0

@@ -42,5 +42,5 @@ module _ (catalog : Catalog) (capacity : ℕ) (whole : IsWhole catalog) where
       → IsNamed catalog older n cause
   trails_named trails are newer older n cause is e =
       let run = run_behind catalog capacity newer (n ∷ older)
-          (subst (IsRun catalog capacity) is (merged_run catalog capacity trails are)) in
+      (subst (IsRun catalog capacity) is (merged_run catalog capacity trails are)) in
       run_named catalog capacity (run_homes catalog capacity whole n older run) older n cause run e

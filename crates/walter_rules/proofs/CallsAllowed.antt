@@ -184,7 +184,7 @@ module _ (catalog : Catalog) (i : SiteId) (S : Standing) where
         → AreTrue catalog i S.knows (committing client) (committed client s) (commits_fast catalog i S.knows s).sends
     fast_true client s =
         own_sent catalog i S.knows (committing client) (committed client s) S.knows
-            (recorded catalog i (Some (own_record s)) S.knows) refl
+        (recorded catalog i (Some (own_record s)) S.knows) refl
         (rw (same_site_refl i) (omega arith)) refl
 
     -- the beginning of a slow one
@@ -195,7 +195,7 @@ module _ (catalog : Catalog) (i : SiteId) (S : Standing) where
         let tx : Tx = tx_of (with_slow n s) in
         let receivers : List SiteId = participants catalog S.knows i s.updates in
         each_sent catalog i S.knows (committing client) (begun client s) receivers
-            (λ k. prepare_of catalog S.knows n tx k ∷ []) (λ k within.
+        (λ k. prepare_of catalog S.knows n tx k ∷ []) (λ k within.
         one_to catalog i S.knows (committing client) (begun client s) k (prepare_of catalog S.knows n tx k)
         (tx, receivers, rw (eq-eqb n n refl) refl, refl, refl, refl))
 
@@ -205,8 +205,11 @@ module _ (catalog : Catalog) (i : SiteId) (S : Standing) where
         → are_local catalog S.knows i s.updates ≡ test
         → Allows (committing client) (if_local test catalog i S.knows s)
     local_allowed client s has some clear true is = (
-      record { kind = IsKind.commits client s has some (local_at catalog S.knows i s.updates is) clear; sent =
-          fast_true client s },
+      record {
+        kind = IsKind.commits client s has some (local_at catalog S.knows i s.updates is) clear;
+        sent =
+            fast_true client s;
+      },
       own_in_order catalog i S.knows (recorded catalog i (Some (own_record s)) S.knows),
     )
     local_allowed client s has some clear false is = (
@@ -220,10 +223,10 @@ module _ (catalog : Catalog) (i : SiteId) (S : Standing) where
         → Allows (committing client) (decides catalog i S.knows s conflict)
     decided_allowed client s has some (Some conflict) is =
         quiet (committing client) None (Replied (Aborted (cause_of conflict)))
-            (IsKind.conflicts client s conflict has is)
+        (IsKind.conflicts client s conflict has is)
     decided_allowed client s has some None is =
         local_allowed client s has some (clear_there S.knows s.snapshot catalog i s.updates is)
-            (are_local catalog S.knows i s.updates) refl
+        (are_local catalog S.knows i s.updates) refl
 
     -- without updates it ends
     open_allowed : (client : ℕ) (s : Session) → HasOpen S client s → (updates : List Update) → s.updates ≡ updates
@@ -232,7 +235,7 @@ module _ (catalog : Catalog) (i : SiteId) (S : Standing) where
     open_allowed client s has (update ∷ updates) is =
         let some : s.updates ≢ [] = λ none. let same : update ∷ updates ≡ [] = sym is ∙ none in cc in
         decided_allowed client s has some
-            (first_conflict S.knows s.snapshot (objects_at catalog S.knows i s.updates)) refl
+        (first_conflict S.knows s.snapshot (objects_at catalog S.knows i s.updates)) refl
 
     -- a slow commit that is decided is told with its version
     version_allowed : (client : ℕ) (s : Session) (tx : Tx) → HasBegun S client s → S.knows.slow s.slow ≡ Decided tx
@@ -240,7 +243,7 @@ module _ (catalog : Catalog) (i : SiteId) (S : Standing) where
         → seq_of i S.knows s.tid ≡ seq → Allows (committing client) (tells_version i seq)
     version_allowed client s tx has is (Some seq) at =
         quiet (committing client) None (Replied (Committed (own_version i seq)))
-            (IsKind.tells_version client s tx seq has is at)
+        (IsKind.tells_version client s tx seq has is at)
     version_allowed client s tx has is None at = refused client (Ok Commit) NoTx
 
     -- one that ended without a commit is told with its cause
@@ -250,7 +253,7 @@ module _ (catalog : Catalog) (i : SiteId) (S : Standing) where
         → Allows (committing client) (tells_cause conflict)
     cause_allowed client s tx asked has is (Some conflict) said =
         quiet (committing client) None (Replied (Aborted (cause_of conflict)))
-            (IsKind.tells_cause client s tx asked conflict has is said)
+        (IsKind.tells_cause client s tx asked conflict has is said)
     cause_allowed client s tx asked has is None said = refused client (Ok Commit) NoTx
 
     -- a Commit whose slow commit is begun is told how it stands
@@ -270,7 +273,7 @@ module _ (catalog : Catalog) (i : SiteId) (S : Standing) where
         open_allowed client s (record { up = up; session = has; is_open = none }) s.updates refl
     slow_allowed client s (suc n) has some =
         decision_allowed client s (record { up = up; session = has; begun = omega (arith, some) })
-            (S.knows.slow (suc n)) (ap S.knows.slow some)
+        (S.knows.slow (suc n)) (ap S.knows.slow some)
 
     -- a Commit, by the session
     commit_allowed : (client : ℕ) (session : Option Session) → session_of S.knows client ≡ session
@@ -286,10 +289,10 @@ module _ (catalog : Catalog) (i : SiteId) (S : Standing) where
         (answers (Level (if undecided then BeingDecided else if open_there then Running else NotCommitted)))
     other_allowed client tid here issued none true open_there is_decided are_open =
         quiet (Given (Call client (Ok (LevelAsked tid)))) None (Replied (Level BeingDecided))
-            (IsKind.is_deciding client tid up)
+        (IsKind.is_deciding client tid up)
     other_allowed client tid here issued none false true is_decided are_open =
         quiet (Given (Call client (Ok (LevelAsked tid)))) None (Replied (Level Running))
-            (IsKind.is_running client tid up)
+        (IsKind.is_running client tid up)
     other_allowed client tid here issued none false false is_decided are_open =
         quiet (Given (Call client (Ok (LevelAsked tid)))) None (Replied (Level NotCommitted))
         (IsKind.denies client tid up here issued none is_decided are_open)
@@ -309,9 +312,9 @@ module _ (catalog : Catalog) (i : SiteId) (S : Standing) where
         → Allows (Given (Call client (Ok Start))) (starts_for i S.knows session)
     start_allowed client None has =
         either (Given (Call client (Ok Start))) (nat_lt (length S.knows.sessions) 256)
-            (answers (Started (next_tid i S.knows))) (refuses SessionsFull)
+        (answers (Started (next_tid i S.knows))) (refuses SessionsFull)
         (λ few. quiet (Given (Call client (Ok Start))) None (Replied (Started (next_tid i S.knows)))
-            (IsKind.starts client up has))
+        (IsKind.starts client up has))
         (λ many. refused client (Ok Start) SessionsFull)
     start_allowed client (Some s) has = refused client (Ok Start) TxOpen
 
@@ -324,26 +327,26 @@ module _ (catalog : Catalog) (i : SiteId) (S : Standing) where
     call_allowed client (Ok (Read oid)) session has =
         let call : Result Request Bad = Ok (Read oid) in
         opened client call session _ has
-            (λ s has_open. regular client call oid (get catalog.containers oid.container) _ refl (λ kind.
+        (λ s has_open. regular client call oid (get catalog.containers oid.container) _ refl (λ kind.
         shown client call s (Value (value_of oid (read_updates S.knows s))) has_open
-            (IsReadCall.of_value oid (read_updates S.knows s))))
+        (IsReadCall.of_value oid (read_updates S.knows s))))
     call_allowed client (Ok (Write oid bytes)) session has =
         let call : Result Request Bad = Ok (Write oid bytes) in
         opened client call session _ has (λ s has_open. regular client call oid (get catalog.containers oid.container)
-            (writes s oid bytes) refl (λ kind.
+        (writes s oid bytes) refl (λ kind.
         either (Given (Call client call)) (nat_lt 4096 (length bytes)) (refuses TooLong)
-            (updates_with s (WriteOf oid bytes))
+        (updates_with s (WriteOf oid bytes))
         (λ long. refused client call TooLong)
         (λ short. placed client call s (WriteOf oid bytes) has_open (IsUpdateCall.of_write oid bytes) kind)))
     call_allowed client (Ok (SetAdd oid id)) session has =
         let call : Result Request Bad = Ok (SetAdd oid id) in
         opened client call session _ has
-            (λ s has_open. cset client call oid (get catalog.containers oid.container) _ refl (λ kind.
+        (λ s has_open. cset client call oid (get catalog.containers oid.container) _ refl (λ kind.
         placed client call s (Add oid id) has_open (IsUpdateCall.of_add oid id) kind))
     call_allowed client (Ok (SetDel oid id)) session has =
         let call : Result Request Bad = Ok (SetDel oid id) in
         opened client call session _ has
-            (λ s has_open. cset client call oid (get catalog.containers oid.container) _ refl (λ kind.
+        (λ s has_open. cset client call oid (get catalog.containers oid.container) _ refl (λ kind.
         placed client call s (Del oid id) has_open (IsUpdateCall.of_del oid id) kind))
     call_allowed client (Ok (SetRead oid)) session has =
         let call : Result Request Bad = Ok (SetRead oid) in
@@ -356,9 +359,9 @@ module _ (catalog : Catalog) (i : SiteId) (S : Standing) where
     call_allowed client (Ok (SetReadId oid id)) session has =
         let call : Result Request Bad = Ok (SetReadId oid id) in
         opened client call session _ has
-            (λ s has_open. cset client call oid (get catalog.containers oid.container) _ refl (λ kind.
+        (λ s has_open. cset client call oid (get catalog.containers oid.container) _ refl (λ kind.
         shown client call s (Count (count_of oid id (read_updates S.knows s))) has_open
-            (IsReadCall.of_count oid id (read_updates S.knows s))))
+        (IsReadCall.of_count oid id (read_updates S.knows s))))
     call_allowed client (Ok Commit) session has = commit_allowed client session has
     call_allowed client (Ok Abort) session has =
         opened client (Ok Abort) session _ has (λ s has_open.
@@ -368,7 +371,7 @@ module _ (catalog : Catalog) (i : SiteId) (S : Standing) where
         either (Given (Call client call)) (not (same_site tid.site i)) (refuses WrongSite) _
         (λ wrong. refused client call WrongSite)
         (λ right. either (Given (Call client call)) (is_issued S.knows tid)
-            (answers (Level (level_of catalog i S.knows tid))) (refuses NotIssued)
+        (answers (Level (level_of catalog i S.knows tid))) (refuses NotIssued)
         (λ issued. level_allowed client tid
-            (same_site-true tid.site i (not-false (same_site tid.site i) right)) issued (seq_of i S.knows tid) refl)
+        (same_site-true tid.site i (not-false (same_site tid.site i) right)) issued (seq_of i S.knows tid) refl)
         (λ not_issued. refused client call NotIssued))

@@ -75,8 +75,11 @@ module _ (catalog : Catalog) (i : SiteId) (S : Standing) where
       → IsTrueOf catalog i S.knows event (after catalog i S.knows event Taken wrote) j packet
       → Allows catalog i S event (takes wrote (back j packet))
   recording event wrote j packet kind so = (
-    record { kind = kind; sent =
-        one_sent catalog i S.knows event (after catalog i S.knows event Taken wrote) j packet so },
+    record {
+      kind = kind;
+      sent =
+          one_sent catalog i S.knows event (after catalog i S.knows event Taken wrote) j packet so;
+    },
     one_in_order (j, packet),
   )
 
@@ -88,12 +91,12 @@ module _ (catalog : Catalog) (i : SiteId) (S : Standing) where
         let next = accepted catalog S.knows j seq tx is in
         let number_is : seq ≡ S.knows.got j + 1 = next.next in
         recording (Given (Deliver j number (Propagate seq tx))) (Some (Got j seq tx)) j (Ack seq)
-            (IsKind.receives j number seq tx peer next)
+        (IsKind.receives j number seq tx peer next)
         (rw (same_site_refl j) (omega (arith, number_is)))
     received seq tx false is =
         let event : Event = Given (Deliver j number (Propagate seq tx)) in
         cond_both (nat_le seq (S.knows.got j)) (back j (Ack (S.knows.got j))) []
-            (λ sends. Allows catalog i S event (passes sends))
+        (λ sends. Allows catalog i S event (passes sends))
         (λ old. answering event j (Ack (S.knows.got j)) (omega arith)) (λ early. passing_quietly event)
 
     -- an ACK that is news
@@ -115,7 +118,7 @@ module _ (catalog : Catalog) (i : SiteId) (S : Standing) where
       above_window seq within =
           let first : ℕ = max (K.acknowledged j) (S.knows.acknowledged j + window) + 1 in
           let least : first ≤ seq =
-              range_from first (min (K.committed i) (K.acknowledged j + window) + 1 - first) seq within in
+          range_from first (min (K.committed i) (K.acknowledged j + window) + 1 - first) seq within in
           let above : 1 ≤ first = omega arith in
           omega (arith, least, above)
 
@@ -148,8 +151,11 @@ module _ (catalog : Catalog) (i : SiteId) (S : Standing) where
         acknowledged_in_order catalog i S.knows K j,
       )
       acked_by false level few = (
-        record { kind = IsKind.hears_ack j number got peer few; sent =
-            window_sent (after catalog i S.knows acked Taken None) refl (λ less. refl) },
+        record {
+          kind = IsKind.hears_ack j number got peer few;
+          sent =
+              window_sent (after catalog i S.knows acked Taken None) refl (λ less. refl);
+        },
         acknowledged_in_order catalog i S.knows K j,
       )
 
@@ -159,7 +165,7 @@ module _ (catalog : Catalog) (i : SiteId) (S : Standing) where
       acknowledged_by true is =
           let parts = and_parts (nat_le got (S.knows.committed i)) (nat_lt (S.knows.acknowledged j) got) is in
           acked_by (nat_lt (durable_mark catalog i S.knows) (durable_mark catalog i K)) refl
-              (leb-true got (S.knows.committed i) parts.0)
+          (leb-true got (S.knows.committed i) parts.0)
       acknowledged_by false is = passing_quietly acked
 
     -- a VISIBLE that is news
@@ -179,7 +185,7 @@ module _ (catalog : Catalog) (i : SiteId) (S : Standing) where
       seen_by true rose few = quiet catalog i S seen
           (Some (Marks (durable_mark catalog i L) (visible_mark catalog i L))) Taken
           (IsKind.marks_visible j number committed L peer few refl
-              (ltb-true (visible_mark catalog i S.knows) (visible_mark catalog i L) rose))
+          (ltb-true (visible_mark catalog i S.knows) (visible_mark catalog i L) rose))
       seen_by false level few = quiet catalog i S seen None Taken (IsKind.hears_visible j number committed peer few)
 
       -- a VISIBLE that isn't news does nothing
@@ -188,7 +194,7 @@ module _ (catalog : Catalog) (i : SiteId) (S : Standing) where
       shown_by true is =
           let parts = and_parts (nat_le committed (S.knows.committed i)) (nat_lt (S.knows.visible j) committed) is in
           seen_by (nat_lt (visible_mark catalog i S.knows) (visible_mark catalog i L)) refl
-              (leb-true committed (S.knows.committed i) parts.0)
+          (leb-true committed (S.knows.committed i) parts.0)
       shown_by false is = passing_quietly seen
 
     -- where a number is greater than what was said before
@@ -206,10 +212,26 @@ module _ (catalog : Catalog) (i : SiteId) (S : Standing) where
       refusal_true : (conflict : Conflict) → S.knows.part j n ≡ Free
           → first_conflict S.knows start objects ≡ Some conflict
           → IsTrueOf catalog i S.knows asked_lock S.knows j (Vote n (No conflict))
-      refusal_true (Modified oid version) free met = record { free = free; number = number; tid = tid; start =
-          start; objects = objects; came = refl; met = met }
-      refusal_true (LockedThere oid owner) free met = record { free = free; number = number; tid = tid; start =
-          start; objects = objects; came = refl; met = met }
+      refusal_true (Modified oid version) free met = record {
+        free = free;
+        number = number;
+        tid = tid;
+        start =
+            start;
+        objects = objects;
+        came = refl;
+        met = met;
+      }
+      refusal_true (LockedThere oid owner) free met = record {
+        free = free;
+        number = number;
+        tid = tid;
+        start =
+            start;
+        objects = objects;
+        came = refl;
+        met = met;
+      }
       refusal_true Dead free met = absurd (first_alive S.knows start objects Dead met refl)
 
       -- a YES with the lock, or a NO
@@ -221,7 +243,7 @@ module _ (catalog : Catalog) (i : SiteId) (S : Standing) where
       free_by regular free None none =
           recording asked_lock (Some (Prepared j n tid objects)) j (Vote n Yes)
           (IsKind.prepares j number n tid start objects peer free
-              (lockable catalog i S.knows start objects regular none))
+          (lockable catalog i S.knows start objects regular none))
           (tid, objects, rw (same_site_refl j, eq-eqb n n refl) refl)
 
       -- by what there is of the slow commit here
@@ -253,7 +275,7 @@ module _ (catalog : Catalog) (i : SiteId) (S : Standing) where
           sent = own_sent catalog i S.knows said_yes
               (after catalog i S.knows said_yes Taken (Some (Own (next_seq i S.knows) tx)))
               S.knows (recorded catalog i (Some (Own (next_seq i S.knows) tx)) S.knows) refl
-                  (rw (same_site_refl i) (omega arith)) refl;
+              (rw (same_site_refl i) (omega arith)) refl;
         },
         own_in_order catalog i S.knows (recorded catalog i (Some (Own (next_seq i S.knows) tx)) S.knows),
       )
@@ -310,7 +332,7 @@ module _ (catalog : Catalog) (i : SiteId) (S : Standing) where
         (takes (Some (Released j n)) (back j (ReleasedSaid n)))
     going n here =
         recording (Given (Deliver j number (Release n))) (Some (Released j n)) j (ReleasedSaid n)
-            (IsKind.releases j number n peer here)
+        (IsKind.releases j number n peer here)
         (rw (same_site_refl j, eq-eqb n n refl) refl)
 
     -- a RELEASE is confirmed
@@ -325,7 +347,7 @@ module _ (catalog : Catalog) (i : SiteId) (S : Standing) where
         → Allows catalog i S (Given (Deliver j number (ReleasedSaid n))) (confirms S.knows j n slow)
     confirmed n (Dropped tx asked) =
         greater (Given (Deliver j number (ReleasedSaid n)))
-            (has_site j asked && not (has_site j (S.knows.said_released n))) (IsKind.hears_released j number n peer)
+        (has_site j asked && not (has_site j (S.knows.said_released n))) (IsKind.hears_released j number n peer)
     confirmed n Unused = passing_quietly (Given (Deliver j number (ReleasedSaid n)))
     confirmed n (Undecided tx asked) = passing_quietly (Given (Deliver j number (ReleasedSaid n)))
     confirmed n (Decided tx) = passing_quietly (Given (Deliver j number (ReleasedSaid n)))
@@ -337,7 +359,7 @@ module _ (catalog : Catalog) (i : SiteId) (S : Standing) where
     packet_allowed (Ack got) = acknowledged_by got (is_news i S.knows (S.knows.acknowledged j) got) refl
     packet_allowed (Dsmark durable) =
         greater (Given (Deliver j number (Dsmark durable))) (nat_lt (S.knows.durable j) durable)
-            (IsKind.hears_durable j number durable peer)
+        (IsKind.hears_durable j number durable peer)
     packet_allowed (Visible committed) = shown_by committed (is_news i S.knows (S.knows.visible j) committed) refl
     packet_allowed (Prepare n tid start objects) =
         lockable_by n tid start objects (are_lockable catalog S.knows i objects) refl

@@ -53,7 +53,7 @@ pub covers_true : (counts : SiteId → ℕ) (snapshot : List ℕ) → covers cou
 covers_true counts snapshot all k = elim (cases_lt k.0 (length snapshot)) [
   | inl within ↦ leb-true (slice_index snapshot k.0) (counts (site_at k.0))
       (each_passes (λ n. nat_le (slice_index snapshot n) (counts (site_at n)))
-          (range_with_len 0 (length snapshot)) k.0 all
+      (range_with_len 0 (length snapshot)) k.0 all
       (in_range 0 (length snapshot) k.0 (omega arith) (omega arith)))
   | inr past ↦ let none : slice_index snapshot k.0 ≡ 0 = get_or_past snapshot k.0 0 past in omega (arith, none)
 ]
@@ -117,9 +117,9 @@ pub lockable : (catalog : Catalog) (i : SiteId) (K : Knowledge) (start : List �
 lockable catalog i K start objects regular none = record {
   here = λ oid within.
       let passes = each_passes (λ o. is_of_kind catalog Regular o && same_site
-          (preferred catalog K o) i) objects oid regular within in
+      (preferred catalog K o) i) objects oid regular within in
       same_site-true (preferred catalog K oid) i
-          (and_parts (is_of_kind catalog Regular oid) (same_site (preferred catalog K oid) i) passes).1;
+      (and_parts (is_of_kind catalog Regular oid) (same_site (preferred catalog K oid) i) passes).1;
   regular = regular;
   clear = none_meets K start objects none;
 }

@@ -29,7 +29,7 @@ module _ (catalog : Catalog) (i : SiteId) (S : Standing) where
   given_allowed : S.up ≡ true → (input : Input) → Allows catalog i S (Given input) (given_rule catalog i S input)
   given_allowed up (Call client call) =
       told_allowed catalog i S client call (S.gone client)
-          (call_rule catalog i S.knows call (session_of S.knows client))
+      (call_rule catalog i S.knows call (session_of S.knows client))
       (call_allowed catalog i S up client call (session_of S.knows client) refl)
   given_allowed up (Deliver from number packet) = deliver_allowed catalog i S up from number packet
   given_allowed up (Advance from) = advance_allowed catalog i S up from

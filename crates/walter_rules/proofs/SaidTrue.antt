@@ -84,10 +84,10 @@ module _ (catalog : Catalog) (i : SiteId) (before : Knowledge) (event : Event) (
       → AreTrueTo to (propagates i L numbers)
   propagates_to to L numbers same above packet within =
       let from = given_from (λ seq. option_map (λ tx. Propagate seq tx)
-          (commit_at i seq L.log)) numbers packet within in
+      (commit_at i seq L.log)) numbers packet within in
       let one = propagated from.0 (commit_at i from.0 L.log) packet from.2 in
       subst (λ p. IsTrueOf catalog i before event K to p) one.2
-          (above from.0 from.1, ap (λ log. commit_at i from.0 log) (sym same) ∙ one.1)
+      (above from.0 from.1, ap (λ log. commit_at i from.0 log) (sym same) ∙ one.1)
 
   -- a durable mark that rose to what it is now
   pub risen_to : (to : SiteId) (was now : ℕ) → (was < now → now ≡ durable_mark catalog i K)
@@ -108,7 +108,7 @@ module _ (catalog : Catalog) (i : SiteId) (before : Knowledge) (event : Event) (
       both_to k _ _
       (where_to k (nat_le (L.committed i) (L.acknowledged k + window)) (propagates i L (L.committed i ∷ [])) (λ near.
       propagates_to k L (L.committed i ∷ []) same
-          (λ seq one. subst (λ n. 0 < n) (Contains-one (L.committed i) seq one) above)))
+      (λ seq one. subst (λ n. 0 < n) (Contains-one (L.committed i) seq one) above)))
       (risen_to k (durable_mark catalog i was) (durable_mark catalog i L) (λ rose. mark)))
 
 -- what is said again at a tick, by what the site knows
@@ -118,7 +118,7 @@ module _ (catalog : Catalog) (i : SiteId) (event : Event) (K : Knowledge) where
       → AreTrueTo catalog i K event K to (prepare_if_waits catalog K to n s)
   waits_true to n (Undecided tx asked) is =
       where_to catalog i K event K to (has_site to asked && not (has_site to (K.said_yes n)))
-          (prepare_of catalog K n tx to ∷ []) (λ waits.
+      (prepare_of catalog K n tx to ∷ []) (λ waits.
       one_to catalog i K event K to (prepare_of catalog K n tx to) (tx, asked, is, refl, refl, refl))
   waits_true to n Unused is = nothing_to catalog i K event K to
   waits_true to n (Dropped tx asked) is = nothing_to catalog i K event K to
@@ -129,7 +129,7 @@ module _ (catalog : Catalog) (i : SiteId) (event : Event) (K : Knowledge) where
       → AreTrueTo catalog i K event K to (release_if_owed K to n s)
   owed_true to n (Dropped tx asked) is =
       where_to catalog i K event K to (has_site to asked && not (has_site to (K.said_released n))) (Release n ∷ [])
-          (λ owed.
+      (λ owed.
       one_to catalog i K event K to (Release n) (tx, asked, is))
   owed_true to n Unused is = nothing_to catalog i K event K to
   owed_true to n (Undecided tx asked) is = nothing_to catalog i K event K to
@@ -153,7 +153,7 @@ module _ (catalog : Catalog) (i : SiteId) (event : Event) (K : Knowledge) where
   window_above : (to : SiteId) (seq : ℕ) → Contains (in_window i K to) seq → 0 < seq
   window_above to seq within =
       let least = range_from (K.acknowledged to + 1)
-          (min (K.committed i) (K.acknowledged to + window) + 1 - (K.acknowledged to + 1)) seq within in
+      (min (K.committed i) (K.acknowledged to + window) + 1 - (K.acknowledged to + 1)) seq within in
       omega (arith, least)
 
   -- all that is said again is so
@@ -162,7 +162,7 @@ module _ (catalog : Catalog) (i : SiteId) (event : Event) (K : Knowledge) where
       both_to catalog i K event K k _ _ (propagates_to catalog i K event K k K (in_window i K k) refl (window_above k))
       (both_to catalog i K event K k _ _ (some_to catalog i K event K k (K.got k) (Ack (K.got k)) (omega arith))
       (both_to catalog i K event K k _ _ (some_to catalog i K event K k (durable_mark catalog i K)
-          (Dsmark (durable_mark catalog i K)) refl)
+      (Dsmark (durable_mark catalog i K)) refl)
       (both_to catalog i K event K k _ _ (some_to catalog i K event K k (K.committed k) (Visible (K.committed k))
-          (omega arith))
+      (omega arith))
       (both_to catalog i K event K k _ _ (all_waits k (from_to 1 K.last)) (all_owed k (from_to 1 K.last)))))))

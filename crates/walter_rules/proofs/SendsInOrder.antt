@@ -60,7 +60,7 @@ module _ {X : Type 0} (R : X → X → Type 0) where
         | inr there ↦ across x y (first_in x xs) there
       ])
       (pairs_append xs ys (pairs_rest x xs first) second
-          (λ z y within there. across z y (later_in x xs z within) there))
+      (λ z y within there. across z y (later_in x xs z within) there))
 
 -- of what is mapped
 pairs_map : {X Y : Type 0} (R : Y → Y → Type 0) (f : X → Y) (xs : List X) → AllPairs (λ a b. R (f a) (f b)) xs
@@ -69,7 +69,7 @@ pairs_map R f [] pairs = pairs_none R
 pairs_map R f (x ∷ xs) pairs =
     pairs_before R (f x) (map f xs)
     (λ y within. let made = made_from f xs y within in
-        subst (R (f x)) made.2 (pairs_first (λ a b. R (f a) (f b)) x xs pairs made.0 made.1))
+    subst (R (f x)) made.2 (pairs_first (λ a b. R (f a) (f b)) x xs pairs made.0 made.1))
     (pairs_map R f xs (pairs_rest (λ a b. R (f a) (f b)) x xs pairs))
 
 -- numbers that rise
@@ -120,7 +120,7 @@ each_in_order (k ∷ ks) packets rise order =
     let sent : SiteId → List Send = λ s. map (λ packet. (s, packet)) (packets s) in
     pairs_append IsSentFirst (sent k) (to_each ks packets)
     (pairs_map IsSentFirst (λ (packet : Packet). (k, packet)) (packets k)
-        (λ a b d before within. inr (refl, order k a b d before within)))
+    (λ a b d before within. inr (refl, order k a b d before within)))
     (each_in_order ks packets (pairs_rest (λ a b. a.0 < b.0) k ks rise) order)
     (λ x y here there.
     let mine = made_from (λ (packet : Packet). (k, packet)) (packets k) x here in
@@ -166,8 +166,11 @@ no_block kind = record { order = pairs_none IsSaidFirst; kinds = λ packet withi
 
 -- and one packet is
 one_block : (packet : Packet) → IsBlock (kind_of packet) (packet ∷ [])
-one_block packet = record { order = pairs_one IsSaidFirst packet; kinds =
-    λ other within. sym (ap kind_of (Contains-one packet other within)) }
+one_block packet = record {
+  order = pairs_one IsSaidFirst packet;
+  kinds =
+      λ other within. sym (ap kind_of (Contains-one packet other within));
+}
 
 -- and what a test lets pass of a block
 where_block : (kind : ℕ) (test : Bool) (packets : List Packet) → IsBlock kind packets
@@ -247,14 +250,14 @@ where_numbered : (kind n : ℕ) (test : Bool) (one packet : Packet) → IsNumber
 where_numbered kind n test one packet is within =
     cond_both test (one ∷ []) [] (λ packets. Contains packets packet → IsNumbered kind n packet)
     (λ there here. subst (IsNumbered kind n) (Contains-one one packet here) is)
-        (λ there here. absurd (Contains-nil packet here)) within
+    (λ there here. absurd (Contains-nil packet here)) within
 
 -- a PREPARE that waits for its vote has the number of its slow commit
 waits_numbered : (catalog : Catalog) (K : Knowledge) (k : SiteId) (n : ℕ) (s : Slow) (packet : Packet)
     → Contains (prepare_if_waits catalog K k n s) packet → IsNumbered 5 n packet
 waits_numbered catalog K k n (Undecided tx asked) packet within =
     where_numbered 5 n (has_site k asked && not (has_site k (K.said_yes n))) (prepare_of catalog K n tx k) packet
-        (refl, refl) within
+    (refl, refl) within
 waits_numbered catalog K k n Unused packet within = absurd (Contains-nil packet within)
 waits_numbered catalog K k n (Dropped tx asked) packet within = absurd (Contains-nil packet within)
 waits_numbered catalog K k n (Decided tx) packet within = absurd (Contains-nil packet within)
@@ -305,7 +308,7 @@ module _ (catalog : Catalog) (i : SiteId) where
       → AreInOrder (to_each (participants catalog K i updates) (λ k. prepare_of catalog K n tx k ∷ []))
   prepares_in_order K updates n tx =
       each_in_order (participants catalog K i updates) (λ k. prepare_of catalog K n tx k ∷ [])
-          (participants_rise catalog K i updates) (λ k.
+      (participants_rise catalog K i updates) (λ k.
       pairs_one IsSaidFirst (prepare_of catalog K n tx k))
 
   -- what is said again
@@ -314,9 +317,9 @@ module _ (catalog : Catalog) (i : SiteId) where
       let numbers : List ℕ = from_to 1 K.last in
       let mark : ℕ = durable_mark catalog i K in
       let waits = numbered_block 5 (λ n. prepare_if_waits catalog K k n (K.slow n))
-          (λ n. waits_numbered catalog K k n (K.slow n)) numbers (range_rises _ _) in
+      (λ n. waits_numbered catalog K k n (K.slow n)) numbers (range_rises _ _) in
       let owed = numbered_block 7 (λ n. release_if_owed K k n (K.slow n))
-          (λ n. owed_numbered K k n (K.slow n)) numbers (range_rises _ _) in
+      (λ n. owed_numbered K k n (K.slow n)) numbers (range_rises _ _) in
       (block_before 1 2 _ _ (omega arith) (propagates_block i K (in_window i K k) (range_rises _ _))
       (block_before 2 3 _ _ (omega arith) (some_block (K.got k) (Ack (K.got k)))
       (block_before 3 4 _ _ (omega arith) (some_block mark (Dsmark mark))

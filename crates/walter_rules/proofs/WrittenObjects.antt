@@ -105,7 +105,7 @@ module _ (catalog : Catalog) (K : Knowledge) (site : SiteId) (updates : List Upd
       → Contains (objects_at catalog K site updates) oid
   in_objects_at oid within here =
       is_kept (λ o. same_site (preferred catalog K o) site) (objects_of updates) oid
-          (in_rising (write_set updates) oid within)
+      (in_rising (write_set updates) oid within)
       (subst (λ s. same_site (preferred catalog K oid) s ≡ true) here (same_site_refl (preferred catalog K oid)))
 
   -- and only those
@@ -121,4 +121,4 @@ module _ (catalog : Catalog) (K : Knowledge) (site : SiteId) (updates : List Upd
   local_at all oid within =
       same_site-true (preferred catalog K oid) site
       (each_passes (λ o. same_site (preferred catalog K o) site) (objects_of updates) oid all
-          (in_rising (write_set updates) oid within))
+      (in_rising (write_set updates) oid within))

@@ -224,7 +224,7 @@ IsTrueOf catalog i before event K to (Dsmark durable) = durable ≡ durable_mark
 IsTrueOf catalog i before event K to (Visible committed) = committed ≤ K.committed to
 IsTrueOf catalog i before event K to (Prepare n tid start objects) =
     (tx : Tx) × (asked : List SiteId) × (K.slow n ≡ Undecided tx asked) × (tid ≡ tx.tid) × (start ≡ tx.start)
-        × (objects ≡ objects_at catalog K to tx.updates)
+    × (objects ≡ objects_at catalog K to tx.updates)
 IsTrueOf catalog i before event K to (Vote n Yes) = (tid : Tid) × (objects : List ObjId)
     × (K.part to n ≡ Locked tid objects)
 IsTrueOf catalog i before event K to (Vote n (No (Modified oid version))) =

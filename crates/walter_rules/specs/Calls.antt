@@ -236,7 +236,7 @@ call_rule catalog i K (Err bad) session = refuses (BadFrame bad.at)
 call_rule catalog i K (Ok Start) session = starts_for i K session
 call_rule catalog i K (Ok (Read oid)) session =
     with_open (open_in session)
-        (λ s. if_regular (get catalog.containers oid.container) (answers (Value (value_of oid (read_updates K s)))))
+    (λ s. if_regular (get catalog.containers oid.container) (answers (Value (value_of oid (read_updates K s)))))
 call_rule catalog i K (Ok (Write oid bytes)) session =
     with_open (open_in session) (λ s. if_regular (get catalog.containers oid.container) (writes s oid bytes))
 call_rule catalog i K (Ok (SetAdd oid id)) session =
@@ -245,10 +245,10 @@ call_rule catalog i K (Ok (SetDel oid id)) session =
     with_open (open_in session) (λ s. if_cset (get catalog.containers oid.container) (updates_with s (Del oid id)))
 call_rule catalog i K (Ok (SetRead oid)) session =
     with_open (open_in session)
-        (λ s. if_cset (get catalog.containers oid.container) (shows (counts_of oid (read_updates K s))))
+    (λ s. if_cset (get catalog.containers oid.container) (shows (counts_of oid (read_updates K s))))
 call_rule catalog i K (Ok (SetReadId oid id)) session =
     with_open (open_in session)
-        (λ s. if_cset (get catalog.containers oid.container) (answers (Count (count_of oid id (read_updates K s)))))
+    (λ s. if_cset (get catalog.containers oid.container) (answers (Count (count_of oid id (read_updates K s)))))
 call_rule catalog i K (Ok Commit) session = commits_for catalog i K session
 call_rule catalog i K (Ok Abort) session = with_open (open_in session) (λ s. answers (Aborted Asked))
 call_rule catalog i K (Ok (LevelAsked tid)) session = tells_level catalog i K tid

@@ -75,7 +75,7 @@ acknowledged_to catalog i before K j k =
 abbrev pub acknowledges : Catalog → SiteId → Knowledge → Knowledge → SiteId → Expected
 acknowledges catalog i before K j =
     takes (if_marks (nat_lt (durable_mark catalog i before) (durable_mark catalog i K)) (durable_mark catalog i K)
-        (visible_mark catalog i K))
+    (visible_mark catalog i K))
     (to_each (peers catalog i) (acknowledged_to catalog i before K j))
 
 abbrev pub if_acknowledged : Bool → Catalog → SiteId → Knowledge → SiteId → ℕ → Expected
@@ -87,7 +87,7 @@ if_acknowledged false catalog i K j got = passes []
 abbrev pub shows_more : Catalog → SiteId → Knowledge → Knowledge → Expected
 shows_more catalog i before K =
     takes (if_marks (nat_lt (visible_mark catalog i before) (visible_mark catalog i K)) (durable_mark catalog i K)
-        (visible_mark catalog i K)) []
+    (visible_mark catalog i K)) []
 
 abbrev pub if_shown : Bool → Catalog → SiteId → Knowledge → SiteId → ℕ → Expected
 if_shown true catalog i K j committed = shows_more catalog i K (record K { visible = risen j committed K.visible })

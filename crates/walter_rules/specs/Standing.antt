@@ -40,8 +40,12 @@ records_after (Some rec) records = records ++ rec ∷ []
 -- a restart found the record in flight in the journal
 abbrev pub settled : Catalog → SiteId → Option Record → Standing → Standing
 settled catalog i None S = S
-settled catalog i (Some rec) S = record S { knows = recorded catalog i (Some rec) S.knows; records =
-    S.records ++ rec ∷ []; flight = None }
+settled catalog i (Some rec) S = record S {
+  knows = recorded catalog i (Some rec) S.knows;
+  records =
+      S.records ++ rec ∷ [];
+  flight = None;
+}
 
 -- whether the site goes down
 abbrev pub goes_down : Event → Outcome → Bool

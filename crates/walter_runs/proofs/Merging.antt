@@ -46,17 +46,17 @@ leads_placed : (a n : Named) (ms : List Named) → precedes a n ≡ true → Lea
 leads_placed a n [] before leads = (before, tt)
 leads_placed a n (m ∷ ms) before leads =
     elim (precedes n m) as (λ b. Leads a (if b then n ∷ m ∷ ms else m ∷ placed n ms)) [
-  | true ↦ (before, leads)
-  | false ↦ (leads.0, leads_placed a n ms before leads.1)
-]
+      | true ↦ (before, leads)
+      | false ↦ (leads.0, leads_placed a n ms before leads.1)
+    ]
 
 placed_in_order : (n : Named) (ms : List Named) → IsInOrder ms → IsInOrder (placed n ms)
 placed_in_order n [] is = (tt, tt)
 placed_in_order n (m ∷ ms) is =
     elim (precedes n m) as (λ b. precedes n m ≡ b → IsInOrder (if b then n ∷ m ∷ ms else m ∷ placed n ms)) [
-  | true ↦ λ before. ((before, leads_on n m ms before is.0), is)
-  | false ↦ λ after. (leads_placed m n ms (precedes_either n m after) is.0, placed_in_order n ms is.1)
-] refl
+      | true ↦ λ before. ((before, leads_on n m ms before is.0), is)
+      | false ↦ λ after. (leads_placed m n ms (precedes_either n m after) is.0, placed_in_order n ms is.1)
+    ] refl
 
 pub in_order_is : (ns : List Named) → IsInOrder (in_order ns)
 in_order_is [] = tt
@@ -73,9 +73,9 @@ entries_of_other : (i : SiteId) (n : Named) (ms : List Named) → same_site i n.
 entries_of_other i n [] other = rw other refl
 entries_of_other i n (m ∷ ms) other =
     elim (precedes n m) as (λ b. entries_of i (if b then n ∷ m ∷ ms else m ∷ placed n ms) ≡ entries_of i (m ∷ ms)) [
-  | true ↦ rw other refl
-  | false ↦ ap (λ es. if same_site i m.0 then m.1 ∷ es else es) (entries_of_other i n ms other)
-]
+      | true ↦ rw other refl
+      | false ↦ ap (λ es. if same_site i m.0 then m.1 ∷ es else es) (entries_of_other i n ms other)
+    ]
 
 -- and one of this site stands before those that are above it
 entries_of_here : (i : SiteId) (n : Named) (ms : List Named) → same_site i n.0 ≡ true
@@ -83,19 +83,19 @@ entries_of_here : (i : SiteId) (n : Named) (ms : List Named) → same_site i n.0
 entries_of_here i n [] here rises = rw here refl
 entries_of_here i n (m ∷ ms) here rises =
     elim (precedes n m) as (λ b. precedes n m ≡ b → entries_of i (if b then n ∷ m ∷ ms else m ∷ placed n ms)
-        ≡ n.1 ∷ entries_of i (m ∷ ms)) [
-  | true ↦ λ before. rw here refl
-  | false ↦ λ after. elim (same_site i m.0) as (λ b. same_site i m.0 ≡ b
-      → Rises n.1.stamp (if b then m.1 ∷ entries_of i ms else entries_of i ms)
-      → (if b then m.1 ∷ entries_of i (placed n ms) else entries_of i (placed n ms)) ≡ n.1 ∷
-      (if b then m.1 ∷ entries_of i ms else entries_of i ms)) [
-    | true ↦ λ mine above.
-        let one : n.0 ≡ m.0 = sym (same_site-true i n.0 here) ∙ same_site-true i m.0 mine in
-        let sooner : precedes n m ≡ true = lower_precedes n m one above.0 in
-        absurd (let clash : true ≡ false = sym sooner ∙ after in cc)
-    | false ↦ λ other above. entries_of_here i n ms here above
-  ] refl rises
-] refl
+    ≡ n.1 ∷ entries_of i (m ∷ ms)) [
+      | true ↦ λ before. rw here refl
+      | false ↦ λ after. elim (same_site i m.0) as (λ b. same_site i m.0 ≡ b
+          → Rises n.1.stamp (if b then m.1 ∷ entries_of i ms else entries_of i ms)
+          → (if b then m.1 ∷ entries_of i (placed n ms) else entries_of i (placed n ms)) ≡ n.1 ∷
+          (if b then m.1 ∷ entries_of i ms else entries_of i ms)) [
+            | true ↦ λ mine above.
+                let one : n.0 ≡ m.0 = sym (same_site-true i n.0 here) ∙ same_site-true i m.0 mine in
+                let sooner : precedes n m ≡ true = lower_precedes n m one above.0 in
+                absurd (let clash : true ≡ false = sym sooner ∙ after in cc)
+            | false ↦ λ other above. entries_of_here i n ms here above
+          ] refl rises
+    ] refl
 
 -- in order a site has the entries that it had, where their stamps rise
 pub entries_of-in_order : (i : SiteId) (low : ℕ) (ns : List Named) → Rises low (entries_of i ns)
@@ -103,23 +103,23 @@ pub entries_of-in_order : (i : SiteId) (low : ℕ) (ns : List Named) → Rises l
 entries_of-in_order i low [] rises = refl
 entries_of-in_order i low (n ∷ ns) rises =
     elim (same_site i n.0) as (λ b. same_site i n.0 ≡ b
-        → Rises low (if b then n.1 ∷ entries_of i ns else entries_of i ns)
-        → entries_of i (placed n (in_order ns)) ≡ (if b then n.1 ∷ entries_of i ns else entries_of i ns)) [
-  | true ↦ λ here above.
-      let same = entries_of-in_order i n.1.stamp ns above.1 in
-      entries_of_here i n (in_order ns) here (subst (λ es. Rises n.1.stamp es) (sym same) above.1)
+    → Rises low (if b then n.1 ∷ entries_of i ns else entries_of i ns)
+    → entries_of i (placed n (in_order ns)) ≡ (if b then n.1 ∷ entries_of i ns else entries_of i ns)) [
+      | true ↦ λ here above.
+          let same = entries_of-in_order i n.1.stamp ns above.1 in
+          entries_of_here i n (in_order ns) here (subst (λ es. Rises n.1.stamp es) (sym same) above.1)
           ∙ ap (λ es. n.1 ∷ es) same
-  | false ↦ λ other above. entries_of_other i n (in_order ns) other ∙ entries_of-in_order i low ns above
-] refl rises
+      | false ↦ λ other above. entries_of_other i n (in_order ns) other ∙ entries_of-in_order i low ns above
+    ] refl rises
 
 pub entries_of-append : (i : SiteId) (ms ns : List Named) → entries_of i (ms ++ ns) ≡ entries_of i ms ++ entries_of i ns
 entries_of-append i [] ns = refl
 entries_of-append i (m ∷ ms) ns =
     elim (same_site i m.0) as (λ b. (if b then m.1 ∷ entries_of i (ms ++ ns) else entries_of i (ms ++ ns))
-        ≡ (if b then m.1 ∷ entries_of i ms else entries_of i ms) ++ entries_of i ns) [
-  | true ↦ ap (λ es. m.1 ∷ es) (entries_of-append i ms ns)
-  | false ↦ entries_of-append i ms ns
-]
+    ≡ (if b then m.1 ∷ entries_of i ms else entries_of i ms) ++ entries_of i ns) [
+      | true ↦ ap (λ es. m.1 ∷ es) (entries_of-append i ms ns)
+      | false ↦ entries_of-append i ms ns
+    ]
 
 pub entries_of-reverse : (i : SiteId) (ns : List Named) → entries_of i (reverse ns) ≡ reverse (entries_of i ns)
 entries_of-reverse i [] = refl
@@ -136,13 +136,16 @@ entries_of-reverse i (n ∷ ns) =
 -- the trail of a site named: all of it for that site, nothing for another
 entries_of_named : (i : SiteId) (k : ℕ) (trail : List Entry)
     → entries_of i (map (λ (e : Entry). (site_at k, e)) trail) ≡ (if nat_eq i.0 k then trail else [])
-entries_of_named i k [] = elim (nat_eq i.0 k) as (λ b. ◌≡◌ {A = List Entry} [] (if b then [] else [])) [ true ↦
-    refl | false ↦ refl ]
+entries_of_named i k [] = elim (nat_eq i.0 k) as (λ b. ◌≡◌ {A = List Entry} [] (if b then [] else [])) [
+  | true ↦
+      refl
+  | false ↦ refl
+]
 entries_of_named i k (e ∷ es) =
     let rest = entries_of_named i k es in
     elim (nat_eq i.0 k) as (λ b. entries_of i (map (λ (e : Entry). (site_at k, e)) es) ≡ (if b then es else [])
-        → (if b then e ∷ entries_of i (map (λ (e : Entry). (site_at k, e)) es) else entries_of i
-        (map (λ (e : Entry). (site_at k, e)) es)) ≡ (if b then e ∷ es else [])) [
+    → (if b then e ∷ entries_of i (map (λ (e : Entry). (site_at k, e)) es) else entries_of i
+    (map (λ (e : Entry). (site_at k, e)) es)) ≡ (if b then e ∷ es else [])) [
       | true ↦ λ same. ap (λ t. e ∷ t) same
       | false ↦ λ none. none
     ] rest

@@ -39,14 +39,14 @@ rises_behind catalog capacity i (e ∷ older) later right rises =
     let above = next_above e.event (clock older) e.stamp right.1.stamp in
     let all = rises_behind catalog capacity i older (e ∷ later) right.0 (above, rises) in
     subst (λ es. Rises 0 es) (sym (ap (λ es. es ++ later) (reverse-append (e ∷ []) older)
-        ∙ append_assoc (reverse older) (e ∷ []) later)) all
+    ∙ append_assoc (reverse older) (e ∷ []) later)) all
 
 -- the stamps of a right trail rise
 pub right_rises : (catalog : Catalog) (capacity : ℕ) (i : SiteId) (trail : List Entry)
     → AreRight catalog capacity i (reverse trail) → Rises 0 trail
 right_rises catalog capacity i trail right =
     subst (λ es. Rises 0 es) (append-nil (reverse (reverse trail)) ∙ reverse-reverse trail)
-        (rises_behind catalog capacity i (reverse trail) [] right tt)
+    (rises_behind catalog capacity i (reverse trail) [] right tt)
 
 -- those before an entry are right, and it is right after them
 right_from : (catalog : Catalog) (capacity : ℕ) (i : SiteId) (newer older : List Entry) (e : Entry)
@@ -80,16 +80,16 @@ named_entry : (j : SiteId) (ns : List Named) (e : Entry) → Contains (entries_o
 named_entry j [] e c = absurd (Contains-nil e c)
 named_entry j (n ∷ ns) e c =
     elim (same_site j n.0) as (λ b. same_site j n.0 ≡ b
-        → Contains (if b then n.1 ∷ entries_of j ns else entries_of j ns) e → Contains (n ∷ ns) (j, e)) [
-  | true ↦ λ here stands. elim (Contains-append_cases (n.1 ∷ []) (entries_of j ns) e stands) [
-    | inl first ↦
-        let one : n.1 ≡ e = Contains-one n.1 e first in
-        let site = same_site-true j n.0 here in
-        subst (λ (m : Named). Contains (n ∷ ns) m) (λ t. (sym site t, one t)) (contains_at (n ∷ ns) n 0 refl)
-    | inr later ↦ Contains-append_right (n ∷ []) ns (j, e) (named_entry j ns e later)
-  ]
-  | false ↦ λ other stands. Contains-append_right (n ∷ []) ns (j, e) (named_entry j ns e stands)
-] refl c
+    → Contains (if b then n.1 ∷ entries_of j ns else entries_of j ns) e → Contains (n ∷ ns) (j, e)) [
+      | true ↦ λ here stands. elim (Contains-append_cases (n.1 ∷ []) (entries_of j ns) e stands) [
+        | inl first ↦
+            let one : n.1 ≡ e = Contains-one n.1 e first in
+            let site = same_site-true j n.0 here in
+            subst (λ (m : Named). Contains (n ∷ ns) m) (λ t. (sym site t, one t)) (contains_at (n ∷ ns) n 0 refl)
+        | inr later ↦ Contains-append_right (n ∷ []) ns (j, e) (named_entry j ns e later)
+      ]
+      | false ↦ λ other stands. Contains-append_right (n ∷ []) ns (j, e) (named_entry j ns e stands)
+    ] refl c
 
 -- what an entry puts out to a site with its stamp
 abbrev stamped_for : SiteId → ℕ → Send → Option Stamped
@@ -104,13 +104,15 @@ sent_by i stamp (s ∷ sends) put packet c = elim (same_site s.0 i) as (λ b. sa
     (put, packet) → (stamp ≡ put) × Contains (s ∷ sends) (i, packet)) [
       | true ↦ λ here stands. elim (Contains-append_cases ((stamp, s.1) ∷ []) (filter_map (stamped_for i stamp) sends)
           (put, packet) stands) [
-        | inl first ↦
-            let one : (stamp, s.1) ≡ (put, packet) = Contains-one (stamp, s.1) (put, packet) first in
-            (ap (λ (z : Stamped). z.0) one, subst (λ (z : Send). Contains (s ∷ sends) z)
-                (λ t. (same_site-true s.0 i here t, (one t).1)) (contains_at (s ∷ sends) s 0 refl))
-        | inr later ↦ let rest = sent_by i stamp sends put packet later in
-            (rest.0, Contains-append_right (s ∷ []) sends (i, packet) rest.1)
-      ]
+            | inl first ↦
+                let one : (stamp, s.1) ≡ (put, packet) = Contains-one (stamp, s.1) (put, packet) first in (
+                  ap (λ (z : Stamped). z.0) one,
+                  subst (λ (z : Send). Contains (s ∷ sends) z)
+                      (λ t. (same_site-true s.0 i here t, (one t).1)) (contains_at (s ∷ sends) s 0 refl),
+                )
+            | inr later ↦ let rest = sent_by i stamp sends put packet later in
+                (rest.0, Contains-append_right (s ∷ []) sends (i, packet) rest.1)
+          ]
       | false ↦ λ other stands. let rest = sent_by i stamp sends put packet stands in
           (rest.0, Contains-append_right (s ∷ []) sends (i, packet) rest.1)
     ] refl c
@@ -139,9 +141,9 @@ in_reverse : {X : Type 0} (xs : List X) (x : X) → Contains xs x → Contains (
 in_reverse [] x c = absurd (Contains-nil x c)
 in_reverse (y ∷ xs) x c = subst (λ zs. Contains zs x) (sym (reverse-append (y ∷ []) xs))
     (elim (Contains-append_cases (y ∷ []) xs x c) [
-  | inl first ↦ Contains-append_right (reverse xs) (y ∷ []) x first
-  | inr later ↦ Contains-append_left (reverse xs) (y ∷ []) x (in_reverse xs x later)
-])
+      | inl first ↦ Contains-append_right (reverse xs) (y ∷ []) x first
+      | inr later ↦ Contains-append_left (reverse xs) (y ∷ []) x (in_reverse xs x later)
+    ])
 
 module _ (catalog : Catalog) (capacity : ℕ) (trails : List (List Entry))
     (are : AreRightTrails catalog capacity trails) where
@@ -168,10 +170,10 @@ module _ (catalog : Catalog) (capacity : ℕ) (trails : List (List Entry))
       ∙ (λ t. entries_of-reverse n.0 older t ++
       (if same_site_refl n.0 t then n.1 ∷ entries_of n.0 rest else entries_of n.0 rest)) in
       let below : n.0.0 < catalog.sites = let l = one_of_trails trails n.0.0 (reverse (entries_of n.0 older))
-          (entries_of n.0 rest) n.1 mine in subst (λ k. n.0.0 < k) are.one_each l in
+      (entries_of n.0 rest) n.1 mine in subst (λ k. n.0.0 < k) are.one_each l in
       let right = subst (λ es. AreRight catalog capacity n.0 (reverse es)) mine (are.right n.0 below).right in
       let behind : reverse (reverse (entries_of n.0 older) ++ n.1 ∷ entries_of n.0 rest) ≡ reverse
-          (entries_of n.0 rest) ++ n.1 ∷ entries_of n.0 older =
+      (entries_of n.0 rest) ++ n.1 ∷ entries_of n.0 older =
       reverse-append (reverse (entries_of n.0 older)) (n.1 ∷ entries_of n.0 rest)
       ∙ (λ t. reverse-append (n.1 ∷ []) (entries_of n.0 rest) t ++ reverse-reverse (entries_of n.0 older) t)
       ∙ append_assoc (reverse (entries_of n.0 rest)) (n.1 ∷ []) (entries_of n.0 older) in
@@ -182,20 +184,24 @@ module _ (catalog : Catalog) (capacity : ℕ) (trails : List (List Entry))
         put = λ j number packet event.
             let place = length (reverse (entries_of n.0 older)) in
             let at : slice_get (trail_of trails n.0) place ≡ Some n.1 = ap (λ es. slice_get es place) mine
-                ∙ at_middle (reverse (entries_of n.0 older)) (entries_of n.0 rest) n.1 in
+            ∙ at_middle (reverse (entries_of n.0 older)) (entries_of n.0 rest) n.1 in
             let link = are.linked n.0 place n.1 j number packet at event in
             let made = Contains-flat_map_from (sent_to n.0) (trail_of trails j) (link.put, packet)
-                (contains_at (put_out_to n.0 (trail_of trails j)) (link.put, packet) link.before link.source) in
+            (contains_at (put_out_to n.0 (trail_of trails j)) (link.put, packet) link.before link.source) in
             let sent = sent_by n.0 made.0.stamp made.0.came.sends link.put packet made.2 in
             let stands : Contains (merge trails) (j, made.0) =
-                named_entry j (merge trails) made.0
-                    (subst (λ es. Contains es made.0) (sym (merged_of j trails (rises_at j))) made.1) in
+            named_entry j (merge trails) made.0
+            (subst (λ es. Contains es made.0) (sym (merged_of j trails (rises_at j))) made.1) in
             let lower : made.0.stamp < n.1.stamp = let l = link.lower in let e = sent.0 in omega (arith, l, e) in
             let before = stands_before (reverse older) rest n (j, made.0)
-                (subst (λ ns. IsInOrder ns) (sym is) (in_order_is (named_from 0 trails)))
-                    (subst (λ ns. Contains ns (j, made.0)) (sym is) stands) lower in
-            record { entry = made.0; here = subst (λ ns. Contains ns (j, made.0)) (reverse-reverse older)
-                (in_reverse (reverse older) (j, made.0) before); sent = sent.1 };
+            (subst (λ ns. IsInOrder ns) (sym is) (in_order_is (named_from 0 trails)))
+            (subst (λ ns. Contains ns (j, made.0)) (sym is) stands) lower in
+            record {
+              entry = made.0;
+              here = subst (λ ns. Contains ns (j, made.0)) (reverse-reverse older)
+                  (in_reverse (reverse older) (j, made.0) before);
+              sent = sent.1;
+            };
       }
 
   run_from : (older rest : List Named) → reverse older ++ rest ≡ merge trails → IsRun catalog capacity older
@@ -204,7 +210,7 @@ module _ (catalog : Catalog) (capacity : ℕ) (trails : List (List Entry))
       ∙ ap (λ ns. reverse ns) (sym (append-nil (reverse older)) ∙ is)) run
   run_from older (n ∷ rest) is run =
       run_from (n ∷ older) rest (ap (λ ns. ns ++ rest) (reverse-append (n ∷ []) older)
-          ∙ append_assoc (reverse older) (n ∷ []) rest ∙ is) (run, next older rest n is)
+      ∙ append_assoc (reverse older) (n ∷ []) rest ∙ is) (run, next older rest n is)
 
   pub merged_run : IsRun catalog capacity (reverse (merge trails))
   merged_run = run_from [] (merge trails) refl tt

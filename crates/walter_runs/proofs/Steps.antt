@@ -44,9 +44,9 @@ planned : (carried : SiteId → ℕ) (all sends : List Send) (dropped : ℕ) (s 
 planned carried all sends dropped s (all_out counts) c = c
 planned carried all sends dropped s (put_out counts one rest more lost is) c =
     elim (Contains-append_cases (one ∷ []) more s c) [
-  | inl first ↦ Contains-append_left (one ∷ []) rest s first
-  | inr later ↦ Contains-append_right (one ∷ []) rest s (planned _ rest more lost s is later)
-]
+      | inl first ↦ Contains-append_left (one ∷ []) rest s first
+      | inr later ↦ Contains-append_right (one ∷ []) rest s (planned _ rest more lost s is later)
+    ]
 planned carried all sends dropped s (drops counts one rest more lost low is) c =
     Contains-append_right (one ∷ []) rest s (planned counts rest more lost s is c)
 
@@ -57,22 +57,22 @@ step_of catalog capacity i S event came (ruled fits is) =
     let all = (rule_allowed catalog i S event).0 in
     stable
     (subst (λ (w : Option Record). IsKind catalog i S event w came.outcome) (sym is.wrote)
-        (subst (λ (o : Outcome). IsKind catalog i S event (rule catalog i S event).wrote o) (sym is.outcome) all.kind))
+    (subst (λ (o : Outcome). IsKind catalog i S event (rule catalog i S event).wrote o) (sym is.outcome) all.kind))
     is.flight
     (λ to packet c.
     subst (λ (w : Option Record). IsTrueOf catalog i S.knows event
-        (after catalog i S.knows event came.outcome w) to packet) (sym is.wrote)
+    (after catalog i S.knows event came.outcome w) to packet) (sym is.wrote)
     (subst (λ (o : Outcome). IsTrueOf catalog i S.knows event
-        (after catalog i S.knows event o (rule catalog i S event).wrote) to packet) (sym is.outcome)
+    (after catalog i S.knows event o (rule catalog i S event).wrote) to packet) (sym is.outcome)
     (all.sent to packet (planned S.carried (rule catalog i S event).sends came.sends came.dropped
-        (to, packet) is.sends c))))
+    (to, packet) is.sends c))))
 step_of catalog capacity i S event came (met_fault rec is fits only) =
     let kind = (rule_allowed catalog i S event).0.kind in
     flies rec (rule catalog i S event).outcome
-        (subst (λ (w : Option Record). IsKind catalog i S event w (rule catalog i S event).outcome) is kind) only
+    (subst (λ (w : Option Record). IsKind catalog i S event w (rule catalog i S event).outcome) is kind) only
 step_of catalog capacity i S event came (unread restart down only) = unread_step restart down only
 step_of catalog capacity i S event came (no_memory takes only) = wants takes only
 step_of catalog capacity i S event came (full rec is low only) =
     let kind = (rule_allowed catalog i S event).0.kind in
     finds_full rec (rule catalog i S event).outcome _ _
-        (subst (λ (w : Option Record). IsKind catalog i S event w (rule catalog i S event).outcome) is kind) only
+    (subst (λ (w : Option Record). IsKind catalog i S event w (rule catalog i S event).outcome) is kind) only
