@@ -1,2 +1,2 @@
-//! What sites that are linked agree on: one lock on an object, one end of a slow commit, and marks that are true.
+//! Lemmas over what sites have, told by bare functions: locks, slow commits, sessions, owners, numbers, logs and marks.
 #![tactic(auto)]

@@ -221,6 +221,7 @@ module _ (catalog : Catalog) (capacity : ℕ) (homes : (oid : ObjId) → (home c
       record {
         newer = at_.0;
         site = p;
+        apart = apart;
         entry = put.entry;
         before = at_.1;
         place = at_.2;

@@ -1,5 +1,5 @@
 -- The conflict that an abort names, where it was found.
-use Rattle.std.specs.Prelude.{◌≡◌, ◌⊎◌, ℕ, List, ◌∷◌, ◌++◌, Some, Contains, Ok}
+use Rattle.std.specs.Prelude.{◌≡◌, ◌≢◌, ◌⊎◌, ℕ, List, ◌∷◌, ◌++◌, Some, Contains, Ok}
 use Rattle.walter_base.specs.declared.catalog.Catalog.{Catalog}
 use Rattle.walter_base.specs.declared.message.Request.TheVariants.{Commit, Abort}
 use Rattle.walter_base.specs.declared.names.ObjId.{ObjId}
@@ -33,6 +33,7 @@ pub record IsMetThere (catalog : Catalog) (older : List Named) (i : SiteId) (s :
     (conflict : Conflict) : Type 0 where
   pub newer : List Named
   pub site : SiteId
+  pub apart : site ≢ i
   pub entry : Entry
   pub before : List Named
   pub place : older ≡ newer ++ (site, entry) ∷ before
