@@ -50,6 +50,7 @@ follow_lost catalog i K (Own seq tx) f = record {
 follow_lost catalog i K (Got j seq tx) f = record {
   booted = f.booted;
   peer = f.peer;
+  sender = f.sender;
   next = f.next;
   covered =
       f.covered;
@@ -177,6 +178,7 @@ module _ (catalog : Catalog) (i : SiteId) (S : Standing) (numbers : Issued) (L :
   kind_follows event wrote outcome (receives j number seq tx from next) = record {
     booted = booted from.up;
     peer = from_peer j from;
+    sender = next.sender;
     next = next.next;
     covered = covers_pass S.knows.got tx.start next.covered;
     declared = next.declared;

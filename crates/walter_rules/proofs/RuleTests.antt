@@ -62,9 +62,16 @@ covers_true counts snapshot all k = elim (cases_lt k.0 (length snapshot)) [
 pub accepted : (catalog : Catalog) (K : Knowledge) (j : SiteId) (seq : ℕ) (tx : Tx)
     → accepts catalog K j seq tx ≡ true → IsNextCommit catalog K j seq tx
 accepted catalog K j seq tx is =
-    let parts = and_parts (nat_eq seq (K.got j + 1)) (covers K.got tx.start && are_declared catalog tx.updates) is in
+    let whole = and_parts (same_site tx.tid.site j)
+    (nat_eq seq (K.got j + 1) && (covers K.got tx.start && are_declared catalog tx.updates)) is in
+    let parts = and_parts (nat_eq seq (K.got j + 1)) (covers K.got tx.start && are_declared catalog tx.updates) whole.1 in
     let rest = and_parts (covers K.got tx.start) (are_declared catalog tx.updates) parts.1 in
-    record { next = eqb-true seq (K.got j + 1) parts.0; covered = covers_true K.got tx.start rest.0; declared = rest.1 }
+    record {
+      sender = same_site-true tx.tid.site j whole.0;
+      next = eqb-true seq (K.got j + 1) parts.0;
+      covered = covers_true K.got tx.start rest.0;
+      declared = rest.1;
+    }
 
 -- each site that was asked has said YES
 pub all_said : (asked said : List SiteId) → list_all (λ k. has_site k said) asked ≡ true → HaveSaidYes asked said

@@ -92,6 +92,7 @@ pub record IsFromPeer (catalog : Catalog) (i : SiteId) (S : Standing) (j : SiteI
   pub apart : j ≢ i
 
 pub record IsNextCommit (catalog : Catalog) (K : Knowledge) (j : SiteId) (seq : ℕ) (tx : Tx) : Type 0 where
+  pub sender : tx.tid.site ≡ j
   pub next : seq ≡ K.got j + 1
   pub covered : Covers K.got tx.start
   pub declared : IsTrue (are_declared catalog tx.updates)

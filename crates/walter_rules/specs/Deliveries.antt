@@ -49,9 +49,12 @@ abbrev pub covers : (SiteId → ℕ) → List ℕ → Bool
 covers counts snapshot = list_all (λ k. nat_le (slice_index snapshot k) (counts (site_at k)))
     (range_with_len 0 (length snapshot))
 
--- a commit of another site is received where it is the next of that site, and what it has seen is received here
+-- a commit of another site is received where it is a transaction of that site and the next of it, what it has seen is
+-- received here, and the catalog has what it changes
 abbrev pub accepts : Catalog → Knowledge → SiteId → ℕ → Tx → Bool
-accepts catalog K j seq tx = nat_eq seq (K.got j + 1) && (covers K.got tx.start && are_declared catalog tx.updates)
+accepts catalog K j seq tx =
+    same_site tx.tid.site j
+    && (nat_eq seq (K.got j + 1) && (covers K.got tx.start && are_declared catalog tx.updates))
 
 abbrev pub if_accepted : Bool → Knowledge → SiteId → ℕ → Tx → Expected
 if_accepted true K j seq tx = takes (Some (Got j seq tx)) (back j (Ack seq))

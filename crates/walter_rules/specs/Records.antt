@@ -30,6 +30,7 @@ pub record IsNextOwn (catalog : Catalog) (i : SiteId) (K : Knowledge) (seq : ℕ
 pub record IsNextGot (catalog : Catalog) (i : SiteId) (K : Knowledge) (j : SiteId) (seq : ℕ) (tx : Tx) : Type 0 where
   pub booted : 0 < K.epoch
   pub peer : IsTrue (is_peer catalog i j)
+  pub sender : tx.tid.site ≡ j
   pub next : seq ≡ K.got j + 1
   pub covered : IsTrue (covers K.got tx.start)
   pub declared : IsTrue (are_declared catalog tx.updates)
