@@ -1,155 +1,25 @@
-"""A plain model of one site: what `walter play --trace` writes of a scenario.
+"""A plain model of Walter: what `walter play --trace` writes of a scenario, of any number of sites.
 
 It says again what docs/SITE.md and docs/FORMATS.md say, and docs/DECISIONS.md of the disk, and shares nothing with the
-program: it keeps the list of committed transactions and computes each answer anew from it, and its disk keeps the writes
-since the last sync. It takes scenarios that are right, and is no checker of them. Nor does it know want of memory, or the
-end of a trail at 100,000 entries.
+program: a site keeps the list of the transactions that it has, and computes each answer anew from it; after a stop it learns
+all its records again. It takes scenarios that are right, and is no checker of them. Nor does it know want of memory, the end
+of a trail at 100,000 entries, or the step that pumps.
 """
 
 import struct
-from collections import Counter
+from collections import Counter, namedtuple
 
-NAMES = ["start", "read", "write", "setadd", "setdel", "setread", "setreadid", "commit", "abort", "level"]
-START, READ, WRITE, SET_ADD, SET_DEL, SET_READ, SET_READ_ID, COMMIT, ABORT, LEVEL = range(1, 11)
-STARTED, VALUE, DONE, SET, COUNT, COMMITTED, ABORTED = range(0x80, 0x87)
-LEVEL_IS, ENDED, UNSURE, REFUSED = 0x88, 0x89, 0x8A, 0xE0
-HEADER = b"WALTERJ1"
+from disks import Disk, Failed, Full, Journal
+from spelled import *
 
+WINDOW = 1
+LANE = 1024
 
-def refusal(number, fields=b""):
-    return bytes([REFUSED, number]) + fields
-
-
-class Failed(Exception):
-    """A call on the disk failed."""
-
-
-class Full(Exception):
-    """The journal has no place: so many bytes are needed, and so many left."""
-
-    def __init__(self, need, left):
-        super().__init__()
-        self.need, self.left = need, left
-
-
-class Disk:
-    """Fails where it is armed to, and from then on until it settles."""
-
-    def __init__(self):
-        self.reads, self.safe, self.pending = bytearray(), bytearray(), []
-        self.arm, self.broken, self.choice = None, False, 0
-
-    def is_failing(self):
-        if not self.broken and self.arm:
-            nth, choice = self.arm
-            self.arm = (nth - 1, choice) if nth > 1 else None
-            if nth == 1:
-                self.broken, self.choice = True, choice
-        return self.broken
-
-    def write(self, at, data):
-        self.pending.append((at, data))
-        if self.is_failing():
-            raise Failed
-        overwrite(self.reads, at, data)
-
-    def sync(self):
-        if self.is_failing():
-            raise Failed
-        self.safe, self.pending = bytearray(self.reads), []
-
-    def read(self):
-        if self.is_failing():
-            raise Failed
-        return bytes(self.reads)
-
-    def settle(self):
-        for at, data in self.pending if self.choice != 0 else []:
-            overwrite(self.safe, at, data if self.choice == 1 else bytes([self.choice % 256]) * len(data))
-        self.reads, self.pending, self.broken = bytearray(self.safe), [], False
-
-
-def overwrite(image, at, data):
-    if at <= len(image):
-        image[at : at + len(data)] = data
-
-
-class Journal:
-    """The bodies behind open gates, and the place of the first closed one."""
-
-    def __init__(self, disk, capacity):
-        self.disk, self.capacity = disk, capacity
-        self.bodies, self.gate = [], len(HEADER)
-        if not disk.reads and not disk.pending:
-            disk.write(0, HEADER + b"\0")
-            disk.sync()
-            return
-        disk.settle()
-        content = disk.read()
-        while content[self.gate] == 1:
-            (length,) = struct.unpack_from(">I", content, self.gate + 1)
-            self.bodies.append(content[self.gate + 5 : self.gate + 5 + length])
-            self.gate += 5 + length
-
-    def append(self, body):
-        need, left = len(body) + 5, max(0, self.capacity - self.gate - 1)
-        if need > left:
-            raise Full(need, left)
-        self.disk.write(self.gate + 1, struct.pack(">I", len(body)) + body + b"\0")
-        self.disk.sync()
-        self.disk.write(self.gate, b"\1")
-        self.disk.sync()
-        self.gate += need
-
-
-class Transaction:
-    """Its name, how many commits its snapshot sees, its updates: (operation, object, bytes or id), and its size."""
-
-    def __init__(self, tid, snapshot):
-        self.tid, self.snapshot, self.updates, self.size = tid, snapshot, [], 87
-
-    def add(self, update):
-        self.updates.append(update)
-        self.size += len(spelled(update))
-
-    def name(self):
-        return struct.pack(">BIQ", *self.tid)
-
-    def writes(self, oid):
-        return any(update[0] == WRITE and update[1] == oid for update in self.updates)
-
-    def record(self, number):
-        vector = struct.pack(">8Q", self.snapshot, *[0] * 7)
-        head = struct.pack(">BQ", 2, number) + self.name() + bytes(8) + vector
-        return head + struct.pack(">H", len(self.updates)) + b"".join(map(spelled, self.updates))
-
-
-def spelled(update):
-    operation, oid, what = update
-    if operation == WRITE:
-        return struct.pack(">BIQI", 1, *oid, len(what)) + what
-    return struct.pack(">BIQQ", 2 if operation == SET_ADD else 3, *oid, what)
-
-
-def request_of(body):
-    """The request: its operation and fields; or None and the place of what is wrong."""
-    shapes = {READ: ">IQ", SET_READ: ">IQ", SET_ADD: ">IQQ", SET_DEL: ">IQQ", SET_READ_ID: ">IQQ", LEVEL: ">BIQ"}
-    operation = body[0] if body else 0
-    if not START <= operation <= LEVEL:
-        return None, 0
-    shape = shapes.get(operation, ">IQI" if operation == WRITE else ">")
-    end = 1 + struct.calcsize(shape)
-    if len(body) < end:
-        return None, len(body)
-    fields = struct.unpack_from(shape, body, 1)
-    if operation == WRITE:
-        value, end = body[end : end + fields[2]], end + fields[2]
-        fields = (*fields[:2], value)
-    if len(body) != end:
-        return None, min(len(body), end)
-    if operation == LEVEL:
-        return operation, fields
-    return operation, fields[:2], *fields[2:]
+Tx = namedtuple("Tx", "tid slow start updates")
+# What an event is to come to: at most one record, an outcome, what changes besides, and what is put out then.
+Plan = namedtuple("Plan", "outcome record change sends", defaults=(None, lambda: None, lambda: []))
+# An entry of a trail. A packet is (its number on its lane, kind, fields).
+Entry = namedtuple("Entry", "stamp event outcome kept wrote flight sends dropped")
 
 
 def meet(met, what, number, limit):
@@ -172,162 +42,468 @@ def calls_of(sent, met):
         sent = sent[4 + length :]
 
 
+def sees(vector, site, number):
+    return number <= vector[site]
+
+
+def covers(vector, other):
+    return all(mine >= theirs for mine, theirs in zip(vector, other))
+
+
+def writes_of(updates):
+    """The regular objects that the updates write, rising."""
+    return sorted({update[1] for update in updates if update[0] == WRITE})
+
+
+class Session:
+    """A client's transaction: its name, its snapshot, its updates, its size, and the number of its slow commit, or 0."""
+
+    def __init__(self, tid, start):
+        self.tid, self.start, self.updates, self.size, self.slow = tid, start, [], 87, 0
+
+    def tx(self, slow=0):
+        return Tx(self.tid, slow, tuple(self.start), tuple(self.updates))
+
+
+class SlowCommit:
+    """A slow commit of this site: its transaction, whom it asks, and how it stands."""
+
+    def __init__(self, tx, asked):
+        self.tx, self.asked, self.stands = tx, asked, "undecided"
+        self.yes, self.confirmed, self.cause = set(), set(), None
+
+    def end(self):
+        if self.stands == "undecided":
+            self.stands = "dropped"
+
+
 class Site:
-    def __init__(self, scenario, met):
-        self.met = met
-        self.kinds = {number: kind for number, kind, _ in scenario["containers"]}
+    """What the rules say of one site. `put_out` has what it sent to each other site; `waiting`, how much has not arrived."""
+
+    def __init__(self, scenario, me, met):
+        self.met, self.me, self.count, self.tolerated = met, me, scenario["sites"], scenario["f"]
+        self.containers = {number: (kind, site) for number, kind, site in scenario["containers"]}
         self.capacity = scenario.get("capacity", 16777216)
+        self.peers = [k for k in range(self.count) if k != me]
         self.disk, self.journal = Disk(), None
-        self.up, self.epoch, self.starts = False, 0, 0
-        self.records, self.flight = [], None
-        self.committed, self.unsure, self.open, self.gone = [], None, {}, {}
-        self.entries = []
+        self.up, self.clock, self.gone = False, 0, {}
+        self.records, self.flight, self.entries = [], None, []
+        self.put_out, self.waiting = {k: [] for k in self.peers}, Counter()
+        self.forget()
         Journal(self.disk, self.capacity)
         self.restart()
 
-    def enter(self, event, outcome, kept=None, wrote=None, flight=None):
-        self.entries.append((event, outcome, kept, wrote, flight))
+    # What the site knows
+
+    def forget(self):
+        """Nothing is known; then what the records tell."""
+        self.epoch, self.log, self.slows, self.last = 0, [], {}, 0
+        self.got, self.committed = [0] * self.count, [0] * self.count
+        self.locks, self.over, self.floors = {}, {k: set() for k in self.peers}, (0, 0)
+        for record in self.records:
+            self.learn(record)
+        self.starts, self.sessions = 0, {}
+        self.acked, self.seen_by, self.durable_at = ({k: 0 for k in self.peers} for _ in range(3))
+
+    def learn(self, record):
+        kind, *fields = record
+        if kind == BOOT:
+            self.epoch = fields[0]
+            for number, slow in self.slows.items():
+                slow.end()
+                slow.confirmed = set()
+                self.locks.pop((self.me, number), None)
+        elif kind == OWN:
+            self.log.append((self.me, *fields))
+            self.got[self.me] = self.committed[self.me] = fields[0]
+            if fields[1].slow:
+                self.slows[fields[1].slow].stands = "decided"
+                self.locks.pop((self.me, fields[1].slow), None)
+        elif kind == GOT:
+            self.log.append(tuple(fields))
+            self.got[fields[0]] = fields[1]
+        elif kind == SEEN:
+            self.committed[fields[0]] = fields[1]
+            slow = self.held(*fields).slow
+            if slow:
+                self.let_go(fields[0], slow)
+        elif kind == PREPARED:
+            self.locks[fields[0], fields[1]] = fields[2], fields[3]
+        elif kind == LET_GO:
+            self.let_go(*fields)
+        elif kind == SLOW_BEGIN:
+            self.last, tx = fields
+            asked = sorted({self.home(oid) for oid in writes_of(tx.updates)} - {self.me})
+            self.slows[self.last] = SlowCommit(tx, asked)
+            self.locks[self.me, self.last] = tx.tid, self.here(tx.updates)
+        elif kind == SLOW_END:
+            self.slows[fields[0]].end()
+            self.locks.pop((self.me, fields[0]), None)
+        elif kind == MARKS:
+            self.floors = tuple(fields)
+
+    def let_go(self, coordinator, slow):
+        self.locks.pop((coordinator, slow), None)
+        self.over[coordinator].add(slow)
+
+    def own(self):
+        return self.committed[self.me]
+
+    def held(self, site, number):
+        return next(tx for other, seq, tx in self.log if (other, seq) == (site, number))
+
+    def home(self, oid):
+        return self.containers[oid[0]][1]
+
+    def here(self, updates, site=None):
+        """The regular objects that the updates write and that are preferred at the site, this one if none is named."""
+        return tuple(oid for oid in writes_of(updates) if self.home(oid) == (self.me if site is None else site))
+
+    def is_declared(self, oid, kind):
+        return self.containers.get(oid[0], ("",))[0] == kind
+
+    def are_declared(self, updates):
+        return all(self.is_declared(oid, "regular" if what == WRITE else "cset") for what, oid, _ in updates)
+
+    def conflict(self, objects, start):
+        for oid in objects:
+            for site, seq, tx in self.log:
+                if not sees(start, site, seq) and oid in writes_of(tx.updates):
+                    return MODIFIED, oid, (site, seq)
+            for owner, locked in self.locks.values():
+                if oid in locked:
+                    return LOCKED, oid, owner
+        return None
+
+    def holders(self, acked, number):
+        return {self.me, *(k for k in self.peers if acked[k] >= number)}
+
+    def marks(self, acked=None, seen_by=None):
+        """The durable and the visible mark, by what peers have said."""
+        acked, seen_by, durable = acked or self.acked, seen_by or self.seen_by, 0
+        for number in range(1, self.own() + 1):
+            holders = self.holders(acked, number)
+            homes = {self.home(oid) for _, oid, _ in self.held(self.me, number).updates}
+            if len(holders) <= self.tolerated or not homes <= holders:
+                break
+            durable = number
+        visible = min([self.own(), *(seen_by[k] for k in self.peers)])
+        return max(self.floors[0], durable), max(self.floors[1], visible)
+
+    # What comes of an event
+
+    def enter(self, stamp, event, outcome, kept=None, wrote=None, flight=None, sends=()):
+        """One more entry. What finds its lane full is dropped, and counted."""
+        self.clock, dropped, out = stamp, 0, []
+        for to, packet in sorted(sends, key=lambda send: (send[0], send[1][0], send[1][1])):
+            if self.waiting[to] == LANE:
+                dropped += 1
+                continue
+            self.waiting[to] += 1
+            self.put_out[to].append((stamp, packet))
+            out.append((to, packet))
+        self.entries.append(Entry(stamp, event, outcome, kept, wrote, flight, out, dropped))
 
     def fall(self):
-        self.gone.update(self.open)
-        self.open, self.up = {}, False
+        self.gone.update({client: session.tid for client, session in self.sessions.items()})
+        self.up = False
+        self.forget()
+
+    def carry_out(self, plan, stamp, event, full=None, failed=None):
+        """Journals the record of a plan, and then carries it out. Gives the outcome."""
+        if plan.record:
+            try:
+                self.journal.append(record_of(plan.record))
+            except Full as found:
+                outcome = full(found) if full else f"full:{found.need}:{found.left}"
+                self.enter(stamp, event, outcome)
+                return outcome
+            except Failed:
+                self.flight = plan.record
+                outcome = failed() if failed else "failed"
+                self.fall()
+                self.enter(stamp, event, outcome, flight=plan.record)
+                return outcome
+            self.records.append(plan.record)
+        commits = plan.record is not None and plan.record[0] == OWN
+        before = self.marks()[0] if commits else 0
+        if plan.record:
+            self.learn(plan.record)
+        plan.change()
+        sends = self.own_sends(before) if commits else plan.sends()
+        self.enter(stamp, event, plan.outcome, wrote=plan.record, sends=sends)
+        return plan.outcome
+
+    def own_sends(self, before):
+        number, durable = self.own(), self.marks()[0]
+        sends = [(k, self.propagate(number)) for k in self.peers if number <= self.acked[k] + WINDOW]
+        return sends + ([(k, (DSMARK, durable)) for k in self.peers] if durable > before else [])
+
+    def propagate(self, number):
+        return PROPAGATE, number, self.held(self.me, number)
 
     def stop(self):
-        outcome = "taken" if self.up else "down"
-        if self.up:
+        was = self.up
+        if was:
             self.fall()
-        self.enter("stop", outcome)
-
-    def find_flight(self):
-        """Takes the record in flight as stable, where the journal has it."""
-        if self.flight is None or len(self.journal.bodies) == len(self.records):
-            return None
-        kept, self.flight = self.flight, None
-        self.records.append(kept)
-        if self.unsure:
-            self.committed.append(self.unsure)
-        else:
-            self.epoch += 1
-        return kept
+        self.enter(self.clock + 1, "stop", "taken" if was else "down")
 
     def restart(self):
+        stamp = self.clock + 1
         if self.up:
-            return self.enter("restart", "passed")
+            return self.enter(stamp, "restart", "passed")
         try:
             self.journal = Journal(self.disk, self.capacity)
         except Failed:
-            return self.enter("restart", "failed")
-        kept = self.find_flight()
-        boot = struct.pack(">BI", 1, self.epoch + 1)
+            return self.enter(stamp, "restart", "failed")
+        kept = None
+        if self.flight and len(self.journal.bodies) > len(self.records):
+            kept = self.flight
+            self.records.append(kept)
+        self.flight = None
+        self.forget()
+        boot = BOOT, self.epoch + 1
         try:
-            self.journal.append(boot)
+            self.journal.append(record_of(boot))
         except Failed:
-            self.flight, self.unsure = boot, None
-            return self.enter("restart", "failed", kept, None, boot)
+            self.flight = boot
+            return self.enter(stamp, "restart", "failed", kept, None, boot)
         except Full as full:
-            self.flight = None
-            return self.enter("restart", f"full:{full.need}:{full.left}", kept)
-        self.flight, self.up, self.epoch, self.starts = None, True, self.epoch + 1, 0
+            return self.enter(stamp, "restart", f"full:{full.need}:{full.left}", kept)
         self.records.append(boot)
-        return self.enter("restart", "taken", kept, boot)
+        self.learn(boot)
+        self.up = True
+        return self.enter(stamp, "restart", "taken", kept, boot)
+
+    def advance(self, j):
+        stamp, event = self.clock + 1, f"advance:{j}"
+        if not self.up:
+            return self.enter(stamp, event, "down")
+        number = self.committed[j] + 1
+        enabled = number <= min(self.got[j], self.durable_at[j]) and covers(self.committed, self.held(j, number).start)
+        plan = Plan("taken", (SEEN, j, number), sends=lambda: [(j, (VISIBLE, number))]) if enabled else Plan("passed")
+        return self.carry_out(plan, stamp, event)
+
+    def tick(self):
+        stamp = self.clock + 1
+        if not self.up:
+            return self.enter(stamp, "tick", "down")
+        return self.enter(stamp, "tick", "passed", sends=[(k, packet) for k in self.peers for packet in self.said_again(k)])
+
+    def said_again(self, k):
+        last = min(self.own(), self.acked[k] + WINDOW)
+        said = [self.propagate(number) for number in range(self.acked[k] + 1, last + 1)]
+        said += [(kind, number) for kind, number in
+                 ((ACK, self.got[k]), (DSMARK, self.marks()[0]), (VISIBLE, self.committed[k])) if number > 0]
+        for number, slow in self.slows.items():
+            if slow.stands == "undecided" and k in slow.asked and k not in slow.yes:
+                said.append(self.prepare(number, k))
+            if slow.stands == "dropped" and k in slow.asked and k not in slow.confirmed:
+                said.append((RELEASE, number))
+        return said
+
+    def prepare(self, number, k):
+        tx = self.slows[number].tx
+        return PREPARE, number, tx.tid, tx.start, self.here(tx.updates, k)
+
+    # Packets
+
+    def deliver(self, j, place, stamp, packet):
+        event, stamp = f"deliver:{j}:{place}:{PACKETS[packet[0] - 1]}", max(self.clock, stamp) + 1
+        if not self.up:
+            return self.enter(stamp, event, "down")
+        hear = [self.hear_propagate, self.hear_ack, self.hear_durable, self.hear_visible, self.hear_prepare, self.hear_vote,
+                self.hear_release, self.hear_released][packet[0] - 1]
+        return self.carry_out(hear(j, *packet[1:]), stamp, event)
+
+    def hear_propagate(self, j, number, tx):
+        if number <= self.got[j]:
+            return Plan("passed", sends=lambda: [(j, (ACK, self.got[j]))])
+        right = tx.tid[0] == j and number == self.got[j] + 1 and covers(self.got, tx.start) and self.are_declared(tx.updates)
+        return Plan("taken", (GOT, j, number, tx), sends=lambda: [(j, (ACK, number))]) if right else Plan("passed")
+
+    def hear_ack(self, j, number):
+        before, own = self.acked[j], self.own()
+        if not before < number <= own:
+            return Plan("passed")
+        marks, acked = self.marks(), {**self.acked, j: number}
+        now = self.marks(acked=acked)
+        new = [k for k in range(number + 1, min(own, number + WINDOW) + 1) if k > before + WINDOW]
+        sends = [(j, self.propagate(k)) for k in new]
+        sends += [(k, (DSMARK, now[0])) for k in self.peers if now[0] > marks[0]]
+        record = (MARKS, *now) if now[0] > marks[0] else None
+        return Plan("taken", record, lambda: self.acked.update(acked), lambda: sends)
+
+    def hear_durable(self, j, number):
+        if number <= self.durable_at[j]:
+            return Plan("passed")
+        return Plan("taken", change=lambda: self.durable_at.update({j: number}))
+
+    def hear_visible(self, j, number):
+        if not self.seen_by[j] < number <= self.own():
+            return Plan("passed")
+        marks, seen_by = self.marks(), {**self.seen_by, j: number}
+        now = self.marks(seen_by=seen_by)
+        record = (MARKS, *now) if now[1] > marks[1] else None
+        return Plan("taken", record, lambda: self.seen_by.update(seen_by))
+
+    def hear_prepare(self, j, number, tid, start, objects):
+        def vote(*answer):
+            return lambda: [(j, (VOTE, number, *answer))]
+
+        if not all(self.is_declared(oid, "regular") and self.home(oid) == self.me for oid in objects):
+            return Plan("passed")
+        if number in self.over[j]:
+            return Plan("passed", sends=vote((DEAD,)))
+        if (j, number) in self.locks:
+            return Plan("passed", sends=vote())
+        conflict = self.conflict(objects, start)
+        if conflict:
+            return Plan("passed", sends=vote(conflict))
+        return Plan("taken", (PREPARED, j, number, tid, objects), sends=vote())
+
+    def hear_vote(self, j, number, conflict=None):
+        slow = self.slows.get(number)
+        if not slow or slow.stands != "undecided" or j not in slow.asked or conflict == (DEAD,):
+            return Plan("passed")
+        if conflict:
+            def blame():
+                slow.cause = conflict
+            return Plan("taken", (SLOW_END, number), blame, lambda: [(k, (RELEASE, number)) for k in slow.asked])
+        if j in slow.yes:
+            return Plan("passed")
+        record = (OWN, self.own() + 1, slow.tx) if slow.yes | {j} == set(slow.asked) else None
+        return Plan("taken", record, lambda: slow.yes.add(j))
+
+    def hear_release(self, j, number):
+        def confirm():
+            return [(j, (RELEASED, number))]
+
+        if number in self.over[j]:
+            return Plan("passed", sends=confirm)
+        return Plan("taken", (LET_GO, j, number), sends=confirm)
+
+    def hear_released(self, j, number):
+        slow = self.slows.get(number)
+        if not slow or slow.stands != "dropped" or j not in slow.asked or j in slow.confirmed:
+            return Plan("passed")
+        return Plan("taken", change=lambda: slow.confirmed.add(j))
+
+    # Calls
 
     def call(self, client, request):
         """The frame of the reply."""
-        wrote = flight = None
-        if request[0] is None:
-            reply = refusal(8, struct.pack(">I", request[1]))
+        operation, *fields = request
+        session = self.sessions.get(client)
+        if operation is None:
+            plan = Plan(refusal(8, struct.pack(">I", fields[0])))
         elif not self.up:
-            reply = refusal(9)
-        elif request[0] == LEVEL:
-            reply = self.level(request[1])
+            plan = Plan(refusal(9))
+        elif operation == LEVEL:
+            plan = Plan(self.level(fields[0]))
         elif client in self.gone:
-            reply = refusal(7, self.gone.pop(client).name())
-        elif request[0] == COMMIT and client in self.open and self.open[client].updates:
-            reply, wrote, flight = self.commit(client)
+            plan = Plan(refusal(7, name_of(self.gone.pop(client))))
+        elif operation == START:
+            plan = self.start(client)
+        elif session is None or session.slow and operation != COMMIT:
+            plan = Plan(refusal(5))
+        elif operation == COMMIT:
+            plan = self.commit(client, session)
+        elif operation == ABORT:
+            plan = Plan(bytes([ABORTED, ASKED]), change=lambda: self.sessions.pop(client))
         else:
-            reply = self.answer(client, *request)
-        name = NAMES[request[0] - 1] if request[0] else "bad"
-        frame = struct.pack(">I", len(reply)) + reply
-        self.enter(f"call:{client}:{name}", "reply:" + frame.hex(), None, wrote, flight)
-        return frame
+            plan = Plan(self.use(session, operation, *fields))
+
+        def failed():
+            del self.sessions[client]
+            return bytes([UNSURE]) + name_of(session.tid)
+
+        framed = plan._replace(outcome="reply:" + framed_hex(plan.outcome))
+        outcome = self.carry_out(
+            framed, self.clock + 1, f"call:{client}:{NAMES[operation - 1] if operation else 'bad'}",
+            lambda full: "reply:" + framed_hex(refusal(10, struct.pack(">QQ", full.need, full.left))),
+            lambda: "reply:" + framed_hex(failed()),
+        )
+        return bytes.fromhex(outcome[len("reply:") :])
 
     def level(self, tid):
         site, epoch, number = tid
-        if site != 0:
+        if site != self.me:
             return refusal(14)
         if not (0 < epoch <= self.epoch and 0 < number and (epoch < self.epoch or number <= self.starts)):
             return refusal(15)
-        if any(transaction.tid == tid for transaction in self.committed):
-            return bytes([LEVEL_IS, 5])
-        return bytes([LEVEL_IS, any(transaction.tid == tid for transaction in self.open.values())])
-
-    def conflict(self, transaction):
-        for oid in sorted({update[1] for update in transaction.updates if update[0] == WRITE}):
-            for number, other in enumerate(self.committed, 1):
-                if number > transaction.snapshot and other.writes(oid):
-                    return struct.pack(">BIQBQ", 1, *oid, 0, number)
-        return None
-
-    def commit(self, client):
-        transaction = self.open[client]
-        conflict = self.conflict(transaction)
-        if conflict:
-            del self.open[client]
-            return bytes([ABORTED]) + conflict, None, None
-        number = len(self.committed) + 1
-        record = transaction.record(number)
-        try:
-            self.journal.append(record)
-        except Full as full:
-            return refusal(10, struct.pack(">QQ", full.need, full.left)), None, None
-        except Failed:
-            del self.open[client]
-            self.flight, self.unsure = record, transaction
-            self.fall()
-            return bytes([UNSURE]) + transaction.name(), None, record
-        del self.open[client]
-        self.committed.append(transaction)
-        self.records.append(record)
-        return struct.pack(">BBQ", COMMITTED, 0, number), record, None
-
-    def answer(self, client, operation, oid=None, what=None):
-        transaction = self.open.get(client)
-        if operation == START:
-            return self.start(client)
-        if transaction is None:
-            return refusal(5)
-        if operation in (COMMIT, ABORT):
-            del self.open[client]
-            return bytes([ENDED]) if operation == COMMIT else bytes([ABORTED, 3])
-        if oid[0] not in self.kinds:
-            return refusal(1)
-        if (operation in (READ, WRITE)) != (self.kinds[oid[0]] == "regular"):
-            return refusal(2)
-        if operation in (WRITE, SET_ADD, SET_DEL):
-            return self.update(transaction, (operation, oid, what))
-        seen = [update for other in self.committed[: transaction.snapshot] for update in other.updates]
-        return self.read(operation, oid, what, seen + transaction.updates)
+        durable, visible = self.marks()
+        for other, seq, tx in self.log:
+            if other == self.me and tx.tid == tid:
+                return bytes([LEVEL_IS, 5 if seq <= visible else 4 if seq <= durable else 3])
+        if any(slow.tx.tid == tid and slow.stands == "undecided" for slow in self.slows.values()):
+            return bytes([LEVEL_IS, 2])
+        return bytes([LEVEL_IS, any(one.tid == tid and not one.slow for one in self.sessions.values())])
 
     def start(self, client):
-        if client in self.open:
-            return refusal(6)
-        meet(self.met, "open transactions", len(self.open) + 1, 256)
-        if len(self.open) >= 256:
-            return refusal(12)
-        self.starts += 1
-        self.open[client] = Transaction((0, self.epoch, self.starts), len(self.committed))
-        return bytes([STARTED]) + self.open[client].name()
+        if client in self.sessions:
+            return Plan(refusal(6))
+        meet(self.met, "open transactions", len(self.sessions) + 1, 256)
+        if len(self.sessions) >= 256:
+            return Plan(refusal(12))
+        tid = self.me, self.epoch, self.starts + 1
 
-    def update(self, transaction, update):
+        def begin():
+            self.starts += 1
+            self.sessions[client] = Session(tid, list(self.committed))
+
+        return Plan(bytes([STARTED]) + name_of(tid), change=begin)
+
+    def commit(self, client, session):
+        def end():
+            del self.sessions[client]
+
+        if session.slow:
+            slow = self.slows[session.slow]
+            if slow.stands == "undecided":
+                return Plan(bytes([DECIDING]) + name_of(session.tid))
+            if slow.stands == "dropped":
+                return Plan(bytes([ABORTED]) + conflict_of(slow.cause), change=end)
+            seq = next(seq for site, seq, tx in self.log if (site, tx.tid) == (self.me, session.tid))
+            return Plan(struct.pack(">BBQ", COMMITTED, self.me, seq), change=end)
+        if not session.updates:
+            return Plan(bytes([ENDED]), change=end)
+        conflict = self.conflict(self.here(session.updates), session.start)
+        if conflict:
+            return Plan(bytes([ABORTED]) + conflict_of(conflict), change=end)
+        if self.here(session.updates) == tuple(writes_of(session.updates)):
+            number = self.own() + 1
+            return Plan(struct.pack(">BBQ", COMMITTED, self.me, number), (OWN, number, session.tx()), end)
+        number = self.last + 1
+
+        def begin():
+            session.slow = number
+
+        return Plan(bytes([DECIDING]) + name_of(session.tid), (SLOW_BEGIN, number, session.tx(number)), begin,
+                    lambda: [(k, self.prepare(number, k)) for k in self.slows[number].asked])
+
+    def use(self, session, operation, oid, what=None):
+        if oid[0] not in self.containers:
+            return refusal(1)
+        if not self.is_declared(oid, "regular" if operation in (READ, WRITE) else "cset"):
+            return refusal(2)
+        if operation in (WRITE, SET_ADD, SET_DEL):
+            return self.update(session, (operation, oid, what))
+        seen = [update for site, seq, tx in self.log if sees(session.start, site, seq) for update in tx.updates]
+        return self.read(operation, oid, what, seen + session.updates)
+
+    def update(self, session, update):
         if update[0] == WRITE:
             meet(self.met, "bytes of a value", len(update[2]), 4096)
             if len(update[2]) > 4096:
                 return refusal(4)
-        meet(self.met, "updates of a transaction", len(transaction.updates) + 1, 256)
-        meet(self.met, "bytes of a transaction", transaction.size + len(spelled(update)), 60000)
-        if len(transaction.updates) >= 256 or transaction.size + len(spelled(update)) > 60000:
+        size = session.size + len(update_of(update))
+        meet(self.met, "updates of a transaction", len(session.updates) + 1, 256)
+        meet(self.met, "bytes of a transaction", size, 60000)
+        if len(session.updates) >= 256 or size > 60000:
             return refusal(3)
-        transaction.add(update)
+        session.updates.append(update)
+        session.size = size
         return bytes([DONE])
 
     def read(self, operation, oid, what, updates):
@@ -348,39 +524,85 @@ class Site:
         return struct.pack(">BI", SET, len(shown)) + b"".join(struct.pack(">Qq", *item) for item in shown)
 
 
-def report(site, clients, replies):
-    lines = [f"sites 1 f 0 clients {len(clients)}"]
+def framed_hex(reply):
+    return (struct.pack(">I", len(reply)) + reply).hex()
+
+
+# The run, and what is written of it
+
+
+def site_line(site):
+    def listed(numbers):
+        return ",".join(map(str, numbers))
+
+    own_or = {kind: [0] * site.count for kind in (GOT, SEEN)}
+    log = []
+    for kind, *fields in site.records:
+        if kind in (OWN, GOT):
+            own_or[GOT][site.me if kind == OWN else fields[0]] += 1
+        if kind in (OWN, SEEN):
+            version = (site.me, fields[0]) if kind == OWN else (fields[0], fields[1])
+            own_or[SEEN][version[0]] += 1
+            log.append("%d:%d" % version)
+    epoch = next((fields[0] for kind, *fields in reversed(site.records) if kind == BOOT), 0)
+    return (f"site {site.me} {'up' if site.up else 'down'} epoch {epoch} events {len(site.entries)} "
+            f"records {len(site.records)} got {listed(own_or[GOT])} committed {listed(own_or[SEEN])} "
+            f"log {','.join(log) or '-'}")
+
+
+def trace_line(site, entry):
+    records = [record_of(record).hex() if record else "-" for record in (entry.kept, entry.wrote, entry.flight)]
+    sends = ",".join(f"{to}:{PACKETS[packet[0] - 1]}" for to, packet in entry.sends) or "-"
+    return f"e {entry.stamp} {site} {entry.event} {entry.outcome} {' '.join(records)} {sends} {entry.dropped}"
+
+
+def report(sites, clients, replies):
+    lines = [f"sites {len(sites)} f {sites[0].tolerated} clients {len(clients)}"]
     for number, frames in enumerate(replies):
-        lines.append(f"client {number} site 0 replies {len(frames)} {b''.join(frames).hex() or '-'}")
-    count = len(site.committed)
-    log = ",".join(f"0:{number}" for number in range(1, count + 1)) or "-"
-    lines.append(
-        f"site 0 {'up' if site.up else 'down'} epoch {site.epoch} events {len(site.entries)} "
-        f"records {len(site.records)} got {count} committed {count} log {log}"
-    )
-    for stamp, (event, outcome, *records) in enumerate(site.entries, 1):
-        spelling = " ".join(record.hex() if record else "-" for record in records)
-        lines.append(f"e {stamp} 0 {event} {outcome} {spelling} - 0")
+        sent = b"".join(frames).hex() or "-"
+        lines.append(f"client {number} site {clients[number][0]} replies {len(frames)} {sent}")
+    lines += map(site_line, sites)
+    merged = sorted(((entry.stamp, site.me, entry) for site in sites for entry in site.entries), key=lambda one: one[:2])
+    lines += [trace_line(site, entry) for _, site, entry in merged]
     return "\n".join(lines) + "\n"
+
+
+class Run:
+    """The sites and the clients of a scenario, and what was answered so far."""
+
+    def __init__(self, scenario, met):
+        self.sites = [Site(scenario, i, met) for i in range(scenario["sites"])]
+        self.clients = scenario["clients"]
+        self.calls = [calls_of(bytes.fromhex(sent), met) for _, sent in self.clients]
+        self.replies = [[] for _ in self.clients]
+        self.arrived = {(i, j): 0 for i in range(len(self.sites)) for j in self.sites[i].peers}
+        for site, *arm in scenario.get("arms", []):
+            self.sites[site].disk.arm = tuple(arm)
+
+    def step(self, word, number, *rest):
+        if word == "call":
+            request = next(self.calls[number], None)
+            if request:
+                self.replies[number].append(self.sites[self.clients[number][0]].call(number, request))
+        elif word == "arm":
+            self.sites[number].disk.arm = tuple(rest)
+        elif word == "deliver":
+            self.deliver(number, *rest)
+        else:
+            getattr(self.sites[number], word)(*rest)
+
+    def deliver(self, i, j, place):
+        """All that was put out to the site arrives, and then the packet is delivered, if there is one of this number."""
+        for k in self.sites[i].peers:
+            self.arrived[i, k] = len(self.sites[k].put_out[i])
+            self.sites[k].waiting[i] = 0
+        if place <= self.arrived[i, j]:
+            self.sites[i].deliver(j, place, *self.sites[j].put_out[i][place - 1])
 
 
 def play(scenario, met):
     """What `walter play --trace` writes of the scenario. Counts in `met` the limits that the run came to."""
-    site = Site(scenario, met)
-    clients = scenario["clients"]
-    calls = [calls_of(bytes.fromhex(sent), met) for _, sent in clients]
-    replies = [[] for _ in clients]
-    for _, nth, choice in scenario.get("arms", []):
-        site.disk.arm = (nth, choice)
-    for word, number, *rest in scenario["steps"]:
-        if word == "call":
-            request = next(calls[number], None)
-            if request:
-                replies[number].append(site.call(number, request))
-        elif word == "arm":
-            site.disk.arm = tuple(rest)
-        elif word == "stop":
-            site.stop()
-        else:
-            site.restart()
-    return report(site, clients, replies)
+    run = Run(scenario, met)
+    for step in scenario["steps"]:
+        run.step(*step)
+    return report(run.sites, run.clients, run.replies)

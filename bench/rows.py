@@ -1,0 +1,327 @@
+#!/usr/bin/env python3
+"""Plays worked runs of several sites in the plain model of model.py, step by step, and says which of them it answers
+otherwise. Each step has what is to come of it, told by hand: a reply, or an outcome with the record and what is put out;
+and of one run the report is told. Ends with status 1 where something isn't met.
+"""
+
+import struct
+import sys
+from collections import Counter
+
+import model
+from spelled import *
+
+REGULAR_AT_0, REGULAR_AT_1, SET_AT_0 = [1, "regular", 0], [2, "regular", 1], [3, "cset", 0]
+RECORDS = [None, "Boot", "Own", "Got", "Seen", "Prepared", "Released", "SlowBegin", "SlowEnd", "Marks"]
+
+
+def frame(body):
+    return struct.pack(">I", len(body)) + body
+
+
+def write(oid, value):
+    return bytes([WRITE]) + struct.pack(">IQ", *oid) + frame(value)
+
+
+def on_set(operation, *fields):
+    return bytes([operation]) + struct.pack(">IQ" + "Q" * (len(fields) - 2), *fields)
+
+
+def level(*tid):
+    return bytes([LEVEL]) + name_of(tid)
+
+
+def read(oid):
+    return bytes([READ]) + struct.pack(">IQ", *oid)
+
+
+START_IT, COMMIT_IT, DONE_IT = bytes([START]), bytes([COMMIT]), bytes([DONE])
+
+
+def started(*tid):
+    return bytes([STARTED]) + name_of(tid)
+
+
+def committed(site, number):
+    return struct.pack(">BBQ", COMMITTED, site, number)
+
+
+def deciding(*tid):
+    return bytes([DECIDING]) + name_of(tid)
+
+
+def locked(oid, tid):
+    return bytes([ABORTED]) + conflict_of((LOCKED, oid, tid))
+
+
+def is_level(number):
+    return bytes([LEVEL_IS, number])
+
+
+def value(content):
+    return bytes([VALUE, 0]) if content is None else bytes([VALUE, 1]) + frame(content)
+
+
+class Row:
+    """A run with the clients that call in it, one at each site that is named, and the steps with what comes of them."""
+
+    def __init__(self, sites, tolerated, containers, at=(), arms=()):
+        scenario = {"sites": sites, "f": tolerated, "containers": containers, "clients": [[site, ""] for site in at],
+                    "arms": list(arms)}
+        self.run, self.wrong = model.Run(scenario, Counter()), []
+
+    def call(self, client, request, reply, record=None, sends=""):
+        site = self.run.sites[self.run.clients[client][0]]
+        site.call(client, request_of(request))
+        self.check((client, request.hex()), site.entries[-1], "reply:" + frame(reply).hex(), record, sends)
+
+    def calls(self, client, *pairs):
+        for request, reply in pairs:
+            self.call(client, request, reply)
+
+    def begins(self, client, tid, *writes):
+        """The client starts, and writes."""
+        self.calls(client, (START_IT, started(*tid)), *((write(oid, content), DONE_IT) for oid, content in writes))
+
+    def step(self, word, site, *rest, to="taken", record=None, sends=""):
+        self.run.step(word, site, *rest)
+        self.check((word, site, *rest), self.run.sites[site].entries[-1], to, record, sends)
+
+    def check(self, what, entry, outcome, record, sends):
+        put_out = ",".join(f"{to}:{PACKETS[packet[0] - 1]} {packet[1]}" for to, packet in entry.sends)
+        found = entry.outcome, RECORDS[entry.wrote[0]] if entry.wrote else None, put_out
+        if found != (outcome, record, sends):
+            self.wrong.append((what, (outcome, record, sends), found))
+
+
+def long_fork():
+    row = Row(2, 0, [REGULAR_AT_0, REGULAR_AT_1], (0, 1))
+    row.begins(0, (0, 1, 1), ((1, 1), b"x"))
+    row.begins(1, (1, 1, 1), ((2, 1), b"y"))
+    row.call(0, COMMIT_IT, committed(0, 1), "Own", "1:propagate 1,1:dsmark 1")
+    row.call(1, COMMIT_IT, committed(1, 1), "Own", "0:propagate 1,0:dsmark 1")
+    row.calls(0, (START_IT, started(0, 1, 2)), (read((1, 1)), value(b"x")), (read((2, 1)), value(None)))
+    row.calls(1, (START_IT, started(1, 1, 2)), (read((1, 1)), value(None)), (read((2, 1)), value(b"y")))
+    return row
+
+
+def a_set_cancels_out():
+    row = Row(2, 0, [SET_AT_0], (0, 1))
+    nothing = bytes.fromhex("8300000000")
+    row.calls(1, (START_IT, started(1, 1, 1)), (on_set(SET_DEL, 3, 1, 9), DONE_IT))
+    row.call(1, COMMIT_IT, committed(1, 1), "Own", "0:propagate 1")
+    less_one = bytes.fromhex("83000000010000000000000009" + "f" * 16)
+    row.calls(1, (START_IT, started(1, 1, 2)), (on_set(SET_READ, 3, 1), less_one), (COMMIT_IT, bytes([ENDED])))
+    row.calls(0, (START_IT, started(0, 1, 1)), (on_set(SET_ADD, 3, 1, 9), DONE_IT))
+    row.call(0, COMMIT_IT, committed(0, 1), "Own", "1:propagate 1,1:dsmark 1")
+    row.step("deliver", 0, 1, 1, record="Got", sends="1:ack 1")
+    row.step("deliver", 1, 0, 1, record="Got", sends="0:ack 1")
+    row.step("deliver", 1, 0, 2)
+    row.step("advance", 1, 0, record="Seen", sends="0:visible 1")
+    row.step("deliver", 1, 0, 3, record="Marks", sends="0:dsmark 1")
+    row.step("deliver", 0, 1, 4)
+    row.step("advance", 0, 1, record="Seen", sends="1:visible 1")
+    row.calls(0, (START_IT, started(0, 1, 2)), (on_set(SET_READ, 3, 1), nothing))
+    row.calls(1, (START_IT, started(1, 1, 3)), (on_set(SET_READ, 3, 1), nothing))
+    return row
+
+
+def one_commit_of_a_set():
+    row = Row(2, 0, [SET_AT_0], (0, 1))
+    row.calls(0, (START_IT, started(0, 1, 1)), (on_set(SET_ADD, 3, 1, 9), DONE_IT))
+    row.call(0, COMMIT_IT, committed(0, 1), "Own", "1:propagate 1,1:dsmark 1")
+    return row
+
+
+def a_repeated_propagate():
+    row = one_commit_of_a_set()
+    row.step("deliver", 1, 0, 1, record="Got", sends="0:ack 1")
+    row.step("deliver", 1, 0, 1, to="passed", sends="0:ack 1")
+    row.step("deliver", 1, 0, 1, to="passed", sends="0:ack 1")
+    row.step("deliver", 1, 0, 2)
+    row.step("advance", 1, 0, record="Seen", sends="0:visible 1")
+    row.calls(1, (START_IT, started(1, 1, 1)), (on_set(SET_READ_ID, 3, 1, 9), bytes.fromhex("840000000000000001")))
+    return row
+
+
+def a_durable_mark_first():
+    row = one_commit_of_a_set()
+    row.step("deliver", 1, 0, 2)
+    row.step("advance", 1, 0, to="passed")
+    row.step("deliver", 1, 0, 1, record="Got", sends="0:ack 1")
+    row.step("advance", 1, 0, record="Seen", sends="0:visible 1")
+    return row
+
+
+def a_cause_comes_first():
+    row = Row(3, 0, [REGULAR_AT_0, REGULAR_AT_1], (0, 1))
+    row.begins(0, (0, 1, 1), ((1, 1), b"a"))
+    row.call(0, COMMIT_IT, committed(0, 1), "Own", "1:propagate 1,1:dsmark 1,2:propagate 1,2:dsmark 1")
+    row.step("deliver", 1, 0, 1, record="Got", sends="0:ack 1")
+    row.step("deliver", 1, 0, 2)
+    row.step("advance", 1, 0, record="Seen", sends="0:visible 1")
+    row.calls(1, (START_IT, started(1, 1, 1)), (read((1, 1)), value(b"a")), (write((2, 1), b"b"), DONE_IT))
+    row.call(1, COMMIT_IT, committed(1, 1), "Own", "0:propagate 1,0:dsmark 1,2:propagate 1,2:dsmark 1")
+    row.step("deliver", 2, 1, 1, to="passed")
+    row.step("deliver", 2, 0, 1, record="Got", sends="0:ack 1")
+    row.step("deliver", 2, 1, 1, record="Got", sends="1:ack 1")
+    row.step("deliver", 2, 1, 2)
+    row.step("deliver", 2, 0, 2)
+    row.step("advance", 2, 1, to="passed")
+    row.step("advance", 2, 0, record="Seen", sends="0:visible 1")
+    row.step("advance", 2, 1, record="Seen", sends="1:visible 1")
+    return row
+
+
+def a_slow_commit():
+    row = Row(2, 0, [REGULAR_AT_0], (0, 1))
+    row.begins(1, (1, 1, 1), ((1, 5), b"s"))
+    row.call(1, COMMIT_IT, deciding(1, 1, 1), "SlowBegin", "0:prepare 1")
+    row.begins(0, (0, 1, 1), ((1, 5), b"t"))
+    row.step("deliver", 0, 1, 1, record="Prepared", sends="1:vote 1")
+    row.call(0, COMMIT_IT, locked((1, 5), (1, 1, 1)))
+    row.step("deliver", 1, 0, 1, record="Own", sends="0:propagate 1")
+    row.call(1, COMMIT_IT, committed(1, 1))
+    return row
+
+
+def a_report():
+    """The report of that run: the bytes of the clients are frames."""
+    sent = [b"".join(map(frame, bodies)).hex() for bodies in (
+        (START_IT, write((1, 5), b"t"), COMMIT_IT), (START_IT, write((1, 5), b"s"), COMMIT_IT, COMMIT_IT))]
+    steps = [["call", 1]] * 3 + [["call", 0]] * 2 + [["deliver", 0, 1, 1], ["call", 0], ["deliver", 1, 0, 1], ["call", 1]]
+    scenario = {"sites": 2, "f": 0, "containers": [REGULAR_AT_0], "clients": [[0, sent[0]], [1, sent[1]]], "steps": steps}
+    wanted = [
+        "sites 2 f 0 clients 2",
+        "client 0 site 0 replies 3 0000000e80000000000100000000000000010000000182"
+        "0000001b860200000001000000000000000501000000010000000000000001",
+        "client 1 site 1 replies 4 0000000e80010000000100000000000000010000000182"
+        "0000000e87010000000100000000000000010000000a85010000000000000001",
+        "site 0 up epoch 1 events 5 records 2 got 0,0 committed 0,0 log -",
+        "site 1 up epoch 1 events 6 records 3 got 0,1 committed 0,1 log 1:1",
+    ]
+    row = Row(1, 0, [])
+    found = model.play(scenario, Counter()).split("\n")
+    row.wrong = [("the report", *pair) for pair in zip(wanted, found) if pair[0] != pair[1]]
+    return row
+
+
+def two_slow_commits_that_cross():
+    row = Row(4, 0, [REGULAR_AT_0, REGULAR_AT_1], (2, 3, 0))
+    for client, site in ((0, 2), (1, 3)):
+        row.begins(client, (site, 1, 1), ((1, 1), b"a"), ((2, 1), b"a"))
+        row.call(client, COMMIT_IT, deciding(site, 1, 1), "SlowBegin", "0:prepare 1,1:prepare 1")
+    row.step("deliver", 0, 2, 1, record="Prepared", sends="2:vote 1")
+    row.step("deliver", 1, 3, 1, record="Prepared", sends="3:vote 1")
+    row.step("deliver", 0, 3, 1, to="passed", sends="3:vote 1")
+    row.step("deliver", 1, 2, 1, to="passed", sends="2:vote 1")
+    row.step("deliver", 2, 1, 1, record="SlowEnd", sends="0:release 1,1:release 1")
+    row.call(0, level(2, 1, 1), is_level(0))
+    row.call(0, COMMIT_IT, locked((2, 1), (3, 1, 1)))
+    row.step("deliver", 2, 0, 1, to="passed")
+    row.step("deliver", 3, 0, 1, record="SlowEnd", sends="0:release 1,1:release 1")
+    row.call(1, COMMIT_IT, locked((1, 1), (2, 1, 1)))
+    row.step("deliver", 0, 2, 2, record="Released", sends="2:released 1")
+    row.begins(2, (0, 1, 1), ((1, 1), b"c"))
+    everyone = ",".join(f"{k}:propagate 1,{k}:dsmark 1" for k in (1, 2, 3))
+    row.call(2, COMMIT_IT, committed(0, 1), "Own", everyone)
+    return row
+
+
+def a_prepare_comes_late():
+    row = Row(2, 0, [REGULAR_AT_0], (0, 1))
+    row.begins(1, (1, 1, 1), ((1, 5), b"a"))
+    row.call(1, COMMIT_IT, deciding(1, 1, 1), "SlowBegin", "0:prepare 1")
+    row.step("stop", 1)
+    row.step("restart", 1, record="Boot")
+    row.step("tick", 1, to="passed", sends="0:release 1")
+    row.step("deliver", 0, 1, 2, record="Released", sends="1:released 1")
+    row.step("stop", 0)
+    row.step("restart", 0, record="Boot")
+    row.step("deliver", 0, 1, 1, to="passed", sends="1:vote 1")
+    row.begins(0, (0, 2, 1), ((1, 5), b"b"))
+    row.call(0, COMMIT_IT, committed(0, 1), "Own", "1:propagate 1,1:dsmark 1")
+    row.step("deliver", 1, 0, 2, to="passed")
+    return row
+
+
+def a_stop_at_the_gate(choice, how_far):
+    row = Row(2, 1, [REGULAR_AT_0], (0,), [[0, 3, choice]])
+    row.begins(0, (0, 1, 1), ((1, 5), b"a"))
+    row.call(0, COMMIT_IT, bytes([UNSURE]) + name_of((0, 1, 1)))
+    row.call(0, START_IT, refusal(9))
+    row.step("restart", 0, record="Boot")
+    row.call(0, level(0, 1, 1), is_level(how_far))
+    return row
+
+
+def locks_outlive_a_stop():
+    row = Row(3, 0, [REGULAR_AT_0, REGULAR_AT_1], (2, 0))
+    row.begins(0, (2, 1, 1), ((1, 1), b"a"), ((2, 1), b"a"))
+    row.call(0, COMMIT_IT, deciding(2, 1, 1), "SlowBegin", "0:prepare 1,1:prepare 1")
+    row.step("deliver", 0, 2, 1, record="Prepared", sends="2:vote 1")
+    row.step("deliver", 1, 2, 1, record="Prepared", sends="2:vote 1")
+    row.step("stop", 2)
+    row.step("restart", 2, record="Boot")
+    row.call(0, COMMIT_IT, refusal(7, name_of((2, 1, 1))))
+    row.step("stop", 0)
+    row.step("restart", 0, record="Boot")
+    row.begins(1, (0, 2, 1), ((1, 1), b"b"))
+    row.call(1, COMMIT_IT, locked((1, 1), (2, 1, 1)))
+    row.step("tick", 2, to="passed", sends="0:release 1,1:release 1")
+    row.step("deliver", 0, 2, 2, record="Released", sends="2:released 1")
+    row.begins(1, (0, 2, 2), ((1, 1), b"b"))
+    row.call(1, COMMIT_IT, committed(0, 1), "Own", "1:propagate 1,1:dsmark 1,2:propagate 1,2:dsmark 1")
+    return row
+
+
+def durable_and_then_visible():
+    row = Row(3, 1, [[3, "cset", 2]], (0,))
+    row.calls(0, (START_IT, started(0, 1, 1)), (on_set(SET_ADD, 3, 1, 9), DONE_IT))
+    row.call(0, COMMIT_IT, committed(0, 1), "Own", "1:propagate 1,2:propagate 1")
+    row.step("deliver", 1, 0, 1, record="Got", sends="0:ack 1")
+    row.step("deliver", 0, 1, 1)
+    row.call(0, level(0, 1, 1), is_level(3))
+    row.step("deliver", 2, 0, 1, record="Got", sends="0:ack 1")
+    row.step("deliver", 0, 2, 1, record="Marks", sends="1:dsmark 1,2:dsmark 1")
+    row.call(0, level(0, 1, 1), is_level(4))
+    row.step("deliver", 1, 0, 2)
+    row.step("advance", 1, 0, record="Seen", sends="0:visible 1")
+    row.step("deliver", 0, 1, 2)
+    row.call(0, level(0, 1, 1), is_level(4))
+    row.step("deliver", 2, 0, 2)
+    row.step("advance", 2, 0, record="Seen", sends="0:visible 1")
+    row.step("deliver", 0, 2, 2, record="Marks")
+    row.call(0, level(0, 1, 1), is_level(5))
+    return row
+
+
+ROWS = {
+    "a long fork": long_fork,
+    "a set cancels out": a_set_cancels_out,
+    "a repeated PROPAGATE is received once": a_repeated_propagate,
+    "a durable mark comes first": a_durable_mark_first,
+    "a cause comes before its effect": a_cause_comes_first,
+    "a slow commit locks and commits": a_slow_commit,
+    "its report": a_report,
+    "two slow commits cross": two_slow_commits_that_cross,
+    "a PREPARE comes late": a_prepare_comes_late,
+    "a commit at whose gate the disk fails is found": lambda: a_stop_at_the_gate(1, 3),
+    "a commit at whose gate the disk fails is lost": lambda: a_stop_at_the_gate(7, 0),
+    "locks outlive a stop": locks_outlive_a_stop,
+    "a commit is durable and then visible": durable_and_then_visible,
+}
+
+
+def main():
+    failed = 0
+    for name, play in ROWS.items():
+        for what, wanted, found in play().wrong:
+            failed += 1
+            print(f"{name}: at {what}\n  wanted {wanted}\n  found  {found}")
+    print(f"{len(ROWS)} runs, {failed} steps that differ")
+    sys.exit(failed > 0)
+
+
+if __name__ == "__main__":
+    main()
