@@ -206,7 +206,8 @@ def a_report():
     return row
 
 
-def two_slow_commits_that_cross():
+def crossing():
+    """Two slow commits of the same objects have begun, and each has a YES and a NO on its way."""
     row = Row(4, 0, [REGULAR_AT_0, REGULAR_AT_1], (2, 3, 0))
     for client, site in ((0, 2), (1, 3)):
         row.begins(client, (site, 1, 1), ((1, 1), b"a"), ((2, 1), b"a"))
@@ -215,6 +216,32 @@ def two_slow_commits_that_cross():
     row.step("deliver", 1, 3, 1, record="Prepared", sends="3:vote 1")
     row.step("deliver", 0, 3, 1, to="passed", sends="3:vote 1")
     row.step("deliver", 1, 2, 1, to="passed", sends="2:vote 1")
+    return row
+
+
+TO_ALL_BUT_0 = ",".join(f"{k}:propagate 1,{k}:dsmark 1" for k in (1, 2, 3))
+
+
+def the_run_that_is_told():
+    """As docs/SITE.md tells it."""
+    row = crossing()
+    row.step("deliver", 2, 0, 1)
+    row.step("deliver", 2, 1, 1, record="SlowEnd", sends="0:release 1,1:release 1")
+    row.step("deliver", 3, 0, 1, record="SlowEnd", sends="0:release 1,1:release 1")
+    row.step("deliver", 3, 1, 1, to="passed")
+    row.call(0, level(2, 1, 1), is_level(0))
+    row.call(0, COMMIT_IT, locked((2, 1), (3, 1, 1)))
+    row.call(1, COMMIT_IT, locked((1, 1), (2, 1, 1)))
+    row.step("deliver", 0, 2, 2, record="Released", sends="2:released 1")
+    row.begins(2, (0, 1, 1), ((1, 1), b"c"))
+    row.call(2, COMMIT_IT, committed(0, 1), "Own", TO_ALL_BUT_0)
+    row.step("deliver", 0, 3, 2, record="Released", sends="3:released 1")
+    row.step("deliver", 0, 3, 1, to="passed", sends="3:vote 1")
+    return row
+
+
+def two_slow_commits_that_cross():
+    row = crossing()
     row.step("deliver", 2, 1, 1, record="SlowEnd", sends="0:release 1,1:release 1")
     row.call(0, level(2, 1, 1), is_level(0))
     row.call(0, COMMIT_IT, locked((2, 1), (3, 1, 1)))
@@ -223,8 +250,7 @@ def two_slow_commits_that_cross():
     row.call(1, COMMIT_IT, locked((1, 1), (2, 1, 1)))
     row.step("deliver", 0, 2, 2, record="Released", sends="2:released 1")
     row.begins(2, (0, 1, 1), ((1, 1), b"c"))
-    everyone = ",".join(f"{k}:propagate 1,{k}:dsmark 1" for k in (1, 2, 3))
-    row.call(2, COMMIT_IT, committed(0, 1), "Own", everyone)
+    row.call(2, COMMIT_IT, committed(0, 1), "Own", TO_ALL_BUT_0)
     return row
 
 
@@ -304,6 +330,7 @@ ROWS = {
     "a cause comes before its effect": a_cause_comes_first,
     "a slow commit locks and commits": a_slow_commit,
     "its report": a_report,
+    "the run that docs/SITE.md tells": the_run_that_is_told,
     "two slow commits cross": two_slow_commits_that_cross,
     "a PREPARE comes late": a_prepare_comes_late,
     "a commit at whose gate the disk fails is found": lambda: a_stop_at_the_gate(1, 3),
