@@ -114,7 +114,7 @@ lost_recorded catalog i K (SlowEnd n) = refl
 lost_recorded catalog i K (Marks durable visible) = refl
 
 -- no more numbers pass than there are
-passed_within : (test : ℕ → Bool) (n : ℕ) → passed test n ≤ n
+pub passed_within : (test : ℕ → Bool) (n : ℕ) → passed test n ≤ n
 passed_within test zero = omega arith
 passed_within test (suc n) = elim (nat_eq (passed test n) n && test (suc n)) as
     (λ b. (if b then suc n else passed test n) ≤ suc n) [
@@ -122,15 +122,16 @@ passed_within test (suc n) = elim (nat_eq (passed test n) n && test (suc n)) as
       | false ↦ let less = passed_within test n in omega (arith, less)
     ]
 
--- an object that meets no conflict has no owner
-over_none : (oid : ObjId) (version : Option Version) (owner : Option Tid) → conflict_over oid version owner ≡ None
-    → owner ≡ None
+-- an object that meets no conflict has no version outside the snapshot, and no owner
+pub over_none : (oid : ObjId) (version : Option Version) (owner : Option Tid) → conflict_over oid version owner ≡ None
+    → (version ≡ None) × (owner ≡ None)
 over_none oid (Some version) owner none = absurd cc
 over_none oid None (Some tid) none = absurd cc
-over_none oid None None none = refl
+over_none oid None None none = (refl, refl)
 
 pub unowned : (K : Knowledge) (snapshot : List ℕ) (oid : ObjId) → conflict_at K snapshot oid ≡ None → K.owner oid ≡ None
-unowned K snapshot oid none = over_none oid (first_outside snapshot (map version_of (row oid K.log))) (K.owner oid) none
+unowned K snapshot oid none =
+    (over_none oid (first_outside snapshot (map version_of (row oid K.log))) (K.owner oid) none).1
 
 -- the marks rise, and stay below the own commits
 marks_rise : (catalog : Catalog) (i : SiteId) (before K : Knowledge) → 0 < before.epoch

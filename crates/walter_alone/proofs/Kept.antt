@@ -96,11 +96,11 @@ own_grows i (Some (Got from seq tx)) log q r is = own_grows_by i log (record { s
 own_grows i (Some rec) log q r is = is
 
 -- what is committed grows
-one_more_grows : (j : SiteId) (counts : SiteId → ℕ) (k : SiteId) → counts k ≤ one_more j counts k
+pub one_more_grows : (j : SiteId) (counts : SiteId → ℕ) (k : SiteId) → counts k ≤ one_more j counts k
 one_more_grows j counts k = elim (same_site j k) as
     (λ b. counts k ≤ (if b then counts k + 1 else counts k)) [ true ↦ omega arith | false ↦ omega arith ]
 
-committed_grows : (i : SiteId) (wrote : Option Record) (committed : SiteId → ℕ) (k : SiteId)
+pub committed_grows : (i : SiteId) (wrote : Option Record) (committed : SiteId → ℕ) (k : SiteId)
     → committed k ≤ committed_after i wrote committed k
 committed_grows i None committed k = omega arith
 committed_grows i (Some (Own seq tx)) committed k = one_more_grows i committed k

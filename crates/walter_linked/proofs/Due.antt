@@ -7,13 +7,11 @@ use Rattle.walter_base.specs.declared.catalog.Catalog.{Catalog}
 use Rattle.walter_base.specs.declared.message.Record.{Record}
 use Rattle.walter_base.specs.declared.names.ObjId.{ObjId}
 use Rattle.walter_base.specs.declared.names.SiteId.{SiteId}
-use Rattle.walter_base.specs.declared.names.Tid.{Tid}
-use Rattle.walter_base.specs.declared.names.Version.{Version}
 use Rattle.walter_base.specs.declared.packet.Answer.TheVariants.{Yes}
 use Rattle.walter_base.specs.declared.packet.Packet.{Packet}
 use Rattle.walter_base.specs.declared.packet.Packet.TheVariants.{Propagate, Prepare, Vote, Release}
 use Rattle.walter_base.specs.declared.transaction.Tx.{Tx}
-use Rattle.walter_base.specs.Conflicts.{sees_version, first_outside, conflict_over}
+use Rattle.walter_base.specs.Conflicts.{sees_version, first_outside}
 use Rattle.walter_base.specs.Values.{write_set}
 use Rattle.walter_base.specs.Vectors.{entry_at}
 use Rattle.walter_psi.proofs.Lists.{Contains-nil, contains_at, place_of}
@@ -34,6 +32,7 @@ use Rattle.walter_agreement.proofs.Cases.{object_is_in}
 use Rattle.walter_agreement.proofs.Lists.{place_mapped}
 use Rattle.walter_agreement.proofs.Owners.{unowned_unlocked}
 use Rattle.walter_alone.proofs.Alone.{IsAlone, home}
+use Rattle.walter_alone.proofs.Followed.{over_none, unowned}
 use Rattle.walter_linked.proofs.Agreed.{Stands, Put, logs, parts, counts, slows, IsDue, AreAgreed}
 
 -- what is first of nothing isn't there
@@ -44,13 +43,6 @@ none_first (y ∷ ys) x none within = absurd cc
 -- an image of what a list contains
 mapped : {X Y : Type 0} (f : X → Y) (xs : List X) (x : X) → Contains xs x → Contains (map f xs) (f x)
 mapped f xs x within = let p = place_of xs x within in contains_at (map f xs) (f x) p.0 (place_mapped f xs x p.0 p.1)
-
--- an object without a conflict has neither a version outside nor an owner
-over_none : (oid : ObjId) (version : Option Version) (owner : Option Tid) → conflict_over oid version owner ≡ None
-    → (version ≡ None) × (owner ≡ None)
-over_none oid (Some version) owner none = absurd cc
-over_none oid None (Some owner) none = absurd cc
-over_none oid None None none = (refl, refl)
 
 module _ (K : Knowledge) (snapshot : List ℕ) (oid : ObjId) (clear : conflict_at K snapshot oid ≡ None) where
   pub clear_sees : (r : Held) (p : ℕ) → slice_get K.log p ≡ Some r → Contains (write_set r.tx.updates) oid
@@ -68,7 +60,7 @@ module _ (K : Knowledge) (snapshot : List ℕ) (oid : ObjId) (clear : conflict_a
   ]
 
   pub clear_unowned : K.owner oid ≡ None
-  clear_unowned = (over_none oid (first_outside snapshot (map version_of (row oid K.log))) (K.owner oid) clear).1
+  clear_unowned = unowned K snapshot oid clear
 
 module _ (catalog : Catalog) (homes : (oid : ObjId) → (home catalog oid).0 < catalog.sites) (W : Stands) (put : Put)
     (A : AreAgreed catalog W put) (i : SiteId) (alone : IsAlone catalog i (W i)) where

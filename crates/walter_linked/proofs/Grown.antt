@@ -16,12 +16,11 @@ use Rattle.walter_base.specs.declared.packet.Packet.TheVariants.{Propagate, Ack,
 use Rattle.walter_base.specs.declared.transaction.Conflict.{Conflict}
 use Rattle.walter_base.specs.declared.transaction.Conflict.TheVariants.{Modified, Locked as LockedThere, Dead}
 use Rattle.walter_base.specs.declared.transaction.Tx.{Tx}
-use Rattle.walter_base.specs.Names.{same_site}
 use Rattle.walter_base.specs.Values.{write_set}
 use Rattle.walter_base.specs.Vectors.{entry_at}
 use Rattle.walter_rules.specs.declared.held.Held.{Held}
 use Rattle.walter_rules.specs.Knowledge.{Knowledge}
-use Rattle.walter_rules.specs.Learning.{recorded, lost, log_after, one_more, got_after, committed_after, slow_after, part_after, part_over, part_unlocked, slow_number}
+use Rattle.walter_rules.specs.Learning.{recorded, lost, log_after, got_after, committed_after, slow_after, part_after, part_over, part_unlocked, slow_number}
 use Rattle.walter_rules.specs.Log.{is_of, of_site, commit_at}
 use Rattle.walter_rules.specs.Slow.{Slow, Unused, Undecided, Dropped, Decided, Free, Locked, Over, begun, ended, decided, is_slow}
 use Rattle.walter_rules.specs.Standing.{Standing}
@@ -29,6 +28,7 @@ use Rattle.walter_agreement.specs.Locking.{IsUnmodified, IsUnlocked}
 use Rattle.walter_agreement.proofs.Cases.{site_cases, slow_cases, not_unused}
 use Rattle.walter_agreement.proofs.Lists.{IsPrefix, prefix_refl, prefix_more, prefix_get}
 use Rattle.walter_alone.proofs.Alone.{home}
+use Rattle.walter_alone.proofs.Kept.{one_more_grows, committed_grows}
 use Rattle.walter_linked.proofs.Agreed.{Stands, Put, logs, owns, received, counts, slows, parts, IsOver, IsSo, IsDue}
 
 -- site i has this record behind what it had, and the others stand as they stood
@@ -79,10 +79,6 @@ pub front_of : (k : SiteId) (xs ys : List Held) → IsPrefix xs ys → IsPrefix 
 front_of k xs ys p = record { rest = of_site k p.rest; is = ap (of_site k) p.is ∙ filter-append (is_of k) xs p.rest }
 
 -- counts rise
-one_more_grows : (j : SiteId) (f : SiteId → ℕ) (k : SiteId) → f k ≤ one_more j f k
-one_more_grows j f k = elim (same_site j k) as (λ b. f k ≤
-    (if b then f k + 1 else f k)) [ true ↦ omega arith | false ↦ omega arith ]
-
 got_grows : (i : SiteId) (rec : Option Record) (got : SiteId → ℕ) (k : SiteId) → got k ≤ got_after i rec got k
 got_grows i None got k = omega arith
 got_grows i (Some (Boot epoch)) got k = omega arith
@@ -94,19 +90,6 @@ got_grows i (Some (Released j n)) got k = omega arith
 got_grows i (Some (SlowBegin n x)) got k = omega arith
 got_grows i (Some (SlowEnd n)) got k = omega arith
 got_grows i (Some (Marks durable visible)) got k = omega arith
-
-committed_grows : (i : SiteId) (rec : Option Record) (committed : SiteId → ℕ) (k : SiteId)
-    → committed k ≤ committed_after i rec committed k
-committed_grows i None committed k = omega arith
-committed_grows i (Some (Boot epoch)) committed k = omega arith
-committed_grows i (Some (Own seq x)) committed k = one_more_grows i committed k
-committed_grows i (Some (Got j seq x)) committed k = omega arith
-committed_grows i (Some (Seen j seq)) committed k = one_more_grows j committed k
-committed_grows i (Some (Prepared j n tid objects)) committed k = omega arith
-committed_grows i (Some (Released j n)) committed k = omega arith
-committed_grows i (Some (SlowBegin n x)) committed k = omega arith
-committed_grows i (Some (SlowEnd n)) committed k = omega arith
-committed_grows i (Some (Marks durable visible)) committed k = omega arith
 
 -- what is kept by an end, with a commit or without one, and isn't so of what isn't begun, is kept by each record that
 -- begins a new slow commit only

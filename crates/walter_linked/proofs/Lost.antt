@@ -1,39 +1,22 @@
 -- What the records of a site tell goes on by records alone: replies, what is heard and a stop leave it.
-use Rattle.std.proofs.Common.{◌≡◌, ℕ, zero, suc, true, false, refl, ◌∙◌, Some, None, if◌then◌else◌}
+use Rattle.std.proofs.Common.{◌≡◌, true, false, refl, ◌∙◌, Some, None, if◌then◌else◌}
 use Rattle.std.specs.Prelude.{Option}
 use Rattle.walter_base.specs.declared.catalog.Catalog.{Catalog}
 use Rattle.walter_base.specs.declared.message.Record.{Record}
-use Rattle.walter_base.specs.declared.message.Record.TheVariants.{Boot, Own, Got, Seen, Prepared, Released, SlowBegin, SlowEnd, Marks}
-use Rattle.walter_base.specs.declared.names.ObjId.{ObjId}
 use Rattle.walter_base.specs.declared.names.SiteId.{SiteId}
 use Rattle.walter_rules.specs.declared.entry.Came.{Came}
 use Rattle.walter_rules.specs.declared.event.Event.{Event}
 use Rattle.walter_rules.specs.declared.outcome.Outcome.{Outcome}
 use Rattle.walter_rules.specs.Knowledge.{Knowledge}
-use Rattle.walter_rules.specs.Learning.{recorded, slow_number, freed_over, after, lost}
-use Rattle.walter_rules.specs.Log.{commit_at}
+use Rattle.walter_rules.specs.Learning.{recorded, after, lost}
+use Rattle.walter_alone.proofs.Followed.{lost_recorded as one_recorded}
 use Rattle.walter_rules.specs.Standing.{Standing, settled, goes_down, knows_after, stands_after}
 
--- which owners go with a lock is told by records
-freed_lost : (j : SiteId) (n : ℕ) (K : Knowledge) (oid : ObjId) → freed_over j n K oid ≡ freed_over j n (lost K) oid
-freed_lost j zero K oid = refl
-freed_lost j (suc n) K oid = refl
-
--- what is lost and then recorded is recorded and then lost
+-- what is lost and then recorded, if anything is, is recorded and then lost
 pub lost_recorded : (catalog : Catalog) (i : SiteId) (rec : Option Record) (K : Knowledge)
     → lost (recorded catalog i rec K) ≡ recorded catalog i rec (lost K)
 lost_recorded catalog i None K = refl
-lost_recorded catalog i (Some (Boot epoch)) K = refl
-lost_recorded catalog i (Some (Own seq x)) K = refl
-lost_recorded catalog i (Some (Got j seq x)) K = refl
-lost_recorded catalog i (Some (Seen j seq)) K =
-    let same = freed_lost j (slow_number (commit_at j seq K.log)) K in
-    λ t. record (lost (recorded catalog i (Some (Seen j seq)) K)) { owner = λ oid. same oid t }
-lost_recorded catalog i (Some (Prepared j n tid objects)) K = refl
-lost_recorded catalog i (Some (Released j n)) K = refl
-lost_recorded catalog i (Some (SlowBegin n x)) K = refl
-lost_recorded catalog i (Some (SlowEnd n)) K = refl
-lost_recorded catalog i (Some (Marks durable visible)) K = refl
+lost_recorded catalog i (Some r) K = one_recorded catalog i K r
 
 -- where nothing is recorded it stays
 pub recorded_none : (catalog : Catalog) (i : SiteId) (K : Knowledge) → recorded catalog i None K ≡ K

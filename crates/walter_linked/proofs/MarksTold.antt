@@ -20,6 +20,7 @@ use Rattle.walter_agreement.specs.Marks.{IsDurable, AreDurable, AreVisible}
 use Rattle.walter_agreement.proofs.Cases.{site_cases, zero_or}
 use Rattle.walter_agreement.proofs.Marked.{durable_by_count, has_by_acks, visible_by_told, durable_mark_true, visible_mark_true, sites_below_distinct, site_below}
 use Rattle.walter_alone.proofs.Alone.{home}
+use Rattle.walter_alone.proofs.Followed.{passed_within}
 use Rattle.walter_linked.proofs.Agreed.{Stands, owns, received, counts}
 use Rattle.walter_linked.proofs.Recorded.{IsCore}
 
@@ -29,14 +30,7 @@ there_is [] n l = absurd (omega (arith, l))
 there_is (x ∷ xs) zero l = (x, refl)
 there_is (x ∷ xs) (suc n) l = there_is xs n (omega (arith, l))
 
--- no more pass than may, and each that is counted passes
-pub passed_within : (test : ℕ → Bool) (n : ℕ) → passed test n ≤ n
-passed_within test zero = omega arith
-passed_within test (suc n) =
-    let l = passed_within test n in
-    elim (nat_eq (passed test n) n && test (suc n)) as
-    (λ b. (if b then suc n else passed test n) ≤ suc n) [ true ↦ omega arith | false ↦ omega (arith, l) ]
-
+-- each that is counted passes
 pub passed_tests : (test : ℕ → Bool) (n m : ℕ) → 1 ≤ m → m ≤ passed test n → test m ≡ true
 passed_tests test zero m one l = absurd (omega (arith, one, l))
 passed_tests test (suc n) m one l =
