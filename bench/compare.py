@@ -18,6 +18,7 @@ import sys
 from collections import Counter
 
 import model
+from spelled import frame, on_set, write
 
 TOP = os.path.join(os.path.dirname(os.path.abspath(__file__)), "..")
 CONTAINERS = [[1, "regular", 0], [2, "cset", 0], [7, "regular", 0]]
@@ -39,20 +40,8 @@ AT_LIMITS = {
 LIMITS = [f"{what} {number:,}" for what, limit in AT_LIMITS.items() for number in (limit, limit + 1)]
 
 
-def frame(body):
-    return struct.pack(">I", len(body)) + body
-
-
 def frames(bodies):
     return b"".join(map(frame, bodies))
-
-
-def write(oid, value):
-    return bytes([model.WRITE]) + struct.pack(">IQ", *oid) + frame(value)
-
-
-def change_set(operation, oid, number):
-    return bytes([operation]) + struct.pack(">IQQ", *oid, number)
 
 
 def near(rng, limit):
@@ -133,7 +122,7 @@ def many_open(rng):
 
 def many_updates(rng):
     """A transaction of about as many updates as may be, of ids in one set."""
-    changes = [change_set(model.SET_ADD, (2, 1), rng.randrange(2**64)) for _ in range(near(rng, 256))]
+    changes = [on_set(model.SET_ADD, (2, 1), rng.randrange(2**64)) for _ in range(near(rng, 256))]
     bodies = [START, *changes, any_body(rng), COMMIT, any_body(rng)]
     return [frames(bodies)], [["call", 0]] * len(bodies)
 
@@ -156,12 +145,12 @@ def many_ids(rng):
     ids = rng.sample(range(2**32), near(rng, 4095))
     bodies = []
     for first in range(0, 4095 - 255, 255):
-        bodies += [START, *(change_set(model.SET_ADD, (2, 1), number) for number in ids[first : first + 255]), COMMIT]
+        bodies += [START, *(on_set(model.SET_ADD, (2, 1), number) for number in ids[first : first + 255]), COMMIT]
     added = (len(bodies) // 257) * 255
     read = bytes([model.SET_READ]) + struct.pack(">IQ", 2, 1)
-    bodies += [START, *(change_set(model.SET_ADD, (2, 1), number) for number in ids[added:]), read]
+    bodies += [START, *(on_set(model.SET_ADD, (2, 1), number) for number in ids[added:]), read]
     for number in rng.sample(ids, rng.randint(0, 2)):
-        bodies += [change_set(model.SET_DEL, (2, 1), number), read]
+        bodies += [on_set(model.SET_DEL, (2, 1), number), read]
     return [frames([*bodies, COMMIT])], [["call", 0]] * (len(bodies) + 1)
 
 

@@ -418,11 +418,11 @@ class Site:
             del self.sessions[client]
             return bytes([UNSURE]) + name_of(session.tid)
 
-        framed = plan._replace(outcome="reply:" + framed_hex(plan.outcome))
+        framed = plan._replace(outcome="reply:" + frame(plan.outcome).hex())
         outcome = self.carry_out(
             framed, self.clock + 1, f"call:{client}:{NAMES[operation - 1] if operation else 'bad'}",
-            lambda full: "reply:" + framed_hex(refusal(10, struct.pack(">QQ", full.need, full.left))),
-            lambda: "reply:" + framed_hex(failed()),
+            lambda full: "reply:" + frame(refusal(10, struct.pack(">QQ", full.need, full.left))).hex(),
+            lambda: "reply:" + frame(failed()).hex(),
         )
         return bytes.fromhex(outcome[len("reply:") :])
 
@@ -522,10 +522,6 @@ class Site:
         if len(shown) > 4095:
             return refusal(11)
         return struct.pack(">BI", SET, len(shown)) + b"".join(struct.pack(">Qq", *item) for item in shown)
-
-
-def framed_hex(reply):
-    return (struct.pack(">I", len(reply)) + reply).hex()
 
 
 # The run, and what is written of it

@@ -15,18 +15,6 @@ REGULAR_AT_0, REGULAR_AT_1, SET_AT_0 = [1, "regular", 0], [2, "regular", 1], [3,
 RECORDS = [None, "Boot", "Own", "Got", "Seen", "Prepared", "Released", "SlowBegin", "SlowEnd", "Marks"]
 
 
-def frame(body):
-    return struct.pack(">I", len(body)) + body
-
-
-def write(oid, value):
-    return bytes([WRITE]) + struct.pack(">IQ", *oid) + frame(value)
-
-
-def on_set(operation, *fields):
-    return bytes([operation]) + struct.pack(">IQ" + "Q" * (len(fields) - 2), *fields)
-
-
 def level(*tid):
     return bytes([LEVEL]) + name_of(tid)
 
@@ -108,11 +96,11 @@ def long_fork():
 def a_set_cancels_out():
     row = Row(2, 0, [SET_AT_0], (0, 1))
     nothing = bytes.fromhex("8300000000")
-    row.calls(1, (START_IT, started(1, 1, 1)), (on_set(SET_DEL, 3, 1, 9), DONE_IT))
+    row.calls(1, (START_IT, started(1, 1, 1)), (on_set(SET_DEL, (3, 1), 9), DONE_IT))
     row.call(1, COMMIT_IT, committed(1, 1), "Own", "0:propagate 1")
     less_one = bytes.fromhex("83000000010000000000000009" + "f" * 16)
-    row.calls(1, (START_IT, started(1, 1, 2)), (on_set(SET_READ, 3, 1), less_one), (COMMIT_IT, bytes([ENDED])))
-    row.calls(0, (START_IT, started(0, 1, 1)), (on_set(SET_ADD, 3, 1, 9), DONE_IT))
+    row.calls(1, (START_IT, started(1, 1, 2)), (on_set(SET_READ, (3, 1)), less_one), (COMMIT_IT, bytes([ENDED])))
+    row.calls(0, (START_IT, started(0, 1, 1)), (on_set(SET_ADD, (3, 1), 9), DONE_IT))
     row.call(0, COMMIT_IT, committed(0, 1), "Own", "1:propagate 1,1:dsmark 1")
     row.step("deliver", 0, 1, 1, record="Got", sends="1:ack 1")
     row.step("deliver", 1, 0, 1, record="Got", sends="0:ack 1")
@@ -121,14 +109,14 @@ def a_set_cancels_out():
     row.step("deliver", 1, 0, 3, record="Marks", sends="0:dsmark 1")
     row.step("deliver", 0, 1, 4)
     row.step("advance", 0, 1, record="Seen", sends="1:visible 1")
-    row.calls(0, (START_IT, started(0, 1, 2)), (on_set(SET_READ, 3, 1), nothing))
-    row.calls(1, (START_IT, started(1, 1, 3)), (on_set(SET_READ, 3, 1), nothing))
+    row.calls(0, (START_IT, started(0, 1, 2)), (on_set(SET_READ, (3, 1)), nothing))
+    row.calls(1, (START_IT, started(1, 1, 3)), (on_set(SET_READ, (3, 1)), nothing))
     return row
 
 
 def one_commit_of_a_set():
     row = Row(2, 0, [SET_AT_0], (0, 1))
-    row.calls(0, (START_IT, started(0, 1, 1)), (on_set(SET_ADD, 3, 1, 9), DONE_IT))
+    row.calls(0, (START_IT, started(0, 1, 1)), (on_set(SET_ADD, (3, 1), 9), DONE_IT))
     row.call(0, COMMIT_IT, committed(0, 1), "Own", "1:propagate 1,1:dsmark 1")
     return row
 
@@ -140,7 +128,7 @@ def a_repeated_propagate():
     row.step("deliver", 1, 0, 1, to="passed", sends="0:ack 1")
     row.step("deliver", 1, 0, 2)
     row.step("advance", 1, 0, record="Seen", sends="0:visible 1")
-    row.calls(1, (START_IT, started(1, 1, 1)), (on_set(SET_READ_ID, 3, 1, 9), bytes.fromhex("840000000000000001")))
+    row.calls(1, (START_IT, started(1, 1, 1)), (on_set(SET_READ_ID, (3, 1), 9), bytes.fromhex("840000000000000001")))
     return row
 
 
@@ -303,7 +291,7 @@ def locks_outlive_a_stop():
 
 def durable_and_then_visible():
     row = Row(3, 1, [[3, "cset", 2]], (0,))
-    row.calls(0, (START_IT, started(0, 1, 1)), (on_set(SET_ADD, 3, 1, 9), DONE_IT))
+    row.calls(0, (START_IT, started(0, 1, 1)), (on_set(SET_ADD, (3, 1), 9), DONE_IT))
     row.call(0, COMMIT_IT, committed(0, 1), "Own", "1:propagate 1,2:propagate 1")
     row.step("deliver", 1, 0, 1, record="Got", sends="0:ack 1")
     row.step("deliver", 0, 1, 1)

@@ -12,6 +12,19 @@ BOOT, OWN, GOT, SEEN, PREPARED, LET_GO, SLOW_BEGIN, SLOW_END, MARKS = range(1, 1
 MODIFIED, LOCKED, ASKED, DEAD = range(1, 5)
 
 
+def frame(body):
+    return struct.pack(">I", len(body)) + body
+
+
+def write(oid, value):
+    return bytes([WRITE]) + struct.pack(">IQ", *oid) + frame(value)
+
+
+def on_set(operation, oid, *number):
+    """A request to a set: a change or a read of one number in it, or a read of all."""
+    return bytes([operation]) + struct.pack(">IQ" + "Q" * len(number), *oid, *number)
+
+
 def refusal(number, fields=b""):
     return bytes([REFUSED, number]) + fields
 
