@@ -8,8 +8,6 @@ mod memory_disk;
 mod memory_rack;
 mod place;
 mod stops;
-#[cfg(test)]
-mod tests;
 
 pub use memory_disk::{MemoryDisk, unarmed_never_failed};
 pub use memory_rack::MemoryRack;

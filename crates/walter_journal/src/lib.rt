@@ -12,6 +12,3 @@ pub use fault::{AppendFault, JournalFault};
 pub use journal::Journal;
 pub use layout::layouts_differ;
 pub use loading::load;
-
-#[cfg(test)]
-mod tests;

@@ -2,8 +2,6 @@
 #![tactic(auto)]
 
 #[cfg(test)]
-mod journals;
-#[cfg(test)]
 mod program;
 #[cfg(test)]
 mod rows;

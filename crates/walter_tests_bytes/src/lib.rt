@@ -8,6 +8,8 @@ mod names;
 #[cfg(test)]
 mod packets;
 #[cfg(test)]
+mod parts;
+#[cfg(test)]
 mod records;
 #[cfg(test)]
 mod replies;

@@ -1,23 +1,12 @@
-use std::alloc::{AllocError, Global};
+use crate::parts::{HELL, LISTS, MOST, NUMBER_1, OBJECT, TID, joined, with_objects};
+use std::alloc::Global;
 use std::test::Fail;
 use walter_base::{Answer, Conflict, Packet};
 use walter_packet::{Framed, decode, encode};
 
-/// The first transaction of site 0, which writes `hello` to the object 1, 5.
-const HELLO: [u8; 109] = [
-    0, 0, 0, 0, 1, 0, 0, 0, 0, 0, 0, 0, 1, 0, 0, 0, 0, 0, 0, 0, 0, 0, 0, 0, 0, 0, 0, 0, 0, 0, 0, 0,
-    0, 0, 0, 0, 0, 0, 0, 0, 0, 0, 0, 0, 0, 0, 0, 0, 0, 0, 0, 0, 0, 0, 0, 0, 0, 0, 0, 0, 0, 0, 0, 0,
-    0, 0, 0, 0, 0, 0, 0, 0, 0, 0, 0, 0, 0, 0, 0, 0, 0, 0, 0, 0, 0, 0, 1, 1, 0, 0, 0, 1, 0, 0, 0, 0,
-    0, 0, 0, 5, 0, 0, 0, 5, 104, 101, 108, 108, 111,
-];
-
-/// The slow commit 1 of the first transaction of site 1 asks for an object; without the snapshot and the object.
-const PREPARE: [u8; 22] = [
-    5, 0, 0, 0, 0, 0, 0, 0, 1, 1, 0, 0, 0, 1, 0, 0, 0, 0, 0, 0, 0, 1,
-];
-
-/// The object 1, 5.
-const OBJECT: [u8; 12] = [0, 0, 0, 1, 0, 0, 0, 0, 0, 0, 0, 5];
+/// The slow commit 1 of a transaction asks for objects: what stands before the transaction, the snapshot and the
+/// objects.
+const PREPARE: [u8; 9] = [5, 0, 0, 0, 0, 0, 0, 0, 1];
 
 /// The vote on the slow commit 1, without the answer.
 const VOTE: [u8; 9] = [6, 0, 0, 0, 0, 0, 0, 0, 1];
@@ -49,100 +38,67 @@ fn read(alloc: Global, bytes: &[u8]) -> Result<(u8, u64, u64), Fail> {
     }
 }
 
-/// The parts, one behind the other.
-fn joined(alloc: Global, parts: &[&[u8]]) -> Result<Vec<u8>, AllocError> {
-    let mut all = Vec::new(alloc);
-    for part in parts {
-        all.extend_from_slice(part)?;
-    }
-    Ok(all)
-}
-
-/// A PREPARE that tells a count, and has so many objects.
-fn prepare(alloc: Global, count: u16, objects: u16) -> Result<Vec<u8>, AllocError> {
-    let mut bytes = joined(alloc, &[&PREPARE, &[0; 64], &count.to_be_bytes()])?;
-    for local in 0..objects {
-        bytes.extend_from_slice(&OBJECT[..10])?;
-        bytes.extend_from_slice(&local.to_be_bytes())?;
-    }
-    Ok(bytes)
-}
+/// Each row: the bytes of a packet, in parts, and what it says.
+static SPELLINGS: [(&[&[u8]], (u8, u64, u64)); 16] = [
+    (&[&[1, 0, 0, 0, 0, 0, 0, 0, 7], &HELL, b"o"], (1, 7, 1)),
+    (&[&[2], &[0; 8]], (2, 0, 0)),
+    (&[&[2], &MOST], (2, u64::MAX, 0)),
+    (&[&[3], &NUMBER_1], (3, 1, 0)),
+    (&[&[3], &MOST], (3, u64::MAX, 0)),
+    (&[&[4], &NUMBER_1], (4, 1, 0)),
+    (&[&[4], &MOST], (4, u64::MAX, 0)),
+    (&[&PREPARE, &TID, &[0; 64], &[0, 1], &OBJECT], (5, 1, 1)),
+    (&[&VOTE, &[1]], (6, 1, 1)),
+    (&[&VOTE, &[0, 1], &OBJECT, &[1], &MOST], (6, 1, u64::MAX)),
+    (&[&VOTE, &[0, 2], &OBJECT, &TID], (6, 1, 1)),
+    (&[&VOTE, &[0, 4]], (6, 1, 0)),
+    (&[&[7], &NUMBER_1], (7, 1, 0)),
+    (&[&[7], &MOST], (7, u64::MAX, 0)),
+    (&[&[8], &NUMBER_1], (8, 1, 0)),
+    (&[&[8], &MOST], (8, u64::MAX, 0)),
+];
 
 #[test]
 fn packets_are_read_and_written_again(rt: HostRuntime) -> Result<(), Fail> {
-    let most = u64::MAX;
-    let number_1 = [0, 0, 0, 0, 0, 0, 0, 1].as_slice();
-    for (front, bytes, wanted) in [
-        (
-            [1, 0, 0, 0, 0, 0, 0, 0, 7].as_slice(),
-            HELLO.as_slice(),
-            (1, 7, 1),
-        ),
-        ([2].as_slice(), [0; 8].as_slice(), (2, 0, 0)),
-        ([2].as_slice(), [255; 8].as_slice(), (2, most, 0)),
-        ([3].as_slice(), number_1, (3, 1, 0)),
-        ([3].as_slice(), [255; 8].as_slice(), (3, most, 0)),
-        ([4].as_slice(), number_1, (4, 1, 0)),
-        ([4].as_slice(), [255; 8].as_slice(), (4, most, 0)),
-        (VOTE.as_slice(), [1].as_slice(), (6, 1, 1)),
-        (VOTE.as_slice(), [0, 4].as_slice(), (6, 1, 0)),
-        ([7].as_slice(), number_1, (7, 1, 0)),
-        ([7].as_slice(), [255; 8].as_slice(), (7, most, 0)),
-        ([8].as_slice(), number_1, (8, 1, 0)),
-        ([8].as_slice(), [255; 8].as_slice(), (8, most, 0)),
-    ] {
-        let bytes = joined(rt.alloc(), &[front, bytes])?;
+    for &(parts, wanted) in &SPELLINGS {
+        let bytes = joined(rt.alloc(), parts)?;
         assert_eq!(rt; read(rt.alloc(), &bytes)?, wanted);
     }
-    let prepare = joined(rt.alloc(), &[&PREPARE, &[0; 64], &[0, 1], &OBJECT])?;
-    assert_eq!(rt; prepare.len(), 100);
-    assert_eq!(rt; read(rt.alloc(), &prepare)?, (5, 1, 1));
-    let modified = joined(rt.alloc(), &[&VOTE, &[0, 1], &OBJECT, &[1], &[255; 8]])?;
-    assert_eq!(rt; read(rt.alloc(), &modified)?, (6, 1, most));
-    let locked = joined(rt.alloc(), &[&VOTE, &[0, 2], &OBJECT, &PREPARE[9..]])?;
-    assert_eq!(rt; read(rt.alloc(), &locked)?, (6, 1, 1));
     Ok(())
 }
 
+/// Each row: bytes that spell no packet among two sites, in parts. In the last two the third site is not there, and an
+/// object stands twice.
+static REFUSED: [&[&[u8]]; 15] = [
+    &[],
+    &[&[0], &[0; 8]],
+    &[&[9], &[0; 8]],
+    &[&[1, 0, 0, 0, 0, 0, 0, 0, 7], &HELL],
+    &[&[2], &[0; 7]],
+    &[&[3], &[0; 9]],
+    &[&VOTE],
+    &[&VOTE, &[2]],
+    &[&VOTE, &[1, 0]],
+    &[&VOTE, &[0]],
+    &[&VOTE, &[0, 3]],
+    &[&VOTE, &[0, 1, 0]],
+    &[&[8], &[0; 9]],
+    &THIRD,
+    &[&PREPARE, &TID, &[0; 64], &[0, 2], &OBJECT, &OBJECT],
+];
+
+const THIRD: [&[u8]; 7] = [&PREPARE, &TID, &[0; 23], &[1], &[0; 40], &[0, 1], &OBJECT];
+
 #[test]
 fn what_is_no_spelling_is_refused(rt: HostRuntime) -> Result<(), Fail> {
-    for (front, bytes) in [
-        ([].as_slice(), [].as_slice()),
-        ([0].as_slice(), [0; 8].as_slice()),
-        ([9].as_slice(), [0; 8].as_slice()),
-        ([1, 0, 0, 0, 0, 0, 0, 0, 7].as_slice(), &HELLO[..108]),
-        ([2].as_slice(), [0; 7].as_slice()),
-        ([3].as_slice(), [0; 9].as_slice()),
-        (VOTE.as_slice(), [].as_slice()),
-        (VOTE.as_slice(), [2].as_slice()),
-        (VOTE.as_slice(), [1, 0].as_slice()),
-        (VOTE.as_slice(), [0].as_slice()),
-        (VOTE.as_slice(), [0, 3].as_slice()),
-        (VOTE.as_slice(), [0, 1, 0].as_slice()),
-        ([8].as_slice(), [0; 9].as_slice()),
-    ] {
-        let bytes = joined(rt.alloc(), &[front, bytes])?;
-        assert!(rt; decode(rt.alloc(), &bytes, 2)?.is_none());
+    let alloc = rt.alloc();
+    for &parts in &REFUSED {
+        assert!(rt; decode(alloc, &joined(alloc, parts)?, 2)?.is_none());
     }
-    for (count, objects, is_taken) in [
-        (1, 1, true),
-        (256, 256, true),
-        (0, 0, false),
-        (257, 257, false),
-        (2, 1, false),
-        (1, 2, false),
-    ] {
-        let bytes = prepare(rt.alloc(), count, objects)?;
-        assert_eq!(rt; decode(rt.alloc(), &bytes, 2)?.is_some(), is_taken);
+    assert!(rt; decode(alloc, &joined(alloc, &THIRD)?, 3)?.is_some());
+    for &(count, objects, is_taken) in &LISTS {
+        let bytes = with_objects(alloc, &[&PREPARE, &TID, &[0; 64]], count, objects)?;
+        assert_eq!(rt; decode(alloc, &bytes, 2)?.is_some(), is_taken);
     }
-    // The third site is not there; an object stands twice.
-    let third = joined(
-        rt.alloc(),
-        &[&PREPARE, &[0; 23], &[1], &[0; 40], &[0, 1], &OBJECT],
-    )?;
-    assert!(rt; decode(rt.alloc(), &third, 2)?.is_none());
-    assert!(rt; decode(rt.alloc(), &third, 3)?.is_some());
-    let twice = joined(rt.alloc(), &[&PREPARE, &[0; 64], &[0, 2], &OBJECT, &OBJECT])?;
-    assert!(rt; decode(rt.alloc(), &twice, 2)?.is_none());
     Ok(())
 }

@@ -1,21 +1,14 @@
-use std::alloc::{AllocError, Global};
+use crate::parts::{BEFORE, HELL, LISTS, MOST, NUMBER_1, OBJECT, TID, joined, with_objects};
+use std::alloc::Global;
 use std::test::Fail;
 use walter_base::Record;
 use walter_record::{decode, encode};
 
-/// The first own commit of site 0, which writes `hello` to the object 1, 5.
-const HELLO: [u8; 118] = [
-    2, 0, 0, 0, 0, 0, 0, 0, 1, 0, 0, 0, 0, 1, 0, 0, 0, 0, 0, 0, 0, 1, 0, 0, 0, 0, 0, 0, 0, 0, 0, 0,
-    0, 0, 0, 0, 0, 0, 0, 0, 0, 0, 0, 0, 0, 0, 0, 0, 0, 0, 0, 0, 0, 0, 0, 0, 0, 0, 0, 0, 0, 0, 0, 0,
-    0, 0, 0, 0, 0, 0, 0, 0, 0, 0, 0, 0, 0, 0, 0, 0, 0, 0, 0, 0, 0, 0, 0, 0, 0, 0, 0, 0, 0, 0, 0, 1,
-    1, 0, 0, 0, 1, 0, 0, 0, 0, 0, 0, 0, 5, 0, 0, 0, 5, 104, 101, 108, 108, 111,
-];
+/// The slow commit 2 of site 1 wants objects: what stands before the transaction and the objects.
+const PREPARED: [u8; 10] = [5, 1, 0, 0, 0, 0, 0, 0, 0, 2];
 
-/// The slow commit 2 of site 1, of its first transaction, wants the objects 1, 5 and 2, 0.
-const PREPARED: [u8; 49] = [
-    5, 1, 0, 0, 0, 0, 0, 0, 0, 2, 1, 0, 0, 0, 1, 0, 0, 0, 0, 0, 0, 0, 1, 0, 2, 0, 0, 0, 1, 0, 0, 0,
-    0, 0, 0, 0, 5, 0, 0, 0, 2, 0, 0, 0, 0, 0, 0, 0, 0,
-];
+/// The object 2, 0, without its last byte.
+const ANOTHER: [u8; 11] = [0, 0, 0, 2, 0, 0, 0, 0, 0, 0, 0];
 
 /// What a record says: its kind, a site or 0, its first number, and another number.
 fn said(journaled: &Record) -> (u8, u8, u64, u64) {
@@ -45,90 +38,66 @@ fn read(alloc: Global, bytes: &[u8]) -> Result<(u8, u8, u64, u64), Fail> {
     }
 }
 
-/// The bytes behind those of the front.
-fn joined(alloc: Global, front: &[u8], bytes: &[u8]) -> Result<Vec<u8>, AllocError> {
-    let mut all = Vec::from_slice(alloc, front)?;
-    all.extend_from_slice(bytes)?;
-    Ok(all)
-}
-
-/// A Prepared that tells a count, and has so many objects.
-fn prepared(alloc: Global, count: u16, objects: u16) -> Result<Vec<u8>, AllocError> {
-    let mut bytes = joined(alloc, &PREPARED[..23], &count.to_be_bytes())?;
-    for local in 0..objects {
-        bytes.extend_from_slice(&[0, 0, 0, 1, 0, 0, 0, 0, 0, 0])?;
-        bytes.extend_from_slice(&local.to_be_bytes())?;
-    }
-    Ok(bytes)
-}
+/// Each row: the bytes of a record, in parts, and what it says.
+static SPELLINGS: [(&[&[u8]], (u8, u8, u64, u64)); 14] = [
+    (&[&[1], &[0; 4]], (1, 0, 0, 0)),
+    (&[&[1], &[255; 4]], (1, 0, 0xFFFF_FFFF, 0)),
+    (&[&[2], &NUMBER_1, &HELL, b"o"], (2, 0, 1, 1)),
+    (&[&[3, 1], &NUMBER_1, &HELL, b"o"], (3, 1, 1, 1)),
+    (&[&[4, 0], &NUMBER_1], (4, 0, 1, 0)),
+    (&[&[4, 255], &MOST], (4, 255, u64::MAX, 0)),
+    (
+        &[&PREPARED, &TID, &[0, 2], &OBJECT, &ANOTHER, &[0]],
+        (5, 1, 2, 1),
+    ),
+    (&[&[6, 1], &NUMBER_1], (6, 1, 1, 0)),
+    (&[&[6, 255], &MOST], (6, 255, u64::MAX, 0)),
+    (&[&[7], &NUMBER_1, &HELL, b"o"], (7, 0, 1, 1)),
+    (&[&[8], &NUMBER_1], (8, 0, 1, 0)),
+    (&[&[8], &MOST], (8, 0, u64::MAX, 0)),
+    (&[&[9], &[0; 16]], (9, 0, 0, 0)),
+    (&[&[9, 0, 0, 0, 0, 0, 0, 0, 2], &NUMBER_1], (9, 0, 2, 1)),
+];
 
 #[test]
 fn records_are_read_and_written_again(rt: HostRuntime) -> Result<(), Fail> {
-    let most = u64::MAX;
-    let number_1 = [0, 0, 0, 0, 0, 0, 0, 1];
-    for (front, bytes, wanted) in [
-        ([1].as_slice(), [0, 0, 0, 0].as_slice(), (1, 0, 0, 0)),
-        ([1].as_slice(), [255; 4].as_slice(), (1, 0, 0xFFFF_FFFF, 0)),
-        ([].as_slice(), HELLO.as_slice(), (2, 0, 1, 1)),
-        ([3, 1].as_slice(), &HELLO[1..], (3, 1, 1, 1)),
-        ([4, 0].as_slice(), number_1.as_slice(), (4, 0, 1, 0)),
-        ([4].as_slice(), [255; 9].as_slice(), (4, 255, most, 0)),
-        ([].as_slice(), PREPARED.as_slice(), (5, 1, 2, 1)),
-        ([6, 1].as_slice(), number_1.as_slice(), (6, 1, 1, 0)),
-        ([6].as_slice(), [255; 9].as_slice(), (6, 255, most, 0)),
-        ([7].as_slice(), &HELLO[1..], (7, 0, 1, 1)),
-        ([8].as_slice(), number_1.as_slice(), (8, 0, 1, 0)),
-        ([8].as_slice(), [255; 8].as_slice(), (8, 0, most, 0)),
-        ([9].as_slice(), [0; 16].as_slice(), (9, 0, 0, 0)),
-        (
-            [9, 0, 0, 0, 0, 0, 0, 0, 2].as_slice(),
-            number_1.as_slice(),
-            (9, 0, 2, 1),
-        ),
-    ] {
-        let bytes = joined(rt.alloc(), front, bytes)?;
+    for &(parts, wanted) in &SPELLINGS {
+        let bytes = joined(rt.alloc(), parts)?;
         assert_eq!(rt; read(rt.alloc(), &bytes)?, wanted);
     }
     Ok(())
 }
 
+/// Each row: bytes that spell no record, in parts. In the last two the first object stands twice, and the second before
+/// it.
+static REFUSED: [&[&[u8]]; 16] = [
+    &[],
+    &[&[0], &[0; 16]],
+    &[&[10], &[0; 16]],
+    &[&[1], &[0; 3]],
+    &[&[1], &[0; 5]],
+    &[&[2], &NUMBER_1, &HELL],
+    &[&[2], &NUMBER_1, &HELL, b"o", &[0]],
+    &[&[3], &NUMBER_1, &HELL, b"o"],
+    &[&[4], &[0; 8]],
+    &[&[4], &[0; 10]],
+    &[&PREPARED, &TID, &[0, 2], &OBJECT, &ANOTHER, &[0, 0]],
+    &[&PREPARED, &TID, &[0, 2], &OBJECT, &ANOTHER],
+    &[&[8], &[0; 9]],
+    &[&[9], &[0; 15]],
+    &[&PREPARED, &TID, &[0, 2], &OBJECT, &OBJECT],
+    &[&PREPARED, &TID, &[0, 2], &OBJECT, &BEFORE],
+];
+
 #[test]
 fn what_is_no_spelling_is_refused(rt: HostRuntime) -> Result<(), Fail> {
-    for (front, bytes) in [
-        ([].as_slice(), [].as_slice()),
-        ([0].as_slice(), [0; 16].as_slice()),
-        ([10].as_slice(), [0; 16].as_slice()),
-        ([1].as_slice(), [0; 3].as_slice()),
-        ([1].as_slice(), [0; 5].as_slice()),
-        ([].as_slice(), &HELLO[..117]),
-        (HELLO.as_slice(), [0].as_slice()),
-        ([3].as_slice(), &HELLO[1..]),
-        ([4].as_slice(), [0; 8].as_slice()),
-        ([4].as_slice(), [0; 10].as_slice()),
-        (PREPARED.as_slice(), [0].as_slice()),
-        ([].as_slice(), &PREPARED[..48]),
-        ([8].as_slice(), [0; 9].as_slice()),
-        ([9].as_slice(), [0; 15].as_slice()),
-    ] {
-        let bytes = joined(rt.alloc(), front, bytes)?;
-        assert!(rt; decode(rt.alloc(), &bytes, 2)?.is_none());
+    let alloc = rt.alloc();
+    for &parts in &REFUSED {
+        assert!(rt; decode(alloc, &joined(alloc, parts)?, 2)?.is_none());
     }
-    for (count, objects, is_taken) in [
-        (1, 1, true),
-        (256, 256, true),
-        (0, 0, false),
-        (257, 257, false),
-        (2, 1, false),
-        (1, 2, false),
-    ] {
-        let bytes = prepared(rt.alloc(), count, objects)?;
-        assert_eq!(rt; decode(rt.alloc(), &bytes, 2)?.is_some(), is_taken);
-    }
-    // The first object stands twice, and the second before it.
-    for local in [5, 4] {
-        let second = [0, 0, 0, 1, 0, 0, 0, 0, 0, 0, 0, local];
-        let bytes = joined(rt.alloc(), &PREPARED[..37], &second)?;
-        assert!(rt; decode(rt.alloc(), &bytes, 2)?.is_none());
+    for &(count, objects, is_taken) in &LISTS {
+        let bytes = with_objects(alloc, &[&PREPARED, &TID], count, objects)?;
+        assert_eq!(rt; decode(alloc, &bytes, 2)?.is_some(), is_taken);
     }
     Ok(())
 }

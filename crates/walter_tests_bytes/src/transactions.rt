@@ -94,30 +94,37 @@ fn large(alloc: Global, additions: u16, writes: u16, length: u16) -> Result<Vec<
     Ok(bytes)
 }
 
+/// The place of a byte, that byte, where the bytes are cut off, how many sites there are, and whether a transaction is
+/// read.
+static REPLACED: [(usize, u8, usize, u8, bool); 9] = [
+    (0, 0, 109, 1, true),
+    (0, 0, 110, 1, false),
+    (0, 0, 108, 1, false),
+    (0, 0, 87, 1, false),
+    (0, 0, 0, 1, false),
+    (36, 1, 109, 1, false),
+    (36, 1, 109, 2, true),
+    (86, 0, 87, 1, false),
+    (87, 4, 109, 2, false),
+];
+
+/// How many additions, or else writes of 4,096 bytes and the length of one more; and whether a transaction is read.
+static LARGE: [(u16, u16, u16, bool); 6] = [
+    (256, 0, 0, true),
+    (257, 0, 0, false),
+    (0, 0, 4_096, true),
+    (0, 0, 4_097, false),
+    (0, 14, 2_314, true),
+    (0, 14, 2_315, false),
+];
+
 #[test]
 fn what_is_no_spelling_is_refused(rt: HostRuntime) -> Result<(), Fail> {
-    for (place, byte, length, sites, is_taken) in [
-        (0, 0, 109, 1, true),
-        (0, 0, 110, 1, false),
-        (0, 0, 108, 1, false),
-        (0, 0, 87, 1, false),
-        (0, 0, 0, 1, false),
-        (36, 1, 109, 1, false),
-        (36, 1, 109, 2, true),
-        (86, 0, 87, 1, false),
-        (87, 4, 109, 2, false),
-    ] {
+    for &(place, byte, length, sites, is_taken) in &REPLACED {
         let bytes = replaced(rt.alloc(), place, byte, length)?;
         assert_eq!(rt; decode(rt.alloc(), &bytes, sites)?.is_some(), is_taken);
     }
-    for (additions, writes, length, is_taken) in [
-        (256, 0, 0, true),
-        (257, 0, 0, false),
-        (0, 0, 4_096, true),
-        (0, 0, 4_097, false),
-        (0, 14, 2_314, true),
-        (0, 14, 2_315, false),
-    ] {
+    for &(additions, writes, length, is_taken) in &LARGE {
         let bytes = large(rt.alloc(), additions, writes, length)?;
         assert_eq!(rt; decode(rt.alloc(), &bytes, 1)?.is_some(), is_taken);
     }

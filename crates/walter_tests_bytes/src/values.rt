@@ -54,13 +54,49 @@ fn copy_each<T: Clone + Drop>(items: &[T]) -> Result<(), Fail> {
     Ok(())
 }
 
+const REQUESTS: [Request; 9] = [
+    Request::Start,
+    Request::Read(OBJECT),
+    Request::SetAdd(SET, 9),
+    Request::SetDel(SET, 9),
+    Request::SetRead(SET),
+    Request::SetReadId(SET, 9),
+    Request::Commit,
+    Request::Abort,
+    Request::Level(TID),
+];
+
+const REPLIES: [Reply; 5] = [
+    Reply::Count(-1),
+    Reply::Refused(Refusal::NoTx),
+    Reply::Aborted(Cause::Asked),
+    Reply::Unsure(TID),
+    Reply::Level(Level::Visible),
+];
+
 #[test]
 fn values_are_copied(rt: HostRuntime) -> Result<(), Fail> {
     let bytes = Bytes::from_slice(rt.alloc(), b"hello")?;
     assert_eq!(rt; (bytes.len(), bytes.is_empty()), (5, false));
     assert_eq!(rt; bytes.clone()?.into_vec().as_slice(), b"hello".as_slice());
+    copy_each(&REQUESTS)?;
+    copy_each(&[Request::Write(OBJECT, bytes.clone()?)])?;
+    copy_each(&REPLIES)?;
+    copy_each(&[Reply::Value(Some(bytes))])
+}
+
+#[test]
+fn counts_are_copied(rt: HostRuntime) -> Result<(), Fail> {
+    let counts = Counts::from(vec![in rt.alloc(); (7, 1), (9, -1)]?);
+    assert_eq!(rt; counts.as_slice(), [(7, 1), (9, -1)].as_slice());
+    copy_each(&[Reply::Set(counts)])
+}
+
+#[test]
+fn transactions_are_copied(rt: HostRuntime) -> Result<(), Fail> {
     assert!(rt; Update::Add(SET, 9).object() == SET);
-    let updates = vec![in rt.alloc(); Update::Write(OBJECT, bytes.clone()?), Update::Add(SET, 9)]?;
+    let hello = Bytes::from_slice(rt.alloc(), b"hello")?;
+    let updates = vec![in rt.alloc(); Update::Write(OBJECT, hello), Update::Add(SET, 9)]?;
     assert_eq!(rt; size_of_updates(&updates), 87 + 22 + 21);
     copy_each(&updates)?;
     let tx = Tx {
@@ -70,30 +106,7 @@ fn values_are_copied(rt: HostRuntime) -> Result<(), Fail> {
         updates: Updates::from(updates),
     };
     assert_eq!(rt; tx.size(), 87 + 22 + 21);
-    copy_each(&[Record::Boot(1), Record::Own(1, tx)])?;
-    copy_each(&[
-        Request::Start,
-        Request::Read(OBJECT),
-        Request::Write(OBJECT, bytes.clone()?),
-        Request::SetAdd(SET, 9),
-        Request::SetDel(SET, 9),
-        Request::SetRead(SET),
-        Request::SetReadId(SET, 9),
-        Request::Commit,
-        Request::Abort,
-        Request::Level(TID),
-    ])?;
-    let counts = Counts::from(vec![in rt.alloc(); (7, 1), (9, -1)]?);
-    assert_eq!(rt; counts.as_slice(), [(7, 1), (9, -1)].as_slice());
-    copy_each(&[
-        Reply::Value(Some(bytes)),
-        Reply::Set(counts),
-        Reply::Count(-1),
-        Reply::Refused(Refusal::NoTx),
-        Reply::Aborted(Cause::Asked),
-        Reply::Unsure(TID),
-        Reply::Level(Level::Visible),
-    ])
+    copy_each(&[Record::Boot(1), Record::Own(1, tx)])
 }
 
 #[test]

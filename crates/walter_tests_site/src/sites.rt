@@ -169,20 +169,25 @@ fn committed(site: &mut Site) -> Mem<Option<Record>>
     Ok(rec)
 }
 
-// A site made anew from the records of transactions with these updates, in its second epoch.
-fn made_anew(alloc: Global, updates: &[Ask]) -> Result<Site, Fail> {
-    let mut site = alone(alloc)?;
-    let mut copy = alone(alloc)?;
-    for update in updates {
-        served(&mut site, 0, Ok(Request::Start))?;
-        served(&mut site, 0, call_of(alloc, *update)?)?;
-        let Some(rec) = committed(&mut site)? else {
-            return Err(Fail::from("the transaction commits"));
-        };
-        copy.replay(rec)?;
+// The site commits a transaction with this update, and the copy takes in its record.
+fn carry_over(alloc: Global, site: &mut Site, copy: &mut Site, update: Ask) -> Mem<bool> {
+    served(site, 0, Ok(Request::Start))?;
+    served(site, 0, call_of(alloc, update)?)?;
+    match committed(site)? {
+        Some(rec) => Ok(copy.replay(rec).is_ok()),
+        None => Ok(false),
     }
-    copy.replay(Record::Boot(2))?;
-    Ok(copy)
+}
+
+// Whether the copy takes in the records of transactions with these updates, and a second epoch.
+fn is_made_anew(alloc: Global, copy: &mut Site, updates: &[Ask]) -> Result<bool, Fail> {
+    let mut site = alone(alloc)?;
+    for update in updates {
+        if !carry_over(alloc, &mut site, copy, *update)? {
+            return Ok(false);
+        }
+    }
+    Ok(copy.replay(Record::Boot(2)).is_ok())
 }
 
 /// A transaction reads its own write, and the next what it committed.
@@ -277,45 +282,51 @@ fn calls_are_answered(rt: HostRuntime) -> Result<(), Fail> {
     Ok(())
 }
 
+/// What the transactions of the site that is made anew change.
+const UPDATES: [Ask; 4] = [
+    Ask::Write(OBJECT, b'x'),
+    Ask::SetAdd(SET, 7),
+    Ask::SetDel(SET, 9),
+    Ask::SetAdd(SET, 7),
+];
+
+/// What the site that is made anew answers.
+const MADE_ANEW: [(u32, Ask, Answer); 6] = [
+    (0, Ask::Start, Answer::Started(2, 1)),
+    (0, Ask::Read(OBJECT), Answer::Value(Some(b'x'))),
+    (
+        0,
+        Ask::SetRead(SET),
+        Answer::Set(Some((7, 2)), Some((9, -1))),
+    ),
+    (0, Ask::SetAdd(SET, 1), Answer::Done),
+    (0, Ask::Commit, Answer::Committed(5)),
+    (0, Ask::Level(1, 4), Answer::Visible),
+];
+
+// The reply of a plan that isn't applied.
+fn planned(site: &mut Site, client: u32, call: Call) -> Mem<Reply> {
+    let Plan { reply, .. } = site.plan(&Input::Call { client, call })?;
+    Ok(reply)
+}
+
+// Whether no epoch but the next follows; and a start that isn't applied takes no number.
+fn stays_in_its_epoch(site: &mut Site) -> Mem<bool> {
+    for epoch in [0, 2, 4] {
+        if site.replay(Record::Boot(epoch)) != Err(ReplayFault::Unfit) {
+            return Ok(false);
+        }
+    }
+    let reply = planned(site, 0, Ok(Request::Start))?;
+    Ok(site.epoch() == 2 && is_answer(&reply, Answer::Started(2, 1)))
+}
+
 #[test]
 fn a_site_is_made_anew_from_its_records(rt: HostRuntime) -> Result<(), Fail> {
-    let alloc = rt.alloc();
-    let mut site = made_anew(
-        alloc,
-        &[
-            Ask::Write(OBJECT, b'x'),
-            Ask::SetAdd(SET, 7),
-            Ask::SetDel(SET, 9),
-            Ask::SetAdd(SET, 7),
-        ],
-    )?;
-    for epoch in [0, 2, 4] {
-        let fault = site.replay(Record::Boot(epoch)).err();
-        assert_eq!(rt; fault, Some(ReplayFault::Unfit));
-    }
-    assert_eq!(rt; site.epoch(), 2);
-    let start = Input::Call {
-        client: 0,
-        call: Ok(Request::Start),
-    };
-    let Plan { reply, .. } = site.plan(&start)?;
-    assert!(rt;
-        is_answer(&reply, Answer::Started(2, 1)),
-        "a plan that isn't applied"
-    );
-    let rows = [
-        (0, Ask::Start, Answer::Started(2, 1)),
-        (0, Ask::Read(OBJECT), Answer::Value(Some(b'x'))),
-        (
-            0,
-            Ask::SetRead(SET),
-            Answer::Set(Some((7, 2)), Some((9, -1))),
-        ),
-        (0, Ask::SetAdd(SET, 1), Answer::Done),
-        (0, Ask::Commit, Answer::Committed(5)),
-        (0, Ask::Level(1, 4), Answer::Visible),
-    ];
-    assert_eq!(rt; wrong_place(alloc, &mut site, &rows)?, None);
+    let mut site = alone(rt.alloc())?;
+    assert!(rt; is_made_anew(rt.alloc(), &mut site, &UPDATES)?);
+    assert!(rt; stays_in_its_epoch(&mut site)?);
+    assert_eq!(rt; wrong_place(rt.alloc(), &mut site, &MADE_ANEW)?, None);
     Ok(())
 }
 

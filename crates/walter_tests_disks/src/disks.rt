@@ -1,8 +1,7 @@
-use super::*;
 use std::alloc::Global;
-use std::process::Abort;
 use std::test::Fail;
 use walter_disk::{Disk, Failed, Mem, NoMemory, Rack};
+use walter_disk_memory::{MemoryDisk, MemoryRack, unarmed_never_failed};
 
 const OLD: &[u8] = b"aaaabbbbcccc";
 
@@ -75,36 +74,32 @@ fn finds(alloc: Global, stop: usize, choice: u64, left: &[u8]) -> Mem<bool> {
     Ok(first == stop && settles(&mut disk)? && disk.bytes() == left)
 }
 
+// The choice, and what it leaves of a stop before the first sync and of one behind it.
+const STOPS: [(u64, &[u8], &[u8]); 5] = [
+    (0, b"aaaabbbbcccc", b"aaaa1111cccc"),
+    (1, b"aaaa1111cccc", b"aaaa1111cc2222"),
+    (
+        7,
+        b"aaaa\x07\x07\x07\x07cccc",
+        b"aaaa1111cc\x07\x07\x07\x07",
+    ),
+    (
+        256,
+        b"aaaa\x00\x00\x00\x00cccc",
+        b"aaaa1111cc\x00\x00\x00\x00",
+    ),
+    (
+        257,
+        b"aaaa\x01\x01\x01\x01cccc",
+        b"aaaa1111cc\x01\x01\x01\x01",
+    ),
+];
+
 #[test]
 fn a_stop_finds_what_its_choice_says(rt: HostRuntime) -> Result<(), Fail> {
-    // The choice, and what it leaves of a stop before the first sync and of one behind it.
-    let rows: [(u64, &[u8], &[u8]); 5] = [
-        (0, b"aaaabbbbcccc", b"aaaa1111cccc"),
-        (1, b"aaaa1111cccc", b"aaaa1111cc2222"),
-        (
-            7,
-            b"aaaa\x07\x07\x07\x07cccc",
-            b"aaaa1111cc\x07\x07\x07\x07",
-        ),
-        (
-            256,
-            b"aaaa\x00\x00\x00\x00cccc",
-            b"aaaa1111cc\x00\x00\x00\x00",
-        ),
-        (
-            257,
-            b"aaaa\x01\x01\x01\x01cccc",
-            b"aaaa1111cc\x01\x01\x01\x01",
-        ),
-    ];
-    for (choice, before, behind) in rows {
-        for (stop, left) in [
-            (1, before),
-            (2, before),
-            (3, behind),
-            (4, behind),
-            (5, behind),
-        ] {
+    for (choice, before, behind) in STOPS {
+        for stop in 1..6 {
+            let left = if stop < 3 { before } else { behind };
             assert!(rt;
                 finds(rt.alloc(), stop, choice, left)?,
                 "call {stop}, choice {choice}"
@@ -114,10 +109,62 @@ fn a_stop_finds_what_its_choice_says(rt: HostRuntime) -> Result<(), Fail> {
     Ok(())
 }
 
-// Whether these calls go as it is said beside each, and leave these bytes.
-fn goes_as(alloc: Global, steps: &[(Step, bool)], left: &[u8]) -> Mem<bool> {
+// Calls, and whether each goes well. Without an arm no call fails, and a settle drops what pends.
+const UNARMED: [(Step, bool); 4] = [
+    (Step::Write(4, b'1'), true),
+    (Step::Sync, true),
+    (Step::Write(0, b'2'), true),
+    (Step::Settle, true),
+];
+
+// A broken disk fails until it has settled.
+const BROKEN: [(Step, bool); 6] = [
+    (Step::Arm(1, 1), true),
+    (Step::Sync, false),
+    (Step::Write(0, b'1'), false),
+    (Step::Read, false),
+    (Step::Settle, true),
+    (Step::Read, true),
+];
+
+// An arm beyond stays through a settle.
+const BEYOND: [(Step, bool); 6] = [
+    (Step::Arm(3, 1), true),
+    (Step::Write(0, b'1'), true),
+    (Step::Settle, true),
+    (Step::Read, true),
+    (Step::Write(0, b'2'), false),
+    (Step::Settle, true),
+];
+
+// A later arm takes the place of one to come, and one that came keeps its choice.
+const REPLACED: [(Step, bool); 8] = [
+    (Step::Arm(1, 7), true),
+    (Step::Arm(2, 0), true),
+    (Step::Write(0, b'1'), true),
+    (Step::Read, false),
+    (Step::Arm(1, 1), true),
+    (Step::Settle, true),
+    (Step::Write(0, b'3'), false),
+    (Step::Settle, true),
+];
+
+// The calls, how many of them are made, and the bytes that they leave.
+const CALLS: [(&[(Step, bool)], usize, &[u8]); 8] = [
+    (&UNARMED, 3, b"22221111cccc"),
+    (&UNARMED, 4, b"aaaa1111cccc"),
+    (&BROKEN, 4, OLD),
+    (&BROKEN, 6, b"1111bbbbcccc"),
+    (&BEYOND, 3, OLD),
+    (&BEYOND, 6, b"2222bbbbcccc"),
+    (&REPLACED, 6, OLD),
+    (&REPLACED, 8, b"3333bbbbcccc"),
+];
+
+// Whether the first of these calls, so many, go as it is said beside each, and leave these bytes.
+fn goes_as(alloc: Global, steps: &[(Step, bool)], count: usize, left: &[u8]) -> Mem<bool> {
     let mut disk = disk_of(alloc, OLD)?;
-    for (step, well) in steps {
+    for (step, well) in steps.iter().take(count) {
         if goes_well(&mut disk, *step)? != *well {
             return Ok(false);
         }
@@ -128,56 +175,12 @@ fn goes_as(alloc: Global, steps: &[(Step, bool)], left: &[u8]) -> Mem<bool> {
 
 #[test]
 fn calls_fail_as_they_are_armed(rt: HostRuntime) -> Result<(), Fail> {
-    let alloc = rt.alloc();
-    // Without an arm no call fails, and a settle drops what pends.
-    let unarmed = [
-        (Step::Write(4, b'1'), true),
-        (Step::Sync, true),
-        (Step::Write(0, b'2'), true),
-        (Step::Settle, true),
-    ];
-    assert!(rt; goes_as(alloc, &unarmed[..3], b"22221111cccc")?);
-    assert!(rt; goes_as(alloc, &unarmed, b"aaaa1111cccc")?);
-    // A broken disk fails until it has settled.
-    let broken = [
-        (Step::Arm(1, 1), true),
-        (Step::Sync, false),
-        (Step::Write(0, b'1'), false),
-        (Step::Read, false),
-        (Step::Settle, true),
-        (Step::Read, true),
-    ];
-    assert!(rt; goes_as(alloc, &broken[..4], OLD)?);
-    assert!(rt; goes_as(alloc, &broken, b"1111bbbbcccc")?);
-    later_arms(&rt)
-}
-
-fn later_arms<R: Abort + AllocGlobal>(rt: &R) -> Result<(), Fail> {
-    let alloc = rt.alloc();
-    // An arm beyond stays through a settle.
-    let beyond = [
-        (Step::Arm(3, 1), true),
-        (Step::Write(0, b'1'), true),
-        (Step::Settle, true),
-        (Step::Read, true),
-        (Step::Write(0, b'2'), false),
-        (Step::Settle, true),
-    ];
-    assert!(rt; goes_as(alloc, &beyond[..3], OLD)?);
-    assert!(rt; goes_as(alloc, &beyond, b"2222bbbbcccc")?);
-    // A later arm takes the place of one to come, and one that came keeps its choice.
-    let replaced = [
-        (Step::Arm(1, 7), true),
-        (Step::Arm(2, 0), true),
-        (Step::Write(0, b'1'), true),
-        (Step::Read, false),
-        (Step::Arm(1, 1), true),
-        (Step::Settle, true),
-        (Step::Write(0, b'3'), false),
-        (Step::Settle, true),
-    ];
-    assert!(rt; goes_as(alloc, &replaced[..6], OLD)?);
-    assert!(rt; goes_as(alloc, &replaced, b"3333bbbbcccc")?);
+    for (steps, count, left) in CALLS {
+        assert!(rt;
+            goes_as(rt.alloc(), steps, count, left)?,
+            "the first {count}"
+        );
+    }
     Ok(())
 }
 
@@ -216,20 +219,24 @@ fn was_given(rack: &MemoryRack, place: usize, site: u8, bytes: &[u8]) -> bool {
     }
 }
 
+const CONTENTS: [(u8, &[u8]); 3] = [(1, b"one"), (0, b"zero"), (2, b"")];
+
 #[test]
 fn a_rack_hands_out_what_it_holds_and_keeps_what_is_given(rt: HostRuntime) -> Result<(), Fail> {
     let alloc = rt.alloc();
-    let mut contents = Vec::new(alloc);
-    contents.push(b"zero".to_vec(alloc)?)?;
-    contents.push(b"one".to_vec(alloc)?)?;
+    let contents = vec![in alloc; b"zero".to_vec(alloc)?, b"one".to_vec(alloc)?]?;
     let mut rack = MemoryRack::holding(alloc, contents);
-    let rows: [(u8, &[u8]); 3] = [(1, b"one"), (0, b"zero"), (2, b"")];
-    for (place, (site, bytes)) in rows.into_iter().enumerate() {
-        assert!(rt; take_and_give(&mut rack, site).is_ok());
-        assert!(rt; was_given(&rack, place, site, bytes));
+    for (place, (site, bytes)) in CONTENTS.iter().enumerate() {
+        assert!(rt; take_and_give(&mut rack, *site).is_ok());
+        assert!(rt; was_given(&rack, place, *site, bytes));
     }
-    let mut rack = MemoryRack::with_room(alloc, 1)?;
-    rack.set_failing([2, 3].to_vec(alloc)?);
+    Ok(())
+}
+
+#[test]
+fn a_rack_fails_where_it_is_planned(rt: HostRuntime) -> Result<(), Fail> {
+    let mut rack = MemoryRack::with_room(rt.alloc(), 1)?;
+    rack.set_failing([2, 3].to_vec(rt.alloc())?);
     for well in [false, false, true] {
         assert_eq!(rt; take_and_give(&mut rack, 0).is_ok(), well);
     }

@@ -1,0 +1,58 @@
+//! Spellings in parts, and parts that several spellings share.
+use std::alloc::{AllocError, Global};
+
+/// A field of eight bytes that holds 1, and one that holds the greatest number.
+pub const NUMBER_1: [u8; 8] = [0, 0, 0, 0, 0, 0, 0, 1];
+
+pub const MOST: [u8; 8] = [255; 8];
+
+/// The first transaction of site 0, which writes `hello` to the object 1, 5: all but its last byte, which is `o`.
+pub const HELL: [u8; 108] = [
+    0, 0, 0, 0, 1, 0, 0, 0, 0, 0, 0, 0, 1, 0, 0, 0, 0, 0, 0, 0, 0, 0, 0, 0, 0, 0, 0, 0, 0, 0, 0, 0,
+    0, 0, 0, 0, 0, 0, 0, 0, 0, 0, 0, 0, 0, 0, 0, 0, 0, 0, 0, 0, 0, 0, 0, 0, 0, 0, 0, 0, 0, 0, 0, 0,
+    0, 0, 0, 0, 0, 0, 0, 0, 0, 0, 0, 0, 0, 0, 0, 0, 0, 0, 0, 0, 0, 0, 1, 1, 0, 0, 0, 1, 0, 0, 0, 0,
+    0, 0, 0, 5, 0, 0, 0, 5, 104, 101, 108, 108,
+];
+
+/// The first transaction of site 1.
+pub const TID: [u8; 13] = [1, 0, 0, 0, 1, 0, 0, 0, 0, 0, 0, 0, 1];
+
+/// The objects 1, 5 and 1, 4.
+pub const OBJECT: [u8; 12] = [0, 0, 0, 1, 0, 0, 0, 0, 0, 0, 0, 5];
+
+pub const BEFORE: [u8; 12] = [0, 0, 0, 1, 0, 0, 0, 0, 0, 0, 0, 4];
+
+/// A count that is told, how many objects stand there, and whether a list is read so.
+pub static LISTS: [(u16, u16, bool); 6] = [
+    (1, 1, true),
+    (256, 256, true),
+    (0, 0, false),
+    (257, 257, false),
+    (2, 1, false),
+    (1, 2, false),
+];
+
+/// The parts, one behind the other.
+pub fn joined(alloc: Global, parts: &[&[u8]]) -> Result<Vec<u8>, AllocError> {
+    let mut all = Vec::new(alloc);
+    for part in parts {
+        all.extend_from_slice(part)?;
+    }
+    Ok(all)
+}
+
+/// The front, the count that is told, and so many objects that rise.
+pub fn with_objects(
+    alloc: Global,
+    front: &[&[u8]],
+    count: u16,
+    objects: u16,
+) -> Result<Vec<u8>, AllocError> {
+    let mut bytes = joined(alloc, front)?;
+    bytes.extend_from_slice(&count.to_be_bytes())?;
+    for local in 0..objects {
+        bytes.extend_from_slice(&[0, 0, 0, 1, 0, 0, 0, 0, 0, 0])?;
+        bytes.extend_from_slice(&local.to_be_bytes())?;
+    }
+    Ok(bytes)
+}
