@@ -1,3 +1,5 @@
 pub mod Held
+pub mod Heard
+pub mod Kept
 pub mod Seen
-pub mod Changed
+pub mod Bridge

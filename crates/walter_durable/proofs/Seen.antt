@@ -15,7 +15,11 @@ pub record IsLeast (H : Holdings) (site least : ℕ) : Type 0 where
   pub most : (k : ℕ) → k ≤ own H → ArePassed H site k → k ≤ least
 
 pub least_first : (H : Holdings) → IsLeast H 0 (own H)
-least_first H = record { within = omega arith; each = λ peer lt apart. absurd (omega (arith, lt)); most = λ k le passed. le }
+least_first H = record {
+  within = omega arith;
+  each = λ peer lt apart. absurd (omega (arith, lt));
+  most = λ k le passed. le;
+}
 
 passed_before : (H : Holdings) (site k : ℕ) → ArePassed H (site + 1) k → ArePassed H site k
 passed_before H site k passed peer lt apart = passed peer (omega (arith, lt)) apart
@@ -30,7 +34,8 @@ least_here H site least here is = record {
   most = λ k le passed. is.most k le (passed_before H site k passed);
 }
 
-pub least_peer : (H : Holdings) (site least : ℕ) → site ≢ H.site.0 → IsLeast H site least → IsLeast H (site + 1) (min least (entry_at H.visible (site_at site)))
+pub least_peer : (H : Holdings) (site least : ℕ) → site ≢ H.site.0 → IsLeast H site least
+    → IsLeast H (site + 1) (min least (entry_at H.visible (site_at site)))
 least_peer H site least other is = record {
   within = omega (arith, is.within);
   each = λ peer lt apart. elim (cases_lt peer site) [

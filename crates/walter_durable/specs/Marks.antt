@@ -57,20 +57,28 @@ holders H q = count_by (holds H q) (all_sites H.sites)
 abbrev pub preferred_of : Holdings → ℕ → List SiteId
 preferred_of H q = slice_index_or H.preferred (q - 1) []
 
--- it is held by more sites than may be lost, the preferred sites of what it changed among them
-pub record IsHeld (H : Holdings) (q : ℕ) : Type 0 where
+-- it is held by more sites than may be lost, these sites among them
+pub record IsHeldAt (H : Holdings) (q : ℕ) (sites : List SiteId) : Type 0 where
   pub enough : H.tolerated + 1 ≤ holders H q
-  pub preferred : All (λ site. holds H q site ≡ true) (preferred_of H q)
+  pub preferred : All (λ site. holds H q site ≡ true) sites
+
+-- the preferred sites of what it changed among them
+abbrev pub IsHeld : Holdings → ℕ → Type 0
+IsHeld H q = IsHeldAt H q (preferred_of H q)
 
 -- each own commit up to m is held
 pub record AreHeld (H : Holdings) (m : ℕ) : Type 0 where
   pub within : m ≤ own H
   pub each : (q : ℕ) → 1 ≤ q → q ≤ m → IsHeld H q
 
+-- each peer has called so many own commits visible
+abbrev pub HaveCalled : Holdings → ℕ → Type 0
+HaveCalled H m = (peer : ℕ) → peer < H.sites → peer ≢ H.site.0 → m ≤ entry_at H.visible (site_at peer)
+
 -- each peer has called the own commits up to m visible
 pub record AreVisible (H : Holdings) (m : ℕ) : Type 0 where
   pub within : m ≤ own H
-  pub each : (peer : ℕ) → peer < H.sites → peer ≢ H.site.0 → m ≤ entry_at H.visible (site_at peer)
+  pub each : HaveCalled H m
 
 -- the greatest number of which something holds
 pub record IsGreatest (P : ℕ → Type 0) (m : ℕ) : Type 0 where
@@ -114,10 +122,13 @@ with_acknowledged peer number H = record H { acknowledged = heard (own H) H.ackn
 abbrev pub with_visible : SiteId → ℕ → Holdings → Holdings
 with_visible peer number H = record H { visible = heard (own H) H.visible peer number }
 
+-- marks that don't fall, and are of own commits
+pub record CanJournal (H : Holdings) (durable visible : ℕ) : Type 0 where
+  pub durable_rises : H.durable_floor ≤ durable
+  pub durable_own : durable ≤ own H
+  pub visible_rises : H.visible_floor ≤ visible
+  pub visible_own : visible ≤ own H
+
 -- the marks are journaled
 abbrev pub with_floors : ℕ → ℕ → Holdings → Holdings
 with_floors durable visible H = record H { durable_floor = durable; visible_floor = visible }
-
--- what peers said is lost
-abbrev pub restarted : Holdings → Holdings
-restarted H = record H { acknowledged = replicate H.sites 0; visible = replicate H.sites 0 }

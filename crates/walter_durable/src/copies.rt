@@ -1,6 +1,7 @@
 use walter_base::{SiteId, Sites, Vts};
 
-/// Which sites hold the own commits: this one all of them, and a peer those that it has acknowledged.
+/// The own commits, and the sites that are to hold them. This one holds all of them, and a peer those that it has
+/// acknowledged: how many, is an argument.
 #[derive(Drop)]
 pub struct Copies {
     pub site: SiteId,
@@ -9,36 +10,34 @@ pub struct Copies {
     pub tolerated: u8,
     /// By own commit, the preferred sites of the objects that it changed.
     pub preferred: Vec<Sites>,
-    /// By site, how many own commits it has acknowledged.
-    pub acknowledged: Vts,
 }
 
 impl Copies {
-    ghost use Rattle.std.specs.Prelude.{◌≡◌, ◌<◌, ◌↔◌, true, All, IsTrue};
-    ghost use Rattle.walter_durable.specs.Marks.{own, holds, holders, preferred_of, IsHeld, AreHeld};
-    ghost use Rattle.walter_durable.specs.Counted.{holdings_in, IsCounted};
+    ghost use Rattle.std.specs.Prelude.{◌≡◌, ◌<◌, ◌≤◌, ◌↔◌, true, length, All, IsTrue};
+    ghost use Rattle.walter_durable.specs.Marks.{own, holds, holders, IsHeldAt, IsHeld, AreHeld};
+    ghost use Rattle.walter_durable.specs.Counted.{copies_in, IsCounted};
 
     /// How many own commits there are.
     pub fn own(&self) -> u64
-        ensures { result ≡ own (holdings_in self.now) }
+        ensures { result ≡ length self.now.preferred.items }
     {
         self.preferred.len() as u64
     }
 
     /// Whether the site holds own commit `q`.
-    fn holds(&self, q: u64, site: SiteId) -> bool
-        ensures { result ≡ holds (holdings_in self.now) q site }
+    fn holds(&self, q: u64, site: SiteId, acknowledged: &Vts) -> bool
+        ensures { result ≡ holds (copies_in self.now acknowledged.now) q site }
     {
-        site.0 == self.site.0 || q <= self.acknowledged.get(site)
+        site.0 == self.site.0 || q <= acknowledged.get(site)
     }
 
     /// How many sites hold it.
-    fn holders(&self, q: u64) -> u8
-        ensures { result ≡ holders (holdings_in self.now) q }
+    fn holders(&self, q: u64, acknowledged: &Vts) -> u8
+        ensures { result ≡ holders (copies_in self.now acknowledged.now) q }
     {
         let mut count = 0;
         for site in 0..self.sites {
-            let holds = self.holds(q, SiteId(site));
+            let holds = self.holds(q, SiteId(site), acknowledged);
             if holds {
                 count += 1;
             }
@@ -46,34 +45,41 @@ impl Copies {
         count
     }
 
-    /// Whether each preferred site of what it changed holds it.
-    fn at_preferred(&self, q: u64) -> bool
-        requires { 0 < q }
-        ensures { let H = holdings_in self.now in
-            IsTrue result ↔ All (λ site. holds H q site ≡ true) (preferred_of H q) }
+    /// Whether each of the sites holds it.
+    fn are_holders(&self, q: u64, sites: &Sites, acknowledged: &Vts) -> bool
+        ensures { IsTrue result ↔ All (λ site. holds (copies_in self.now acknowledged.now) q site ≡ true) sites.now }
     {
-        let Some(sites) = self.preferred.get((q - 1) as usize) else {
-            return true;
-        };
-        sites.as_slice().iter().all(|site| self.holds(q, *site))
+        let mut sites = sites.as_slice().iter();
+        sites.all(|site| self.holds(q, *site, acknowledged))
     }
 
-    /// Whether it may be called durable, as far as the ones before it may.
-    fn is_held(&self, q: u64) -> bool
-        requires { 0 < q }
-        ensures { IsTrue result ↔ IsHeld (holdings_in self.now) q }
+    /// Whether it may be called durable, as far as the ones before it may, where these are the preferred sites of the
+    /// objects that it changed.
+    pub fn is_held_at(&self, q: u64, preferred: &Sites, acknowledged: &Vts) -> bool
+        ensures { IsTrue result ↔ IsHeldAt (copies_in self.now acknowledged.now) q preferred.now }
     {
-        self.holders(q) > self.tolerated && self.at_preferred(q)
+        self.holders(q, acknowledged) > self.tolerated
+            && self.are_holders(q, preferred, acknowledged)
+    }
+
+    /// The same of one that is kept.
+    fn is_held(&self, q: u64, acknowledged: &Vts) -> bool
+        requires some { 0 < q }
+        requires within { q ≤ own (copies_in self.now acknowledged.now) }
+        ensures { IsTrue result ↔ IsHeld (copies_in self.now acknowledged.now) q }
+    {
+        let preferred = &self.preferred[(q - 1) as usize];
+        self.is_held_at(q, preferred, acknowledged)
     }
 
     /// Counts on from a number up to which the own commits are held. It looks at each that it counts, and at the next.
-    pub fn count_on(&self, from: u64) -> u64
-        requires { AreHeld (holdings_in self.now) from }
-        ensures { IsCounted (holdings_in self.now) result }
+    pub fn count_on(&self, from: u64, acknowledged: &Vts) -> u64
+        requires { AreHeld (copies_in self.now acknowledged.now) from }
+        ensures { IsCounted (copies_in self.now acknowledged.now) result }
     {
         let mut counted = from;
         while counted < self.own() {
-            if !self.is_held(counted + 1) {
+            if !self.is_held(counted + 1, acknowledged) {
                 break;
             }
             counted += 1;

@@ -1,6 +1,7 @@
-ghost use Rattle.std.specs.Prelude.{◌≡◌, ◌<◌, ◌≤◌, ◌+◌, IsOk, OnOk};
+ghost use Rattle.std.specs.Prelude.{◌≡◌, ◌<◌, ◌≤◌, ◌+◌, length, IsOk, OnOk, ◌↔◌, IsTrue};
 ghost use Rattle.walter_base.specs.Vectors.{most_sites, entry_at};
-ghost use Rattle.walter_durable.specs.Marks.{unbegun, own, AreVisible, IsGreatest, IsDurableMark, IsVisibleMark, IsPossible, with_own, with_acknowledged, with_visible, with_floors, restarted};
+ghost use Rattle.walter_durable.specs.Marks.{unbegun, own, heard, AreVisible, IsGreatest, IsDurableMark, IsVisibleMark, IsPossible, with_own, with_acknowledged, with_visible, with_floors, CanJournal};
+ghost use Rattle.walter_durable.specs.Counted.{IsCounted};
 
 use crate::copies::Copies;
 use std::alloc::Global;
@@ -12,6 +13,8 @@ use walter_base::{Mem, SiteId, Sites, Vts};
 #[derive(Drop)]
 pub struct Durable {
     copies: Copies,
+    /// By site, how many own commits it has acknowledged.
+    acknowledged: Vts,
     visible: Vts,
     /// How many own commits are held one after another, from the first on.
     counted: u64,
@@ -22,17 +25,28 @@ pub struct Durable {
 impl Model for Durable {
     ghost use Rattle.std.specs.Prelude.{◌-◌, vec_len, vec_capacity};
     ghost use Rattle.walter_durable.specs.Marks.{HoldingsWithRoom, IsPossible};
-    ghost use Rattle.walter_durable.specs.Counted.{holdings_with, holdings_in, IsCounted};
 
     ghost Value = { HoldingsWithRoom };
 
+    ghost use Rattle.walter_durable.specs.Counted.{kept_in, IsCounted};
+
     ghost view = { λ d. record {
-      holdings = holdings_with d.copies d.visible d.durable_floor d.visible_floor;
+      holdings = kept_in d;
       room = vec_capacity d.copies.preferred - vec_len d.copies.preferred;
     } };
 
-    ghost invariant = { λ d. IsPossible (holdings_with d.copies d.visible d.durable_floor d.visible_floor)
-        × IsCounted (holdings_in d.copies) d.counted };
+    ghost invariant = { λ d. IsPossible (kept_in d) × IsCounted (kept_in d) d.counted };
+}
+
+/// What peers have said, where one says a number: a greater one than before is believed, up to the most.
+fn after_hearing(mut said: Vts, most: u64, peer: SiteId, number: u64) -> Vts
+    requires { peer.0 < length said }
+    ensures { result ≡ heard most said peer number }
+{
+    if number <= most {
+        said.raise(peer, number);
+    }
+    said
 }
 
 impl Durable {
@@ -49,8 +63,8 @@ impl Durable {
                 sites,
                 tolerated,
                 preferred: Vec::new(alloc),
-                acknowledged: Vts::zero(sites),
             },
+            acknowledged: Vts::zero(sites),
             visible: Vts::zero(sites),
             counted: 0,
             durable_floor: 0,
@@ -70,7 +84,14 @@ impl Durable {
     pub fn acknowledged(&self, peer: SiteId) -> u64
         ensures { result ≡ entry_at self.now.holdings.acknowledged peer }
     {
-        self.copies.acknowledged.get(peer)
+        self.acknowledged.get(peer)
+    }
+
+    /// How many own commits the site has called visible.
+    pub fn visible(&self, peer: SiteId) -> u64
+        ensures { result ≡ entry_at self.now.holdings.visible peer }
+    {
+        self.visible.get(peer)
     }
 
     /// Makes room for one more own commit.
@@ -90,33 +111,29 @@ impl Durable {
         ensures holdings { self.new.holdings ≡ with_own preferred self.old.holdings }
         ensures room { self.new.room + 1 ≡ self.old.room }
     {
+        self.counted = self.counted_with_own(&preferred);
         self.copies.preferred.push_reserved(preferred);
-        self.counted = self.copies.count_on(self.counted);
     }
 
     /// Takes in that the site has received so many own commits.
-    pub fn ack(&mut self, peer: SiteId, got: u64)
+    pub fn hear_acknowledged(&mut self, peer: SiteId, got: u64)
         requires { peer.0 < self.old.holdings.sites }
         ensures holdings { self.new.holdings ≡ with_acknowledged peer got self.old.holdings }
+        ensures possible { IsPossible self.old.holdings }
         ensures room { self.new.room ≡ self.old.room }
     {
-        if got > self.copies.own() {
-            return;
-        }
-        self.copies.acknowledged.raise(peer, got);
-        self.counted = self.copies.count_on(self.counted);
+        self.acknowledged = after_hearing(self.acknowledged, self.copies.own(), peer, got);
+        self.counted = self.copies.count_on(self.counted, &self.acknowledged);
     }
 
     /// Takes in that the site has committed so many own commits.
-    pub fn visible(&mut self, peer: SiteId, committed: u64)
+    pub fn hear_visible(&mut self, peer: SiteId, committed: u64)
         requires { peer.0 < self.old.holdings.sites }
         ensures holdings { self.new.holdings ≡ with_visible peer committed self.old.holdings }
+        ensures possible { IsPossible self.old.holdings }
         ensures room { self.new.room ≡ self.old.room }
     {
-        if committed > self.copies.own() {
-            return;
-        }
-        self.visible.raise(peer, committed);
+        self.visible = after_hearing(self.visible, self.copies.own(), peer, committed);
     }
 
     /// How many own commits are durable.
@@ -128,27 +145,84 @@ impl Durable {
         self.durable_floor.max(self.counted)
     }
 
+    /// How many would be, with one more that changed objects of these preferred sites.
+    pub fn durable_mark_with_own(&self, preferred: &Sites) -> u64
+        ensures mark { IsDurableMark (with_own preferred.now self.now.holdings) result }
+        ensures rises { self.now.holdings.durable_floor ≤ result }
+        ensures within { result ≤ own self.now.holdings + 1 }
+    {
+        self.durable_floor.max(self.counted_with_own(preferred))
+    }
+
+    /// How many would be, if the site had received so many own commits. It looks at those that the mark moves over, and
+    /// at the next.
+    pub fn durable_mark_with_acknowledged(&self, peer: SiteId, got: u64) -> u64
+        requires { peer.0 < self.now.holdings.sites }
+        ensures mark { IsDurableMark (with_acknowledged peer got self.now.holdings) result }
+        ensures rises { self.now.holdings.durable_floor ≤ result }
+        ensures within { result ≤ own self.now.holdings }
+        ensures possible { IsPossible self.now.holdings }
+    {
+        let acknowledged = after_hearing(self.acknowledged, self.copies.own(), peer, got);
+        let counted = self.copies.count_on(self.counted, &acknowledged);
+        self.durable_floor.max(counted)
+    }
+
+    /// How many own commits are held one after another, with one more that changed objects of these preferred sites.
+    fn counted_with_own(&self, preferred: &Sites) -> u64
+        ensures { IsCounted (with_own preferred.now self.now.holdings) result }
+    {
+        let next = self.copies.own() + 1;
+        if self.counted + 1 == next && self.copies.is_held_at(next, preferred, &self.acknowledged) {
+            next
+        } else {
+            self.counted
+        }
+    }
+
     /// How many own commits are visible everywhere.
     pub fn visible_mark(&self) -> u64
         ensures mark { IsVisibleMark self.now.holdings result }
         ensures rises { self.now.holdings.visible_floor ≤ result }
         ensures within { result ≤ own self.now.holdings }
     {
-        self.visible_floor.max(self.seen())
+        self.visible_floor.max(self.seen(&self.visible))
     }
 
-    /// How many own commits each peer has called visible.
-    fn seen(&self) -> u64
-        ensures greatest { IsGreatest (AreVisible self.now.holdings) result }
+    /// How many would be, if the site had committed so many own commits.
+    pub fn visible_mark_with_visible(&self, peer: SiteId, committed: u64) -> u64
+        requires { peer.0 < self.now.holdings.sites }
+        ensures mark { IsVisibleMark (with_visible peer committed self.now.holdings) result }
+        ensures rises { self.now.holdings.visible_floor ≤ result }
+        ensures within { result ≤ own self.now.holdings }
+        ensures possible { IsPossible self.now.holdings }
+    {
+        let visible = after_hearing(self.visible, self.copies.own(), peer, committed);
+        self.visible_floor.max(self.seen(&visible))
+    }
+
+    /// How many own commits each peer has called visible, where they have called so many visible.
+    fn seen(&self, visible: &Vts) -> u64
+        ensures greatest { IsGreatest (AreVisible (record self.now.holdings { visible = visible.now })) result }
         ensures possible { IsPossible self.now.holdings }
     {
         let mut least = self.copies.own();
         for site in 0..self.copies.sites {
             if site != self.copies.site.0 {
-                least = least.min(self.visible.get(SiteId(site)));
+                least = least.min(visible.get(SiteId(site)));
             }
         }
         least
+    }
+
+    /// Whether these marks can be journaled: they don't fall, and are of own commits.
+    pub fn can_journal(&self, durable: u64, visible: u64) -> bool
+        ensures { IsTrue result ↔ CanJournal self.now.holdings durable visible }
+    {
+        self.durable_floor <= durable
+            && durable <= self.copies.own()
+            && self.visible_floor <= visible
+            && visible <= self.copies.own()
     }
 
     /// Takes in that these marks are journaled.
@@ -162,15 +236,5 @@ impl Durable {
     {
         self.durable_floor = durable;
         self.visible_floor = visible;
-    }
-
-    /// Loses what peers said. It looks at the own commits from the first on.
-    pub fn boot(&mut self)
-        ensures holdings { self.new.holdings ≡ restarted self.old.holdings }
-        ensures room { self.new.room ≡ self.old.room }
-    {
-        self.copies.acknowledged = Vts::zero(self.copies.sites);
-        self.visible = Vts::zero(self.copies.sites);
-        self.counted = self.copies.count_on(0);
     }
 }

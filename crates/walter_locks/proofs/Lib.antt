@@ -4,3 +4,4 @@ pub mod Numbers
 pub mod Adding
 pub mod Owning
 pub mod Marked
+pub mod Leaving

@@ -5,7 +5,7 @@ use Rattle.walter_base.specs.declared.names.ObjId.{ObjId}
 use Rattle.walter_base.specs.declared.names.Tid.{Tid}
 use Rattle.walter_base.specs.Names.{same_object}
 use Rattle.walter_base.proofs.NameTests.{same_object-true, same_object_refl}
-use Rattle.walter_locks.specs.Parts.{has_object}
+use Rattle.walter_rules.specs.Slow.{has_object}
 
 same_turned : (a b : ObjId) → same_object a b ≡ same_object b a
 same_turned a b = by (same_object a b) (same_object b a) refl refl

@@ -12,7 +12,8 @@ use Rattle.walter_base.proofs.NameTests.{same_object-true, same_object_refl}
 use Rattle.walter_locks.specs.declared.lock.Lock.{Lock}
 use Rattle.walter_locks.specs.declared.lock.SlowId.{SlowId}
 use Rattle.walter_locks.specs.Intervals.{Numbers}
-use Rattle.walter_locks.specs.Parts.{Part, Free, Locked, Over, same_slow, has_object, is_dead, lock_of, owner_in, is_slow, does_lock, unlocked, AreSingle}
+use Rattle.walter_locks.specs.Parts.{same_slow, is_dead, lock_of, owner_in, AreSingle}
+use Rattle.walter_rules.specs.Slow.{Part, Free, Locked, Over, has_object, is_slow, does_lock, unlocked}
 use Rattle.walter_locks.proofs.SingleLocks.{same_slow-true, owner_found, lock_found, one_lock}
 
 pub contains_has : (oid : ObjId) (objects : List ObjId) → Contains objects oid → has_object oid objects ≡ true
@@ -70,6 +71,15 @@ pub stays_unlocked : (b dead : Bool) (o : Option Lock) → (b ≡ true → o ≡
 stays_unlocked false dead o none = refl
 stays_unlocked true dead o none = subst (λ (x : Option Lock). part_in x dead ≡ unlocked (part_in x dead)) (sym (none refl)) (unlocked_part None dead (λ is. absurd (cc)))
 
+-- what a part that has an object, or hasn't, tells of the lock
+pub lock_with : (o : Option Lock) (dead : Bool) (oid : ObjId) → does_lock (part_in o dead) oid ≡ true → (l : Lock) × (o ≡ Some l) × (has_object oid l.objects ≡ true)
+lock_with None true oid is = absurd (cc)
+lock_with None false oid is = absurd (cc)
+lock_with (Some l) dead oid is = (l, refl, is)
+
+pub lock_without : (o : Option Lock) (dead : Bool) (oid : ObjId) (l : Lock) → does_lock (part_in o dead) oid ≡ false → o ≡ Some l → has_object oid l.objects ≡ false
+lock_without o dead oid l is at = subst (λ x. does_lock (part_in x dead) oid ≡ false) at is
+
 pub locks_nothing : (dead : Bool) (oid : ObjId) → does_lock (part_in None dead) oid ≡ false
 locks_nothing true oid = refl
 locks_nothing false oid = refl
@@ -112,13 +122,15 @@ module _ (old new : List (SlowId × Lock)) (dead : List Numbers) (key : SlowId) 
         | false ↦ λ same at. alive j n (subst (λ o. IsSome o) at is)
       ] refl (given j n)
 
-  pub alive_left : ((j : SiteId) (n : ℕ) → lock_of new j n ≡ cond (same_slow key (record { coordinator = j; slow = n })) None (lock_of old j n))
-      → (j : SiteId) (n : ℕ) → IsSome (lock_of new j n) → is_dead dead j n ≡ false
-  alive_left given j n is = alive j n (some_left (same_slow key (record { coordinator = j; slow = n })) (lock_of old j n) (subst (λ o. IsSome o) (given j n) is))
-    where
-      some_left : (b : Bool) (o : Option Lock) → IsSome (cond b None o) → IsSome o
-      some_left true o is = absurd (cc)
-      some_left false o is = is
+-- where some of the locks go
+pub alive_left : (old new : List (SlowId × Lock)) (dead : List Numbers) (goes : SiteId → ℕ → Bool) → ((j : SiteId) (n : ℕ) → IsSome (lock_of old j n) → is_dead dead j n ≡ false)
+    → ((j : SiteId) (n : ℕ) → lock_of new j n ≡ cond (goes j n) None (lock_of old j n))
+    → (j : SiteId) (n : ℕ) → IsSome (lock_of new j n) → is_dead dead j n ≡ false
+alive_left old new dead goes alive given j n is = alive j n (some_left (goes j n) (lock_of old j n) (subst (λ o. IsSome o) (given j n) is))
+  where
+    some_left : (b : Bool) (o : Option Lock) → IsSome (cond b None o) → IsSome o
+    some_left true o is = absurd (cc)
+    some_left false o is = is
 
 pub alive_marked : (locks : List (SlowId × Lock)) (dead marked : List Numbers) (coordinator : SiteId) (slow : ℕ) → lock_of locks coordinator slow ≡ None
     → ((j : SiteId) (n : ℕ) → is_dead marked j n ≡ (is_slow coordinator slow j n || is_dead dead j n))

@@ -8,7 +8,8 @@ use Rattle.walter_base.specs.Names.{same_site}
 use Rattle.walter_base.proofs.NameTests.{both, same_site-true, same_site_refl}
 use Rattle.walter_locks.specs.declared.lock.Lock.{Lock}
 use Rattle.walter_locks.specs.declared.lock.SlowId.{SlowId}
-use Rattle.walter_locks.specs.Parts.{same_slow, has_object, owner_in, AreSingle}
+use Rattle.walter_locks.specs.Parts.{same_slow, owner_in, AreSingle}
+use Rattle.walter_rules.specs.Slow.{has_object}
 
 pub same_slow-true : (a b : SlowId) → same_slow a b ≡ true → a ≡ b
 same_slow-true a b h =
@@ -30,7 +31,7 @@ no_head : (b : Bool) (x : Lock) (o : Option Lock) → cond b (Some x) o ≡ None
 no_head true x o is = absurd (cc)
 no_head false x o is = (refl, is)
 
-no_owner : (b : Bool) (tid : Tid) (o : Option Tid) → (if b then Some tid else o) ≡ None → (b ≡ false) × (o ≡ None)
+pub no_owner : (b : Bool) (tid : Tid) (o : Option Tid) → (if b then Some tid else o) ≡ None → (b ≡ false) × (o ≡ None)
 no_owner true tid o is = absurd (cc)
 no_owner false tid o is = (refl, is)
 

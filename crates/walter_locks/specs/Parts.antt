@@ -1,5 +1,5 @@
--- What a site has of the slow commits that ask for its objects (docs/SITE.md, "Locks").
-use Rattle.std.specs.Prelude.{◌≡◌, ◌<◌, ◌≤◌, ℕ, nat_eq, Bool, true, false, ◌&&◌, List, [], ◌∷◌, slice_get, Option, Some, None, IsSome, if◌then◌else◌}
+-- What the table of locks has of slow commits, as the rules' parts (docs/SITE.md, "Locks").
+use Rattle.std.specs.Prelude.{◌≡◌, ◌<◌, ◌≤◌, ℕ, nat_eq, Bool, true, false, not, ◌&&◌, List, [], ◌∷◌, filter, slice_get, Option, Some, None, IsSome, if◌then◌else◌}
 use Rattle.std.specs.List.{list_any}
 use Rattle.std.specs.Map.{lookup}
 use Rattle.std.specs.Option.{option_map_or}
@@ -9,13 +9,8 @@ use Rattle.walter_base.specs.declared.names.Tid.{Tid}
 use Rattle.walter_base.specs.Names.{same_site, same_object}
 use Rattle.walter_locks.specs.declared.lock.Lock.{Lock}
 use Rattle.walter_locks.specs.declared.lock.SlowId.{SlowId}
+use Rattle.walter_rules.specs.Slow.{Part, Free, Locked, Over, has_object}
 use Rattle.walter_locks.specs.Intervals.{Numbers, is_among}
-
--- what a site has of a slow commit: nothing, a lock on these objects for its transaction, or that it is over
-pub data Part : Type 0 where
-  Free : Part
-  Locked : Tid → List ObjId → Part
-  Over : Part
 
 -- the locks by their slow commits, and for each coordinator the numbers that are over; for how many more objects and
 -- locks there is room without memory
@@ -28,9 +23,6 @@ pub record Table : Type 0 where
 abbrev pub same_slow : SlowId → SlowId → Bool
 same_slow a b = same_site a.coordinator b.coordinator && nat_eq a.slow b.slow
 
-abbrev pub has_object : ObjId → List ObjId → Bool
-has_object oid objects = list_any (same_object oid) objects
-
 -- the number of the coordinator is over
 abbrev pub is_dead : List Numbers → SiteId → ℕ → Bool
 is_dead dead j n = option_map_or (λ numbers. is_among n numbers.intervals) (slice_get dead j.0) false
@@ -38,7 +30,7 @@ is_dead dead j n = option_map_or (λ numbers. is_among n numbers.intervals) (sli
 abbrev pub lock_of : List (SlowId × Lock) → SiteId → ℕ → Option Lock
 lock_of locks j n = lookup (same_slow (record { coordinator = j; slow = n })) locks
 
--- by the locks, else by the numbers that are over
+-- what there is here of a slow commit: by the locks, else by the numbers that are over
 abbrev pub part_of : Table → SiteId → ℕ → Part
 part_of table j n =
     option_map_or (λ lock. Locked lock.owner lock.objects) (lock_of table.locks j n)
@@ -52,21 +44,16 @@ owner_in (e ∷ es) oid = if has_object oid e.1.objects then Some e.1.owner else
 abbrev pub owner_of : Table → ObjId → Option Tid
 owner_of table oid = owner_in table.locks oid
 
--- the two name the same slow commit
-abbrev pub is_slow : SiteId → ℕ → SiteId → ℕ → Bool
-is_slow j n k m = same_site j k && nat_eq n m
+-- whether the lock is of the coordinator, and has the object
+abbrev pub is_lock_by : SiteId → SlowId × Lock → ObjId → Bool
+is_lock_by coordinator e oid = same_site coordinator e.0.coordinator && has_object oid e.1.objects
 
--- whether the part is a lock that has the object
-abbrev pub does_lock : Part → ObjId → Bool
-does_lock Free oid = false
-does_lock (Locked tid objects) oid = has_object oid objects
-does_lock Over oid = false
+abbrev pub is_locked_by : SiteId → List (SlowId × Lock) → ObjId → Bool
+is_locked_by coordinator locks oid = list_any (λ e. is_lock_by coordinator e oid) locks
 
--- without its lock
-abbrev pub unlocked : Part → Part
-unlocked Free = Free
-unlocked (Locked tid objects) = Free
-unlocked Over = Over
+-- the locks of other coordinators
+abbrev pub of_others : SiteId → List (SlowId × Lock) → List (SlowId × Lock)
+of_others coordinator locks = filter (λ e. not (same_site coordinator e.0.coordinator)) locks
 
 -- a lock of so many objects can be taken without memory
 abbrev pub CanLock : Table → ℕ → Type 0

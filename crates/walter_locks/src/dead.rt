@@ -1,6 +1,7 @@
 ghost use Rattle.std.specs.Prelude.{◌≡◌, ◌<◌, ◌≤◌, ◌||◌, [], ℕ, nat_eq, false, length, All, IfOk, OnOk, IsOk};
 ghost use Rattle.walter_base.specs.declared.names.SiteId.{SiteId as Site};
-ghost use Rattle.walter_locks.specs.Parts.{is_dead, is_slow, room_of};
+ghost use Rattle.walter_locks.specs.Parts.{is_dead, room_of};
+ghost use Rattle.walter_rules.specs.Slow.{is_slow};
 
 use crate::intervals::Intervals;
 use std::alloc::Global;

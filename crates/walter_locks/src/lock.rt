@@ -1,3 +1,9 @@
+ghost use Rattle.std.specs.Prelude.{◌≡◌, ◌≤◌, not};
+ghost use Rattle.indexmap.specs.IndexMap.{spare};
+ghost use Rattle.walter_base.specs.Names.{same_site};
+ghost use Rattle.walter_locks.specs.Parts.{of_others};
+
+use indexmap::IndexMap;
 use walter_base::{Objects, SiteId, Tid};
 
 /// A slow commit: its coordinator, and its number there.
@@ -12,4 +18,16 @@ pub struct SlowId {
 pub struct Lock {
     pub owner: Tid,
     pub objects: Objects,
+}
+
+/// Drops the locks of the coordinator, and keeps the order of the others.
+pub fn drop_locks(locks: &mut IndexMap<SlowId, Lock>, coordinator: SiteId)
+    ensures others { locks.new.entries ≡ of_others coordinator locks.old.entries }
+    ensures room { spare locks.old ≤ spare locks.new }
+{
+    locks.retain(
+        |id: &SlowId, lock: &mut Lock| -> bool
+            ensures { (result ≡ not (same_site coordinator id.now.coordinator)) × (lock.new ≡ lock.old) }
+        { id.coordinator != coordinator },
+    );
 }

@@ -1,14 +1,15 @@
-ghost use Rattle.std.specs.Prelude.{◌≡◌, ◌<◌, ◌≤◌, ◌↔◌, ℕ, nat_eq, length, false, Some, None, All, Contains, IsTrue, IfOk, OnOk, IsOk, if◌then◌else◌};
+ghost use Rattle.std.specs.Prelude.{◌≡◌, ◌<◌, ◌≤◌, ◌↔◌, ℕ, nat_eq, length, true, false, Some, None, All, Contains, IsTrue, IfOk, OnOk, IsOk, List, if◌then◌else◌};
 ghost use Rattle.walter_base.specs.declared.names.ObjId.{ObjId as Object};
 ghost use Rattle.walter_base.specs.declared.names.SiteId.{SiteId as Site};
 ghost use Rattle.walter_base.specs.declared.names.Tid.{Tid as Owner};
-ghost use Rattle.std.specs.Prelude.{List};
-ghost use Rattle.walter_locks.specs.Parts.{Free, Locked, Over, part_of, owner_of, has_object, is_slow, does_lock, unlocked, CanLock, CanRelease};
+ghost use Rattle.walter_base.specs.Names.{same_site};
+ghost use Rattle.walter_locks.specs.Parts.{part_of, owner_of, CanLock, CanRelease};
+ghost use Rattle.walter_rules.specs.Slow.{Free, Locked, Over, has_object, is_slow, does_lock, unlocked};
 
 use crate::dead::{is_among, make_room, mark, none_dead};
 use crate::intervals::Intervals;
-use crate::lock::{Lock, SlowId};
-use crate::owners::{disown, own};
+use crate::lock::{Lock, SlowId, drop_locks};
+use crate::owners::{disown, disown_all, own};
 use indexmap::IndexMap;
 use std::alloc::Global;
 use std::marker::Model;
@@ -29,7 +30,12 @@ impl Model for Locks {
 
     ghost Value = { Table };
 
-    ghost view = { λ t. record { locks = t.locks.entries; dead = t.dead.items; objects = spare t.owners; places = spare t.locks } };
+    ghost view = { λ t. record {
+      locks = t.locks.entries;
+      dead = t.dead.items;
+      objects = spare t.owners;
+      places = spare t.locks;
+    } };
 
     ghost invariant = { λ t. AreLinked t.owners.entries t.locks.entries t.dead.items };
 }
@@ -132,7 +138,8 @@ impl Locks {
             ≡ (if does_lock (part_of self.old coordinator slow) oid then None else owner_of self.old oid) }
         ensures sites { length self.new.dead ≡ length self.old.dead }
         ensures locks { (k : ℕ) → CanLock self.old k → CanLock self.new k }
-        ensures releases { (j : Site) → nat_eq coordinator.0 j.0 ≡ false → CanRelease self.old j → CanRelease self.new j }
+        ensures releases { (j : Site) → nat_eq coordinator.0 j.0 ≡ false → CanRelease self.old j
+            → CanRelease self.new j }
     {
         self.unlock(coordinator, slow);
         mark(&mut self.dead, coordinator, slow);
@@ -152,5 +159,21 @@ impl Locks {
             return;
         };
         disown(&mut self.owners, lock.objects.as_slice());
+    }
+
+    /// The locks of all slow commits of the coordinator go; none of them is over by that. Takes no memory.
+    pub fn unlock_all(&mut self, coordinator: SiteId)
+        ensures parts { (j : Site) (n : ℕ) → part_of self.new j n
+            ≡ (if same_site coordinator j then unlocked (part_of self.old j n) else part_of self.old j n) }
+        ensures freed { (oid : Object) (n : ℕ) → does_lock (part_of self.old coordinator n) oid ≡ true
+            → owner_of self.new oid ≡ None }
+        ensures others { (oid : Object) → ((n : ℕ) → does_lock (part_of self.old coordinator n) oid ≡ false)
+            → owner_of self.new oid ≡ owner_of self.old oid }
+        ensures sites { length self.new.dead ≡ length self.old.dead }
+        ensures locks { (k : ℕ) → CanLock self.old k → CanLock self.new k }
+        ensures releases { (j : Site) → CanRelease self.old j → CanRelease self.new j }
+    {
+        disown_all(&mut self.owners, &self.locks, coordinator);
+        drop_locks(&mut self.locks, coordinator);
     }
 }

@@ -1,12 +1,15 @@
-ghost use Rattle.std.specs.Prelude.{◌≡◌, ◌≤◌, ◌+◌, length, Some, None, if◌then◌else◌};
+ghost use Rattle.std.specs.Prelude.{◌≡◌, ◌≤◌, ◌+◌, length, slice_get, false, Some, None, if◌then◌else◌};
 ghost use Rattle.std.specs.Map.{lookup};
+ghost use Rattle.std.specs.Option.{option_map_or};
 ghost use Rattle.indexmap.specs.IndexMap.{spare};
 ghost use Rattle.walter_base.specs.declared.names.ObjId.{ObjId as Object};
 ghost use Rattle.walter_base.specs.Names.{same_object};
-ghost use Rattle.walter_locks.specs.Parts.{has_object};
+ghost use Rattle.walter_locks.specs.Parts.{is_lock_by, is_locked_by};
+ghost use Rattle.walter_rules.specs.Slow.{has_object};
 
+use crate::lock::{Lock, SlowId};
 use indexmap::IndexMap;
-use walter_base::{ObjId, Tid};
+use walter_base::{ObjId, SiteId, Tid};
 
 /// Makes the transaction the owner of the objects, without taking memory.
 pub fn own(owners: &mut IndexMap<ObjId, Tid>, objects: &[ObjId], tid: Tid)
@@ -27,5 +30,41 @@ pub fn disown(owners: &mut IndexMap<ObjId, Tid>, objects: &[ObjId])
 {
     for oid in objects {
         owners.swap_remove(oid);
+    }
+}
+
+/// Takes their owners from the objects of the coordinator's locks.
+pub fn disown_all(
+    owners: &mut IndexMap<ObjId, Tid>,
+    locks: &IndexMap<SlowId, Lock>,
+    coordinator: SiteId,
+)
+    ensures owners { (oid : Object) → lookup (same_object oid) owners.new.entries
+        ≡ (if is_locked_by coordinator locks.now.entries oid then None
+        else lookup (same_object oid) owners.old.entries) }
+    ensures room { spare owners.old ≤ spare owners.new }
+{
+    for place in 0..locks.len() {
+        disown_at(owners, locks, place, coordinator);
+    }
+}
+
+/// Takes their owner from the objects of the lock at a place, where it is the coordinator's.
+fn disown_at(
+    owners: &mut IndexMap<ObjId, Tid>,
+    locks: &IndexMap<SlowId, Lock>,
+    place: usize,
+    coordinator: SiteId,
+)
+    ensures owners { (oid : Object) → lookup (same_object oid) owners.new.entries
+        ≡ (if option_map_or (λ e. is_lock_by coordinator e oid) (slice_get locks.now.entries place) false
+        then None else lookup (same_object oid) owners.old.entries) }
+    ensures room { spare owners.old ≤ spare owners.new }
+{
+    let Some((id, lock)) = locks.get_index(place) else {
+        return;
+    };
+    if id.coordinator == coordinator {
+        disown(owners, lock.objects.as_slice());
     }
 }

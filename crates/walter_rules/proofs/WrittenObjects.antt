@@ -27,7 +27,7 @@ container_before a b less = or_left (nat_lt a.container b.container)
     (nat_eq a.container b.container && nat_lt a.local b.local) (lt-ltb a.container b.container less)
 
 -- two objects of which neither comes before the other are one
-one_object : (a b : ObjId) → precedes a b ≡ false → precedes b a ≡ false → a ≡ b
+pub one_object : (a b : ObjId) → precedes a b ≡ false → precedes b a ≡ false → a ≡ b
 one_object a b first second =
     let same : a.container ≡ b.container = elim (cases_order a.container b.container) [
       | inl equal ↦ equal

@@ -33,7 +33,7 @@ use Rattle.walter_rules.specs.declared.outcome.Outcome.TheVariants.{Replied}
 use Rattle.walter_rules.specs.Conflicts.{first_conflict, cause_of}
 use Rattle.walter_rules.specs.Knowledge.{Knowledge, from_to}
 use Rattle.walter_rules.specs.Learning.{recorded}
-use Rattle.walter_rules.specs.Log.{of_site, sees}
+use Rattle.walter_rules.specs.Log.{seq_in, sees}
 use Rattle.walter_rules.specs.Marks.{durable_mark, visible_mark}
 use Rattle.walter_rules.specs.Objects.{objects_at, are_local, participants}
 use Rattle.walter_rules.specs.Sending.{Send, to_each, own_sends, prepare_of}
@@ -109,7 +109,7 @@ commits_open catalog i K s (update ∷ updates) =
 
 -- the number of the own commit that is this transaction, if there is one
 abbrev pub seq_of : SiteId → Knowledge → Tid → Option ℕ
-seq_of i K tid = slice_get (filter_map (λ h. if same_tid tid h.tx.tid then Some h.seq else None) (of_site i K.log)) 0
+seq_of i K tid = seq_in i K.log tid
 
 abbrev pub tells_version : SiteId → Option ℕ → Expected
 tells_version i (Some seq) = answers (Committed (own_version i seq))

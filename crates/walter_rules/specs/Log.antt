@@ -1,11 +1,12 @@
 -- The transactions that a site holds, its own and received ones, in order, and what a vector sees of them.
-use Rattle.std.specs.Prelude.{ℕ, ◌-◌, nat_le, Bool, List, filter, slice_get, Option, option_map}
+use Rattle.std.specs.Prelude.{ℕ, ◌-◌, nat_le, Bool, List, filter, filter_map, slice_get, Option, Some, None, option_map, if◌then◌else◌}
 use Rattle.std.specs.List.{list_any}
 use Rattle.walter_base.specs.declared.names.ObjId.{ObjId}
 use Rattle.walter_base.specs.declared.names.SiteId.{SiteId}
+use Rattle.walter_base.specs.declared.names.Tid.{Tid}
 use Rattle.walter_base.specs.declared.names.Version.{Version}
 use Rattle.walter_base.specs.declared.transaction.Tx.{Tx}
-use Rattle.walter_base.specs.Names.{same_site, same_object}
+use Rattle.walter_base.specs.Names.{same_site, same_object, same_tid}
 use Rattle.walter_base.specs.Values.{write_set}
 use Rattle.walter_base.specs.Vectors.{entry_at}
 use Rattle.walter_rules.specs.declared.held.Held.{Held}
@@ -23,6 +24,10 @@ of_site site log = filter (is_of site) log
 -- the commit of this number of a site, counted from 1
 abbrev pub commit_at : SiteId → ℕ → List Held → Option Tx
 commit_at site seq log = option_map (λ h. h.tx) (slice_get (of_site site log) (seq - 1))
+
+-- the number of the site's first commit that is this transaction, if there is one
+abbrev pub seq_in : SiteId → List Held → Tid → Option ℕ
+seq_in site log tid = slice_get (filter_map (λ h. if same_tid tid h.tx.tid then Some h.seq else None) (of_site site log)) 0
 
 -- whether the vector sees it
 abbrev pub sees : List ℕ → Held → Bool

@@ -14,7 +14,8 @@ use Rattle.slab.specs.Slab.{Slab, get, slab_len, with_value, Updates}
 use Rattle.slab.proofs.SlabLemmas.{Updates-with_value}
 use Rattle.walter_session.specs.declared.slot.Slot.{Slot}
 use Rattle.walter_base.specs.ByClient.{AreApart, changed, without}
-use Rattle.walter_session.specs.Sessions.{SessionView, SessionWithRoom, Table, table_in, sessions_of, session_of, kept_in, clients_in, IsKeyOf, AreLinked}
+use Rattle.walter_rules.specs.Sessions.{Session}
+use Rattle.walter_session.specs.Sessions.{SessionWithRoom, Table, table_in, sessions_of, session_of, kept_in, clients_in, IsKeyOf, AreLinked}
 use Rattle.walter_session.proofs.Tables.{moved}
 use Rattle.walter_base.proofs.ByClient.{absent_head, absent_tail, changed-absent, without-absent, apart_behind, apart_left}
 
@@ -294,7 +295,7 @@ module _ (slots : Slab Slot) (keys : List (ℕ × ℕ)) (client key : ℕ) (was 
 
   -- a table of what was kept before
   module _ (before : Table) (view : clients_in slots keys ≡ before.clients) where
-    pub lent_clients : (f : SessionView → SessionView) → (kept_in now).session ≡ f (kept_in was).session
+    pub lent_clients : (f : Session → Session) → (kept_in now).session ≡ f (kept_in was).session
         → clients_in (with_value slots key now) keys ≡ changed client (moved f (kept_in now).room) before.clients
     lent_clients f is =
         write_clients slots (with_value slots key now) client key (Some now) (only_own slots keys client key linked.each at) wrote (moved f (kept_in now).room) was now refl here

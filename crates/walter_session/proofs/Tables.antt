@@ -7,7 +7,8 @@ use Rattle.std.proofs.lemmas.Bool.{eqb-true}
 use Rattle.std.proofs.lemmas.Option.{slice_get-map}
 use Rattle.walter_base.specs.ByClient.{changed, without}
 use Rattle.walter_base.proofs.ByClient.{lookup-changed_into, lookup-without, seen-changed as changed_in_view}
-use Rattle.walter_session.specs.Sessions.{SessionView, SessionWithRoom, Table, room_of}
+use Rattle.walter_rules.specs.Sessions.{Session}
+use Rattle.walter_session.specs.Sessions.{SessionWithRoom, Table, room_of}
 
 abbrev pub kept_of : Table → ℕ → Option SessionWithRoom
 kept_of table client = lookup (nat_eq client) table.clients
@@ -16,7 +17,7 @@ abbrev pub room_in : Option SessionWithRoom → ℕ
 room_in kept = option_map_or (λ k. k.room) kept 0
 
 -- what is kept, as it is seen
-abbrev pub seen_of : List (ℕ × SessionWithRoom) → List (ℕ × SessionView)
+abbrev pub seen_of : List (ℕ × SessionWithRoom) → List (ℕ × Session)
 seen_of clients = map (λ e. (e.0, e.1.session)) clients
 
 -- what is seen at a place
@@ -24,10 +25,10 @@ pub seen_at : (clients : List (ℕ × SessionWithRoom)) (place : ℕ) (kept : Op
 seen_at clients place kept at = slice_get-map (λ (e : ℕ × SessionWithRoom). (e.0, e.1.session)) clients place ∙ ap (option_map (λ e. (e.0, e.1.session))) at
 
 -- another session with this room
-abbrev pub moved : (SessionView → SessionView) → ℕ → SessionWithRoom → SessionWithRoom
+abbrev pub moved : (Session → Session) → ℕ → SessionWithRoom → SessionWithRoom
 moved f room kept = record { session = f kept.session; room = room }
 
-pub seen-changed : (client room : ℕ) (f : SessionView → SessionView) (clients : List (ℕ × SessionWithRoom)) → seen_of (changed client (moved f room) clients) ≡ changed client f (seen_of clients)
+pub seen-changed : (client room : ℕ) (f : Session → Session) (clients : List (ℕ × SessionWithRoom)) → seen_of (changed client (moved f room) clients) ≡ changed client f (seen_of clients)
 seen-changed client room f clients = changed_in_view (λ (k : SessionWithRoom). k.session) client (moved f room) f clients (λ k. refl)
 
 -- what is kept of the client is this now

@@ -1,47 +1,38 @@
 -- Sessions with the numbers of their clients, in the order of their starts.
-use Rattle.std.specs.Prelude.{◌≡◌, ◌↔◌, ◌<◌, ◌≤◌, ◌-◌, ◌++◌, ℕ, nat_eq, Bool, false, if◌then◌else◌, List, [], ◌∷◌, map, filter_map, length, All, Option, Some, None, IsSome, option_map, vec_len, vec_capacity}
+use Rattle.std.specs.Prelude.{◌≡◌, ◌<◌, ◌≤◌, ◌-◌, ℕ, List, [], map, filter_map, length, All, Option, Some, None, IsSome, option_map, vec_len, vec_capacity}
 use Rattle.std.specs.Option.{option_map_or}
 use Rattle.slab.specs.Slab.{Slab, get, slab_len}
 use Rattle.walter_base.specs.declared.names.Tid.{Tid}
-use Rattle.walter_base.specs.declared.update.Update.{Update}
 use Rattle.walter_base.specs.ByClient.{of_client, AreApart}
-use Rattle.walter_session.specs.declared.session.Session.{Session}
-use Rattle.walter_session.specs.declared.session.Stage.{Stage}
-use Rattle.walter_session.specs.declared.session.Stage.TheVariants.{Open, Deciding}
+use Rattle.walter_rules.specs.Sessions.{Session, Sessions, session_in}
+use Rattle.walter_session.specs.declared.session.Session.{Session as Kept}
 use Rattle.walter_session.specs.declared.session.StartFault.{StartFault}
 use Rattle.walter_session.specs.declared.session.StartFault.TheVariants.{TxOpen, SessionsFull, NoMemory}
 use Rattle.walter_session.specs.declared.slot.Slot.{Slot}
 
--- a session as it is seen: its updates are a list
-pub record SessionView : Type 0 where
-  pub tid : Tid
-  pub snapshot : List ℕ
-  pub updates : List Update
-  pub stage : Stage
-
-abbrev pub session_view : Session → SessionView
-session_view s = record { tid = s.tid; snapshot = s.snapshot; updates = s.updates.items; stage = s.stage }
+-- a session in the rules' words
+abbrev pub session_view : Kept → Session
+session_view s = record { tid = s.tid; snapshot = s.snapshot; updates = s.updates.items; slow = s.slow }
 
 -- a session, and how many updates can be added without memory
 pub record SessionWithRoom : Type 0 where
-  pub session : SessionView
+  pub session : Session
   pub room : ℕ
 
 -- what is kept of each client that has a session, in the order of the starts; and for how many more sessions there are
--- slots, and keys, and for how many more slow commits there are numbers, without memory
+-- slots, and keys, without memory
 pub record Table : Type 0 where
   pub clients : List (ℕ × SessionWithRoom)
   pub slots : ℕ
   pub keys : ℕ
-  pub numbers : ℕ
 
 -- the sessions with their clients, in the order of their starts
-abbrev pub sessions_of : Table → List (ℕ × SessionView)
+abbrev pub sessions_of : Table → Sessions
 sessions_of table = map (λ e. (e.0, e.1.session)) table.clients
 
 -- the session of a client, if it has one
-abbrev pub session_of : Table → ℕ → Option SessionView
-session_of table client = of_client client (sessions_of table)
+abbrev pub session_of : Table → ℕ → Option Session
+session_of table client = session_in client (sessions_of table)
 
 -- how many updates can be added to the client's session without memory; 0 where it has none
 abbrev pub room_of : Table → ℕ → ℕ
@@ -52,39 +43,22 @@ abbrev pub CanStart : Table → Type 0
 CanStart table = (0 < table.slots) × (0 < table.keys)
 
 -- a session as it starts
-abbrev pub started : Tid → List ℕ → SessionView
-started tid snapshot = record { tid = tid; snapshot = snapshot; updates = []; stage = Open }
-
-abbrev pub with_update : Update → SessionView → SessionView
-with_update update s = record s { updates = s.updates ++ update ∷ [] }
-
-abbrev pub with_stage : Stage → SessionView → SessionView
-with_stage stage s = record s { stage = stage }
-
--- the session is of a transaction whose slow commit of this number is being decided
-abbrev pub IsDeciding : ℕ → Option SessionView → Type 0
-IsDeciding slow None = ⊥
-IsDeciding slow (Some s) = s.stage ≡ Deciding slow
-
--- whether a stage waits for the slow commit of this number
-abbrev pub names_number : Stage → ℕ → Bool
-names_number (Deciding number) slow = nat_eq number slow
-names_number stage slow = false
-
--- a stage takes a number that no other client's session waits for, and there is room for it
-pub record CanStage (table : Table) (client : ℕ) (stage : Stage) : Type 0 where
-  pub apart : (slow other : ℕ) → stage ≡ Deciding slow → IsDeciding slow (session_of table other) → other ≡ client
-  pub room : (slow : ℕ) → stage ≡ Deciding slow → 0 < table.numbers
+abbrev pub started : Tid → List ℕ → Session
+started tid snapshot = record { tid = tid; snapshot = snapshot; updates = []; slow = 0 }
 
 -- why no session starts: the client has one; else there are as many as there may be; else there is no memory
 abbrev pub IsStartFault : Table → ℕ → StartFault → Type 0
 IsStartFault table client TxOpen = IsSome (session_of table client)
 IsStartFault table client SessionsFull = (session_of table client ≡ None) × (256 ≤ length (sessions_of table))
-IsStartFault table client NoMemory = (session_of table client ≡ None) × (length (sessions_of table) < 256) × ¬ CanStart table
+IsStartFault table client NoMemory =
+    (session_of table client ≡ None) × (length (sessions_of table) < 256) × ¬ CanStart table
 
 -- what a slot keeps
 abbrev pub kept_in : Slot → SessionWithRoom
-kept_in slot = record { session = session_view slot.session; room = vec_capacity slot.session.updates - vec_len slot.session.updates }
+kept_in slot = record {
+  session = session_view slot.session;
+  room = vec_capacity slot.session.updates - vec_len slot.session.updates;
+}
 
 -- what the slots keep of each client, by the key of its slot
 abbrev pub clients_in : Slab Slot → List (ℕ × ℕ) → List (ℕ × SessionWithRoom)
@@ -106,16 +80,4 @@ pub record AreLinked (keys : List (ℕ × ℕ)) (slots : Slab Slot) : Type 0 whe
 
 -- what the slots keep under these keys, whatever room there is
 abbrev pub table_in : Slab Slot → List (ℕ × ℕ) → Table
-table_in slots keys = record { clients = clients_in slots keys; slots = 0; keys = 0; numbers = 0 }
-
--- the client that is found under a number is the one whose session waits for it
-abbrev pub AreNumbered : (ℕ → Option ℕ) → Table → Type 0
-AreNumbered found table = (slow client : ℕ) → (found slow ≡ Some client) ↔ IsDeciding slow (session_of table client)
-
--- what is found under each number where a session of this stage ends, or leaves the stage
-abbrev pub unnumbered : Stage → (ℕ → Option ℕ) → ℕ → Option ℕ
-unnumbered before found slow = if names_number before slow then None else found slow
-
--- and where a client's session comes to it
-abbrev pub noted : Stage → ℕ → (ℕ → Option ℕ) → ℕ → Option ℕ
-noted after client found slow = if names_number after slow then Some client else found slow
+table_in slots keys = record { clients = clients_in slots keys; slots = 0; keys = 0 }

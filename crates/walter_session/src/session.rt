@@ -1,26 +1,13 @@
 use thiserror::Error;
-use walter_base::{Conflict, Tid, Update, Version, Vts};
+use walter_base::{Tid, Update, Vts};
 
-/// How far a transaction has come.
-#[derive(Clone, Copy, Debug, PartialEq, Eq)]
-pub enum Stage {
-    /// It takes updates.
-    Open,
-    /// Its slow commit of this number is being decided.
-    Deciding { slow: u64 },
-    /// It is committed, as this version.
-    Committed(Version),
-    /// It is aborted, over this conflict.
-    Aborted(Conflict),
-}
-
-/// The transaction of a client.
+/// The transaction of a client. It has the number of its slow commit, 0 while it is open.
 #[derive(Debug, Drop)]
 pub struct Session {
     pub tid: Tid,
     pub snapshot: Vts,
     pub updates: Vec<Update>,
-    pub stage: Stage,
+    pub slow: u64,
 }
 
 /// Why no session starts.

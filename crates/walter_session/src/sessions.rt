@@ -1,12 +1,13 @@
-ghost use Rattle.std.specs.Prelude.{◌≡◌, ◌<◌, ◌≤◌, ◌+◌, ◌++◌, ◌∷◌, ◌↔◌, [], ℕ, nat_eq, length, slice_get, false, None, IsSome, is_some, IsOk, IsTrue, OnOk, OnErr, IfErr, IfSome, IfNone, option_map, if◌then◌else◌};
+ghost use Rattle.std.specs.Prelude.{◌≡◌, ◌<◌, ◌≤◌, ◌+◌, ◌++◌, ◌∷◌, ◌↔◌, ◌&&◌, [], ℕ, nat_eq, length, slice_get, false, None, IsSome, is_some, IsOk, IsTrue, OnOk, OnErr, IfErr, option_map, if◌then◌else◌};
 ghost use Rattle.std.specs.List.{list_any};
 ghost use Rattle.std.specs.Option.{option_copied, option_map_or};
 ghost use Rattle.walter_base.specs.ByClient.{AreApart, changed, without};
 ghost use Rattle.walter_base.specs.Names.{same_tid};
-ghost use Rattle.walter_session.specs.Sessions.{session_view, sessions_of, session_of, room_of, CanStart, started, with_update, with_stage, CanStage, IsDeciding, IsStartFault};
+ghost use Rattle.walter_rules.specs.Calls.{is_open};
+ghost use Rattle.walter_rules.specs.Sessions.{with_update, with_slow};
+ghost use Rattle.walter_session.specs.Sessions.{session_view, sessions_of, session_of, room_of, CanStart, started, IsStartFault};
 
-use crate::numbers::{forget, note};
-use crate::session::{Session, Stage, StartFault};
+use crate::session::{Session, StartFault};
 use crate::slot::Slot;
 use indexmap::IndexMap;
 use slab::Slab;
@@ -24,19 +25,21 @@ pub struct Sessions {
     alloc: Global,
     keys: IndexMap<u32, usize>,
     slots: Slab<Slot>,
-    numbers: IndexMap<u64, u32>,
 }
 
 impl Model for Sessions {
-    ghost use Rattle.std.specs.Prelude.{nat_eq};
-    ghost use Rattle.indexmap.specs.IndexMap.{get, spare};
-    ghost use Rattle.walter_session.specs.Sessions.{Table, table_in, clients_in, slots_left, AreLinked, AreNumbered};
+    ghost use Rattle.indexmap.specs.IndexMap.{spare};
+    ghost use Rattle.walter_session.specs.Sessions.{Table, clients_in, slots_left, AreLinked};
 
     ghost Value = { Table };
 
-    ghost view = { λ s. record { clients = clients_in s.slots s.keys.entries; slots = slots_left s.slots; keys = spare s.keys; numbers = spare s.numbers } };
+    ghost view = { λ s. record {
+      clients = clients_in s.slots s.keys.entries;
+      slots = slots_left s.slots;
+      keys = spare s.keys;
+    } };
 
-    ghost invariant = { λ s. AreLinked s.keys.entries s.slots × AreNumbered (λ slow. get nat_eq s.numbers slow) (table_in s.slots s.keys.entries) };
+    ghost invariant = { λ s. AreLinked s.keys.entries s.slots };
 }
 
 impl Sessions {
@@ -48,7 +51,6 @@ impl Sessions {
             alloc,
             keys: IndexMap::new(alloc),
             slots: Slab::new(alloc),
-            numbers: IndexMap::new(alloc),
         }
     }
 
@@ -73,9 +75,10 @@ impl Sessions {
         Ok(())
     }
 
-    /// Starts a session of stage Open for a client, without updates, behind the others.
+    /// Starts a session for a client, open and without updates, behind the others.
     pub fn start(&mut self, client: u32, tid: Tid, snapshot: Vts) -> Result<(), StartFault>
-        ensures started { OnOk result (sessions_of self.new ≡ sessions_of self.old ++ (client, started tid snapshot) ∷ []) }
+        ensures started { OnOk result (sessions_of self.new
+            ≡ sessions_of self.old ++ (client, started tid snapshot) ∷ []) }
         ensures free { OnOk result ((session_of self.old client ≡ None) × (length (sessions_of self.old) < 256)) }
         ensures fault { IfErr result (IsStartFault self.old client) }
         ensures same { OnErr result (sessions_of self.new ≡ sessions_of self.old) }
@@ -105,7 +108,7 @@ impl Sessions {
             tid,
             snapshot,
             updates: Vec::new(self.alloc),
-            stage: Stage::Open,
+            slow: 0,
         };
         let key = self.slots.insert_reserved(Slot { client, session });
         self.keys.insert(client, key).unwrap();
@@ -131,10 +134,12 @@ impl Sessions {
     /// Puts an update behind the others of the client's session.
     pub fn add(&mut self, client: u32, update: Update) -> Mem<()>
         requires { IsSome (session_of self.old client) }
-        ensures added { OnOk result (sessions_of self.new ≡ changed client (with_update update) (sessions_of self.old)) }
+        ensures added { OnOk result (sessions_of self.new
+            ≡ changed client (with_update update) (sessions_of self.old)) }
         ensures same { OnErr result (sessions_of self.new ≡ sessions_of self.old) }
         ensures had { 0 < room_of self.old client → IsOk result }
-        ensures room { (other : ℕ) → room_of self.old other ≤ room_of self.new other + (if nat_eq client other then 1 else 0) }
+        ensures room { (other : ℕ) → room_of self.old other
+            ≤ room_of self.new other + (if nat_eq client other then 1 else 0) }
         ensures starts { CanStart self.old → CanStart self.new }
     {
         self.reserve_update(client)?;
@@ -146,7 +151,8 @@ impl Sessions {
     fn push(&mut self, client: u32, update: Update)
         requires { 0 < room_of self.old client }
         ensures added { sessions_of self.new ≡ changed client (with_update update) (sessions_of self.old) }
-        ensures room { (other : ℕ) → room_of self.new other + (if nat_eq client other then 1 else 0) ≡ room_of self.old other }
+        ensures room { (other : ℕ) → room_of self.new other + (if nat_eq client other then 1 else 0)
+            ≡ room_of self.old other }
         ensures starts { CanStart self.old → CanStart self.new }
     {
         let Some(key) = self.keys.get(&client).copied() else {
@@ -158,23 +164,9 @@ impl Sessions {
         slot.push(update);
     }
 
-    /// Makes room for the number of one more slow commit.
-    pub fn reserve_number(&mut self) -> Mem<()>
-        ensures enough { OnOk result (0 < self.new.numbers) }
-        ensures had { 0 < self.old.numbers → IsOk result }
-        ensures sessions { sessions_of self.new ≡ sessions_of self.old }
-        ensures room { (client : ℕ) → room_of self.new client ≡ room_of self.old client }
-        ensures starts { CanStart self.old → CanStart self.new }
-    {
-        self.numbers.reserve(1)?;
-        Ok(())
-    }
-
-    /// The stage of the client's session becomes this one. It takes no memory.
-    pub fn set_stage(&mut self, client: u32, stage: Stage)
-        requires some { IsSome (session_of self.old client) }
-        requires can { CanStage self.old client stage }
-        ensures stage { sessions_of self.new ≡ changed client (with_stage stage) (sessions_of self.old) }
+    /// The client's transaction has a slow commit of this number. It takes no memory.
+    pub fn set_slow(&mut self, client: u32, slow: u64)
+        ensures slow { sessions_of self.new ≡ changed client (with_slow slow) (sessions_of self.old) }
         ensures room { (other : ℕ) → room_of self.new other ≡ room_of self.old other }
         ensures starts { CanStart self.old → CanStart self.new }
     {
@@ -184,9 +176,7 @@ impl Sessions {
         let Some(slot) = self.slots.get_mut(key) else {
             return;
         };
-        let before = slot.set_stage(stage);
-        forget(&mut self.numbers, before);
-        note(&mut self.numbers, client, stage);
+        slot.set_slow(slow);
     }
 
     /// The session of a client.
@@ -198,14 +188,6 @@ impl Sessions {
         };
         let slot = self.slots.get(key)?;
         Some(&slot.session)
-    }
-
-    /// The client whose transaction waits for the slow commit of this number.
-    pub fn deciding(&self, slow: u64) -> Option<u32>
-        ensures some { IfSome result (λ client. IsDeciding slow (session_of self.now client)) }
-        ensures none { IfNone result ((client : ℕ) → ¬ IsDeciding slow (session_of self.now client)) }
-    {
-        self.numbers.get(&slow).copied()
     }
 
     /// Whether some client's session is of the transaction.
@@ -220,23 +202,56 @@ impl Sessions {
         false
     }
 
+    /// Whether some client has the transaction open.
+    pub fn has_open(&self, tid: Tid) -> bool
+        ensures { result ≡ is_open tid (sessions_of self.now) }
+    {
+        for place in 0..self.keys.len() {
+            if self.is_open_at(place, tid) {
+                return true;
+            }
+        }
+        false
+    }
+
     /// Whether the session that started at this place in their order is of the transaction.
     fn is_at(&self, place: usize, tid: Tid) -> bool
         ensures { result ≡ option_map_or (λ s. same_tid tid s.1.tid) (slice_get (sessions_of self.now) place) false }
     {
-        let Some((_, key)) = self.keys.get_index(place) else {
-            return false;
-        };
-        match self.slots.get(*key) {
-            Some(slot) => tid == slot.session.tid,
+        match self.at(place) {
+            Some(session) => tid == session.tid,
             None => false,
         }
+    }
+
+    /// Whether it is open too.
+    fn is_open_at(&self, place: usize, tid: Tid) -> bool
+        ensures { result ≡ option_map_or (λ s. same_tid tid s.1.tid && nat_eq s.1.slow 0)
+            (slice_get (sessions_of self.now) place) false }
+    {
+        match self.at(place) {
+            Some(session) => tid == session.tid && session.slow == 0,
+            None => false,
+        }
+    }
+
+    /// The session that started at this place in their order.
+    fn at(&self, place: usize) -> Option<&Session>
+        ensures { option_map session_view (option_copied result)
+            ≡ option_map (λ s. s.1) (slice_get (sessions_of self.entry.now) place) }
+    {
+        let Some((_, key)) = self.keys.get_index(place) else {
+            return None;
+        };
+        let slot = self.slots.get(*key)?;
+        Some(&slot.session)
     }
 
     /// Ends the session of a client, where it has one, and frees its slot. The order of the others stays.
     pub fn end(&mut self, client: u32)
         ensures sessions { sessions_of self.new ≡ without client (sessions_of self.old) }
-        ensures room { (other : ℕ) → room_of self.new other ≡ (if nat_eq client other then 0 else room_of self.old other) }
+        ensures room { (other : ℕ) → room_of self.new other
+            ≡ (if nat_eq client other then 0 else room_of self.old other) }
         ensures freed { self.new.slots ≡ self.old.slots + (if is_some (session_of self.old client) then 1 else 0) }
         ensures keys { self.old.keys ≤ self.new.keys }
         ensures starts { CanStart self.old → CanStart self.new }
@@ -245,9 +260,6 @@ impl Sessions {
         let Some(key) = self.keys.shift_remove(&client) else {
             return;
         };
-        let Some(slot) = self.slots.try_remove(key) else {
-            return;
-        };
-        forget(&mut self.numbers, slot.session.stage);
+        self.slots.try_remove(key);
     }
 }

@@ -1,7 +1,8 @@
 ghost use Rattle.std.specs.Prelude.{◌≡◌, ◌<◌, ◌≤◌, ◌+◌, OnOk, OnErr, IsOk};
-ghost use Rattle.walter_session.specs.Sessions.{kept_in, with_update, with_stage};
+ghost use Rattle.walter_rules.specs.Sessions.{with_update, with_slow};
+ghost use Rattle.walter_session.specs.Sessions.{kept_in};
 
-use crate::session::{Session, Stage};
+use crate::session::Session;
 use walter_base::{Mem, Update};
 
 /// A session with its client.
@@ -34,15 +35,12 @@ impl Slot {
         self.session.updates.push_reserved(update);
     }
 
-    /// The stage becomes this one. The answer is the stage before.
-    pub fn set_stage(&mut self, stage: Stage) -> Stage
-        ensures before { result ≡ (kept_in self.old).session.stage }
+    /// The session has a slow commit of this number.
+    pub fn set_slow(&mut self, slow: u64)
         ensures client { self.new.client ≡ self.old.client }
-        ensures session { (kept_in self.new).session ≡ with_stage stage (kept_in self.old).session }
+        ensures session { (kept_in self.new).session ≡ with_slow slow (kept_in self.old).session }
         ensures room { (kept_in self.new).room ≡ (kept_in self.old).room }
     {
-        let before = self.session.stage;
-        self.session.stage = stage;
-        before
+        self.session.slow = slow;
     }
 }

@@ -6,13 +6,14 @@ use Rattle.walter_base.specs.declared.update.Update.{Update}
 use Rattle.walter_base.specs.ByClient.{AreApart}
 use Rattle.walter_base.specs.Sizes.{HasShortValue, AreSmall}
 use Rattle.walter_session.specs.declared.session.Session.{Session as SessionWithRoom}
-use Rattle.walter_session.specs.Sessions.{SessionView, Table, session_view, sessions_of}
+use Rattle.walter_rules.specs.Sessions.{Session as SessionSeen}
+use Rattle.walter_session.specs.Sessions.{Table, session_view, sessions_of}
 use Rattle.walter_trail.specs.declared.held.Held.{Held}
 use Rattle.walter_trail.specs.Knowledge.{Open, Session, with_update}
 use Rattle.walter_trail.specs.Records.{IsDeclared}
 
--- an open transaction as a trail knows it
-abbrev pub as_known : SessionView → Session
+-- an open transaction as a trail knows it, without the number of a slow commit
+abbrev pub as_known : SessionSeen → Session
 as_known s = record { tid = s.tid; snapshot = s.snapshot; updates = s.updates }
 
 abbrev pub as_session : SessionWithRoom → Session

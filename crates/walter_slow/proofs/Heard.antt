@@ -6,7 +6,8 @@ use Rattle.std.proofs.lemmas.List.Sums.{count_by-le-length, sum_by-cons}
 use Rattle.walter_base.specs.declared.names.SiteId.{SiteId}
 use Rattle.walter_base.specs.Names.{same_site}
 use Rattle.walter_base.proofs.NameTests.{both, same_site-true, same_site_refl}
-use Rattle.walter_slow.specs.Sites.{has_site, is_missing, missing_count, HasRoom}
+use Rattle.walter_rules.specs.Slow.{has_site}
+use Rattle.walter_slow.specs.Sites.{is_missing, missing_count, HasRoom}
 
 heard_more : (s site : SiteId) (heard : List SiteId) → has_site s (heard ++ site ∷ []) ≡ (has_site s heard || (same_site s site || false))
 heard_more s site heard = list_any-append (same_site s) heard (site ∷ [])

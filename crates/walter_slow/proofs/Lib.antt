@@ -2,3 +2,4 @@ pub mod Heard
 pub mod Standings
 pub mod Numbers
 pub mod Verdicts
+pub mod Undecided

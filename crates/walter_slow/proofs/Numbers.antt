@@ -2,7 +2,7 @@
 use Rattle.std.proofs.Common.{◌≡◌, ◌<◌, ◌≤◌, ◌+◌, ℕ, Bool, true, false, cond, nat_eq, List, [], ◌∷◌, ◌++◌, map, Some, None, refl, arith}
 use Rattle.std.specs.Map.{lookup, remove_entry}
 use Rattle.std.proofs.lemmas.Bool.{eqb-true}
-use Rattle.walter_slow.specs.Deciding.{RiseBetween}
+use Rattle.walter_slow.specs.Tables.{RiseBetween}
 
 -- from a smaller one on
 from_smaller : (less first last : ℕ) (ns : List ℕ) → less ≤ first → RiseBetween first last ns → RiseBetween less last ns

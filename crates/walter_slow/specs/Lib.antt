@@ -1,2 +1,3 @@
 pub mod Sites
-pub mod Deciding
+pub mod Kept
+pub mod Tables

@@ -1,11 +1,7 @@
 -- Sites that are asked, and those of them that were heard.
 use Rattle.std.specs.Prelude.{◌+◌, ◌≤◌, ◌++◌, ℕ, Bool, not, ◌&&◌, List, [], ◌∷◌, length, count_by, if◌then◌else◌}
-use Rattle.std.specs.List.{list_any}
 use Rattle.walter_base.specs.declared.names.SiteId.{SiteId}
-use Rattle.walter_base.specs.Names.{same_site}
-
-abbrev pub has_site : SiteId → List SiteId → Bool
-has_site site sites = list_any (same_site site) sites
+use Rattle.walter_rules.specs.Slow.{has_site}
 
 -- whether the site is asked, and isn't heard
 abbrev pub is_missing : SiteId → List SiteId → List SiteId → Bool

@@ -1,6 +1,6 @@
 ghost use Rattle.std.specs.Prelude.{◌≡◌, ◌∷◌};
 ghost use Rattle.std.specs.List.{list_all};
-ghost use Rattle.walter_slow.specs.Sites.{has_site};
+ghost use Rattle.walter_rules.specs.Slow.{has_site};
 
 use walter_base::SiteId;
 

@@ -1,6 +1,9 @@
-ghost use Rattle.std.specs.Prelude.{◌≡◌, ◌<◌, ◌≤◌, ◌+◌, [], ℕ, nat_eq, length, slice_get, Some, None, IsSome, IsOk, OnOk, OnErr, option_map, if◌then◌else◌};
-ghost use Rattle.std.specs.Option.{option_copied};
-ghost use Rattle.walter_slow.specs.Deciding.{asking_of, dropped_of, commit_of, participants_of, numbers_of, is_number_at, unconfirmed, verdict_of, with_vote, with_confirmed, heard_yes, ended, waits_for, owes, CanBegin, RiseBetween};
+ghost use Rattle.std.specs.Prelude.{◌≡◌, ◌<◌, ◌≤◌, ◌+◌, ◌↔◌, [], ℕ, nat_eq, true, false, length, slice_get, Some, None, is_some, IsTrue, IsOk, OnOk, option_map, option_and_then, if◌then◌else◌};
+ghost use Rattle.std.specs.Option.{option_copied, option_map_or};
+ghost use Rattle.walter_base.specs.declared.transaction.Tx.{Tx as Transaction};
+ghost use Rattle.walter_base.specs.Names.{same_tid};
+ghost use Rattle.walter_slow.specs.Kept.{Kept, is_being_decided, does_decide, verdict_of, heard_yes, heard_released, heard_no, ended_by, booted, waits_for, owes};
+ghost use Rattle.walter_slow.specs.Tables.{commit_of, numbers_of, is_number_at, CanBegin, RiseBetween};
 
 use crate::slow_commit::SlowCommit;
 use crate::verdict::Verdict;
@@ -8,10 +11,10 @@ use indexmap::IndexMap;
 use std::alloc::Global;
 use std::marker::Model;
 use std::mem;
-use walter_base::{Answer, Mem, SiteId, Sites, Tx};
+use walter_base::{Answer, Conflict, Mem, SiteId, Sites, Tid, Tx};
 
 /// The slow commits of a site that are being decided, and those that ended without a commit, by rising number.
-/// Contracts read them by `asking_of` and `dropped_of`.
+/// Contracts read them by `commit_of`.
 #[derive(Drop)]
 pub struct SlowCommits {
     alloc: Global,
@@ -23,20 +26,26 @@ pub struct SlowCommits {
 impl Model for SlowCommits {
     ghost use Rattle.std.specs.Prelude.{◌≡◌, [], vec_capacity};
     ghost use Rattle.indexmap.specs.IndexMap.{keys, spare};
-    ghost use Rattle.walter_slow.specs.Deciding.{Table, RiseBetween};
+    ghost use Rattle.walter_slow.specs.Tables.{Table, RiseBetween};
 
     ghost Value = { Table };
 
-    ghost view = { λ s. record { last = s.last; commits = s.commits.entries; places = spare s.commits; seats = vec_capacity s.seats } };
+    ghost view = { λ s. record {
+      last = s.last;
+      commits = s.commits.entries;
+      places = spare s.commits;
+      seats = vec_capacity s.seats;
+    } };
 
     ghost invariant = { λ s. RiseBetween 0 s.last (keys s.commits) × (s.seats.items ≡ []) };
 }
 
 impl SlowCommits {
-    /// No slow commit, and no number is given away.
+    /// No slow commit is kept, and no number is given away.
     pub fn new(alloc: Global) -> SlowCommits
         ensures last { result.last ≡ 0 }
-        ensures none { result.commits ≡ [] }
+        ensures none { (n : ℕ) → commit_of result n ≡ None }
+        ensures numbers { numbers_of result ≡ [] }
     {
         SlowCommits {
             alloc,
@@ -69,62 +78,98 @@ impl SlowCommits {
         Some(*slow)
     }
 
-    /// Makes room for one more slow commit, of so many participants.
-    pub fn reserve(&mut self, participants: u64) -> Mem<()>
-        ensures enough { OnOk result (CanBegin self.new participants) }
-        ensures had { CanBegin self.old participants → IsOk result }
+    /// Makes room for one more slow commit, that asks so many sites.
+    pub fn reserve(&mut self, asked: u64) -> Mem<()>
+        ensures enough { OnOk result (CanBegin self.new asked) }
+        ensures had { CanBegin self.old asked → IsOk result }
         ensures last { self.new.last ≡ self.old.last }
         ensures commits { self.new.commits ≡ self.old.commits }
         ensures room { (k : ℕ) → CanBegin self.old k → CanBegin self.new k }
     {
         self.commits.reserve(1)?;
-        self.seats.reserve(participants as usize)?;
+        self.seats.reserve(asked as usize)?;
         Ok(())
     }
 
-    /// The slow commit of the next number is to be decided; no site has voted.
-    pub fn begin(&mut self, slow: u64, tx: Tx, participants: Sites) -> Mem<()>
-        requires { slow ≡ self.old.last + 1 }
-        ensures last { OnOk result (self.new.last ≡ slow) }
-        ensures asking { OnOk result ((n : ℕ) → asking_of self.new n
-            ≡ (if nat_eq slow n then Some (record { tx = tx; participants = participants; yes = [] })
-            else asking_of self.old n)) }
-        ensures dropped { OnOk result ((n : ℕ) → dropped_of self.new n ≡ dropped_of self.old n) }
-        ensures same { OnErr result ((self.new.last ≡ self.old.last) × (self.new.commits ≡ self.old.commits)) }
-        ensures had { CanBegin self.old (length participants) → IsOk result }
-    {
-        self.reserve(participants.as_slice().len() as u64)?;
-        self.put(slow, tx, participants);
-        Ok(())
-    }
-
-    /// The slow commit of the next number is to be decided, without taking memory.
-    fn put(&mut self, slow: u64, tx: Tx, participants: Sites)
+    /// The slow commit of the next number is to be decided, and no site is heard. It takes no memory.
+    pub fn begin(&mut self, slow: u64, tx: Tx, asked: Sites)
         requires next { slow ≡ self.old.last + 1 }
-        requires room { CanBegin self.old (length participants) }
+        requires room { CanBegin self.old (length asked) }
         ensures last { self.new.last ≡ slow }
-        ensures asking { (n : ℕ) → asking_of self.new n
-            ≡ (if nat_eq slow n then Some (record { tx = tx; participants = participants; yes = [] })
-            else asking_of self.old n) }
-        ensures dropped { (n : ℕ) → dropped_of self.new n ≡ dropped_of self.old n }
+        ensures commits { (n : ℕ) → commit_of self.new n
+            ≡ (if nat_eq slow n then Some (record { tx = Some tx; asked = asked; heard = []; no = None })
+            else commit_of self.old n) }
     {
         let heard = mem::replace(&mut self.seats, Vec::new(self.alloc));
         self.last = slow;
         self.commits
-            .insert(slow, SlowCommit::new(tx, participants, heard))
+            .insert(slow, SlowCommit::new(tx, asked, heard))
             .unwrap();
     }
 
     /// The transaction of a slow commit that is being decided.
     pub fn transaction(&self, slow: u64) -> Option<&Tx>
-        ensures { option_copied result ≡ option_map (λ a. a.tx) (asking_of self.entry.now slow) }
+        ensures { option_copied result ≡ option_and_then (λ kept. kept.tx) (commit_of self.entry.now slow) }
     {
         self.commits.get(&slow)?.transaction()
     }
 
-    /// What a vote would come to.
+    /// The sites that a slow commit asks, or has asked.
+    pub fn asked(&self, slow: u64) -> Option<&Sites>
+        ensures { option_copied result ≡ option_map (λ kept. kept.asked) (commit_of self.entry.now slow) }
+    {
+        let standing = self.commits.get(&slow)?;
+        Some(standing.asked())
+    }
+
+    /// The NO that ended a slow commit. There is none where a boot ended it.
+    pub fn refusal(&self, slow: u64) -> Option<Conflict>
+        ensures { result ≡ option_and_then (λ kept. kept.no) (commit_of self.now slow) }
+    {
+        self.commits.get(&slow)?.refusal()
+    }
+
+    pub fn is_kept(&self, slow: u64) -> bool
+        ensures { result ≡ is_some (commit_of self.now slow) }
+    {
+        self.commits.contains_key(&slow)
+    }
+
+    pub fn is_undecided(&self, slow: u64) -> bool
+        ensures { result ≡ is_being_decided (commit_of self.now slow) }
+    {
+        match self.commits.get(&slow) {
+            Some(standing) => standing.is_undecided(),
+            None => false,
+        }
+    }
+
+    /// Whether a slow commit of the transaction is being decided.
+    pub fn has_undecided(&self, tid: Tid) -> bool
+        ensures { IsTrue result ↔ ((n : ℕ) × (tx : Transaction) × (kept : Kept)
+            × (commit_of self.now n ≡ Some kept) × (kept.tx ≡ Some tx) × (same_tid tid tx.tid ≡ true)) }
+    {
+        for place in 0..self.count() {
+            if self.is_at(place, tid) {
+                return true;
+            }
+        }
+        false
+    }
+
+    /// Whether the slow commit at a place is being decided, and is that of the transaction.
+    fn is_at(&self, place: usize, tid: Tid) -> bool
+        ensures { result ≡ option_map_or (λ e. does_decide tid e.1) (slice_get self.now.commits place) false }
+    {
+        match self.commits.get_index(place) {
+            Some((_, standing)) => standing.is_of(tid),
+            None => false,
+        }
+    }
+
+    /// What a vote would come to. It changes nothing: `hear_yes`, `commit` and `end` do.
     pub fn verdict(&self, from: SiteId, slow: u64, answer: &Answer) -> Verdict
-        ensures { result ≡ verdict_of (asking_of self.now slow) from answer.now }
+        ensures { result ≡ verdict_of (commit_of self.now slow) from answer.now }
     {
         match self.commits.get(&slow) {
             Some(standing) => standing.verdict(from, answer),
@@ -132,29 +177,10 @@ impl SlowCommits {
         }
     }
 
-    /// Hears the vote of a site. A slow commit that it decides is still to be ended, by `commit` or `abort`.
-    pub fn vote(&mut self, from: SiteId, slow: u64, answer: &Answer) -> Verdict
-        ensures verdict { result ≡ verdict_of (asking_of self.old slow) from answer.now }
+    /// The YES of a site is heard behind the others, where the slow commit is being decided and waits for it.
+    pub fn hear_yes(&mut self, from: SiteId, slow: u64)
         ensures last { self.new.last ≡ self.old.last }
-        ensures asking { (n : ℕ) → asking_of self.new n
-            ≡ (if nat_eq slow n then option_map (with_vote from answer.now) (asking_of self.old n)
-            else asking_of self.old n) }
-        ensures dropped { (n : ℕ) → dropped_of self.new n ≡ dropped_of self.old n }
-        ensures room { (k : ℕ) → CanBegin self.old k → CanBegin self.new k }
-    {
-        let verdict = self.verdict(from, slow, answer);
-        match answer {
-            Answer::Yes => {
-                self.hear_yes(from, slow);
-                verdict
-            }
-            Answer::No(_) => verdict,
-        }
-    }
-
-    fn hear_yes(&mut self, from: SiteId, slow: u64)
-        ensures last { self.new.last ≡ self.old.last }
-        ensures standing { (n : ℕ) → commit_of self.new n
+        ensures commits { (n : ℕ) → commit_of self.new n
             ≡ (if nat_eq slow n then option_map (heard_yes from) (commit_of self.old n) else commit_of self.old n) }
         ensures room { (k : ℕ) → CanBegin self.old k → CanBegin self.new k }
     {
@@ -166,74 +192,86 @@ impl SlowCommits {
 
     /// The slow commit is committed, and kept no more.
     pub fn commit(&mut self, slow: u64)
-        requires { IsSome (asking_of self.old slow) }
+        requires { IsTrue (is_being_decided (commit_of self.old slow)) }
         ensures last { self.new.last ≡ self.old.last }
-        ensures asking { (n : ℕ) → asking_of self.new n ≡ (if nat_eq slow n then None else asking_of self.old n) }
-        ensures dropped { (n : ℕ) → dropped_of self.new n ≡ dropped_of self.old n }
+        ensures commits { (n : ℕ) → commit_of self.new n ≡ (if nat_eq slow n then None else commit_of self.old n) }
         ensures room { (k : ℕ) → CanBegin self.old k → CanBegin self.new k }
     {
         self.commits.shift_remove(&slow);
     }
 
-    /// The slow commit ends without a commit: each of its participants is owed a RELEASE.
-    pub fn abort(&mut self, slow: u64)
-        requires { IsSome (asking_of self.old slow) }
+    /// The slow commit ends without a commit, by this NO if there is one: each site that it asked is owed a RELEASE.
+    pub fn end(&mut self, slow: u64, no: Option<Conflict>)
+        requires { IsTrue (is_being_decided (commit_of self.old slow)) }
         ensures last { self.new.last ≡ self.old.last }
-        ensures asking { (n : ℕ) → asking_of self.new n ≡ (if nat_eq slow n then None else asking_of self.old n) }
-        ensures dropped { (n : ℕ) → dropped_of self.new n
-            ≡ (if nat_eq slow n then option_map unconfirmed (participants_of self.old n) else dropped_of self.old n) }
-        ensures room { (k : ℕ) → CanBegin self.old k → CanBegin self.new k }
-    {
-        self.end(slow);
-    }
-
-    fn end(&mut self, slow: u64)
-        ensures last { self.new.last ≡ self.old.last }
-        ensures numbers { numbers_of self.new ≡ numbers_of self.old }
-        ensures standing { (n : ℕ) → commit_of self.new n
-            ≡ (if nat_eq slow n then option_map ended (commit_of self.old n) else commit_of self.old n) }
+        ensures commits { (n : ℕ) → commit_of self.new n
+            ≡ (if nat_eq slow n then option_map (ended_by no) (commit_of self.old n) else commit_of self.old n) }
         ensures room { (k : ℕ) → CanBegin self.old k → CanBegin self.new k }
     {
         let Some(standing) = self.commits.get_mut(&slow) else {
             return;
         };
-        standing.end();
+        standing.end(no);
     }
 
-    /// After a restart: each slow commit that is being decided ends without a commit, and what was confirmed is
-    /// forgotten.
+    /// After a restart: each slow commit that is being decided ends without a commit.
     pub fn boot(&mut self)
         ensures last { self.new.last ≡ self.old.last }
-        ensures asking { (n : ℕ) → asking_of self.new n ≡ None }
-        ensures dropped { (n : ℕ) → dropped_of self.new n ≡ option_map unconfirmed (participants_of self.old n) }
+        ensures commits { (n : ℕ) → commit_of self.new n ≡ option_map booted (commit_of self.old n) }
         ensures room { (k : ℕ) → CanBegin self.old k → CanBegin self.new k }
     {
         for place in 0..self.count() {
-            self.end_at(place);
+            self.boot_at(place);
         }
     }
 
-    fn end_at(&mut self, place: usize)
+    fn boot_at(&mut self, place: usize)
         ensures last { self.new.last ≡ self.old.last }
         ensures numbers { numbers_of self.new ≡ numbers_of self.old }
-        ensures standing { (n : ℕ) → commit_of self.new n
-            ≡ (if is_number_at self.old place n then option_map ended (commit_of self.old n)
+        ensures commits { (n : ℕ) → commit_of self.new n
+            ≡ (if is_number_at self.old place n then option_map booted (commit_of self.old n)
             else commit_of self.old n) }
         ensures room { (k : ℕ) → CanBegin self.old k → CanBegin self.new k }
     {
         let Some(slow) = self.number_at(place) else {
             return;
         };
-        self.end(slow);
+        self.boot_one(slow);
     }
 
-    /// A participant of a slow commit that ended without a commit confirms the RELEASE.
-    pub fn released(&mut self, from: SiteId, slow: u64)
+    fn boot_one(&mut self, slow: u64)
         ensures last { self.new.last ≡ self.old.last }
-        ensures asking { (n : ℕ) → asking_of self.new n ≡ asking_of self.old n }
-        ensures dropped { (n : ℕ) → dropped_of self.new n
-            ≡ (if nat_eq slow n then option_map (with_confirmed from) (dropped_of self.old n)
-            else dropped_of self.old n) }
+        ensures numbers { numbers_of self.new ≡ numbers_of self.old }
+        ensures commits { (n : ℕ) → commit_of self.new n
+            ≡ (if nat_eq slow n then option_map booted (commit_of self.old n) else commit_of self.old n) }
+        ensures room { (k : ℕ) → CanBegin self.old k → CanBegin self.new k }
+    {
+        let Some(standing) = self.commits.get_mut(&slow) else {
+            return;
+        };
+        standing.boot();
+    }
+
+    /// The NO that ended the slow commit is heard, where it ended without a commit.
+    pub fn hear_no(&mut self, slow: u64, conflict: Conflict)
+        ensures last { self.new.last ≡ self.old.last }
+        ensures commits { (n : ℕ) → commit_of self.new n
+            ≡ (if nat_eq slow n then option_map (heard_no conflict) (commit_of self.old n)
+            else commit_of self.old n) }
+        ensures room { (k : ℕ) → CanBegin self.old k → CanBegin self.new k }
+    {
+        let Some(standing) = self.commits.get_mut(&slow) else {
+            return;
+        };
+        standing.hear_no(conflict);
+    }
+
+    /// The RELEASED of a site is heard behind the others, where the slow commit ended and owes the site a RELEASE.
+    pub fn hear_released(&mut self, from: SiteId, slow: u64)
+        ensures last { self.new.last ≡ self.old.last }
+        ensures commits { (n : ℕ) → commit_of self.new n
+            ≡ (if nat_eq slow n then option_map (heard_released from) (commit_of self.old n)
+            else commit_of self.old n) }
         ensures room { (k : ℕ) → CanBegin self.old k → CanBegin self.new k }
     {
         let Some(standing) = self.commits.get_mut(&slow) else {
@@ -244,7 +282,7 @@ impl SlowCommits {
 
     /// Whether the slow commit is being decided, and waits for the YES of the site.
     pub fn waits(&self, slow: u64, site: SiteId) -> bool
-        ensures { result ≡ waits_for self.now slow site }
+        ensures { result ≡ waits_for (commit_of self.now slow) site }
     {
         match self.commits.get(&slow) {
             Some(standing) => standing.is_undecided() && standing.misses(site),
@@ -254,7 +292,7 @@ impl SlowCommits {
 
     /// Whether the site is owed the RELEASE of the slow commit.
     pub fn owes(&self, slow: u64, site: SiteId) -> bool
-        ensures { result ≡ owes self.now slow site }
+        ensures { result ≡ owes (commit_of self.now slow) site }
     {
         match self.commits.get(&slow) {
             Some(standing) => !standing.is_undecided() && standing.misses(site),

@@ -1,45 +1,46 @@
-ghost use Rattle.std.specs.Prelude.{◌≡◌, ◌≤◌, ◌∷◌, [], Some, length, is_some, vec_capacity};
-ghost use Rattle.std.specs.List.{list_all};
+ghost use Rattle.std.specs.Prelude.{◌≡◌, ◌≤◌, ◌∷◌, [], Some, None, length, is_some, vec_capacity};
 ghost use Rattle.std.specs.Option.{option_copied};
-ghost use Rattle.walter_slow.specs.Deciding.{asking_in, verdict_of, heard_yes, heard_released, ended};
-ghost use Rattle.walter_slow.specs.Sites.{has_site, is_missing, with_heard};
+ghost use Rattle.walter_slow.specs.Kept.{does_decide, verdict_of, heard_yes, heard_released, heard_no, ended_by, booted};
+ghost use Rattle.walter_slow.specs.Sites.{is_missing, with_heard};
 
 use crate::sites::{are_heard_with, is_among};
 use crate::verdict::Verdict;
 use std::marker::Model;
-use walter_base::{Answer, Conflict, SiteId, Sites, Tx};
+use walter_base::{Answer, Conflict, SiteId, Sites, Tid, Tx};
 
 /// A slow commit. It has a transaction as long as it is being decided. There is room to hear each site that it asks.
 #[derive(Debug, Drop)]
 pub struct SlowCommit {
     tx: Option<Tx>,
-    participants: Sites,
+    asked: Sites,
     heard: Vec<SiteId>,
+    no: Option<Conflict>,
 }
 
 impl Model for SlowCommit {
     ghost use Rattle.std.specs.Prelude.{vec_capacity};
     ghost use Rattle.walter_slow.specs.Sites.{HasRoom};
-    ghost use Rattle.walter_slow.specs.Deciding.{SlowCommit};
+    ghost use Rattle.walter_slow.specs.Kept.{Kept};
 
-    ghost Value = { SlowCommit };
+    ghost Value = { Kept };
 
-    ghost view = { λ s. record { tx = s.tx; participants = s.participants; heard = s.heard.items } };
+    ghost view = { λ s. record { tx = s.tx; asked = s.asked; heard = s.heard.items; no = s.no } };
 
-    ghost invariant = { λ s. HasRoom s.participants s.heard.items (vec_capacity s.heard) };
+    ghost invariant = { λ s. HasRoom s.asked s.heard.items (vec_capacity s.heard) };
 }
 
 impl SlowCommit {
     /// No site is heard.
-    pub fn new(tx: Tx, participants: Sites, heard: Vec<SiteId>) -> SlowCommit
+    pub fn new(tx: Tx, asked: Sites, heard: Vec<SiteId>) -> SlowCommit
         requires empty { heard.items ≡ [] }
-        requires room { length participants ≤ vec_capacity heard }
-        ensures { result ≡ record { tx = Some tx; participants = participants; heard = [] } }
+        requires room { length asked ≤ vec_capacity heard }
+        ensures { result ≡ record { tx = Some tx; asked = asked; heard = []; no = None } }
     {
         SlowCommit {
             tx: Some(tx),
-            participants,
+            asked,
             heard,
+            no: None,
         }
     }
 
@@ -55,17 +56,39 @@ impl SlowCommit {
         self.tx.as_ref()
     }
 
+    pub fn asked(&self) -> &Sites
+        ensures { result.now ≡ self.now.asked }
+    {
+        &self.asked
+    }
+
+    pub fn refusal(&self) -> Option<Conflict>
+        ensures { result ≡ self.now.no }
+    {
+        self.no
+    }
+
+    /// Whether it is being decided, and is that of the transaction.
+    pub fn is_of(&self, tid: Tid) -> bool
+        ensures { result ≡ does_decide tid self.now }
+    {
+        match &self.tx {
+            Some(tx) => tid == tx.tid,
+            None => false,
+        }
+    }
+
     /// Whether the site is asked, and isn't heard.
     pub fn misses(&self, site: SiteId) -> bool
-        ensures { result ≡ is_missing site self.now.participants self.now.heard }
+        ensures { result ≡ is_missing site self.now.asked self.now.heard }
     {
-        is_among(site, self.participants.as_slice()) && !is_among(site, &self.heard)
+        is_among(site, self.asked.as_slice()) && !is_among(site, &self.heard)
     }
 
     pub fn verdict(&self, from: SiteId, answer: &Answer) -> Verdict
-        ensures { result ≡ verdict_of (asking_in self.now) from answer.now }
+        ensures { result ≡ verdict_of (Some self.now) from answer.now }
     {
-        let asked = self.participants.as_slice();
+        let asked = self.asked.as_slice();
         if !self.is_undecided() || !is_among(from, asked) {
             return Verdict::Unknown;
         }
@@ -85,6 +108,15 @@ impl SlowCommit {
         }
     }
 
+    /// The NO that ended it is heard, once it ended without a commit.
+    pub fn hear_no(&mut self, conflict: Conflict)
+        ensures { self.new ≡ heard_no conflict self.old }
+    {
+        if !self.is_undecided() {
+            self.no = Some(conflict);
+        }
+    }
+
     /// The RELEASED of a site that was asked is heard, once the slow commit ended without a commit.
     pub fn hear_released(&mut self, from: SiteId)
         ensures { self.new ≡ heard_released from self.old }
@@ -95,7 +127,7 @@ impl SlowCommit {
     }
 
     fn hear(&mut self, from: SiteId)
-        ensures { self.new ≡ record self.old { heard = with_heard from self.old.participants self.old.heard } }
+        ensures { self.new ≡ record self.old { heard = with_heard from self.old.asked self.old.heard } }
     {
         if self.misses(from) {
             self.heard.push_reserved(from);
@@ -103,10 +135,20 @@ impl SlowCommit {
     }
 
     /// It is decided no more, and no site is heard.
-    pub fn end(&mut self)
-        ensures { self.new ≡ ended self.old }
+    pub fn end(&mut self, no: Option<Conflict>)
+        ensures { self.new ≡ ended_by no self.old }
     {
         self.tx = None;
         self.heard.clear();
+        self.no = no;
+    }
+
+    /// It ends where it is being decided, by no site's NO.
+    pub fn boot(&mut self)
+        ensures { self.new ≡ booted self.old }
+    {
+        if self.is_undecided() {
+            self.end(None);
+        }
     }
 }

@@ -1,24 +1,18 @@
 -- Which commits a site takes from others, which of them it commits here, and which of its own it sends (docs/SITE.md,
 -- "Propagation").
-use Rattle.std.specs.Prelude.{◌≡◌, ◌+◌, ◌<◌, ◌≤◌, ◌++◌, ℕ, nat_le, max, min, List, [], ◌∷◌, drop, length, replicate, slice_get, slice_index, slice_index_or, slice_set, Option, Some, None, if◌then◌else◌}
+use Rattle.std.specs.Prelude.{◌≡◌, ◌+◌, ◌<◌, ◌≤◌, ℕ, nat_le, max, min, List, length, replicate, slice_index, slice_set, Option, Some, None, if◌then◌else◌}
 use Rattle.walter_base.specs.declared.names.SiteId.{SiteId}
 use Rattle.walter_base.specs.Vectors.{most_sites, entry_at, Covers}
 
 -- How far a site has come: which site it is, and how many commits above what a peer acknowledged it sends; how many
--- commits of each site it has received, and how many of these it has committed; how many of its own each peer has
--- called durable; and by site the snapshots of the commits that are received and not committed here, the oldest first
+-- commits of each site it has received, and how many of these it has committed; and how many of its own each peer has
+-- called durable
 pub record Progress : Type 0 where
   pub site : SiteId
   pub window : ℕ
   pub got : List ℕ
   pub committed : List ℕ
   pub durable : List ℕ
-  pub waiting : List (List (List ℕ))
-
--- the progress, and by site how many more of its commits can be received without memory
-pub record ProgressWithRoom : Type 0 where
-  pub progress : Progress
-  pub room : List ℕ
 
 -- at first there are no commits
 abbrev pub unbegun : SiteId → ℕ → ℕ → Progress
@@ -28,39 +22,37 @@ unbegun site sites window = record {
   got = replicate sites 0;
   committed = replicate sites 0;
   durable = replicate sites 0;
-  waiting = replicate sites [];
 }
 
 -- the number of own commits
 abbrev pub own : Progress → ℕ
 own S = entry_at S.committed S.site
 
--- the snapshots of the site's commits that are received and not committed here
-abbrev pub waiting_of : Progress → SiteId → List (List ℕ)
-waiting_of S site = slice_index_or S.waiting site.0 []
-
--- what holds of each progress: each vector and the lists have an entry for each site; the commits that are received are
--- those committed here and those waiting; and own commits don't wait
+-- what holds of each progress: each vector has an entry for each site; what is committed here is received; and own
+-- commits are committed as they are received
 pub record IsPossible (S : Progress) : Type 0 where
   pub window : 0 < S.window
   pub here : S.site.0 < length S.got
   pub few : length S.got ≤ most_sites
   pub committed : length S.committed ≡ length S.got
   pub durable : length S.durable ≡ length S.got
-  pub waiting : length S.waiting ≡ length S.got
-  pub counted : (k : ℕ) → slice_index S.committed k + length (slice_index_or S.waiting k []) ≡ slice_index S.got k
-  pub at_once : waiting_of S S.site ≡ []
+  pub received : (k : ℕ) → slice_index S.committed k ≤ slice_index S.got k
+  pub at_once : entry_at S.got S.site ≡ own S
 
 -- a commit is taken where it is the next of its site, and what it has seen is received here
 abbrev pub IsAccepted : Progress → SiteId → ℕ → List ℕ → Type 0
 IsAccepted S from seq start = (seq ≡ entry_at S.got from + 1) × Covers S.got start
 
--- the next commit of a site is committed here where it is received, its site has called it durable, and what it has
--- seen is committed here
-pub record IsEnabled (S : Progress) (from : SiteId) : Type 0 where
+-- the next commit of a site, of this snapshot, is committed here where it is received, its site has called it durable,
+-- and what it has seen is committed here
+pub record IsEnabled (S : Progress) (from : SiteId) (start : List ℕ) : Type 0 where
   pub received : entry_at S.committed from + 1 ≤ entry_at S.got from
   pub durable : entry_at S.committed from + 1 ≤ entry_at S.durable from
-  pub covered : (start : List ℕ) → slice_get (waiting_of S from) 0 ≡ Some start → Covers S.committed start
+  pub covered : Covers S.committed start
+
+-- the next own commit is within the window above what a peer has acknowledged
+abbrev pub IsWithin : Progress → ℕ → Type 0
+IsWithin S acknowledged = own S + 1 ≤ acknowledged + S.window
 
 -- from a first to a last number, where there are any
 abbrev pub span : ℕ → ℕ → Option (ℕ × ℕ)
@@ -74,19 +66,13 @@ in_window window own acknowledged = span (acknowledged + 1) (min own (acknowledg
 abbrev pub into_window : ℕ → ℕ → ℕ → ℕ → Option (ℕ × ℕ)
 into_window window own before now = span (max now (before + window) + 1) (min own (now + window))
 
--- one more commit of the site is received, with this snapshot
-abbrev pub with_received : SiteId → List ℕ → Progress → Progress
-with_received from start S = record S {
-  got = slice_set S.got from.0 (entry_at S.got from + 1);
-  waiting = slice_set S.waiting from.0 (waiting_of S from ++ start ∷ []);
-}
+-- one more commit of the site is received
+abbrev pub with_received : SiteId → Progress → Progress
+with_received from S = record S { got = slice_set S.got from.0 (entry_at S.got from + 1) }
 
--- the commit of the site that waits longest is committed here
+-- the next commit of the site is committed here
 abbrev pub with_committed : SiteId → Progress → Progress
-with_committed from S = record S {
-  committed = slice_set S.committed from.0 (entry_at S.committed from + 1);
-  waiting = slice_set S.waiting from.0 (drop 1 (waiting_of S from));
-}
+with_committed from S = record S { committed = slice_set S.committed from.0 (entry_at S.committed from + 1) }
 
 -- one more own commit, which is received and committed here
 abbrev pub with_own : Progress → Progress
@@ -98,7 +84,3 @@ with_own S = record S {
 -- the site has called so many of its commits durable
 abbrev pub with_durable : SiteId → ℕ → Progress → Progress
 with_durable from durable S = record S { durable = slice_set S.durable from.0 (max (entry_at S.durable from) durable) }
-
--- what peers said is lost
-abbrev pub restarted : Progress → Progress
-restarted S = record S { durable = replicate (length S.got) 0 }

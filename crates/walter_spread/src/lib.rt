@@ -3,4 +3,4 @@
 
 mod spread;
 
-pub use spread::{Spread, WINDOW};
+pub use spread::Spread;

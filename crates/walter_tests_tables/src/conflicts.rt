@@ -1,5 +1,5 @@
-ghost use Rattle.std.specs.Prelude.{◌≡◌, ◌∷◌, [], Some, None, IfOk, if◌then◌else◌};
-ghost use Rattle.walter_base.specs.Names.{same_object, AreRising};
+ghost use Rattle.std.specs.Prelude.{◌∷◌, [], Some, None, if◌then◌else◌};
+ghost use Rattle.walter_base.specs.Names.{same_object};
 
 use std::alloc::Global;
 use std::test::Fail;
@@ -38,12 +38,12 @@ impl Rows for Pair {
 
 const FIRST: ObjId = ObjId {
     container: 1,
-    local: 5,
+    local: 6,
 };
 
 const SECOND: ObjId = ObjId {
     container: 1,
-    local: 6,
+    local: 5,
 };
 
 const OTHER: ObjId = ObjId {
@@ -66,17 +66,14 @@ fn owner() -> Tid {
     }
 }
 
-fn both(alloc: Global) -> Mem<Objects>
-    ensures { IfOk result AreRising }
-{
+/// Two objects, not in the order of their names.
+fn both(alloc: Global) -> Mem<Objects> {
     let objects = vec![in alloc; FIRST, SECOND]?;
     Ok(Objects::from(objects))
 }
 
 /// What a commit of the objects meets, whose snapshot sees so many commits of site 0.
-fn met(objects: &Objects, seen: u64, written: ObjId, locked: ObjId) -> Result<(), Conflict>
-    requires { AreRising objects.now }
-{
+fn met(objects: &Objects, seen: u64, written: ObjId, locked: ObjId) -> Result<(), Conflict> {
     let mut snapshot = Vts::zero(2);
     snapshot.raise(SiteId(0), seen);
     let pair = Pair {

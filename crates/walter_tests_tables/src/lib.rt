@@ -1,4 +1,4 @@
-//! Tests of the tables of a site and of the definitions, one module for each crate. The crate has nothing else.
+//! Tests of the tables of a site, one module for each crate. The crate has nothing else.
 #![tactic(auto)]
 
 #[cfg(test)]
@@ -8,9 +8,9 @@ mod csets;
 #[cfg(test)]
 mod histories;
 #[cfg(test)]
-mod isolation;
-#[cfg(test)]
 mod locks;
+#[cfg(test)]
+mod logs;
 #[cfg(test)]
 mod marks;
 #[cfg(test)]

@@ -109,6 +109,20 @@ fn an_object_has_one_lock_at_most(rt: HostRuntime) -> Result<(), Fail> {
 }
 
 #[test]
+fn the_locks_of_one_coordinator_go(rt: HostRuntime) -> Result<(), Fail> {
+    let alloc = rt.alloc();
+    let mut locks = Locks::new(alloc, 2)?;
+    assert!(rt; lock(alloc, &mut locks, HOME, 1, 11, &[5])?);
+    assert!(rt; lock(alloc, &mut locks, OTHER, 1, 12, &[6])?);
+    assert!(rt; lock(alloc, &mut locks, HOME, 2, 13, &[7])?);
+    locks.unlock_all(HOME);
+    assert!(rt; locks.is_free(HOME, 1) && locks.is_free(HOME, 2) && locks.holds(OTHER, 1));
+    assert!(rt; locks.owner(object(5)).is_none() && locks.owner(object(7)).is_none());
+    assert!(rt; locks.owner(object(6)) == Some(tid(12)));
+    Ok(())
+}
+
+#[test]
 fn released_numbers_are_over(rt: HostRuntime) -> Result<(), Fail> {
     let mut locks = Locks::new(rt.alloc(), 2)?;
     release_all(&mut locks, &[1, 3, 9, 2, 7, 3, 8])?;

@@ -32,7 +32,7 @@ fn mark(
     commit(&mut table, alloc, preferred.1)?;
     for (peer, got) in acks {
         if *peer < sites {
-            table.ack(SiteId(*peer), *got);
+            table.hear_acknowledged(SiteId(*peer), *got);
         }
     }
     Ok(table.durable_mark())
@@ -62,39 +62,64 @@ fn marks_wait_for_the_preferred_site_and_each_peer(rt: HostRuntime) -> Result<()
     let mut table = Durable::new(rt.alloc(), SiteId(0), 3, 1);
     commit(&mut table, rt.alloc(), 2)?;
     assert_eq!(rt; table.own(), 1);
-    table.ack(SiteId(1), 1);
+    table.hear_acknowledged(SiteId(1), 1);
     assert_eq!(rt; table.acknowledged(SiteId(1)), 1);
     assert_eq!(rt; table.durable_mark(), 0);
-    table.ack(SiteId(2), 1);
+    table.hear_acknowledged(SiteId(2), 1);
     assert_eq!(rt; table.durable_mark(), 1);
-    table.visible(SiteId(1), 1);
+    table.hear_visible(SiteId(1), 1);
     assert_eq!(rt; table.visible_mark(), 0);
-    table.visible(SiteId(2), 1);
+    table.hear_visible(SiteId(2), 1);
     assert_eq!(rt; table.visible_mark(), 1);
     Ok(())
 }
 
-/// The marks stay at what was journaled, and what is heard after it is counted from the first own commit on.
+/// The marks stay at what was journaled, whatever peers say.
 #[test]
-fn a_boot_keeps_what_was_journaled(rt: HostRuntime) -> Result<(), Fail> {
+fn marks_stay_at_what_was_journaled(rt: HostRuntime) -> Result<(), Fail> {
     let mut table = Durable::new(rt.alloc(), SiteId(0), 3, 1);
     commit(&mut table, rt.alloc(), 1)?;
     commit(&mut table, rt.alloc(), 0)?;
-    table.ack(SiteId(1), 1);
-    table.visible(SiteId(1), 2);
-    table.visible(SiteId(2), 1);
+    table.hear_acknowledged(SiteId(1), 1);
+    table.hear_visible(SiteId(1), 2);
+    table.hear_visible(SiteId(2), 1);
+    assert_eq!(rt; table.visible(SiteId(1)), 2);
     let durable = table.durable_mark();
     let visible = table.visible_mark();
     assert_eq!(rt; (durable, visible), (1, 1));
     table.journal(durable, visible);
-    table.ack(SiteId(2), 2);
+    table.hear_acknowledged(SiteId(2), 2);
     assert_eq!(rt; table.durable_mark(), 2);
-    table.boot();
-    table.ack(SiteId(2), 2);
-    assert_eq!(rt; table.acknowledged(SiteId(1)), 0);
-    assert_eq!(rt; table.durable_mark(), 1);
     assert_eq!(rt; table.visible_mark(), 1);
-    table.ack(SiteId(1), 1);
-    assert_eq!(rt; table.durable_mark(), 2);
+    Ok(())
+}
+
+/// Site 0 has one own commit, and one of three sites may be lost.
+#[test]
+fn marks_are_asked_before_the_table_changes(rt: HostRuntime) -> Result<(), Fail> {
+    let alloc = rt.alloc();
+    let mut table = Durable::new(alloc, SiteId(0), 3, 1);
+    commit(&mut table, alloc, 2)?;
+    for (peer, got, expected) in [(1, 1, 0), (2, 1, 1), (2, 2, 0), (2, 0, 0)] {
+        assert_eq!(rt;
+            table.durable_mark_with_acknowledged(SiteId(peer), got),
+            expected
+        );
+    }
+    table.hear_visible(SiteId(1), 1);
+    for (peer, committed, expected) in [(1, 1, 0), (2, 1, 1), (2, 2, 0)] {
+        assert_eq!(rt;
+            table.visible_mark_with_visible(SiteId(peer), committed),
+            expected
+        );
+    }
+    assert_eq!(rt; table.durable_mark(), 0);
+    assert_eq!(rt; table.visible_mark(), 0);
+    let mut alone = Durable::new(alloc, SiteId(0), 3, 0);
+    commit(&mut alone, alloc, 0)?;
+    for (preferred, expected) in [(0, 2), (1, 1)] {
+        let sites = vec![in alloc; SiteId(preferred)]?;
+        assert_eq!(rt; alone.durable_mark_with_own(&Sites::from(sites)), expected);
+    }
     Ok(())
 }

@@ -1,6 +1,6 @@
 use std::test::Fail;
-use walter_base::{Bytes, Conflict, ObjId, SiteId, Tid, Update, Version, Vts};
-use walter_session::{MOST_SESSIONS, Session, Sessions, Stage, StartFault};
+use walter_base::{Bytes, ObjId, SiteId, Tid, Update, Vts};
+use walter_session::{Session, Sessions, StartFault};
 
 const OBJECT: ObjId = ObjId {
     container: 1,
@@ -42,7 +42,7 @@ fn a_client_has_one_session_at_most(rt: HostRuntime) -> Result<(), Fail> {
 }
 
 #[test]
-fn updates_and_stages_are_of_their_client(rt: HostRuntime) -> Result<(), Fail> {
+fn updates_and_slow_numbers_are_of_their_client(rt: HostRuntime) -> Result<(), Fail> {
     let mut sessions = Sessions::new(rt.alloc());
     sessions.start(7, tid(1), Vts::zero(1))?;
     sessions.start(9, tid(2), Vts::zero(1))?;
@@ -52,24 +52,11 @@ fn updates_and_stages_are_of_their_client(rt: HostRuntime) -> Result<(), Fail> {
         Update::Write(OBJECT, Bytes::from_slice(rt.alloc(), b"a")?),
     )?;
     sessions.add(7, Update::Add(OBJECT, 3))?;
-    sessions.reserve_number()?;
-    assert_eq!(rt; sessions.deciding(4), None);
-    sessions.set_stage(9, Stage::Deciding { slow: 4 });
-    assert_eq!(rt; sessions.deciding(4), Some(9));
+    sessions.set_slow(9, 4);
+    assert!(rt; sessions.has_open(tid(1)) && !sessions.has_open(tid(2)) && sessions.has(tid(2)));
     let mine = sessions.get(7).expect(&rt, "a session");
-    assert_eq!(rt; mine.updates.len(), 2);
-    assert_eq!(rt; mine.stage, Stage::Open);
+    assert!(rt; mine.updates.len() == 2 && mine.slow == 0);
     let other = sessions.get(9).expect(&rt, "a session");
-    assert_eq!(rt; other.updates.len(), 0);
-    assert_eq!(rt; other.stage, Stage::Deciding { slow: 4 });
-    let version = Version {
-        site: SiteId(0),
-        seq: 1,
-    };
-    sessions.set_stage(7, Stage::Committed(version));
-    sessions.set_stage(9, Stage::Aborted(Conflict::Dead));
-    assert_eq!(rt; sessions.deciding(4), None);
-    let mine = sessions.get(7).expect(&rt, "a session");
-    assert_eq!(rt; mine.stage, Stage::Committed(version));
+    assert!(rt; other.updates.len() == 0 && other.slow == 4);
     Ok(())
 }

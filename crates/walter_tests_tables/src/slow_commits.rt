@@ -25,6 +25,14 @@ const CONFLICT: Conflict = Conflict::Modified {
 
 const DEAD: Conflict = Conflict::Dead;
 
+fn tid(number: u64) -> Tid {
+    Tid {
+        site: SiteId(0),
+        epoch: 1,
+        number,
+    }
+}
+
 fn begin(alloc: Global, commits: &mut SlowCommits, slow: u64, sites: &[SiteId]) -> Mem<()>
     requires { slow ≡ commits.old.last + 1 }
     ensures { OnOk result (commits.new.last ≡ slow) }
@@ -33,32 +41,37 @@ fn begin(alloc: Global, commits: &mut SlowCommits, slow: u64, sites: &[SiteId]) 
     for site in sites {
         participants.push(*site)?;
     }
-    let tid = Tid {
-        site: SiteId(0),
-        epoch: 1,
-        number: slow,
-    };
     let tx = Tx {
-        tid,
+        tid: tid(slow),
         slow,
         start: Vts::zero(4),
         updates: Updates::from(Vec::new(alloc)),
     };
-    commits.begin(slow, tx, Sites::from(participants))
+    commits.reserve(participants.len() as u64)?;
+    commits.begin(slow, tx, Sites::from(participants));
+    Ok(())
 }
 
-/// Hears a vote, and ends the slow commit as the verdict says.
+/// Hears a vote, and does as the verdict says.
 fn decide(commits: &mut SlowCommits, from: SiteId, slow: u64, answer: &Answer) -> Verdict {
-    let verdict = commits.vote(from, slow, answer);
-    if commits.transaction(slow).is_none() {
+    let verdict = commits.verdict(from, slow, answer);
+    if !commits.is_undecided(slow) {
         return verdict;
     }
     match verdict {
         Verdict::Commit => commits.commit(slow),
-        Verdict::Abort(_) => commits.abort(slow),
-        Verdict::Waiting | Verdict::Unknown => {}
+        Verdict::Abort(conflict) => commits.end(slow, Some(conflict)),
+        Verdict::Waiting => hear(commits, from, slow, answer),
+        Verdict::Unknown => {}
     }
     verdict
+}
+
+fn hear(commits: &mut SlowCommits, from: SiteId, slow: u64, answer: &Answer) {
+    match answer {
+        Answer::Yes => commits.hear_yes(from, slow),
+        Answer::No(_) => {}
+    }
 }
 
 fn check_votes(rt: &impl Abort, commits: &mut SlowCommits) {
@@ -82,6 +95,23 @@ fn check_votes(rt: &impl Abort, commits: &mut SlowCommits) {
     }
 }
 
+fn check_kept(rt: &impl Abort, commits: &SlowCommits) {
+    assert!(rt; !commits.owes(2, FIRST) && !commits.owes(4, SECOND));
+    assert!(rt; commits.owes(3, FIRST) && commits.owes(3, SECOND));
+    assert!(rt; commits.waits(4, SECOND) && !commits.waits(4, FIRST));
+    assert!(rt; commits.refusal(3) == Some(CONFLICT) && commits.refusal(4).is_none());
+    assert!(rt; !commits.is_kept(2) && commits.is_kept(3) && commits.asked(3).is_some());
+    assert!(rt; !commits.has_undecided(tid(3)) && commits.has_undecided(tid(4)));
+}
+
+fn check_booted(rt: &impl Abort, commits: &SlowCommits) {
+    assert!(rt; !commits.owes(3, FIRST) && commits.owes(3, SECOND) && commits.owes(4, FIRST));
+    assert!(rt; !commits.waits(4, SECOND) && commits.transaction(4).is_none());
+    assert!(rt; commits.refusal(3) == Some(CONFLICT) && commits.refusal(4).is_none());
+    assert_eq!(rt; commits.count(), 2);
+    assert!(rt; commits.number_at(0) == Some(3) && commits.number_at(1) == Some(4));
+}
+
 #[test]
 fn votes_decide_and_releases_are_owed(rt: HostRuntime) -> Result<(), Fail> {
     let alloc = rt.alloc();
@@ -91,17 +121,12 @@ fn votes_decide_and_releases_are_owed(rt: HostRuntime) -> Result<(), Fail> {
     begin(alloc, &mut commits, 3, &[FIRST, SECOND])?;
     begin(alloc, &mut commits, 4, &[FIRST, SECOND])?;
     check_votes(&rt, &mut commits);
-    assert!(rt; !commits.owes(2, FIRST) && !commits.owes(4, SECOND));
-    assert!(rt; commits.owes(3, FIRST) && commits.owes(3, SECOND));
-    assert!(rt; commits.waits(4, SECOND) && !commits.waits(4, FIRST));
-    commits.released(FIRST, 3);
-    commits.released(STRANGER, 3);
-    commits.released(FIRST, 4);
+    check_kept(&rt, &commits);
+    commits.hear_released(FIRST, 3);
+    commits.hear_released(STRANGER, 3);
+    commits.hear_released(FIRST, 4);
     assert!(rt; !commits.owes(3, FIRST) && commits.owes(3, SECOND));
     commits.boot();
-    assert!(rt; commits.owes(3, FIRST) && commits.owes(4, FIRST));
-    assert!(rt; !commits.waits(4, SECOND));
-    assert_eq!(rt; commits.count(), 2);
-    assert!(rt; commits.number_at(0) == Some(3) && commits.number_at(1) == Some(4));
+    check_booted(&rt, &commits);
     Ok(())
 }

@@ -3,7 +3,7 @@ use Rattle.std.specs.Map.{lookup}
 use Rattle.indexmap.specs.IndexMap.{spare}
 use Rattle.walter_base.specs.declared.names.ObjId.{ObjId}
 use Rattle.walter_base.specs.Names.{same_object}
-use Rattle.walter_locks.specs.Parts.{has_object}
+use Rattle.walter_rules.specs.Slow.{has_object}
 use Rattle.walter_locks.proofs.owners.disown.Given as goal
 
 abbrev pub invariant-loop-oid : goal.invariant-loop-oid

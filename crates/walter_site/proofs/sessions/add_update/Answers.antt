@@ -1,6 +1,7 @@
 use Rattle.std.proofs.Common.{refl, ap, ◌∙◌}
 use Rattle.walter_base.proofs.ByClient.{seen-changed}
-use Rattle.walter_session.specs.Sessions.{sessions_of, with_update as with_update_seen}
+use Rattle.walter_rules.specs.Sessions.{with_update as with_update_seen}
+use Rattle.walter_session.specs.Sessions.{sessions_of}
 use Rattle.walter_session.proofs.Tables.{from_ok}
 use Rattle.walter_site.specs.Open.{as_known}
 use Rattle.walter_site.proofs.Opens.{opens, some_session}

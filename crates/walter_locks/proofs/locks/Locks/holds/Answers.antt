@@ -1,7 +1,8 @@
 use Rattle.std.proofs.Common.{◌≡◌, ◌↔◌, List, IsTrue, sym, subst}
 use Rattle.walter_base.specs.declared.names.ObjId.{ObjId}
 use Rattle.walter_base.specs.declared.names.Tid.{Tid}
-use Rattle.walter_locks.specs.Parts.{Table, Locked, part_of, lock_of, is_dead}
+use Rattle.walter_locks.specs.Parts.{Table, part_of, lock_of, is_dead}
+use Rattle.walter_rules.specs.Slow.{Locked}
 use Rattle.walter_locks.proofs.Parts.{is_locked}
 use Rattle.walter_locks.proofs.locks.Locks.holds.Goals as goal
 

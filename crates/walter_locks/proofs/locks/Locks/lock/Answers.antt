@@ -4,7 +4,8 @@ use Rattle.indexmap.proofs.CallerLemmas.{insert_entry-new}
 use Rattle.walter_base.specs.Names.{same_object}
 use Rattle.walter_locks.specs.declared.lock.Lock.{Lock}
 use Rattle.walter_locks.specs.declared.lock.SlowId.{SlowId}
-use Rattle.walter_locks.specs.Parts.{Table, Locked, AreSingle, part_of, owner_of, owner_in, lock_of, has_object, is_dead, is_slow, same_slow}
+use Rattle.walter_locks.specs.Parts.{Table, AreSingle, part_of, owner_of, owner_in, lock_of, is_dead, same_slow}
+use Rattle.walter_rules.specs.Slow.{Locked, has_object, is_slow}
 use Rattle.walter_locks.proofs.Parts.{free_part, free_objects, parts_locked, alive_locked, from_ok}
 use Rattle.walter_locks.proofs.SingleLocks.{owner_behind, single_behind}
 use Rattle.walter_locks.proofs.locks.Locks.lock.Goals as goal

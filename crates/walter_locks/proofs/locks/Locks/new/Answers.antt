@@ -1,5 +1,6 @@
 use Rattle.std.proofs.Common.{◌∙◌, ap, if◌then◌else◌}
-use Rattle.walter_locks.specs.Parts.{Free, Over, lock_of, is_dead}
+use Rattle.walter_locks.specs.Parts.{lock_of, is_dead}
+use Rattle.walter_rules.specs.Slow.{Free, Over}
 use Rattle.walter_locks.proofs.Marked.{none_over}
 use Rattle.walter_locks.proofs.Parts.{part_in}
 use Rattle.walter_locks.proofs.locks.Locks.new.Goals as goal

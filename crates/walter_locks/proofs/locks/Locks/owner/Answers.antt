@@ -1,7 +1,8 @@
 use Rattle.std.proofs.Common.{◌≡◌, ◌↔◌, ℕ, List, Some, Contains, subst}
 use Rattle.walter_base.specs.declared.names.ObjId.{ObjId}
 use Rattle.walter_base.specs.declared.names.SiteId.{SiteId}
-use Rattle.walter_locks.specs.Parts.{Table, Locked, part_of, owner_of}
+use Rattle.walter_locks.specs.Parts.{Table, part_of, owner_of}
+use Rattle.walter_rules.specs.Slow.{Locked}
 use Rattle.walter_locks.proofs.Parts.{owner_of_lock, one_owner}
 use Rattle.walter_locks.proofs.locks.Locks.owner.Goals as goal
 

@@ -2,7 +2,8 @@ use Rattle.std.proofs.Common.{◌∙◌, None, sym, ap, subst, if◌then◌else�
 use Rattle.std.specs.Map.{lookup}
 use Rattle.walter_base.specs.Names.{same_object}
 use Rattle.walter_locks.specs.declared.lock.SlowId.{SlowId}
-use Rattle.walter_locks.specs.Parts.{Table, AreSingle, part_of, owner_of, owner_in, lock_of, has_object, is_dead, is_slow, same_slow, does_lock, unlocked}
+use Rattle.walter_locks.specs.Parts.{Table, AreSingle, part_of, owner_of, owner_in, lock_of, is_dead, same_slow}
+use Rattle.walter_rules.specs.Slow.{has_object, is_slow, does_lock, unlocked}
 use Rattle.walter_locks.proofs.Parts.{part_in, parts_unlocked, alive_left}
 use Rattle.walter_locks.proofs.SingleLocks.{owner_left, single_left}
 use Rattle.walter_locks.proofs.locks.Locks.unlock.Goals as goal
@@ -20,7 +21,7 @@ invariant_of-self-2 c =
           ∙ ap (λ o. if has_object oid lock.objects then None else o) (c.self.invariant.owned oid)
           ∙ sym (ap (λ es. owner_in es oid) c.shift_remove.ensures.entries ∙ owner_left key lock es oid c.self.invariant.single at);
       single = subst AreSingle (sym c.shift_remove.ensures.entries) (single_left (same_slow key) es c.self.invariant.single);
-      alive = alive_left es c.shift_remove.new.self.entries dead key c.self.invariant.alive (λ j n. c.shift_remove.ensures.updates.0 (record { coordinator = j; slow = n }));
+      alive = alive_left es c.shift_remove.new.self.entries dead (is_slow c.args.coordinator c.args.slow) c.self.invariant.alive (λ j n. c.shift_remove.ensures.updates.0 (record { coordinator = j; slow = n }));
     }
 
 pub returns-clause-parts : goal.returns-clause-parts

@@ -14,5 +14,5 @@ loop-place-preserved c = below_more _ _ c.loop-place.invariant (sym c.is_at.ensu
 pub returns : goal.returns
 returns c =
     let count : length (sessions_of c.args.self.now) ≡ c.len-place-end.result =
-    ap (λ table. length (sessions_of table)) (sym c.self.view_is) ∙ sessions_count c.self.inside.slots c.self.inside.keys.entries c.self.invariant.0.each ∙ sym c.len-place-end.ensures.len in
+    ap (λ table. length (sessions_of table)) (sym c.self.view_is) ∙ sessions_count c.self.inside.slots c.self.inside.keys.entries c.self.invariant.each ∙ sym c.len-place-end.ensures.len in
     sym (none_passes (λ s. same_tid c.args.tid s.1.tid) (sessions_of c.args.self.now) (λ place lt. c.loop-place.invariant place (omega arith)))

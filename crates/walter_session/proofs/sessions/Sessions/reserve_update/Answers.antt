@@ -1,48 +1,35 @@
-use Rattle.std.proofs.Common.{◌≤◌, ◌<◌, ◌∙◌, nat_eq, is_some, ap, sym, subst, refl}
+use Rattle.std.proofs.Common.{◌≤◌, ◌<◌, ◌∙◌, is_some, ap, sym, subst, refl}
 use Rattle.std.proofs.lemmas.Bool.{eq-eqb}
 use Rattle.std.proofs.lemmas.Grind.{common_steps}
 use Rattle.std.proofs.Common.{arith, if◌then◌else◌}
 use Rattle.slab.specs.Slab.{with_value}
-use Rattle.walter_session.specs.Sessions.{table_in, Table, SessionView, room_of, session_of, sessions_of, kept_in}
+use Rattle.walter_rules.specs.Sessions.{Session}
+use Rattle.walter_session.specs.Sessions.{table_in, Table, room_of, session_of, sessions_of, kept_in}
 use Rattle.walter_base.proofs.ByClient.{changed-same}
 use Rattle.walter_session.proofs.Tables.{room_in, moved, seen_of, seen-changed, changed_sets, rooms, rooms_more, given_ok}
-use Rattle.indexmap.specs.IndexMap.{get}
-use Rattle.walter_session.proofs.Waiting.{numbered_changed}
 use Rattle.walter_session.proofs.Links.{never_vacant, found, lent_linked, lent_clients, lent_kept}
 use Rattle.walter_session.proofs.sessions.Sessions.reserve_update.Goals as goal
 
 pub invariant_of-self-2 : goal.invariant_of-self-2
 invariant_of-self-2 c =
-    let f = λ (s : SessionView). s in
-    let slots = c.self.inside.slots in
-    let entries = c.self.inside.keys.entries in
-    let client = c.args.client in
-    let key = c.in-Some.key in
-    let was = c.in-Some-get_mut.slot.now in
-    let now = c.make_room.new.self in
-    let before = table_in slots entries in
     let at = sym c.get.ensures.value ∙ sym c.copied.ensures ∙ c.in-Some.is in
     let here = sym c.in-Some-get_mut.ensures.value in
-    let wrote = lent_clients slots entries client key was now c.self.invariant.0 at here before refl f c.make_room.ensures.session in
-    let seen = ap seen_of wrote ∙ seen-changed client (kept_in now).room f before.clients in (
-      lent_linked slots entries client key was now c.self.invariant.0 at here c.make_room.ensures.client,
-      numbered_changed (λ slow. get nat_eq c.self.inside.numbers slow) before (table_in (with_value slots key now) entries) client f (λ s. refl) seen c.self.invariant.1,
-    )
+    lent_linked c.self.inside.slots c.self.inside.keys.entries c.args.client c.in-Some.key c.in-Some-get_mut.slot.now c.make_room.new.self c.self.invariant at here c.make_room.ensures.client
 
 pub returns-in_default-clause-enough : goal.returns-in_default-clause-enough
 returns-in_default-clause-enough c is =
     let none = ap (λ table. is_some (session_of table c.args.client)) (sym c.self.view_is)
-    ∙ found c.self.inside.slots c.self.inside.keys.entries c.args.client c.self.invariant.0.each ∙ ap is_some (sym c.get.ensures.value ∙ sym c.copied.ensures ∙ c.in_default.is) in
+    ∙ found c.self.inside.slots c.self.inside.keys.entries c.args.client c.self.invariant.each ∙ ap is_some (sym c.get.ensures.value ∙ sym c.copied.ensures ∙ c.in_default.is) in
     absurd (cc (none, is))
 
 pub returns-in_default-get_mut : goal.returns-in_default-get_mut
 returns-in_default-get_mut c =
     let at = sym c.get.ensures.value ∙ sym c.copied.ensures ∙ c.in-Some.is in
-    absurd (never_vacant c.self.inside.slots c.self.inside.keys.entries c.args.client c.in-Some.key c.self.invariant.0.each at (sym c.in_default-get_mut.ensures.value))
+    absurd (never_vacant c.self.inside.slots c.self.inside.keys.entries c.args.client c.in-Some.key c.self.invariant.each at (sym c.in_default-get_mut.ensures.value))
 
 pub returns : goal.returns
 returns c =
-    let same = λ (s : SessionView). s in
+    let same = λ (s : Session). s in
     let slots = c.self.inside.slots in
     let entries = c.self.inside.keys.entries in
     let client = c.args.client in
@@ -53,8 +40,8 @@ returns c =
     let view = ap (λ (t : Table). t.clients) c.self.view_is in
     let at = sym c.get.ensures.value ∙ sym c.copied.ensures ∙ c.in-Some.is in
     let here = sym c.in-Some-get_mut.ensures.value in
-    let kept = lent_kept slots entries client key was now c.self.invariant.0 at here before view in
-    let wrote = lent_clients slots entries client key was now c.self.invariant.0 at here before view same c.make_room.ensures.session in
+    let kept = lent_kept slots entries client key was now c.self.invariant at here before view in
+    let wrote = lent_clients slots entries client key was now c.self.invariant at here before view same c.make_room.ensures.session in
     let sets = changed_sets before (table_in (with_value slots key now) entries) client (moved same (kept_in now).room) (kept_in was) wrote kept in
     let seen = ap seen_of wrote ∙ seen-changed client (kept_in now).room same before.clients in
     let more = c.make_room.ensures.more in

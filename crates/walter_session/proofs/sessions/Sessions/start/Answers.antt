@@ -14,25 +14,25 @@ not_full {full} {n} is below = elim (nat_lt n 256) as (λ b. nat_lt n 256 ≡ b 
 
 pub returns-then-contains_key-clause-fault : goal.returns-then-contains_key-clause-fault
 returns-then-contains_key-clause-fault c =
-    let there = found c.self.inside.slots c.self.inside.keys.entries c.args.client c.self.invariant.0.each ∙ sym c.contains_key.ensures ∙ c.if-contains_key.true in
+    let there = found c.self.inside.slots c.self.inside.keys.entries c.args.client c.self.invariant.each ∙ sym c.contains_key.ensures ∙ c.if-contains_key.true in
     subst (λ table. IsSome (session_of table c.args.client)) c.self.view_is there
 
 pub returns-then-is_full-clause-fault : goal.returns-then-is_full-clause-fault
 returns-then-is_full-clause-fault c =
-    let none = no_session c.self.inside.slots c.self.inside.keys.entries c.args.client c.self.invariant.0.each (sym c.contains_key.ensures ∙ c.if-contains_key.false) in
+    let none = no_session c.self.inside.slots c.self.inside.keys.entries c.args.client c.self.invariant.each (sym c.contains_key.ensures ∙ c.if-contains_key.false) in
     (ap (λ table. session_of table c.args.client) (sym c.self.view_is) ∙ none, c.is_full.ensures.full.0 c.if-is_full.true)
 
 pub put-requires-clause-none : goal.put-requires-clause-none
 put-requires-clause-none c =
-    let none = no_session c.self.inside.slots c.self.inside.keys.entries c.args.client c.self.invariant.0.each (sym c.contains_key.ensures ∙ c.if-contains_key.false) in
+    let none = no_session c.self.inside.slots c.self.inside.keys.entries c.args.client c.self.invariant.each (sym c.contains_key.ensures ∙ c.if-contains_key.false) in
     ap (lookup (nat_eq c.args.client)) c.reserve_start.ensures.sessions ∙ ap (λ table. session_of table c.args.client) (sym c.self.view_is) ∙ none
 
 pub returns-clause-free : goal.returns-clause-free
 returns-clause-free c =
-    let none = no_session c.self.inside.slots c.self.inside.keys.entries c.args.client c.self.invariant.0.each (sym c.contains_key.ensures ∙ c.if-contains_key.false) in
+    let none = no_session c.self.inside.slots c.self.inside.keys.entries c.args.client c.self.invariant.each (sym c.contains_key.ensures ∙ c.if-contains_key.false) in
     (ap (λ table. session_of table c.args.client) (sym c.self.view_is) ∙ none, not_full c.is_full.ensures.full c.if-is_full.false)
 
 pub returns-in_default-clause-fault : goal.returns-in_default-clause-fault
 returns-in_default-clause-fault c =
-    let none = no_session c.self.inside.slots c.self.inside.keys.entries c.args.client c.self.invariant.0.each (sym c.contains_key.ensures ∙ c.if-contains_key.false) in
+    let none = no_session c.self.inside.slots c.self.inside.keys.entries c.args.client c.self.invariant.each (sym c.contains_key.ensures ∙ c.if-contains_key.false) in
     (ap (λ table. session_of table c.args.client) (sym c.self.view_is) ∙ none, not_full c.is_full.ensures.full c.if-is_full.false, λ can. true≢false (sym (c.in_default.ensures.had can)))

@@ -1,6 +1,6 @@
 use Rattle.std.proofs.Common.{nat_eq, sym, ap, subst}
 use Rattle.std.specs.Map.{keys_of}
-use Rattle.walter_slow.specs.Deciding.{RiseBetween}
+use Rattle.walter_slow.specs.Tables.{RiseBetween}
 use Rattle.walter_slow.proofs.Numbers.{rise_removed}
 use Rattle.walter_slow.proofs.slow.SlowCommits.commit.Goals as goal
 

@@ -1,6 +1,7 @@
-use Rattle.std.proofs.Common.{◌∙◌, sym, ap, subst, arith}
-use Rattle.indexmap.specs.IndexMap.{spare, keys}
-use Rattle.walter_slow.specs.Deciding.{Table, RiseBetween, numbers_of, ended}
+use Rattle.std.proofs.Common.{sym, ap, subst, arith}
+use Rattle.indexmap.specs.IndexMap.{spare}
+use Rattle.walter_slow.specs.Kept.{ended_by}
+use Rattle.walter_slow.specs.Tables.{Table, RiseBetween}
 use Rattle.walter_slow.proofs.Standings.{from_view, lent_changes, none_changes, room_kept}
 use Rattle.walter_slow.proofs.slow.SlowCommits.end.Goals as goal
 
@@ -14,21 +15,19 @@ returns c =
     let old = c.args.self.now in
     let now = c.end.new.self in
     let writes = c.get_mut.follows.holds now in
-    let changes = from_view _ old.commits _ (ap (λ (t : Table). t.commits) c.self.view_is) (lent_changes c.self.inside.commits _ c.args.slow (ended) c.in-Some.standing.now now c.in-Some.ensures.value c.end.ensures writes) in
+    let changes = from_view _ old.commits _ (ap (λ (t : Table). t.commits) c.self.view_is) (lent_changes c.self.inside.commits _ c.args.slow (ended_by c.args.no) c.in-Some.standing.now now c.in-Some.ensures.value c.end.ensures writes) in
     record {
       last = ap (λ (t : Table). t.last) c.self.view_is;
-      numbers = writes.1 ∙ ap numbers_of c.self.view_is;
-      standing = changes.at;
+      commits = changes.at;
       room = room_kept old (omega (arith, ap (λ (t : Table). t.places) c.self.view_is, writes.6)) (omega (arith, ap (λ (t : Table). t.seats) c.self.view_is));
     }
 
 pub returns-in_default : goal.returns-in_default
 returns-in_default c =
     let old = c.args.self.now in
-    let changes = from_view _ old.commits _ (ap (λ (t : Table). t.commits) c.self.view_is) (none_changes c.self.inside.commits _ c.args.slow (ended) c.get_mut.follows.holds-at-none (sym c.in_default.ensures.value)) in
+    let changes = from_view _ old.commits _ (ap (λ (t : Table). t.commits) c.self.view_is) (none_changes c.self.inside.commits _ c.args.slow (ended_by c.args.no) c.get_mut.follows.holds-at-none (sym c.in_default.ensures.value)) in
     record {
       last = ap (λ (t : Table). t.last) c.self.view_is;
-      numbers = ap keys c.get_mut.follows.holds-at-none ∙ ap numbers_of c.self.view_is;
-      standing = changes.at;
+      commits = changes.at;
       room = room_kept old (omega (arith, ap (λ (t : Table). t.places) c.self.view_is, ap spare c.get_mut.follows.holds-at-none)) (omega (arith, ap (λ (t : Table). t.seats) c.self.view_is));
     }

@@ -1,6 +1,7 @@
 use Rattle.std.proofs.Common.{sym, ap, subst, arith}
 use Rattle.indexmap.specs.IndexMap.{spare}
-use Rattle.walter_slow.specs.Deciding.{Table, RiseBetween, heard_yes}
+use Rattle.walter_slow.specs.Kept.{heard_yes}
+use Rattle.walter_slow.specs.Tables.{Table, RiseBetween}
 use Rattle.walter_slow.proofs.Standings.{from_view, lent_changes, none_changes, room_kept}
 use Rattle.walter_slow.proofs.slow.SlowCommits.hear_yes.Goals as goal
 
@@ -17,7 +18,7 @@ returns c =
     let changes = from_view _ old.commits _ (ap (λ (t : Table). t.commits) c.self.view_is) (lent_changes c.self.inside.commits _ c.args.slow (heard_yes c.args.from) c.in-Some.standing.now now c.in-Some.ensures.value c.hear_yes.ensures writes) in
     record {
       last = ap (λ (t : Table). t.last) c.self.view_is;
-      standing = changes.at;
+      commits = changes.at;
       room = room_kept old (omega (arith, ap (λ (t : Table). t.places) c.self.view_is, writes.6)) (omega (arith, ap (λ (t : Table). t.seats) c.self.view_is));
     }
 
@@ -27,6 +28,6 @@ returns-in_default c =
     let changes = from_view _ old.commits _ (ap (λ (t : Table). t.commits) c.self.view_is) (none_changes c.self.inside.commits _ c.args.slow (heard_yes c.args.from) c.get_mut.follows.holds-at-none (sym c.in_default.ensures.value)) in
     record {
       last = ap (λ (t : Table). t.last) c.self.view_is;
-      standing = changes.at;
+      commits = changes.at;
       room = room_kept old (omega (arith, ap (λ (t : Table). t.places) c.self.view_is, ap spare c.get_mut.follows.holds-at-none)) (omega (arith, ap (λ (t : Table). t.seats) c.self.view_is));
     }

@@ -1,0 +1,26 @@
+use Rattle.std.proofs.Common.{◌<◌, sym, subst}
+use Rattle.walter_durable.specs.Marks.{Holdings, HoldingsWithRoom, IsPossible}
+use Rattle.walter_durable.specs.Counted.{kept_in, IsCounted}
+use Rattle.walter_durable.proofs.Heard.{possible_acknowledged}
+use Rattle.walter_durable.proofs.Kept.{told_acknowledged, held_heard, counted_heard}
+use Rattle.walter_durable.proofs.durable.Durable.hear_acknowledged.Goals as goal
+
+pub count_on-self-inside-requires : goal.count_on-self-inside-requires
+count_on-self-inside-requires c =
+    let d = c.self.inside in
+    let inside = subst (λ (v : HoldingsWithRoom). c.args.peer.0 < v.holdings.sites) (sym c.self.view_is) c.requires in
+    held_heard d c.own.result c.own.ensures c.after_hearing-self-inside.result c.args.peer c.args.got
+    c.after_hearing-self-inside.ensures c.self.invariant.0 c.self.invariant.1.held inside
+
+pub invariant_of-self : goal.invariant_of-self
+invariant_of-self c =
+    let d = c.self.inside in
+    let said = c.after_hearing-self-inside.result in
+    let m = c.count_on-self-inside.result in
+    let inside = subst (λ (v : HoldingsWithRoom). c.args.peer.0 < v.holdings.sites) (sym c.self.view_is) c.requires in
+    let told = told_acknowledged d c.own.result c.own.ensures said c.args.peer c.args.got
+    c.after_hearing-self-inside.ensures in
+    let counted = counted_heard d c.own.result c.own.ensures said c.args.peer c.args.got
+    c.after_hearing-self-inside.ensures m c.count_on-self-inside.ensures in
+    subst (λ (H : Holdings). IsPossible H × IsCounted H m) (sym told)
+    (possible_acknowledged (kept_in d) c.self.invariant.0 c.args.peer c.args.got inside, counted)

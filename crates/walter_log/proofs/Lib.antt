@@ -1,0 +1,4 @@
+pub mod Placed
+pub mod Numbered
+pub mod Rooms
+pub mod Kept

@@ -1,0 +1,4 @@
+pub mod Own
+pub mod Places
+pub mod Logged
+pub mod Kept

@@ -1,0 +1,33 @@
+use Rattle.std.proofs.Common.{sym, ap, subst, arith}
+use Rattle.indexmap.specs.IndexMap.{spare}
+use Rattle.walter_slow.specs.Kept.{heard_released}
+use Rattle.walter_slow.specs.Tables.{Table, RiseBetween}
+use Rattle.walter_slow.proofs.Standings.{from_view, lent_changes, none_changes, room_kept}
+use Rattle.walter_slow.proofs.slow.SlowCommits.hear_released.Goals as goal
+
+pub invariant_of-self-2 : goal.invariant_of-self-2
+invariant_of-self-2 c =
+    let writes = c.get_mut.follows.holds c.hear_released.new.self in
+    (subst (RiseBetween 0 c.self.inside.last) (sym writes.1) c.self.invariant.0, c.self.invariant.1)
+
+pub returns : goal.returns
+returns c =
+    let old = c.args.self.now in
+    let now = c.hear_released.new.self in
+    let writes = c.get_mut.follows.holds now in
+    let changes = from_view _ old.commits _ (ap (λ (t : Table). t.commits) c.self.view_is) (lent_changes c.self.inside.commits _ c.args.slow (heard_released c.args.from) c.in-Some.standing.now now c.in-Some.ensures.value c.hear_released.ensures writes) in
+    record {
+      last = ap (λ (t : Table). t.last) c.self.view_is;
+      commits = changes.at;
+      room = room_kept old (omega (arith, ap (λ (t : Table). t.places) c.self.view_is, writes.6)) (omega (arith, ap (λ (t : Table). t.seats) c.self.view_is));
+    }
+
+pub returns-in_default : goal.returns-in_default
+returns-in_default c =
+    let old = c.args.self.now in
+    let changes = from_view _ old.commits _ (ap (λ (t : Table). t.commits) c.self.view_is) (none_changes c.self.inside.commits _ c.args.slow (heard_released c.args.from) c.get_mut.follows.holds-at-none (sym c.in_default.ensures.value)) in
+    record {
+      last = ap (λ (t : Table). t.last) c.self.view_is;
+      commits = changes.at;
+      room = room_kept old (omega (arith, ap (λ (t : Table). t.places) c.self.view_is, ap spare c.get_mut.follows.holds-at-none)) (omega (arith, ap (λ (t : Table). t.seats) c.self.view_is));
+    }
