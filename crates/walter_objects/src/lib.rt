@@ -1,0 +1,10 @@
+//! Which objects a transaction writes, in order, and at which sites what it changes is preferred.
+#![tactic(auto)]
+
+mod objects;
+mod preferred;
+mod tests;
+
+pub use objects::objects_of;
+pub use preferred::{are_local, homes, objects_at, participants};
+pub use tests::{are_declared, are_lockable, is_peer};

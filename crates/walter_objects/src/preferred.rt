@@ -1,0 +1,72 @@
+ghost use Rattle.std.specs.Prelude.{◌≡◌, map, IfOk};
+ghost use Rattle.walter_base.specs.Names.{same_site};
+ghost use Rattle.walter_objects.specs.Preferred.{home, homes_of, objects_among, participants_among, are_local_among, is_home_among, takes_part};
+
+use std::alloc::Global;
+use walter_base::{Catalog, Mem, ObjId, Objects, SiteId, Sites, Update};
+
+/// The site at which the object is preferred, and the first one where its container isn't in the catalog.
+fn home(catalog: &Catalog, oid: ObjId) -> SiteId
+    ensures { result ≡ home catalog.now oid }
+{
+    catalog.preferred(oid).unwrap_or(SiteId(0))
+}
+
+/// By update, the site at which what it changes is preferred.
+pub fn homes(alloc: Global, catalog: &Catalog, updates: &[Update]) -> Mem<Sites>
+    ensures { IfOk result (λ sites. sites ≡ homes_of catalog.now updates.now) }
+{
+    let mut sites = Vec::new(alloc);
+    for update in updates {
+        sites.push(home(catalog, update.object()))?;
+    }
+    Ok(Sites::from(sites))
+}
+
+/// Those of the objects that are preferred at the site.
+pub fn objects_at(alloc: Global, catalog: &Catalog, site: SiteId, objects: &[ObjId]) -> Mem<Objects>
+    ensures { IfOk result (λ there. there ≡ objects_among catalog.now site objects.now) }
+{
+    let mut there = Vec::new(alloc);
+    for oid in objects {
+        if home(catalog, *oid) == site {
+            there.push(*oid)?;
+        }
+    }
+    Ok(Objects::from(there))
+}
+
+/// Whether all are.
+pub fn are_local(catalog: &Catalog, site: SiteId, objects: &[ObjId]) -> bool
+    ensures { result ≡ are_local_among catalog.now site objects.now }
+{
+    objects.iter().all(|oid| home(catalog, *oid) == site)
+}
+
+/// Whether one of them is.
+fn is_home(catalog: &Catalog, site: SiteId, objects: &[ObjId]) -> bool
+    ensures { result ≡ is_home_among catalog.now objects.now site }
+{
+    objects.iter().any(|oid| home(catalog, *oid) == site)
+}
+
+/// Whether it is another site, at which one of them is preferred.
+fn takes_part(catalog: &Catalog, site: SiteId, objects: &[ObjId], other: SiteId) -> bool
+    ensures { result ≡ takes_part catalog.now site objects.now other }
+{
+    other != site && is_home(catalog, other, objects)
+}
+
+/// The other sites at which some are preferred.
+pub fn participants(alloc: Global, catalog: &Catalog, site: SiteId, objects: &[ObjId]) -> Mem<Sites>
+    ensures { IfOk result (λ sites. sites ≡ participants_among catalog.now site objects.now) }
+{
+    let mut sites = Vec::new(alloc);
+    for k in 0..catalog.sites {
+        let other = SiteId(k);
+        if takes_part(catalog, site, objects, other) {
+            sites.push(other)?;
+        }
+    }
+    Ok(Sites::from(sites))
+}

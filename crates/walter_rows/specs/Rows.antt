@@ -1,0 +1,62 @@
+-- The rows that a log spells: for each update one, with the version of its transaction.
+use Rattle.std.specs.Prelude.{◌≡◌, ℕ, ◌≤◌, Bool, List, [], map, filter, flat_map, count_by, All, IsTrue, Option, Some, None}
+use Rattle.walter_base.specs.declared.catalog.Catalog.{Catalog}
+use Rattle.walter_base.specs.declared.message.Record.{Record}
+use Rattle.walter_base.specs.declared.message.Record.TheVariants.{Own, Got}
+use Rattle.walter_base.specs.declared.names.ObjId.{ObjId}
+use Rattle.walter_base.specs.declared.names.Version.{Version}
+use Rattle.walter_base.specs.declared.update.Row.{Row}
+use Rattle.walter_base.specs.declared.update.Update.{Update}
+use Rattle.walter_base.specs.Names.{same_object}
+use Rattle.walter_history.specs.Lines.{Line, rows_of, room_of}
+use Rattle.walter_base.specs.Values.{object_of}
+use Rattle.walter_rules.specs.declared.held.Held.{Held}
+use Rattle.walter_rules.specs.Declarations.{are_declared}
+use Rattle.walter_rules.specs.Log.{version_of, sees}
+
+-- an update with the version that its transaction became
+abbrev pub row_with : Version → Update → Row
+row_with version update = record { version = version; update = update }
+
+-- the rows of a transaction that is held, one for each of its updates
+abbrev pub rows_from : Held → List Row
+rows_from h = map (row_with (version_of h)) h.tx.updates
+
+-- the rows of the transaction in a record, if it has one
+abbrev pub rows_told : Record → List Row
+rows_told (Own seq tx) = rows_from (record { seq = seq; tx = tx })
+rows_told (Got from seq tx) = rows_from (record { seq = seq; tx = tx })
+rows_told rec = []
+
+-- whether an update changes the object
+abbrev pub changes : ObjId → Update → Bool
+changes oid update = same_object (object_of update) oid
+
+-- those of the rows that change the object
+abbrev pub rows_on : ObjId → List Row → List Row
+rows_on oid rows = filter (λ row. changes oid row.update) rows
+
+-- the rows of an object: for each transaction of the log, in order, each of its updates of the object
+abbrev pub rows_in : ObjId → List Held → List Row
+rows_in oid log = rows_on oid (flat_map rows_from log)
+
+-- all updates of the transaction are declared
+abbrev pub HasDeclared : Catalog → Held → Type 0
+HasDeclared catalog h = IsTrue (are_declared catalog h.tx.updates)
+
+-- the history has the rows that the log spells, of objects that are declared
+pub record AreRowsOf (catalog : Catalog) (log : List Held) (history : List (ObjId × Line)) : Type 0 where
+  pub same : (oid : ObjId) → rows_of history oid ≡ rows_in oid log
+  pub declared : All (HasDeclared catalog) log
+
+-- the updates of what a vector sees of the log, in order
+abbrev pub seen_in : List ℕ → List Held → List Update
+seen_in vector log = flat_map (λ h. h.tx.updates) (filter (sees vector) log)
+
+-- how many of the updates change the object
+abbrev pub count_on : ObjId → List Update → ℕ
+count_on oid updates = count_by (changes oid) updates
+
+-- the history has room for the updates of each of their objects
+abbrev pub HaveRoom : List (ObjId × Line) → List Update → Type 0
+HaveRoom history updates = All (λ update. count_on (object_of update) updates ≤ room_of history (object_of update)) updates

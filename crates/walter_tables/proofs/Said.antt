@@ -1,0 +1,194 @@
+-- What is put out by the tables is what the rules put out.
+use Rattle.std.proofs.Common.{◌≡◌, ◌≢◌, ◌+◌, ◌-◌, ◌≤◌, ◌<◌, ℕ, zero, suc, nat_eq, nat_le, true, false, cond, not, Option, Some, None, List, [], ◌∷◌, ◌++◌, map, take, get_or, slice_get, append_assoc, refl, ap, sym, ◌∙◌, subst, inl, inr, arith, if◌then◌else◌}
+use Rattle.std.specs.Prelude.{Contains, filter, flat_map}
+use Rattle.std.specs.List.{list_any, range_with_len}
+use Rattle.std.proofs.lemmas.Bool.{cases_Bool, cases_eq, eqb-true, eq-eqb, leb-true, leb-false}
+use Rattle.std.proofs.lemmas.Option.{same_Some, slice_get_within, get_or_from_slice_get}
+use Rattle.std.proofs.lemmas.List.{map-append, append-nil, take_more}
+use Rattle.std.proofs.lemmas.List.Elements.{filter_map-append}
+use Rattle.std.proofs.lemmas.List.FromFn.{filter_of_map_range_with_len_more}
+use Rattle.std.proofs.lemmas.Grind.{flat_map-append}
+use Rattle.walter_base.specs.declared.names.SiteId.{SiteId}
+use Rattle.walter_base.specs.declared.packet.Packet.{Packet}
+use Rattle.walter_base.specs.Names.{same_site}
+use Rattle.walter_psi.proofs.Lists.{Contains-nil, flat_map-push}
+use Rattle.walter_rules.proofs.Membership.{in_cases, one_passes}
+use Rattle.walter_slow.specs.Tables.{Table as SlowCommits, commit_of, numbers_of, RiseBetween}
+use Rattle.walter_slow.proofs.Standings.{none_kept}
+use Rattle.walter_rules.specs.Knowledge.{site_at, from_to}
+use Rattle.walter_rules.specs.Sending.{Send, to_each}
+use Rattle.walter_spread.specs.Propagation.{span}
+use Rattle.walter_tables.specs.Packets.{to_one, commits_of}
+use Rattle.walter_tables.specs.Standing.{Values}
+
+-- more packets behind others to the same site
+pub put_more : (k : SiteId) (sends middle later : List Send) (some more : List Packet) → middle ≡ sends ++ to_one k some
+    → later ≡ middle ++ to_one k more → later ≡ sends ++ to_one k (some ++ more)
+put_more k sends middle later some more before after =
+    after ∙ ap (λ ss. ss ++ to_one k more) before ∙ append_assoc sends (to_one k some) (to_one k more)
+    ∙ ap (λ ss. sends ++ ss) (sym (map-append (λ (packet : Packet). (k, packet)) some more))
+
+-- numbers from a first one on, and one more
+range_more : (a n : ℕ) → range_with_len a (suc n) ≡ range_with_len a n ++ (a + n) ∷ []
+range_more a zero = ap (λ (m : ℕ). m ∷ []) (omega arith)
+range_more a (suc n) =
+    ap (λ ms. a ∷ ms) (range_more (a + 1) n)
+    ∙ ap (λ (m : ℕ). a ∷ (range_with_len (a + 1) n ++ m ∷ [])) (omega arith)
+
+pub from_to_more : (first before : ℕ) → first ≤ before + 1
+    → from_to first (before + 1) ≡ from_to first before ++ (before + 1) ∷ []
+from_to_more first before le =
+    let one_longer : before + 1 + 1 - first ≡ suc (before + 1 - first) = omega (arith, le) in
+    let last : first + (before + 1 - first) ≡ before + 1 = omega (arith, le) in
+    ap (range_with_len first) one_longer ∙ range_more first (before + 1 - first)
+    ∙ ap (λ (m : ℕ). range_with_len first (before + 1 - first) ++ m ∷ []) last
+
+pub commits_more : (V : Values) (first before : ℕ) → first ≤ before + 1
+    → commits_of V (from_to first (before + 1)) ≡ commits_of V (from_to first before) ++ commits_of V ((before + 1) ∷ [])
+commits_more V first before le =
+    ap (commits_of V) (from_to_more first before le)
+    ∙ filter_map-append _ (from_to first before) ((before + 1) ∷ [])
+
+-- a first and a last number, where there are any
+pub span_first : (first last : ℕ) (numbers : ℕ × ℕ) → Some numbers ≡ span first last
+    → (first ≤ last) × (numbers.0 ≡ first) × (numbers.1 ≡ last)
+span_first first last numbers is =
+    elim (nat_le first last) as (λ b. nat_le first last ≡ b → Some numbers ≡ (if b then Some (first, last) else None)
+    → (first ≤ last) × (numbers.0 ≡ first) × (numbers.1 ≡ last)) [
+      | true ↦ λ le same.
+          let one : numbers ≡ (first, last) = same_Some numbers (first, last) same in
+          (leb-true first last le, ap (λ (p : ℕ × ℕ). p.0) one, ap (λ (p : ℕ × ℕ). p.1) one)
+      | false ↦ λ gt same. absurd cc
+    ] refl is
+
+pub span_none : (first last : ℕ) → None ≡ span first last → from_to first last ≡ []
+span_none first last is =
+    let numbers : ℕ × ℕ = (first, last) in
+    let nothing : Option (ℕ × ℕ) = None in
+    elim (nat_le first last) as (λ b. nat_le first last ≡ b → nothing ≡ (if b then Some numbers else nothing)
+    → from_to first last ≡ []) [
+      | true ↦ λ le same. absurd cc
+      | false ↦ λ gt same.
+          let none : last + 1 - first ≡ 0 = omega (arith, leb-false first last gt) in
+          ap (range_with_len first) none
+    ] refl is
+
+-- what is made of the numbers up to a place, and of the one there
+pub one_place : (f : ℕ → List Packet) (numbers : List ℕ) (place n : ℕ) → Some n ≡ slice_get numbers place
+    → flat_map f (take (place + 1) numbers) ≡ flat_map f (take place numbers) ++ f n
+one_place f numbers place n here =
+    let within = slice_get_within numbers place n (sym here) in
+    ap (flat_map f) (take_more numbers place 0 within)
+    ∙ flat_map-push f (take place numbers) (get_or numbers place 0)
+    ∙ ap (λ (m : ℕ). flat_map f (take place numbers) ++ f m) (get_or_from_slice_get numbers place n 0 (sym here))
+
+-- nothing is made of numbers of which none makes something
+none_made : (f : ℕ → List Packet) (a n : ℕ) → ((m : ℕ) → a ≤ m → f m ≡ []) → flat_map f (range_with_len a n) ≡ []
+none_made f a zero none = refl
+none_made f a (suc n) none =
+    ap (λ ps. ps ++ flat_map f (range_with_len (a + 1) n)) (none a (omega arith))
+    ∙ none_made f (a + 1) n (λ m le. none m (omega (arith, le)))
+
+-- numbers rise to the last one, and each is above the first
+rise_to : (first last : ℕ) (numbers : List ℕ) → RiseBetween first last numbers → first ≤ last
+rise_to first last [] rising = rising
+rise_to first last (n ∷ ns) rising =
+    let rest = rise_to n last ns rising.1 in
+    let low = rising.0 in
+    omega (arith, rest, low)
+
+rising_from : (first last : ℕ) (numbers : List ℕ) → RiseBetween first last numbers → (j : ℕ)
+    → Contains (first ∷ numbers) j → first ≤ j
+rising_from first last [] rising j within = elim (in_cases first [] j within) [
+  | inl same ↦ omega (arith, same)
+  | inr later ↦ absurd (Contains-nil j later)
+]
+rising_from first last (n ∷ ns) rising j within = elim (in_cases first (n ∷ ns) j within) [
+  | inl same ↦ omega (arith, same)
+  | inr later ↦ let high = rising_from n last ns rising.1 j later in let low = rising.0 in omega (arith, high, low)
+]
+
+-- what is made of numbers that rise is what is made of all numbers, where no other makes something
+walked : (f : ℕ → List Packet) (n first last : ℕ) (numbers : List ℕ) → last ≡ first + n → RiseBetween first last numbers
+    → ((m : ℕ) → first < m → ¬ Contains numbers m → f m ≡ []) → flat_map f (range_with_len (first + 1) n) ≡ flat_map f numbers
+walked f n first last [] far rising none =
+    none_made f (first + 1) n (λ m le. none m (omega (arith, le)) (λ within. Contains-nil m within))
+walked f zero first last (m ∷ ms) far rising none =
+    absurd (let rest = rise_to m last ms rising.1 in let low = rising.0 in omega (arith, rest, low, far))
+walked f (suc n) first last (m ∷ ms) far rising none = elim (cases_eq (first + 1) m) [
+  | inl here ↦
+      let rest = walked f n m last ms (omega (arith, far, here)) rising.1
+      (λ j above out. none j (let low = rising.0 in omega (arith, above, low))
+      (λ within. elim (in_cases m ms j within) [
+        | inl same ↦ omega (arith, above, same)
+        | inr later ↦ out later
+      ])) in
+      ap (λ (j : ℕ). f j ++ flat_map f (range_with_len (j + 1) n)) here
+      ∙ ap (λ ps. f m ++ ps) rest
+  | inr apart ↦
+      let low = rising.0 in
+      let before : first + 1 < m = omega (arith, low, apart) in
+      let least : (j : ℕ) → Contains (m ∷ ms) j → m ≤ j = rising_from m last ms rising.1 in
+      ap (λ ps. ps ++ flat_map f (range_with_len (first + 1 + 1) n))
+      (none (first + 1) (omega arith) (λ within. let high = least (first + 1) within in omega (arith, before, high)))
+      ∙ walked f n (first + 1) last (m ∷ ms) (omega (arith, far)) (before, rising.1)
+      (λ j above out. none j (omega (arith, above)) out)
+]
+
+pub rising_made : (f : ℕ → List Packet) (last : ℕ) (numbers : List ℕ) → RiseBetween 0 last numbers
+    → ((m : ℕ) → ¬ Contains numbers m → f m ≡ []) → flat_map f numbers ≡ flat_map f (from_to 1 last)
+rising_made f last numbers rising none =
+    sym (walked f last 0 last numbers (omega arith) rising (λ m above out. none m out))
+    ∙ ap (λ (n : ℕ). flat_map f (range_with_len 1 n)) (let same : last ≡ last + 1 - 1 = omega arith in same)
+
+-- nothing is kept of a number that is none of these
+pub none_kept_of : (table : SlowCommits) (n : ℕ) → ¬ Contains (numbers_of table) n → commit_of table n ≡ None
+none_kept_of table n out = elim (cases_Bool (list_any (nat_eq n) (numbers_of table))) [
+  | inl some ↦
+      let one = one_passes (nat_eq n) (numbers_of table) some in
+      absurd (out (subst (λ (m : ℕ). Contains (numbers_of table) m) (sym (eqb-true n one.0 one.2)) one.1))
+  | inr none ↦ none_kept table.commits n none
+]
+
+-- six times packets are put to the same site
+pub six_put : (k : SiteId) (s0 s1 s2 s3 s4 s5 s6 : List Send) (p1 p2 p3 p4 p5 p6 : List Packet)
+    → s1 ≡ s0 ++ to_one k p1 → s2 ≡ s1 ++ to_one k p2 → s3 ≡ s2 ++ to_one k p3 → s4 ≡ s3 ++ to_one k p4
+    → s5 ≡ s4 ++ to_one k p5 → s6 ≡ s5 ++ to_one k p6
+    → s6 ≡ s0 ++ to_one k (p1 ++ (p2 ++ (p3 ++ (p4 ++ (p5 ++ p6)))))
+six_put k s0 s1 s2 s3 s4 s5 s6 p1 p2 p3 p4 p5 p6 e1 e2 e3 e4 e5 e6 =
+    put_more k s0 s1 s6 p1 (p2 ++ (p3 ++ (p4 ++ (p5 ++ p6)))) e1
+    (put_more k s1 s2 s6 p2 (p3 ++ (p4 ++ (p5 ++ p6))) e2
+    (put_more k s2 s3 s6 p3 (p4 ++ (p5 ++ p6)) e3
+    (put_more k s3 s4 s6 p4 (p5 ++ p6) e4 (put_more k s4 s5 s6 p5 p6 e5 e6))))
+
+-- the sites below a number, but this one
+abbrev pub peers_below : ℕ → SiteId → List SiteId
+peers_below n i = filter (λ k. not (same_site k i)) (map site_at (range_with_len 0 n))
+
+module _ (i : SiteId) (packets : SiteId → List Packet) (n : ℕ) (sends later : List Send) where
+  one_more_peer : to_each (peers_below (n + 1) i) packets
+      ≡ to_each (peers_below n i) packets ++ to_each (cond (not (same_site (site_at n) i)) (site_at n ∷ []) []) packets
+  one_more_peer =
+      ap (λ ks. to_each ks packets) (filter_of_map_range_with_len_more (λ k. not (same_site k i)) site_at 0 n n (omega arith))
+      ∙ flat_map-append (λ k. to_one k (packets k)) (peers_below n i) (cond (not (same_site (site_at n) i)) (site_at n ∷ []) [])
+
+  -- one more site is served, and the own one is left out
+  pub peer_served : n ≢ i.0 → sends ≡ to_each (peers_below n i) packets
+      → later ≡ sends ++ to_one (site_at n) (packets (site_at n)) → later ≡ to_each (peers_below (n + 1) i) packets
+  peer_served apart before after =
+      let other : same_site (site_at n) i ≡ false = elim (cases_Bool (nat_eq n i.0)) [
+        | inl same ↦ absurd (apart (eqb-true n i.0 same))
+        | inr is ↦ is
+      ] in
+      after ∙ ap (λ ss. ss ++ to_one (site_at n) (packets (site_at n))) before
+      ∙ ap (λ ss. to_each (peers_below n i) packets ++ ss) (sym (append-nil (to_one (site_at n) (packets (site_at n)))))
+      ∙ ap (λ b. to_each (peers_below n i) packets ++ to_each (cond (not b) (site_at n ∷ []) []) packets) (sym other)
+      ∙ sym one_more_peer
+
+  pub own_left_out : n ≡ i.0 → sends ≡ to_each (peers_below n i) packets → later ≡ sends
+      → later ≡ to_each (peers_below (n + 1) i) packets
+  own_left_out same before after =
+      after ∙ before ∙ sym (append-nil (to_each (peers_below n i) packets))
+      ∙ ap (λ b. to_each (peers_below n i) packets ++ to_each (cond (not b) (site_at n ∷ []) []) packets)
+      (sym (eq-eqb n i.0 same))
+      ∙ sym one_more_peer

@@ -1,0 +1,10 @@
+use Rattle.std.proofs.Common.{ap, sym}
+use Rattle.walter_base.proofs.ByClient.{changed-same}
+use Rattle.walter_session.specs.Sessions.{sessions_of}
+use Rattle.walter_tables.specs.Answering.{deciding_any}
+use Rattle.walter_tables.proofs.leaving.decide.Goals as goal
+
+pub returns-in_default : goal.returns-in_default
+returns-in_default c =
+    sym (changed-same c.args.client (deciding_any c.args.begun) (sessions_of c.args.sessions.now)
+    (λ s. ap (λ b. deciding_any b s) c.in_default.is))

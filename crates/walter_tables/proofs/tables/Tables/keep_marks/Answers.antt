@@ -1,0 +1,10 @@
+use Rattle.walter_tables.specs.Sites.{values_of, site_of, catalog_of}
+use Rattle.walter_tables.proofs.StandKept.{stand_marked}
+use Rattle.walter_tables.proofs.tables.Tables.keep_marks.Goals as goal
+
+pub returns-clause-stands : goal.returns-clause-stands
+unfolding values_of site_of catalog_of
+returns-clause-stands c = λ K S f sizes.
+    let old = c.args.self.now in
+    stand_marked (values_of old) K S old.here c.args.durable c.args.visible f c.journal.new.self.holdings
+    c.journal.ensures.holdings

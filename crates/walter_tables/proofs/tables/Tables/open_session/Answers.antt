@@ -1,0 +1,11 @@
+use Rattle.std.proofs.Common.{IfSome, sym, subst}
+use Rattle.walter_session.specs.Sessions.{sessions_of}
+use Rattle.walter_tables.specs.Open.{IsOpenAt}
+use Rattle.walter_tables.proofs.Opened.{session_is}
+use Rattle.walter_tables.proofs.tables.Tables.open_session.Goals as goal
+
+pub returns-clause-small : goal.returns-clause-small
+returns-clause-small c =
+    let self = c.args.self.now in
+    let is = session_is self.catalog self.site c.args.client (sessions_of self.sessions) self.open in
+    (subst (λ o. IfSome o (IsOpenAt self.catalog self.site)) (sym c.in_ok-session.ensures) is).small

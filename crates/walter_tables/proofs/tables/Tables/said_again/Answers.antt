@@ -1,0 +1,54 @@
+use Rattle.std.proofs.Common.{◌≡◌, List, sym, ◌∙◌, ap, subst, arith}
+use Rattle.std.specs.Prelude.{All}
+use Rattle.walter_base.specs.declared.names.SiteId.{SiteId}
+use Rattle.walter_base.specs.declared.packet.Packet.{Packet}
+use Rattle.walter_base.specs.Sizes.{CanBeSent}
+use Rattle.walter_rules.specs.Knowledge.{peers}
+use Rattle.walter_rules.specs.Sending.{Send, to_each}
+use Rattle.walter_tables.specs.Packets.{said_packets}
+use Rattle.walter_tables.specs.Sites.{values_of, site_of, catalog_of}
+use Rattle.walter_tables.proofs.Said.{peers_below, peer_served, own_left_out}
+use Rattle.walter_tables.proofs.PutTold.{said_packets_told}
+use Rattle.walter_tables.proofs.Spelled.{said_again_sent}
+use Rattle.walter_tables.proofs.tables.Tables.said_again.Goals as goal
+use Rattle.walter_tables.proofs.tables.Tables.said_again.Goals.{then-k-self+in_ok-put_again, else-k-self}
+
+pub loop-k-preserved : goal.loop-k-preserved
+unfolding values_of site_of catalog_of
+loop-k-preserved c =
+    let now = c.args.self.now in
+    let packets : SiteId → List Packet = said_packets (values_of now) c.durable_mark-durable.result in
+    elim c.if-k-self.branch [
+      | then-k-self+in_ok-put_again w ↦
+          ap (λ sends. sends.items) w.sends-is
+          ∙ peer_served now.site packets c.loop-k.k c.loop-k.sends.items w.put_again.new.sends.items w.if-k-self.true
+          c.loop-k.invariant w.in_ok-put_again.ensures
+      | else-k-self w ↦
+          own_left_out now.site packets c.loop-k.k c.loop-k.sends.items c.if-k-self.sends.items w.if-k-self.false
+          c.loop-k.invariant (ap (λ sends. sends.items) w.sends-is)
+    ]
+
+pub returns-clause-sends : goal.returns-clause-sends
+unfolding values_of site_of catalog_of
+returns-clause-sends c =
+    let now = c.args.self.now in
+    let packets : SiteId → List Packet = said_packets (values_of now) c.durable_mark-durable.result in
+    let all : c.loop-k.k ≡ now.catalog.sites = omega (arith, c.loop-k.auto.k-end, c.loop-k-test.false) in
+    let sent : c.from.result ≡ to_each (peers now.catalog now.site) packets =
+    c.from.ensures ∙ c.loop-k.invariant ∙ ap (λ n. to_each (peers_below n now.site) packets) all in
+    λ K S.
+    sent ∙ ap (to_each (peers now.catalog now.site)) (said_packets_told (values_of now) K S now.spread_site now.spread_window
+    c.durable_mark-durable.result (c.durable_mark-durable.ensures.mark K S))
+
+pub returns-clause-spelled : goal.returns-clause-spelled
+unfolding values_of site_of catalog_of
+returns-clause-spelled c =
+    let now = c.args.self.now in
+    let packets : SiteId → List Packet = said_packets (values_of now) c.durable_mark-durable.result in
+    let all : c.loop-k.k ≡ now.catalog.sites = omega (arith, c.loop-k.auto.k-end, c.loop-k-test.false) in
+    let sent : c.from.result ≡ to_each (peers now.catalog now.site) packets =
+    c.from.ensures ∙ c.loop-k.invariant ∙ ap (λ n. to_each (peers_below n now.site) packets) all in
+    λ K S.
+    let told = sent ∙ ap (to_each (peers now.catalog now.site)) (said_packets_told (values_of now) K S now.spread_site now.spread_window
+    c.durable_mark-durable.result (c.durable_mark-durable.ensures.mark K S)) in
+    subst (All (λ (s : Send). CanBeSent s.1)) (sym told) (said_again_sent now.catalog now.site K S.sound)

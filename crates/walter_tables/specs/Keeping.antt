@@ -1,0 +1,86 @@
+-- What is made for a record before it is kept, and what the tables show where it can be kept without memory.
+use Rattle.std.specs.Prelude.{◌≡◌, ◌+◌, ◌<◌, ◌≤◌, ℕ, List, [], length, All, IsTrue, None}
+use Rattle.walter_base.specs.declared.catalog.Catalog.{Catalog}
+use Rattle.walter_base.specs.declared.message.Record.{Record}
+use Rattle.walter_base.specs.declared.message.Record.TheVariants.{Own, Got, Seen, Prepared, Released, SlowBegin, Marks}
+use Rattle.walter_base.specs.declared.names.ObjId.{ObjId}
+use Rattle.walter_base.specs.declared.names.SiteId.{SiteId}
+use Rattle.walter_base.specs.declared.update.Update.{Update}
+use Rattle.walter_base.specs.Vectors.{entry_at}
+use Rattle.walter_durable.specs.Marks.{CanJournal}
+use Rattle.walter_locks.specs.Parts.{part_of, owner_of, CanLock, CanRelease}
+use Rattle.walter_log.specs.Logged.{room_of}
+use Rattle.walter_objects.specs.Preferred.{homes_of, objects_among, participants_among}
+use Rattle.walter_rows.specs.Rows.{rows_told, HaveRoom}
+use Rattle.walter_rules.specs.Deliveries.{is_peer}
+use Rattle.walter_rules.specs.Objects.{objects_of}
+use Rattle.walter_rules.specs.Slow.{Free}
+use Rattle.walter_slow.specs.Tables.{CanBegin}
+use Rattle.walter_spread.specs.Propagation.{own}
+use Rattle.walter_tables.specs.declared.made.Made.{Made}
+use Rattle.walter_tables.specs.declared.tables.Tables.{Tables}
+
+-- the objects of these updates that are preferred at a site, and the other sites at which some are
+abbrev pub objects_here : Catalog → SiteId → List Update → List ObjId
+objects_here catalog i updates = objects_among catalog i (objects_of updates)
+
+abbrev pub asked_of : Catalog → SiteId → List Update → List SiteId
+asked_of catalog i updates = participants_among catalog i (objects_of updates)
+
+-- the sites that go with a record: of an own commit the preferred ones of what it changed; of a slow commit those that
+-- are asked
+abbrev pub sites_for : Catalog → SiteId → Record → List SiteId
+sites_for catalog i (Own seq tx) = homes_of catalog tx.updates
+sites_for catalog i (SlowBegin slow tx) = asked_of catalog i tx.updates
+sites_for catalog i rec = []
+
+-- and the objects: of a slow commit those that are locked here
+abbrev pub objects_for : Catalog → SiteId → Record → List ObjId
+objects_for catalog i (SlowBegin slow tx) = objects_here catalog i tx.updates
+objects_for catalog i rec = []
+
+pub record IsMadeFor (catalog : Catalog) (i : SiteId) (rec : Record) (made : Made) : Type 0 where
+  pub rows : made.rows.items ≡ rows_told rec
+  pub sites : made.sites ≡ sites_for catalog i rec
+  pub objects : made.objects ≡ objects_for catalog i rec
+
+-- a record that brings something of another site is of one of the catalog
+abbrev pub IsKnownSite : Catalog → Record → Type 0
+IsKnownSite catalog (Got j seq tx) = j.0 < catalog.sites
+IsKnownSite catalog (Seen j seq) = j.0 < catalog.sites
+IsKnownSite catalog (Released j slow) = j.0 < catalog.sites
+IsKnownSite catalog rec = Unit {0}
+
+-- there is room for what the record brings
+abbrev pub HasRoomFor : Tables → Record → Type 0
+HasRoomFor t (Own seq tx) = (0 < room_of t.log t.site) × HaveRoom t.history tx.updates × (0 < t.durable.room)
+HasRoomFor t (Got j seq tx) = (0 < room_of t.log j) × HaveRoom t.history tx.updates
+HasRoomFor t (Seen j seq) = CanRelease t.locks j
+HasRoomFor t (Prepared j slow tid objects) = CanLock t.locks (length objects)
+HasRoomFor t (Released j slow) = CanRelease t.locks j
+HasRoomFor t (SlowBegin slow tx) = CanLock t.locks (length (objects_here t.catalog t.site tx.updates))
+    × CanBegin t.slow (length (asked_of t.catalog t.site tx.updates))
+HasRoomFor t rec = Unit {0}
+
+-- the next commit of a site, received or committed here
+abbrev pub IsNextOf : Tables → SiteId → ℕ → Type 0
+IsNextOf t j seq = (seq ≡ entry_at t.spread.got j + 1) × IsTrue (is_peer t.catalog t.site j)
+
+abbrev pub IsNextHere : Tables → SiteId → ℕ → Type 0
+IsNextHere t j seq = (seq ≡ entry_at t.spread.committed j + 1) × (seq ≤ entry_at t.spread.got j)
+    × IsTrue (is_peer t.catalog t.site j)
+
+abbrev pub AreUnlocked : Tables → List ObjId → Type 0
+AreUnlocked t objects = All (λ oid. owner_of t.locks oid ≡ None) objects
+
+-- the record goes on where the tables stand
+abbrev pub GoesOn : Tables → Record → Type 0
+GoesOn t (Own seq tx) = (seq ≡ own t.spread + 1) × (tx.tid.site ≡ t.site)
+GoesOn t (Got j seq tx) = IsNextOf t j seq × (tx.tid.site ≡ j)
+GoesOn t (Seen j seq) = IsNextHere t j seq
+GoesOn t (Prepared j slow tid objects) = (part_of t.locks j slow ≡ Free) × AreUnlocked t objects
+    × IsTrue (is_peer t.catalog t.site j)
+GoesOn t (Released j slow) = IsTrue (is_peer t.catalog t.site j)
+GoesOn t (SlowBegin slow tx) = (slow ≡ t.slow.last + 1) × AreUnlocked t (objects_here t.catalog t.site tx.updates)
+GoesOn t (Marks durable visible) = CanJournal t.durable.holdings durable visible
+GoesOn t rec = Unit {0}

@@ -1,0 +1,14 @@
+pub mod Sound
+pub mod Open
+pub mod Props
+pub mod Parts
+pub mod Standing
+pub mod Sites
+pub mod Keeping
+pub mod Answering
+pub mod Same
+pub mod Replaying
+pub mod Hearing
+pub mod Planning
+pub mod Versions
+pub mod Packets

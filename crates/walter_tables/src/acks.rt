@@ -1,0 +1,80 @@
+//! What comes of the numbers that a peer says of own commits, and of a tick.
+ghost use Rattle.std.specs.Prelude.{◌≡◌, IfOk, IfSome, IsTrue, Option, Some};
+ghost use Rattle.walter_base.specs.declared.packet.Packet.{Packet as Said};
+ghost use Rattle.walter_rules.specs.Deliveries.{is_news, is_peer, packet_rule, passes};
+ghost use Rattle.walter_rules.specs.Knowledge.{Knowledge, peers};
+ghost use Rattle.walter_rules.specs.Sending.{to_each, said_again};
+ghost use Rattle.walter_tables.specs.Keeping.{GoesOn};
+ghost use Rattle.walter_tables.specs.Planning.{expected_of, marks_told};
+ghost use Rattle.walter_tables.specs.Sites.{values_of, site_of, catalog_of, Stands};
+
+use crate::deliveries::{passes, takes};
+use crate::plan::Planned;
+use crate::tables::Tables;
+use walter_base::{Mem, Record, SiteId};
+
+/// A record of the marks, where one of them rose.
+fn marks(rose: bool, durable: u64, visible: u64) -> Option<Record>
+    ensures { result ≡ marks_told rose durable visible }
+{
+    if rose {
+        Some(Record::Marks(durable, visible))
+    } else {
+        None
+    }
+}
+
+#[tactic(auto, unfolding(crate::specs::Sites::values_of, crate::specs::Sites::site_of, crate::specs::Sites::catalog_of))]
+impl Tables {
+    /// Whether a number of own commits is news, where the peer said `before` last.
+    fn is_news(&self, before: u64, number: u64) -> bool
+        ensures { (K : Knowledge) → Stands self.now K → result ≡ is_news (site_of self.now) K before number }
+    {
+        number <= self.spread.own() && before < number
+    }
+
+    /// What comes of an ACK.
+    pub(crate) fn plan_ack(&self, from: SiteId, got: u64) -> Mem<Planned>
+        requires peer { IsTrue (is_peer (catalog_of self.now) (site_of self.now) from) }
+        ensures rule { IfOk result (λ p. (K : Knowledge) → Stands self.now K
+            → expected_of p ≡ packet_rule (catalog_of self.now) (site_of self.now) K from (Said.Ack got)) }
+        ensures on { IfOk result (λ p. IfSome p.rec (GoesOn self.now)) }
+    {
+        let said = self.durable.acknowledged(from);
+        if !self.is_news(said, got) {
+            return Ok(passes(self.nothing()));
+        }
+        let before = self.durable_mark();
+        let now = self.durable_mark_with_acknowledged(from, got);
+        let sends = self.acknowledged_sends(from, said, got, before, now)?;
+        let rec = marks(before < now, now, self.visible_mark());
+        Ok(takes(rec, sends))
+    }
+
+    /// What comes of a VISIBLE.
+    pub(crate) fn plan_visible(&self, from: SiteId, committed: u64) -> Planned
+        requires peer { IsTrue (is_peer (catalog_of self.now) (site_of self.now) from) }
+        ensures rule { (K : Knowledge) → Stands self.now K
+            → expected_of result ≡ packet_rule (catalog_of self.now) (site_of self.now) K from (Said.Visible committed) }
+        ensures on { IfSome result.rec (GoesOn self.now) }
+    {
+        let said = self.durable.visible(from);
+        if !self.is_news(said, committed) {
+            return passes(self.nothing());
+        }
+        let before = self.visible_mark();
+        let now = self.visible_mark_with_visible(from, committed);
+        let rec = marks(before < now, self.durable_mark(), now);
+        takes(rec, self.nothing())
+    }
+
+    /// What comes of a tick.
+    pub(crate) fn plan_tick(&self) -> Mem<Planned>
+        ensures rule { IfOk result (λ p. (K : Knowledge) → Stands self.now K
+            → expected_of p ≡ passes (to_each (peers (catalog_of self.now) (site_of self.now))
+            (said_again (catalog_of self.now) (site_of self.now) K))) }
+    {
+        let sends = self.said_again()?;
+        Ok(passes(sends))
+    }
+}

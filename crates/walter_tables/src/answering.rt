@@ -1,0 +1,76 @@
+ghost use Rattle.std.specs.Prelude.{◌≡◌, Option, OnOk, OnErr};
+ghost use Rattle.walter_base.specs.declared.message.Record.{Record as Written};
+ghost use Rattle.walter_rules.specs.declared.event.Event.{Event};
+ghost use Rattle.walter_rules.specs.declared.event.Input.{Input};
+ghost use Rattle.walter_rules.specs.declared.outcome.Outcome.{Outcome};
+ghost use Rattle.walter_rules.specs.Knowledge.{Knowledge};
+ghost use Rattle.walter_rules.specs.Learning.{answered};
+ghost use Rattle.walter_session.specs.Sessions.{sessions_of};
+ghost use Rattle.walter_tables.specs.Answering.{ClientCall, CanAnswer, TakesRoom, CanBeAnswered, begun_in};
+ghost use Rattle.walter_tables.specs.Sites.{values_of, site_of, catalog_of, Stands};
+
+use crate::leaving::{decide, start, update};
+use crate::tables::Tables;
+use walter_base::{Call, Mem, Reply};
+
+#[tactic(auto, unfolding(crate::specs::Sites::values_of, crate::specs::Sites::site_of, crate::specs::Sites::catalog_of))]
+impl Tables {
+    /// Makes room for what the reply changes. A reply that changes nothing takes none.
+    pub fn reserve_reply(&mut self, client: u32, reply: &Reply) -> Mem<()>
+        ensures room { OnOk result (CanAnswer self.new client reply.now) }
+        ensures free { OnErr result (TakesRoom reply.now) }
+        ensures fits { (call : ClientCall) → CanBeAnswered self.old client call reply.now
+            → CanBeAnswered self.new client call reply.now }
+        ensures stands { (K : Knowledge) → Stands self.old K → Stands self.new K }
+        ensures sessions { sessions_of self.new.sessions ≡ sessions_of self.old.sessions }
+        ensures site { site_of self.new ≡ site_of self.old }
+        ensures catalog { catalog_of self.new ≡ catalog_of self.old }
+        ensures log { self.new.log ≡ self.old.log }
+        ensures history { self.new.history ≡ self.old.history }
+        ensures spread { self.new.spread ≡ self.old.spread }
+        ensures durable { self.new.durable ≡ self.old.durable }
+        ensures locks { self.new.locks ≡ self.old.locks }
+        ensures slow { self.new.slow ≡ self.old.slow }
+    {
+        match reply {
+            Reply::Started(_) => self.sessions.reserve_start(),
+            Reply::Done => self.sessions.reserve_update(client),
+            _ => Ok(()),
+        }
+    }
+
+    /// Leaves what the answer to a call leaves, without taking memory. `begun` is the number of the slow commit that
+    /// the call began, if any.
+    pub(crate) fn answer(&mut self, client: u32, call: Call, reply: Reply, begun: Option<u64>)
+        requires fits { CanBeAnswered self.old client call reply }
+        requires room { CanAnswer self.old client reply }
+        ensures stands { (K : Knowledge) (wrote : Option Written) → Stands self.old K → begun_in wrote ≡ begun
+            → Stands self.new
+            (answered (catalog_of self.old) (Event.Given (Input.Call client call)) (Outcome.Replied reply) wrote K) }
+        ensures site { site_of self.new ≡ site_of self.old }
+        ensures catalog { catalog_of self.new ≡ catalog_of self.old }
+        ensures log { self.new.log ≡ self.old.log }
+        ensures history { self.new.history ≡ self.old.history }
+        ensures spread { self.new.spread ≡ self.old.spread }
+        ensures durable { self.new.durable ≡ self.old.durable }
+        ensures locks { self.new.locks ≡ self.old.locks }
+        ensures slow { self.new.slow ≡ self.old.slow }
+    {
+        match reply {
+            Reply::Started(tid) => {
+                self.starts = tid.number;
+                start(&mut self.sessions, client, tid, *self.spread.committed());
+            }
+            Reply::Done => update(&mut self.sessions, client, call),
+            Reply::Committed(_) | Reply::Aborted(_) | Reply::Ended | Reply::Unsure(_) => {
+                self.sessions.end(client);
+            }
+            Reply::Deciding(_) => decide(&mut self.sessions, client, begun),
+            Reply::Value(_)
+            | Reply::Set(_)
+            | Reply::Count(_)
+            | Reply::Level(_)
+            | Reply::Refused(_) => {}
+        }
+    }
+}

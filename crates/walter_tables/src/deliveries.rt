@@ -1,0 +1,208 @@
+//! What comes of the plainer packets of a peer, and of the next commit of a peer that is committed here.
+ghost use Rattle.std.specs.Prelude.{◌≡◌, ◌+◌, ◌≤◌, [], Some, None, IfOk, IfSome, IsTrue, if◌then◌else◌};
+ghost use Rattle.walter_base.specs.declared.packet.Packet.{Packet as Said};
+ghost use Rattle.walter_base.specs.Vectors.{entry_at};
+ghost use Rattle.walter_locks.specs.Parts.{part_of};
+ghost use Rattle.walter_rules.specs.Conflicts.{first_conflict};
+ghost use Rattle.walter_rules.specs.Deliveries.{passes, takes, back, is_peer, is_enabled, if_greater, packet_rule, advance_rule, prepares};
+ghost use Rattle.walter_rules.specs.Knowledge.{Knowledge};
+ghost use Rattle.walter_rules.specs.Slow.{Free};
+ghost use Rattle.walter_tables.specs.Keeping.{GoesOn};
+ghost use Rattle.walter_tables.specs.Planning.{expected_of};
+ghost use Rattle.walter_tables.specs.Sites.{values_of, site_of, catalog_of, Stands};
+ghost use Rattle.walter_tables.specs.Versions.{are_regular};
+
+use crate::plan::Planned;
+use crate::tables::Tables;
+use walter_base::{Answer, Conflict, Mem, Objects, Packet, Record, Sends, SiteId, Tid, Tx, Vts};
+use walter_objects::{are_lockable, is_peer};
+use walter_rules::Outcome;
+
+/// Nothing changes, and this is put out.
+pub fn passes(sends: Sends) -> Planned
+    ensures plan { expected_of result ≡ passes sends }
+    ensures none { result.rec ≡ None }
+{
+    Planned {
+        rec: None,
+        outcome: Outcome::Passed,
+        sends,
+    }
+}
+
+/// What is known changes, with this record or without one, and this is put out.
+pub fn takes(rec: Option<Record>, sends: Sends) -> Planned
+    ensures plan { expected_of result ≡ takes rec sends }
+    ensures wrote { result.rec ≡ rec }
+{
+    Planned {
+        rec,
+        outcome: Outcome::Taken,
+        sends,
+    }
+}
+
+#[tactic(auto, unfolding(crate::specs::Sites::values_of, crate::specs::Sites::site_of, crate::specs::Sites::catalog_of))]
+impl Tables {
+    /// To the site that the packet came from.
+    fn back(&self, to: SiteId, packet: Packet) -> Mem<Sends>
+        ensures { IfOk result (λ sends. sends ≡ back to packet) }
+    {
+        let mut sends = Vec::new(self.alloc);
+        sends.push((to, packet))?;
+        Ok(Sends::from(sends))
+    }
+
+    pub(crate) fn nothing(&self) -> Sends
+        ensures { result ≡ [] }
+    {
+        Sends::from(Vec::new(self.alloc))
+    }
+
+    /// What is said is taken where it says more than before.
+    fn if_greater(&self, is_greater: bool) -> Planned
+        ensures plan { expected_of result ≡ if_greater is_greater }
+        ensures none { result.rec ≡ None }
+    {
+        if is_greater {
+            takes(None, self.nothing())
+        } else {
+            passes(self.nothing())
+        }
+    }
+
+    pub(crate) fn plan_dsmark(&self, from: SiteId, durable: u64) -> Planned
+        ensures rule { (K : Knowledge) → Stands self.now K
+            → expected_of result ≡ packet_rule (catalog_of self.now) (site_of self.now) K from (Said.Dsmark durable) }
+        ensures none { result.rec ≡ None }
+    {
+        self.if_greater(self.spread.durable().get(from) < durable)
+    }
+
+    pub(crate) fn plan_released(&self, from: SiteId, slow: u64) -> Planned
+        ensures rule { (K : Knowledge) → Stands self.now K
+            → expected_of result ≡ packet_rule (catalog_of self.now) (site_of self.now) K from (Said.Released slow) }
+        ensures none { result.rec ≡ None }
+    {
+        self.if_greater(self.slow.owes(slow, from))
+    }
+
+    pub(crate) fn plan_release(&self, from: SiteId, slow: u64) -> Mem<Planned>
+        requires peer { IsTrue (is_peer (catalog_of self.now) (site_of self.now) from) }
+        ensures rule { IfOk result (λ p. (K : Knowledge) → Stands self.now K
+            → expected_of p ≡ packet_rule (catalog_of self.now) (site_of self.now) K from (Said.Release slow)) }
+        ensures on { IfOk result (λ p. IfSome p.rec (GoesOn self.now)) }
+    {
+        let sends = self.back(from, Packet::Released(slow))?;
+        if self.locks.dead(from, slow) {
+            return Ok(passes(sends));
+        }
+        Ok(takes(Some(Record::Released(from, slow)), sends))
+    }
+
+    pub(crate) fn plan_propagate(&self, from: SiteId, seq: u64, tx: &Tx) -> Mem<Planned>
+        requires peer { IsTrue (is_peer (catalog_of self.now) (site_of self.now) from) }
+        ensures rule { IfOk result (λ p. (K : Knowledge) → Stands self.now K
+            → expected_of p ≡ packet_rule (catalog_of self.now) (site_of self.now) K from (Said.Propagate seq tx.now)) }
+        ensures on { IfOk result (λ p. IfSome p.rec (GoesOn self.now)) }
+    {
+        if self.accepts(from, seq, tx) {
+            let tx = tx.clone()?;
+            let sends = self.back(from, Packet::Ack(seq))?;
+            return Ok(takes(Some(Record::Got(from, seq, tx)), sends));
+        }
+        let got = self.spread.got().get(from);
+        if seq > got {
+            return Ok(passes(self.nothing()));
+        }
+        Ok(passes(self.back(from, Packet::Ack(got))?))
+    }
+
+    /// The number of the next commit of the site, where it can be committed here.
+    fn enabled_next(&self, from: SiteId) -> Option<u64>
+        ensures rule { (K : Knowledge) → Stands self.now K
+            → result ≡ (if is_enabled K from then Some (K.committed from + 1) else None) }
+        ensures next { IfSome result (λ seq. (seq ≡ entry_at self.now.spread.committed from + 1)
+            × (seq ≤ entry_at self.now.spread.got from)) }
+    {
+        let committed = self.spread.committed().get(from);
+        if committed >= self.spread.got().get(from) {
+            return None;
+        }
+        let seq = committed + 1;
+        let tx = self.log.commit_at(from, seq)?;
+        if self.spread.enabled(from, &tx.start) {
+            Some(seq)
+        } else {
+            None
+        }
+    }
+
+    /// What comes of a site's next commit.
+    pub(crate) fn plan_advance(&self, from: SiteId) -> Mem<Planned>
+        ensures rule { IfOk result (λ p. (K : Knowledge) → Stands self.now K
+            → expected_of p ≡ advance_rule (catalog_of self.now) (site_of self.now) K from) }
+        ensures on { IfOk result (λ p. IfSome p.rec (GoesOn self.now)) }
+    {
+        if !is_peer(&self.catalog, self.site, from) {
+            return Ok(passes(self.nothing()));
+        }
+        let Some(seq) = self.enabled_next(from) else {
+            return Ok(passes(self.nothing()));
+        };
+        let sends = self.back(from, Packet::Visible(seq))?;
+        Ok(takes(Some(Record::Seen(from, seq)), sends))
+    }
+
+    /// The objects are locked where none of them meets a conflict.
+    fn plan_lock(
+        &self,
+        from: SiteId,
+        slow: u64,
+        tid: Tid,
+        start: &Vts,
+        objects: &Objects,
+    ) -> Mem<Planned>
+        requires peer { IsTrue (is_peer (catalog_of self.now) (site_of self.now) from) }
+        requires free { part_of self.now.locks from slow ≡ Free }
+        requires regular { IsTrue (are_regular (catalog_of self.now) objects.now) }
+        ensures rule { IfOk result (λ p. (K : Knowledge) → Stands self.now K
+            → expected_of p ≡ prepares from slow tid objects.now (first_conflict K start.now objects.now)) }
+        ensures on { IfOk result (λ p. IfSome p.rec (GoesOn self.now)) }
+    {
+        if let Some(conflict) = self.conflict(start, objects) {
+            let no = Packet::Vote(slow, Answer::No(conflict));
+            return Ok(passes(self.back(from, no)?));
+        }
+        let objects = objects.clone()?;
+        let sends = self.back(from, Packet::Vote(slow, Answer::Yes))?;
+        Ok(takes(Some(Record::Prepared(from, slow, tid, objects)), sends))
+    }
+
+    pub(crate) fn plan_prepare(
+        &self,
+        from: SiteId,
+        slow: u64,
+        tid: Tid,
+        start: &Vts,
+        objects: &Objects,
+    ) -> Mem<Planned>
+        requires peer { IsTrue (is_peer (catalog_of self.now) (site_of self.now) from) }
+        ensures rule { IfOk result (λ p. (K : Knowledge) → Stands self.now K
+            → expected_of p ≡ packet_rule (catalog_of self.now) (site_of self.now) K from
+            (Said.Prepare slow tid start.now objects.now)) }
+        ensures on { IfOk result (λ p. IfSome p.rec (GoesOn self.now)) }
+    {
+        if !are_lockable(&self.catalog, self.site, objects.as_slice()) {
+            return Ok(passes(self.nothing()));
+        }
+        if self.locks.dead(from, slow) {
+            let no = Packet::Vote(slow, Answer::No(Conflict::Dead));
+            return Ok(passes(self.back(from, no)?));
+        }
+        if self.locks.holds(from, slow) {
+            return Ok(passes(self.back(from, Packet::Vote(slow, Answer::Yes))?));
+        }
+        self.plan_lock(from, slow, tid, start, objects)
+    }
+}

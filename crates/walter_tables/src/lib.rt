@@ -1,0 +1,29 @@
+//! All that a site keeps, table by table; and what a record makes of it.
+#![tactic(auto)]
+
+mod acks;
+mod answering;
+mod calls;
+mod deliveries;
+mod fits;
+mod hear;
+mod keep;
+mod leaving;
+mod made;
+mod making;
+mod marks;
+mod over;
+mod plan;
+mod puts;
+mod replay;
+mod replies;
+mod same;
+mod sends;
+mod sizes;
+mod tables;
+mod versions;
+
+pub use made::Made;
+pub use plan::Planned;
+pub use replay::ReplayFault;
+pub use tables::Tables;

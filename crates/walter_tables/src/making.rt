@@ -1,0 +1,100 @@
+ghost use Rattle.std.specs.Prelude.{◌≡◌, ◌<◌, ◌≤◌, IfOk, OnOk, length};
+ghost use Rattle.walter_base.specs.declared.message.Record.{Record as Written};
+ghost use Rattle.walter_log.specs.Logged.{room_of};
+ghost use Rattle.walter_rows.specs.Rows.{HaveRoom};
+ghost use Rattle.walter_rules.specs.Knowledge.{Knowledge};
+ghost use Rattle.walter_tables.specs.Keeping.{IsMadeFor, HasRoomFor, GoesOn, IsKnownSite, sites_for, objects_for, objects_here, asked_of};
+ghost use Rattle.walter_tables.specs.Sites.{values_of, site_of, catalog_of, Stands};
+
+use crate::made::Made;
+use crate::tables::Tables;
+use std::alloc::Global;
+use walter_base::{Mem, Objects, Record, SiteId, Sites, Tx};
+use walter_objects::{homes, objects_at, objects_of, participants};
+use walter_rows::{make_room, rows_told};
+
+#[tactic(auto, unfolding(crate::specs::Sites::values_of, crate::specs::Sites::site_of, crate::specs::Sites::catalog_of))]
+impl Tables {
+    /// What goes with the record.
+    pub fn make(&self, rec: &Record) -> Mem<Made>
+        ensures { IfOk result (IsMadeFor (catalog_of self.now) (site_of self.now) rec.now) }
+    {
+        let alloc = self.alloc;
+        let rows = rows_told(alloc, rec)?;
+        match rec {
+            Record::Own(_, tx) => {
+                let sites = homes(alloc, &self.catalog, tx.updates.as_slice())?;
+                Ok(Made {
+                    rows,
+                    sites,
+                    objects: Objects::from(Vec::new(alloc)),
+                })
+            }
+            Record::SlowBegin(_, tx) => {
+                let written = objects_of(alloc, tx.updates.as_slice())?;
+                let sites = participants(alloc, &self.catalog, self.site, written.as_slice())?;
+                let objects = objects_at(alloc, &self.catalog, self.site, written.as_slice())?;
+                Ok(Made {
+                    rows,
+                    sites,
+                    objects,
+                })
+            }
+            _ => Ok(Made {
+                rows,
+                sites: Sites::from(Vec::new(alloc)),
+                objects: Objects::from(Vec::new(alloc)),
+            }),
+        }
+    }
+
+    /// Makes room for what the record brings, which is of a site of the catalog.
+    pub fn reserve(&mut self, rec: &Record, made: &Made) -> Mem<()>
+        requires site { IsKnownSite (catalog_of self.old) rec.now }
+        requires made { IsMadeFor (catalog_of self.old) (site_of self.old) rec.now made.now }
+        ensures room { OnOk result (HasRoomFor self.new rec.now) }
+        ensures on { GoesOn self.old rec.now → GoesOn self.new rec.now }
+        ensures stands { (K : Knowledge) → Stands self.old K → Stands self.new K }
+        ensures sessions { self.new.sessions ≡ self.old.sessions }
+        ensures site { site_of self.new ≡ site_of self.old }
+        ensures catalog { catalog_of self.new ≡ catalog_of self.old }
+    {
+        match rec {
+            Record::Own(_, tx) => {
+                self.durable.reserve()?;
+                self.reserve_held(self.site, tx)
+            }
+            Record::Got(from, _, tx) => self.reserve_held(*from, tx),
+            Record::Seen(_, _) | Record::Released(_, _) => self.locks.reserve(0),
+            Record::Prepared(_, _, _, objects) => {
+                let count = objects.as_slice().len() as u64;
+                self.locks.reserve(count)
+            }
+            Record::SlowBegin(_, _) => {
+                let asked = made.sites.as_slice().len() as u64;
+                let count = made.objects.as_slice().len() as u64;
+                self.slow.reserve(asked)?;
+                self.locks.reserve(count)
+            }
+            Record::Boot(_) | Record::SlowEnd(_) | Record::Marks(_, _) => Ok(()),
+        }
+    }
+
+    /// Makes room for a transaction of the site that is to be held.
+    fn reserve_held(&mut self, site: SiteId, tx: &Tx) -> Mem<()>
+        requires { site.0 < (catalog_of self.old).sites }
+        ensures log { OnOk result (0 < room_of self.new.log site) }
+        ensures rows { OnOk result (HaveRoom self.new.history tx.now.updates) }
+        ensures stands { (K : Knowledge) → Stands self.old K → Stands self.new K }
+        ensures spread { self.new.spread ≡ self.old.spread }
+        ensures durable { self.new.durable ≡ self.old.durable }
+        ensures locks { self.new.locks ≡ self.old.locks }
+        ensures slow { self.new.slow ≡ self.old.slow }
+        ensures sessions { self.new.sessions ≡ self.old.sessions }
+        ensures site { site_of self.new ≡ site_of self.old }
+        ensures catalog { catalog_of self.new ≡ catalog_of self.old }
+    {
+        self.log.reserve(site)?;
+        make_room(&mut self.history, tx.updates.as_slice())
+    }
+}

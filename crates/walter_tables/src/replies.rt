@@ -1,0 +1,172 @@
+//! What a client is answered to a Start, and what needs an open transaction.
+ghost use Rattle.std.specs.Prelude.{◌≡◌, ℕ, Ok, IfOk, IfSome, option_map};
+ghost use Rattle.std.specs.FinMap as map;
+ghost use Rattle.std.specs.Option.{option_copied};
+ghost use Rattle.walter_base.specs.declared.message.Request.{Request as Asked};
+ghost use Rattle.walter_base.specs.Sizes.{AreSmall};
+ghost use Rattle.walter_rules.specs.Calls.{Expected, answers, if_regular, if_cset, open_in};
+ghost use Rattle.walter_rules.specs.Knowledge.{Knowledge};
+ghost use Rattle.walter_session.specs.Sessions.{session_of, session_view};
+ghost use Rattle.walter_tables.specs.Answering.{IsReplyBy, rule_by, refused_or, CanBeAnswered};
+ghost use Rattle.walter_tables.specs.Sites.{values_of, site_of, catalog_of};
+
+use crate::sizes::{MOST_BYTES, MOST_SHOWN, SPELLS_COUNT, SPELLS_WRITE, has_place};
+use crate::tables::Tables;
+use walter_base::{Bytes, Cause, Kind, Mem, NoMemory, ObjId, Refusal, Reply, Tid};
+use walter_rows::{count_read, counts_read, value_read};
+use walter_session::Session;
+
+#[tactic(auto, unfolding(crate::specs::Sites::values_of, crate::specs::Sites::site_of, crate::specs::Sites::catalog_of))]
+impl Tables {
+    pub(crate) fn start_reply(&self, client: u32) -> Mem<Reply>
+        ensures rule { IfOk result (IsReplyBy self.now client Asked.Start) }
+        ensures fits { IfOk result (CanBeAnswered self.now client (Ok Asked.Start)) }
+    {
+        if self.sessions.get(client).is_some() {
+            return Ok(Reply::Refused(Refusal::TxOpen));
+        }
+        if self.sessions.is_full() {
+            return Ok(Reply::Refused(Refusal::SessionsFull));
+        }
+        // No memory reaches so far that a start has no number.
+        let number = self.starts.checked_add(1).ok_or(NoMemory)?;
+        Ok(Reply::Started(Tid {
+            site: self.site,
+            epoch: self.epoch,
+            number,
+        }))
+    }
+
+    /// The client's transaction, where it is open.
+    fn open_session(&self, client: u32) -> Option<&Session>
+        ensures session { option_map session_view (option_copied result)
+            ≡ open_in (session_of self.entry.now.sessions client) }
+        ensures small { IfSome (option_copied result) (λ session. AreSmall session.updates.items) }
+    {
+        let session = self.sessions.get(client)?;
+        if session.slow > 0 {
+            return None;
+        }
+        Some(session)
+    }
+
+    /// Why an object is neither read nor written whole, if it isn't.
+    fn refusal_of(&self, oid: ObjId) -> Option<Refusal>
+        ensures { (other : Expected) → if_regular (map.get (catalog_of self.now).containers oid.container) other
+            ≡ refused_or result other }
+    {
+        match self.catalog.kind(oid) {
+            None => Some(Refusal::UnknownContainer),
+            Some(Kind::Cset) => Some(Refusal::WrongKind),
+            Some(Kind::Regular) => None,
+        }
+    }
+
+    /// Why an object has no counts that are read or changed, if it has none.
+    fn refusal_of_set(&self, oid: ObjId) -> Option<Refusal>
+        ensures { (other : Expected) → if_cset (map.get (catalog_of self.now).containers oid.container) other
+            ≡ refused_or result other }
+    {
+        match self.catalog.kind(oid) {
+            None => Some(Refusal::UnknownContainer),
+            Some(Kind::Regular) => Some(Refusal::WrongKind),
+            Some(Kind::Cset) => None,
+        }
+    }
+
+    pub(crate) fn value_reply(&self, client: u32, oid: ObjId) -> Mem<Reply>
+        ensures rule { IfOk result (IsReplyBy self.now client (Asked.Read oid)) }
+        ensures fits { IfOk result (CanBeAnswered self.now client (Ok (Asked.Read oid))) }
+    {
+        let Some(session) = self.open_session(client) else {
+            return Ok(Reply::Refused(Refusal::NoTx));
+        };
+        if let Some(refusal) = self.refusal_of(oid) {
+            return Ok(Reply::Refused(refusal));
+        }
+        let value = value_read(&self.history, &session.snapshot, &session.updates, oid).cloned()?;
+        Ok(Reply::Value(value))
+    }
+
+    pub(crate) fn write_reply(&self, client: u32, oid: ObjId, value: &Bytes) -> Reply
+        ensures { (K : Knowledge) → answers result ≡ rule_by self.now K client (Asked.Write oid value.now) }
+    {
+        let Some(session) = self.open_session(client) else {
+            return Reply::Refused(Refusal::NoTx);
+        };
+        if let Some(refusal) = self.refusal_of(oid) {
+            return Reply::Refused(refusal);
+        }
+        if value.len() > MOST_BYTES {
+            return Reply::Refused(Refusal::TooLong);
+        }
+        if !has_place(&session.updates, SPELLS_WRITE + value.len() as u64) {
+            return Reply::Refused(Refusal::TxFull);
+        }
+        Reply::Done
+    }
+
+    /// An id is added to a set, or taken from it.
+    pub(crate) fn change_reply(&self, client: u32, oid: ObjId) -> Reply
+        ensures add { (id : ℕ) (K : Knowledge) → answers result ≡ rule_by self.now K client (Asked.SetAdd oid id) }
+        ensures del { (id : ℕ) (K : Knowledge) → answers result ≡ rule_by self.now K client (Asked.SetDel oid id) }
+    {
+        let Some(session) = self.open_session(client) else {
+            return Reply::Refused(Refusal::NoTx);
+        };
+        if let Some(refusal) = self.refusal_of_set(oid) {
+            return Reply::Refused(refusal);
+        }
+        if !has_place(&session.updates, SPELLS_COUNT) {
+            return Reply::Refused(Refusal::TxFull);
+        }
+        Reply::Done
+    }
+
+    pub(crate) fn counts_reply(&self, client: u32, oid: ObjId) -> Mem<Reply>
+        ensures rule { IfOk result (IsReplyBy self.now client (Asked.SetRead oid)) }
+        ensures fits { IfOk result (CanBeAnswered self.now client (Ok (Asked.SetRead oid))) }
+    {
+        let Some(session) = self.open_session(client) else {
+            return Ok(Reply::Refused(Refusal::NoTx));
+        };
+        if let Some(refusal) = self.refusal_of_set(oid) {
+            return Ok(Reply::Refused(refusal));
+        }
+        let alloc = *session.updates.allocator();
+        let counts = counts_read(
+            alloc,
+            &self.history,
+            &session.snapshot,
+            &session.updates,
+            oid,
+        )?;
+        if counts.as_slice().len() > MOST_SHOWN {
+            return Ok(Reply::Refused(Refusal::SetTooWide));
+        }
+        Ok(Reply::Set(counts))
+    }
+
+    pub(crate) fn count_reply(&self, client: u32, oid: ObjId, id: u64) -> Reply
+        ensures rule { IsReplyBy self.now client (Asked.SetReadId oid id) result }
+        ensures fits { CanBeAnswered self.now client (Ok (Asked.SetReadId oid id)) result }
+    {
+        let Some(session) = self.open_session(client) else {
+            return Reply::Refused(Refusal::NoTx);
+        };
+        if let Some(refusal) = self.refusal_of_set(oid) {
+            return Reply::Refused(refusal);
+        }
+        Reply::Count(count_read(&self.history, &session.snapshot, &session.updates, oid, id))
+    }
+
+    pub(crate) fn abort_reply(&self, client: u32) -> Reply
+        ensures rule { IsReplyBy self.now client Asked.Abort result }
+        ensures fits { CanBeAnswered self.now client (Ok Asked.Abort) result }
+    {
+        match self.open_session(client) {
+            Some(_) => Reply::Aborted(Cause::Asked),
+            None => Reply::Refused(Refusal::NoTx),
+        }
+    }
+}

@@ -1,0 +1,86 @@
+ghost use Rattle.std.specs.Prelude.{◌≡◌, ◌<◌, ◌≤◌, ℕ, length, IsTrue, IfOk};
+ghost use Rattle.walter_base.specs.Vectors.{most_sites};
+ghost use Rattle.walter_locks.specs.Parts.{part_of};
+ghost use Rattle.walter_rules.specs.declared.held.TheConstants.{WINDOW};
+ghost use Rattle.walter_session.specs.Sessions.{sessions_of};
+ghost use Rattle.walter_tables.specs.Open.{AreOpenAt};
+ghost use Rattle.walter_tables.specs.Parts.{is_free};
+ghost use Rattle.walter_tables.specs.Props.{props};
+
+use std::alloc::Global;
+use walter_base::{Catalog, Mem, SiteId};
+use walter_durable::Durable;
+use walter_history::History;
+use walter_locks::Locks;
+use walter_log::Log;
+use walter_rules::WINDOW;
+use walter_session::Sessions;
+use walter_slow::SlowCommits;
+use walter_spread::Spread;
+
+/// All that a site keeps. Contracts read it by what it stands for: what the site knows.
+#[derive(Drop)]
+pub struct Tables {
+    pub(crate) alloc: Global,
+    pub(crate) catalog: Catalog,
+    pub(crate) site: SiteId,
+    pub(crate) epoch: u32,
+    pub(crate) starts: u64,
+    pub(crate) log: Log,
+    pub(crate) history: History,
+    pub(crate) spread: Spread,
+    pub(crate) durable: Durable,
+    pub(crate) locks: Locks,
+    pub(crate) slow: SlowCommits,
+    pub(crate) sessions: Sessions,
+    ghost here: { site.0 < catalog.sites },
+    ghost most: { catalog.sites ≤ most_sites },
+    ghost log_site: { log.site ≡ site },
+    ghost log_sites: { log.sites ≡ catalog.sites },
+    ghost spread_site: { spread.site ≡ site },
+    ghost spread_window: { spread.window ≡ WINDOW },
+    ghost spread_sites: { length spread.got ≡ catalog.sites },
+    ghost spread_committed: { length spread.committed ≡ catalog.sites },
+    ghost spread_durable: { length spread.durable ≡ catalog.sites },
+    ghost durable_site: { durable.holdings.site ≡ site },
+    ghost durable_sites: { durable.holdings.sites ≡ catalog.sites },
+    ghost tolerated: { durable.holdings.tolerated ≡ catalog.tolerated },
+    ghost dead: { length locks.dead ≡ catalog.sites },
+    ghost ahead: { (n : ℕ) → slow.last < n → IsTrue (is_free (part_of locks site n)) },
+    ghost open: { AreOpenAt catalog site (sessions_of sessions) } by { Prim.hlevel props },
+}
+
+#[tactic(auto, unfolding(crate::specs::Sites::values_of, crate::specs::Sites::site_of, crate::specs::Sites::catalog_of))]
+impl Tables {
+    ghost use Rattle.walter_rules.specs.Knowledge.{fresh};
+    ghost use Rattle.walter_tables.specs.Sites.{values_of, site_of, catalog_of, Stands};
+
+    /// The tables of a site of which no record tells anything. It comes up by the replay of a Boot.
+    pub fn new(alloc: Global, catalog: Catalog, site: SiteId) -> Mem<Tables>
+        requires here { site.0 < catalog.sites }
+        requires most { catalog.sites ≤ most_sites }
+        requires fewer { catalog.tolerated < catalog.sites }
+        ensures stands { IfOk result (λ tables. Stands tables fresh) }
+        ensures site { IfOk result (λ tables. site_of tables ≡ site) }
+        ensures catalog { IfOk result (λ tables. catalog_of tables ≡ catalog) }
+    {
+        let sites = catalog.sites;
+        let durable = Durable::new(alloc, site, sites, catalog.tolerated);
+        let log = Log::new(alloc, site, sites)?;
+        let locks = Locks::new(alloc, sites)?;
+        Ok(Tables {
+            alloc,
+            catalog,
+            site,
+            epoch: 0,
+            starts: 0,
+            log,
+            history: History::new(alloc),
+            spread: Spread::new(site, sites, WINDOW),
+            durable,
+            locks,
+            slow: SlowCommits::new(alloc),
+            sessions: Sessions::new(alloc),
+        })
+    }
+}
