@@ -19,6 +19,7 @@ use Rattle.walter_rules.specs.declared.outcome.Outcome.{Outcome}
 use Rattle.walter_rules.specs.declared.outcome.Outcome.TheVariants.{Taken}
 use Rattle.walter_rules.specs.Allowed.{IsKind, commits, begins, receives, marks_durable, marks_visible, prepares, decides, gives_up, releases, sees, boots, IsFromPeer, Covers}
 use Rattle.walter_rules.specs.Conflicts.{conflict_at}
+use Rattle.walter_rules.specs.Declarations.{are_declared}
 use Rattle.walter_rules.specs.Deliveries.{is_peer}
 use Rattle.walter_rules.specs.Knowledge.{Knowledge, session_of}
 use Rattle.walter_rules.specs.Learning.{slow_number, freed_over, recorded, heard, lost}
@@ -26,7 +27,8 @@ use Rattle.walter_rules.specs.Log.{row, version_of, of_site, commit_at}
 use Rattle.walter_rules.specs.Marks.{passed, is_held, is_visible, durable_mark, visible_mark}
 use Rattle.walter_rules.specs.Objects.{objects_at}
 use Rattle.walter_rules.specs.Records.{CanFollow}
-use Rattle.walter_rules.specs.Slow.{begun}
+use Rattle.walter_rules.specs.Sessions.{Session}
+use Rattle.walter_rules.specs.Slow.{Undecided, begun}
 use Rattle.walter_rules.specs.Standing.{Standing}
 use Rattle.walter_rules.proofs.WrittenObjects.{objects_at_from}
 use Rattle.walter_agreement.proofs.Issued.{Issued}
@@ -150,33 +152,37 @@ marks_rise catalog i before K booted durable visible same_durable same_visible s
       visible_own = omega (arith, same_visible, same_own, visible, v);
     }
 
-module _ (catalog : Catalog) (i : SiteId) (S : Standing) (numbers : Issued) (L : IsLearned catalog i S.knows)
-    (A : AreSound catalog i (λ c. session_of S.knows c) S.knows.committed numbers)
-    (T : IsTidy i (λ c. session_of S.knows c) S.knows.slow S.flight S.up S.knows.last numbers (of_site i S.knows.log))
+-- where sessions are of transactions of the site that write what the catalog has, and an undecided slow commit is of
+-- the site, under its own number
+module _ (catalog : Catalog) (i : SiteId) (S : Standing) (L : IsLearned catalog i S.knows)
+    (sessions : (client : ℕ) (s : Session) → session_of S.knows client ≡ Some s
+    → (s.tid.site ≡ i) × (are_declared catalog s.updates ≡ true))
+    (named : (n : ℕ) (tx : Tx) (asked : List SiteId) → S.knows.slow n ≡ Undecided tx asked
+    → (tx.slow ≡ n) × (tx.tid.site ≡ i))
     (booted : S.up ≡ true → 0 < S.knows.epoch) where
   from_peer : (j : SiteId) → IsFromPeer catalog i S j → is_peer catalog i j ≡ true
   from_peer j from = peer_passes catalog i j from.below from.apart
 
   -- the record of each kind
-  pub kind_follows : (event : Event) (wrote : Option Record) (outcome : Outcome)
+  pub record_follows : (event : Event) (wrote : Option Record) (outcome : Outcome)
       → IsKind catalog i S event wrote outcome → IfSome wrote (CanFollow catalog i S.knows)
-  kind_follows event wrote outcome (commits client s open_ some local clear) = record {
+  record_follows event wrote outcome (commits client s open_ some local clear) = record {
     booted = booted open_.up;
     next = refl;
-    here = (A.started client s open_.session).0;
+    here = (sessions client s open_.session).0;
     slow = λ begun_. absurd (let e = open_.is_open in omega (arith, begun_, e));
-    declared = A.declared client s open_.session;
+    declared = (sessions client s open_.session).1;
   }
-  kind_follows event wrote outcome (begins client s open_ some clear) = record {
+  record_follows event wrote outcome (begins client s open_ some clear) = record {
     booted = booted open_.up;
     next = refl;
     named = refl;
     unlocked = all_of (λ oid. S.knows.owner oid ≡ None) (objects_at catalog S.knows i s.updates) (λ oid within.
         let at = objects_at_from catalog S.knows i s.updates oid within in unowned S.knows s.snapshot oid
         (clear oid at.0 at.1));
-    declared = A.declared client s open_.session;
+    declared = (sessions client s open_.session).1;
   }
-  kind_follows event wrote outcome (receives j number seq tx from next) = record {
+  record_follows event wrote outcome (receives j number seq tx from next) = record {
     booted = booted from.up;
     peer = from_peer j from;
     sender = next.sender;
@@ -184,17 +190,17 @@ module _ (catalog : Catalog) (i : SiteId) (S : Standing) (numbers : Issued) (L :
     covered = covers_pass S.knows.got tx.start next.covered;
     declared = next.declared;
   }
-  kind_follows event wrote outcome (marks_durable j number got K from most is rises) =
+  record_follows event wrote outcome (marks_durable j number got K from most is rises) =
       subst (λ (N : Knowledge). CanFollow catalog i S.knows
       (Marks (durable_mark catalog i N) (visible_mark catalog i N))) (sym is)
       (marks_rise catalog i S.knows (heard (Given (Deliver j number (Ack got))) Taken S.knows)
       (booted from.up) L.durable L.visible refl refl refl)
-  kind_follows event wrote outcome (marks_visible j number committed K from most is rises) =
+  record_follows event wrote outcome (marks_visible j number committed K from most is rises) =
       subst (λ (N : Knowledge). CanFollow catalog i S.knows
       (Marks (durable_mark catalog i N) (visible_mark catalog i N))) (sym is)
       (marks_rise catalog i S.knows (heard (Given (Deliver j number (Visible committed))) Taken S.knows)
       (booted from.up) L.durable L.visible refl refl refl)
-  kind_follows event wrote outcome (prepares j number n tid start objects from free lockable) = record {
+  record_follows event wrote outcome (prepares j number n tid start objects from free lockable) = record {
     booted = booted from.up;
     peer = from_peer j from;
     free = free;
@@ -202,24 +208,24 @@ module _ (catalog : Catalog) (i : SiteId) (S : Standing) (numbers : Issued) (L :
     unlocked = all_of (λ oid. S.knows.owner oid ≡ None) objects
         (λ oid within. unowned S.knows start oid (lockable.clear oid within));
   }
-  kind_follows event wrote outcome (decides p number n tx asked from undecided within said) =
-      let named = T.named n tx (ap begun undecided) in
+  record_follows event wrote outcome (decides p number n tx asked from undecided within said) =
+      let name = named n tx asked undecided in
       record {
         booted = booted from.up;
         next = refl;
-        here = named.2;
-        slow = λ begun_. (asked, ap S.knows.slow named.0 ∙ undecided);
+        here = name.1;
+        slow = λ begun_. (asked, ap S.knows.slow name.0 ∙ undecided);
         declared = L.declared n tx (ap begun undecided);
       }
-  kind_follows event wrote outcome (gives_up p number n tx asked conflict from undecided within alive) = record {
+  record_follows event wrote outcome (gives_up p number n tx asked conflict from undecided within alive) = record {
     booted = booted from.up;
     tx = tx;
     asked = asked;
     undecided = undecided;
   }
-  kind_follows event wrote outcome (releases j number n from alive) =
+  record_follows event wrote outcome (releases j number n from alive) =
       record { booted = booted from.up; peer = from_peer j from; alive = alive }
-  kind_follows event wrote outcome (sees j tx from due) = record {
+  record_follows event wrote outcome (sees j tx from due) = record {
     booted = booted from.up;
     peer = from_peer j from;
     next = refl;
@@ -227,5 +233,15 @@ module _ (catalog : Catalog) (i : SiteId) (S : Standing) (numbers : Issued) (L :
     covered = λ x held. covers_pass S.knows.committed x.start
         (subst (λ (z : Tx). Covers S.knows.committed z.start) (same_Some tx x (sym due.held ∙ held)) due.covered);
   }
-  kind_follows event wrote outcome (boots down) = refl
-  kind_follows event wrote outcome kind = tt
+  record_follows event wrote outcome (boots down) = refl
+  record_follows event wrote outcome kind = tt
+
+-- and so it can by a right trail
+pub kind_follows : (catalog : Catalog) (i : SiteId) (S : Standing) (numbers : Issued) → IsLearned catalog i S.knows
+    → AreSound catalog i (λ c. session_of S.knows c) S.knows.committed numbers
+    → IsTidy i (λ c. session_of S.knows c) S.knows.slow S.flight S.up S.knows.last numbers (of_site i S.knows.log)
+    → (S.up ≡ true → 0 < S.knows.epoch) → (event : Event) (wrote : Option Record) (outcome : Outcome)
+    → IsKind catalog i S event wrote outcome → IfSome wrote (CanFollow catalog i S.knows)
+kind_follows catalog i S numbers L A T booted =
+    record_follows catalog i S L (λ client s is. ((A.started client s is).0, A.declared client s is))
+    (λ n tx asked undecided. let name = T.named n tx (ap begun undecided) in (name.0, name.2)) booted

@@ -4,7 +4,7 @@ pub mod PartsKept
 pub mod StandKept
 mod Opened
 mod BeingDecided
-mod Fair
+pub mod Fair
 pub mod Called
 mod Answered
 pub mod FitsTold
@@ -14,4 +14,6 @@ mod Delivered
 pub mod ConflictsTold
 pub mod Said
 pub mod PutTold
-pub mod Spelled
+mod Voted
+mod Written
+mod Committed

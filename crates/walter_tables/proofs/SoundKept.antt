@@ -75,7 +75,7 @@ decided_begun (Undecided tx asked) some = λ is. cc
 decided_begun (Dropped tx asked) some = some
 decided_begun (Decided tx) some = some
 
-decided_not_undecided : (g : Slow) (tx : Tx) (asked : List SiteId) → decided g ≢ Undecided tx asked
+pub decided_not_undecided : (g : Slow) (tx : Tx) (asked : List SiteId) → decided g ≢ Undecided tx asked
 decided_not_undecided Unused tx asked = λ is. cc
 decided_not_undecided (Undecided x others) tx asked = λ is. cc
 decided_not_undecided (Dropped x others) tx asked = λ is. cc

@@ -69,16 +69,22 @@ CanBeAnswered t client call Done =
     IsSomeAnd (session_of t.sessions client) (λ s. IsOpenAt t.catalog t.site (updated call s))
 CanBeAnswered t client call reply = Unit {0}
 
+-- the session with the update, if there is one
+abbrev pub with_any : Option Update → Session → Session
+with_any None s = s
+with_any (Some update) s = with_update update s
+
+-- the update is the one that the call asks for, where it is done
+abbrev pub IsAskedBy : ClientCall → Reply → Option Update → Type 0
+IsAskedBy call Done update = (s : Session) → updated call s ≡ with_any update s
+IsAskedBy call reply update = Unit {0}
+
 -- the slow commit that a record begins
 abbrev pub begun_in : Option Record → Option ℕ
 begun_in (Some (SlowBegin slow tx)) = Some slow
 begun_in wrote = None
 
--- the session with the update, if there is one, and with the number of the slow commit
-abbrev pub with_any : Option Update → Session → Session
-with_any None s = s
-with_any (Some update) s = with_update update s
-
+-- and with the number of the slow commit
 abbrev pub deciding_any : Option ℕ → Session → Session
 deciding_any None s = s
 deciding_any (Some slow) s = with_slow slow s

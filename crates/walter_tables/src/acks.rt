@@ -1,11 +1,11 @@
 //! What comes of the numbers that a peer says of own commits, and of a tick.
 ghost use Rattle.std.specs.Prelude.{◌≡◌, IfOk, IfSome, IsTrue, Option, Some};
 ghost use Rattle.walter_base.specs.declared.packet.Packet.{Packet as Said};
-ghost use Rattle.walter_rules.specs.Deliveries.{is_news, is_peer, packet_rule, passes};
+ghost use Rattle.walter_rules.specs.Deliveries.{if_marks, is_news, is_peer, packet_rule, passes};
 ghost use Rattle.walter_rules.specs.Knowledge.{Knowledge, peers};
 ghost use Rattle.walter_rules.specs.Sending.{to_each, said_again};
 ghost use Rattle.walter_tables.specs.Keeping.{GoesOn};
-ghost use Rattle.walter_tables.specs.Planning.{expected_of, marks_told};
+ghost use Rattle.walter_tables.specs.Planning.{expected_of};
 ghost use Rattle.walter_tables.specs.Sites.{values_of, site_of, catalog_of, Stands};
 
 use crate::deliveries::{passes, takes};
@@ -15,7 +15,7 @@ use walter_base::{Mem, Record, SiteId};
 
 /// A record of the marks, where one of them rose.
 fn marks(rose: bool, durable: u64, visible: u64) -> Option<Record>
-    ensures { result ≡ marks_told rose durable visible }
+    ensures { result ≡ if_marks rose durable visible }
 {
     if rose {
         Some(Record::Marks(durable, visible))
@@ -34,7 +34,7 @@ impl Tables {
     }
 
     /// What comes of an ACK.
-    pub(crate) fn plan_ack(&self, from: SiteId, got: u64) -> Mem<Planned>
+    pub fn plan_ack(&self, from: SiteId, got: u64) -> Mem<Planned>
         requires peer { IsTrue (is_peer (catalog_of self.now) (site_of self.now) from) }
         ensures rule { IfOk result (λ p. (K : Knowledge) → Stands self.now K
             → expected_of p ≡ packet_rule (catalog_of self.now) (site_of self.now) K from (Said.Ack got)) }
@@ -52,7 +52,7 @@ impl Tables {
     }
 
     /// What comes of a VISIBLE.
-    pub(crate) fn plan_visible(&self, from: SiteId, committed: u64) -> Planned
+    pub fn plan_visible(&self, from: SiteId, committed: u64) -> Planned
         requires peer { IsTrue (is_peer (catalog_of self.now) (site_of self.now) from) }
         ensures rule { (K : Knowledge) → Stands self.now K
             → expected_of result ≡ packet_rule (catalog_of self.now) (site_of self.now) K from (Said.Visible committed) }
@@ -69,7 +69,7 @@ impl Tables {
     }
 
     /// What comes of a tick.
-    pub(crate) fn plan_tick(&self) -> Mem<Planned>
+    pub fn plan_tick(&self) -> Mem<Planned>
         ensures rule { IfOk result (λ p. (K : Knowledge) → Stands self.now K
             → expected_of p ≡ passes (to_each (peers (catalog_of self.now) (site_of self.now))
             (said_again (catalog_of self.now) (site_of self.now) K))) }

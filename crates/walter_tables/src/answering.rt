@@ -1,17 +1,18 @@
-ghost use Rattle.std.specs.Prelude.{◌≡◌, Option, OnOk, OnErr};
+ghost use Rattle.std.specs.Prelude.{◌≡◌, ◌≢◌, Option, OnOk, OnErr};
 ghost use Rattle.walter_base.specs.declared.message.Record.{Record as Written};
+ghost use Rattle.walter_base.specs.declared.message.Reply.{Reply as Answered};
 ghost use Rattle.walter_rules.specs.declared.event.Event.{Event};
 ghost use Rattle.walter_rules.specs.declared.event.Input.{Input};
 ghost use Rattle.walter_rules.specs.declared.outcome.Outcome.{Outcome};
 ghost use Rattle.walter_rules.specs.Knowledge.{Knowledge};
 ghost use Rattle.walter_rules.specs.Learning.{answered};
 ghost use Rattle.walter_session.specs.Sessions.{sessions_of};
-ghost use Rattle.walter_tables.specs.Answering.{ClientCall, CanAnswer, TakesRoom, CanBeAnswered, begun_in};
+ghost use Rattle.walter_tables.specs.Answering.{ClientCall, CanAnswer, TakesRoom, CanBeAnswered, IsAskedBy, begun_in};
 ghost use Rattle.walter_tables.specs.Sites.{values_of, site_of, catalog_of, Stands};
 
 use crate::leaving::{decide, start, update};
 use crate::tables::Tables;
-use walter_base::{Call, Mem, Reply};
+use walter_base::{Call, Mem, Reply, Update};
 
 #[tactic(auto, unfolding(crate::specs::Sites::values_of, crate::specs::Sites::site_of, crate::specs::Sites::catalog_of))]
 impl Tables {
@@ -39,14 +40,62 @@ impl Tables {
         }
     }
 
-    /// Leaves what the answer to a call leaves, without taking memory. `begun` is the number of the slow commit that
-    /// the call began, if any.
-    pub(crate) fn answer(&mut self, client: u32, call: Call, reply: Reply, begun: Option<u64>)
-        requires fits { CanBeAnswered self.old client call reply }
-        requires room { CanAnswer self.old client reply }
+    /// Leaves what the answer to a call leaves, without taking memory. `asked` is the update that the call asks for, if
+    /// any; `begun` the number of the slow commit that it began.
+    pub fn answer(
+        &mut self,
+        client: u32,
+        call: &Call,
+        reply: &Reply,
+        asked: Option<Update>,
+        begun: Option<u64>,
+    )
+        requires fits { CanBeAnswered self.old client call.now reply.now }
+        requires room { CanAnswer self.old client reply.now }
+        requires asks { IsAskedBy call.now reply.now asked }
         ensures stands { (K : Knowledge) (wrote : Option Written) → Stands self.old K → begun_in wrote ≡ begun
             → Stands self.new
-            (answered (catalog_of self.old) (Event.Given (Input.Call client call)) (Outcome.Replied reply) wrote K) }
+            (answered (catalog_of self.old) (Event.Given (Input.Call client call.now)) (Outcome.Replied reply.now) wrote K) }
+        ensures site { site_of self.new ≡ site_of self.old }
+        ensures catalog { catalog_of self.new ≡ catalog_of self.old }
+        ensures log { self.new.log ≡ self.old.log }
+        ensures history { self.new.history ≡ self.old.history }
+        ensures spread { self.new.spread ≡ self.old.spread }
+        ensures durable { self.new.durable ≡ self.old.durable }
+        ensures locks { self.new.locks ≡ self.old.locks }
+        ensures slow { self.new.slow ≡ self.old.slow }
+    {
+        match reply {
+            Reply::Done => self.answer_done(client, call, asked),
+            _ => self.answer_other(client, call, reply, begun),
+        }
+    }
+
+    fn answer_done(&mut self, client: u32, call: &Call, asked: Option<Update>)
+        requires fits { CanBeAnswered self.old client call.now Answered.Done }
+        requires room { CanAnswer self.old client Answered.Done }
+        requires asks { IsAskedBy call.now Answered.Done asked }
+        ensures stands { (K : Knowledge) (wrote : Option Written) → Stands self.old K → Stands self.new
+            (answered (catalog_of self.old) (Event.Given (Input.Call client call.now)) (Outcome.Replied Answered.Done) wrote K) }
+        ensures site { site_of self.new ≡ site_of self.old }
+        ensures catalog { catalog_of self.new ≡ catalog_of self.old }
+        ensures log { self.new.log ≡ self.old.log }
+        ensures history { self.new.history ≡ self.old.history }
+        ensures spread { self.new.spread ≡ self.old.spread }
+        ensures durable { self.new.durable ≡ self.old.durable }
+        ensures locks { self.new.locks ≡ self.old.locks }
+        ensures slow { self.new.slow ≡ self.old.slow }
+    {
+        update(&mut self.sessions, client, asked);
+    }
+
+    fn answer_other(&mut self, client: u32, call: &Call, reply: &Reply, begun: Option<u64>)
+        requires fits { CanBeAnswered self.old client call.now reply.now }
+        requires room { CanAnswer self.old client reply.now }
+        requires other { reply.now ≢ Answered.Done }
+        ensures stands { (K : Knowledge) (wrote : Option Written) → Stands self.old K → begun_in wrote ≡ begun
+            → Stands self.new
+            (answered (catalog_of self.old) (Event.Given (Input.Call client call.now)) (Outcome.Replied reply.now) wrote K) }
         ensures site { site_of self.new ≡ site_of self.old }
         ensures catalog { catalog_of self.new ≡ catalog_of self.old }
         ensures log { self.new.log ≡ self.old.log }
@@ -59,9 +108,9 @@ impl Tables {
         match reply {
             Reply::Started(tid) => {
                 self.starts = tid.number;
-                start(&mut self.sessions, client, tid, *self.spread.committed());
+                start(&mut self.sessions, client, *tid, *self.spread.committed());
             }
-            Reply::Done => update(&mut self.sessions, client, call),
+            Reply::Done => unreachable!(),
             Reply::Committed(_) | Reply::Aborted(_) | Reply::Ended | Reply::Unsure(_) => {
                 self.sessions.end(client);
             }

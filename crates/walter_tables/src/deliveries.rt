@@ -59,6 +59,14 @@ impl Tables {
         Sends::from(Vec::new(self.alloc))
     }
 
+    /// Nothing changes, and nothing is put out.
+    pub fn passes(&self) -> Planned
+        ensures plan { expected_of result ≡ passes [] }
+        ensures none { result.rec ≡ None }
+    {
+        passes(self.nothing())
+    }
+
     /// What is said is taken where it says more than before.
     fn if_greater(&self, is_greater: bool) -> Planned
         ensures plan { expected_of result ≡ if_greater is_greater }
@@ -71,7 +79,7 @@ impl Tables {
         }
     }
 
-    pub(crate) fn plan_dsmark(&self, from: SiteId, durable: u64) -> Planned
+    pub fn plan_dsmark(&self, from: SiteId, durable: u64) -> Planned
         ensures rule { (K : Knowledge) → Stands self.now K
             → expected_of result ≡ packet_rule (catalog_of self.now) (site_of self.now) K from (Said.Dsmark durable) }
         ensures none { result.rec ≡ None }
@@ -79,7 +87,7 @@ impl Tables {
         self.if_greater(self.spread.durable().get(from) < durable)
     }
 
-    pub(crate) fn plan_released(&self, from: SiteId, slow: u64) -> Planned
+    pub fn plan_released(&self, from: SiteId, slow: u64) -> Planned
         ensures rule { (K : Knowledge) → Stands self.now K
             → expected_of result ≡ packet_rule (catalog_of self.now) (site_of self.now) K from (Said.Released slow) }
         ensures none { result.rec ≡ None }
@@ -87,7 +95,7 @@ impl Tables {
         self.if_greater(self.slow.owes(slow, from))
     }
 
-    pub(crate) fn plan_release(&self, from: SiteId, slow: u64) -> Mem<Planned>
+    pub fn plan_release(&self, from: SiteId, slow: u64) -> Mem<Planned>
         requires peer { IsTrue (is_peer (catalog_of self.now) (site_of self.now) from) }
         ensures rule { IfOk result (λ p. (K : Knowledge) → Stands self.now K
             → expected_of p ≡ packet_rule (catalog_of self.now) (site_of self.now) K from (Said.Release slow)) }
@@ -100,7 +108,7 @@ impl Tables {
         Ok(takes(Some(Record::Released(from, slow)), sends))
     }
 
-    pub(crate) fn plan_propagate(&self, from: SiteId, seq: u64, tx: &Tx) -> Mem<Planned>
+    pub fn plan_propagate(&self, from: SiteId, seq: u64, tx: &Tx) -> Mem<Planned>
         requires peer { IsTrue (is_peer (catalog_of self.now) (site_of self.now) from) }
         ensures rule { IfOk result (λ p. (K : Knowledge) → Stands self.now K
             → expected_of p ≡ packet_rule (catalog_of self.now) (site_of self.now) K from (Said.Propagate seq tx.now)) }
@@ -139,7 +147,7 @@ impl Tables {
     }
 
     /// What comes of a site's next commit.
-    pub(crate) fn plan_advance(&self, from: SiteId) -> Mem<Planned>
+    pub fn plan_advance(&self, from: SiteId) -> Mem<Planned>
         ensures rule { IfOk result (λ p. (K : Knowledge) → Stands self.now K
             → expected_of p ≡ advance_rule (catalog_of self.now) (site_of self.now) K from) }
         ensures on { IfOk result (λ p. IfSome p.rec (GoesOn self.now)) }
@@ -179,7 +187,7 @@ impl Tables {
         Ok(takes(Some(Record::Prepared(from, slow, tid, objects)), sends))
     }
 
-    pub(crate) fn plan_prepare(
+    pub fn plan_prepare(
         &self,
         from: SiteId,
         slow: u64,

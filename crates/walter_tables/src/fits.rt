@@ -72,6 +72,13 @@ impl Tables {
         }
     }
 
+    /// Whether this is another site of the catalog.
+    pub fn is_peer(&self, other: SiteId) -> bool
+        ensures { result ≡ is_peer (catalog_of self.now) (site_of self.now) other }
+    {
+        is_peer(&self.catalog, self.site, other)
+    }
+
     /// Whether the site is up, and this is a peer.
     fn hears(&self, from: SiteId) -> bool
         ensures { result ≡ (nat_lt 0 (values_of self.now).epoch && is_peer (catalog_of self.now) (site_of self.now) from) }

@@ -14,7 +14,7 @@ use walter_base::{Answer, Packet, SiteId};
 #[tactic(auto, unfolding(crate::specs::Sites::values_of, crate::specs::Sites::site_of, crate::specs::Sites::catalog_of))]
 impl Tables {
     /// Takes in what a peer said, which is news. It takes no memory.
-    pub(crate) fn hear(&mut self, from: SiteId, packet: &Packet)
+    pub fn hear(&mut self, from: SiteId, packet: &Packet)
         requires within { from.0 < (catalog_of self.old).sites }
         ensures stands { (K : Knowledge) (number : ℕ) → Stands self.old K
             → IsNewsOf (site_of self.old) K from packet.now

@@ -4,6 +4,7 @@
 mod acks;
 mod answering;
 mod calls;
+mod commits;
 mod deliveries;
 mod fits;
 mod hear;
@@ -13,6 +14,7 @@ mod made;
 mod making;
 mod marks;
 mod over;
+mod own;
 mod plan;
 mod puts;
 mod replay;
@@ -23,6 +25,7 @@ mod sizes;
 mod tables;
 mod versions;
 
+pub use leaving::update_of;
 pub use made::Made;
 pub use plan::Planned;
 pub use replay::ReplayFault;

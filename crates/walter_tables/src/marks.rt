@@ -1,5 +1,6 @@
-ghost use Rattle.std.specs.Prelude.{◌≡◌, ◌+◌, ◌<◌, ◌≤◌, Some, true};
+ghost use Rattle.std.specs.Prelude.{◌≡◌, ◌+◌, ◌<◌, ◌≤◌, ℕ, Some, true};
 ghost use Rattle.walter_base.specs.declared.message.Record.{Record as Written};
+ghost use Rattle.walter_base.specs.declared.transaction.Tx.{Tx};
 ghost use Rattle.walter_durable.specs.Marks.{own};
 ghost use Rattle.walter_objects.specs.Preferred.{homes_of};
 ghost use Rattle.walter_rules.specs.Deliveries.{is_news};
@@ -10,7 +11,7 @@ ghost use Rattle.walter_rules.specs.Records.{CanFollow};
 ghost use Rattle.walter_tables.specs.Sites.{values_of, site_of, catalog_of, Stands};
 
 use crate::tables::Tables;
-use walter_base::{SiteId, Sites, Tx};
+use walter_base::{SiteId, Sites};
 
 #[tactic(auto, unfolding(crate::specs::Sites::values_of, crate::specs::Sites::site_of, crate::specs::Sites::catalog_of))]
 impl Tables {
@@ -35,12 +36,11 @@ impl Tables {
     }
 
     /// How many would be durable, with one more that changed objects of these preferred sites.
-    pub(crate) fn durable_mark_with_own(&self, seq: u64, tx: &Tx, homes: &Sites) -> u64
-        requires { homes.now ≡ homes_of (catalog_of self.now) tx.now.updates }
-        ensures mark { (K : Knowledge) → Stands self.now K
-            → CanFollow (catalog_of self.now) (site_of self.now) K (Written.Own seq tx.now)
+    pub(crate) fn durable_mark_with_own(&self, homes: &Sites) -> u64
+        ensures mark { (K : Knowledge) (seq : ℕ) (tx : Tx) → homes.now ≡ homes_of (catalog_of self.now) tx.updates
+            → Stands self.now K → CanFollow (catalog_of self.now) (site_of self.now) K (Written.Own seq tx)
             → result ≡ durable_mark (catalog_of self.now) (site_of self.now)
-            (recorded (catalog_of self.now) (site_of self.now) (Some (Written.Own seq tx.now)) K) }
+            (recorded (catalog_of self.now) (site_of self.now) (Some (Written.Own seq tx)) K) }
         ensures rises { self.now.durable.holdings.durable_floor ≤ result }
         ensures within { result ≤ own self.now.durable.holdings + 1 }
     {

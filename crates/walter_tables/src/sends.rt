@@ -1,6 +1,5 @@
-ghost use Rattle.std.specs.Prelude.{◌≡◌, ◌∷◌, [], ℕ, Some, IfOk, All};
+ghost use Rattle.std.specs.Prelude.{◌≡◌, ◌∷◌, [], ℕ, Some, IfOk};
 ghost use Rattle.walter_base.specs.declared.message.Record.{Record as Written};
-ghost use Rattle.walter_base.specs.Sizes.{CanBeSpelled, CanBeSent};
 ghost use Rattle.walter_rules.specs.Deliveries.{acknowledged_to, releases_to};
 ghost use Rattle.walter_rules.specs.Knowledge.{Knowledge, peers};
 ghost use Rattle.walter_rules.specs.Learning.{recorded, risen};
@@ -9,7 +8,6 @@ ghost use Rattle.walter_rules.specs.Objects.{participants};
 ghost use Rattle.walter_rules.specs.Records.{CanFollow};
 ghost use Rattle.walter_rules.specs.Sending.{to_each, own_sends, prepare_of, said_again};
 ghost use Rattle.walter_tables.specs.Keeping.{asked_of};
-ghost use Rattle.walter_tables.specs.Sound.{IsTxOf};
 ghost use Rattle.walter_tables.specs.Sites.{values_of, site_of, catalog_of, Stands};
 
 use crate::puts::put_release;
@@ -20,12 +18,11 @@ use walter_base::{Mem, Sends, SiteId, Sites, Tx};
 impl Tables {
     /// What an own commit puts out that is to be kept, where so many own commits were durable before and are now.
     pub(crate) fn own_sends(&self, seq: u64, tx: &Tx, before: u64, now: u64) -> Mem<Sends>
-        ensures sends { IfOk result (λ sends. (K : Knowledge) → Stands self.now K
+        ensures { IfOk result (λ sends. (K : Knowledge) → Stands self.now K
             → let catalog = catalog_of self.now in let i = site_of self.now in
             let K2 = recorded catalog i (Some (Written.Own seq tx.now)) K in
             CanFollow catalog i K (Written.Own seq tx.now) → before ≡ durable_mark catalog i K
             → now ≡ durable_mark catalog i K2 → sends ≡ own_sends catalog i K K2) }
-        ensures spelled { IfOk result (λ sends. CanBeSpelled tx.now → All (λ s. CanBeSent s.1) sends) }
     {
         let mut sends = Vec::new(self.alloc);
         for k in 0..self.catalog.sites {
@@ -40,10 +37,9 @@ impl Tables {
     /// The PREPAREs of a slow commit that begins, to the sites that it asks.
     pub(crate) fn prepares(&self, slow: u64, tx: &Tx, asked: &Sites) -> Mem<Sends>
         requires { asked.now ≡ asked_of (catalog_of self.now) (site_of self.now) tx.now.updates }
-        ensures sends { IfOk result (λ sends. (K : Knowledge) → let catalog = catalog_of self.now in
+        ensures { IfOk result (λ sends. (K : Knowledge) → let catalog = catalog_of self.now in
             sends ≡ to_each (participants catalog K (site_of self.now) tx.now.updates)
             (λ k. prepare_of catalog K slow tx.now k ∷ [])) }
-        ensures spelled { IfOk result (λ sends. IsTxOf (catalog_of self.now) tx.now → All (λ s. CanBeSent s.1) sends) }
     {
         let mut sends = Vec::new(self.alloc);
         for to in asked.as_slice() {
@@ -62,13 +58,12 @@ impl Tables {
         before: u64,
         now: u64,
     ) -> Mem<Sends>
-        ensures sends { IfOk result (λ sends. (K : Knowledge) (got : ℕ) → Stands self.now K
+        ensures { IfOk result (λ sends. (K : Knowledge) (got : ℕ) → Stands self.now K
             → let catalog = catalog_of self.now in let i = site_of self.now in
             let K2 = record K { acknowledged = risen from got K.acknowledged } in
             before_ack ≡ K.acknowledged from → now_ack ≡ K2.acknowledged from → before ≡ durable_mark catalog i K
             → now ≡ durable_mark catalog i K2
             → sends ≡ to_each (peers catalog i) (acknowledged_to catalog i K K2 from)) }
-        ensures spelled { IfOk result (λ sends. (K : Knowledge) → Stands self.now K → All (λ s. CanBeSent s.1) sends) }
     {
         let mut sends = Vec::new(self.alloc);
         for k in 0..self.catalog.sites {
@@ -82,9 +77,8 @@ impl Tables {
 
     /// The RELEASEs of a slow commit that ends, to the sites that were asked.
     pub(crate) fn releases(&self, slow: u64, asked: &Sites) -> Mem<Sends>
-        ensures sends { IfOk result (λ sends. sends
+        ensures { IfOk result (λ sends. sends
             ≡ to_each (peers (catalog_of self.now) (site_of self.now)) (releases_to slow asked.now)) }
-        ensures spelled { IfOk result (λ sends. All (λ s. CanBeSent s.1) sends) }
     {
         let mut sends = Vec::new(self.alloc);
         for k in 0..self.catalog.sites {
@@ -98,10 +92,9 @@ impl Tables {
 
     /// What is said again at a tick.
     pub(crate) fn said_again(&self) -> Mem<Sends>
-        ensures sends { IfOk result (λ sends. (K : Knowledge) → Stands self.now K
+        ensures { IfOk result (λ sends. (K : Knowledge) → Stands self.now K
             → sends ≡ to_each (peers (catalog_of self.now) (site_of self.now))
             (said_again (catalog_of self.now) (site_of self.now) K)) }
-        ensures spelled { IfOk result (λ sends. (K : Knowledge) → Stands self.now K → All (λ s. CanBeSent s.1) sends) }
     {
         let durable = self.durable_mark();
         let mut sends = Vec::new(self.alloc);

@@ -83,4 +83,19 @@ impl Tables {
             sessions: Sessions::new(alloc),
         })
     }
+
+    /// How often the site came up.
+    pub fn epoch(&self) -> u32
+        ensures { result ≡ (values_of self.now).epoch }
+    {
+        self.epoch
+    }
+
+    /// The transactions of its clients.
+    pub fn into_sessions(self) -> Sessions
+        ensures { sessions_of result ≡ (values_of self).sessions }
+    {
+        let Tables { sessions, .. } = self;
+        sessions
+    }
 }

@@ -12,14 +12,13 @@ use Rattle.walter_tables.proofs.tables.Tables.durable_mark_with_own.Goals as goa
 
 pub returns-clause-mark : goal.returns-clause-mark
 unfolding values_of site_of catalog_of
-returns-clause-mark c = λ K S follows.
+returns-clause-mark c = λ K seq tx homes S follows.
     let now = c.args.self.now in
     let H = now.durable.holdings in
-    let tx = c.args.tx.now in
     let mark = c.durable_mark_with_own.result in
     durable_told now.catalog now.site (with_own (homes_of now.catalog tx.updates) H)
-    (recorded now.catalog now.site (Some (Own c.args.seq tx)) K)
-    (own_then now.catalog now.site H K S.durable S.sound.counted c.args.seq tx follows.here)
-    (counted_then now.site K S.sound.counted c.args.seq tx follows.here now.catalog) now.durable_site now.durable_sites
+    (recorded now.catalog now.site (Some (Own seq tx)) K)
+    (own_then now.catalog now.site H K S.durable S.sound.counted seq tx follows.here)
+    (counted_then now.site K S.sound.counted seq tx follows.here now.catalog) now.durable_site now.durable_sites
     now.tolerated mark
-    (subst (λ (ks : List SiteId). IsDurableMark (with_own ks H) mark) c.requires c.durable_mark_with_own.ensures.mark)
+    (subst (λ (ks : List SiteId). IsDurableMark (with_own ks H) mark) homes c.durable_mark_with_own.ensures.mark)

@@ -1,15 +1,12 @@
-use Rattle.std.proofs.Common.{◌≡◌, List, sym, ◌∙◌, ap, subst, arith}
-use Rattle.std.specs.Prelude.{All}
+use Rattle.std.proofs.Common.{◌≡◌, List, ◌∙◌, ap, arith}
 use Rattle.walter_base.specs.declared.names.SiteId.{SiteId}
 use Rattle.walter_base.specs.declared.packet.Packet.{Packet}
-use Rattle.walter_base.specs.Sizes.{CanBeSent}
 use Rattle.walter_rules.specs.Knowledge.{peers}
-use Rattle.walter_rules.specs.Sending.{Send, to_each}
+use Rattle.walter_rules.specs.Sending.{to_each}
 use Rattle.walter_tables.specs.Packets.{own_packets}
 use Rattle.walter_tables.specs.Sites.{values_of, site_of, catalog_of}
 use Rattle.walter_tables.proofs.Said.{peers_below, peer_served, own_left_out}
 use Rattle.walter_tables.proofs.PutTold.{own_packets_told}
-use Rattle.walter_tables.proofs.Spelled.{own_packets_sent}
 use Rattle.walter_tables.proofs.tables.Tables.own_sends.Goals as goal
 use Rattle.walter_tables.proofs.tables.Tables.own_sends.Goals.{then-k-self+in_ok-put_own, else-k-self}
 
@@ -28,9 +25,9 @@ loop-k-preserved c =
           c.loop-k.invariant (ap (λ sends. sends.items) w.sends-is)
     ]
 
-pub returns-clause-sends : goal.returns-clause-sends
+pub returns : goal.returns
 unfolding values_of site_of catalog_of
-returns-clause-sends c =
+returns c =
     let now = c.args.self.now in
     let packets : SiteId → List Packet = own_packets (values_of now) c.args.seq c.args.tx.now c.args.before c.args.now in
     let all : c.loop-k.k ≡ now.catalog.sites = omega (arith, c.loop-k.auto.k-end, c.loop-k-test.false) in
@@ -39,15 +36,3 @@ returns-clause-sends c =
     λ K S f was is.
     sent ∙ ap (to_each (peers now.catalog now.site)) (own_packets_told (values_of now) K S now.spread_site now.spread_window
     c.args.seq c.args.tx.now c.args.before c.args.now f was is)
-
-pub returns-clause-spelled : goal.returns-clause-spelled
-unfolding values_of site_of catalog_of
-returns-clause-spelled c =
-    let now = c.args.self.now in
-    let packets : SiteId → List Packet = own_packets (values_of now) c.args.seq c.args.tx.now c.args.before c.args.now in
-    let all : c.loop-k.k ≡ now.catalog.sites = omega (arith, c.loop-k.auto.k-end, c.loop-k-test.false) in
-    let sent : c.from.result ≡ to_each (peers now.catalog now.site) packets =
-    c.from.ensures ∙ c.loop-k.invariant ∙ ap (λ n. to_each (peers_below n now.site) packets) all in
-    λ can.
-    subst (All (λ (s : Send). CanBeSent s.1)) (sym sent)
-    (own_packets_sent (values_of now) c.args.seq c.args.tx.now c.args.before c.args.now can (peers now.catalog now.site))

@@ -1,15 +1,12 @@
-use Rattle.std.proofs.Common.{◌≡◌, ◌<◌, ℕ, Bool, true, false, nat_le, nat_lt, ◌&&◌, if◌then◌else◌, refl, ap, sym, ◌∙◌, arith, rules}
+use Rattle.std.proofs.Common.{◌≡◌, ◌<◌, ℕ, true, nat_lt, if◌then◌else◌, ap, sym, ◌∙◌, arith, rules}
 use Rattle.std.specs.Prelude.{max}
 use Rattle.std.proofs.lemmas.Bool.{ltb-true}
 use Rattle.walter_base.specs.declared.names.SiteId.{SiteId}
-use Rattle.walter_base.specs.Names.{same_site}
 use Rattle.walter_base.proofs.NameTests.{both, same_site_refl}
-use Rattle.walter_rules.specs.Deliveries.{is_news, if_marks, if_acknowledged, takes, acknowledged_to}
-use Rattle.walter_rules.specs.Knowledge.{Knowledge, peers}
+use Rattle.walter_rules.specs.Deliveries.{is_news, if_marks, if_acknowledged, takes}
+use Rattle.walter_rules.specs.Knowledge.{Knowledge}
 use Rattle.walter_rules.specs.Learning.{risen}
-use Rattle.walter_rules.specs.Marks.{durable_mark, visible_mark}
-use Rattle.walter_rules.specs.Sending.{to_each}
-use Rattle.walter_tables.specs.Planning.{expected_of}
+use Rattle.walter_rules.specs.Marks.{visible_mark}
 use Rattle.walter_tables.specs.Sites.{values_of, site_of, catalog_of}
 use Rattle.walter_tables.proofs.tables.Tables.plan_ack.Goals as goal
 
@@ -34,7 +31,7 @@ returns-clause-rule c = λ K S.
     let before = c.durable_mark-before.ensures.mark K S in
     let now = c.durable_mark_with_acknowledged-now.ensures.mark K S news in
     let seen : c.visible_mark.result ≡ visible_mark self.catalog self.site K2 = c.visible_mark.ensures.mark K S in
-    let sends = c.in_ok-sends.ensures.sends K got S said (risen_self from got K.acknowledged more) before now in
+    let sends = c.in_ok-sends.ensures K got S said (risen_self from got K.acknowledged more) before now in
     c.takes.ensures.plan
     ∙ ap (λ r. takes r c.in_ok-sends.sends) c.marks-rec.ensures
     ∙ (λ t. takes (if_marks (nat_lt (before t) (now t)) (now t) (seen t)) (sends t))

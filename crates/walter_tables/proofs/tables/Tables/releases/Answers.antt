@@ -1,14 +1,11 @@
-use Rattle.std.proofs.Common.{◌≡◌, List, sym, ◌∙◌, ap, subst, arith}
-use Rattle.std.specs.Prelude.{All}
+use Rattle.std.proofs.Common.{◌≡◌, List, ◌∙◌, ap, arith}
 use Rattle.walter_base.specs.declared.names.SiteId.{SiteId}
 use Rattle.walter_base.specs.declared.packet.Packet.{Packet}
-use Rattle.walter_base.specs.Sizes.{CanBeSent}
-use Rattle.walter_rules.specs.Knowledge.{fresh, peers}
-use Rattle.walter_rules.specs.Sending.{Send, to_each}
+use Rattle.walter_rules.specs.Knowledge.{peers}
+use Rattle.walter_rules.specs.Sending.{to_each}
 use Rattle.walter_rules.specs.Deliveries.{releases_to}
 use Rattle.walter_tables.specs.Sites.{values_of, site_of, catalog_of}
 use Rattle.walter_tables.proofs.Said.{peers_below, peer_served, own_left_out}
-use Rattle.walter_tables.proofs.Spelled.{releases_sent}
 use Rattle.walter_tables.proofs.tables.Tables.releases.Goals as goal
 use Rattle.walter_tables.proofs.tables.Tables.releases.Goals.{then-k-self+in_ok-put_release, else-k-self}
 
@@ -27,22 +24,12 @@ loop-k-preserved c =
           c.loop-k.invariant (ap (λ sends. sends.items) w.sends-is)
     ]
 
-pub returns-clause-sends : goal.returns-clause-sends
+pub returns : goal.returns
 unfolding values_of site_of catalog_of
-returns-clause-sends c =
+returns c =
     let now = c.args.self.now in
     let packets : SiteId → List Packet = releases_to c.args.slow c.args.asked.now in
     let all : c.loop-k.k ≡ now.catalog.sites = omega (arith, c.loop-k.auto.k-end, c.loop-k-test.false) in
     let sent : c.from.result ≡ to_each (peers now.catalog now.site) packets =
     c.from.ensures ∙ c.loop-k.invariant ∙ ap (λ n. to_each (peers_below n now.site) packets) all in
     sent
-
-pub returns-clause-spelled : goal.returns-clause-spelled
-unfolding values_of site_of catalog_of
-returns-clause-spelled c =
-    let now = c.args.self.now in
-    let packets : SiteId → List Packet = releases_to c.args.slow c.args.asked.now in
-    let all : c.loop-k.k ≡ now.catalog.sites = omega (arith, c.loop-k.auto.k-end, c.loop-k-test.false) in
-    let sent : c.from.result ≡ to_each (peers now.catalog now.site) packets =
-    c.from.ensures ∙ c.loop-k.invariant ∙ ap (λ n. to_each (peers_below n now.site) packets) all in
-    subst (All (λ (s : Send). CanBeSent s.1)) (sym sent) (releases_sent now.catalog now.site fresh c.args.slow c.args.asked.now)

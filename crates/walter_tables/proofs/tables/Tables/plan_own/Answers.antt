@@ -1,0 +1,16 @@
+use Rattle.std.proofs.Common.{◌≡◌, ◌∙◌, Some, ap}
+use Rattle.walter_base.specs.declared.message.Record.TheVariants.{Own}
+use Rattle.walter_objects.specs.Preferred.{homes_of}
+use Rattle.walter_tables.specs.Sites.{values_of, site_of, catalog_of}
+use Rattle.walter_tables.proofs.tables.Tables.plan_own.Goals as goal
+
+pub returns-clause-rule : goal.returns-clause-rule
+unfolding values_of site_of catalog_of
+returns-clause-rule c = λ K S follows.
+    let now = c.args.self.now in
+    let seq = c.args.seq in
+    let tx = c.args.tx in
+    let homes : c.in_ok-homes.homes ≡ homes_of now.catalog tx.updates = c.in_ok-homes.ensures ∙ ap (homes_of now.catalog) c.as_slice.ensures in
+    let mark = c.durable_mark_with_own-now.ensures.mark K seq tx homes S follows in
+    let sends = c.in_ok-sends.ensures K S follows (c.durable_mark-before.ensures.mark K S) mark in
+    λ t. record { wrote = Some (Own seq tx); outcome = c.args.outcome; sends = sends t }
