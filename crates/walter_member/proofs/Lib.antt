@@ -1,0 +1,11 @@
+pub mod RisingObjects
+pub mod RuledKinds
+pub mod RuledNews
+pub mod RuledCalls
+pub mod RuledSent
+pub mod Ruled
+pub mod Up
+pub mod Outcomes
+pub mod Left
+pub mod Readied
+pub mod Plannings

@@ -1,0 +1,119 @@
+ghost use Rattle.std.specs.Prelude.{◌≡◌, All, IfOk, IfSome, OnErr, true};
+ghost use Rattle.walter_member.specs.Members.{IsStanding};
+
+use crate::applying::{keep_any, number_begun, take_in};
+use crate::plan::Plan;
+use crate::planning::plan_input;
+use crate::readying::{make_ready, ready_answer};
+use std::marker::Model;
+use walter_base::{Mem, Sends};
+use walter_rules::{Input, Outcome};
+use walter_session::Sessions;
+use walter_tables::{Planned, Tables};
+
+/// A site that is up. Contracts see its tables, which stand for what some site knows.
+#[derive(Drop)]
+pub struct Site {
+    tables: Tables,
+}
+
+impl Model for Site {
+    ghost use Rattle.walter_member.specs.Members.{IsStanding};
+    ghost use Rattle.walter_tables.specs.contracts.tables.Tables as contract;
+    ghost use Rattle.walter_tables.specs.declared.tables.Tables.{Tables};
+
+    ghost Value = { Tables };
+
+    ghost coded = { contract.the_row.coded };
+
+    ghost view = { λ s. s.tables };
+
+    ghost invariant = { λ s. IsStanding s.tables };
+}
+
+impl Site {
+    ghost use Rattle.walter_member.specs.Members.{Knows, IsStanding, input_rule, IsSizedPacket, IsSizedInput, IsShortOutcome};
+    ghost use Rattle.walter_member.specs.Plans.{IsReady};
+    ghost use Rattle.walter_rules.specs.declared.event.Event.{Event};
+    ghost use Rattle.walter_rules.specs.Knowledge.{Knowledge};
+    ghost use Rattle.walter_rules.specs.Learning.{after};
+    ghost use Rattle.walter_rules.specs.Records.{CanFollow, IsRecordAmong};
+    ghost use Rattle.walter_rules.specs.Trails.{TakesMemory};
+    ghost use Rattle.walter_session.specs.Sessions.{sessions_of};
+    ghost use Rattle.walter_tables.specs.Planning.{expected_of};
+    ghost use Rattle.walter_tables.specs.Sites.{site_of, catalog_of};
+
+    /// The site that the tables tell, behind a boot.
+    pub fn new(tables: Tables) -> Site
+        requires { IsStanding tables }
+        ensures { result ≡ tables }
+    {
+        Site { tables }
+    }
+
+    /// The plan of the rule for an input. It takes all the memory that applying it needs, and changes nothing that can
+    /// be seen.
+    pub fn plan(&mut self, input: &Input) -> Mem<Plan>
+        requires sized { IsSizedInput (catalog_of self.old).sites input.now }
+        ensures rule { IfOk result (λ p. (K : Knowledge) → Knows self.old K
+            → expected_of p.planned ≡ input_rule (catalog_of self.old) (site_of self.old) K input.now) }
+        ensures ready { IfOk result (IsReady self.new input.now) }
+        ensures follows { IfOk result (λ p. (K : Knowledge) → Knows self.old K
+            → IfSome p.planned.rec (CanFollow (catalog_of self.old) (site_of self.old) K)) }
+        ensures sizes { IfOk result (λ p. IfSome p.planned.rec (IsRecordAmong (catalog_of self.old).sites)) }
+        ensures short { IfOk result (λ p. IsShortOutcome p.planned.outcome) }
+        ensures sent { IfOk result (λ p. All (λ s. IsSizedPacket (catalog_of self.old).sites s.1) p.planned.sends) }
+        ensures free { OnErr result (TakesMemory true (Event.Given input.now)) }
+        ensures standing { IsStanding self.old }
+        ensures knows { (K : Knowledge) → Knows self.old K → Knows self.new K }
+        ensures site { site_of self.new ≡ site_of self.old }
+        ensures catalog { catalog_of self.new ≡ catalog_of self.old }
+    {
+        let planned = plan_input(&self.tables, input)?;
+        let made = make_ready(&mut self.tables, &planned.rec)?;
+        let asked = ready_answer(&mut self.tables, input, &planned.outcome)?;
+        Ok(Plan {
+            planned,
+            made,
+            asked,
+        })
+    }
+
+    /// Keeps what the plan's record tells, and takes in its input, without taking memory.
+    pub fn apply(&mut self, input: &Input, plan: Plan) -> (Outcome, Sends)
+        requires rule { (K : Knowledge) × Knows self.old K
+            × (expected_of plan.planned ≡ input_rule (catalog_of self.old) (site_of self.old) K input.now) }
+        requires ready { IsReady self.old input.now plan }
+        requires sizes { IfSome plan.planned.rec (IsRecordAmong (catalog_of self.old).sites) }
+        ensures knows { (K : Knowledge) → Knows self.old K
+            → expected_of plan.planned ≡ input_rule (catalog_of self.old) (site_of self.old) K input.now
+            → Knows self.new (after (catalog_of self.old) (site_of self.old) K (Event.Given input.now)
+            plan.planned.outcome plan.planned.rec) }
+        ensures outcome { result.0 ≡ plan.planned.outcome }
+        ensures sends { result.1 ≡ plan.planned.sends }
+        ensures site { site_of self.new ≡ site_of self.old }
+        ensures catalog { catalog_of self.new ≡ catalog_of self.old }
+    {
+        let Plan {
+            planned: Planned {
+                rec,
+                outcome,
+                sends,
+            },
+            made,
+            asked,
+        } = plan;
+        let begun = number_begun(&rec);
+        keep_any(&mut self.tables, rec, made);
+        take_in(&mut self.tables, input, &outcome, asked, begun);
+        (outcome, sends)
+    }
+
+    /// The transactions of its clients, which a site that goes down loses.
+    pub fn into_sessions(self) -> Sessions
+        ensures { (K : Knowledge) → Knows self K → sessions_of result ≡ K.sessions }
+    {
+        let Site { tables } = self;
+        tables.into_sessions()
+    }
+}
