@@ -1,0 +1,12 @@
+pub mod States
+pub mod Contents
+pub mod Engines
+pub mod Steps
+pub mod Replays
+pub mod Advances
+pub mod Raises
+pub mod Restarts
+pub mod Moves
+pub mod Begins
+pub mod Firsts
+pub mod Prepares

@@ -1,0 +1,89 @@
+ghost use Rattle.std.specs.Prelude.{◌≡◌, ◌≤◌, ◌<◌, ◌++◌, ◌∷◌, [], List, map, IfOk, IfErr, IfSome, OnOk, Some};
+ghost use Rattle.walter_base.specs.declared.message.Record.{Record};
+ghost use Rattle.walter_base.specs.Sizes.{CanBeRecorded};
+ghost use Rattle.walter_record.specs.Spelling.{record_spelled, HasRecordSpelling};
+ghost use Rattle.walter_tables.specs.Sites.{site_of, catalog_of};
+ghost use Rattle.walter_host.specs.Replays.{Takes, IsUnfit, Tells, IsReadFault};
+ghost use Rattle.walter_base.specs.Vectors.{most_sites};
+
+use std::alloc::Global;
+use walter_base::{Catalog, Mem, NoMemory, Record, SiteId};
+use walter_tables::{ReplayFault, Tables};
+
+/// Why bodies make no site.
+#[derive(Clone, Copy, Drop)]
+pub(crate) enum ReadFault {
+    /// The body with this index spells no record, or one that can't follow.
+    Unreadable { index: u64 },
+    NoMemory,
+}
+
+/// The tables of the site that these bodies tell.
+pub(crate) fn replay_all(
+    alloc: Global,
+    catalog: &Catalog,
+    id: SiteId,
+    bodies: &[Vec<u8>],
+) -> Result<Tables, ReadFault>
+    requires here { id.0 < catalog.now.sites }
+    requires most { catalog.now.sites ≤ most_sites }
+    requires fewer { catalog.now.tolerated < catalog.now.sites }
+    ensures site { IfOk result (λ tables. site_of tables ≡ id) }
+    ensures catalog { IfOk result (λ tables. catalog_of tables ≡ catalog.now) }
+    ensures told { IfOk result (Tells catalog.now id (map (λ body. body.items) bodies.now)) }
+    ensures fault { IfErr result (IsReadFault catalog.now id (map (λ body. body.items) bodies.now)) }
+{
+    let Ok(copy) = catalog.clone() else {
+        return Err(ReadFault::NoMemory);
+    };
+    let Ok(mut tables) = Tables::new(alloc, copy, id) else {
+        return Err(ReadFault::NoMemory);
+    };
+    for (index, body) in bodies.iter().enumerate() {
+        match replay_body(alloc, &mut tables, body, catalog.sites) {
+            Ok(()) => {}
+            Err(ReplayFault::Unfit) => {
+                return Err(ReadFault::Unreadable {
+                    index: index as u64,
+                });
+            }
+            Err(ReplayFault::NoMemory) => return Err(ReadFault::NoMemory),
+        }
+    }
+    Ok(tables)
+}
+
+// Takes the record that the body spells.
+fn replay_body(
+    alloc: Global,
+    tables: &mut Tables,
+    body: &[u8],
+    sites: u8,
+) -> Result<(), ReplayFault>
+    requires sites { (catalog_of tables.old).sites ≡ sites }
+    requires most { sites ≤ most_sites }
+    ensures taken { OnOk result (Takes tables.old body.now tables.new) }
+    ensures unfit { IfErr result (IsUnfit tables.old body.now) }
+    ensures site { site_of tables.new ≡ site_of tables.old }
+    ensures catalog { catalog_of tables.new ≡ catalog_of tables.old }
+{
+    match walter_record::decode(alloc, body, sites) {
+        Ok(Some(rec)) => tables.replay(rec),
+        Ok(None) => Err(ReplayFault::Unfit),
+        Err(NoMemory) => Err(ReplayFault::NoMemory),
+    }
+}
+
+/// The record that the last of these bodies spells, where it spells one.
+pub(crate) fn last_record(alloc: Global, bodies: &[Vec<u8>], sites: u8) -> Mem<Option<Record>>
+    requires most { sites ≤ most_sites }
+    ensures sized { IfOk result (λ rec. IfSome rec CanBeRecorded) }
+    ensures last { (records : List Record) (rec : Record)
+        → map (λ body. body.items) bodies.now ≡ map record_spelled (records ++ rec ∷ [])
+        → HasRecordSpelling sites rec → IfOk result (λ last. last ≡ Some rec) }
+{
+    match bodies.last() {
+        Some(body) => walter_record::decode(alloc, body, sites),
+        None => Ok(None),
+    }
+}
