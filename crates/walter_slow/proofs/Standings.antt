@@ -44,8 +44,9 @@ from_ok (Ok x) P is p = p
 from_ok (Err e) P is p = absurd (cc)
 
 -- as much room as before
-pub room_kept : (old : Table) {places seats : ℕ} → old.places ≤ places → old.seats ≤ seats → (k : ℕ) → CanBegin old k → (0 < places) × (k ≤ seats)
-room_kept old more also k can = (omega (arith, more, can.0), omega (arith, also, can.1))
+pub room_kept : (old : Table) {places spots seats : ℕ} → old.places ≤ places → old.spots ≤ spots → old.seats ≤ seats → (k : ℕ) → CanBegin old k
+    → (0 < places) × (0 < spots) × (k ≤ seats)
+room_kept old more still also k can = (omega (arith, more, can.0), omega (arith, still, can.1), omega (arith, also, can.2))
 
 -- those up to a place, and the one there
 pub any_more : {X : Type 0} (test : X → Bool) (xs : List X) (place : ℕ) → place < length xs

@@ -1,5 +1,5 @@
 -- What is kept of a slow commit (docs/SITE.md, "Slow commits").
-use Rattle.std.specs.Prelude.{Bool, false, not, ◌&&◌, List, [], ◌∷◌, Option, Some, None, is_some, if◌then◌else◌}
+use Rattle.std.specs.Prelude.{Bool, false, not, ◌&&◌, ◌||◌, List, [], ◌∷◌, Option, Some, None, is_some, if◌then◌else◌}
 use Rattle.std.specs.List.{list_all}
 use Rattle.std.specs.Option.{option_map_or}
 use Rattle.walter_base.specs.declared.names.SiteId.{SiteId}
@@ -36,6 +36,11 @@ kept_of (Decided tx) heard refusal released = None
 abbrev pub is_being_decided : Option Kept → Bool
 is_being_decided None = false
 is_being_decided (Some kept) = is_some kept.tx
+
+-- whether it is being decided, or the RELEASED of a site is missing
+abbrev pub is_busy : Option Kept → Bool
+is_busy None = false
+is_busy (Some kept) = is_some kept.tx || not (list_all (λ site. has_site site kept.heard) kept.asked)
 
 -- whether it is being decided, and is that of the transaction
 abbrev pub does_decide : Tid → Kept → Bool

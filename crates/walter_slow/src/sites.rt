@@ -18,3 +18,10 @@ pub fn are_heard_with(from: SiteId, asked: &[SiteId], heard: &[SiteId]) -> bool
         .iter()
         .all(|site| site.0 == from.0 || is_among(*site, heard))
 }
+
+/// Whether each of the asked sites is heard.
+pub fn are_heard(asked: &[SiteId], heard: &[SiteId]) -> bool
+    ensures { result ≡ list_all (λ site. has_site site heard.now) asked.now }
+{
+    asked.iter().all(|site| is_among(*site, heard))
+}

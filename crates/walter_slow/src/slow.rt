@@ -3,8 +3,9 @@ ghost use Rattle.std.specs.Option.{option_copied, option_map_or};
 ghost use Rattle.walter_base.specs.declared.transaction.Tx.{Tx as Transaction};
 ghost use Rattle.walter_base.specs.Names.{same_tid};
 ghost use Rattle.walter_slow.specs.Kept.{Kept, is_being_decided, does_decide, verdict_of, heard_yes, heard_released, heard_no, ended_by, booted, waits_for, owes};
-ghost use Rattle.walter_slow.specs.Tables.{commit_of, numbers_of, is_number_at, CanBegin, RiseBetween};
+ghost use Rattle.walter_slow.specs.Tables.{commit_of, numbers_of, is_number_at, CanBegin, RiseBetween, AreBusy};
 
+use crate::busy::settle;
 use crate::slow_commit::SlowCommit;
 use crate::verdict::Verdict;
 use indexmap::IndexMap;
@@ -13,31 +14,36 @@ use std::marker::Model;
 use std::mem;
 use walter_base::{Answer, Conflict, Mem, SiteId, Sites, Tid, Tx};
 
-/// The slow commits of a site that are being decided, and those that ended without a commit, by rising number.
-/// Contracts read them by `commit_of`.
+/// The slow commits of a site that are being decided, and those that ended without a commit, by rising number; and which
+/// of them are busy. Contracts read them by `commit_of`.
 #[derive(Drop)]
 pub struct SlowCommits {
     alloc: Global,
     last: u64,
     commits: IndexMap<u64, SlowCommit>,
+    // The numbers of those that are being decided, or owe a RELEASE, rising.
+    busy: Vec<u64>,
     seats: Vec<SiteId>,
 }
 
 impl Model for SlowCommits {
-    ghost use Rattle.std.specs.Prelude.{◌≡◌, [], vec_capacity};
+    ghost use Rattle.std.specs.Prelude.{◌≡◌, ◌-◌, [], vec_capacity, vec_len};
     ghost use Rattle.indexmap.specs.IndexMap.{keys, spare};
-    ghost use Rattle.walter_slow.specs.Tables.{Table, RiseBetween};
+    ghost use Rattle.walter_slow.specs.Tables.{Table, RiseBetween, AreBusy};
 
     ghost Value = { Table };
 
     ghost view = { λ s. record {
       last = s.last;
       commits = s.commits.entries;
+      busy = s.busy.items;
       places = spare s.commits;
+      spots = vec_capacity s.busy - vec_len s.busy;
       seats = vec_capacity s.seats;
     } };
 
-    ghost invariant = { λ s. RiseBetween 0 s.last (keys s.commits) × (s.seats.items ≡ []) };
+    ghost invariant = { λ s. RiseBetween 0 s.last (keys s.commits) × (s.seats.items ≡ [])
+        × RiseBetween 0 s.last s.busy.items × AreBusy s.commits.entries s.busy.items };
 }
 
 impl SlowCommits {
@@ -45,12 +51,13 @@ impl SlowCommits {
     pub fn new(alloc: Global) -> SlowCommits
         ensures last { result.last ≡ 0 }
         ensures none { (n : ℕ) → commit_of result n ≡ None }
-        ensures numbers { numbers_of result ≡ [] }
+        ensures busy { result.busy ≡ [] }
     {
         SlowCommits {
             alloc,
             last: 0,
             commits: IndexMap::new(alloc),
+            busy: Vec::new(alloc),
             seats: Vec::new(alloc),
         }
     }
@@ -62,20 +69,28 @@ impl SlowCommits {
         self.last
     }
 
-    /// How many slow commits are kept.
-    pub fn count(&self) -> usize
+    // How many slow commits are kept.
+    fn count(&self) -> usize
         ensures count { result ≡ length self.now.commits }
-        ensures rising { RiseBetween 0 self.now.last (numbers_of self.now) }
     {
         self.commits.len()
     }
 
-    /// The number of the slow commit at a place in the order of the numbers, from 0.
-    pub fn number_at(&self, place: usize) -> Option<u64>
+    // The number of the slow commit at a place in the order of the numbers, from 0.
+    fn number_at(&self, place: usize) -> Option<u64>
         ensures { result ≡ slice_get (numbers_of self.now) place }
     {
         let (slow, _) = self.commits.get_index(place)?;
         Some(*slow)
+    }
+
+    /// The numbers of the slow commits that are being decided, or owe a RELEASE, rising. A walk over them meets no other.
+    pub fn busy(&self) -> &[u64]
+        ensures numbers { result.now ≡ self.now.busy }
+        ensures rising { RiseBetween 0 self.now.last self.now.busy }
+        ensures busy { AreBusy self.now.commits self.now.busy }
+    {
+        &self.busy
     }
 
     /// Makes room for one more slow commit, that asks so many sites.
@@ -87,6 +102,7 @@ impl SlowCommits {
         ensures room { (k : ℕ) → CanBegin self.old k → CanBegin self.new k }
     {
         self.commits.reserve(1)?;
+        self.busy.reserve(1)?;
         self.seats.reserve(asked as usize)?;
         Ok(())
     }
@@ -102,6 +118,7 @@ impl SlowCommits {
     {
         let heard = mem::replace(&mut self.seats, Vec::new(self.alloc));
         self.last = slow;
+        self.busy.push_reserved(slow);
         self.commits
             .insert(slow, SlowCommit::new(tx, asked, heard))
             .unwrap();
@@ -149,20 +166,20 @@ impl SlowCommits {
         ensures { IsTrue result ↔ ((n : ℕ) × (tx : Transaction) × (kept : Kept)
             × (commit_of self.now n ≡ Some kept) × (kept.tx ≡ Some tx) × (same_tid tid tx.tid ≡ true)) }
     {
-        for place in 0..self.count() {
-            if self.is_at(place, tid) {
+        for slow in self.busy() {
+            if self.is_of(*slow, tid) {
                 return true;
             }
         }
         false
     }
 
-    /// Whether the slow commit at a place is being decided, and is that of the transaction.
-    fn is_at(&self, place: usize, tid: Tid) -> bool
-        ensures { result ≡ option_map_or (λ e. does_decide tid e.1) (slice_get self.now.commits place) false }
+    // Whether the slow commit is being decided, and is that of the transaction.
+    fn is_of(&self, slow: u64, tid: Tid) -> bool
+        ensures { result ≡ option_map_or (does_decide tid) (commit_of self.now slow) false }
     {
-        match self.commits.get_index(place) {
-            Some((_, standing)) => standing.is_of(tid),
+        match self.commits.get(&slow) {
+            Some(standing) => standing.is_of(tid),
             None => false,
         }
     }
@@ -198,6 +215,7 @@ impl SlowCommits {
         ensures room { (k : ℕ) → CanBegin self.old k → CanBegin self.new k }
     {
         self.commits.shift_remove(&slow);
+        settle(&mut self.busy, slow, false);
     }
 
     /// The slow commit ends without a commit, by this NO if there is one: each site that it asked is owed a RELEASE.
@@ -212,6 +230,8 @@ impl SlowCommits {
             return;
         };
         standing.end(no);
+        let is_busy = standing.is_busy();
+        settle(&mut self.busy, slow, is_busy);
     }
 
     /// After a restart: each slow commit that is being decided ends without a commit.
@@ -250,6 +270,8 @@ impl SlowCommits {
             return;
         };
         standing.boot();
+        let is_busy = standing.is_busy();
+        settle(&mut self.busy, slow, is_busy);
     }
 
     /// The NO that ended the slow commit is heard, where it ended without a commit.
@@ -278,6 +300,8 @@ impl SlowCommits {
             return;
         };
         standing.hear_released(from);
+        let is_busy = standing.is_busy();
+        settle(&mut self.busy, slow, is_busy);
     }
 
     /// Whether the slow commit is being decided, and waits for the YES of the site.

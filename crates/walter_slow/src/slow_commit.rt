@@ -1,9 +1,9 @@
 ghost use Rattle.std.specs.Prelude.{◌≡◌, ◌≤◌, ◌∷◌, [], Some, None, length, is_some, vec_capacity};
 ghost use Rattle.std.specs.Option.{option_copied};
-ghost use Rattle.walter_slow.specs.Kept.{does_decide, verdict_of, heard_yes, heard_released, heard_no, ended_by, booted};
+ghost use Rattle.walter_slow.specs.Kept.{is_busy, does_decide, verdict_of, heard_yes, heard_released, heard_no, ended_by, booted};
 ghost use Rattle.walter_slow.specs.Sites.{is_missing, with_heard};
 
-use crate::sites::{are_heard_with, is_among};
+use crate::sites::{are_heard, are_heard_with, is_among};
 use crate::verdict::Verdict;
 use std::marker::Model;
 use walter_base::{Answer, Conflict, SiteId, Sites, Tid, Tx};
@@ -48,6 +48,13 @@ impl SlowCommit {
         ensures { result ≡ is_some self.now.tx }
     {
         self.tx.is_some()
+    }
+
+    /// Whether it is being decided, or the RELEASED of a site is missing.
+    pub fn is_busy(&self) -> bool
+        ensures { result ≡ is_busy (Some self.now) }
+    {
+        self.is_undecided() || !are_heard(self.asked.as_slice(), &self.heard)
     }
 
     pub fn transaction(&self) -> Option<&Tx>

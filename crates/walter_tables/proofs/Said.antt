@@ -1,24 +1,30 @@
 -- What is put out by the tables is what the rules put out.
-use Rattle.std.proofs.Common.{◌≡◌, ◌≢◌, ◌+◌, ◌-◌, ◌≤◌, ◌<◌, ℕ, zero, suc, nat_eq, nat_le, true, false, cond, not, Option, Some, None, List, [], ◌∷◌, ◌++◌, map, take, get_or, slice_get, append_assoc, refl, ap, sym, ◌∙◌, subst, inl, inr, arith, if◌then◌else◌}
-use Rattle.std.specs.Prelude.{Contains, filter, flat_map}
-use Rattle.std.specs.List.{list_any, range_with_len}
+use Rattle.std.proofs.Common.{◌≡◌, ◌≢◌, ◌+◌, ◌-◌, ◌≤◌, ◌<◌, ℕ, zero, suc, nat_eq, nat_le, Bool, true, false, cond, not, ◌&&◌, ◌||◌, ◌⊎◌, Option, Some, None, List, [], ◌∷◌, ◌++◌, map, take, get_or, append_assoc, refl, ap, sym, ◌∙◌, subst, inl, inr, arith, if◌then◌else◌}
+use Rattle.std.specs.Prelude.{Contains, filter, flat_map, length, option_and_then, is_some}
+use Rattle.std.specs.List.{list_any, list_all, range_with_len}
+use Rattle.std.specs.Option.{option_map_or}
 use Rattle.std.proofs.lemmas.Bool.{cases_Bool, cases_eq, eqb-true, eq-eqb, leb-true, leb-false}
-use Rattle.std.proofs.lemmas.Option.{same_Some, slice_get_within, get_or_from_slice_get}
+use Rattle.std.proofs.lemmas.Option.{same_Some}
 use Rattle.std.proofs.lemmas.List.{map-append, append-nil, take_more}
 use Rattle.std.proofs.lemmas.List.Elements.{filter_map-append}
 use Rattle.std.proofs.lemmas.List.FromFn.{filter_of_map_range_with_len_more}
 use Rattle.std.proofs.lemmas.Grind.{flat_map-append}
+use Rattle.walter_base.specs.declared.catalog.Catalog.{Catalog}
 use Rattle.walter_base.specs.declared.names.SiteId.{SiteId}
 use Rattle.walter_base.specs.declared.packet.Packet.{Packet}
+use Rattle.walter_base.specs.declared.packet.Packet.TheVariants.{Release}
 use Rattle.walter_base.specs.Names.{same_site}
+use Rattle.walter_base.proofs.NameTests.{same_site-true}
 use Rattle.walter_psi.proofs.Lists.{Contains-nil, flat_map-push}
 use Rattle.walter_rules.proofs.Membership.{in_cases, one_passes}
-use Rattle.walter_slow.specs.Tables.{Table as SlowCommits, commit_of, numbers_of, RiseBetween}
-use Rattle.walter_slow.proofs.Standings.{none_kept}
-use Rattle.walter_rules.specs.Knowledge.{site_at, from_to}
-use Rattle.walter_rules.specs.Sending.{Send, to_each}
+use Rattle.walter_slow.specs.Kept.{Kept, is_busy, waits_for, owes}
+use Rattle.walter_slow.specs.Sites.{is_missing}
+use Rattle.walter_slow.specs.Tables.{Table as SlowCommits, commit_of, AreBusy, RiseBetween}
+use Rattle.walter_rules.specs.Knowledge.{fresh, site_at, from_to}
+use Rattle.walter_rules.specs.Slow.{has_site}
+use Rattle.walter_rules.specs.Sending.{Send, to_each, prepare_of}
 use Rattle.walter_spread.specs.Propagation.{span}
-use Rattle.walter_tables.specs.Packets.{to_one, commits_of}
+use Rattle.walter_tables.specs.Packets.{to_one, commits_of, prepare_kept, release_kept}
 use Rattle.walter_tables.specs.Standing.{Values}
 
 -- more packets behind others to the same site
@@ -74,13 +80,10 @@ span_none first last is =
     ] refl is
 
 -- what is made of the numbers up to a place, and of the one there
-pub one_place : (f : ℕ → List Packet) (numbers : List ℕ) (place n : ℕ) → Some n ≡ slice_get numbers place
-    → flat_map f (take (place + 1) numbers) ≡ flat_map f (take place numbers) ++ f n
-one_place f numbers place n here =
-    let within = slice_get_within numbers place n (sym here) in
-    ap (flat_map f) (take_more numbers place 0 within)
-    ∙ flat_map-push f (take place numbers) (get_or numbers place 0)
-    ∙ ap (λ (m : ℕ). flat_map f (take place numbers) ++ f m) (get_or_from_slice_get numbers place n 0 (sym here))
+pub one_more_number : (f : ℕ → List Packet) (numbers : List ℕ) (place d : ℕ) → place < length numbers
+    → flat_map f (take (place + 1) numbers) ≡ flat_map f (take place numbers) ++ f (get_or numbers place d)
+one_more_number f numbers place d within =
+    ap (flat_map f) (take_more numbers place d within) ∙ flat_map-push f (take place numbers) (get_or numbers place d)
 
 -- nothing is made of numbers of which none makes something
 none_made : (f : ℕ → List Packet) (a n : ℕ) → ((m : ℕ) → a ≤ m → f m ≡ []) → flat_map f (range_with_len a n) ≡ []
@@ -141,14 +144,59 @@ rising_made f last numbers rising none =
     sym (walked f last 0 last numbers (omega arith) rising (λ m above out. none m out))
     ∙ ap (λ (n : ℕ). flat_map f (range_with_len 1 n)) (let same : last ≡ last + 1 - 1 = omega arith in same)
 
--- nothing is kept of a number that is none of these
-pub none_kept_of : (table : SlowCommits) (n : ℕ) → ¬ Contains (numbers_of table) n → commit_of table n ≡ None
-none_kept_of table n out = elim (cases_Bool (list_any (nat_eq n) (numbers_of table))) [
-  | inl some ↦
-      let one = one_passes (nat_eq n) (numbers_of table) some in
-      absurd (out (subst (λ (m : ℕ). Contains (numbers_of table) m) (sym (eqb-true n one.0 one.2)) one.1))
-  | inr none ↦ none_kept table.commits n none
-]
+-- who is asked and heard isn't missing
+heard_front : (site k : SiteId) (heard ks : List SiteId) (same has : Bool) → same_site site k ≡ same → has_site k heard ≡ has
+    → (list_all (λ m. has_site m heard) ks ≡ true → is_missing site ks heard ≡ false)
+    → (has && list_all (λ m. has_site m heard) ks) ≡ true → ((same || has_site site ks) && not (has_site site heard)) ≡ false
+heard_front site k heard ks true true same has behind all =
+    ap not (subst (λ (m : SiteId). has_site m heard ≡ true) (sym (same_site-true site k same)) has)
+heard_front site k heard ks true false same has behind all = absurd cc
+heard_front site k heard ks false true same has behind all = behind all
+heard_front site k heard ks false false same has behind all = absurd cc
+
+all_heard : (site : SiteId) (heard asked : List SiteId) → list_all (λ k. has_site k heard) asked ≡ true → is_missing site asked heard ≡ false
+all_heard site heard [] all = refl
+all_heard site heard (k ∷ ks) all =
+    heard_front site k heard ks (same_site site k) (has_site k heard) refl refl (all_heard site heard ks) all
+
+not_not : (b : Bool) → not b ≡ false → b ≡ true
+not_not true is = refl
+not_not false is = absurd cc
+
+-- one that isn't busy puts out nothing
+module _ (o : Option Kept) (rests : is_busy o ≡ false) where
+  neither : (a b : Bool) → (a || b) ≡ false → (a ≡ false) × (b ≡ false)
+  neither true b is = absurd cc
+  neither false b is = (refl, is)
+
+  waits_none : (site : SiteId) (x : Option Kept) → is_busy x ≡ false → waits_for x site ≡ false
+  waits_none site None is = refl
+  waits_none site (Some kept) is = ap (λ b. b && is_missing site kept.asked kept.heard) (neither (is_some kept.tx) _ is).0
+
+  owes_none : (site : SiteId) (x : Option Kept) → is_busy x ≡ false → owes x site ≡ false
+  owes_none site None is = refl
+  owes_none site (Some kept) is =
+      let n = neither (is_some kept.tx) (not (list_all (λ k. has_site k kept.heard) kept.asked)) is in
+      ap (λ b. not b && is_missing site kept.asked kept.heard) n.0
+      ∙ all_heard site kept.heard kept.asked (not_not (list_all (λ k. has_site k kept.heard) kept.asked) n.1)
+
+  pub prepares_none : (catalog : Catalog) (k : SiteId) (n : ℕ) → prepare_kept catalog k n o ≡ []
+  prepares_none catalog k n =
+      ap (λ b. if b then option_map_or (λ tx. prepare_of catalog fresh n tx k ∷ []) (option_and_then (λ slow. slow.tx) o) [] else [])
+      (waits_none k o rests)
+
+  pub releases_none : (k : SiteId) (n : ℕ) → release_kept k n o ≡ []
+  releases_none k n = ap (λ b. if b then Release n ∷ [] else []) (owes_none k o rests)
+
+-- and what isn't among the busy numbers isn't busy
+pub rests_out : (table : SlowCommits) → AreBusy table.commits table.busy → (n : ℕ) → ¬ Contains table.busy n → is_busy (commit_of table n) ≡ false
+rests_out table are n out = sym (are n) ∙ none_among (cases_Bool (list_any (nat_eq n) table.busy))
+  where
+    none_among : (list_any (nat_eq n) table.busy ≡ true) ⊎ (list_any (nat_eq n) table.busy ≡ false) → list_any (nat_eq n) table.busy ≡ false
+    none_among (inl some) =
+        let one = one_passes (nat_eq n) table.busy some in
+        absurd (out (subst (λ (m : ℕ). Contains table.busy m) (sym (eqb-true n one.0 one.2)) one.1))
+    none_among (inr none) = none
 
 -- six times packets are put to the same site
 pub six_put : (k : SiteId) (s0 s1 s2 s3 s4 s5 s6 : List Send) (p1 p2 p3 p4 p5 p6 : List Packet)

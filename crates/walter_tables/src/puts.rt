@@ -186,10 +186,8 @@ impl Tables {
         ensures { OnOk result (sends.new.items ≡ sends.old.items
             ++ to_one to (prepares_kept (values_of self.now) to)) }
     {
-        for place in 0..self.slow.count() {
-            if let Some(slow) = self.slow.number_at(place) {
-                self.put_waiting(sends, to, slow)?;
-            }
+        for slow in self.slow.busy() {
+            self.put_waiting(sends, to, *slow)?;
         }
         Ok(())
     }
@@ -210,10 +208,8 @@ impl Tables {
         ensures { OnOk result (sends.new.items ≡ sends.old.items
             ++ to_one to (releases_kept (values_of self.now) to)) }
     {
-        for place in 0..self.slow.count() {
-            if let Some(slow) = self.slow.number_at(place) {
-                self.put_owed(sends, to, slow)?;
-            }
+        for slow in self.slow.busy() {
+            self.put_owed(sends, to, *slow)?;
         }
         Ok(())
     }

@@ -108,8 +108,7 @@ fn check_booted(rt: &impl Abort, commits: &SlowCommits) {
     assert!(rt; !commits.owes(3, FIRST) && commits.owes(3, SECOND) && commits.owes(4, FIRST));
     assert!(rt; !commits.waits(4, SECOND) && commits.transaction(4).is_none());
     assert!(rt; commits.refusal(3) == Some(CONFLICT) && commits.refusal(4).is_none());
-    assert_eq!(rt; commits.count(), 2);
-    assert!(rt; commits.number_at(0) == Some(3) && commits.number_at(1) == Some(4));
+    assert_eq!(rt; commits.busy(), [3, 4].as_slice());
 }
 
 #[test]
@@ -128,5 +127,7 @@ fn votes_decide_and_releases_are_owed(rt: HostRuntime) -> Result<(), Fail> {
     assert!(rt; !commits.owes(3, FIRST) && commits.owes(3, SECOND));
     commits.boot();
     check_booted(&rt, &commits);
+    commits.hear_released(SECOND, 3);
+    assert_eq!(rt; commits.busy(), [4].as_slice());
     Ok(())
 }

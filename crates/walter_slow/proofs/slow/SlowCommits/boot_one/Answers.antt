@@ -1,14 +1,23 @@
-use Rattle.std.proofs.Common.{◌∙◌, sym, ap, subst, arith}
+use Rattle.std.proofs.Common.{sym, ap, subst, arith, ◌∙◌}
 use Rattle.indexmap.specs.IndexMap.{spare, keys}
 use Rattle.walter_slow.specs.Kept.{booted}
 use Rattle.walter_slow.specs.Tables.{Table, RiseBetween, numbers_of}
+use Rattle.walter_slow.proofs.BusyOnes.{settled, tells_busy, booted_busy}
 use Rattle.walter_slow.proofs.Standings.{from_view, lent_changes, none_changes, room_kept}
 use Rattle.walter_slow.proofs.slow.SlowCommits.boot_one.Goals as goal
 
 pub invariant_of-self-2 : goal.invariant_of-self-2
 invariant_of-self-2 c =
-    let writes = c.get_mut.follows.holds c.boot.new.self in
-    (subst (RiseBetween 0 c.self.inside.last) (sym writes.1) c.self.invariant.0, c.self.invariant.1)
+    let s = c.self.inside in
+    let now = c.boot.new.self in
+    let writes = c.get_mut.follows.holds now in
+    let changes = lent_changes s.commits _ c.args.slow booted c.in-Some.standing.now now c.in-Some.ensures.value c.boot.ensures writes in (
+      subst (RiseBetween 0 s.last) (sym writes.1) c.self.invariant.0,
+      c.self.invariant.1,
+      c.settle.ensures.rising s.last c.self.invariant.2,
+      settled s.commits.entries _ c.args.slow booted s.busy.items _ c.self.invariant.3 changes c.is_busy-is_busy.result c.settle.ensures.any
+          (λ kept at. (tells_busy _ c.in-Some.standing.now now kept booted c.is_busy-is_busy.result c.in-Some.ensures.value at c.boot.ensures c.is_busy-is_busy.ensures, booted_busy kept)),
+    )
 
 pub returns : goal.returns
 returns c =
@@ -20,7 +29,8 @@ returns c =
       last = ap (λ (t : Table). t.last) c.self.view_is;
       numbers = writes.1 ∙ ap numbers_of c.self.view_is;
       commits = changes.at;
-      room = room_kept old (omega (arith, ap (λ (t : Table). t.places) c.self.view_is, writes.6)) (omega (arith, ap (λ (t : Table). t.seats) c.self.view_is));
+      room = room_kept old (omega (arith, ap (λ (t : Table). t.places) c.self.view_is, writes.6)) (omega (arith, ap (λ (t : Table). t.spots) c.self.view_is, c.settle.ensures.room))
+          (omega (arith, ap (λ (t : Table). t.seats) c.self.view_is));
     }
 
 pub returns-in_default : goal.returns-in_default
@@ -31,5 +41,6 @@ returns-in_default c =
       last = ap (λ (t : Table). t.last) c.self.view_is;
       numbers = ap keys c.get_mut.follows.holds-at-none ∙ ap numbers_of c.self.view_is;
       commits = changes.at;
-      room = room_kept old (omega (arith, ap (λ (t : Table). t.places) c.self.view_is, ap spare c.get_mut.follows.holds-at-none)) (omega (arith, ap (λ (t : Table). t.seats) c.self.view_is));
+      room = room_kept old (omega (arith, ap (λ (t : Table). t.places) c.self.view_is, ap spare c.get_mut.follows.holds-at-none)) (omega (arith, ap (λ (t : Table). t.spots) c.self.view_is))
+          (omega (arith, ap (λ (t : Table). t.seats) c.self.view_is));
     }

@@ -1,14 +1,22 @@
-use Rattle.std.proofs.Common.{sym, ap, subst, arith}
+use Rattle.std.proofs.Common.{sym, ap, refl, subst, arith}
 use Rattle.indexmap.specs.IndexMap.{spare}
 use Rattle.walter_slow.specs.Kept.{heard_no}
 use Rattle.walter_slow.specs.Tables.{Table, RiseBetween}
+use Rattle.walter_slow.proofs.BusyOnes.{unsettled, no_busy}
 use Rattle.walter_slow.proofs.Standings.{from_view, lent_changes, none_changes, room_kept}
 use Rattle.walter_slow.proofs.slow.SlowCommits.hear_no.Goals as goal
 
 pub invariant_of-self-2 : goal.invariant_of-self-2
 invariant_of-self-2 c =
-    let writes = c.get_mut.follows.holds c.hear_no.new.self in
-    (subst (RiseBetween 0 c.self.inside.last) (sym writes.1) c.self.invariant.0, c.self.invariant.1)
+    let s = c.self.inside in
+    let now = c.hear_no.new.self in
+    let writes = c.get_mut.follows.holds now in
+    let changes = lent_changes s.commits _ c.args.slow (heard_no c.args.conflict) c.in-Some.standing.now now c.in-Some.ensures.value c.hear_no.ensures writes in (
+      subst (RiseBetween 0 s.last) (sym writes.1) c.self.invariant.0,
+      c.self.invariant.1,
+      c.self.invariant.2,
+      unsettled s.commits.entries _ c.args.slow (heard_no c.args.conflict) s.busy.items _ c.self.invariant.3 changes refl (no_busy c.args.conflict),
+    )
 
 pub returns : goal.returns
 returns c =
@@ -19,7 +27,8 @@ returns c =
     record {
       last = ap (λ (t : Table). t.last) c.self.view_is;
       commits = changes.at;
-      room = room_kept old (omega (arith, ap (λ (t : Table). t.places) c.self.view_is, writes.6)) (omega (arith, ap (λ (t : Table). t.seats) c.self.view_is));
+      room = room_kept old (omega (arith, ap (λ (t : Table). t.places) c.self.view_is, writes.6)) (omega (arith, ap (λ (t : Table). t.spots) c.self.view_is))
+          (omega (arith, ap (λ (t : Table). t.seats) c.self.view_is));
     }
 
 pub returns-in_default : goal.returns-in_default
@@ -29,5 +38,6 @@ returns-in_default c =
     record {
       last = ap (λ (t : Table). t.last) c.self.view_is;
       commits = changes.at;
-      room = room_kept old (omega (arith, ap (λ (t : Table). t.places) c.self.view_is, ap spare c.get_mut.follows.holds-at-none)) (omega (arith, ap (λ (t : Table). t.seats) c.self.view_is));
+      room = room_kept old (omega (arith, ap (λ (t : Table). t.places) c.self.view_is, ap spare c.get_mut.follows.holds-at-none)) (omega (arith, ap (λ (t : Table). t.spots) c.self.view_is))
+          (omega (arith, ap (λ (t : Table). t.seats) c.self.view_is));
     }

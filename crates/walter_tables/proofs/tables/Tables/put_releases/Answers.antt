@@ -1,50 +1,38 @@
-use Rattle.std.proofs.Common.{◌≤◌, ◌<◌, ◌++◌, ℕ, List, length, take, sym, ◌∙◌, ap, arith}
+use Rattle.std.proofs.Common.{◌≡◌, ◌+◌, ◌++◌, ℕ, List, take, sym, ◌∙◌, ap, subst}
 use Rattle.std.specs.Prelude.{flat_map}
-use Rattle.std.proofs.lemmas.List.{length-map, take_all}
-use Rattle.std.proofs.lemmas.Option.{slice_get-get_or}
+use Rattle.std.proofs.lemmas.List.{take_all}
 use Rattle.walter_base.specs.declared.packet.Packet.{Packet}
-use Rattle.walter_slow.specs.Kept.{Kept}
-use Rattle.walter_slow.specs.Tables.{commit_of, numbers_of}
+use Rattle.walter_slow.specs.Tables.{commit_of}
 use Rattle.walter_tables.specs.Packets.{to_one, release_kept}
 use Rattle.walter_tables.specs.Sites.{values_of, catalog_of}
-use Rattle.walter_tables.proofs.Said.{put_more, one_place, rising_made, none_kept_of}
+use Rattle.walter_tables.proofs.Said.{put_more, one_more_number, rising_made, rests_out, releases_none}
 use Rattle.walter_tables.proofs.tables.Tables.put_releases.Goals as goal
-use Rattle.walter_tables.proofs.tables.Tables.put_releases.Goals.{in-Some+in_ok-put_owed, in_default}
 
-pub loop-place-preserved : goal.loop-place-preserved
+pub loop-slow-preserved : goal.loop-slow-preserved
 unfolding values_of catalog_of
-loop-place-preserved c =
+loop-slow-preserved c =
     let now = c.args.self.now in
-    let numbers = numbers_of now.slow in
-    let place = c.loop-place.place in
+    let place = c.loop-slow.slow-index in
+    let told = c.busy-slow-items.ensures.numbers in
+    let numbers = c.busy-slow-items.result.now in
+    let start = c.args.sends.now.items in
     let f : ℕ → List Packet = λ m. release_kept c.args.to m (commit_of now.slow m) in
-    elim c.match-number_at.branch [
-      | in-Some+in_ok-put_owed w ↦
-          ap (λ sends. sends.items) w.sends-is
-          ∙ put_more c.args.to c.args.sends.now.items c.loop-place.sends.items w.put_owed.new.sends.items
-          (flat_map f (take place numbers)) _ c.loop-place.invariant w.in_ok-put_owed.ensures
-          ∙ ap (λ packets. c.args.sends.now.items ++ to_one c.args.to packets)
-          (sym (one_place f numbers place w.in-Some.slow w.in-Some.ensures))
-      | in_default w ↦
-          let within : place < length numbers =
-          omega (arith, length-map now.slow.commits (λ (e : ℕ × Kept). e.0), c.count-place-end.ensures.count, c.loop-place-test.true) in
-          let there = slice_get-get_or numbers place 0 within in
-          let none = w.in_default.is in
-          let same = c.number_at.ensures in
-          absurd cc
-    ]
+    let before = subst (λ (all : List ℕ). c.loop-slow.sends.items ≡ start ++ to_one c.args.to (flat_map f (take place all))) (sym told) c.loop-slow.invariant in
+    subst (λ (all : List ℕ). c.put_owed.new.sends.items ≡ start ++ to_one c.args.to (flat_map f (take (place + 1) all))) told
+    (put_more c.args.to start c.loop-slow.sends.items c.put_owed.new.sends.items (flat_map f (take place numbers)) _ before c.in_ok-put_owed.ensures
+    ∙ ap (λ packets. start ++ to_one c.args.to packets) (sym (one_more_number f numbers place _ c.loop-slow-test.true)))
 
 pub returns : goal.returns
 unfolding values_of catalog_of
 returns c =
     let now = c.args.self.now in
-    let numbers = numbers_of now.slow in
-    let place = c.loop-place.place in
+    let place = c.loop-slow.slow-index in
+    let told = c.busy-slow-items.ensures.numbers in
+    let numbers = c.busy-slow-items.result.now in
     let f : ℕ → List Packet = λ m. release_kept c.args.to m (commit_of now.slow m) in
-    let all : length numbers ≤ place =
-    omega (arith, length-map now.slow.commits (λ (e : ℕ × Kept). e.0), c.count-place-end.ensures.count, c.loop-place-test.false) in
-    c.loop-place.invariant
+    c.loop-slow.invariant
     ∙ ap (λ packets. c.args.sends.now.items ++ to_one c.args.to packets)
-    (ap (flat_map f) (take_all place numbers all)
-    ∙ rising_made f now.slow.last numbers c.count-place-end.ensures.rising
-    (λ m out. ap (release_kept c.args.to m) (none_kept_of now.slow m out)))
+    (ap (λ all. flat_map f (take place all)) (sym told)
+    ∙ (ap (flat_map f) (take_all place numbers c.loop-slow-test.false ∙ told)
+    ∙ rising_made f now.slow.last now.slow.busy c.busy-slow-items.ensures.rising
+    (λ m out. releases_none _ (rests_out now.slow c.busy-slow-items.ensures.busy m out) c.args.to m)))
