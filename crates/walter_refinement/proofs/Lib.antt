@@ -23,3 +23,4 @@ pub mod RunSpells
 pub mod Once
 pub mod NamedAborts
 pub mod Trails
+pub mod CommitsAnswered

@@ -1,3 +1,4 @@
 pub mod Spelled
 pub mod Named
 pub mod Once
+pub mod Answered

@@ -1,6 +1,7 @@
 -- The conflict that an abort names, where it was found.
 use Rattle.std.specs.Prelude.{◌≡◌, ◌≢◌, ◌⊎◌, ℕ, List, ◌∷◌, ◌++◌, Some, Contains, Ok}
 use Rattle.walter_base.specs.declared.catalog.Catalog.{Catalog}
+use Rattle.walter_base.specs.declared.message.Reply.TheVariants.{Aborted}
 use Rattle.walter_base.specs.declared.message.Request.TheVariants.{Commit, Abort}
 use Rattle.walter_base.specs.declared.names.ObjId.{ObjId}
 use Rattle.walter_base.specs.declared.names.SiteId.{SiteId}
@@ -13,6 +14,7 @@ use Rattle.walter_base.specs.Values.{write_set}
 use Rattle.walter_rules.specs.declared.entry.Entry.{Entry}
 use Rattle.walter_rules.specs.declared.event.Event.TheVariants.{Given}
 use Rattle.walter_rules.specs.declared.event.Input.TheVariants.{Call, Deliver}
+use Rattle.walter_rules.specs.declared.outcome.Outcome.TheVariants.{Replied}
 use Rattle.walter_rules.specs.Conflicts.{conflict_at, cause_of}
 use Rattle.walter_rules.specs.Knowledge.{Knowledge, preferred, session_of}
 use Rattle.walter_rules.specs.Merges.{Named}
@@ -59,3 +61,8 @@ abbrev pub IsNamed : Catalog → List Named → Named → Cause → Type 0
 IsNamed catalog older n Asked = (client : ℕ) × (n.1.event ≡ Given (Call client (Ok Abort)))
 IsNamed catalog older n (Modified oid version) = IsConflictNamed catalog older n (Modified oid version)
 IsNamed catalog older n (Locked oid owner) = IsConflictNamed catalog older n (Locked oid owner)
+
+-- each abort of a run, the newest entry of which comes first, is so
+abbrev pub AreNamed : Catalog → List Named → Type 0
+AreNamed catalog run = (newer older : List Named) (n : Named) (cause : Cause) → run ≡ newer ++ n ∷ older
+    → n.1.came.outcome ≡ Replied (Aborted cause) → IsNamed catalog older n cause

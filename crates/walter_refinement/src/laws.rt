@@ -1,17 +1,14 @@
-ghost use Rattle.std.specs.Prelude.{◌≡◌, ◌∷◌, ◌++◌, ℕ, List, reverse};
+ghost use Rattle.std.specs.Prelude.{ℕ, List, reverse};
 ghost use Rattle.walter_base.specs.declared.catalog.Catalog.{Catalog};
-ghost use Rattle.walter_base.specs.declared.transaction.Cause.{Cause};
 ghost use Rattle.walter_linked.specs.Catalogs.{IsWhole};
 ghost use Rattle.walter_psi.specs.Legal.{IsLegal};
-ghost use Rattle.walter_refinement.specs.Named.{IsNamed};
+ghost use Rattle.walter_refinement.specs.Answered.{AnswerCommits};
+ghost use Rattle.walter_refinement.specs.Named.{AreNamed};
 ghost use Rattle.walter_refinement.specs.Once.{StandsOnce};
 ghost use Rattle.walter_refinement.specs.Spelled.{psi_of};
 ghost use Rattle.walter_rules.specs.declared.entry.Entry.{Entry};
-ghost use Rattle.walter_rules.specs.Merges.{Named, merge};
+ghost use Rattle.walter_rules.specs.Merges.{merge};
 ghost use Rattle.walter_runs.specs.Runs.{AreRightTrails};
-
-use walter_base::Reply;
-use walter_rules::Outcome;
 
 /// The history that right and linked trails spell is one that parallel snapshot isolation allows, whatever packets
 /// are lost, repeated or reordered, and wherever sites stop, in a write or between.
@@ -30,7 +27,12 @@ pub fn commits_stand_once()
 /// slow commit asked, and that said NO over it.
 pub fn aborts_are_named()
     ensures { (catalog : Catalog) (capacity : ℕ) (trails : List (List Entry)) → IsWhole catalog
-        → AreRightTrails catalog capacity trails
-        → (newer older : List Named) (n : Named) (cause : Cause) → reverse (merge trails) ≡ newer ++ n ∷ older
-        → n.1.came.outcome ≡ Outcome.Replied (Reply.Aborted cause) → IsNamed catalog older n cause }
+        → AreRightTrails catalog capacity trails → AreNamed catalog (reverse (merge trails)) }
+{}
+
+/// A commit whose objects are all preferred where it is asked for, and that meets no conflict there, gives up only for
+/// want of memory or of place in the journal.
+pub fn commits_are_answered()
+    ensures { (catalog : Catalog) (capacity : ℕ) (trails : List (List Entry))
+        → AreRightTrails catalog capacity trails → AnswerCommits catalog capacity trails }
 {}

@@ -1,3 +1,4 @@
+pub mod Counted
 pub mod Joined
 pub mod Merged
 pub mod Stands

@@ -2,8 +2,8 @@
 use Rattle.std.proofs.Common.{ℕ, ◌+◌, Bool, true, false, List, [], ◌∷◌, map, All}
 use Rattle.std.specs.Prelude.{if◌then◌else◌}
 use Rattle.std.proofs.lemmas.List.Elements.{All-nil, All-cons, All-append, All-map, All-head, All-tail}
-use Rattle.walter_trail.specs.declared.trail.Entry.{Entry}
-use Rattle.walter_trail.specs.Merges.{Named, named_from, precedes, placed, in_order, merge}
+use Rattle.walter_rules.specs.declared.entry.Entry.{Entry}
+use Rattle.walter_rules.specs.Merges.{Named, named_from, precedes, placed, in_order, merge}
 
 All-either : (P : Named → Type 0) (test : Bool) (xs ys : List Named) → All P xs → All P ys → All P (if test then xs else ys)
 All-either P true xs ys one other = one

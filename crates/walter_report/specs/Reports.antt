@@ -3,13 +3,14 @@ use Rattle.std.specs.Prelude.{ℕ, ◌+◌, nat_eq, List, [], ◌∷◌, ◌++�
 use Rattle.std.specs.Fmt.{decimal}
 use Rattle.hex.specs.Hex.{encode_lower}
 use Rattle.walter_base.specs.declared.message.Reply.{Reply}
-use Rattle.walter_trail.specs.declared.trail.Entry.{Entry}
-use Rattle.walter_trail.specs.declared.trail.Outcome.{Outcome}
-use Rattle.walter_trail.specs.declared.trail.Outcome.TheVariants.{Replied}
-use Rattle.walter_trail.specs.declared.trail.TrailEvent.{TrailEvent}
-use Rattle.walter_trail.specs.declared.trail.TrailEvent.TheVariants.{Call, Stop, Restart}
 use Rattle.walter_fields.specs.Spellings.{block_spelled}
 use Rattle.walter_reply.specs.Replies.{reply_spelled, FitsFrame}
+use Rattle.walter_rules.specs.declared.entry.Entry.{Entry}
+use Rattle.walter_rules.specs.declared.event.Event.{Event}
+use Rattle.walter_rules.specs.declared.event.Event.TheVariants.{Given}
+use Rattle.walter_rules.specs.declared.event.Input.TheVariants.{Call}
+use Rattle.walter_rules.specs.declared.outcome.Outcome.{Outcome}
+use Rattle.walter_rules.specs.declared.outcome.Outcome.TheVariants.{Replied}
 use Rattle.walter_scenario.specs.declared.scenario.Client.{Client}
 use Rattle.walter_scenario.specs.declared.scenario.Scenario.{Scenario}
 use Rattle.walter_report.specs.Sites.{site_lines}
@@ -20,18 +21,17 @@ abbrev pub reply_in : Outcome → List Reply
 reply_in (Replied reply) = reply ∷ []
 reply_in outcome = []
 
-abbrev pub reply_to : ℕ → TrailEvent → Outcome → List Reply
-reply_to client (Call c call) outcome = if nat_eq c client then reply_in outcome else []
-reply_to client Stop outcome = []
-reply_to client Restart outcome = []
+abbrev pub reply_to : ℕ → Event → Outcome → List Reply
+reply_to client (Given (Call c call)) outcome = if nat_eq c client then reply_in outcome else []
+reply_to client event outcome = []
 
 -- the replies to a client, in order
 abbrev pub replies_to : ℕ → List Entry → List Reply
-replies_to client trail = flat_map (λ e. reply_to client e.event e.outcome) trail
+replies_to client trail = flat_map (λ e. reply_to client e.event e.came.outcome) trail
 
 -- each reply in the trails has a frame
 abbrev pub HaveFrames : List (List Entry) → Type 0
-HaveFrames trails = All (λ trail. All (λ e. All FitsFrame (reply_in e.outcome)) trail) trails
+HaveFrames trails = All (λ trail. All (λ e. All FitsFrame (reply_in e.came.outcome)) trail) trails
 
 abbrev pub reply_frame : Reply → List ℕ
 reply_frame reply = block_spelled (reply_spelled reply)
@@ -55,4 +55,4 @@ first_line s =
 
 -- a line for the run, one for each client, one for each site
 abbrev pub report_text : Scenario → List (List Entry) → List ℕ
-report_text s trails = first_line s ++ client_lines 0 s.clients trails ++ site_lines 0 trails
+report_text s trails = first_line s ++ client_lines 0 s.clients trails ++ site_lines s.catalog.sites 0 trails

@@ -1,5 +1,5 @@
 -- The text of a trace (docs/FORMATS.md, "Reports"): a line for each entry, by stamp and then by site.
-use Rattle.std.specs.Prelude.{List, ℕ, ◌++◌, flat_map, codes, Option, Some, None, Result, Ok, Err, IfSome, All}
+use Rattle.std.specs.Prelude.{List, ℕ, ◌++◌, map, flat_map, codes, Option, Some, None, Result, Ok, Err, IfSome, All}
 use Rattle.std.specs.Fmt.{decimal}
 use Rattle.hex.specs.Hex.{encode_lower}
 use Rattle.walter_base.specs.declared.message.BadFrame.{BadFrame}
@@ -10,20 +10,24 @@ use Rattle.walter_base.specs.declared.packet.Packet.{Packet}
 use Rattle.walter_base.specs.declared.packet.Packet.TheVariants.{Propagate, Ack, Dsmark, Visible, Prepare, Vote, Release, Released}
 use Rattle.walter_base.specs.Sizes.{CanBeRecorded}
 use Rattle.walter_record.specs.Spelling.{record_spelled}
-use Rattle.walter_trail.specs.declared.trail.Entry.{Entry}
-use Rattle.walter_trail.specs.declared.trail.Outcome.{Outcome}
-use Rattle.walter_trail.specs.declared.trail.Outcome.TheVariants.{Replied, Taken, Passed, Failed, Full, Memory, Down, Refused}
-use Rattle.walter_trail.specs.declared.trail.TrailEvent.{TrailEvent}
-use Rattle.walter_trail.specs.declared.trail.TrailEvent.TheVariants.{Call, Stop, Restart}
-use Rattle.walter_trail.specs.Merges.{Named, merge}
+use Rattle.walter_rules.specs.declared.entry.Came.{Came}
+use Rattle.walter_rules.specs.declared.entry.Entry.{Entry}
+use Rattle.walter_rules.specs.declared.event.Event.{Event}
+use Rattle.walter_rules.specs.declared.event.Event.TheVariants.{Given, Stop, Restart}
+use Rattle.walter_rules.specs.declared.event.Input.{Input}
+use Rattle.walter_rules.specs.declared.event.Input.TheVariants.{Call, Deliver, Advance, Tick}
+use Rattle.walter_rules.specs.declared.outcome.Outcome.{Outcome}
+use Rattle.walter_rules.specs.declared.outcome.Outcome.TheVariants.{Replied, Taken, Passed, Failed, Full, Memory, Down, Refused}
+use Rattle.walter_rules.specs.Merges.{Named, merge}
+use Rattle.walter_rules.specs.Sending.{Send}
 use Rattle.walter_report.specs.Reports.{reply_frame}
-use Rattle.walter_report.specs.Words.{line_feed}
+use Rattle.walter_report.specs.Words.{line_feed, listed}
 
 -- each record of an entry has a spelling
 pub record HasSpellings (e : Entry) : Type 0 where
-  pub kept : IfSome e.kept CanBeRecorded
-  pub wrote : IfSome e.wrote CanBeRecorded
-  pub flight : IfSome e.flight CanBeRecorded
+  pub kept : IfSome e.came.kept CanBeRecorded
+  pub wrote : IfSome e.came.wrote CanBeRecorded
+  pub flight : IfSome e.came.flight CanBeRecorded
 
 -- each record in the trails has one
 abbrev pub HaveSpellings : List (List Entry) → Type 0
@@ -54,8 +58,16 @@ packet_word (Vote slow answer) = codes "vote"
 packet_word (Release slow) = codes "release"
 packet_word (Released slow) = codes "released"
 
-abbrev pub event_text : TrailEvent → List ℕ
-event_text (Call client call) = codes "call:" ++ decimal client ++ codes ":" ++ call_word call
+-- what is given to a site: a call, a packet by its sender and number, what is to be committed of a site, a tick
+abbrev pub input_text : Input → List ℕ
+input_text (Call client call) = codes "call:" ++ decimal client ++ codes ":" ++ call_word call
+input_text (Deliver from number packet) =
+    codes "deliver:" ++ decimal from.0 ++ codes ":" ++ decimal number ++ codes ":" ++ packet_word packet
+input_text (Advance from) = codes "advance:" ++ decimal from.0
+input_text Tick = codes "tick"
+
+abbrev pub event_text : Event → List ℕ
+event_text (Given input) = input_text input
 event_text Stop = codes "stop"
 event_text Restart = codes "restart"
 
@@ -74,17 +86,30 @@ abbrev pub record_text : Option Record → List ℕ
 record_text None = codes "-"
 record_text (Some rec) = encode_lower (record_spelled rec)
 
+-- what is put out: "<to>:<packet>" for each
+abbrev pub send_text : Send → List ℕ
+send_text (to, packet) = decimal to.0 ++ codes ":" ++ packet_word packet
+
+abbrev pub sends_text : List Send → List ℕ
+sends_text sends = listed (map send_text sends)
+
 -- "e <stamp> <site> <event> <outcome>"
 abbrev pub happened_part : Named → List ℕ
 happened_part (site, e) =
-    codes "e " ++ decimal e.stamp ++ codes " " ++ decimal site.0 ++ codes " " ++ event_text e.event ++ codes " " ++ outcome_text e.outcome
+    codes "e " ++ decimal e.stamp ++ codes " " ++ decimal site.0 ++ codes " " ++ event_text e.event
+    ++ codes " " ++ outcome_text e.came.outcome
 
--- " <kept> <wrote> <flight> <sends> <dropped>": one site sends nothing, so nothing is dropped
-abbrev pub records_part : Entry → List ℕ
-records_part e = codes " " ++ record_text e.kept ++ codes " " ++ record_text e.wrote ++ codes " " ++ record_text e.flight ++ codes " - 0" ++ line_feed
+-- " <kept> <wrote> <flight>"
+abbrev pub records_part : Came → List ℕ
+records_part came =
+    codes " " ++ record_text came.kept ++ codes " " ++ record_text came.wrote ++ codes " " ++ record_text came.flight
+
+-- " <sends> <dropped>"
+abbrev pub sends_part : Came → List ℕ
+sends_part came = codes " " ++ sends_text came.sends ++ codes " " ++ decimal came.dropped ++ line_feed
 
 abbrev pub trace_line : Named → List ℕ
-trace_line (site, e) = happened_part (site, e) ++ records_part e
+trace_line (site, e) = happened_part (site, e) ++ records_part e.came ++ sends_part e.came
 
 -- a line for each entry of the merge
 abbrev pub trace_text : List (List Entry) → List ℕ

@@ -7,8 +7,9 @@ use crate::text::text_or_dash;
 use std::alloc::Global;
 use walter_base::{Mem, Reply};
 use walter_reply::encode;
+use walter_rules::{Entry, Event, Input, Outcome};
 use walter_scenario::Client;
-use walter_trail::{Entry, Outcome, Trail, TrailEvent};
+use walter_trail::Trail;
 
 pub(crate) fn push_client_lines(
     alloc: Global,
@@ -76,7 +77,7 @@ impl Tally {
     }
 
     fn add_trail(&mut self, client: usize, trail: &[Entry]) -> Mem<()>
-        requires { All (λ e. All FitsFrame (reply_in e.outcome)) trail.now }
+        requires { All (λ e. All FitsFrame (reply_in e.came.outcome)) trail.now }
         ensures { OnOk result (Adds self.old self.new (replies_to client trail.now)) }
     {
         for entry in trail {
@@ -86,12 +87,12 @@ impl Tally {
     }
 
     fn add_entry(&mut self, client: usize, entry: &Entry) -> Mem<()>
-        requires { All FitsFrame (reply_in entry.now.outcome) }
-        ensures { OnOk result (Adds self.old self.new (reply_to client entry.now.event entry.now.outcome)) }
+        requires { All FitsFrame (reply_in entry.now.came.outcome) }
+        ensures { OnOk result (Adds self.old self.new (reply_to client entry.now.event entry.now.came.outcome)) }
     {
-        if let TrailEvent::Call { client: asker, .. } = &entry.event
+        if let Event::Given(Input::Call { client: asker, .. }) = &entry.event
             && *asker as usize == client
-            && let Outcome::Replied(reply) = &entry.outcome
+            && let Outcome::Replied(reply) = &entry.came.outcome
         {
             self.add(reply)?;
         }

@@ -1,30 +1,43 @@
-ghost use Rattle.std.specs.Prelude.{◌≡◌, ◌++◌, false, length, map, OnOk, IfOk};
-ghost use Rattle.std.specs.List.{join_with_byte};
+ghost use Rattle.std.specs.Prelude.{◌≡◌, ◌≤◌, ◌++◌, ◌∷◌, [], false, length, map, count_by, OnOk, IfOk};
+ghost use Rattle.std.specs.Fmt.{decimal};
 ghost use Rattle.std.specs.String.{string_bytes};
-ghost use Rattle.walter_report.specs.Sites.{record_in, records, last_epoch, own_numbers, up_from, commit_text, events_part, commits_part, site_line, site_lines};
-ghost use Rattle.walter_report.specs.Words.{comma};
-ghost use Rattle.walter_trail.specs.Knowledge.{epoch_after};
-ghost use Rattle.walter_trail.specs.Standing.{up_after};
+ghost use Rattle.walter_report.specs.Sites.{record_in, records, last_epoch, up_from, is_got, is_seen, counts_text, log_pieces, version_text, events_part, lists_part, commits_part, site_line, site_lines};
+ghost use Rattle.walter_report.specs.Words.{listed};
+ghost use Rattle.walter_rules.specs.Knowledge.{site_at};
+ghost use Rattle.walter_rules.specs.Learning.{epoch_after};
+ghost use Rattle.walter_rules.specs.Standing.{up_after};
 
-use crate::text::text_or_dash;
+use crate::text::list_of;
 use std::alloc::Global;
 use walter_base::{Mem, Record, Reply};
-use walter_trail::{Entry, Outcome, Trail, TrailEvent};
+use walter_rules::{Entry, Event, Outcome};
+use walter_trail::Trail;
 
-pub(crate) fn push_site_lines(alloc: Global, text: &mut String, trails: &[Trail]) -> Mem<()>
-    ensures { OnOk result (string_bytes text.new ≡ string_bytes text.old ++ site_lines 0 trails.now) }
+pub(crate) fn push_site_lines(
+    alloc: Global,
+    text: &mut String,
+    sites: u8,
+    trails: &[Trail],
+) -> Mem<()>
+    ensures { OnOk result (string_bytes text.new ≡ string_bytes text.old ++ site_lines sites 0 trails.now) }
 {
     for (site, trail) in trails.iter().enumerate() {
-        push_site_line(alloc, text, site, trail.as_slice())?;
+        push_site_line(alloc, text, sites, site, trail.as_slice())?;
     }
     Ok(())
 }
 
-fn push_site_line(alloc: Global, text: &mut String, site: usize, trail: &[Entry]) -> Mem<()>
-    ensures { OnOk result (string_bytes text.new ≡ string_bytes text.old ++ site_line site trail.now) }
+fn push_site_line(
+    alloc: Global,
+    text: &mut String,
+    sites: u8,
+    site: usize,
+    trail: &[Entry],
+) -> Mem<()>
+    ensures { OnOk result (string_bytes text.new ≡ string_bytes text.old ++ site_line sites site trail.now) }
 {
     push_events(text, site, trail)?;
-    push_commits(alloc, text, site, trail)
+    push_commits(alloc, text, sites, site, trail)
 }
 
 fn push_events(text: &mut String, site: usize, trail: &[Entry]) -> Mem<()>
@@ -41,14 +54,27 @@ fn push_events(text: &mut String, site: usize, trail: &[Entry]) -> Mem<()>
     Ok(())
 }
 
-fn push_commits(alloc: Global, text: &mut String, site: usize, trail: &[Entry]) -> Mem<()>
-    ensures { OnOk result (string_bytes text.new ≡ string_bytes text.old ++ commits_part site (own_numbers (records trail.now))) }
+fn push_commits(
+    alloc: Global,
+    text: &mut String,
+    sites: u8,
+    site: usize,
+    trail: &[Entry],
+) -> Mem<()>
+    ensures { OnOk result
+        (string_bytes text.new ≡ string_bytes text.old ++ commits_part sites (site_at site) (records trail.now)) }
 {
-    let numbers = numbers_of(alloc, trail)?;
-    let own = numbers.len();
-    let log = log_of(alloc, site, &numbers)?;
-    let log = text_or_dash(&log);
-    writeln!(text, " got {own} committed {own} log {log}")?;
+    let got = text_of_got(alloc, sites, site, trail)?;
+    let committed = text_of_seen(alloc, sites, site, trail)?;
+    let log = text_of_log(alloc, site, trail)?;
+    push_lists(text, &got, &committed, &log)
+}
+
+fn push_lists(text: &mut String, got: &str, committed: &str, log: &str) -> Mem<()>
+    ensures { OnOk result
+        (string_bytes text.new ≡ string_bytes text.old ++ lists_part got.now committed.now log.now) }
+{
+    writeln!(text, " got {got} committed {committed} log {log}")?;
     Ok(())
 }
 
@@ -58,21 +84,21 @@ fn is_up(trail: &[Entry]) -> bool
 {
     let mut up = false;
     for entry in trail {
-        up = up_behind(&entry.event, &entry.outcome, up);
+        up = up_behind(&entry.event, &entry.came.outcome, up);
     }
     up
 }
 
 // Whether the site is up behind the event.
-fn up_behind(event: &TrailEvent, outcome: &Outcome, up: bool) -> bool
+fn up_behind(event: &Event, outcome: &Outcome, up: bool) -> bool
     ensures { result ≡ up_after event.now outcome.now up }
 {
     match outcome {
         Outcome::Failed | Outcome::Replied(Reply::Unsure(_)) => false,
         Outcome::Taken => match event {
-            TrailEvent::Stop => false,
-            TrailEvent::Restart => true,
-            TrailEvent::Call { .. } => up,
+            Event::Stop => false,
+            Event::Restart => true,
+            Event::Given(_) => up,
         },
         _ => up,
     }
@@ -83,8 +109,8 @@ fn epoch_of(trail: &[Entry]) -> u32
 {
     let mut epoch = 0;
     for entry in trail {
-        epoch = epoch_behind(&entry.kept, epoch);
-        epoch = epoch_behind(&entry.wrote, epoch);
+        epoch = epoch_behind(&entry.came.kept, epoch);
+        epoch = epoch_behind(&entry.came.wrote, epoch);
     }
     epoch
 }
@@ -103,47 +129,119 @@ fn count_records(trail: &[Entry]) -> usize
 {
     let mut count = 0;
     for entry in trail {
-        count += usize::from(entry.kept.is_some()) + usize::from(entry.wrote.is_some());
+        count += usize::from(entry.came.kept.is_some()) + usize::from(entry.came.wrote.is_some());
     }
     count
 }
 
-fn numbers_of(alloc: Global, trail: &[Entry]) -> Mem<Vec<u64>>
-    ensures { IfOk result (λ numbers. numbers.items ≡ own_numbers (records trail.now)) }
+// Of each site, how many of its commits the site has, its own among them.
+fn text_of_got(alloc: Global, sites: u8, site: usize, trail: &[Entry]) -> Mem<String>
+    ensures { IfOk result (λ text.
+        string_bytes text ≡ counts_text sites (is_got (site_at site)) (records trail.now)) }
 {
-    let mut numbers = Vec::new(alloc);
-    for entry in trail {
-        push_number(&mut numbers, &entry.kept)?;
-        push_number(&mut numbers, &entry.wrote)?;
+    let mut pieces = Vec::new(alloc);
+    for from in 0..sites {
+        push_count(alloc, &mut pieces, count_got(site, from, trail))?;
     }
-    Ok(numbers)
+    list_of(alloc, &pieces)
 }
 
-fn push_number(numbers: &mut Vec<u64>, stable: &Option<Record>) -> Mem<()>
-    ensures { OnOk result (numbers.new.items ≡ numbers.old.items ++ own_numbers (record_in stable.now)) }
+// Of each site, how many of its commits are committed at the site.
+fn text_of_seen(alloc: Global, sites: u8, site: usize, trail: &[Entry]) -> Mem<String>
+    ensures { IfOk result (λ text.
+        string_bytes text ≡ counts_text sites (is_seen (site_at site)) (records trail.now)) }
 {
-    if let Some(Record::Own(seq, _)) = stable {
-        numbers.push(*seq)?;
+    let mut pieces = Vec::new(alloc);
+    for from in 0..sites {
+        push_count(alloc, &mut pieces, count_seen(site, from, trail))?;
     }
+    list_of(alloc, &pieces)
+}
+
+fn push_count(alloc: Global, pieces: &mut Vec<String>, count: usize) -> Mem<()>
+    ensures { OnOk result
+        (map string_bytes pieces.new.items ≡ map string_bytes pieces.old.items ++ decimal count ∷ []) }
+{
+    pieces.push(format!(in alloc; "{count}")?)?;
     Ok(())
 }
 
-fn log_of(alloc: Global, site: usize, numbers: &[u64]) -> Mem<String>
-    ensures { IfOk result (λ log. string_bytes log ≡ join_with_byte comma (map (commit_text site) numbers.now)) }
+fn count_got(site: usize, from: u8, trail: &[Entry]) -> usize
+    ensures { result ≡ count_by (is_got (site_at site) (site_at from)) (records trail.now) }
 {
-    let mut log = String::new(alloc);
-    for (index, number) in numbers.iter().enumerate() {
-        if index > 0 {
-            log.push(',')?;
-        }
-        push_logged(&mut log, site, *number)?;
+    let mut count = 0;
+    for entry in trail {
+        count += got_in(site, from, &entry.came.kept) + got_in(site, from, &entry.came.wrote);
     }
-    Ok(log)
+    count
 }
 
-fn push_logged(log: &mut String, site: usize, number: u64) -> Mem<()>
-    ensures { OnOk result (string_bytes log.new ≡ string_bytes log.old ++ commit_text site number) }
+// 1 where the record tells of one more that the site has, else 0.
+fn got_in(site: usize, from: u8, stable: &Option<Record>) -> usize
+    ensures count { result ≡ count_by (is_got (site_at site) (site_at from)) (record_in stable.now) }
+    ensures most { result ≤ 1 }
 {
-    write!(log, "{site}:{number}")?;
+    match stable {
+        Some(Record::Own(_, _)) => usize::from(site == usize::from(from)),
+        Some(Record::Got(sender, _, _)) => usize::from(sender.0 == from),
+        _ => 0,
+    }
+}
+
+fn count_seen(site: usize, from: u8, trail: &[Entry]) -> usize
+    ensures { result ≡ count_by (is_seen (site_at site) (site_at from)) (records trail.now) }
+{
+    let mut count = 0;
+    for entry in trail {
+        count += seen_in(site, from, &entry.came.kept) + seen_in(site, from, &entry.came.wrote);
+    }
+    count
+}
+
+// 1 where the record tells of one more that is committed at the site, else 0.
+fn seen_in(site: usize, from: u8, stable: &Option<Record>) -> usize
+    ensures count { result ≡ count_by (is_seen (site_at site) (site_at from)) (record_in stable.now) }
+    ensures most { result ≤ 1 }
+{
+    match stable {
+        Some(Record::Own(_, _)) => usize::from(site == usize::from(from)),
+        Some(Record::Seen(sender, _)) => usize::from(sender.0 == from),
+        _ => 0,
+    }
+}
+
+fn text_of_log(alloc: Global, site: usize, trail: &[Entry]) -> Mem<String>
+    ensures { IfOk result (λ text. string_bytes text ≡ listed (log_pieces (site_at site) (records trail.now))) }
+{
+    let mut pieces = Vec::new(alloc);
+    for entry in trail {
+        push_logged(alloc, &mut pieces, site, &entry.came.kept)?;
+        push_logged(alloc, &mut pieces, site, &entry.came.wrote)?;
+    }
+    list_of(alloc, &pieces)
+}
+
+// Puts the commit at the end that the record tells to be committed, if there is one.
+fn push_logged(
+    alloc: Global,
+    pieces: &mut Vec<String>,
+    site: usize,
+    stable: &Option<Record>,
+) -> Mem<()>
+    ensures { OnOk result (map string_bytes pieces.new.items
+        ≡ map string_bytes pieces.old.items ++ log_pieces (site_at site) (record_in stable.now)) }
+{
+    match stable {
+        Some(Record::Own(seq, _)) => push_version(alloc, pieces, site, *seq),
+        Some(Record::Seen(from, seq)) => push_version(alloc, pieces, usize::from(from.0), *seq),
+        _ => Ok(()),
+    }
+}
+
+fn push_version(alloc: Global, pieces: &mut Vec<String>, site: usize, seq: u64) -> Mem<()>
+    ensures { OnOk result (map string_bytes pieces.new.items
+        ≡ map string_bytes pieces.old.items ++ version_text (site_at site) seq ∷ []) }
+{
+    pieces.push(format!(in alloc; "{site}:{seq}")?)?;
     Ok(())
 }

@@ -1,7 +1,7 @@
-ghost use Rattle.std.specs.Prelude.{◌≡◌, ◌++◌, OnOk, IfOk};
+ghost use Rattle.std.specs.Prelude.{◌≡◌, ◌++◌, map, OnOk, IfOk};
 ghost use Rattle.std.specs.String.{string_bytes};
 ghost use Rattle.walter_report.specs.Reports.{HaveFrames, first_line, report_text};
-ghost use Rattle.walter_report.specs.Words.{or_dash};
+ghost use Rattle.walter_report.specs.Words.{listed, or_dash};
 
 use crate::clients::push_client_lines;
 use crate::sites::push_site_lines;
@@ -18,7 +18,7 @@ pub fn report(alloc: Global, scenario: &Scenario, trails: &[Trail]) -> Mem<Bytes
     let mut text = String::new(alloc);
     push_first_line(&mut text, scenario)?;
     push_client_lines(alloc, &mut text, scenario.clients.as_slice(), trails)?;
-    push_site_lines(alloc, &mut text, trails)?;
+    push_site_lines(alloc, &mut text, scenario.catalog.sites, trails)?;
     Ok(Bytes::from(text.into_bytes()))
 }
 
@@ -36,4 +36,15 @@ pub(crate) fn text_or_dash(text: &str) -> &str
     ensures { result.now ≡ or_dash text.now }
 {
     if text.is_empty() { "-" } else { text }
+}
+
+// The pieces with a comma between each two, or a dash.
+pub(crate) fn list_of(alloc: Global, pieces: &[String]) -> Mem<String>
+    ensures { IfOk result (λ text. string_bytes text ≡ listed (map string_bytes pieces.now)) }
+{
+    if pieces.is_empty() {
+        Ok(format!(in alloc; "-")?)
+    } else {
+        Ok(pieces.join(alloc, ",")?)
+    }
 }

@@ -1,17 +1,19 @@
-ghost use Rattle.std.specs.Prelude.{◌≡◌, ◌≤◌, ◌++◌, length, flat_map, codes, All, IfSome, OnOk, IfOk};
+ghost use Rattle.std.specs.Prelude.{◌≡◌, ◌≤◌, ◌++◌, ◌∷◌, [], length, map, flat_map, codes, All, IfSome, OnOk, IfOk};
 ghost use Rattle.std.specs.Fmt.{decimal};
 ghost use Rattle.std.specs.String.{string_bytes};
 ghost use Rattle.walter_base.specs.Sizes.{CanBeRecorded};
 ghost use Rattle.walter_reply.specs.Replies.{FitsFrame};
 ghost use Rattle.walter_report.specs.Reports.{reply_in, HaveFrames};
-ghost use Rattle.walter_report.specs.Traces.{HasSpellings, HaveSpellings, call_word, packet_word, event_text, outcome_text, record_text, happened_part, records_part, trace_line, trace_text};
+ghost use Rattle.walter_report.specs.Traces.{HasSpellings, HaveSpellings, call_word, packet_word, input_text, event_text, outcome_text, record_text, send_text, sends_text, happened_part, records_part, sends_part, trace_line, trace_text};
 ghost use Rattle.walter_base.specs.Vectors.{most_sites};
 
 use crate::clients::push_reply;
+use crate::text::list_of;
 use std::alloc::Global;
 use walter_base::{Bytes, Call, Mem, Packet, Record, Reply, Request, SiteId};
 use walter_record::encode;
-use walter_trail::{Entry, Outcome, Trail, TrailEvent, merge};
+use walter_rules::{Came, Entry, Event, Input, Outcome};
+use walter_trail::{Trail, merge};
 
 /// The trace of a run: the text of the merge of its trails, one for each site.
 pub fn trace(alloc: Global, trails: &[Trail]) -> Mem<Bytes>
@@ -27,7 +29,7 @@ pub fn trace(alloc: Global, trails: &[Trail]) -> Mem<Bytes>
 }
 
 fn push_lines(alloc: Global, text: &mut String, entries: &[(SiteId, Entry)]) -> Mem<()>
-    requires frames { All (λ n. All FitsFrame (reply_in n.1.outcome)) entries.now }
+    requires frames { All (λ n. All FitsFrame (reply_in n.1.came.outcome)) entries.now }
     requires records { All (λ n. HasSpellings n.1) entries.now }
     ensures { OnOk result (string_bytes text.new ≡ string_bytes text.old ++ flat_map trace_line entries.now) }
 {
@@ -38,34 +40,64 @@ fn push_lines(alloc: Global, text: &mut String, entries: &[(SiteId, Entry)]) -> 
 }
 
 fn push_line(alloc: Global, text: &mut String, site: SiteId, entry: &Entry) -> Mem<()>
-    requires frames { All FitsFrame (reply_in entry.now.outcome) }
+    requires frames { All FitsFrame (reply_in entry.now.came.outcome) }
     requires records { HasSpellings entry.now }
     ensures { OnOk result (string_bytes text.new ≡ string_bytes text.old ++ trace_line (site, entry.now)) }
 {
     push_happened(alloc, text, site, entry)?;
-    push_records(alloc, text, entry)
+    push_records(alloc, text, entry)?;
+    push_sends(alloc, text, &entry.came)
 }
 
 fn push_happened(alloc: Global, text: &mut String, site: SiteId, entry: &Entry) -> Mem<()>
-    requires { All FitsFrame (reply_in entry.now.outcome) }
+    requires { All FitsFrame (reply_in entry.now.came.outcome) }
     ensures { OnOk result (string_bytes text.new ≡ string_bytes text.old ++ happened_part (site, entry.now)) }
 {
     let stamp = entry.stamp;
     let site = site.0;
     let event = text_of_event(alloc, &entry.event)?;
-    let outcome = text_of_outcome(alloc, &entry.outcome)?;
+    let outcome = text_of_outcome(alloc, &entry.came.outcome)?;
     write!(text, "e {stamp} {site} {event} {outcome}")?;
     Ok(())
 }
 
 fn push_records(alloc: Global, text: &mut String, entry: &Entry) -> Mem<()>
     requires { HasSpellings entry.now }
-    ensures { OnOk result (string_bytes text.new ≡ string_bytes text.old ++ records_part entry.now) }
+    ensures { OnOk result (string_bytes text.new ≡ string_bytes text.old ++ records_part entry.now.came) }
 {
-    let kept = text_of_record(alloc, &entry.kept)?;
-    let wrote = text_of_record(alloc, &entry.wrote)?;
-    let flight = text_of_record(alloc, &entry.flight)?;
-    writeln!(text, " {kept} {wrote} {flight} - 0")?;
+    let kept = text_of_record(alloc, &entry.came.kept)?;
+    let wrote = text_of_record(alloc, &entry.came.wrote)?;
+    let flight = text_of_record(alloc, &entry.came.flight)?;
+    write!(text, " {kept} {wrote} {flight}")?;
+    Ok(())
+}
+
+fn push_sends(alloc: Global, text: &mut String, came: &Came) -> Mem<()>
+    ensures { OnOk result (string_bytes text.new ≡ string_bytes text.old ++ sends_part came.now) }
+{
+    let sends = text_of_sends(alloc, came.sends.as_slice())?;
+    let dropped = came.dropped;
+    writeln!(text, " {sends} {dropped}")?;
+    Ok(())
+}
+
+fn text_of_sends(alloc: Global, sends: &[(SiteId, Packet)]) -> Mem<String>
+    ensures { IfOk result (λ text. string_bytes text ≡ sends_text sends.now) }
+{
+    let mut pieces = Vec::new(alloc);
+    for (to, packet) in sends {
+        push_send(alloc, &mut pieces, *to, packet)?;
+    }
+    list_of(alloc, &pieces)
+}
+
+fn push_send(alloc: Global, pieces: &mut Vec<String>, to: SiteId, packet: &Packet) -> Mem<()>
+    ensures { OnOk result
+        (map string_bytes pieces.new.items ≡ map string_bytes pieces.old.items ++ send_text (to, packet.now) ∷ []) }
+{
+    let to = to.0;
+    let word = word_of_packet(packet);
+    pieces.push(format!(in alloc; "{to}:{word}")?)?;
     Ok(())
 }
 
@@ -110,14 +142,42 @@ fn text_of_call(alloc: Global, client: u32, word: &str) -> Mem<String>
     Ok(format!(in alloc; "call:{client}:{word}")?)
 }
 
-fn text_of_event(alloc: Global, event: &TrailEvent) -> Mem<String>
+fn text_of_event(alloc: Global, event: &Event) -> Mem<String>
     ensures { IfOk result (λ text. string_bytes text ≡ event_text event.now) }
 {
     match event {
-        TrailEvent::Call { client, call } => text_of_call(alloc, *client, word_of_call(call)),
-        TrailEvent::Stop => Ok(format!(in alloc; "stop")?),
-        TrailEvent::Restart => Ok(format!(in alloc; "restart")?),
+        Event::Given(input) => text_of_input(alloc, input),
+        Event::Stop => Ok(format!(in alloc; "stop")?),
+        Event::Restart => Ok(format!(in alloc; "restart")?),
     }
+}
+
+fn text_of_input(alloc: Global, input: &Input) -> Mem<String>
+    ensures { IfOk result (λ text. string_bytes text ≡ input_text input.now) }
+{
+    match input {
+        Input::Call { client, call } => text_of_call(alloc, *client, word_of_call(call)),
+        Input::Deliver {
+            from,
+            number,
+            packet,
+        } => text_of_delivery(alloc, from.0, *number, word_of_packet(packet)),
+        Input::Advance { from } => text_of_advance(alloc, from.0),
+        Input::Tick => Ok(format!(in alloc; "tick")?),
+    }
+}
+
+fn text_of_delivery(alloc: Global, from: u8, number: u32, word: &str) -> Mem<String>
+    ensures { IfOk result (λ text. string_bytes text
+        ≡ codes "deliver:" ++ decimal from ++ codes ":" ++ decimal number ++ codes ":" ++ word.now) }
+{
+    Ok(format!(in alloc; "deliver:{from}:{number}:{word}")?)
+}
+
+fn text_of_advance(alloc: Global, from: u8) -> Mem<String>
+    ensures { IfOk result (λ text. string_bytes text ≡ codes "advance:" ++ decimal from) }
+{
+    Ok(format!(in alloc; "advance:{from}")?)
 }
 
 fn text_of_outcome(alloc: Global, outcome: &Outcome) -> Mem<String>

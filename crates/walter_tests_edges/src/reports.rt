@@ -1,5 +1,6 @@
-ghost use Rattle.std.specs.Prelude.{◌↔◌, IsTrue, IfSome, All};
+ghost use Rattle.std.specs.Prelude.{◌↔◌, ◌<◌, ◌≤◌, IsTrue, IfSome, All};
 ghost use Rattle.walter_base.specs.Sizes.{CanBeRecorded};
+ghost use Rattle.walter_base.specs.Vectors.{most_sites};
 ghost use Rattle.walter_reply.specs.Replies.{FitsFrame};
 ghost use Rattle.walter_report.specs.Reports.{reply_in, HaveFrames};
 ghost use Rattle.walter_report.specs.Traces.{HasSpellings, HaveSpellings};
@@ -7,16 +8,22 @@ ghost use Rattle.walter_report.specs.Traces.{HasSpellings, HaveSpellings};
 use std::alloc::Global;
 use std::test::Fail;
 use walter_base::{
-    BadFrame, Bytes, Call, Catalog, Kind, Mem, ObjId, Record, Refusal, Reply, Request, SiteId, Tid,
-    Tx, Updates, Version, Vts,
+    Answer, BadFrame, Bytes, Call, Catalog, Kind, Mem, ObjId, Packet, Record, Refusal, Reply,
+    Request, Sends, SiteId, Tid, Tx, Updates, Version, Vts,
 };
 use walter_report::{as_it_stands, report, trace};
+use walter_rules::{Came, Entry, Event, Input, Outcome};
 use walter_scenario::{Arms, COMMON_CAPACITY, Client, Clients, Scenario, Steps};
-use walter_trail::{Entry, Outcome, Trail, TrailEvent};
+use walter_trail::Trail;
 
 const SITE: SiteId = SiteId(0);
 
-fn scenario(alloc: Global, clients: usize) -> Result<Scenario, Fail> {
+const OTHER: SiteId = SiteId(1);
+
+fn scenario(alloc: Global, sites: u8, clients: usize) -> Result<Scenario, Fail>
+    requires some { 0 < sites }
+    requires most { sites ≤ most_sites }
+{
     let mut list = Vec::new(alloc);
     for _ in 0..clients {
         list.push(Client {
@@ -25,7 +32,7 @@ fn scenario(alloc: Global, clients: usize) -> Result<Scenario, Fail> {
         })?;
     }
     Ok(Scenario {
-        catalog: Catalog::build(alloc, 1, 0, &[(1, Kind::Regular, SITE)])?,
+        catalog: Catalog::build(alloc, sites, sites - 1, &[(1, Kind::Regular, SITE)])?,
         clients: Clients::from(list),
         capacity: COMMON_CAPACITY,
         arms: Arms::from(Vec::new(alloc)),
@@ -33,36 +40,106 @@ fn scenario(alloc: Global, clients: usize) -> Result<Scenario, Fail> {
     })
 }
 
+fn nothing(alloc: Global) -> Sends {
+    Sends::from(Vec::new(alloc))
+}
+
+fn both(alloc: Global, to: SiteId, first: Packet, second: Packet) -> Mem<Sends> {
+    Ok(Sends::from(vec![in alloc; (to, first), (to, second)]?))
+}
+
 /// An entry that isn't a call, with the epochs of the boots that it kept, wrote and left in flight.
-fn happened(stamp: u64, event: TrailEvent, outcome: Outcome, boots: [Option<u32>; 3]) -> Entry {
+fn happened(
+    alloc: Global,
+    stamp: u64,
+    event: Event,
+    outcome: Outcome,
+    boots: [Option<u32>; 3],
+) -> Entry {
     let [kept, wrote, flight] = boots;
     Entry {
         stamp,
         event,
-        outcome,
-        kept: kept.map(Record::Boot),
-        wrote: wrote.map(Record::Boot),
-        flight: flight.map(Record::Boot),
+        came: Came {
+            outcome,
+            kept: kept.map(Record::Boot),
+            wrote: wrote.map(Record::Boot),
+            flight: flight.map(Record::Boot),
+            sends: nothing(alloc),
+            dropped: 0,
+        },
     }
 }
 
-fn opening() -> Entry {
+fn opening(alloc: Global) -> Entry {
     happened(
+        alloc,
         1,
-        TrailEvent::Restart,
+        Event::Restart,
         Outcome::Taken,
         [None, Some(1), None],
     )
 }
 
-fn answered(client: u32, call: Call, reply: Reply, wrote: Option<Record>) -> Entry {
+fn answered(alloc: Global, client: u32, call: Call, reply: Reply, wrote: Option<Record>) -> Entry {
     Entry {
         stamp: 2,
-        event: TrailEvent::Call { client, call },
-        outcome: Outcome::Replied(reply),
-        kept: None,
-        wrote,
-        flight: None,
+        event: Event::Given(Input::Call { client, call }),
+        came: Came {
+            outcome: Outcome::Replied(reply),
+            kept: None,
+            wrote,
+            flight: None,
+            sends: nothing(alloc),
+            dropped: 0,
+        },
+    }
+}
+
+/// What is given to a site, with what was put out and how many packets were lost.
+fn given(
+    stamp: u64,
+    input: Input,
+    outcome: Outcome,
+    wrote: Option<Record>,
+    sends: Sends,
+    dropped: u64,
+) -> Entry {
+    Entry {
+        stamp,
+        event: Event::Given(input),
+        came: Came {
+            outcome,
+            kept: None,
+            wrote,
+            flight: None,
+            sends,
+            dropped,
+        },
+    }
+}
+
+fn journaled(alloc: Global, record: Record) -> Entry {
+    given(
+        2,
+        Input::Tick,
+        Outcome::Taken,
+        Some(record),
+        nothing(alloc),
+        0,
+    )
+}
+
+fn empty_tx(alloc: Global, site: SiteId) -> Tx {
+    Tx {
+        tid: Tid {
+            site,
+            epoch: 1,
+            number: 1,
+        },
+        slow: 0,
+        start: Vts::zero(1),
+        updates: Updates::from(Vec::new(alloc)),
     }
 }
 
@@ -78,16 +155,16 @@ fn fits(reply: &Reply) -> bool
 }
 
 fn has_frame(entry: &Entry) -> bool
-    ensures { IsTrue result ↔ All FitsFrame (reply_in entry.now.outcome) }
+    ensures { IsTrue result ↔ All FitsFrame (reply_in entry.now.came.outcome) }
 {
-    match &entry.outcome {
+    match &entry.came.outcome {
         Outcome::Replied(reply) => fits(reply),
         _ => true,
     }
 }
 
 fn has_frames(trail: &Trail) -> bool
-    ensures { IsTrue result ↔ All (λ e. All FitsFrame (reply_in e.outcome)) trail.now }
+    ensures { IsTrue result ↔ All (λ e. All FitsFrame (reply_in e.came.outcome)) trail.now }
 {
     trail.as_slice().iter().all(has_frame)
 }
@@ -98,19 +175,17 @@ fn have_frames(trails: &[Trail]) -> bool
     trails.iter().all(has_frames)
 }
 
-// A boot has a spelling whatever its epoch is.
-fn is_at_most_a_boot(found: &Option<Record>) -> bool
+// These have a spelling whatever their numbers are.
+fn is_short(found: &Option<Record>) -> bool
     ensures { IsTrue result → IfSome found.now CanBeRecorded }
 {
-    matches!(found, None | Some(Record::Boot(_)))
+    matches!(found, None | Some(Record::Boot(_) | Record::Seen(_, _)))
 }
 
 fn has_spellings(entry: &Entry) -> bool
     ensures { IsTrue result → HasSpellings entry.now }
 {
-    is_at_most_a_boot(&entry.kept)
-        && is_at_most_a_boot(&entry.wrote)
-        && is_at_most_a_boot(&entry.flight)
+    is_short(&entry.came.kept) && is_short(&entry.came.wrote) && is_short(&entry.came.flight)
 }
 
 fn all_have_spellings(trail: &Trail) -> bool
@@ -125,19 +200,38 @@ fn have_spellings(trails: &[Trail]) -> bool
     trails.iter().all(all_have_spellings)
 }
 
-/// Whether this is the report of a scenario with so many clients and of a trail.
+/// Whether this is the report of a scenario with so many sites and clients, and of trails.
+fn are_reported(
+    alloc: Global,
+    sites: u8,
+    clients: usize,
+    trails: &[Trail],
+    text: &str,
+) -> Result<bool, Fail>
+    requires some { 0 < sites }
+    requires most { sites ≤ most_sites }
+{
+    if !have_frames(trails) {
+        return Err("each reply has a frame".into());
+    }
+    let reported = report(alloc, &scenario(alloc, sites, clients)?, trails)?;
+    Ok(reported.as_slice() == text.as_bytes())
+}
+
+/// Whether this is the report of a scenario with one site and so many clients, and of a trail.
 fn is_reported(
     alloc: Global,
     clients: usize,
     entries: Vec<Entry>,
     text: &str,
 ) -> Result<bool, Fail> {
-    let trails = vec![in alloc; Trail::from(entries)]?;
-    if !have_frames(&trails) {
-        return Err("each reply has a frame".into());
-    }
-    let reported = report(alloc, &scenario(alloc, clients)?, &trails)?;
-    Ok(reported.as_slice() == text.as_bytes())
+    are_reported(
+        alloc,
+        1,
+        clients,
+        &vec![in alloc; Trail::from(entries)]?,
+        text,
+    )
 }
 
 #[test]
@@ -149,22 +243,22 @@ fn a_report_has_a_line_for_each_client_and_site(rt: HostRuntime) -> Result<(), F
         epoch: 1,
         number: 1,
     };
-    let tx = Tx {
-        tid,
-        slow: 0,
-        start: Vts::zero(1),
-        updates: Updates::from(Vec::new(alloc)),
-    };
     let version = Version { site: SITE, seq: 1 };
     let hello = Reply::Value(Some(Bytes::from_slice(alloc, b"hello")?));
     let bad = Reply::Refused(Refusal::BadFrame { at: 1 });
-    let own = Some(Record::Own(1, tx));
+    let own = Some(Record::Own(1, empty_tx(alloc, SITE)));
     let entries = vec![in alloc;
-        opening(),
-        answered(1, Ok(Request::Start), Reply::Started(tid), None),
-        answered(0, Err(BadFrame { at: 1 }), bad, None),
-        answered(1, Ok(Request::Start), hello, None),
-        answered(1, Ok(Request::Commit), Reply::Committed(version), own),
+        opening(alloc),
+        answered(alloc, 1, Ok(Request::Start), Reply::Started(tid), None),
+        answered(alloc, 0, Err(BadFrame { at: 1 }), bad, None),
+        answered(alloc, 1, Ok(Request::Start), hello, None),
+        answered(
+            alloc,
+            1,
+            Ok(Request::Commit),
+            Reply::Committed(version),
+            own
+        ),
     ]?;
     let text = "sites 1 f 0 clients 3\n\
         client 0 site 0 replies 1 00000006e00800000001\n\
@@ -174,32 +268,33 @@ fn a_report_has_a_line_for_each_client_and_site(rt: HostRuntime) -> Result<(), F
         site 0 up epoch 1 events 5 records 2 got 1 committed 1 log 0:1\n";
     assert!(rt; is_reported(alloc, 3, entries, text)?);
     let entries = vec![in alloc;
-        opening(),
-        happened(2, TrailEvent::Stop, Outcome::Taken, [None; 3]),
-        happened(3, TrailEvent::Restart, Outcome::Failed, [None; 3]),
-        happened(4, TrailEvent::Stop, Outcome::Down, [None; 3]),
+        opening(alloc),
+        happened(alloc, 2, Event::Stop, Outcome::Taken, [None; 3]),
+        happened(alloc, 3, Event::Restart, Outcome::Failed, [None; 3]),
+        happened(alloc, 4, Event::Stop, Outcome::Down, [None; 3]),
     ]?;
     let text =
         "sites 1 f 0 clients 0\nsite 0 down epoch 1 events 4 records 1 got 0 committed 0 log -\n";
     assert!(rt; is_reported(alloc, 0, entries, text)?, "behind a stop");
     let entries = vec![in alloc;
-        opening(),
-        happened(2, TrailEvent::Stop, Outcome::Taken, [None; 3]),
+        opening(alloc),
+        happened(alloc, 2, Event::Stop, Outcome::Taken, [None; 3]),
         happened(
+            alloc,
             3,
-            TrailEvent::Restart,
+            Event::Restart,
             Outcome::Taken,
             [Some(2), Some(3), None]
         ),
-        happened(4, TrailEvent::Restart, Outcome::Passed, [None; 3]),
+        happened(alloc, 4, Event::Restart, Outcome::Passed, [None; 3]),
     ]?;
     let text =
         "sites 1 f 0 clients 0\nsite 0 up epoch 3 events 4 records 3 got 0 committed 0 log -\n";
     assert!(rt; is_reported(alloc, 0, entries, text)?, "behind a restart");
-    let unsure = answered(0, Ok(Request::Commit), Reply::Unsure(tid), None);
+    let unsure = answered(alloc, 0, Ok(Request::Commit), Reply::Unsure(tid), None);
     let text =
         "sites 1 f 0 clients 0\nsite 0 down epoch 1 events 2 records 1 got 0 committed 0 log -\n";
-    let entries = vec![in alloc; opening(), unsure]?;
+    let entries = vec![in alloc; opening(alloc), unsure]?;
     assert!(rt; is_reported(alloc, 0, entries, text)?, "behind a fault");
     Ok(())
 }
@@ -221,17 +316,17 @@ fn a_trace_has_a_line_for_each_entry(rt: HostRuntime) -> Result<(), Fail> {
     let level = Reply::Refused(Refusal::NotIssued);
     let boots = [Some(2), None, Some(3)];
     let entries = vec![in alloc;
-        opening(),
-        answered(7, Err(BadFrame { at: 1 }), bad, None),
-        answered(0, Ok(Request::Level(tid)), level, None),
-        answered(0, Ok(Request::SetAdd(set, 9)), Reply::Done, None),
-        answered(0, Ok(Request::SetDel(set, 9)), Reply::Done, None),
-        answered(0, Ok(Request::SetRead(set)), Reply::Ended, None),
-        answered(0, Ok(Request::SetReadId(set, 9)), Reply::Ended, None),
-        happened(4, TrailEvent::Stop, Outcome::Taken, [None; 3]),
-        happened(5, TrailEvent::Stop, Outcome::Down, [None; 3]),
-        happened(6, TrailEvent::Restart, full, [None; 3]),
-        happened(7, TrailEvent::Restart, Outcome::Failed, boots),
+        opening(alloc),
+        answered(alloc, 7, Err(BadFrame { at: 1 }), bad, None),
+        answered(alloc, 0, Ok(Request::Level(tid)), level, None),
+        answered(alloc, 0, Ok(Request::SetAdd(set, 9)), Reply::Done, None),
+        answered(alloc, 0, Ok(Request::SetDel(set, 9)), Reply::Done, None),
+        answered(alloc, 0, Ok(Request::SetRead(set)), Reply::Ended, None),
+        answered(alloc, 0, Ok(Request::SetReadId(set, 9)), Reply::Ended, None),
+        happened(alloc, 4, Event::Stop, Outcome::Taken, [None; 3]),
+        happened(alloc, 5, Event::Stop, Outcome::Down, [None; 3]),
+        happened(alloc, 6, Event::Restart, full, [None; 3]),
+        happened(alloc, 7, Event::Restart, Outcome::Failed, boots),
     ]?;
     let trails = vec![in alloc; Trail::from(entries)]?;
     assert!(rt; have_frames(&trails) && have_spellings(&trails));
@@ -249,6 +344,91 @@ fn a_trace_has_a_line_for_each_entry(rt: HostRuntime) -> Result<(), Fail> {
         e 5 0 stop down - - - - 0\n\
         e 6 0 restart full:10:9 - - - - 0\n\
         e 7 0 restart failed 0100000002 - 0100000003 - 0\n"
+    );
+    Ok(())
+}
+
+#[test]
+fn a_site_counts_the_commits_of_each_site(rt: HostRuntime) -> Result<(), Fail> {
+    let alloc = rt.alloc();
+    let first = vec![in alloc;
+        opening(alloc),
+        journaled(alloc, Record::Own(1, empty_tx(alloc, SITE))),
+        journaled(alloc, Record::Got(OTHER, 1, empty_tx(alloc, OTHER))),
+        journaled(alloc, Record::Seen(OTHER, 1)),
+        journaled(alloc, Record::Own(2, empty_tx(alloc, SITE))),
+        journaled(alloc, Record::Got(OTHER, 2, empty_tx(alloc, OTHER))),
+    ]?;
+    let mut second = vec![in alloc;
+        opening(alloc),
+        journaled(alloc, Record::Got(SITE, 1, empty_tx(alloc, SITE))),
+        journaled(alloc, Record::Got(SITE, 2, empty_tx(alloc, SITE))),
+    ]?;
+    let mut restart = journaled(alloc, Record::Boot(2));
+    restart.came.kept = Some(Record::Own(1, empty_tx(alloc, OTHER)));
+    second.push(restart)?;
+    let trails = vec![in alloc; Trail::from(first), Trail::from(second)]?;
+    let text = "sites 2 f 1 clients 0\n\
+        site 0 up epoch 1 events 6 records 6 got 2,2 committed 2,1 log 0:1,1:1,0:2\n\
+        site 1 up epoch 2 events 4 records 5 got 2,1 committed 0,1 log 1:1\n";
+    assert!(rt; are_reported(alloc, 2, 0, &trails, text)?);
+    Ok(())
+}
+
+#[test]
+fn a_trace_has_the_packets_of_each_entry(rt: HostRuntime) -> Result<(), Fail> {
+    let alloc = rt.alloc();
+    let said = both(alloc, OTHER, Packet::Ack(2), Packet::Dsmark(3))?;
+    let shown = both(alloc, OTHER, Packet::Visible(1), Packet::Released(4))?;
+    let from_other = Input::Advance { from: OTHER };
+    let first = vec![in alloc;
+        opening(alloc),
+        given(2, Input::Tick, Outcome::Passed, None, said, 1),
+        given(
+            3,
+            from_other,
+            Outcome::Taken,
+            Some(Record::Seen(OTHER, 1)),
+            shown,
+            0
+        ),
+    ]?;
+    let voted = both(
+        alloc,
+        SITE,
+        Packet::Vote(9, Answer::Yes),
+        Packet::Release(8),
+    )?;
+    let delivery = Input::Deliver {
+        from: SITE,
+        number: 7,
+        packet: Packet::Ack(2),
+    };
+    let second = vec![in alloc;
+        opening(alloc),
+        given(
+            2,
+            delivery,
+            Outcome::Taken,
+            Some(Record::Seen(SITE, 5)),
+            voted,
+            20
+        ),
+    ]?;
+    let trails = vec![in alloc; Trail::from(first), Trail::from(second)]?;
+    let text = "sites 2 f 1 clients 0\n\
+        site 0 up epoch 1 events 3 records 2 got 0,0 committed 0,1 log 1:1\n\
+        site 1 up epoch 1 events 2 records 2 got 0,0 committed 1,0 log 0:5\n";
+    assert!(rt; are_reported(alloc, 2, 0, &trails, text)?);
+    assert!(rt; have_frames(&trails) && have_spellings(&trails));
+    let text = trace(alloc, &trails)?;
+    assert_eq!(rt;
+        str::from_utf8(text.as_slice())?,
+        "e 1 0 restart taken - 0100000001 - - 0\n\
+        e 1 1 restart taken - 0100000001 - - 0\n\
+        e 2 0 tick passed - - - 1:ack,1:dsmark 1\n\
+        e 2 1 deliver:0:7:ack taken - 04000000000000000005 - 0:vote,0:release 20\n\
+        e 3 0 advance:1 taken - 04010000000000000001 - 1:visible,1:released 0\n"
     );
     Ok(())
 }

@@ -1,4 +1,2 @@
-pub mod ConflictNamed
 pub mod MergeOrder
 pub mod NamedEntries
-pub mod Replayed

@@ -3,7 +3,7 @@ use Rattle.std.proofs.Common.{◌≡◌, ℕ, suc, get_or, ◌+◌, Bool, true, 
 use Rattle.std.specs.List.Sorted.{IsSortedBy, IsStableBy, ties}
 use Rattle.std.specs.Ordering.{is_lt, nat_cmp, ordering_then}
 use Rattle.std.proofs.lemmas.Bool.Decides.{nat_tests}
-use Rattle.walter_trail.specs.Merges.{Named, precedes, placed, in_order}
+use Rattle.walter_rules.specs.Merges.{Named, precedes, placed, in_order}
 
 -- what a sort goes by: the stamp, then the site
 abbrev pub stamped : Named → ℕ × ℕ

@@ -2,8 +2,8 @@
 use Rattle.std.proofs.Common.{◌≡◌, ℕ, suc, ◌+◌, ◌<◌, ◌≤◌, List, ◌∷◌, ◌++◌, length, map, drop, get_or, add-one, append_assoc, append-nil, ap, sym, ◌∙◌}
 use Rattle.std.proofs.Math.Seq.{drop-cons}
 use Rattle.std.proofs.lemmas.List.{drop_all}
-use Rattle.walter_trail.specs.declared.trail.Entry.{Entry}
-use Rattle.walter_trail.specs.Merges.{Named, named_from}
+use Rattle.walter_rules.specs.declared.entry.Entry.{Entry}
+use Rattle.walter_rules.specs.Merges.{Named, named_from}
 
 -- the entries of one more trail
 pub named_more : (all done more : List Named) (trails : List (List Entry)) (i : ℕ) (trail : List Entry) → i < length trails → trail ≡ get_or trails i trail

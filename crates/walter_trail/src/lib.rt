@@ -1,12 +1,9 @@
-//! The trail of a site: what happened there, what it knows by it, and the rules that a right trail follows.
+//! The trail of a site as data: its entries in order, and the merge of the trails of all sites.
 #![tactic(auto)]
 
-mod held;
-mod laws;
+mod copying;
 mod merging;
 mod trail;
 
-pub use held::Held;
-pub use laws::conflicts_are_named;
 pub use merging::{Merged, merge};
-pub use trail::{Entry, Outcome, Trail, TrailEvent};
+pub use trail::Trail;

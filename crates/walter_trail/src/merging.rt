@@ -1,11 +1,13 @@
 ghost use Rattle.std.specs.Prelude.{◌≡◌, ◌++◌, ◌<◌, ◌≤◌, length, map, IfOk, OnOk};
-ghost use Rattle.walter_trail.specs.Merges.{merge as merge_of};
+ghost use Rattle.walter_rules.specs.Merges.{merge as merge_of};
 ghost use Rattle.walter_base.specs.Vectors.{most_sites};
 
-use crate::trail::{Entry, Trail};
+use crate::copying::copy_entry;
+use crate::trail::Trail;
 use std::alloc::Global;
 use std::marker::Model;
 use walter_base::{Mem, SiteId};
+use walter_rules::Entry;
 
 /// The entries of several sites, each with its site. Contracts see the list of them.
 #[derive(Debug, Drop)]
@@ -15,7 +17,7 @@ pub struct Merged {
 
 impl Model for Merged {
     ghost use Rattle.std.specs.Prelude.{List};
-    ghost use Rattle.walter_trail.specs.Merges.{Named};
+    ghost use Rattle.walter_rules.specs.Merges.{Named};
 
     ghost Value = { List Named };
 
@@ -37,7 +39,7 @@ fn add_trail(entries: &mut Vec<(SiteId, Entry)>, site: SiteId, trail: &Trail) ->
     ensures { OnOk result (entries.new.items ≡ entries.old.items ++ map (λ e. (site, e)) trail.now) }
 {
     for entry in trail.as_slice() {
-        entries.push((site, entry.clone()?))?;
+        entries.push((site, copy_entry(entry)?))?;
     }
     Ok(())
 }

@@ -5,4 +5,5 @@ use Rattle.walter_report.proofs.sites.push_site_lines.Given as goal
 
 abbrev pub invariant-loop-site : goal.invariant-loop-site
 invariant-loop-site l =
-    string_bytes l.text ++ site_lines l.site (drop l.site l.trails) ≡ string_bytes l.initial.text ++ site_lines 0 l.trails
+    string_bytes l.text ++ site_lines l.sites l.site (drop l.site l.trails)
+    ≡ string_bytes l.initial.text ++ site_lines l.sites 0 l.trails

@@ -7,7 +7,8 @@ use Rattle.walter_report.proofs.traces.trace.Goals as goal
 
 pub push_lines-requires-clause-frames : goal.push_lines-requires-clause-frames
 push_lines-requires-clause-frames c =
-    rw (c.as_slice.ensures, c.in_ok-merged.ensures) (All-merge (λ e. All FitsFrame (reply_in e.outcome)) c.args.trails.now c.requires.frames)
+    rw (c.as_slice.ensures, c.in_ok-merged.ensures)
+    (All-merge (λ e. All FitsFrame (reply_in e.came.outcome)) c.args.trails.now c.requires.frames)
 
 pub push_lines-requires-clause-records : goal.push_lines-requires-clause-records
 push_lines-requires-clause-records c = rw (c.as_slice.ensures, c.in_ok-merged.ensures) (All-merge HasSpellings c.args.trails.now c.requires.records)

@@ -1,6 +1,6 @@
 use Rattle.std.proofs.Common.{◌≡◌, ◌≤◌, length, rules, arith, ap, ◌∙◌}
 use Rattle.std.proofs.lemmas.List.Sorted.{answers_always}
-use Rattle.walter_trail.specs.Merges.{named_from, in_order}
+use Rattle.walter_rules.specs.Merges.{named_from, in_order}
 use Rattle.walter_trail.proofs.MergeOrder.{stamped, sorted_is}
 use Rattle.walter_trail.proofs.NamedEntries.{named_more, named_all}
 use Rattle.walter_trail.proofs.merging.merge.Goals as goal

@@ -1,5 +1,5 @@
 use Rattle.std.proofs.Common.{◌≡◌, ◌++◌, drop}
-use Rattle.walter_trail.specs.Merges.{named_from}
+use Rattle.walter_rules.specs.Merges.{named_from}
 use Rattle.walter_trail.proofs.merging.merge.Given as goal
 
 abbrev pub invariant-loop-site : goal.invariant-loop-site
