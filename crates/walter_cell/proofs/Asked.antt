@@ -1,44 +1,52 @@
--- What a call comes to, whether the site is asked or the call is refused before.
-use Rattle.std.proofs.Common.{◌≡◌, ◌≢◌, ◌≤◌, ◌⊎◌, ℕ, Bool, true, false, Option, Some, None, Result, Ok, Err, refl, ap, sym, ◌∙◌, subst, inl, inr, if◌then◌else◌}
+-- What an input comes to, whether the site is asked or the call is refused before.
+use Rattle.std.proofs.Common.{◌≡◌, ◌⊎◌, ℕ, Bool, true, false, [], Option, Some, None, Result, Ok, Err, refl, ap, sym, ◌∙◌, subst, inl, inr}
 use Rattle.std.specs.Prelude.{IfSome}
 use Rattle.walter_base.specs.declared.catalog.Catalog.{Catalog}
 use Rattle.walter_base.specs.declared.message.BadFrame.{BadFrame as Bad}
 use Rattle.walter_base.specs.declared.message.Record.{Record}
-use Rattle.walter_base.specs.declared.message.Record.TheVariants.{Boot, Own, Got, Seen, Prepared, Released, SlowBegin, SlowEnd, Marks}
 use Rattle.walter_base.specs.declared.message.Refusal.{Refusal}
 use Rattle.walter_base.specs.declared.message.Refusal.TheVariants.{BadFrame, Down as IsDown, Gone as IsGone}
-use Rattle.walter_base.specs.declared.message.Reply.{Reply}
-use Rattle.walter_base.specs.declared.message.Reply.TheVariants.{Started, Value, Done as DoneReply, Set, Count, Committed, Aborted, Deciding, Level, Ended, Unsure, Refused}
+use Rattle.walter_base.specs.declared.message.Reply.TheVariants.{Refused}
 use Rattle.walter_base.specs.declared.message.Request.{Request}
 use Rattle.walter_base.specs.declared.message.Request.TheVariants.{Start, Read, Write, SetAdd, SetDel, SetRead, SetReadId, Commit, Abort, Level as LevelAsked}
 use Rattle.walter_base.specs.declared.names.SiteId.{SiteId}
 use Rattle.walter_base.specs.declared.names.Tid.{Tid}
-use Rattle.walter_base.specs.Sizes.{CanBeRecorded}
 use Rattle.walter_disk.specs.declared.disk.Disk.{Ghosts}
 use Rattle.walter_engine.specs.declared.answers.Stepped.{Stepped}
-use Rattle.walter_engine.specs.declared.answers.Stepped.TheVariants.{Done, Failed, Full, Down, NoMemory}
+use Rattle.walter_engine.specs.declared.answers.Stepped.TheVariants.{Down}
 use Rattle.walter_engine.specs.declared.engine.Engine.{Engine}
 use Rattle.walter_engine.specs.declared.engine.State.{State}
 use Rattle.walter_engine.specs.declared.engine.State.TheVariants as state
 use Rattle.walter_engine.specs.Contents.{CanBeJournaled}
 use Rattle.walter_engine.specs.Engines.{disk_in, is_up, OfDisks, Stands, IsInState}
 use Rattle.walter_engine.specs.States.{is_up_in}
-use Rattle.walter_engine.specs.Steps.{came_of_step, IsSizedStep, IsFaultOfStep}
-use Rattle.walter_site.specs.declared.plan.Input.{Input}
-use Rattle.walter_site.specs.declared.plan.Input.TheVariants.{Call as CallInput}
-use Rattle.walter_site.specs.Sites.{client_of, call_of, event_of}
-use Rattle.walter_trail.specs.declared.trail.Outcome.TheVariants.{Replied}
-use Rattle.walter_trail.specs.declared.trail.TrailEvent.{TrailEvent}
-use Rattle.walter_trail.specs.declared.trail.TrailEvent.TheVariants.{Call}
-use Rattle.walter_trail.specs.Knowledge.{Knowledge, Session, session_of}
-use Rattle.walter_trail.specs.Rule.{Expected, rule, call_rule, if_told, down_rule, refuses}
-use Rattle.walter_trail.specs.Standing.{Standing, Came, stands_after}
-use Rattle.walter_trail.specs.Trails.{Comes, ruled, met_fault, unread, no_memory, full, FitsIn, as_ruled, only}
-use Rattle.walter_cell.specs.declared.handling.Handled.{Handled}
-use Rattle.walter_cell.specs.declared.tie.Tie.{Tie}
-use Rattle.walter_cell.specs.declared.tie.Tie.TheVariants.{Free, Open, Gone}
-use Rattle.walter_cell.specs.Handled.{came, refused_first, FitsFrame, IsSized, is_faulty, RisesIf, IsFaulty}
-use Rattle.walter_cell.specs.Ties.{Binds, IsTied}
+use Rattle.walter_engine.specs.Steps.{only, came_of_step, IsUntold}
+use Rattle.walter_rules.specs.declared.entry.Came.{Came}
+use Rattle.walter_rules.specs.declared.event.Event.{Event}
+use Rattle.walter_rules.specs.declared.event.Event.TheVariants.{Given}
+use Rattle.walter_rules.specs.declared.event.Input.{Input}
+use Rattle.walter_rules.specs.declared.event.Input.TheVariants.{Call, Deliver, Advance, Tick}
+use Rattle.walter_rules.specs.declared.outcome.Outcome.{Outcome}
+use Rattle.walter_rules.specs.declared.outcome.Outcome.TheVariants.{Replied, Down as OutcomeDown}
+use Rattle.walter_rules.specs.Calls.{Expected, call_rule, if_told, refuses}
+use Rattle.walter_rules.specs.Knowledge.{session_of}
+use Rattle.walter_rules.specs.Rule.{rule, rule_where, given_down, is_down}
+use Rattle.walter_rules.specs.Standing.{Standing, stands_after}
+use Rattle.walter_rules.specs.Trails.{Comes, ruled, met_fault, unread, no_memory, full, FitsIn, all_out, IsAsRuled}
+use Rattle.walter_cell.specs.Debts.{IsDebt}
+use Rattle.walter_cell.specs.Handled.{refused_first}
+
+-- ---- an outcome alone, by the rule
+
+abbrev pub expects_only : Outcome → Expected
+expects_only outcome = record { wrote = None; outcome = outcome; sends = [] }
+
+pub comes_only : (catalog : Catalog) (capacity : ℕ) (i : SiteId) (S : Standing) (event : Event) (outcome : Outcome)
+    → rule catalog i S event ≡ expects_only outcome → Comes catalog capacity i S event (only outcome)
+comes_only catalog capacity i S event outcome by_rule =
+    ruled (subst (λ (x : Expected). IfSome x.wrote (FitsIn capacity S)) (sym by_rule) tt)
+    (subst (λ (x : Expected). IsAsRuled S x (only outcome)) (sym by_rule)
+    (record { outcome = refl; wrote = refl; flight = refl; sends = all_out S.carried }))
 
 -- ---- refused before the site is asked
 
@@ -53,84 +61,98 @@ told_level asked (Some tid) x = refl
 same_refusal : (r refusal : Refusal) → Some r ≡ Some refusal → refuses r ≡ refuses refusal
 same_refusal r refusal is = let e : r ≡ refusal = cc in ap refuses e
 
-module _ (catalog : Catalog) (i : SiteId) (K : Knowledge) (refusal : Refusal) where
-  abbrev Ruled : Bool → Result Request Bad → Option Session → Option Tid → Expected
-  Ruled up call session owing = if up then if_told call owing (call_rule catalog i K call session) else down_rule call
+module _ (catalog : Catalog) (i : SiteId) (S : Standing) (client : ℕ) (refusal : Refusal) where
+  abbrev Ruled : Bool → Result Request Bad → Expected
+  Ruled up call = rule_where up catalog i S (Call client call)
 
-  owed_first : (session : Option Session) (owing : Option Tid) (tid : Tid) (request : Request) → owing ≡ Some tid → refused_first true (Gone tid) (Ok request) ≡ Some refusal
-      → Ruled true (Ok request) session (Some tid) ≡ refuses refusal → Ruled true (Ok request) session owing ≡ refuses refusal
-  owed_first session owing tid request owes is told = ap (λ (o : Option Tid). Ruled true (Ok request) session o) owes ∙ told
+  owed_first : (tid : Tid) (request : Request) → S.gone client ≡ Some tid
+      → if_told (Ok request) (Some tid) (call_rule catalog i S.knows (Ok request) (session_of S.knows client)) ≡ refuses refusal
+      → Ruled true (Ok request) ≡ refuses refusal
+  owed_first tid request owes told =
+      ap (λ (o : Option Tid). if_told (Ok request) o (call_rule catalog i S.knows (Ok request) (session_of S.knows client))) owes
+      ∙ told
 
-  ruled_first : (up : Bool) (tie : Tie) (call : Result Request Bad) (session : Option Session) (owing : Option Tid) → Binds session owing tie
-      → refused_first up tie call ≡ Some refusal → Ruled up call session owing ≡ refuses refusal
-  ruled_first true tie (Err bad) session owing binds is = told_bad bad owing (refuses (BadFrame bad.at)) ∙ same_refusal (BadFrame bad.at) refusal is
-  ruled_first false tie (Err bad) session owing binds is = same_refusal (BadFrame bad.at) refusal is
-  ruled_first false tie (Ok request) session owing binds is = same_refusal IsDown refusal is
-  ruled_first true Free (Ok request) session owing binds is = absurd cc
-  ruled_first true (Open tid) (Ok request) session owing binds is = absurd cc
-  ruled_first true (Gone tid) (Ok Start) session owing binds is = owed_first session owing tid Start binds.1 is (same_refusal (IsGone tid) refusal is)
-  ruled_first true (Gone tid) (Ok (Read oid)) session owing binds is = owed_first session owing tid (Read oid) binds.1 is (same_refusal (IsGone tid) refusal is)
-  ruled_first true (Gone tid) (Ok (Write oid bytes)) session owing binds is = owed_first session owing tid (Write oid bytes) binds.1 is (same_refusal (IsGone tid) refusal is)
-  ruled_first true (Gone tid) (Ok (SetAdd oid id)) session owing binds is = owed_first session owing tid (SetAdd oid id) binds.1 is (same_refusal (IsGone tid) refusal is)
-  ruled_first true (Gone tid) (Ok (SetDel oid id)) session owing binds is = owed_first session owing tid (SetDel oid id) binds.1 is (same_refusal (IsGone tid) refusal is)
-  ruled_first true (Gone tid) (Ok (SetRead oid)) session owing binds is = owed_first session owing tid (SetRead oid) binds.1 is (same_refusal (IsGone tid) refusal is)
-  ruled_first true (Gone tid) (Ok (SetReadId oid id)) session owing binds is = owed_first session owing tid (SetReadId oid id) binds.1 is (same_refusal (IsGone tid) refusal is)
-  ruled_first true (Gone tid) (Ok Commit) session owing binds is = owed_first session owing tid Commit binds.1 is (same_refusal (IsGone tid) refusal is)
-  ruled_first true (Gone tid) (Ok Abort) session owing binds is = owed_first session owing tid Abort binds.1 is (same_refusal (IsGone tid) refusal is)
-  ruled_first true (Gone tid) (Ok (LevelAsked asked)) session owing binds is = absurd cc
+  ruled_first : (up : Bool) (debt : Option Tid) (call : Result Request Bad) → S.gone client ≡ debt
+      → refused_first up debt (Call client call) ≡ Some refusal → Ruled up call ≡ refuses refusal
+  ruled_first true debt (Err bad) owes is = told_bad bad (S.gone client) (refuses (BadFrame bad.at)) ∙ same_refusal (BadFrame bad.at) refusal is
+  ruled_first false debt (Err bad) owes is = same_refusal (BadFrame bad.at) refusal is
+  ruled_first false debt (Ok request) owes is = same_refusal IsDown refusal is
+  ruled_first true None (Ok request) owes is = absurd cc
+  ruled_first true (Some tid) (Ok Start) owes is = owed_first tid Start owes (same_refusal (IsGone tid) refusal is)
+  ruled_first true (Some tid) (Ok (Read oid)) owes is = owed_first tid (Read oid) owes (same_refusal (IsGone tid) refusal is)
+  ruled_first true (Some tid) (Ok (Write oid bytes)) owes is = owed_first tid (Write oid bytes) owes (same_refusal (IsGone tid) refusal is)
+  ruled_first true (Some tid) (Ok (SetAdd oid id)) owes is = owed_first tid (SetAdd oid id) owes (same_refusal (IsGone tid) refusal is)
+  ruled_first true (Some tid) (Ok (SetDel oid id)) owes is = owed_first tid (SetDel oid id) owes (same_refusal (IsGone tid) refusal is)
+  ruled_first true (Some tid) (Ok (SetRead oid)) owes is = owed_first tid (SetRead oid) owes (same_refusal (IsGone tid) refusal is)
+  ruled_first true (Some tid) (Ok (SetReadId oid id)) owes is = owed_first tid (SetReadId oid id) owes (same_refusal (IsGone tid) refusal is)
+  ruled_first true (Some tid) (Ok Commit) owes is = owed_first tid Commit owes (same_refusal (IsGone tid) refusal is)
+  ruled_first true (Some tid) (Ok Abort) owes is = owed_first tid Abort owes (same_refusal (IsGone tid) refusal is)
+  ruled_first true (Some tid) (Ok (LevelAsked asked)) owes is = absurd cc
 
-pub comes_refused : (catalog : Catalog) (capacity : ℕ) (i : SiteId) (S : Standing) (input : Input) (tie : Tie) (refusal : Refusal) → IsTied S (client_of input) tie
-    → refused_first S.up tie (call_of input) ≡ Some refusal → Comes catalog capacity i S (event_of input) (only (Replied (Refused refusal)))
-comes_refused catalog capacity i S (CallInput client call) tie refusal tied is =
-    let by_rule : rule catalog i S (Call client call) ≡ refuses refusal =
-    ruled_first catalog i S.knows refusal S.up tie call (session_of S.knows client) (S.gone client) tied is in
-    ruled (subst (λ (x : Expected). IfSome x.wrote (FitsIn capacity S)) (sym by_rule) tt) (ap as_ruled (sym by_rule))
+pub comes_refused : (catalog : Catalog) (capacity : ℕ) (i : SiteId) (S : Standing) (input : Input) (debt : Option Tid) (refusal : Refusal)
+    → IsDebt S input debt → refused_first S.up debt input ≡ Some refusal
+    → Comes catalog capacity i S (Given input) (only (Replied (Refused refusal)))
+comes_refused catalog capacity i S (Call client call) debt refusal owes is =
+    comes_only catalog capacity i S (Given (Call client call)) (Replied (Refused refusal))
+    (ruled_first catalog i S client refusal S.up debt call owes is)
+comes_refused catalog capacity i S (Deliver from number packet) debt refusal owes is = absurd cc
+comes_refused catalog capacity i S (Advance from) debt refusal owes is = absurd cc
+comes_refused catalog capacity i S Tick debt refusal owes is = absurd cc
 
 -- ---- the site is asked
 
 -- the site is up, and the client is owed nothing or asks for a Level
-abbrev IsAsked : Bool → Option Tid → Result Request Bad → Type 0
+abbrev pub IsAsked : Bool → Option Tid → Result Request Bad → Type 0
 IsAsked up owing call = (up ≡ true) × ((owing ≡ None) ⊎ ((tid : Tid) × (call ≡ Ok (LevelAsked tid))))
 
-asked : (up : Bool) (tie : Tie) (call : Result Request Bad) (session : Option Session) (owing : Option Tid) → Binds session owing tie
-    → refused_first up tie call ≡ None → IsAsked up owing call
-asked up tie (Err bad) session owing binds is = absurd cc
-asked false tie (Ok request) session owing binds is = absurd cc
-asked true Free (Ok request) session owing binds is = (refl, inl binds.1)
-asked true (Open tid) (Ok request) session owing binds is = (refl, inl binds.1)
-asked true (Gone tid) (Ok Start) session owing binds is = absurd cc
-asked true (Gone tid) (Ok (Read oid)) session owing binds is = absurd cc
-asked true (Gone tid) (Ok (Write oid bytes)) session owing binds is = absurd cc
-asked true (Gone tid) (Ok (SetAdd oid id)) session owing binds is = absurd cc
-asked true (Gone tid) (Ok (SetDel oid id)) session owing binds is = absurd cc
-asked true (Gone tid) (Ok (SetRead oid)) session owing binds is = absurd cc
-asked true (Gone tid) (Ok (SetReadId oid id)) session owing binds is = absurd cc
-asked true (Gone tid) (Ok Commit) session owing binds is = absurd cc
-asked true (Gone tid) (Ok Abort) session owing binds is = absurd cc
-asked true (Gone tid) (Ok (LevelAsked of)) session owing binds is = (refl, inr (of, refl))
+pub asked : (up : Bool) (client : ℕ) (debt owing : Option Tid) (call : Result Request Bad) → owing ≡ debt
+    → refused_first up debt (Call client call) ≡ None → IsAsked up owing call
+asked true client debt owing (Err bad) owes is = absurd cc
+asked false client debt owing (Err bad) owes is = absurd cc
+asked false client debt owing (Ok request) owes is = absurd cc
+asked true client None owing (Ok request) owes is = (refl, inl owes)
+asked true client (Some tid) owing (Ok Start) owes is = absurd cc
+asked true client (Some tid) owing (Ok (Read oid)) owes is = absurd cc
+asked true client (Some tid) owing (Ok (Write oid bytes)) owes is = absurd cc
+asked true client (Some tid) owing (Ok (SetAdd oid id)) owes is = absurd cc
+asked true client (Some tid) owing (Ok (SetDel oid id)) owes is = absurd cc
+asked true client (Some tid) owing (Ok (SetRead oid)) owes is = absurd cc
+asked true client (Some tid) owing (Ok (SetReadId oid id)) owes is = absurd cc
+asked true client (Some tid) owing (Ok Commit) owes is = absurd cc
+asked true client (Some tid) owing (Ok Abort) owes is = absurd cc
+asked true client (Some tid) owing (Ok (LevelAsked of)) owes is = (refl, inr (of, refl))
 
--- as it stands, with these debts
-abbrev owing_these : (ℕ → Option Tid) → Standing → Standing
-owing_these gone S = record { up = S.up; knows = S.knows; records = S.records; flight = S.flight; gone = gone }
+-- as it stands, with these debts, and lanes that have carried so much
+abbrev pub owing_these : (ℕ → Option Tid) → (SiteId → ℕ) → Standing → Standing
+owing_these gone carried S = record S { gone = gone; carried = carried }
 
-abbrev owing_none : Standing → Standing
-owing_none S = owing_these (λ client. None) S
+abbrev pub owing_none : Standing → Standing
+owing_none S = owing_these (λ client. None) S.carried S
 
 -- an event that goes by the same rule may come to the same
-comes_owing : (catalog : Catalog) (capacity : ℕ) (i : SiteId) (S : Standing) (event : TrailEvent) (came : Came)
-    → rule catalog i (owing_none S) event ≡ rule catalog i S event → Comes catalog capacity i (owing_none S) event came → Comes catalog capacity i S event came
+comes_owing : (catalog : Catalog) (capacity : ℕ) (i : SiteId) (S : Standing) (event : Event) (came : Came)
+    → rule catalog i (owing_none S) event ≡ rule catalog i S event
+    → Comes catalog capacity i (owing_none S) event came → Comes catalog capacity i S event came
 comes_owing catalog capacity i S event came same (ruled fits is) =
-    ruled (subst (λ (x : Expected). IfSome x.wrote (FitsIn capacity S)) same fits) (is ∙ ap as_ruled same)
-comes_owing catalog capacity i S event came same (met_fault rec brings fits is) = met_fault rec (ap (λ (x : Expected). x.wrote) (sym same) ∙ brings) fits is
+    ruled (subst (λ (x : Expected). IfSome x.wrote (FitsIn capacity S)) same fits)
+    (subst (λ (x : Expected). IsAsRuled S x came) same
+    (record { outcome = is.outcome; wrote = is.wrote; flight = is.flight; sends = is.sends }))
+comes_owing catalog capacity i S event came same (met_fault rec brings fits is) =
+    met_fault rec (ap (λ (x : Expected). x.wrote) (sym same) ∙ brings) fits is
 comes_owing catalog capacity i S event came same (unread restart down is) = unread restart down is
 comes_owing catalog capacity i S event came same (no_memory takes is) = no_memory takes is
-comes_owing catalog capacity i S event came same (full rec brings much is) = full rec (ap (λ (x : Expected). x.wrote) (sym same) ∙ brings) much is
+comes_owing catalog capacity i S event came same (full rec brings much is) =
+    full rec (ap (λ (x : Expected). x.wrote) (sym same) ∙ brings) much is
+
+level_where : (up : Bool) (catalog : Catalog) (i : SiteId) (S : Standing) (client : ℕ) (tid : Tid)
+    → rule_where up catalog i (owing_none S) (Call client (Ok (LevelAsked tid))) ≡ rule_where up catalog i S (Call client (Ok (LevelAsked tid)))
+level_where true catalog i S client tid =
+    sym (told_level tid (S.gone client) (call_rule catalog i S.knows (Ok (LevelAsked tid)) (session_of S.knows client)))
+level_where false catalog i S client tid = refl
 
 level_rule : (catalog : Catalog) (i : SiteId) (S : Standing) (client : ℕ) (tid : Tid)
-    → rule catalog i (owing_none S) (Call client (Ok (LevelAsked tid))) ≡ rule catalog i S (Call client (Ok (LevelAsked tid)))
-level_rule catalog i S client tid =
-    ap (λ (x : Expected). if S.up then x else down_rule (Ok (LevelAsked tid)))
-    (sym (told_level tid (S.gone client) (call_rule catalog i S.knows (Ok (LevelAsked tid)) (session_of S.knows client))))
+    → rule catalog i (owing_none S) (Given (Call client (Ok (LevelAsked tid)))) ≡ rule catalog i S (Given (Call client (Ok (LevelAsked tid))))
+level_rule catalog i S client tid = level_where S.up catalog i S client tid
 
 module _ {D : Type 0} {g : Ghosts D} where
   up_state : (S : Standing) (state : Option (State D g)) → IsInState S state → is_up_in state ≡ S.up
@@ -141,64 +163,108 @@ module _ {D : Type 0} {g : Ghosts D} where
   pub stands_up : (engine : Engine D g) (S : Standing) → Stands engine S → is_up engine ≡ S.up
   stands_up engine S stands = up_state S engine.state stands.state
 
-  state_owing : (S : Standing) (gone : ℕ → Option Tid) (state : Option (State D g)) → IsInState S state → IsInState (owing_these gone S) state
-  state_owing S gone None is = is
-  state_owing S gone (Some (state.Up site journal)) is = record { up = is.up; knows = is.knows; settled = is.settled; stands = is.stands }
-  state_owing S gone (Some (state.Down disk)) is = record { down = is.down; rests = is.rests; told = is.told; begun = is.begun; images = is.images }
+  state_owing : (S : Standing) (gone : ℕ → Option Tid) (carried : SiteId → ℕ) (state : Option (State D g)) → IsInState S state
+      → IsInState (owing_these gone carried S) state
+  state_owing S gone carried None is = is
+  state_owing S gone carried (Some (state.Up site journal)) is = record { up = is.up; knows = is.knows; settled = is.settled; stands = is.stands }
+  state_owing S gone carried (Some (state.Down disk)) is = record { down = is.down; rests = is.rests; told = is.told; begun = is.begun; images = is.images }
 
-  pub stands_owing : (engine : Engine D g) (S : Standing) (gone : ℕ → Option Tid) → Stands engine S → Stands engine (owing_these gone S)
-  stands_owing engine S gone stands = record {
+  pub stands_owing : (engine : Engine D g) (S : Standing) (gone : ℕ → Option Tid) (carried : SiteId → ℕ) → Stands engine S
+      → Stands engine (owing_these gone carried S)
+  stands_owing engine S gone carried stands = record {
     journaled = let j = stands.journaled in record {
       spelled = j.spelled;
       follow = j.follow;
       tell = j.tell;
-      in_flight = flights engine.catalog engine.site S gone S.flight j.in_flight;
+      in_flight = flights engine.catalog engine.site S gone carried S.flight j.in_flight;
       booted = j.booted;
     };
     of = stands.of;
-    state = state_owing S gone engine.state stands.state;
+    state = state_owing S gone carried engine.state stands.state;
     tallied = let t = stands.tallied in record { in_flight = t.in_flight; count = t.count };
   }
     where
-      flights : (catalog : Catalog) (i : SiteId) (S : Standing) (gone : ℕ → Option Tid) (flight : Option Record) → IfSome flight (CanBeJournaled catalog i S)
-          → IfSome flight (CanBeJournaled catalog i (owing_these gone S))
-      flights catalog i S gone None is = is
-      flights catalog i S gone (Some rec) is = record { spelled = is.spelled; follows = is.follows }
+      flights : (catalog : Catalog) (i : SiteId) (S : Standing) (gone : ℕ → Option Tid) (carried : SiteId → ℕ) (flight : Option Record)
+          → IfSome flight (CanBeJournaled catalog i S) → IfSome flight (CanBeJournaled catalog i (owing_these gone carried S))
+      flights catalog i S gone carried None is = is
+      flights catalog i S gone carried (Some rec) is = record { spelled = is.spelled; follows = is.follows }
+
+  -- a refusal changes nothing but what is owed
+  pub stands_refused : (engine : Engine D g) (catalog : Catalog) (i : SiteId) (S : Standing) (input : Input) (refusal : Refusal) → Stands engine S
+      → Stands engine (stands_after catalog i S (Given input) (only (Replied (Refused refusal))))
+  stands_refused engine catalog i S input refusal stands =
+      let T : Standing = stands_after catalog i S (Given input) (only (Replied (Refused refusal))) in
+      stands_owing engine S T.gone T.carried stands
 
   -- what a step promises where the client is owed nothing, where the site is asked
-  module _ (catalog : Catalog) (capacity : ℕ) (i : SiteId) (old new : Engine D g) (answer : Stepped) where
-    abbrev Comes_ : TrailEvent → Standing → Type 0
-    Comes_ event S = Comes catalog capacity i S event (came_of_step event answer)
+  module _ (catalog : Catalog) (capacity : ℕ) (i : SiteId) (old new : Engine D g) (answer : Stepped)
+      (down : is_up old ≡ false → answer ≡ Down) where
+    abbrev Comes_ : Input → Standing → Type 0
+    Comes_ input S = Comes catalog capacity i S (Given input) (came_of_step (Given input) answer)
 
-    abbrev Leaves_ : TrailEvent → Standing → Type 0
-    Leaves_ event S = Stands new (stands_after i S event (came_of_step event answer))
+    abbrev Leaves_ : Input → Standing → Type 0
+    Leaves_ input S = Stands new (stands_after catalog i S (Given input) (came_of_step (Given input) answer))
+
+    -- nothing comes of what is given to a site that is down
+    rests_down : (input : Input) (S : Standing) (up : Bool) → S.up ≡ up → Stands old S → given_down input ≡ is_down
+        → (S.up ≡ true → Comes_ input S) → Comes_ input S
+    rests_down input S true is stands nothing comes = comes is
+    rests_down input S false is stands nothing comes =
+        subst (λ (a : Stepped). Comes catalog capacity i S (Given input) (came_of_step (Given input) a))
+        (sym (down (stands_up old S stands ∙ is)))
+        (comes_only catalog capacity i S (Given input) OutcomeDown
+        (ap (λ (b : Bool). rule_where b catalog i S input) is ∙ nothing))
 
     pub step_comes : (input : Input)
-        → ((S : Standing) → Stands old S → S.up ≡ true → S.gone (client_of input) ≡ None → Comes_ (event_of input) S)
-        → (S : Standing) (tie : Tie) → Stands old S → IsTied S (client_of input) tie → refused_first S.up tie (call_of input) ≡ None → Comes_ (event_of input) S
-    step_comes (CallInput client call) comes S tie stands tied is =
-        let a = asked S.up tie call (session_of S.knows client) (S.gone client) tied is in
+        → ((S : Standing) → Stands old S → S.up ≡ true → IsUntold S input → Comes_ input S)
+        → (S : Standing) (debt : Option Tid) → Stands old S → IsDebt S input debt → refused_first S.up debt input ≡ None → Comes_ input S
+    step_comes (Call client call) comes S debt stands owes is =
+        let a = asked S.up client debt (S.gone client) call owes is in
         elim a.1 [
           | inl free ↦ comes S stands a.0 free
           | inr level ↦
-              subst (λ (c : Result Request Bad). rule catalog i (owing_none S) (Call client c) ≡ rule catalog i S (Call client c) → Comes_ (Call client c) (owing_none S) → Comes_ (Call client c) S) (sym level.1)
-              (λ same came. comes_owing catalog capacity i S (Call client (Ok (LevelAsked level.0))) (came_of_step (Call client (Ok (LevelAsked level.0))) answer) same came)
-              (subst (λ (c : Result Request Bad). rule catalog i (owing_none S) (Call client c) ≡ rule catalog i S (Call client c)) (sym level.1) (level_rule catalog i S client level.0))
-              (comes (owing_none S) (stands_owing old S (λ c. None) stands) a.0 refl)
+              comes_owing catalog capacity i S (Given (Call client call)) (came_of_step (Given (Call client call)) answer)
+              (subst (λ (c : Result Request Bad). rule catalog i (owing_none S) (Given (Call client c)) ≡ rule catalog i S (Given (Call client c)))
+              (sym level.1) (level_rule catalog i S client level.0))
+              (comes (owing_none S) (stands_owing old S (λ c. None) S.carried stands) a.0 refl)
         ]
+    step_comes (Deliver from number packet) comes S debt stands owes is =
+        rests_down (Deliver from number packet) S S.up refl stands refl (λ up. comes S stands up tt)
+    step_comes (Advance from) comes S debt stands owes is =
+        rests_down (Advance from) S S.up refl stands refl (λ up. comes S stands up tt)
+    step_comes Tick comes S debt stands owes is = rests_down Tick S S.up refl stands refl (λ up. comes S stands up tt)
+
+    rests_still : (input : Input) (S : Standing) (up : Bool) → S.up ≡ up → Stands old S
+        → (is_up old ≡ false → (T : Standing) → Stands old T → Stands new T) → (S.up ≡ true → Leaves_ input S) → Leaves_ input S
+    rests_still input S true is stands rests leaves = leaves is
+    rests_still input S false is stands rests leaves =
+        let is_down_now = stands_up old S stands ∙ is in
+        subst (λ (a : Stepped). Stands new (stands_after catalog i S (Given input) (came_of_step (Given input) a)))
+        (sym (down is_down_now))
+        (rests is_down_now (stands_after catalog i S (Given input) (only OutcomeDown)) (untouched input S stands))
+      where
+        untouched : (input : Input) (S : Standing) → Stands old S → Stands old (stands_after catalog i S (Given input) (only OutcomeDown))
+        untouched input S stands =
+            let T : Standing = stands_after catalog i S (Given input) (only OutcomeDown) in stands_owing old S T.gone T.carried stands
 
     pub step_stands : (input : Input)
-        → ((S : Standing) → Stands old S → S.up ≡ true → S.gone (client_of input) ≡ None → Leaves_ (event_of input) S)
-        → (S : Standing) (tie : Tie) → Stands old S → IsTied S (client_of input) tie → refused_first S.up tie (call_of input) ≡ None → Leaves_ (event_of input) S
-    step_stands (CallInput client call) leaves S tie stands tied is =
-        let a = asked S.up tie call (session_of S.knows client) (S.gone client) tied is in
-        let after : Standing = stands_after i S (Call client call) (came_of_step (Call client call) answer) in
+        → ((S : Standing) → Stands old S → S.up ≡ true → IsUntold S input → Leaves_ input S)
+        → (is_up old ≡ false → (T : Standing) → Stands old T → Stands new T)
+        → (S : Standing) (debt : Option Tid) → Stands old S → IsDebt S input debt → refused_first S.up debt input ≡ None → Leaves_ input S
+    step_stands (Call client call) leaves rests S debt stands owes is =
+        let a = asked S.up client debt (S.gone client) call owes is in
+        let after_ : Standing = stands_after catalog i S (Given (Call client call)) (came_of_step (Given (Call client call)) answer) in
         elim a.1 [
           | inl free ↦ leaves S stands a.0 free
           | inr level ↦
-              stands_owing new (stands_after i (owing_none S) (Call client call) (came_of_step (Call client call) answer)) after.gone
-              (leaves (owing_none S) (stands_owing old S (λ c. None) stands) a.0 refl)
+              stands_owing new (stands_after catalog i (owing_none S) (Given (Call client call)) (came_of_step (Given (Call client call)) answer)) after_.gone after_.carried
+              (leaves (owing_none S) (stands_owing old S (λ c. None) S.carried stands) a.0 refl)
         ]
+    step_stands (Deliver from number packet) leaves rests S debt stands owes is =
+        rests_still (Deliver from number packet) S S.up refl stands rests (λ up. leaves S stands up tt)
+    step_stands (Advance from) leaves rests S debt stands owes is =
+        rests_still (Advance from) S S.up refl stands rests (λ up. leaves S stands up tt)
+    step_stands Tick leaves rests S debt stands owes is = rests_still Tick S S.up refl stands rests (λ up. leaves S stands up tt)
 
   -- what holds of the disk before and after, where it makes another hold
   pub of_disks_so : (old new : Engine D g) (R Q : D → D → Type 0) → ((a b : D) → R a b → Q a b) → OfDisks old new R → OfDisks old new Q
@@ -208,67 +274,3 @@ module _ {D : Type 0} {g : Ghosts D} where
       both None y is = tt
       both (Some a) None is = tt
       both (Some a) (Some b) is = so a b is
-
--- ---- sizes and faults
-
-abbrev IsSizedCame : Came → Type 0
-IsSizedCame c = FitsFrame c.outcome × IfSome c.wrote CanBeRecorded × IfSome c.flight CanBeRecorded
-
-step_sized : (client : ℕ) (call : Result Request Bad) (answer : Stepped) → IsSizedStep answer → IsSizedCame (came_of_step (Call client call) answer)
-step_sized client call (Done reply wrote) sized = (sized.0, sized.1, tt)
-step_sized client call (Failed (Own seq tx)) sized = (tt, tt, sized)
-step_sized client call (Failed (Boot epoch)) sized = (tt, tt, sized)
-step_sized client call (Failed (Got from seq tx)) sized = (tt, tt, sized)
-step_sized client call (Failed (Seen from seq)) sized = (tt, tt, sized)
-step_sized client call (Failed (Prepared from slow tid objects)) sized = (tt, tt, sized)
-step_sized client call (Failed (Released from slow)) sized = (tt, tt, sized)
-step_sized client call (Failed (SlowBegin slow tx)) sized = (tt, tt, sized)
-step_sized client call (Failed (SlowEnd slow)) sized = (tt, tt, sized)
-step_sized client call (Failed (Marks durable visible)) sized = (tt, tt, sized)
-step_sized client call (Full need left) sized = (tt, tt, tt)
-step_sized client call Down sized = (tt, tt, tt)
-step_sized client call NoMemory sized = (tt, tt, tt)
-
-pub sized_by : (h : Handled) (c : Came) → came h ≡ c → IfSome h.kept CanBeRecorded → IsSizedCame c → IsSized h
-sized_by h c is kept sized =
-    let own : IsSizedCame (came h) = subst IsSizedCame (sym is) sized in
-    record { outcome = own.0; kept = kept; wrote = own.1; flight = own.2 }
-
-pub sized_step : (h : Handled) (client : ℕ) (call : Result Request Bad) (answer : Stepped) → came h ≡ came_of_step (Call client call) answer → h.kept ≡ None → IsSizedStep answer → IsSized h
-sized_step h client call answer is none sized =
-    sized_by h (came_of_step (Call client call) answer) is (subst (λ (r : Option Record). IfSome r CanBeRecorded) (sym none) tt) (step_sized client call answer sized)
-
-reply_rises : (reply : Reply) (old new : ℕ) → ((tid : Tid) → reply ≢ Unsure tid) → old ≤ new → RisesIf (is_faulty (Replied reply)) old new
-reply_rises (Started tid) old new sure rises = rises
-reply_rises (Value value) old new sure rises = rises
-reply_rises (Set counts) old new sure rises = rises
-reply_rises (Count n) old new sure rises = rises
-reply_rises DoneReply old new sure rises = rises
-reply_rises (Committed version) old new sure rises = rises
-reply_rises (Aborted cause) old new sure rises = rises
-reply_rises (Level level) old new sure rises = rises
-reply_rises Ended old new sure rises = rises
-reply_rises (Deciding tid) old new sure rises = rises
-reply_rises (Unsure tid) old new sure rises = absurd (sure tid refl)
-reply_rises (Refused refusal) old new sure rises = rises
-
-step_rises : (client : ℕ) (call : Result Request Bad) (answer : Stepped) (old new : ℕ) → IsSizedStep answer → IsFaultOfStep answer old new
-    → RisesIf (is_faulty (came_of_step (Call client call) answer).outcome) old new
-step_rises client call (Done reply wrote) old new sized rises = reply_rises reply old new sized.2 rises
-step_rises client call (Failed (Own seq tx)) old new sized rises = rises
-step_rises client call (Failed (Boot epoch)) old new sized rises = rises
-step_rises client call (Failed (Got from seq tx)) old new sized rises = rises
-step_rises client call (Failed (Seen from seq)) old new sized rises = rises
-step_rises client call (Failed (Prepared from slow tid objects)) old new sized rises = rises
-step_rises client call (Failed (Released from slow)) old new sized rises = rises
-step_rises client call (Failed (SlowBegin slow tx)) old new sized rises = rises
-step_rises client call (Failed (SlowEnd slow)) old new sized rises = rises
-step_rises client call (Failed (Marks durable visible)) old new sized rises = rises
-step_rises client call (Full need left) old new sized rises = rises
-step_rises client call Down old new sized rises = rises
-step_rises client call NoMemory old new sized rises = rises
-
-pub faulty_step : (h : Handled) (client : ℕ) (call : Result Request Bad) (answer : Stepped) → came h ≡ came_of_step (Call client call) answer → IsSizedStep answer
-    → (old new : ℕ) → IsFaultOfStep answer old new → IsFaulty h old new
-faulty_step h client call answer is sized old new rises =
-    subst (λ (c : Came). RisesIf (is_faulty c.outcome) old new) (sym is) (step_rises client call answer old new sized rises)

@@ -1,7 +1,8 @@
 pub mod Lines
-pub mod Ties
-pub mod Losses
+pub mod Owing
 pub mod Asked
+pub mod Sizes
 pub mod Grown
 pub mod Restarting
+pub mod Stopping
 pub mod Openings

@@ -19,10 +19,11 @@ use Rattle.walter_psi.proofs.Lists.{slice_get-push_cases, slice_get-append_left,
 use Rattle.walter_scenario.specs.declared.scenario.Client.{Client}
 use Rattle.walter_stream.specs.declared.sink.Sink.{Ghosts as SinkGhosts}
 use Rattle.walter_stream.specs.declared.source.Source.{Ghosts as SourceGhosts}
-use Rattle.walter_trail.specs.declared.trail.Entry.{Entry}
-use Rattle.walter_trail.specs.declared.trail.TrailEvent.{TrailEvent}
-use Rattle.walter_trail.specs.declared.trail.TrailEvent.TheVariants.{Call as CallEvent}
-use Rattle.walter_trail.specs.Trails.{call_by, calls_of}
+use Rattle.walter_rules.specs.declared.entry.Entry.{Entry}
+use Rattle.walter_rules.specs.declared.event.Event.{Event}
+use Rattle.walter_rules.specs.declared.event.Event.TheVariants.{Given}
+use Rattle.walter_rules.specs.declared.event.Input.TheVariants.{Call as CallInput}
+use Rattle.walter_trail.specs.Calls.{call_by, calls_of}
 use Rattle.walter_cell.specs.Cells.{IsLine, IsLineAt, AreLines, IsReady, Leaves}
 
 -- a connection from which a call was taken isn't broken
@@ -74,20 +75,20 @@ set_there lines place other line apart =
     ]
 
 -- the calls of a client with one more entry
-pub calls_more : (client : ℕ) (entries : List Entry) (e : Entry) (call : Call) → e.event ≡ CallEvent client call → calls_of client (entries ++ e ∷ []) ≡ calls_of client entries ++ call ∷ []
+pub calls_more : (client : ℕ) (entries : List Entry) (e : Entry) (call : Call) → e.event ≡ Given (CallInput client call) → calls_of client (entries ++ e ∷ []) ≡ calls_of client entries ++ call ∷ []
 calls_more client entries e call is =
     flat_map-append (λ (z : Entry). call_by client z.event) entries (e ∷ [])
     ∙ ap (λ xs. calls_of client entries ++ xs)
-    (append-nil (call_by client e.event) ∙ (ap (λ (v : TrailEvent). call_by client v) is ∙ ap (λ b. if b then call ∷ [] else []) (eq-eqb client client refl)))
+    (append-nil (call_by client e.event) ∙ (ap (λ (v : Event). call_by client v) is ∙ ap (λ b. if b then call ∷ [] else []) (eq-eqb client client refl)))
 
 not_picked : {A : Type 0} (n m : ℕ) (x : A) → n ≢ m → (if nat_eq n m then x ∷ [] else []) ≡ []
 not_picked n m x apart = ap (λ b. if b then x ∷ [] else []) (ne_eqb n m apart)
 
-pub calls_same : (client other : ℕ) (entries : List Entry) (e : Entry) (call : Call) → client ≢ other → e.event ≡ CallEvent other call → calls_of client (entries ++ e ∷ []) ≡ calls_of client entries
+pub calls_same : (client other : ℕ) (entries : List Entry) (e : Entry) (call : Call) → client ≢ other → e.event ≡ Given (CallInput other call) → calls_of client (entries ++ e ∷ []) ≡ calls_of client entries
 calls_same client other entries e call apart is =
-    let none : call_by client (CallEvent other call) ≡ [] = not_picked {A = Result Request BadFrame} other client call (λ e. apart (sym e)) in
+    let none : call_by client (Given (CallInput other call)) ≡ [] = not_picked {A = Result Request BadFrame} other client call (λ e. apart (sym e)) in
     flat_map-append (λ (z : Entry). call_by client z.event) entries (e ∷ [])
-    ∙ (ap (λ xs. calls_of client entries ++ xs) (append-nil (call_by client e.event) ∙ (ap (λ (v : TrailEvent). call_by client v) is ∙ none))
+    ∙ (ap (λ xs. calls_of client entries ++ xs) (append-nil (call_by client e.event) ∙ (ap (λ (v : Event). call_by client v) is ∙ none))
     ∙ append-nil (calls_of client entries))
 
 module _ {S K : Type 0} {s : SourceGhosts S} {k : SinkGhosts K} where

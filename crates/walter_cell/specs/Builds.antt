@@ -1,5 +1,6 @@
 -- What the building of a cell comes to.
-use Rattle.std.specs.Prelude.{◌≡◌, ℕ, List, [], slice_get, Some, Result, Ok, Err, replicate}
+use Rattle.std.specs.Prelude.{◌≡◌, ℕ, List, [], slice_get, Option, Some, None, Result, Ok, Err, replicate}
+use Rattle.walter_base.specs.declared.names.Tid.{Tid}
 use Rattle.walter_conn.specs.Connections.{incoming}
 use Rattle.walter_conn.specs.declared.conn.Conn.{Conn}
 use Rattle.walter_disk.specs.declared.disk.Disk.{Ghosts}
@@ -9,13 +10,11 @@ use Rattle.walter_scenario.specs.declared.scenario.Client.{Client}
 use Rattle.walter_stream.specs.declared.sink.Sink.{Ghosts as SinkGhosts}
 use Rattle.walter_stream.specs.declared.source.Source.{Ghosts as SourceGhosts}
 use Rattle.walter_cell.specs.declared.cell.Cell.{Cell}
-use Rattle.walter_cell.specs.declared.tie.Tie.{Tie}
-use Rattle.walter_cell.specs.declared.tie.Tie.TheVariants.{Free}
 use Rattle.walter_cell.specs.Cells.{IsLine}
 
--- so many clients, tied to nothing
-abbrev pub AreFree : ℕ → List Tie → Type 0
-AreFree count ties = ties ≡ replicate count Free
+-- so many clients, that are owed nothing
+abbrev pub AreFree : ℕ → List (Option Tid) → Type 0
+AreFree count debts = debts ≡ replicate count None
 
 -- each client has its connection, of which nothing was read
 abbrev pub AreUnread : {S K : Type 0} {s : SourceGhosts S} {k : SinkGhosts K} → List Client → List (Conn S K s k) → Type 0

@@ -1,6 +1,5 @@
 -- What holds of a site with its trail and its clients' connections between two events.
-use Rattle.std.specs.Prelude.{◌≡◌, ◌≢◌, ◌<◌, ◌≤◌, ◌⊎◌, ℕ, List, [], ◌∷◌, ◌++◌, length, reverse, slice_get, count_by, Some, All, IfSome}
-use Rattle.walter_base.specs.Sizes.{CanBeRecorded}
+use Rattle.std.specs.Prelude.{◌≡◌, ◌≢◌, ◌<◌, ◌≤◌, ◌⊎◌, ℕ, List, [], ◌∷◌, ◌++◌, length, reverse, slice_get, count_by, Some, All}
 use Rattle.walter_conn.specs.Calls.{Incoming}
 use Rattle.walter_conn.specs.Connections.{incoming}
 use Rattle.walter_conn.specs.Frames.{Call}
@@ -11,23 +10,25 @@ use Rattle.walter_conn.specs.declared.next.Next.TheVariants.{Frame, Ended, Broke
 use Rattle.walter_conn.specs.declared.state.State.TheVariants as state
 use Rattle.walter_disk.specs.declared.disk.Disk.{Ghosts}
 use Rattle.walter_engine.specs.Engines.{catalog_in, site_in, capacity_in, OfDisk, Stands}
+use Rattle.walter_engine.specs.Steps.{opening}
 use Rattle.walter_scenario.specs.declared.scenario.Client.{Client}
 use Rattle.walter_scenario.specs.declared.scenario.Scenario.{Scenario}
 use Rattle.walter_stream.specs.declared.sink.Sink.{Ghosts as SinkGhosts}
 use Rattle.walter_stream.specs.declared.source.Source.{Ghosts as SourceGhosts}
-use Rattle.walter_trail.specs.declared.trail.Entry.{Entry}
-use Rattle.walter_trail.specs.declared.trail.TrailEvent.{TrailEvent}
-use Rattle.walter_trail.specs.declared.trail.TrailEvent.TheVariants as event
-use Rattle.walter_trail.specs.Trails.{standing, clock, calls_of, opening, IsRightTrail}
-use Rattle.walter_world.specs.Spelled.{the_site}
+use Rattle.walter_rules.specs.declared.entry.Entry.{Entry}
+use Rattle.walter_rules.specs.declared.event.Event.{Event}
+use Rattle.walter_rules.specs.declared.event.Event.TheVariants as event
+use Rattle.walter_rules.specs.declared.event.Input.TheVariants as input
+use Rattle.walter_rules.specs.Trails.{standing, clock, IsRightTrail}
+use Rattle.walter_trail.specs.Calls.{calls_of}
 use Rattle.walter_cell.specs.declared.cell.Acted.{Acted}
 use Rattle.walter_cell.specs.declared.cell.Acted.TheVariants as acted
 use Rattle.walter_cell.specs.declared.cell.Cell.{Cell}
 use Rattle.walter_cell.specs.declared.cell.Serve.{Serve}
 use Rattle.walter_cell.specs.declared.cell.Serve.TheVariants as serve
-use Rattle.walter_cell.specs.Handled.{FitsFrame, is_faulty}
-use Rattle.walter_cell.specs.Entries.{IsSpent, HaveRisingStamps, IsOfClients}
-use Rattle.walter_cell.specs.Ties.{AreTied}
+use Rattle.walter_cell.specs.Debts.{AreOwed}
+use Rattle.walter_cell.specs.Entries.{the_site, IsSpent, HaveRisingStamps, IsOfClients}
+use Rattle.walter_cell.specs.Handled.{IsSized, is_faulty}
 
 -- ---- connections
 
@@ -60,13 +61,6 @@ Leaves bytes calls now Broken = IsLine bytes calls now × AreAllCalls bytes call
 
 -- ---- cells
 
--- a reply has a frame, and each record a spelling
-pub record IsSizedEntry (e : Entry) : Type 0 where
-  pub outcome : FitsFrame e.outcome
-  pub kept : IfSome e.kept CanBeRecorded
-  pub wrote : IfSome e.wrote CanBeRecorded
-  pub flight : IfSome e.flight CanBeRecorded
-
 -- whatever its disk tells: the site is the scenario's, its trail begins with the opening and has an entry for each stamp, and
 -- its disk failed at least as often as the trail says
 pub record IsSite {D : Type 0} {g : Ghosts D} (s : Scenario) (cell : Cell D g) : Type 0 where
@@ -76,31 +70,31 @@ pub record IsSite {D : Type 0} {g : Ghosts D} (s : Scenario) (cell : Cell D g) :
   pub begins : slice_get cell.entries.items 0 ≡ Some opening
   pub stamps : clock (reverse cell.entries.items) ≡ length cell.entries.items
   pub rise : HaveRisingStamps (reverse cell.entries.items)
-  pub sized : All IsSizedEntry cell.entries.items
-  pub faults : OfDisk cell.engine (λ disk. count_by (λ e. is_faulty e.outcome) cell.entries.items ≤ (g.known disk).faults)
+  pub sized : All (λ e. IsSized e.came) cell.entries.items
+  pub faults : OfDisk cell.engine (λ disk. count_by (λ e. is_faulty e.came.outcome) cell.entries.items ≤ (g.known disk).faults)
 
--- where its disk tells what it holds: the site stands as its trail says, the trail is right, and the clients are tied so
+-- where its disk tells what it holds: the site stands as its trail says, the trail is right, and the clients are owed so
 pub record IsKnown {D : Type 0} {g : Ghosts D} (s : Scenario) (cell : Cell D g) : Type 0 where
   pub stands : Stands cell.engine (standing s.catalog the_site (reverse cell.entries.items))
   pub right : IsRightTrail s.catalog s.capacity the_site cell.entries.items
-  pub tied : AreTied (standing s.catalog the_site (reverse cell.entries.items)) cell.ties.items
+  pub owed : AreOwed (standing s.catalog the_site (reverse cell.entries.items)) cell.debts.items
 
 -- a cell of a scenario
 pub record IsCell {D : Type 0} {g : Ghosts D} (s : Scenario) (cell : Cell D g) : Type 0 where
   pub site : IsSite s cell
   pub calls_within : All (λ e. IsOfClients (length s.clients) e.event) cell.entries.items
   pub long : length cell.lines.items ≡ length s.clients
-  pub ties : length cell.ties.items ≡ length s.clients
+  pub debts : length cell.debts.items ≡ length s.clients
   pub lines : AreLines s.clients cell.entries.items cell.lines.items
 
 -- ---- what calls of a cell come to
 
 -- the trail is as before, or has one more entry, of such an event
-abbrev pub Grows : (TrailEvent → Type 0) → List Entry → List Entry → Type 0
+abbrev pub Grows : (Event → Type 0) → List Entry → List Entry → Type 0
 Grows P old new = (new ≡ old) ⊎ ((e : Entry) × (new ≡ old ++ e ∷ []) × P e.event)
 
-abbrev pub IsCallOf : ℕ → TrailEvent → Type 0
-IsCallOf client ev = (call : Call) × (ev ≡ event.Call client call)
+abbrev pub IsCallOf : ℕ → Event → Type 0
+IsCallOf client ev = (call : Call) × (ev ≡ event.Given (input.Call client call))
 
 -- what a client's turn comes to: the trail is spent; or all calls of its bytes are made; or its next call comes to the trail
 abbrev pub TurnsTo : ℕ → List ℕ → List Entry → List Entry → Serve → Type 0
@@ -109,20 +103,20 @@ TurnsTo client bytes old new serve.Ended = (length old < 100000) × AreAllCalls 
 TurnsTo client bytes old new serve.Broken = (length old < 100000) × AreAllCalls bytes (calls_of client old) × (new ≡ old)
 TurnsTo client bytes old new serve.Served =
     (length old < 100000)
-    × ((e : Entry) × (call : Call) × (rest : List ℕ) × (new ≡ old ++ e ∷ []) × (e.event ≡ event.Call client call) × AreCalls bytes (calls_of client new) rest)
+    × ((e : Entry) × (call : Call) × (rest : List ℕ) × (new ≡ old ++ e ∷ []) × (e.event ≡ event.Given (input.Call client call)) × AreCalls bytes (calls_of client new) rest)
 
 -- what another event comes to: the trail is spent, or has one more entry of it
-abbrev pub Acts : TrailEvent → List Entry → List Entry → Acted → Type 0
+abbrev pub Acts : Event → List Entry → List Entry → Acted → Type 0
 Acts ev old new acted.Spent = IsSpent old × (new ≡ old)
 Acts ev old new acted.Did = (length old < 100000) × ((e : Entry) × (new ≡ old ++ e ∷ []) × (e.event ≡ ev))
 
--- the connections are as before, and as many clients are tied
-pub record IsTiedAsMany {D : Type 0} {g : Ghosts D} (old new : Cell D g) : Type 0 where
+-- the connections are as before, and as many clients may be owed something
+pub record AreOwedAsMany {D : Type 0} {g : Ghosts D} (old new : Cell D g) : Type 0 where
   pub lines : new.lines ≡ old.lines
-  pub ties : length new.ties.items ≡ length old.ties.items
+  pub debts : length new.debts.items ≡ length old.debts.items
 
 -- but for the disk all is as before
 pub record AreSame {D : Type 0} {g : Ghosts D} (old new : Cell D g) : Type 0 where
   pub entries : new.entries ≡ old.entries
   pub lines : new.lines ≡ old.lines
-  pub ties : new.ties ≡ old.ties
+  pub debts : new.debts ≡ old.debts

@@ -1,53 +1,54 @@
 -- What an event came to, as a cell's entry says it.
-use Rattle.std.specs.Prelude.{◌<◌, ◌≤◌, ℕ, Bool, true, false, Option, Some, None, Result, Ok, Err, IfSome}
-use Rattle.walter_base.specs.declared.message.BadFrame.{BadFrame as Bad}
+use Rattle.std.specs.Prelude.{◌<◌, ◌≤◌, ℕ, Bool, true, false, Option, Some, None, Ok, Err, IfSome}
 use Rattle.walter_base.specs.declared.message.Refusal.{Refusal}
 use Rattle.walter_base.specs.declared.message.Refusal.TheVariants.{BadFrame, Down, Gone}
 use Rattle.walter_base.specs.declared.message.Reply.TheVariants.{Unsure}
 use Rattle.walter_base.specs.declared.message.Request.{Request}
 use Rattle.walter_base.specs.declared.message.Request.TheVariants.{Start, Read, Write, SetAdd, SetDel, SetRead, SetReadId, Commit, Abort, Level}
-use Rattle.walter_base.specs.Sizes.{IsShortReply, CanBeRecorded}
-use Rattle.walter_trail.specs.declared.trail.Outcome.{Outcome}
-use Rattle.walter_trail.specs.declared.trail.Outcome.TheVariants.{Replied, Failed}
-use Rattle.walter_trail.specs.Standing.{Came}
-use Rattle.walter_cell.specs.declared.handling.Handled.{Handled}
-use Rattle.walter_cell.specs.declared.tie.Tie.{Tie}
-use Rattle.walter_cell.specs.declared.tie.Tie.TheVariants.{Free, Open, Gone as IsGone}
-
-abbrev pub came : Handled → Came
-came h = record { wrote = h.wrote; outcome = h.outcome; flight = h.flight }
+use Rattle.walter_base.specs.declared.names.Tid.{Tid}
+use Rattle.walter_base.specs.Sizes.{CanBeRecorded}
+use Rattle.walter_engine.specs.declared.answers.Stepped.{Stepped}
+use Rattle.walter_engine.specs.declared.answers.Stepped.TheVariants.{Failed as HasFailed}
+use Rattle.walter_rules.specs.declared.entry.Came.{Came}
+use Rattle.walter_rules.specs.declared.event.Input.{Input}
+use Rattle.walter_rules.specs.declared.event.Input.TheVariants.{Call}
+use Rattle.walter_rules.specs.declared.outcome.Outcome.{Outcome}
+use Rattle.walter_rules.specs.declared.outcome.Outcome.TheVariants.{Replied, Failed}
+use Rattle.walter_session.specs.Sessions.{Table}
+use Rattle.walter_site.specs.Members.{IsShortOutcome}
 
 -- a client whose transaction is gone is told so, but where it asks for a Level
-abbrev pub gone_first : Tie → Request → Option Refusal
-gone_first Free request = None
-gone_first (Open tid) request = None
-gone_first (IsGone tid) Start = Some (Gone tid)
-gone_first (IsGone tid) (Read oid) = Some (Gone tid)
-gone_first (IsGone tid) (Write oid bytes) = Some (Gone tid)
-gone_first (IsGone tid) (SetAdd oid id) = Some (Gone tid)
-gone_first (IsGone tid) (SetDel oid id) = Some (Gone tid)
-gone_first (IsGone tid) (SetRead oid) = Some (Gone tid)
-gone_first (IsGone tid) (SetReadId oid id) = Some (Gone tid)
-gone_first (IsGone tid) Commit = Some (Gone tid)
-gone_first (IsGone tid) Abort = Some (Gone tid)
-gone_first (IsGone tid) (Level asked) = None
+abbrev pub gone_first : Option Tid → Request → Option Refusal
+gone_first None request = None
+gone_first (Some tid) Start = Some (Gone tid)
+gone_first (Some tid) (Read oid) = Some (Gone tid)
+gone_first (Some tid) (Write oid bytes) = Some (Gone tid)
+gone_first (Some tid) (SetAdd oid id) = Some (Gone tid)
+gone_first (Some tid) (SetDel oid id) = Some (Gone tid)
+gone_first (Some tid) (SetRead oid) = Some (Gone tid)
+gone_first (Some tid) (SetReadId oid id) = Some (Gone tid)
+gone_first (Some tid) Commit = Some (Gone tid)
+gone_first (Some tid) Abort = Some (Gone tid)
+gone_first (Some tid) (Level asked) = None
 
-abbrev pub refused_first : Bool → Tie → Result Request Bad → Option Refusal
-refused_first up tie (Err bad) = Some (BadFrame bad.at)
-refused_first false tie (Ok request) = Some Down
-refused_first true tie (Ok request) = gone_first tie request
+-- why a call is refused before the site is asked; nothing else is
+abbrev pub refused_first : Bool → Option Tid → Input → Option Refusal
+refused_first up debt (Call client (Err bad)) = Some (BadFrame bad.at)
+refused_first false debt (Call client (Ok request)) = Some Down
+refused_first true debt (Call client (Ok request)) = gone_first debt request
+refused_first up debt input = None
 
--- a reply has a frame
-abbrev pub FitsFrame : Outcome → Type 0
-FitsFrame (Replied reply) = IsShortReply reply
-FitsFrame outcome = Unit {0}
+-- the sessions that a step lost
+abbrev pub lost_in : Stepped → Option Table
+lost_in (HasFailed rec lost) = Some lost
+lost_in stepped = None
 
 -- a reply has a frame, and each record a spelling
-pub record IsSized (h : Handled) : Type 0 where
-  pub outcome : FitsFrame h.outcome
-  pub kept : IfSome h.kept CanBeRecorded
-  pub wrote : IfSome h.wrote CanBeRecorded
-  pub flight : IfSome h.flight CanBeRecorded
+pub record IsSized (came : Came) : Type 0 where
+  pub outcome : IsShortOutcome came.outcome
+  pub kept : IfSome came.kept CanBeRecorded
+  pub wrote : IfSome came.wrote CanBeRecorded
+  pub flight : IfSome came.flight CanBeRecorded
 
 -- a fault of the disk was met
 abbrev pub is_faulty : Outcome → Bool
@@ -60,5 +61,5 @@ abbrev pub RisesIf : Bool → ℕ → ℕ → Type 0
 RisesIf true old new = old < new
 RisesIf false old new = old ≤ new
 
-abbrev pub IsFaulty : Handled → ℕ → ℕ → Type 0
-IsFaulty h old new = RisesIf (is_faulty h.outcome) old new
+abbrev pub IsFaulty : Came → ℕ → ℕ → Type 0
+IsFaulty came old new = RisesIf (is_faulty came.outcome) old new

@@ -1,19 +1,19 @@
 ghost use Rattle.std.specs.Prelude.{◌≡◌, ◌<◌, ◌∷◌, [], ℕ, List, length, vec_capacity, IsSome, IfOk};
 ghost use Rattle.walter_engine.specs.Begins.{HasOnly, IsBegun, IsFaultOfBegin, MayHaveBegun};
 ghost use Rattle.walter_scenario.specs.Parts.{IsCapacity};
-ghost use Rattle.walter_trail.specs.Trails.{opening};
+ghost use Rattle.walter_engine.specs.Steps.{opening};
 ghost use Rattle.walter_cell.specs.Builds.{AreFree, AreUnread, OfBuilt, begun_by};
 ghost use Rattle.walter_cell.specs.Cells.{IsCell, IsKnown};
 
 use crate::cell::Cell;
+use crate::handling::only;
 use crate::line::{Line, open_line};
-use crate::tie::Tie;
 use std::alloc::Global;
-use walter_base::{Mem, Record, SiteId};
+use walter_base::{Mem, Record, SiteId, Tid};
 use walter_disk::Disk;
 use walter_engine::{Engine, Unbegun};
+use walter_rules::{Came, Entry, Event, Outcome};
 use walter_scenario::{Client, Scenario};
-use walter_trail::{Entry, Outcome, TrailEvent};
 
 /// The cell of the one site over its disk, up in its first epoch, with the connections of the scenario's clients. Where
 /// none is built the disk comes back.
@@ -23,6 +23,7 @@ pub fn build<D: Disk + Drop>(
     disk: D,
 ) -> Result<Cell<D>, (D, Unbegun)>
     requires sites { scenario.now.catalog.sites ≡ 1 }
+    requires fewer { scenario.now.catalog.tolerated < scenario.now.catalog.sites }
     requires capacity { IsCapacity scenario.now.capacity }
     ensures cell { IfOk result (IsCell scenario.now) }
     ensures known { IsSome (D.known disk).reads → IfOk result (IsKnown scenario.now) }
@@ -35,7 +36,7 @@ pub fn build<D: Disk + Drop>(
     ensures faults { OfBuilt result (λ now. IsFaultOfBegin (begun_by result) (D.known disk).faults (D.known now).faults) }
     ensures arms { OfBuilt result (λ now. (D.known now).arms ≡ (D.known disk).arms) }
 {
-    let Ok((lines, ties, mut entries)) = open(alloc, scenario.clients.as_slice()) else {
+    let Ok((lines, debts, mut entries)) = open(alloc, scenario.clients.as_slice()) else {
         return Err((disk, Unbegun::NoMemory));
     };
     let mut engine = match Engine::new(
@@ -51,40 +52,41 @@ pub fn build<D: Disk + Drop>(
     if let Err(why) = engine.begin() {
         return Err((engine.into_disk(), why));
     }
-    entries.push_reserved(opening());
+    entries.push_reserved(opening(alloc));
     Ok(Cell {
         engine,
         entries,
         lines,
-        ties,
+        debts,
     })
 }
 
 // The first entry of each trail.
-fn opening() -> Entry
+fn opening(alloc: Global) -> Entry
     ensures { result ≡ opening }
 {
+    let came = only(alloc, Outcome::Taken);
     Entry {
         stamp: 1,
-        event: TrailEvent::Restart,
-        outcome: Outcome::Taken,
-        kept: None,
-        wrote: Some(Record::Boot(1)),
-        flight: None,
+        event: Event::Restart,
+        came: Came {
+            wrote: Some(Record::Boot(1)),
+            ..came
+        },
     }
 }
 
-// The connections of the clients, what ties them, and an empty trail with a place for the first entry.
-fn open(alloc: Global, clients: &[Client]) -> Mem<(Vec<Line>, Vec<Tie>, Vec<Entry>)>
+// The connections of the clients, what they are owed, and an empty trail with a place for the first entry.
+fn open(alloc: Global, clients: &[Client]) -> Mem<(Vec<Line>, Vec<Option<Tid>>, Vec<Entry>)>
     ensures long { IfOk result (λ parts. length parts.0.items ≡ length clients.now) }
     ensures lines { IfOk result (λ parts. AreUnread clients.now parts.0.items) }
-    ensures ties { IfOk result (λ parts. AreFree (length clients.now) parts.1.items) }
+    ensures debts { IfOk result (λ parts. AreFree (length clients.now) parts.1.items) }
     ensures entries { IfOk result (λ parts. parts.2.items ≡ []) }
     ensures place { IfOk result (λ parts. 0 < vec_capacity parts.2) }
 {
     let lines = open_lines(alloc, clients)?;
-    let ties = vec![in alloc; Tie::Free; clients.len()]?;
-    Ok((lines, ties, Vec::with_capacity(alloc, 1)?))
+    let debts = vec![in alloc; None; clients.len()]?;
+    Ok((lines, debts, Vec::with_capacity(alloc, 1)?))
 }
 
 // The connections of the clients.

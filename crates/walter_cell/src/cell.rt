@@ -1,16 +1,16 @@
 ghost use Rattle.std.specs.Prelude.{◌≡◌, ◌≢◌, ◌<◌, ◌++◌, ◌∷◌, [], ℕ, List, slice_get, length, vec_len, vec_capacity, option_map, Some, OnErr, OnOk, IfOk};
-ghost use Rattle.walter_site.specs.Sites.{event_of};
 
-use crate::handling::{Handled, handle, restarted};
+use crate::debt::settle;
+use crate::handling::{Handled, handle, only, restarted, stopped};
 use crate::line::{Line, next_call, put_reply};
-use crate::tie::{Tie, tie_all};
 use std::alloc::Global;
-use walter_base::Mem;
+use walter_base::{Mem, Tid};
 use walter_conn::Next;
 use walter_disk::Disk;
 use walter_engine::Engine;
-use walter_site::Input;
-use walter_trail::{Entry, Outcome, Trail, TrailEvent};
+use walter_rules::{Entry, Event, Input, Outcome};
+use walter_session::Sessions;
+use walter_trail::Trail;
 
 /// The most entries that a trail may have.
 const MOST_ENTRIES: usize = 100_000;
@@ -37,24 +37,23 @@ pub enum Acted {
     Spent,
 }
 
-/// A site with its trail, the connections of its clients by their numbers, and what ties these to transactions. Trail and
-/// connections outlive a stop.
+/// A site with its trail, the connections of its clients by their numbers, and the transactions that were lost of which a
+/// client wasn't told yet. All but the site outlives a stop.
 #[derive(Drop)]
 pub struct Cell<D: Disk> {
     pub engine: Engine<D>,
     pub entries: Vec<Entry>,
     pub lines: Vec<Line>,
-    pub ties: Vec<Tie>,
+    pub debts: Vec<Option<Tid>>,
 }
 
 impl<D: Disk + Drop> Cell<D> {
     ghost use Rattle.walter_engine.specs.Engines.{disk_in, OfDisks};
     ghost use Rattle.walter_scenario.specs.declared.scenario.Scenario.{Scenario};
-    ghost use Rattle.walter_trail.specs.Trails.{calls_of};
-    ghost use Rattle.walter_trail.specs.declared.trail.TrailEvent.{TrailEvent};
-    ghost use Rattle.walter_trail.specs.declared.trail.TrailEvent.TheVariants as event;
-    ghost use Rattle.walter_cell.specs.Cells.{IsSite, IsKnown, IsLineAt, TurnsTo, Acts, Grows, IsCallOf, IsTiedAsMany, AreSame};
-    ghost use Rattle.walter_cell.specs.Ties.{AreAfter};
+    ghost use Rattle.walter_rules.specs.declared.event.Event.TheVariants as event;
+    ghost use Rattle.walter_trail.specs.Calls.{calls_of};
+    ghost use Rattle.walter_cell.specs.Cells.{IsSite, IsKnown, IsLineAt, TurnsTo, Acts, Grows, IsCallOf, AreOwedAsMany, AreSame};
+    ghost use Rattle.walter_cell.specs.Debts.{AreAfter};
 
     /// The disk, and the trail so far.
     pub fn into_parts(self) -> (D, Trail)
@@ -86,7 +85,7 @@ impl<D: Disk + Drop> Cell<D> {
     /// or where memory runs out before the call is read.
     pub fn serve(&mut self, alloc: Global, number: u32) -> Mem<Serve>
         requires within { number < length self.old.lines.items }
-        requires tied { number < length self.old.ties.items }
+        requires owed { number < length self.old.debts.items }
         ensures site { (s : Scenario) → IsSite s self.old → IsSite s self.new }
         ensures known { (s : Scenario) → IsSite s self.old → IsKnown s self.old → IsKnown s self.new }
         ensures grows { Grows (IsCallOf number) self.old.entries.items self.new.entries.items }
@@ -97,7 +96,7 @@ impl<D: Disk + Drop> Cell<D> {
             → IsLineAt bytes (calls_of number self.new.entries.items) self.new.lines.items number }
         ensures others { (other : ℕ) → other ≢ number → slice_get self.new.lines.items other ≡ slice_get self.old.lines.items other }
         ensures long { length self.new.lines.items ≡ length self.old.lines.items }
-        ensures ties { length self.new.ties.items ≡ length self.old.ties.items }
+        ensures debts { length self.new.debts.items ≡ length self.old.debts.items }
         ensures arms { OfDisks self.old.engine self.new.engine (λ old new. (D.known new).arms ≡ (D.known old).arms) }
     {
         if self.entries.len() >= MOST_ENTRIES {
@@ -111,15 +110,19 @@ impl<D: Disk + Drop> Cell<D> {
             Next::Frame(call) => call,
         };
         let stamp = self.entries.len() as u64 + 1;
-        let tie = self.ties[number as usize];
+        let debt = self.debts[number as usize];
         let input = Input::Call {
             client: number,
             call,
         };
-        let handled = handle(&mut self.engine, tie, &input);
-        let entry = handled.entry(stamp, event_of(input));
-        let written = put_reply(line, &entry.outcome);
-        self.add(entry);
+        let Handled { came, lost } = handle(alloc, &mut self.engine, debt, &input);
+        let written = put_reply(line, &came.outcome);
+        let entry = Entry {
+            stamp,
+            event: Event::Given(input),
+            came,
+        };
+        self.add(entry, lost);
         Ok(if written.is_ok() {
             Serve::Served
         } else {
@@ -128,69 +131,64 @@ impl<D: Disk + Drop> Cell<D> {
     }
 
     /// The site loses its memory.
-    pub fn stop(&mut self) -> Mem<Acted>
+    pub fn stop(&mut self, alloc: Global) -> Mem<Acted>
         ensures site { (s : Scenario) → IsSite s self.old → IsSite s self.new }
         ensures known { (s : Scenario) → IsSite s self.old → IsKnown s self.old → IsKnown s self.new }
         ensures acts { IfOk result (Acts event.Stop self.old.entries.items self.new.entries.items) }
         ensures kept { OnErr result (self.new.entries.items ≡ self.old.entries.items) }
-        ensures same { IsTiedAsMany self.old self.new }
+        ensures same { AreOwedAsMany self.old self.new }
         ensures arms { OfDisks self.old.engine self.new.engine (λ old new. (D.known new).arms ≡ (D.known old).arms) }
     {
         if self.entries.len() >= MOST_ENTRIES {
             return Ok(Acted::Spent);
         }
         self.entries.reserve(1)?;
-        let outcome = if self.engine.is_up() {
-            Outcome::Taken
-        } else {
-            Outcome::Down
+        let Handled { came, lost } = stopped(alloc, self.engine.stop());
+        let entry = Entry {
+            stamp: self.entries.len() as u64 + 1,
+            event: Event::Stop,
+            came,
         };
-        self.engine.stop();
-        let stamp = self.entries.len() as u64 + 1;
-        self.add(Handled::only(outcome).entry(stamp, TrailEvent::Stop));
+        self.add(entry, lost);
         Ok(Acted::Did)
     }
 
     /// The site is made anew from its journal, if it is down.
-    pub fn restart(&mut self) -> Mem<Acted>
+    pub fn restart(&mut self, alloc: Global) -> Mem<Acted>
         ensures site { (s : Scenario) → IsSite s self.old → IsSite s self.new }
         ensures known { (s : Scenario) → IsSite s self.old → IsKnown s self.old → IsKnown s self.new }
         ensures acts { IfOk result (Acts event.Restart self.old.entries.items self.new.entries.items) }
         ensures kept { OnErr result (self.new.entries.items ≡ self.old.entries.items) }
-        ensures same { IsTiedAsMany self.old self.new }
+        ensures same { AreOwedAsMany self.old self.new }
         ensures arms { OfDisks self.old.engine self.new.engine (λ old new. (D.known new).arms ≡ (D.known old).arms) }
     {
         if self.entries.len() >= MOST_ENTRIES {
             return Ok(Acted::Spent);
         }
         self.entries.reserve(1)?;
-        let handled = if self.engine.is_up() {
-            Handled::only(Outcome::Passed)
+        let came = if self.engine.is_up() {
+            only(alloc, Outcome::Passed)
         } else {
-            restarted(self.engine.restart())
+            restarted(alloc, self.engine.restart())
         };
-        let stamp = self.entries.len() as u64 + 1;
-        self.add(handled.entry(stamp, TrailEvent::Restart));
+        let entry = Entry {
+            stamp: self.entries.len() as u64 + 1,
+            event: Event::Restart,
+            came,
+        };
+        self.add(entry, None);
         Ok(Acted::Did)
     }
 
-    // Adds an entry to the trail, and ties the clients as it leaves them.
-    fn add(&mut self, entry: Entry)
+    // Adds an entry to the trail, behind which clients are owed what was lost.
+    fn add(&mut self, entry: Entry, lost: Option<Sessions>)
         requires { vec_len self.old.entries < vec_capacity self.old.entries }
         ensures entries { self.new.entries.items ≡ self.old.entries.items ++ entry ∷ [] }
-        ensures ties { AreAfter entry.event entry.outcome self.old.ties.items self.new.ties.items }
+        ensures debts { AreAfter entry.event entry.came.outcome lost self.old.debts.items self.new.debts.items }
         ensures engine { self.new.engine ≡ self.old.engine }
         ensures lines { self.new.lines ≡ self.old.lines }
     {
-        tie_all(&mut self.ties, &entry.event, &entry.outcome);
+        settle(&mut self.debts, &entry.event, &entry.came.outcome, &lost);
         self.entries.push_reserved(entry);
     }
-}
-
-// The call of a client, as an event.
-fn event_of(input: Input) -> TrailEvent
-    ensures { result ≡ event_of input }
-{
-    let Input::Call { client, call } = input;
-    TrailEvent::Call { client, call }
 }

@@ -1,168 +1,216 @@
-ghost use Rattle.std.specs.Prelude.{◌≡◌, ◌≤◌, ℕ, Bool, false, true, Ok, Option, None, Some, IfSome, IfNone, Result};
-ghost use Rattle.walter_engine.specs.Engines.{catalog_in, site_in, capacity_in, is_up, OfDisks, IsSameEngine, Stands};
-ghost use Rattle.walter_site.specs.Sites.{client_of, call_of, event_of};
-ghost use Rattle.walter_trail.specs.Rule.{if_told, down_rule, refuses, Expected};
-ghost use Rattle.walter_trail.specs.Standing.{Standing, stands_after};
-ghost use Rattle.walter_trail.specs.Trails.{Comes, failure};
-ghost use Rattle.walter_cell.specs.Handled.{came, refused_first, IsSized, IsFaulty};
-ghost use Rattle.walter_cell.specs.Ties.{IsTied};
-ghost use Rattle.walter_engine.specs.Steps.{came_of_step, came_of_restart, kept_of};
+ghost use Rattle.std.specs.Prelude.{◌≡◌, None, is_some, if◌then◌else◌};
+ghost use Rattle.walter_engine.specs.Engines.{catalog_in, site_in, capacity_in, OfDisks, IsSameEngine, Stands};
+ghost use Rattle.walter_engine.specs.Steps.{only, came_of_step, came_of_restart};
+ghost use Rattle.walter_rules.specs.declared.event.Event.{Event};
+ghost use Rattle.walter_rules.specs.Learning.{after};
+ghost use Rattle.walter_rules.specs.Standing.{Standing, stands_after, goes_down};
+ghost use Rattle.walter_rules.specs.Trails.{Comes, failure, fullness, want};
+ghost use Rattle.walter_site.specs.Members.{IsSizedInput};
+ghost use Rattle.walter_cell.specs.Debts.{IsDebt, IsLoss};
+ghost use Rattle.walter_cell.specs.Handled.{refused_first, lost_in, IsSized, IsFaulty};
 
-use crate::tie::Tie;
-use walter_base::{BadFrame, Record, Refusal, Reply, Request};
+use std::alloc::Global;
+use walter_base::{BadFrame, Record, Refusal, Reply, Request, Sends, Tid};
 use walter_disk::Disk;
 use walter_engine::{Engine, Restarted, Stepped};
-use walter_site::Input;
-use walter_trail::{Entry, Outcome, TrailEvent};
+use walter_rules::{Came, Input, Outcome};
+use walter_session::Sessions;
 
-/// What an event came to, as its entry says it.
-#[derive(Debug, Drop)]
+/// What an event came to, and the sessions that a site lost by it which went down.
+#[derive(Drop)]
 pub struct Handled {
-    pub outcome: Outcome,
-    pub kept: Option<Record>,
-    pub wrote: Option<Record>,
-    pub flight: Option<Record>,
+    pub came: Came,
+    pub lost: Option<Sessions>,
 }
 
-impl Handled {
-    /// Nothing but an outcome.
-    pub fn only(outcome: Outcome) -> Handled
-        ensures { result ≡ record { outcome = outcome; kept = None; wrote = None; flight = None } }
-    {
-        Handled {
-            outcome,
-            kept: None,
-            wrote: None,
-            flight: None,
-        }
-    }
-
-    /// The entry of the event.
-    pub fn entry(self, stamp: u64, event: TrailEvent) -> Entry
-        ensures { result ≡ record { stamp = stamp; event = event; outcome = self.outcome; kept = self.kept; wrote = self.wrote; flight = self.flight } }
-    {
-        let Handled {
-            outcome,
-            kept,
-            wrote,
-            flight,
-        } = self;
-        Entry {
-            stamp,
-            event,
-            outcome,
-            kept,
-            wrote,
-            flight,
-        }
+/// An outcome alone: no record, and nothing put out.
+pub fn only(alloc: Global, outcome: Outcome) -> Came
+    ensures { result ≡ only outcome }
+{
+    Came {
+        outcome,
+        kept: None,
+        wrote: None,
+        flight: None,
+        sends: Sends::from(Vec::new(alloc)),
+        dropped: 0,
     }
 }
 
-/// Gives the site a client's call. A bad frame, a site that is down and a transaction that is gone are answered before the
-/// site is asked.
-pub fn handle<D: Disk + Drop>(engine: &mut Engine<D>, tie: Tie, input: &Input) -> Handled
-    ensures comes { (S : Standing) → Stands engine.old S → IsTied S (client_of input.now) tie
-        → Comes (catalog_in engine.old) (capacity_in engine.old) (site_in engine.old) S (event_of input.now) (came result) }
-    ensures stands { (S : Standing) → Stands engine.old S → IsTied S (client_of input.now) tie
-        → Stands engine.new (stands_after (site_in engine.old) S (event_of input.now) (came result)) }
-    ensures kept { result.kept ≡ None }
-    ensures sized { IsSized result }
-    ensures faults { OfDisks engine.old engine.new (λ old new. IsFaulty result (D.known old).faults (D.known new).faults) }
+/// Gives the site an input. A bad frame, a call of a site that is down and one of a client whose transaction is gone are
+/// answered before the site is asked.
+pub fn handle<D: Disk + Drop>(
+    alloc: Global,
+    engine: &mut Engine<D>,
+    debt: Option<Tid>,
+    input: &Input,
+) -> Handled
+    requires sized { IsSizedInput (catalog_in engine.old).sites input.now }
+    ensures comes { (S : Standing) → Stands engine.old S → IsDebt S input.now debt
+        → Comes (catalog_in engine.old) (capacity_in engine.old) (site_in engine.old) S (Event.Given input.now) result.came }
+    ensures stands { (S : Standing) → Stands engine.old S → IsDebt S input.now debt
+        → Stands engine.new (stands_after (catalog_in engine.old) (site_in engine.old) S (Event.Given input.now) result.came) }
+    ensures loses { (S : Standing) → Stands engine.old S → IsDebt S input.now debt
+        → IsLoss (goes_down (Event.Given input.now) result.came.outcome)
+        (after (catalog_in engine.old) (site_in engine.old) S.knows (Event.Given input.now) result.came.outcome
+        result.came.wrote).sessions result.lost }
+    ensures kept { result.came.kept ≡ None }
+    ensures sized { IsSized result.came }
+    ensures faults { OfDisks engine.old engine.new (λ old new.
+        IsFaulty result.came (D.known old).faults (D.known new).faults) }
     ensures arms { OfDisks engine.old engine.new (λ old new. (D.known new).arms ≡ (D.known old).arms) }
     ensures engine { IsSameEngine engine.old engine.new }
 {
-    match refusal(engine.is_up(), tie, input) {
-        Some(refusal) => Handled::only(Outcome::Replied(Reply::Refused(refusal))),
-        None => stepped(engine.step(input)),
+    match refusal(engine.is_up(), debt, input) {
+        Some(refusal) => Handled {
+            came: only(alloc, Outcome::Replied(Reply::Refused(refusal))),
+            lost: None,
+        },
+        None => stepped(alloc, input, engine.step(input)),
     }
 }
 
 // Why a call is refused before the site is asked, if it is.
-fn refusal(is_up: bool, tie: Tie, input: &Input) -> Option<Refusal>
-    ensures { result ≡ refused_first is_up tie (call_of input.now) }
+fn refusal(is_up: bool, debt: Option<Tid>, input: &Input) -> Option<Refusal>
+    ensures { result ≡ refused_first is_up debt input.now }
 {
-    let Input::Call { call, .. } = input;
-    match (call, tie) {
+    let Input::Call { call, .. } = input else {
+        return None;
+    };
+    match (call, debt) {
         (Err(BadFrame { at }), _) => Some(Refusal::BadFrame { at: *at }),
         (Ok(_), _) if !is_up => Some(Refusal::Down),
         (Ok(Request::Level(_)), _) => None,
-        (Ok(_), Tie::Gone(tid)) => Some(Refusal::Gone { tid }),
-        (Ok(_), _) => None,
+        (Ok(_), Some(tid)) => Some(Refusal::Gone { tid }),
+        (Ok(_), None) => None,
     }
 }
 
 // What a step came to.
-fn stepped(stepped: Stepped) -> Handled
-    ensures came { (client : ℕ) (call : Result Request BadFrame) → came result ≡ came_of_step (TrailEvent.Call client call) stepped }
-    ensures kept { result.kept ≡ None }
+fn stepped(alloc: Global, input: &Input, stepped: Stepped) -> Handled
+    ensures came { result.came ≡ came_of_step (Event.Given input.now) stepped }
+    ensures lost { result.lost ≡ lost_in stepped }
 {
     match stepped {
-        Stepped::Done { reply, wrote } => Handled {
-            outcome: Outcome::Replied(reply),
-            kept: None,
+        Stepped::Done {
+            outcome,
             wrote,
-            flight: None,
+            sends,
+            ..
+        } => Handled {
+            came: Came {
+                outcome,
+                kept: None,
+                wrote,
+                flight: None,
+                sends,
+                dropped: 0,
+            },
+            lost: None,
         },
-        Stepped::Failed { flight } => Handled {
-            outcome: failure(&flight),
-            kept: None,
-            wrote: None,
-            flight: Some(flight),
+        Stepped::Failed { flight, lost } => Handled {
+            came: without_record(alloc, failure(input, &flight), None, Some(flight)),
+            lost: Some(lost),
         },
-        Stepped::Full { need, left } => refused(Refusal::JournalFull { need, left }),
-        Stepped::Down => refused(Refusal::Down),
-        Stepped::NoMemory => refused(Refusal::Memory),
+        Stepped::Full { need, left } => alone(alloc, fullness(input, need, left)),
+        Stepped::Down => alone(alloc, Outcome::Down),
+        Stepped::NoMemory => alone(alloc, want(input)),
     }
 }
 
-fn refused(refusal: Refusal) -> Handled
-    ensures { result ≡ record { outcome = Outcome.Replied (Reply.Refused refusal); kept = None; wrote = None; flight = None } }
+fn alone(alloc: Global, outcome: Outcome) -> Handled
+    ensures { result ≡ record { came = only outcome; lost = None } }
 {
-    Handled::only(Outcome::Replied(Reply::Refused(refusal)))
+    Handled {
+        came: only(alloc, outcome),
+        lost: None,
+    }
 }
 
-// What a client is told whose call's record met a fault of the disk.
-fn failure(flight: &Record) -> Outcome
-    ensures { (client : ℕ) (call : Result Request BadFrame) → result ≡ failure (TrailEvent.Call client call) flight.now }
+// No record was made stable, and nothing put out.
+fn without_record(
+    alloc: Global,
+    outcome: Outcome,
+    kept: Option<Record>,
+    flight: Option<Record>,
+) -> Came
+    ensures { result ≡ record (only outcome) { kept = kept; flight = flight } }
 {
-    match flight {
-        Record::Own(_, tx) => Outcome::Replied(Reply::Unsure(tx.tid)),
+    Came {
+        outcome,
+        kept,
+        wrote: None,
+        flight,
+        sends: Sends::from(Vec::new(alloc)),
+        dropped: 0,
+    }
+}
+
+// What it came to where the record met a fault of the disk. A client is told the name of its transaction.
+fn failure(input: &Input, flight: &Record) -> Outcome
+    ensures { result ≡ failure (Event.Given input.now) flight.now }
+{
+    match (input, flight) {
+        (Input::Call { .. }, Record::Own(_, tx) | Record::SlowBegin(_, tx)) => {
+            Outcome::Replied(Reply::Unsure(tx.tid))
+        }
         _ => Outcome::Failed,
     }
 }
 
+// What it came to where memory ran out.
+fn want(input: &Input) -> Outcome
+    ensures { result ≡ want (Event.Given input.now) }
+{
+    match input {
+        Input::Call { .. } => Outcome::Replied(Reply::Refused(Refusal::Memory)),
+        _ => Outcome::Memory,
+    }
+}
+
+// What it came to where the record found no place.
+fn fullness(input: &Input, need: u64, left: u64) -> Outcome
+    ensures { result ≡ fullness (Event.Given input.now) need left }
+{
+    match input {
+        Input::Call { .. } => Outcome::Replied(Reply::Refused(Refusal::JournalFull { need, left })),
+        _ => Outcome::Full { need, left },
+    }
+}
+
+/// What a stop came to, which lost these sessions, if the site was up.
+pub fn stopped(alloc: Global, lost: Option<Sessions>) -> Handled
+    ensures { result ≡ record { came = only (if is_some lost then Outcome.Taken else Outcome.Down); lost = lost } }
+{
+    let outcome = if lost.is_some() {
+        Outcome::Taken
+    } else {
+        Outcome::Down
+    };
+    Handled {
+        came: only(alloc, outcome),
+        lost,
+    }
+}
+
 /// What a restart came to.
-pub fn restarted(restarted: Restarted) -> Handled
-    ensures came { came result ≡ came_of_restart restarted }
-    ensures kept { result.kept ≡ kept_of restarted }
+pub fn restarted(alloc: Global, restarted: Restarted) -> Came
+    ensures { result ≡ came_of_restart restarted }
 {
     match restarted {
-        Restarted::Up { kept, wrote } => Handled {
+        Restarted::Up { kept, wrote } => Came {
             outcome: Outcome::Taken,
             kept,
             wrote: Some(wrote),
             flight: None,
+            sends: Sends::from(Vec::new(alloc)),
+            dropped: 0,
         },
-        Restarted::Failed { kept, flight } => Handled {
-            outcome: Outcome::Failed,
-            kept,
-            wrote: None,
-            flight,
-        },
-        Restarted::Full { kept, need, left } => rests(kept, Outcome::Full { need, left }),
-        Restarted::Refused { kept, .. } => rests(kept, Outcome::Refused),
-        Restarted::NoMemory { kept } => rests(kept, Outcome::Memory),
-    }
-}
-
-// The site stays down, and no record is written.
-fn rests(kept: Option<Record>, outcome: Outcome) -> Handled
-    ensures { result ≡ record { outcome = outcome; kept = kept; wrote = None; flight = None } }
-{
-    Handled {
-        outcome,
-        kept,
-        wrote: None,
-        flight: None,
+        Restarted::Failed { kept, flight } => without_record(alloc, Outcome::Failed, kept, flight),
+        Restarted::Full { kept, need, left } => {
+            without_record(alloc, Outcome::Full { need, left }, kept, None)
+        }
+        Restarted::Refused { kept, .. } => without_record(alloc, Outcome::Refused, kept, None),
+        Restarted::NoMemory { kept } => without_record(alloc, Outcome::Memory, kept, None),
     }
 }

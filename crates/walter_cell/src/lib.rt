@@ -3,9 +3,9 @@
 
 mod building;
 mod cell;
+mod debt;
 mod handling;
 mod line;
-mod tie;
 
 pub use building::build;
 pub use cell::{Acted, Cell, Serve};

@@ -3,13 +3,13 @@ ghost use Rattle.walter_conn.specs.Connections.{incoming};
 ghost use Rattle.walter_conn.specs.Frames.{Call};
 ghost use Rattle.walter_conn.specs.declared.state.State.TheVariants as state;
 ghost use Rattle.walter_cell.specs.Cells.{IsLine, IsReady, Leaves};
-ghost use Rattle.walter_cell.specs.Handled.{FitsFrame};
+ghost use Rattle.walter_site.specs.Members.{IsShortOutcome};
 
 use std::alloc::Global;
 use walter_base::{Bytes, Mem, NoMemory};
 use walter_conn::{BrokenConn, Conn, Next};
+use walter_rules::Outcome;
 use walter_stream::{BytesSource, NullSink};
-use walter_trail::Outcome;
 
 /// The connection of a client. Its bytes are those of the scenario; the frames of its replies are kept nowhere, since the
 /// trail has the replies.
@@ -40,7 +40,7 @@ pub fn next_call(line: &mut Line, alloc: Global) -> Mem<Next>
 
 /// Writes the reply of an outcome, where it has one.
 pub fn put_reply(line: &mut Line, outcome: &Outcome) -> Result<(), BrokenConn>
-    requires fits { FitsFrame outcome.now }
+    requires fits { IsShortOutcome outcome.now }
     requires open { (incoming line.old).state ≢ state.Broken }
     ensures written { result ≡ Ok tt }
     ensures same { incoming line.new ≡ incoming line.old }

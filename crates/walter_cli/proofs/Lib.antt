@@ -3,6 +3,8 @@ pub mod Turns
 pub mod Giving
 pub mod Causes
 pub mod Early
+pub mod Wholes
+pub mod Alone
 pub mod Played
 pub mod Runs
 pub mod Sure

@@ -12,27 +12,30 @@ use Rattle.walter_engine.specs.Engines.{disk_in, OfDisk, Stands, IsInState}
 use Rattle.walter_engine.specs.Begins.{HasNoRecord}
 use Rattle.walter_engine.specs.States.{disk_under}
 use Rattle.walter_engine.proofs.Resting.{may_have, leaves_bodies}
+use Rattle.walter_linked.specs.Catalogs.{IsWhole}
 use Rattle.walter_reply.specs.Replies.{FitsFrame}
 use Rattle.walter_reply.proofs.Lengths.{short_fits}
 use Rattle.walter_report.specs.Reports.{reply_in, HaveFrames}
+use Rattle.walter_report.specs.Traces.{HasSpellings, HaveSpellings}
+use Rattle.walter_rules.specs.declared.entry.Entry.{Entry}
+use Rattle.walter_rules.specs.declared.outcome.Outcome.{Outcome}
+use Rattle.walter_rules.specs.declared.outcome.Outcome.TheVariants.{Replied, Taken, Passed, Failed, Full, Memory as IsMemory, Down as IsDown, Refused as IsRefused}
+use Rattle.walter_rules.specs.Standing.{Standing}
+use Rattle.walter_rules.specs.Trails.{standing}
 use Rattle.walter_scenario.specs.declared.scenario.Arm.{Arm}
 use Rattle.walter_scenario.specs.declared.scenario.Scenario.{Scenario}
-use Rattle.walter_trail.specs.declared.trail.Entry.{Entry}
-use Rattle.walter_trail.specs.declared.trail.Outcome.{Outcome}
-use Rattle.walter_trail.specs.declared.trail.Outcome.TheVariants.{Replied, Taken, Passed, Failed, Full, Memory as IsMemory, Down as IsDown, Refused as IsRefused}
-use Rattle.walter_trail.specs.Standing.{Standing}
-use Rattle.walter_trail.specs.Trails.{standing, calls_of, IsRightTrail}
-use Rattle.walter_world.specs.Spelled.{the_site}
-use Rattle.walter_world.proofs.RulePromises.{right_named, right_answers}
-use Rattle.walter_world.proofs.SpelledRun.{one_site_legal}
+use Rattle.walter_site.specs.Members.{IsShortOutcome}
+use Rattle.walter_trail.specs.Calls.{calls_of}
 use Rattle.walter_cell.specs.declared.cell.Cell.{Cell}
 use Rattle.walter_cli.specs.declared.ended.Fault.{Fault}
 use Rattle.walter_cli.specs.declared.ended.Fault.TheVariants.{Usage, Scenario as ScenarioFault, Read, Write, Memory, Rack, Journal}
-use Rattle.walter_cell.specs.Cells.{IsKnown, IsCell, IsSizedEntry}
+use Rattle.walter_cell.specs.Cells.{IsKnown, IsCell}
+use Rattle.walter_cell.specs.Entries.{the_site}
 use Rattle.walter_cli.specs.Ending.{IsWriteFault, EndsRun}
-use Rattle.walter_cell.specs.Handled.{FitsFrame as OutcomeFits}
-use Rattle.walter_cli.specs.Headline.{IsDiskOf, IsTold, IsRun, IsWholeRun}
+use Rattle.walter_cell.specs.Handled.{IsSized}
+use Rattle.walter_cli.specs.Headline.{IsDiskOf, AreTold, IsRun, IsWholeRun}
 use Rattle.walter_cli.specs.Plays.{AreCallsOf, IsPlayed, AreArmed, ArmsMore, armed_by, all_arms, arms_of}
+use Rattle.walter_cli.proofs.Alone.{alone_tells}
 use Rattle.walter_cli.proofs.Turns.{engine_disk}
 use Rattle.walter_cli.specs.Racks.{OfADisk, Racked}
 use Rattle.walter_cli.specs.Texts.{text_of}
@@ -90,15 +93,6 @@ cell_calls s cell is = record {
       (stands.rest, calls_told client.bytes (calls_of number cell.entries.items) _ stands.rest stands stands.unread);
 }
 
--- what a right trail tells
-pub trail_tells : (s : Scenario) (trail : List Entry) → s.catalog.sites ≡ 1 → IsRightTrail s.catalog s.capacity the_site trail → IsTold s trail
-trail_tells s trail one right = record {
-  right_trail = right;
-  legal_history = one_site_legal s.catalog s.capacity trail one right;
-  aborts_named = right_named s.catalog s.capacity the_site (reverse trail) right.right;
-  commits_answered = right_answers s.catalog s.capacity the_site (reverse trail) right.right;
-}
-
 -- a cell that was built over a disk without records, and driven
 pub record IsDriven {D : Type 0} {g : Ghosts D} (s : Scenario) (first disk : D) (built cell : Cell D g) : Type 0 where
   pub unarmed : IfSome (g.known first).arms (λ arms. arms ≡ [])
@@ -124,32 +118,33 @@ module _ {D : Type 0} {g : Ghosts D} (s : Scenario) (first disk : D) (built cell
       disk_is s cell disk has.is (has.known told) (sym has.under) (arms_front (g.known disk).arms s has.more.0 has.more.1 has.more.2 (armed_is has.more.0 has.more.3))
 
   -- its trail is that of a run
-  abbrev pub run_is : (rack : Racked) (trails : List (List Entry)) → s.catalog.sites ≡ 1 → (rack.told → IsSome (g.known first).reads) → rack.holds HasNoRecord
+  abbrev pub run_is : (rack : Racked) (trails : List (List Entry)) → IsWhole s.catalog → s.catalog.sites ≡ 1 → (rack.told → IsSome (g.known first).reads) → rack.holds HasNoRecord
       → (rack.told → rack.failed ⊎ rack.gives (IsDiskOf s cell.entries.items)) → trails ≡ cell.entries.items ∷ [] → IsRun rack s trails
-  run_is rack trails one reads none given same = record {
+  run_is rack trails whole one reads none given same = record {
     trail = cell.entries.items;
     one_site = same;
     begins = has.is.site.begins;
     stamps_rise = has.is.site.rise;
     whose_calls = cell_calls s cell has.is;
     no_record_before = none;
-    told = λ told. trail_tells s cell.entries.items one (has.known (reads told)).right;
+    told = λ told. subst (λ (ts : List (List Entry)). AreTold s ts) (sym same)
+        (alone_tells s cell.entries.items whole one (has.known (reads told)).right has.is.calls_within);
     disk_given_back = given;
   }
 
   -- and that of a whole run, where it was driven to its end and the disk was given back
-  pub whole_is : (rack : Racked) (trails : List (List Entry)) → s.catalog.sites ≡ 1 → (rack.told → IsSome (g.known first).reads) → rack.holds HasNoRecord
+  pub whole_is : (rack : Racked) (trails : List (List Entry)) → IsWhole s.catalog → s.catalog.sites ≡ 1 → (rack.told → IsSome (g.known first).reads) → rack.holds HasNoRecord
       → trails ≡ cell.entries.items ∷ [] → IsPlayed s cell.entries.items → AreArmed built cell (s.arms ++ arms_of s.steps)
       → ((P : OfADisk) → P (g.known disk) (g.may_leave disk) → rack.gives P) → IsWholeRun rack s trails
-  whole_is rack trails one reads none same played armed gives = record {
-    run = run_is rack trails one reads none (λ told. inr (gives (IsDiskOf s cell.entries.items) (disk_driven (reads told)))) same;
+  whole_is rack trails whole one reads none same played armed gives = record {
+    run = run_is rack trails whole one reads none (λ told. inr (gives (IsDiskOf s cell.entries.items) (disk_driven (reads told)))) same;
     how_driven = played;
     armed = gives (λ known images. IfSome known.arms (λ arms. arms ≡ all_arms s)) (armed_is (s.arms ++ arms_of s.steps) armed);
     given_back = λ told. gives (IsDiskOf s cell.entries.items) (disk_driven (reads told));
   }
 
 -- its replies have frames, and its records spellings
-pub outcome_frames : (outcome : Outcome) → OutcomeFits outcome → All FitsFrame (reply_in outcome)
+pub outcome_frames : (outcome : Outcome) → IsShortOutcome outcome → All FitsFrame (reply_in outcome)
 outcome_frames (Replied reply) fits = All-push FitsFrame [] reply (λ k d within. absurd (omega (arith, within))) (short_fits reply fits)
 outcome_frames Taken fits = λ k d within. absurd (omega (arith, within))
 outcome_frames Passed fits = λ k d within. absurd (omega (arith, within))
@@ -162,8 +157,14 @@ outcome_frames IsRefused fits = λ k d within. absurd (omega (arith, within))
 pub cell_frames : {D : Type 0} {g : Ghosts D} (s : Scenario) (cell : Cell D g) (trails : List (List Entry)) → IsCell s cell → trails ≡ cell.entries.items ∷ [] → HaveFrames trails
 cell_frames s cell trails is same =
     subst HaveFrames (sym same)
-    (All-push (λ (trail : List Entry). All (λ (e : Entry). All FitsFrame (reply_in e.outcome)) trail) [] cell.entries.items (λ k d within. absurd (omega (arith, within)))
-    (All-weaker IsSizedEntry (λ (e : Entry). All FitsFrame (reply_in e.outcome)) (λ e sized. outcome_frames e.outcome sized.outcome) cell.entries.items is.site.sized))
+    (All-push (λ (trail : List Entry). All (λ (e : Entry). All FitsFrame (reply_in e.came.outcome)) trail) [] cell.entries.items (λ k d within. absurd (omega (arith, within)))
+    (All-weaker (λ (e : Entry). IsSized e.came) (λ (e : Entry). All FitsFrame (reply_in e.came.outcome)) (λ e sized. outcome_frames e.came.outcome sized.outcome) cell.entries.items is.site.sized))
+
+pub cell_spellings : {D : Type 0} {g : Ghosts D} (s : Scenario) (cell : Cell D g) (trails : List (List Entry)) → IsCell s cell → trails ≡ cell.entries.items ∷ [] → HaveSpellings trails
+cell_spellings s cell trails is same =
+    subst HaveSpellings (sym same)
+    (All-push (λ (trail : List Entry). All HasSpellings trail) [] cell.entries.items (λ k d within. absurd (omega (arith, within)))
+    (All-weaker (λ (e : Entry). IsSized e.came) HasSpellings (λ e sized. record { kept = sized.kept; wrote = sized.wrote; flight = sized.flight }) cell.entries.items is.site.sized))
 
 -- the end of a run, told by equal trails and an equal fault
 pub ends_with : (rack : Racked) (trace : Bool) (s : Scenario) (holds holds' : Option (List ℕ)) (faults faults' : ℕ) (trails told : List (List Entry)) (fault named : Option Fault)

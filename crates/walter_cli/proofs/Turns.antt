@@ -10,19 +10,19 @@ use Rattle.walter_engine.specs.declared.engine.Engine.{Engine}
 use Rattle.walter_engine.specs.declared.engine.State.{State}
 use Rattle.walter_engine.specs.Engines.{disk_in, OfDisks}
 use Rattle.walter_engine.specs.States.{disk_under, disk_of_state}
+use Rattle.walter_rules.specs.declared.entry.Entry.{Entry}
+use Rattle.walter_rules.specs.declared.event.Event.{Event}
 use Rattle.walter_scenario.specs.declared.scenario.Arm.{Arm}
 use Rattle.walter_scenario.specs.declared.scenario.Client.{Client}
 use Rattle.walter_scenario.specs.declared.scenario.Scenario.{Scenario}
 use Rattle.walter_scenario.specs.declared.scenario.Step.{Step}
-use Rattle.walter_trail.specs.declared.trail.Entry.{Entry}
-use Rattle.walter_trail.specs.declared.trail.TrailEvent.{TrailEvent}
-use Rattle.walter_trail.specs.Trails.{call_by, calls_of}
+use Rattle.walter_trail.specs.Calls.{call_by, calls_of}
 use Rattle.walter_cell.specs.declared.cell.Acted.{Acted}
 use Rattle.walter_cell.specs.declared.cell.Acted.TheVariants as acted
 use Rattle.walter_cell.specs.declared.cell.Cell.{Cell}
 use Rattle.walter_cell.specs.declared.cell.Serve.{Serve}
 use Rattle.walter_cell.specs.declared.cell.Serve.TheVariants as serve
-use Rattle.walter_cell.specs.Cells.{IsSite, IsCell, IsLineAt, Grows, IsCallOf, TurnsTo, Acts, IsTiedAsMany}
+use Rattle.walter_cell.specs.Cells.{IsSite, IsCell, IsLineAt, Grows, IsCallOf, TurnsTo, Acts, AreOwedAsMany}
 use Rattle.walter_cell.specs.Entries.{IsOfClients}
 use Rattle.walter_cli.specs.Plays.{IsTurn, IsEvent, Takes, Plays, AreArmed, ArmsMore, armed_by, arms_of, arms_by, spent, over, served, came}
 use Rattle.walter_cell.proofs.Asked.{of_disks_so}
@@ -46,13 +46,13 @@ within_grown : (clients number : ℕ) (old new : List Entry) → number < client
 within_grown clients number old new within all (inl same) = subst (λ es. All (λ (e : Entry). IsOfClients clients e.event) es) (sym same) all
 within_grown clients number old new within all (inr more) =
     subst (λ es. All (λ (e : Entry). IsOfClients clients e.event) es) (sym more.1)
-    (All-push (λ (e : Entry). IsOfClients clients e.event) old more.0 all (subst (λ (v : TrailEvent). IsOfClients clients v) (sym more.2.1) within))
+    (All-push (λ (e : Entry). IsOfClients clients e.event) old more.0 all (subst (λ (v : Event). IsOfClients clients v) (sym more.2.1) within))
 
 -- a stop or a restart calls nothing
-abbrev pub IsNoCall : TrailEvent → Type 0
+abbrev pub IsNoCall : Event → Type 0
 IsNoCall ev = (client : ℕ) → call_by client ev ≡ []
 
-none_called : (client : ℕ) (ev : TrailEvent) (old new : List Entry) → IsNoCall ev → (answer : Acted) → Acts ev old new answer → calls_of client new ≡ calls_of client old
+none_called : (client : ℕ) (ev : Event) (old new : List Entry) → IsNoCall ev → (answer : Acted) → Acts ev old new answer → calls_of client new ≡ calls_of client old
 none_called client ev old new none acted.Spent acts = ap (λ es. calls_of client es) acts.1
 none_called client ev old new none acted.Did acts =
     let e = acts.1.0 in
@@ -60,12 +60,12 @@ none_called client ev old new none acted.Did acts =
     ∙ (flat_map-append (λ (z : Entry). call_by client z.event) old (e ∷ [])
     ∙ (ap (λ xs. calls_of client old ++ xs) (append-nil (call_by client e.event) ∙ (ap (λ v. call_by client v) acts.1.2 ∙ none client)) ∙ append-nil (calls_of client old)))
 
-within_acted : (clients : ℕ) (ev : TrailEvent) (old new : List Entry) → IsOfClients clients ev → (answer : Acted) → Acts ev old new answer
+within_acted : (clients : ℕ) (ev : Event) (old new : List Entry) → IsOfClients clients ev → (answer : Acted) → Acts ev old new answer
     → All (λ (e : Entry). IsOfClients clients e.event) old → All (λ (e : Entry). IsOfClients clients e.event) new
 within_acted clients ev old new of acted.Spent acts all = subst (λ es. All (λ (e : Entry). IsOfClients clients e.event) es) (sym acts.1) all
 within_acted clients ev old new of acted.Did acts all =
     subst (λ es. All (λ (e : Entry). IsOfClients clients e.event) es) (sym acts.1.1)
-    (All-push (λ (e : Entry). IsOfClients clients e.event) old acts.1.0 all (subst (λ (v : TrailEvent). IsOfClients clients v) (sym acts.1.2) of))
+    (All-push (λ (e : Entry). IsOfClients clients e.event) old acts.1.0 all (subst (λ (v : Event). IsOfClients clients v) (sym acts.1.2) of))
 
 -- whatever a turn comes to is a turn
 pub turn_is : (number : ℕ) (bytes : List ℕ) (old new : List Entry) (answer : Serve) → TurnsTo number bytes old new answer → IsTurn number bytes old new
@@ -74,7 +74,7 @@ turn_is number bytes old new serve.Ended turn = over turn.0 turn.1 turn.2
 turn_is number bytes old new serve.Broken turn = over turn.0 turn.1 turn.2
 turn_is number bytes old new serve.Served turn = served turn.0 turn.1.0 turn.1.1 turn.1.2 turn.1.3 turn.1.4 turn.1.5
 
-pub event_is : (ev : TrailEvent) (old new : List Entry) (answer : Acted) → Acts ev old new answer → IsEvent ev old new
+pub event_is : (ev : Event) (old new : List Entry) (answer : Acted) → Acts ev old new answer → IsEvent ev old new
 event_is ev old new acted.Spent acts = spent acts.0 acts.1
 event_is ev old new acted.Did acts = came acts.0 acts.1.0 acts.1.1 acts.1.2
 
@@ -91,12 +91,12 @@ module _ {D : Type 0} {g : Ghosts D} (s : Scenario) (old new : Cell D g) (is : I
   pub cell_grown : (number : ℕ) → number < length s.clients → Grows (IsCallOf number) old.entries.items new.entries.items
       → ((bytes : List ℕ) → IsLineAt bytes (calls_of number old.entries.items) old.lines.items number → IsLineAt bytes (calls_of number new.entries.items) new.lines.items number)
       → ((other : ℕ) → other ≢ number → slice_get new.lines.items other ≡ slice_get old.lines.items other)
-      → length new.lines.items ≡ length old.lines.items → length new.ties.items ≡ length old.ties.items → IsCell s new
-  cell_grown number within grows line others long ties = record {
+      → length new.lines.items ≡ length old.lines.items → length new.debts.items ≡ length old.debts.items → IsCell s new
+  cell_grown number within grows line others long debts = record {
     site = site;
     calls_within = within_grown (length s.clients) number old.entries.items new.entries.items within is.calls_within grows;
     long = long ∙ is.long;
-    ties = ties ∙ is.ties;
+    debts = debts ∙ is.debts;
     lines = λ other client at. elim (cases_eq other number) [
       | inl here ↦
           let at_ = ap (λ n. slice_get s.clients n) (sym here) ∙ at in
@@ -109,12 +109,12 @@ module _ {D : Type 0} {g : Ghosts D} (s : Scenario) (old new : Cell D g) (is : I
   }
 
   -- after a stop or a restart
-  pub cell_acted : (ev : TrailEvent) → IsNoCall ev → IsOfClients (length s.clients) ev → (answer : Acted) → Acts ev old.entries.items new.entries.items answer → IsTiedAsMany old new → IsCell s new
+  pub cell_acted : (ev : Event) → IsNoCall ev → IsOfClients (length s.clients) ev → (answer : Acted) → Acts ev old.entries.items new.entries.items answer → AreOwedAsMany old new → IsCell s new
   cell_acted ev none of answer acts same = record {
     site = site;
     calls_within = within_acted (length s.clients) ev old.entries.items new.entries.items of answer acts is.calls_within;
     long = ap (λ ls. length ls.items) same.lines ∙ is.long;
-    ties = same.ties ∙ is.ties;
+    debts = same.debts ∙ is.debts;
     lines = λ number client at.
         let before = is.lines number client at in
         let calls = none_called number ev old.entries.items new.entries.items none answer acts in
@@ -122,12 +122,12 @@ module _ {D : Type 0} {g : Ghosts D} (s : Scenario) (old new : Cell D g) (is : I
   }
 
   -- with the same entries
-  pub cell_kept : new.entries.items ≡ old.entries.items → new.lines ≡ old.lines → length new.ties.items ≡ length old.ties.items → IsCell s new
-  cell_kept entries lines ties = record {
+  pub cell_kept : new.entries.items ≡ old.entries.items → new.lines ≡ old.lines → length new.debts.items ≡ length old.debts.items → IsCell s new
+  cell_kept entries lines debts = record {
     site = site;
     calls_within = subst (λ es. All (λ (e : Entry). IsOfClients (length s.clients) e.event) es) (sym entries) is.calls_within;
     long = ap (λ ls. length ls.items) lines ∙ is.long;
-    ties = ties ∙ is.ties;
+    debts = debts ∙ is.debts;
     lines = λ number client at.
         let before = is.lines number client at in
         subst (λ es. IsLineAt client.bytes (calls_of number es) new.lines.items number) (sym entries) (before.0, ap (λ ls. slice_get ls.items number) lines ∙ before.1, before.2);

@@ -3,15 +3,15 @@
 use Rattle.std.specs.Prelude.{◌≡◌, ◌≢◌, ◌<◌, ◌↔◌, ◌⊎◌, ℕ, Bool, List, [], ◌∷◌, count_by, Some, String}
 use Rattle.std.specs.Global.{Global}
 use Rattle.walter_cell.specs.Handled.{is_faulty}
+use Rattle.walter_rules.specs.declared.entry.Entry.{Entry}
 use Rattle.walter_scenario.specs.declared.place.Detail.{Detail}
 use Rattle.walter_scenario.specs.declared.place.Place.{Place}
 use Rattle.walter_scenario.specs.declared.scenario.Scenario.{Scenario}
 use Rattle.walter_scenario.specs.Scenarios.{IsReading, IsRefusedAt}
 use Rattle.walter_stream.specs.Streams.{Appends, AppendsFront}
-use Rattle.walter_trail.specs.declared.trail.Entry.{Entry}
 use Rattle.walter_cli.specs.declared.ended.Ended.{Ended}
 use Rattle.walter_cli.specs.declared.ended.Fault.TheVariants as fault
-use Rattle.walter_cli.specs.Headline.{Outside, IsSource, HasNoReading, IsTold}
+use Rattle.walter_cli.specs.Headline.{Outside, IsSource, HasNoReading, AreTold}
 use Rattle.walter_cli.specs.Plays.{AreCallsOf, IsPlayed, all_arms}
 use Rattle.walter_cli.specs.Statuses.{status_of}
 use Rattle.walter_cli.specs.Texts.{text_of}
@@ -27,8 +27,8 @@ pub record IsSureRun (before after : Outside) (trails : List (List Entry)) : Typ
   pub trail : List Entry
   pub one_site : trails ≡ trail ∷ []
   pub whose_calls : AreCallsOf scenario.clients trail
-  pub tells : IsTold scenario trail
-  pub unarmed : all_arms scenario ≡ [] → count_by (λ e. is_faulty e.outcome) trail ≡ 0
+  pub tells : AreTold scenario trails
+  pub unarmed : all_arms scenario ≡ [] → count_by (λ e. is_faulty e.came.outcome) trail ≡ 0
 
 -- it was driven by the steps of the scenario, to the last, and this was written of its report
 pub record IsSureReport (words : List (String Global)) (before after : Outside) (trails : List (List Entry))

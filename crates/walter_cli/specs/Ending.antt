@@ -6,13 +6,13 @@ use Rattle.walter_disk.specs.Racks.{IsFresh}
 use Rattle.walter_disk.specs.declared.disk.Disk.{Ghosts}
 use Rattle.walter_engine.specs.Begins.{HasNoRecord}
 use Rattle.walter_engine.specs.Engines.{OfDisk}
+use Rattle.walter_engine.specs.Steps.{opening}
 use Rattle.walter_engine.specs.declared.answers.Unbegun.{Unbegun}
 use Rattle.walter_engine.specs.declared.answers.Unbegun.TheVariants as unbegun
+use Rattle.walter_rules.specs.declared.entry.Entry.{Entry}
 use Rattle.walter_scenario.specs.declared.scenario.Scenario.{Scenario}
 use Rattle.walter_scenario.specs.Scenarios.{IsReading}
 use Rattle.walter_stream.specs.Streams.{Appends, AppendsFront}
-use Rattle.walter_trail.specs.declared.trail.Entry.{Entry}
-use Rattle.walter_trail.specs.Trails.{opening}
 use Rattle.walter_cli.specs.declared.ended.Fault.{Fault}
 use Rattle.walter_cli.specs.declared.ended.Fault.TheVariants.{Usage, Scenario as ScenarioFault, Read, Write, Memory, Rack, Journal}
 use Rattle.walter_cli.specs.declared.ended.JournalCause.TheVariants.{Foreign, Damaged, Used}

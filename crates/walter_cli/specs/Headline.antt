@@ -2,21 +2,25 @@
 use Rattle.std.specs.Prelude.{◌≡◌, ◌≢◌, ◌<◌, ◌≤◌, ◌↔◌, ◌⊎◌, ℕ, Bool, List, [], ◌∷◌, length, reverse, count_by, ◌++◌, slice_get, Option, Some, IfSome, String}
 use Rattle.std.specs.Global.{Global}
 use Rattle.walter_disk.specs.Disks.{DiskState}
-use Rattle.walter_cell.specs.Entries.{HaveRisingStamps}
+use Rattle.walter_cell.specs.Entries.{HaveRisingStamps, the_site}
 use Rattle.walter_engine.specs.Begins.{HasNoRecord}
 use Rattle.walter_engine.specs.Contents.{MayHaveRecords}
+use Rattle.walter_engine.specs.Steps.{opening}
 use Rattle.walter_psi.specs.Legal.{IsLegal}
+use Rattle.walter_refinement.specs.Answered.{AnswerCommits}
+use Rattle.walter_refinement.specs.Named.{AreNamed}
+use Rattle.walter_refinement.specs.Once.{StandsOnce}
+use Rattle.walter_refinement.specs.Spelled.{psi_of}
+use Rattle.walter_rules.specs.declared.entry.Entry.{Entry}
+use Rattle.walter_rules.specs.Merges.{merge}
+use Rattle.walter_rules.specs.Trails.{standing}
+use Rattle.walter_runs.specs.Runs.{AreRightTrails}
 use Rattle.walter_scenario.specs.declared.place.Detail.{Detail}
 use Rattle.walter_scenario.specs.declared.place.Place.{Place}
 use Rattle.walter_scenario.specs.declared.place.Place.TheVariants.{TooLong}
 use Rattle.walter_scenario.specs.declared.scenario.Scenario.{Scenario}
 use Rattle.walter_scenario.specs.Scenarios.{IsReading, IsRefusedAt}
 use Rattle.walter_stream.specs.Streams.{AtEnd, TakesFront, Appends, AppendsFront}
-use Rattle.walter_trail.specs.declared.trail.Entry.{Entry}
-use Rattle.walter_trail.specs.Merges.{merge}
-use Rattle.walter_trail.specs.Trails.{standing, opening, IsRightTrail}
-use Rattle.walter_world.specs.Promises.{AreNamed, AnswersCommits}
-use Rattle.walter_world.specs.Spelled.{the_site, psi_of}
 use Rattle.walter_cli.specs.declared.ended.Ended.{Ended}
 use Rattle.walter_cli.specs.declared.ended.Fault.TheVariants as fault
 use Rattle.walter_cli.specs.declared.ended.JournalCause.{JournalCause}
@@ -55,16 +59,18 @@ pub record HasNoReading (before after : Option (List ℕ)) (place : Place) : Typ
 pub record IsDiskOf (s : Scenario) (trail : List Entry) (known : DiskState) (images : List ℕ → Type 0) : Type 0 where
   pub records : (image : List ℕ) → images image
       → MayHaveRecords (standing s.catalog the_site (reverse trail)).records (standing s.catalog the_site (reverse trail)).flight image
-  pub faults : count_by (λ e. is_faulty e.outcome) trail ≤ known.faults
+  pub faults : count_by (λ e. is_faulty e.came.outcome) trail ≤ known.faults
   pub arms : IfSome known.arms (λ arms. (more : List (ℕ × ℕ)) × (all_arms s ≡ arms ++ more))
 
--- what the trails tell of a site whose disk tells what it holds: its trail is right, and spells a legal history; each abort has
--- its cause; and no Commit without a conflict gives up, but for memory, the disk and its capacity
-pub record IsTold (s : Scenario) (trail : List Entry) : Type 0 where
-  pub right_trail : IsRightTrail s.catalog s.capacity the_site trail
-  pub legal_history : IsLegal (psi_of s.catalog (merge (trail ∷ [])))
-  pub aborts_named : AreNamed s.catalog the_site (reverse trail)
-  pub commits_answered : AnswersCommits s.catalog s.capacity the_site (reverse trail)
+-- what the trails tell of sites whose disks tell what they hold: they are right and linked, and spell a legal history,
+-- in which no transaction commits twice; each abort was asked for or names its conflict; and no Commit without a
+-- conflict whose objects are all preferred there gives up, but for memory, the disk and its capacity
+pub record AreTold (s : Scenario) (trails : List (List Entry)) : Type 0 where
+  pub right_trails : AreRightTrails s.catalog s.capacity trails
+  pub legal_history : IsLegal (psi_of s.catalog (merge trails))
+  pub commits_once : StandsOnce s.catalog (reverse (merge trails))
+  pub aborts_named : AreNamed s.catalog (reverse (merge trails))
+  pub commits_answered : AnswerCommits s.catalog s.capacity trails
 
 -- the trails of a run of a scenario over a disk without records: there is one site, whose trail begins with the opening
 -- and has rising stamps; each call is one of its client's, in order; and where its disk is told all that the trail tells
@@ -76,7 +82,7 @@ pub record IsRun (rack : Racked) (s : Scenario) (trails : List (List Entry)) : T
   pub stamps_rise : HaveRisingStamps (reverse trail)
   pub whose_calls : AreCallsOf s.clients trail
   pub no_record_before : rack.holds HasNoRecord
-  pub told : rack.told → IsTold s trail
+  pub told : rack.told → AreTold s trails
   pub disk_given_back : rack.told → rack.failed ⊎ rack.gives (IsDiskOf s trail)
 
 -- it was driven by the steps of the scenario, to the last; all that it arms is armed; and the disk was given back

@@ -9,10 +9,12 @@ use Rattle.walter_scenario.specs.declared.scenario.Client.{Client}
 use Rattle.walter_scenario.specs.declared.scenario.Scenario.{Scenario}
 use Rattle.walter_scenario.specs.declared.scenario.Step.{Step}
 use Rattle.walter_scenario.specs.declared.scenario.Step.TheVariants as step
-use Rattle.walter_trail.specs.declared.trail.Entry.{Entry}
-use Rattle.walter_trail.specs.declared.trail.TrailEvent.{TrailEvent}
-use Rattle.walter_trail.specs.declared.trail.TrailEvent.TheVariants as event
-use Rattle.walter_trail.specs.Trails.{calls_of, opening}
+use Rattle.walter_engine.specs.Steps.{opening}
+use Rattle.walter_rules.specs.declared.entry.Entry.{Entry}
+use Rattle.walter_rules.specs.declared.event.Event.{Event}
+use Rattle.walter_rules.specs.declared.event.Event.TheVariants as event
+use Rattle.walter_rules.specs.declared.event.Input.TheVariants as input
+use Rattle.walter_trail.specs.Calls.{calls_of}
 use Rattle.walter_cell.specs.Entries.{IsSpent, IsOfClients}
 use Rattle.walter_cell.specs.declared.cell.Cell.{Cell}
 
@@ -21,11 +23,12 @@ use Rattle.walter_cell.specs.declared.cell.Cell.{Cell}
 pub data IsTurn (client : ℕ) (bytes : List ℕ) (old new : List Entry) : Type 0 where
   spent : IsSpent old → new ≡ old → IsTurn client bytes old new
   over : length old < 100000 → AreAllCalls bytes (calls_of client old) → new ≡ old → IsTurn client bytes old new
-  served : length old < 100000 → (e : Entry) (call : Call) (rest : List ℕ) → new ≡ old ++ e ∷ [] → e.event ≡ event.Call client call
+  served : length old < 100000 → (e : Entry) (call : Call) (rest : List ℕ) → new ≡ old ++ e ∷ []
+      → e.event ≡ event.Given (input.Call client call)
       → AreCalls bytes (calls_of client new) rest → IsTurn client bytes old new
 
 -- an event comes to the trail, but where this is spent
-pub data IsEvent (ev : TrailEvent) (old new : List Entry) : Type 0 where
+pub data IsEvent (ev : Event) (old new : List Entry) : Type 0 where
   spent : IsSpent old → new ≡ old → IsEvent ev old new
   came : length old < 100000 → (e : Entry) → new ≡ old ++ e ∷ [] → e.event ≡ ev → IsEvent ev old new
 

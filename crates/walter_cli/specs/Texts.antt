@@ -3,7 +3,7 @@ use Rattle.std.specs.Prelude.{ℕ, Bool, true, false, List, ◌++◌}
 use Rattle.walter_report.specs.Reports.{report_text}
 use Rattle.walter_report.specs.Traces.{trace_text}
 use Rattle.walter_scenario.specs.declared.scenario.Scenario.{Scenario}
-use Rattle.walter_trail.specs.declared.trail.Entry.{Entry}
+use Rattle.walter_rules.specs.declared.entry.Entry.{Entry}
 
 -- the report, with the trace behind it where one is asked for
 abbrev pub text_of : Bool → Scenario → List (List Entry) → List ℕ

@@ -1,6 +1,6 @@
 ghost use Rattle.std.specs.Prelude.{◌≡◌, ◌++◌, [], ◌∷◌, ℕ, List, length, take, map, All, OnOk};
 ghost use Rattle.walter_scenario.specs.Parts.{IsArm, IsStep};
-ghost use Rattle.walter_trail.specs.Trails.{opening};
+ghost use Rattle.walter_engine.specs.Steps.{opening};
 ghost use Rattle.walter_cell.specs.Cells.{IsCell, IsKnown};
 ghost use Rattle.walter_cli.specs.Plays.{Takes, IsPlayed, AreArmed, ArmsMore, arms_of};
 
@@ -51,10 +51,10 @@ fn take_step<D: Disk + Drop>(
             cell.serve(alloc, client)?;
         }
         Step::Stop(_) => {
-            cell.stop()?;
+            cell.stop(alloc)?;
         }
         Step::Restart(_) => {
-            cell.restart()?;
+            cell.restart(alloc)?;
         }
         Step::Arm(Arm { nth, choice, .. }) => cell.arm(nth, choice)?,
     }

@@ -1,4 +1,5 @@
 ghost use Rattle.std.specs.Prelude.{◌≡◌, ◌≤◌, ◌<◌, length, All, IfOk, OnOk, IfErr};
+ghost use Rattle.walter_linked.specs.Catalogs.{IsWhole};
 ghost use Rattle.walter_report.specs.Reports.{HaveFrames};
 ghost use Rattle.walter_report.specs.Traces.{HaveSpellings};
 ghost use Rattle.walter_scenario.specs.Parts.{IsArm, IsStep, IsCapacity};
@@ -31,6 +32,8 @@ pub fn run<K: Sink, R: Rack>(
     rack: &mut R,
 ) -> Ended
     requires sites { scenario.now.catalog.sites ≡ 1 }
+    requires fewer { scenario.now.catalog.tolerated < scenario.now.catalog.sites }
+    requires whole { IsWhole scenario.now.catalog }
     requires capacity { IsCapacity scenario.now.capacity }
     requires arms { All (IsArm 1) scenario.now.arms }
     requires steps { All (IsStep 1 (length scenario.now.clients)) scenario.now.steps }
@@ -98,6 +101,7 @@ fn build_over<R: Rack>(
     rack: &mut R,
 ) -> Result<Cell<R::D>, Fault>
     requires sites { scenario.now.catalog.sites ≡ 1 }
+    requires fewer { scenario.now.catalog.tolerated < scenario.now.catalog.sites }
     requires capacity { IsCapacity scenario.now.capacity }
     ensures built { IfOk result (IsBuilt
         (record {

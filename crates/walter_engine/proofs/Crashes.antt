@@ -1,6 +1,7 @@
 -- What a crash within a step or a restart leaves.
 use Rattle.std.proofs.Common.{◌≡◌, ℕ, ◌+◌, List, [], ◌∷◌, ◌++◌, map, Option, refl, ap, sym, ◌∙◌, subst, inl, inr, arith}
 use Rattle.std.proofs.lemmas.List.{map-append}
+use Rattle.walter_base.specs.declared.catalog.Catalog.{Catalog}
 use Rattle.walter_base.specs.declared.message.Record.{Record}
 use Rattle.walter_base.specs.declared.message.Record.TheVariants.{Boot}
 use Rattle.walter_base.specs.declared.names.SiteId.{SiteId}
@@ -11,8 +12,7 @@ use Rattle.walter_journal.specs.Journals.{disk_of, StandsFor}
 use Rattle.walter_journal.specs.Layout.{HasContent, IsBeforeOrBehind}
 use Rattle.walter_disk.proofs.Moments.{weaker, joined}
 use Rattle.walter_record.specs.Spelling.{record_spelled}
-use Rattle.walter_trail.specs.Knowledge.{Knowledge}
-use Rattle.walter_trail.specs.Standing.{Standing, settled}
+use Rattle.walter_rules.specs.Standing.{Standing, settled}
 use Rattle.walter_engine.specs.Advances.{IsSameJournal}
 use Rattle.walter_engine.specs.Contents.{MayHaveRecords, MayHaveBoot}
 use Rattle.walter_engine.specs.Raises.{IsFoundIn}
@@ -25,14 +25,18 @@ found_may_have S bodies (inr behind) image has =
     subst (λ flight. MayHaveRecords S.records flight image) (sym behind.1) (inr (subst (λ bodies. HasContent image bodies) behind.2 has))
 
 -- these bodies, or the next epoch behind them
-pub boot_may_have : (i : SiteId) (S : Standing) (kept : Option Record) (bodies : List (List ℕ)) (K : Knowledge) → IsFoundIn S bodies → bodies ≡ map record_spelled (settled i kept S).records
-    → K ≡ (settled i kept S).knows → (image : List ℕ) → IsBeforeOrBehind bodies (record_spelled (Boot (K.epoch + 1))) image → MayHaveBoot i S kept image
-boot_may_have i S kept bodies K found is knows image (inl has) = inl (found_may_have S bodies found image has)
-boot_may_have i S kept bodies K found is knows image (inr has) =
-    let records = (settled i kept S).records in
-    let epoch = (settled i kept S).knows.epoch in
-    let behind = ap (λ (n : ℕ). bodies ++ record_spelled (Boot (n + 1)) ∷ []) (ap (λ (k : Knowledge). k.epoch) knows)
-    ∙ (ap (λ (front : List (List ℕ)). front ++ record_spelled (Boot (epoch + 1)) ∷ []) is ∙ sym (map-append record_spelled records (Boot (epoch + 1) ∷ []))) in
+pub boot_may_have : (catalog : Catalog) (i : SiteId) (S : Standing) (kept : Option Record) (bodies : List (List ℕ))
+    (last : ℕ) → IsFoundIn S bodies → bodies ≡ map record_spelled (settled catalog i kept S).records
+    → last ≡ (settled catalog i kept S).knows.epoch → (image : List ℕ)
+    → IsBeforeOrBehind bodies (record_spelled (Boot (last + 1))) image → MayHaveBoot catalog i S kept image
+boot_may_have catalog i S kept bodies last found is knows image (inl has) =
+    inl (found_may_have S bodies found image has)
+boot_may_have catalog i S kept bodies last found is knows image (inr has) =
+    let records = (settled catalog i kept S).records in
+    let epoch = (settled catalog i kept S).knows.epoch in
+    let behind = ap (λ (n : ℕ). bodies ++ record_spelled (Boot (n + 1)) ∷ []) knows
+    ∙ (ap (λ (front : List (List ℕ)). front ++ record_spelled (Boot (epoch + 1)) ∷ []) is
+    ∙ sym (map-append record_spelled records (Boot (epoch + 1) ∷ []))) in
     inr (subst (λ bodies. HasContent image bodies) behind has)
 
 module _ {D : Type 0} {g : Ghosts D} where

@@ -11,10 +11,10 @@ use Rattle.walter_disk.proofs.Moments.{weaker, joined}
 use Rattle.walter_journal.specs.declared.journal.Journal.{Journal}
 use Rattle.walter_journal.specs.Journals.{disk_of, StandsFor}
 use Rattle.walter_journal.specs.Layout.{HasContent}
-use Rattle.walter_trail.specs.declared.trail.Outcome.TheVariants.{Taken}
-use Rattle.walter_trail.specs.declared.trail.TrailEvent.TheVariants.{Restart}
-use Rattle.walter_trail.specs.Standing.{Came, settled, stands_after, unmade}
-use Rattle.walter_trail.specs.Trails.{Comes, IsFound, came_of, opening}
+use Rattle.walter_rules.specs.declared.event.Event.TheVariants.{Restart}
+use Rattle.walter_rules.specs.declared.entry.Came.{Came}
+use Rattle.walter_rules.specs.Standing.{settled, stands_after, unmade}
+use Rattle.walter_rules.specs.Trails.{Comes, IsFound}
 use Rattle.walter_engine.specs.declared.answers.Restarted.{Restarted}
 use Rattle.walter_engine.specs.declared.answers.Restarted.TheVariants as restarted
 use Rattle.walter_engine.specs.declared.answers.Unbegun.{Unbegun}
@@ -26,7 +26,7 @@ use Rattle.walter_engine.specs.Engines.{IsInState, IsTallied}
 use Rattle.walter_engine.specs.Firsts.{HasFirstEpoch, IsAnswerTo, MayHaveFirst}
 use Rattle.walter_engine.specs.Raises.{Boots, Raises, IsDown, IsCounted, IsRefused}
 use Rattle.walter_engine.specs.States.{IsOf, disk_of_state}
-use Rattle.walter_engine.specs.Steps.{came_of_restart, kept_of}
+use Rattle.walter_engine.specs.Steps.{came_of_restart, kept_of, opening}
 use Rattle.walter_engine.proofs.Resting.{SizeIs, size_told}
 
 on_ok : {T E : Type 0} (r : Result T E) (P : Type 0) → P → OnOk r P
@@ -42,38 +42,41 @@ no_bodies f [] none = refl
 no_bodies f (x ∷ xs) none = absurd (omega arith)
 
 -- nothing is in flight before the first event
-none_kept : (sites : ℕ) (kept : Option Record) → IfSome kept (IsFound (unmade sites) Restart) → kept ≡ None
-none_kept sites None found = refl
-none_kept sites (Some rec) found = absurd (let none = found.in_flight in cc)
+none_kept : (kept : Option Record) → IfSome kept (IsFound unmade Restart) → kept ≡ None
+none_kept None found = refl
+none_kept (Some rec) found = absurd (let none = found.in_flight in cc)
 
-pub rests_new : (sites : ℕ) → IsDown (unmade sites)
-rests_new sites = record { down = refl; rests = refl }
+pub rests_new : IsDown unmade
+rests_new = record { down = refl; rests = refl }
 
-pub counts_none : (sites : ℕ) → IsCounted (record { records = 0; in_flight = false }) (unmade sites)
-counts_none sites = record { count = refl; flight = refl }
+pub counts_none : IsCounted (record { records = 0; in_flight = false }) unmade
+counts_none = record { count = refl; flight = refl }
 
 -- what a new site that is up has journaled
 first_is : (catalog : Catalog) (capacity : ℕ) (i : SiteId) (kept : Option Record) (wrote : Record)
-    → IsRefused (restarted.Up kept wrote) ⊎ Comes catalog capacity i (unmade catalog.sites) Restart (came_of_restart (restarted.Up kept wrote)) → wrote ≡ Boot 1
+    → IsRefused (restarted.Up kept wrote) ⊎ Comes catalog capacity i unmade Restart (came_of_restart (restarted.Up kept wrote)) → wrote ≡ Boot 1
 first_is catalog capacity i kept wrote (inl refused) = absurd (let is = refused.2 in cc)
-first_is catalog capacity i kept wrote (inr (Comes.ruled fits is)) = let same = ap (λ (c : Came). c.wrote) is in cc
-first_is catalog capacity i kept wrote (inr (Comes.met_fault rec brings fits is)) = absurd (let same = ap (λ (c : Came). c.wrote) is in cc)
-first_is catalog capacity i kept wrote (inr (Comes.unread restart down is)) = absurd (let same = ap (λ (c : Came). c.wrote) is in cc)
-first_is catalog capacity i kept wrote (inr (Comes.no_memory takes is)) = absurd (let same = ap (λ (c : Came). c.wrote) is in cc)
-first_is catalog capacity i kept wrote (inr (Comes.full rec brings less is)) = absurd (let same = ap (λ (c : Came). c.wrote) is in cc)
+first_is catalog capacity i kept wrote (inr (Comes.ruled fits is)) = let same = is.wrote in cc
+first_is catalog capacity i kept wrote (inr (Comes.met_fault rec brings fits is)) = absurd (let same = is.wrote in cc)
+first_is catalog capacity i kept wrote (inr (Comes.unread restart down is)) = absurd (let same = is.wrote in cc)
+first_is catalog capacity i kept wrote (inr (Comes.no_memory takes is)) = absurd (let same = is.wrote in cc)
+first_is catalog capacity i kept wrote (inr (Comes.full rec brings less is)) = absurd (let same = is.wrote in cc)
 
 -- a restart of a new site
-module _ {D : Type 0} {g : Ghosts D} (catalog : Catalog) (capacity : ℕ) (i : SiteId) (after : AfterRestart D g) (raises : Raises catalog capacity i (unmade catalog.sites) after) where
+module _ {D : Type 0} {g : Ghosts D} (catalog : Catalog) (capacity : ℕ) (i : SiteId) (after : AfterRestart D g) (raises : Raises catalog capacity i unmade after) where
   pub kept_none : kept_of after.answer ≡ None
-  kept_none = none_kept catalog.sites (kept_of after.answer) raises.found
+  kept_none = none_kept (kept_of after.answer) raises.found
 
-  boots_new : Boots catalog capacity i (unmade catalog.sites) after
-  boots_new = subst (λ (kept : Option Record). Boots catalog capacity i (settled i kept (unmade catalog.sites)) after) kept_none raises.boots
+  boots_new : Boots catalog capacity i unmade after
+  boots_new = subst (λ (kept : Option Record). Boots catalog capacity i (settled catalog i kept unmade) after) kept_none raises.boots
 
-  came_as_opened : (kept : Option Record) (wrote : Record) → after.answer ≡ restarted.Up kept wrote → came_of_restart after.answer ≡ came_of opening
+  came_as_opened : (kept : Option Record) (wrote : Record) → after.answer ≡ restarted.Up kept wrote
+      → came_of_restart after.answer ≡ opening.came
   came_as_opened kept wrote is =
-      let comes = subst (λ (a : Restarted). IsRefused a ⊎ Comes catalog capacity i (unmade catalog.sites) Restart (came_of_restart a)) is boots_new.comes in
-      ap came_of_restart is ∙ ap (λ (rec : Record). record { wrote = Some rec; outcome = Taken; flight = None }) (first_is catalog capacity i kept wrote comes)
+      let comes = subst (λ (a : Restarted). IsRefused a ⊎ Comes catalog capacity i unmade Restart (came_of_restart a)) is boots_new.comes in
+      let none : kept ≡ None = sym (ap kept_of is) ∙ kept_none in
+      let first = first_is catalog capacity i kept wrote comes in
+      ap came_of_restart is ∙ (λ j. came_of_restart (restarted.Up (none j) (first j)))
 
   -- where it comes up, it is in its first epoch
   pub has_first_epoch : (answer : Result (Unit {0}) Unbegun) → IsAnswerTo after.answer answer → IsOf catalog i capacity after.state
@@ -84,10 +87,10 @@ module _ {D : Type 0} {g : Ghosts D} (catalog : Catalog) (capacity : ℕ) (i : S
       at (restarted.Up kept wrote) is answered =
           let same = came_as_opened kept wrote is in
           on_ok answer _ (record {
-            journaled = subst (λ (c : Came). AreJournaled catalog i (stands_after i (unmade catalog.sites) Restart c)) same boots_new.journaled;
+            journaled = subst (λ (c : Came). AreJournaled catalog i (stands_after catalog i unmade Restart c)) same boots_new.journaled;
             of = of;
-            state = subst (λ (c : Came). IsInState (stands_after i (unmade catalog.sites) Restart c) (Some after.state)) same boots_new.left;
-            tallied = subst (λ (c : Came). IsTallied after.tally (stands_after i (unmade catalog.sites) Restart c)) same boots_new.tallied;
+            state = subst (λ (c : Came). IsInState (stands_after catalog i unmade Restart c) (Some after.state)) same boots_new.left;
+            tallied = subst (λ (c : Came). IsTallied after.tally (stands_after catalog i unmade Restart c)) same boots_new.tallied;
           })
       at (restarted.Failed kept flight) is answered = of_error answer unbegun.Failed _ answered
       at (restarted.Full kept need left) is answered = absurd answered
@@ -96,11 +99,11 @@ module _ {D : Type 0} {g : Ghosts D} (catalog : Catalog) (capacity : ℕ) (i : S
 
   -- a crash within it leaves the journal, without records or with the first Boot
   pub leaves_first : (journal : Journal D g) (bytes : List ℕ) (bodies : List (List ℕ)) → bodies ≡ []
-      → LeavesOnly g.moment g.left_since (disk_of journal) (disk_of_state after.state) (MayHaveBoot i (unmade catalog.sites) (kept_of after.answer))
+      → LeavesOnly g.moment g.left_since (disk_of journal) (disk_of_state after.state) (MayHaveBoot catalog i unmade (kept_of after.answer))
       → LeavesOnly g.moment g.left_since (disk_of journal) (disk_of_state after.state) (MayHaveFirst bytes bodies)
   leaves_first journal bytes bodies none run =
-      weaker g.moment g.left_since (disk_of journal) (disk_of_state after.state) (MayHaveBoot i (unmade catalog.sites) None) (MayHaveFirst bytes bodies) (λ image may. inr (none, may))
-      (subst (λ (kept : Option Record). LeavesOnly g.moment g.left_since (disk_of journal) (disk_of_state after.state) (MayHaveBoot i (unmade catalog.sites) kept)) kept_none run)
+      weaker g.moment g.left_since (disk_of journal) (disk_of_state after.state) (MayHaveBoot catalog i unmade None) (MayHaveFirst bytes bodies) (λ image may. inr (none, may))
+      (subst (λ (kept : Option Record). LeavesOnly g.moment g.left_since (disk_of journal) (disk_of_state after.state) (MayHaveBoot catalog i unmade kept)) kept_none run)
 
 -- a first restart over a journal that was loaded
 module _ {D : Type 0} {g : Ghosts D} (size_is : SizeIs g) (disk : D) (journal : Journal D g) (after : D) (loaded slice : List (List ℕ)) (bytes : List ℕ) (only : HasOnly g bytes disk)

@@ -1,4 +1,5 @@
 pub mod Advancing
+pub mod Applying
 pub mod Bodies
 pub mod Boots
 pub mod Calls
@@ -7,9 +8,11 @@ pub mod Firsts
 pub mod Leaving
 pub mod Loads
 pub mod Moving
-pub mod Plain
 pub mod Raising
+pub mod Replayed
 pub mod Resting
 pub mod Room
 pub mod Staging
 pub mod Standings
+pub mod Staying
+pub mod Stopping

@@ -16,25 +16,25 @@ use Rattle.walter_journal.specs.Layout.{HasContent, IsForeign, IsDamaged}
 use Rattle.walter_journal.specs.Steps.{IsLeft}
 use Rattle.walter_disk.proofs.Moments.{weaker, joined}
 use Rattle.walter_record.specs.Spelling.{record_spelled}
-use Rattle.walter_trail.specs.declared.trail.Outcome.TheVariants.{Failed}
-use Rattle.walter_trail.specs.declared.trail.TrailEvent.TheVariants.{Restart}
-use Rattle.walter_trail.specs.Standing.{Standing, settled, stands_after}
-use Rattle.walter_trail.specs.Trails.{Comes, only}
-use Rattle.walter_trail.proofs.Replayed.{follows_lost}
+use Rattle.walter_rules.specs.declared.event.Event.TheVariants.{Restart}
+use Rattle.walter_rules.specs.Standing.{Standing, settled, stands_after}
+use Rattle.walter_rules.specs.Trails.{Comes}
+use Rattle.walter_alone.proofs.Followed.{follow_lost}
 use Rattle.walter_engine.specs.declared.answers.RefusedRestart.{RefusedRestart}
 use Rattle.walter_engine.specs.declared.answers.RefusedRestart.TheVariants as refused
 use Rattle.walter_engine.specs.declared.answers.Restarted.{Restarted}
+use Rattle.walter_engine.specs.declared.answers.Restarted.TheVariants as restarted
 use Rattle.walter_engine.specs.declared.engine.Engine.{Engine}
 use Rattle.walter_engine.specs.declared.engine.State.{State}
 use Rattle.walter_engine.specs.declared.engine.State.TheVariants.{Up, Down}
 use Rattle.walter_engine.specs.declared.engine.Tally.{Tally}
 use Rattle.walter_engine.specs.declared.restarting.AfterRestart.{AfterRestart}
 use Rattle.walter_engine.specs.Contents.{AreJournaled, CanBeJournaled, MayHaveRecords, MayHaveBoot}
-use Rattle.walter_engine.specs.Engines.{disk_in, OfDisk, OfDisks, IsInState, IsResting, IsTallied}
+use Rattle.walter_engine.specs.Engines.{OfDisk, IsInState, IsResting, IsTallied}
 use Rattle.walter_engine.specs.Raises.{Raises, IsFoundIn, IsLast}
 use Rattle.walter_engine.specs.Restarts.{Restarts, unloaded_by}
 use Rattle.walter_engine.specs.States.{disk_of_state, disk_under, is_up_in, IsOf, IsOfState}
-use Rattle.walter_engine.specs.Steps.{came_of_restart, kept_of, IsRefusedOver, IsRefusedFor, IfRefused}
+use Rattle.walter_engine.specs.Steps.{came_of_restart, kept_of, IsRefusedOver, IsRefusedFor, IfRefused, IsSizedRestart}
 use Rattle.walter_engine.proofs.Boots.{boots_no_memory}
 use Rattle.walter_engine.proofs.Raising.{refused_so}
 use Rattle.walter_engine.proofs.Resting.{SizeIs, CountsNow, rests_on}
@@ -92,7 +92,7 @@ module _ {D : Type 0} {g : Ghosts D} where
   restarts_raised engine S raised found same state tally of_found found_raises =
       let of = subst (λ (r : AfterRestart D g). IsOf engine.catalog engine.site engine.capacity r.state) (sym same) of_found in
       let raises = subst (λ (r : AfterRestart D g). Raises engine.catalog engine.capacity engine.site S r) (sym same) found_raises in
-      let T = stands_after engine.site (settled engine.site (kept_of raised.answer) S) Restart (came_of_restart raised.answer) in
+      let T = stands_after engine.catalog engine.site (settled engine.catalog engine.site (kept_of raised.answer) S) Restart (came_of_restart raised.answer) in
       record {
         found = raises.found;
         comes = raises.boots.comes;
@@ -102,7 +102,7 @@ module _ {D : Type 0} {g : Ghosts D} where
           state = subst (λ (s : Option (State D g)). IsInState T s) state raises.boots.left;
           tallied = subst (λ t. IsTallied t T) tally raises.boots.tallied;
         };
-        last = λ kept why is. subst (λ (a : Restarted). IfRefused a (IsLast (settled engine.site (kept_of a) S).knows)) is raises.last;
+        last = λ kept why is. subst (λ (a : Restarted). IfRefused a (IsLast (settled engine.catalog engine.site (kept_of a) S).knows)) is raises.last;
         takes_none = raises.boots.takes_none;
       }
 
@@ -131,14 +131,14 @@ module _ {D : Type 0} {g : Ghosts D} (size_is : SizeIs g) (counts_now : CountsNo
   pub raises_unloaded : (why : JournalFault) → HasCause why (g.may_leave old) (g.known old) (g.known new)
       → Raises {g = g} catalog capacity i S (record { state = Down new; answer = unloaded_by why; tally = tally })
   raises_unloaded fault.Failed cause =
-      let T = stands_after i S Restart (only Failed) in
+      let T = stands_after catalog i S Restart (came_of_restart (restarted.Failed None None)) in
       record {
         found = tt;
         boots = record {
-          comes = inr (Comes.unread refl resting.down refl);
+          comes = inr (Comes.unread refl resting.down (record { outcome_is = refl; wrote = refl; flight_is = refl; sends = refl; dropped = refl }));
           left = record { down = refl; rests = refl; told = still.told; begun = still.begun; images = still.images };
           journaled = journaled_same catalog i S T all refl refl
-              (if_some (CanBeJournaled catalog i S) (CanBeJournaled catalog i T) S.flight (λ rec can. record { spelled = can.spelled; follows = follows_lost catalog i S.knows rec can.follows }) all.in_flight)
+              (if_some (CanBeJournaled catalog i S) (CanBeJournaled catalog i T) S.flight (λ rec can. record { spelled = can.spelled; follows = follow_lost catalog i S.knows rec can.follows }) all.in_flight)
               (λ up. cc);
           tallied = record { in_flight = is_tallied.in_flight; count = ⊎_elim (λ up. absurd (cc)) (λ flies. is_tallied.count (inr flies)) };
           takes_none = λ last. tt;
@@ -189,35 +189,42 @@ module _ {D : Type 0} {g : Ghosts D} where
           refused_for catalog i bytes bodies why (subst (λ b. HasContent b bodies) same_bytes stands.content) (subst (λ b. IsRefusedOver catalog i b why) same cause.0)) over
 
   -- what is so of what was raised is so of the engine
-  pub refused_raised : (catalog : Catalog) (i : SiteId) (new : Engine D g) (raised found : AfterRestart D g) → raised ≡ found → Some raised.state ≡ new.state
+  pub refused_raised : (catalog : Catalog) (i : SiteId) (new : Option (State D g)) (raised found : AfterRestart D g) → raised ≡ found → Some raised.state ≡ new
       → IfSome (g.known (disk_of_state found.state)).reads (λ bytes. IfRefused found.answer (IsRefusedFor catalog i bytes))
-      → OfDisk new (λ disk. IfSome (g.known disk).reads (λ bytes. IfRefused raised.answer (IsRefusedFor catalog i bytes)))
+      → IfSome (disk_under new) (λ disk. IfSome (g.known disk).reads (λ bytes. IfRefused raised.answer (IsRefusedFor catalog i bytes)))
   refused_raised catalog i new raised found same now is =
       subst (λ (s : Option (State D g)). IfSome (disk_under s) (λ disk. IfSome (g.known disk).reads (λ bytes. IfRefused raised.answer (IsRefusedFor catalog i bytes)))) now
       (subst (λ (r : AfterRestart D g). IfSome (g.known (disk_of_state r.state)).reads (λ bytes. IfRefused r.answer (IsRefusedFor catalog i bytes))) (sym same) is)
 
-  pub leaves_raised : (i : SiteId) (S : Standing) (old new : Engine D g) (state : State D g) (disk : D) (raised found : AfterRestart D g) → old.state ≡ Some state → disk ≡ disk_of_state state
-      → raised ≡ found → Some raised.state ≡ new.state → LeavesOnly g.moment g.left_since disk (disk_of_state found.state) (MayHaveBoot i S (kept_of found.answer))
-      → OfDisks old new (λ before after. LeavesOnly g.moment g.left_since before after (MayHaveBoot i S (kept_of raised.answer)))
-  leaves_raised i S old new state disk raised found was is_disk same now run =
-      let P : Option D → Option D → Type 0 = λ before after. IfSome before (λ b. IfSome after (λ a. LeavesOnly g.moment g.left_since b a (MayHaveBoot i S (kept_of raised.answer)))) in
-      let here = subst (λ (r : AfterRestart D g). LeavesOnly g.moment g.left_since disk (disk_of_state r.state) (MayHaveBoot i S (kept_of r.answer))) (sym same) run in
-      subst (λ (s : Option (State D g)). P (disk_under s) (disk_in new)) (sym was)
+  pub leaves_raised : (catalog : Catalog) (i : SiteId) (S : Standing) (old : Engine D g) (new : Option (State D g)) (state : State D g) (disk : D) (raised found : AfterRestart D g) → old.state ≡ Some state → disk ≡ disk_of_state state
+      → raised ≡ found → Some raised.state ≡ new → LeavesOnly g.moment g.left_since disk (disk_of_state found.state) (MayHaveBoot catalog i S (kept_of found.answer))
+      → OfDisk old (λ before. IfSome (disk_under new) (λ after. LeavesOnly g.moment g.left_since before after (MayHaveBoot catalog i S (kept_of raised.answer))))
+  leaves_raised catalog i S old new state disk raised found was is_disk same now run =
+      let P : Option D → Option D → Type 0 = λ before after. IfSome before (λ b. IfSome after (λ a. LeavesOnly g.moment g.left_since b a (MayHaveBoot catalog i S (kept_of raised.answer)))) in
+      let here = subst (λ (r : AfterRestart D g). LeavesOnly g.moment g.left_since disk (disk_of_state r.state) (MayHaveBoot catalog i S (kept_of r.answer))) (sym same) run in
+      subst (λ (s : Option (State D g)). P (disk_under s) (disk_under new)) (sym was)
       (subst (λ (s : Option (State D g)). P (Some (disk_of_state state)) (disk_under s)) now
       (subst (λ (d : D). P (Some d) (Some (disk_of_state raised.state))) is_disk here))
 
-  pub leaves_unloaded : (i : SiteId) (S : Standing) (kept : Option Record) (old new : D) → IsResting g S old → LeavesOnly g.moment g.left_since old new (g.may_leave old)
-      → LeavesOnly g.moment g.left_since old new (MayHaveBoot i S kept)
-  leaves_unloaded i S kept old new resting load =
-      weaker g.moment g.left_since old new (g.may_leave old) (MayHaveBoot i S kept) (λ image left. inl (resting.images image left)) load
+  pub leaves_unloaded : (catalog : Catalog) (i : SiteId) (S : Standing) (kept : Option Record) (old new : D) → IsResting g S old → LeavesOnly g.moment g.left_since old new (g.may_leave old)
+      → LeavesOnly g.moment g.left_since old new (MayHaveBoot catalog i S kept)
+  leaves_unloaded catalog i S kept old new resting load =
+      weaker g.moment g.left_since old new (g.may_leave old) (MayHaveBoot catalog i S kept) (λ image left. inl (resting.images image left)) load
 
-  pub leaves_loaded : OneContent → (i : SiteId) (S : Standing) (disk : D) (journal : Journal D g) (bodies slice : List (List ℕ)) → IsResting g S disk
+  pub leaves_loaded : OneContent → (catalog : Catalog) (i : SiteId) (S : Standing) (disk : D) (journal : Journal D g) (bodies slice : List (List ℕ)) → IsResting g S disk
       → IsImage (g.known (disk_of journal)).reads (g.may_leave disk) → StandsFor journal bodies → slice ≡ bodies → LeavesOnly g.moment g.left_since disk (disk_of journal) (g.may_leave disk) → (result : AfterRestart D g)
-      → (IsFoundIn S slice → StandsFor journal slice → LeavesOnly g.moment g.left_since (disk_of journal) (disk_of_state result.state) (MayHaveBoot i S (kept_of result.answer)))
-      → LeavesOnly g.moment g.left_since disk (disk_of_state result.state) (MayHaveBoot i S (kept_of result.answer))
-  leaves_loaded one i S disk journal bodies slice resting image stands same load result raise =
+      → (IsFoundIn S slice → StandsFor journal slice → LeavesOnly g.moment g.left_since (disk_of journal) (disk_of_state result.state) (MayHaveBoot catalog i S (kept_of result.answer)))
+      → LeavesOnly g.moment g.left_since disk (disk_of_state result.state) (MayHaveBoot catalog i S (kept_of result.answer))
+  leaves_loaded one catalog i S disk journal bodies slice resting image stands same load result raise =
       let has = resting.images stands.bytes (subst (λ reads. IsImage reads (g.may_leave disk)) stands.told image) in
       let found = found_in one S S.flight refl stands.bytes bodies has stands.content in
-      joined g.moment g.left_since disk (disk_of journal) (disk_of_state result.state) (MayHaveBoot i S (kept_of result.answer))
-      (leaves_unloaded i S (kept_of result.answer) disk (disk_of journal) resting load)
+      joined g.moment g.left_since disk (disk_of journal) (disk_of_state result.state) (MayHaveBoot catalog i S (kept_of result.answer))
+      (leaves_unloaded catalog i S (kept_of result.answer) disk (disk_of journal) resting load)
       (raise (subst (λ bodies. IsFoundIn S bodies) (sym same) found) (subst (λ bodies. StandsFor journal bodies) (sym same) stands))
+
+-- a restart whose journal was not loaded found no record, and wrote none
+pub unloaded_sized : (why : JournalFault) → IsSizedRestart (unloaded_by why)
+unloaded_sized fault.Failed = (tt, tt, tt)
+unloaded_sized fault.NoMemory = (tt, tt, tt)
+unloaded_sized fault.Foreign = (tt, tt, tt)
+unloaded_sized (fault.Damaged at length) = (tt, tt, tt)

@@ -1,5 +1,5 @@
 -- What a step leaves of an engine's state, by what it leaves of the site over its journal.
-use Rattle.std.proofs.Common.{◌≡◌, ℕ, length, Bool, true, false, Some, None, refl, ap, sym, subst, arith}
+use Rattle.std.proofs.Common.{◌≡◌, ℕ, length, Bool, true, false, Some, None, Ok, Err, refl, ap, sym, ◌∙◌, subst, arith}
 use Rattle.std.specs.Prelude.{is_some}
 use Rattle.std.proofs.lemmas.List.{length_push}
 use Rattle.walter_base.specs.declared.catalog.Catalog.{Catalog}
@@ -9,138 +9,154 @@ use Rattle.walter_disk.specs.Images.{LeavesOnly}
 use Rattle.walter_disk.specs.declared.disk.Disk.{Ghosts}
 use Rattle.walter_journal.specs.Journals.{disk_of, capacity_of}
 use Rattle.walter_journal.specs.declared.journal.Journal.{Journal}
-use Rattle.walter_site.specs.declared.plan.Input.{Input}
-use Rattle.walter_site.specs.declared.site.Site.{Site}
-use Rattle.walter_site.specs.Sites.{site_of, catalog_of, event_of, client_of}
-use Rattle.walter_trail.specs.declared.trail.TrailEvent.{TrailEvent}
-use Rattle.walter_trail.specs.Rule.{rule}
-use Rattle.walter_trail.specs.Standing.{Standing, stands_after}
+use Rattle.walter_site.specs.Members.{Knows}
+use Rattle.walter_rules.specs.declared.event.Event.{Event}
+use Rattle.walter_rules.specs.declared.event.Event.TheVariants.{Given}
+use Rattle.walter_rules.specs.declared.event.Input.{Input}
+use Rattle.walter_rules.specs.Knowledge.{Knowledge}
+use Rattle.walter_rules.specs.Learning.{after}
+use Rattle.walter_rules.specs.Rule.{rule}
+use Rattle.walter_rules.specs.Sessions.{Sessions}
+use Rattle.walter_rules.specs.Standing.{Standing, stands_after}
+use Rattle.walter_rules.specs.Trails.{failure}
+use Rattle.walter_session.specs.Sessions.{Table, sessions_of}
+use Rattle.walter_tables.specs.declared.tables.Tables.{Tables}
+use Rattle.walter_tables.specs.Sites.{site_of, catalog_of}
 use Rattle.walter_engine.specs.declared.answers.Stepped.{Stepped}
 use Rattle.walter_engine.specs.declared.answers.Stepped.TheVariants.{Done, Failed, Full, Down as IsDown, NoMemory}
 use Rattle.walter_engine.specs.declared.engine.State.{State}
 use Rattle.walter_engine.specs.declared.engine.State.TheVariants.{Up, Down}
 use Rattle.walter_engine.specs.declared.engine.Tally.{Tally}
-use Rattle.walter_engine.specs.Advances.{Advances, IsLeftBy, count_after}
+use Rattle.walter_engine.specs.Advances.{Advanced, Advances, came_of_advance, count_after}
 use Rattle.walter_engine.specs.Contents.{MayHaveRecords, AreJournaled}
-use Rattle.walter_engine.specs.Engines.{IsRunning, IsInState}
+use Rattle.walter_engine.specs.Engines.{IsRunning}
 use Rattle.walter_engine.specs.Moves.{Moves}
 use Rattle.walter_engine.specs.Raises.{IsCounted}
-use Rattle.walter_engine.specs.States.{IsOf, disk_of_state}
-use Rattle.walter_engine.specs.Steps.{came_of_step}
-
--- the state that a step leaves, and whether a record is in flight
-abbrev pub state_after : {D : Type 0} {g : Ghosts D} → Stepped → Site → Journal D g → State D g
-state_after (Failed rec) site journal = Down (disk_of journal)
-state_after (Done reply wrote) site journal = Up site journal
-state_after (Full need left) site journal = Up site journal
-state_after IsDown site journal = Up site journal
-state_after NoMemory site journal = Up site journal
-
-abbrev pub flight_left : Stepped → Bool
-flight_left (Failed rec) = true
-flight_left (Done reply wrote) = false
-flight_left (Full need left) = false
-flight_left IsDown = false
-flight_left NoMemory = false
+use Rattle.walter_engine.specs.States.{IsOf}
+use Rattle.walter_engine.specs.Steps.{came_of_step, DoesLose, IsUntold}
+use Rattle.walter_engine.proofs.Advancing.{flew_up_by}
 
 -- the records behind a step are as many as counted
-counted_after : (event : TrailEvent) (i : SiteId) (S : Standing) (count : ℕ) (result : Stepped) → count ≡ length S.records
-    → count_after count result ≡ length (stands_after i S event (came_of_step event result)).records
-counted_after event i S count (Done reply (Some rec)) is = let l = length_push S.records rec in omega (arith, l, is)
-counted_after event i S count (Done reply None) is = is
-counted_after event i S count (Failed rec) is = is
-counted_after event i S count (Full need left) is = is
-counted_after event i S count IsDown is = is
-counted_after event i S count NoMemory is = is
+counted_after : (catalog : Catalog) (event : Event) (i : SiteId) (S : Standing) (count : ℕ) (result : Advanced)
+    → count ≡ length S.records
+    → count_after count result ≡ length (stands_after catalog i S event (came_of_advance event result)).records
+counted_after catalog event i S count (Ok (Done outcome (Some rec) sends frames)) is =
+    let l = length_push S.records rec in omega (arith, l, is)
+counted_after catalog event i S count (Ok (Done outcome None sends frames)) is = is
+counted_after catalog event i S count (Ok (Failed rec lost)) is = is
+counted_after catalog event i S count (Ok (Full need left)) is = is
+counted_after catalog event i S count (Ok IsDown) is = is
+counted_after catalog event i S count (Ok NoMemory) is = is
+counted_after catalog event i S count (Err rec) is = is
 
-module _ {D : Type 0} {g : Ghosts D} (now : Site) (new : Journal D g) where
-  in_state : (result : Stepped) (T : Standing) → IsLeftBy result T now new → IsInState T (Some (state_after result now new))
-  in_state (Done reply wrote) T left = left
-  in_state (Failed rec) T left = left
-  in_state (Full need left_) T left = left
-  in_state IsDown T left = absurd left
-  in_state NoMemory T left = left
+-- a site that runs on hasn't failed
+loses_none : (catalog : Catalog) (input : Input) (i : SiteId) (S : Standing) (answer : Stepped) (sessions : Sessions)
+    → (stands_after catalog i S (Given input) (came_of_step (Given input) answer)).up ≡ true → DoesLose answer sessions
+loses_none catalog input i S (Done outcome wrote sends frames) sessions up = tt
+loses_none catalog input i S (Failed rec lost) sessions up =
+    absurd (let e = sym (flew_up_by catalog i S input rec) ∙ up in cc)
+loses_none catalog input i S (Full need left) sessions up = tt
+loses_none catalog input i S IsDown sessions up = tt
+loses_none catalog input i S NoMemory sessions up = tt
 
-  of_state : (catalog : Catalog) (i : SiteId) (capacity : ℕ) (result : Stepped) → IsOf catalog i capacity (Up now new) → IsOf catalog i capacity (state_after result now new)
-  of_state catalog i capacity (Done reply wrote) of = of
-  of_state catalog i capacity (Failed rec) of = tt
-  of_state catalog i capacity (Full need left) of = of
-  of_state catalog i capacity IsDown of = of
-  of_state catalog i capacity NoMemory of = of
+module _ {D : Type 0} {g : Ghosts D} (site : Tables) (old : Journal D g) (input : Input) (now : Tables)
+    (new : Journal D g) (tally : Tally) (kept_site : site_of now ≡ site_of site)
+    (kept_catalog : catalog_of now ≡ catalog_of site) (kept_capacity : capacity_of new ≡ capacity_of old) where
+  abbrev pub AdvancesOwn : Advanced → Type 0
+  AdvancesOwn result = (S : Standing) → IsRunning S site old → AreJournaled (catalog_of site) (site_of site) S
+      → IsUntold S input
+      → Advances (catalog_of site) (capacity_of old) (site_of site) S (Given input) result now new
 
-  disk_after : (result : Stepped) → disk_of_state (state_after result now new) ≡ disk_of new
-  disk_after (Done reply wrote) = refl
-  disk_after (Failed rec) = refl
-  disk_after (Full need left) = refl
-  disk_after IsDown = refl
-  disk_after NoMemory = refl
+  abbrev pub CrashesOwn : Type 0
+  CrashesOwn = (S : Standing) → IsRunning S site old → AreJournaled (catalog_of site) (site_of site) S
+      → IsUntold S input
+      → LeavesOnly g.moment g.left_since (disk_of old) (disk_of new)
+      (MayHaveRecords S.records (rule (catalog_of site) (site_of site) S (Given input)).wrote)
 
-  flight_is : (event : TrailEvent) (i : SiteId) (S : Standing) (result : Stepped) → IsLeftBy result (stands_after i S event (came_of_step event result)) now new
-      → flight_left result ≡ is_some (stands_after i S event (came_of_step event result)).flight
-  flight_is event i S (Done reply wrote) left = sym (ap is_some left.settled)
-  flight_is event i S (Failed rec) left = refl
-  flight_is event i S (Full need left_) left = sym (ap is_some left.settled)
-  flight_is event i S IsDown left = absurd left
-  flight_is event i S NoMemory left = sym (ap is_some left.settled)
+  abbrev MovesTo : State D g → Stepped → Tally → Catalog → ℕ → SiteId → Standing → Type 0
+  MovesTo state stepped tally catalog capacity i S =
+      Moves catalog capacity i S (Given input) (disk_of old)
+      (record { state = state; stepped = stepped; tally = tally })
 
-module _ {D : Type 0} {g : Ghosts D} (site : Site) (old : Journal D g) (input : Input) (result : Stepped) (now : Site) (new : Journal D g) (tally : Tally)
-    (advances : (S : Standing) → IsRunning S site old → AreJournaled (catalog_of site) (site_of site) S → S.gone (client_of input) ≡ None
-    → Advances (catalog_of site) (capacity_of old) (site_of site) S (event_of input) result now new)
-    (crash : (S : Standing) → IsRunning S site old → AreJournaled (catalog_of site) (site_of site) S → S.gone (client_of input) ≡ None
-    → LeavesOnly g.moment g.left_since (disk_of old) (disk_of new) (MayHaveRecords S.records (rule (catalog_of site) (site_of site) S (event_of input)).wrote))
-    (kept_site : site_of now ≡ site_of site) (kept_catalog : catalog_of now ≡ catalog_of site) (kept_capacity : capacity_of new ≡ capacity_of old) where
-  abbrev MovesTo : Catalog → ℕ → SiteId → Standing → Type 0
-  MovesTo catalog capacity i S =
-      Moves catalog capacity i S (event_of input) (disk_of old)
-      (record { state = state_after result now new; stepped = result; tally = record { records = count_after tally.records result; in_flight = flight_left result } })
+  -- what is so of the site that it is, is so of the one that it is known to be
+  as_named : (state : State D g) (stepped : Stepped) (after : Tally)
+      → ((S : Standing) → IsRunning S site old → AreJournaled (catalog_of site) (site_of site) S → IsCounted tally S
+      → IsUntold S input → MovesTo state stepped after (catalog_of site) (capacity_of old) (site_of site) S)
+      → (catalog : Catalog) (capacity : ℕ) (i : SiteId) (S : Standing) → IsOf catalog i capacity (Up site old)
+      → IsRunning S site old → AreJournaled catalog i S → IsCounted tally S → IsUntold S input
+      → MovesTo state stepped after catalog capacity i S
+  as_named state stepped after own catalog capacity i S of running J counted untold =
+      let here = subst (λ (c : Catalog). AreJournaled c (site_of site) S) (sym of.1)
+      (subst (λ (k : SiteId). AreJournaled catalog k S) (sym of.0) J) in
+      subst (λ (k : ℕ). MovesTo state stepped after catalog k i S) of.2
+      (subst (λ (c : Catalog). MovesTo state stepped after c (capacity_of old) i S) of.1
+      (subst (λ (k : SiteId). MovesTo state stepped after (catalog_of site) (capacity_of old) k S) of.0
+      (own S running here counted untold)))
 
-  of_its_own : (S : Standing) → IsRunning S site old → AreJournaled (catalog_of site) (site_of site) S → IsCounted tally S → S.gone (client_of input) ≡ None
-      → MovesTo (catalog_of site) (capacity_of old) (site_of site) S
-  of_its_own S running J counted nothing =
-      let a = advances S running J nothing in
+  -- the site runs on
+  pub moved_on : (answer : Stepped) → AdvancesOwn (Ok answer) → CrashesOwn
+      → (catalog : Catalog) (capacity : ℕ) (i : SiteId) (S : Standing) → IsOf catalog i capacity (Up site old)
+      → IsRunning S site old → AreJournaled catalog i S → IsCounted tally S → IsUntold S input
+      → MovesTo (Up now new) answer (record { records = count_after tally.records (Ok answer); in_flight = false })
+      catalog capacity i S
+  moved_on answer advances crash = as_named (Up now new) answer
+      (record { records = count_after tally.records (Ok answer); in_flight = false })
+      (λ S running J counted untold.
+      let a = advances S running J untold in
       record {
         comes = a.comes;
-        of = of_state now new (catalog_of site) (site_of site) (capacity_of old) result (kept_site, kept_catalog, kept_capacity);
-        state = in_state now new result (stands_after (site_of site) S (event_of input) (came_of_step (event_of input) result)) a.left;
+        of = (kept_site, kept_catalog, kept_capacity);
+        state = a.left;
         journaled = a.journaled;
         counted = record {
-          count = counted_after (event_of input) (site_of site) S tally.records result counted.count;
-          flight = flight_is now new (event_of input) (site_of site) S result a.left;
+          count = counted_after (catalog_of site) (Given input) (site_of site) S tally.records (Ok answer) counted.count;
+          flight = sym (ap is_some a.left.settled);
         };
-        any_moment = subst (λ (d : D). LeavesOnly g.moment g.left_since (disk_of old) d (MayHaveRecords S.records (rule (catalog_of site) (site_of site) S (event_of input)).wrote))
-            (sym (disk_after now new result)) (crash S running J nothing);
-      }
+        loses = loses_none (catalog_of site) input (site_of site) S answer _ a.left.up;
+        any_moment = crash S running J untold;
+      })
 
-  pub moved : (catalog : Catalog) (capacity : ℕ) (i : SiteId) (S : Standing) → IsOf catalog i capacity (Up site old) → IsRunning S site old → AreJournaled catalog i S → IsCounted tally S
-      → S.gone (client_of input) ≡ None → MovesTo catalog capacity i S
-  moved catalog capacity i S of running J counted nothing =
-      let here = subst (λ (c : Catalog). AreJournaled c (site_of site) S) (sym of.1) (subst (λ (k : SiteId). AreJournaled catalog k S) (sym of.0) J) in
-      subst (λ (k : ℕ). MovesTo catalog k i S) of.2
-      (subst (λ (c : Catalog). MovesTo c (capacity_of old) i S) of.1
-      (subst (λ (k : SiteId). MovesTo (catalog_of site) (capacity_of old) k S) of.0 (of_its_own S running here counted nothing)))
-
--- a step that didn't fail leaves the site up
-pub not_failed : {D : Type 0} {g : Ghosts D} (result : Stepped) (now : Site) (new : Journal D g) → ((rec : Record) → result ≡ Failed rec → ⊥) → state_after result now new ≡ Up now new
-not_failed (Done reply wrote) now new no_fault = refl
-not_failed (Failed rec) now new no_fault = absurd (no_fault rec refl)
-not_failed (Full need left) now new no_fault = refl
-not_failed IsDown now new no_fault = refl
-not_failed NoMemory now new no_fault = refl
-
-pub no_flight : (result : Stepped) → ((rec : Record) → result ≡ Failed rec → ⊥) → flight_left result ≡ false
-no_flight (Done reply wrote) no_fault = refl
-no_flight (Failed rec) no_fault = absurd (no_fault rec refl)
-no_flight (Full need left) no_fault = refl
-no_flight IsDown no_fault = refl
-no_flight NoMemory no_fault = refl
+  -- its record met a fault
+  pub moved_down : (rec : Record) (lost : Table) → AdvancesOwn (Err rec) → CrashesOwn
+      → ((K : Knowledge) → Knows site K → sessions_of lost
+      ≡ (after (catalog_of site) (site_of site) K (Given input) (failure (Given input) rec) None).sessions)
+      → (catalog : Catalog) (capacity : ℕ) (i : SiteId) (S : Standing) → IsOf catalog i capacity (Up site old)
+      → IsRunning S site old → AreJournaled catalog i S → IsCounted tally S → IsUntold S input
+      → MovesTo (Down (disk_of new)) (Failed rec lost) (record { records = tally.records; in_flight = true })
+      catalog capacity i S
+  moved_down rec lost advances crash loses = as_named (Down (disk_of new)) (Failed rec lost)
+      (record { records = tally.records; in_flight = true })
+      (λ S running J counted untold.
+      let a = advances S running J untold in
+      record {
+        comes = a.comes;
+        of = tt;
+        state = a.left;
+        journaled = a.journaled;
+        counted = record { count = counted.count; flight = refl };
+        loses = loses S.knows running.knows;
+        any_moment = crash S running J untold;
+      })
 
 -- the same of equal parts
-pub moves_as : {D : Type 0} {g : Ghosts D} (catalog : Catalog) (capacity : ℕ) (i : SiteId) (S : Standing) (event : TrailEvent) (result : Stepped) (old old' : D) (state state' : State D g)
-    (n n' : ℕ) (f f' : Bool) → old' ≡ old → state' ≡ state → n' ≡ n → f' ≡ f
+pub moves_as : {D : Type 0} {g : Ghosts D} (catalog : Catalog) (capacity : ℕ) (i : SiteId) (S : Standing)
+    (event : Event) (result : Stepped) (old old' : D) (state state' : State D g) (n n' : ℕ) (f : Bool) → old' ≡ old
+    → state' ≡ state → n' ≡ n
     → Moves catalog capacity i S event old (record { state = state; stepped = result; tally = record { records = n; in_flight = f } })
-    → Moves catalog capacity i S event old' (record { state = state'; stepped = result; tally = record { records = n'; in_flight = f' } })
-moves_as {D = D} {g = g} catalog capacity i S event result old old' state state' n n' f f' a b c d m =
-    subst (λ (o : D). Moves catalog capacity i S event o (record { state = state'; stepped = result; tally = record { records = n'; in_flight = f' } })) (sym a)
-    (subst (λ (s : State D g). Moves catalog capacity i S event old (record { state = s; stepped = result; tally = record { records = n'; in_flight = f' } })) (sym b)
-    (subst (λ (k : ℕ). Moves catalog capacity i S event old (record { state = state; stepped = result; tally = record { records = k; in_flight = f' } })) (sym c)
-    (subst (λ (x : Bool). Moves catalog capacity i S event old (record { state = state; stepped = result; tally = record { records = n; in_flight = x } })) (sym d) m)))
+    → Moves catalog capacity i S event old' (record { state = state'; stepped = result; tally = record { records = n'; in_flight = f } })
+moves_as {D = D} {g = g} catalog capacity i S event result old old' state state' n n' f a b c m =
+    subst (λ (o : D). Moves catalog capacity i S event o (record { state = state'; stepped = result; tally = record { records = n'; in_flight = f } })) (sym a)
+    (subst (λ (s : State D g). Moves catalog capacity i S event old (record { state = s; stepped = result; tally = record { records = n'; in_flight = f } })) (sym b)
+    (subst (λ (k : ℕ). Moves catalog capacity i S event old (record { state = state; stepped = result; tally = record { records = k; in_flight = f } })) (sym c) m))
+
+-- the sessions that are lost are those from before
+pub lost_as : (site now : Tables) (input : Input) (rec : Record) (lost : Table) → site_of now ≡ site_of site
+    → catalog_of now ≡ catalog_of site → ((K : Knowledge) → Knows site K → Knows now K)
+    → ((K : Knowledge) → Knows now K → sessions_of lost
+    ≡ (after (catalog_of now) (site_of now) K (Given input) (failure (Given input) rec) None).sessions)
+    → (K : Knowledge) → Knows site K → sessions_of lost
+    ≡ (after (catalog_of site) (site_of site) K (Given input) (failure (Given input) rec) None).sessions
+lost_as site now input rec lost same_site same_catalog same loses K knows =
+    loses K (same K knows)
+    ∙ ap (λ (c : Catalog). (after c (site_of now) K (Given input) (failure (Given input) rec) None).sessions) same_catalog
+    ∙ ap (λ (k : SiteId). (after (catalog_of site) k K (Given input) (failure (Given input) rec) None).sessions) same_site

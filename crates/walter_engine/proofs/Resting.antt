@@ -11,8 +11,8 @@ use Rattle.walter_journal.specs.Layout.{HasContent, IsBeforeOrBehind}
 use Rattle.walter_disk.specs.Disks.{Fails}
 use Rattle.walter_journal.specs.Steps.{IsLeft}
 use Rattle.walter_record.specs.Spelling.{record_spelled}
-use Rattle.walter_trail.specs.Knowledge.{lost}
-use Rattle.walter_trail.specs.Standing.{Standing}
+use Rattle.walter_rules.specs.Learning.{lost}
+use Rattle.walter_rules.specs.Standing.{Standing}
 use Rattle.walter_engine.specs.Contents.{HasRecords, MayHaveRecords}
 use Rattle.walter_engine.specs.Engines.{IsResting}
 

@@ -11,8 +11,8 @@ use Rattle.walter_journal.specs.declared.journal.Journal.{Journal}
 use Rattle.walter_journal.specs.Journals.{capacity_of, left_of, need_of as body_need, StandsFor}
 use Rattle.walter_record.specs.Spelling.{record_spelled, HasRecordSpelling}
 use Rattle.walter_record.proofs.Records.{length-record_spelled, at_most}
-use Rattle.walter_trail.specs.Standing.{Standing}
-use Rattle.walter_trail.specs.Trails.{need_of, left_behind, FitsIn}
+use Rattle.walter_rules.specs.Standing.{Standing}
+use Rattle.walter_rules.specs.Trails.{need_of, left_behind, FitsIn}
 
 abbrev body_size : List ℕ → ℕ
 body_size body = 5 + length body

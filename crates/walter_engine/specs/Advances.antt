@@ -1,9 +1,7 @@
 -- What a step leaves of a site over its journal.
-use Rattle.std.specs.Prelude.{◌≡◌, ◌+◌, ℕ, List, length, Option, Some, None}
+use Rattle.std.specs.Prelude.{◌≡◌, ◌+◌, ◌<◌, ◌≤◌, ℕ, List, length, Option, Some, None, Result, Ok, Err}
 use Rattle.walter_base.specs.declared.catalog.Catalog.{Catalog}
 use Rattle.walter_base.specs.declared.message.Record.{Record}
-use Rattle.walter_base.specs.declared.message.Reply.{Reply}
-use Rattle.walter_base.specs.declared.message.Reply.TheVariants.{Started, Value, Done, Set, Count, Committed, Aborted, Deciding, Level, Ended, Unsure, Refused}
 use Rattle.walter_base.specs.declared.names.SiteId.{SiteId}
 use Rattle.walter_base.specs.Sizes.{CanBeRecorded}
 use Rattle.walter_disk.specs.Images.{LeavesOnly}
@@ -11,16 +9,17 @@ use Rattle.walter_disk.specs.declared.disk.Disk.{Ghosts}
 use Rattle.walter_journal.specs.Journals.{disk_of, end_of, capacity_of, StandsFor, HasRoom}
 use Rattle.walter_journal.specs.declared.journal.Journal.{Journal}
 use Rattle.walter_record.specs.Spelling.{record_spelled, AreInRange}
-use Rattle.walter_site.specs.declared.site.Site.{Site}
-use Rattle.walter_trail.specs.declared.trail.TrailEvent.{TrailEvent}
-use Rattle.walter_trail.specs.Standing.{Standing, stands_after}
-use Rattle.walter_trail.specs.Trails.{Comes}
+use Rattle.walter_tables.specs.declared.tables.Tables.{Tables}
+use Rattle.walter_rules.specs.declared.event.Event.{Event}
+use Rattle.walter_rules.specs.Standing.{Standing, stands_after}
+use Rattle.walter_rules.specs.declared.entry.Came.{Came}
+use Rattle.walter_rules.specs.Trails.{Comes, failure}
 use Rattle.walter_engine.specs.declared.answers.Stepped.{Stepped}
 use Rattle.walter_engine.specs.declared.answers.Stepped.TheVariants as stepped
 use Rattle.walter_engine.specs.declared.stepping.StagedRecord.{StagedRecord}
 use Rattle.walter_engine.specs.Contents.{AreJournaled}
 use Rattle.walter_engine.specs.Engines.{IsRunning, IsResting}
-use Rattle.walter_engine.specs.Steps.{came_of_step}
+use Rattle.walter_engine.specs.Steps.{came_of_step, only, IsSizedStep, IsFaultOfStep, AreCallsOfStep}
 
 -- the journal is as before, but for its room
 pub record IsSameJournal {D : Type 0} {g : Ghosts D} (old new : Journal D g) : Type 0 where
@@ -47,40 +46,41 @@ IsStagedIfAny journal count None (Some s) = ⊥
 IsStagedIfAny journal count (Some rec) None = ⊥
 IsStagedIfAny journal count (Some rec) (Some s) = IsStagedRecord journal count rec s
 
--- a reply whose copy may take memory
-abbrev pub TakesCopy : Reply → Type 0
-TakesCopy (Started tid) = Unit {0}
-TakesCopy (Value value) = Unit {0}
-TakesCopy Done = Unit {0}
-TakesCopy (Set counts) = Unit {0}
-TakesCopy (Count n) = ⊥
-TakesCopy (Committed version) = Unit {0}
-TakesCopy (Aborted cause) = ⊥
-TakesCopy (Level level) = ⊥
-TakesCopy Ended = Unit {0}
-TakesCopy (Deciding tid) = Unit {0}
-TakesCopy (Unsure tid) = Unit {0}
-TakesCopy (Refused refusal) = ⊥
+-- what a site that is up comes to, before one that failed goes down: its record is in flight
+abbrev pub Advanced : Type 0
+Advanced = Result Stepped Record
 
--- how many records the journal has behind a step
-abbrev pub count_after : ℕ → Stepped → ℕ
-count_after count (stepped.Done reply (Some rec)) = count + 1
-count_after count (stepped.Done reply None) = count
-count_after count (stepped.Failed rec) = count
-count_after count (stepped.Full need left) = count
-count_after count stepped.Down = count
-count_after count stepped.NoMemory = count
+-- what its event came to
+abbrev pub came_of_advance : Event → Advanced → Came
+came_of_advance event (Ok answer) = came_of_step event answer
+came_of_advance event (Err rec) = record (only (failure event rec)) { flight = Some rec }
 
--- what a step leaves: the site runs on, or its disk rests
-abbrev pub IsLeftBy : {D : Type 0} {g : Ghosts D} → Stepped → Standing → Site → Journal D g → Type 0
-IsLeftBy {g = g} (stepped.Failed rec) S site journal = IsResting g S (disk_of journal)
-IsLeftBy (stepped.Done reply wrote) S site journal = IsRunning S site journal
-IsLeftBy (stepped.Full need left) S site journal = IsRunning S site journal
-IsLeftBy stepped.Down S site journal = ⊥
-IsLeftBy stepped.NoMemory S site journal = IsRunning S site journal
+-- how many records the journal has behind it
+abbrev pub count_after : ℕ → Advanced → ℕ
+count_after count (Ok (stepped.Done outcome (Some rec) sends frames)) = count + 1
+count_after count answer = count
 
--- a step of a site that stood so came to what it may, and left what it leaves
-pub record Advances {D : Type 0} {g : Ghosts D} (catalog : Catalog) (capacity : ℕ) (i : SiteId) (S : Standing) (event : TrailEvent) (result : Stepped) (site : Site) (journal : Journal D g) : Type 0 where
-  pub comes : Comes catalog capacity i S event (came_of_step event result)
-  pub left : IsLeftBy result (stands_after i S event (came_of_step event result)) site journal
-  pub journaled : AreJournaled catalog i (stands_after i S event (came_of_step event result))
+abbrev pub IsSizedAdvance : ℕ → Advanced → Type 0
+IsSizedAdvance sites (Ok answer) = IsSizedStep sites answer
+IsSizedAdvance sites (Err rec) = CanBeRecorded rec
+
+-- the disk's faults never fall, and where it failed it met one
+abbrev pub IsFaultOfAdvance : Advanced → ℕ → ℕ → Type 0
+IsFaultOfAdvance (Ok answer) old new = IsFaultOfStep answer old new
+IsFaultOfAdvance (Err rec) old new = old < new
+
+abbrev pub AreCallsOfAdvance : Advanced → ℕ → ℕ → Type 0
+AreCallsOfAdvance (Ok answer) old new = AreCallsOfStep answer old new
+AreCallsOfAdvance (Err rec) old new = new ≤ old + 4
+
+-- what it leaves: the site runs on, or its disk rests
+abbrev pub IsLeftBy : {D : Type 0} {g : Ghosts D} → Advanced → Standing → Tables → Journal D g → Type 0
+IsLeftBy {g = g} (Err rec) S site journal = IsResting g S (disk_of journal)
+IsLeftBy (Ok answer) S site journal = IsRunning S site journal
+
+-- a site that stood so came to what it may, and left what it leaves
+pub record Advances {D : Type 0} {g : Ghosts D} (catalog : Catalog) (capacity : ℕ) (i : SiteId) (S : Standing)
+    (event : Event) (result : Advanced) (site : Tables) (journal : Journal D g) : Type 0 where
+  pub comes : Comes catalog capacity i S event (came_of_advance event result)
+  pub left : IsLeftBy result (stands_after catalog i S event (came_of_advance event result)) site journal
+  pub journaled : AreJournaled catalog i (stands_after catalog i S event (came_of_advance event result))

@@ -6,9 +6,10 @@ use Rattle.walter_base.specs.declared.message.Record.TheVariants.{Boot}
 use Rattle.walter_base.specs.declared.names.SiteId.{SiteId}
 use Rattle.walter_journal.specs.Layout.{HasContent}
 use Rattle.walter_record.specs.Spelling.{record_spelled, HasRecordSpelling}
-use Rattle.walter_trail.specs.Knowledge.{fresh, lost}
-use Rattle.walter_trail.specs.Records.{CanFollow, CanAllFollow, replayed}
-use Rattle.walter_trail.specs.Standing.{Standing, settled}
+use Rattle.walter_rules.specs.Knowledge.{fresh}
+use Rattle.walter_rules.specs.Learning.{lost}
+use Rattle.walter_rules.specs.Records.{CanFollow, CanAllFollow, replayed}
+use Rattle.walter_rules.specs.Standing.{Standing, settled}
 
 -- the bytes of a journal with these records
 abbrev pub HasRecords : List ℕ → List Record → Type 0
@@ -21,9 +22,9 @@ MayHaveRecords records (Some rec) image = HasRecords image records ⊎ HasRecord
 
 -- what a crash within a restart leaves: the records from before; or those that the restart finds, where it finds the one in
 -- flight or doesn't, with the next epoch behind them
-abbrev pub MayHaveBoot : SiteId → Standing → Option Record → List ℕ → Type 0
-MayHaveBoot i S kept image =
-    MayHaveRecords S.records S.flight image ⊎ HasRecords image ((settled i kept S).records ++ Boot ((settled i kept S).knows.epoch + 1) ∷ [])
+abbrev pub MayHaveBoot : Catalog → SiteId → Standing → Option Record → List ℕ → Type 0
+MayHaveBoot catalog i S kept image =
+    MayHaveRecords S.records S.flight image ⊎ HasRecords image ((settled catalog i kept S).records ++ Boot ((settled catalog i kept S).knows.epoch + 1) ∷ [])
 
 -- the record has a spelling, and can stand behind what the site knows
 pub record CanBeJournaled (catalog : Catalog) (i : SiteId) (S : Standing) (rec : Record) : Type 0 where
@@ -34,7 +35,7 @@ pub record CanBeJournaled (catalog : Catalog) (i : SiteId) (S : Standing) (rec :
 -- may stand behind them
 pub record AreJournaled (catalog : Catalog) (i : SiteId) (S : Standing) : Type 0 where
   pub spelled : All (HasRecordSpelling catalog.sites) S.records
-  pub follow : CanAllFollow catalog i (fresh catalog.sites) S.records
-  pub tell : lost S.knows ≡ replayed i (fresh catalog.sites) S.records
+  pub follow : CanAllFollow catalog i fresh S.records
+  pub tell : lost S.knows ≡ replayed catalog i fresh S.records
   pub in_flight : IfSome S.flight (CanBeJournaled catalog i S)
   pub booted : S.up ≡ true → 0 < S.knows.epoch

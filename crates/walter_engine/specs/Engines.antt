@@ -12,10 +12,10 @@ use Rattle.walter_engine.specs.States.{disk_under, is_up_in, IsOfState}
 use Rattle.walter_journal.specs.Journals.{StandsFor}
 use Rattle.walter_journal.specs.declared.journal.Journal.{Journal}
 use Rattle.walter_record.specs.Spelling.{record_spelled}
-use Rattle.walter_site.specs.declared.site.Site.{Site}
-use Rattle.walter_site.specs.Sites.{known}
-use Rattle.walter_trail.specs.Knowledge.{lost}
-use Rattle.walter_trail.specs.Standing.{Standing}
+use Rattle.walter_tables.specs.declared.tables.Tables.{Tables}
+use Rattle.walter_site.specs.Members.{Knows}
+use Rattle.walter_rules.specs.Learning.{lost}
+use Rattle.walter_rules.specs.Standing.{Standing}
 
 abbrev pub catalog_in : {D : Type 0} {g : Ghosts D} → Engine D g → Catalog
 catalog_in engine = engine.catalog
@@ -42,9 +42,9 @@ abbrev pub OfDisks : {D : Type 0} {g : Ghosts D} → (old new : Engine D g) → 
 OfDisks old new R = OfDisk old (λ before. OfDisk new (λ after. R before after))
 
 -- a site that is up over its journal
-pub record IsRunning {D : Type 0} {g : Ghosts D} (S : Standing) (site : Site) (journal : Journal D g) : Type 0 where
+pub record IsRunning {D : Type 0} {g : Ghosts D} (S : Standing) (site : Tables) (journal : Journal D g) : Type 0 where
   pub up : S.up ≡ true
-  pub knows : known site ≡ S.knows
+  pub knows : Knows site S.knows
   pub settled : S.flight ≡ None
   pub stands : StandsFor journal (map record_spelled S.records)
 

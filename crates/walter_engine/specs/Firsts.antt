@@ -14,8 +14,9 @@ use Rattle.walter_engine.specs.Engines.{IsInState, IsTallied}
 use Rattle.walter_engine.specs.States.{IsOf}
 use Rattle.walter_journal.specs.declared.fault.JournalFault.{JournalFault}
 use Rattle.walter_journal.specs.declared.fault.JournalFault.TheVariants as fault
-use Rattle.walter_trail.specs.Standing.{Standing}
-use Rattle.walter_trail.specs.Trails.{standing, opening}
+use Rattle.walter_rules.specs.Standing.{Standing}
+use Rattle.walter_rules.specs.Trails.{standing}
+use Rattle.walter_engine.specs.Steps.{opening}
 
 -- how a site stands behind its first entry
 abbrev pub first_standing : Catalog → SiteId → Standing

@@ -9,3 +9,4 @@ pub mod Restarts
 pub mod Moves
 pub mod Begins
 pub mod Firsts
+pub mod Prepares

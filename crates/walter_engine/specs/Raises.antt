@@ -19,10 +19,11 @@ use Rattle.walter_engine.specs.Steps.{came_of_restart, kept_of, IfRefused, IfUp,
 use Rattle.walter_journal.specs.declared.journal.Journal.{Journal}
 use Rattle.walter_journal.specs.Journals.{HasRoom}
 use Rattle.walter_record.specs.Spelling.{record_spelled, AreInRange}
-use Rattle.walter_trail.specs.declared.trail.TrailEvent.TheVariants.{Restart}
-use Rattle.walter_trail.specs.Knowledge.{Knowledge, lost}
-use Rattle.walter_trail.specs.Standing.{Standing, settled, stands_after}
-use Rattle.walter_trail.specs.Trails.{Comes, IsFound}
+use Rattle.walter_rules.specs.declared.event.Event.TheVariants.{Restart}
+use Rattle.walter_rules.specs.Knowledge.{Knowledge}
+use Rattle.walter_rules.specs.Learning.{lost}
+use Rattle.walter_rules.specs.Standing.{Standing, settled, stands_after}
+use Rattle.walter_rules.specs.Trails.{Comes, IsFound}
 
 -- the site is down, and knows what its records tell
 pub record IsDown (S : Standing) : Type 0 where
@@ -49,16 +50,16 @@ IsLast K why = (why ≡ LastEpoch) × (K.epoch ≡ 4294967295)
 -- a restart of a site that stood so, with this record found
 pub record Boots {D : Type 0} {g : Ghosts D} (catalog : Catalog) (capacity : ℕ) (i : SiteId) (S : Standing) (result : AfterRestart D g) : Type 0 where
   pub comes : IsRefused result.answer ⊎ Comes catalog capacity i S Restart (came_of_restart result.answer)
-  pub left : IsInState (stands_after i S Restart (came_of_restart result.answer)) (Some result.state)
-  pub journaled : AreJournaled catalog i (stands_after i S Restart (came_of_restart result.answer))
-  pub tallied : IsTallied result.tally (stands_after i S Restart (came_of_restart result.answer))
+  pub left : IsInState (stands_after catalog i S Restart (came_of_restart result.answer)) (Some result.state)
+  pub journaled : AreJournaled catalog i (stands_after catalog i S Restart (came_of_restart result.answer))
+  pub tallied : IsTallied result.tally (stands_after catalog i S Restart (came_of_restart result.answer))
   pub takes_none : S.knows.epoch ≡ 4294967295 → TakesNoEpoch result.answer
 
 -- a restart of a site that stood so
 pub record Raises {D : Type 0} {g : Ghosts D} (catalog : Catalog) (capacity : ℕ) (i : SiteId) (S : Standing) (result : AfterRestart D g) : Type 0 where
   pub found : IfSome (kept_of result.answer) (IsFound S Restart)
-  pub boots : Boots catalog capacity i (settled i (kept_of result.answer) S) result
-  pub last : IfRefused result.answer (IsLast (settled i (kept_of result.answer) S).knows)
+  pub boots : Boots catalog capacity i (settled catalog i (kept_of result.answer) S) result
+  pub last : IfRefused result.answer (IsLast (settled catalog i (kept_of result.answer) S).knows)
 
 -- the Boot of an epoch with its spelling, for which the journal has room
 pub record IsStagedBoot {D : Type 0} {g : Ghosts D} (journal : Journal D g) (count epoch : ℕ) (s : StagedBoot) : Type 0 where

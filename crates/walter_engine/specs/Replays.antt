@@ -4,35 +4,39 @@ use Rattle.walter_base.specs.declared.catalog.Catalog.{Catalog}
 use Rattle.walter_base.specs.declared.message.Record.{Record}
 use Rattle.walter_base.specs.declared.names.SiteId.{SiteId}
 use Rattle.walter_record.specs.Spelling.{record_spelled, HasRecordSpelling}
-use Rattle.walter_site.specs.declared.replay.ReplayFault.{ReplayFault}
-use Rattle.walter_site.specs.declared.replay.ReplayFault.TheVariants.{Unfit, NoMemory}
-use Rattle.walter_trail.specs.Knowledge.{Knowledge, fresh, recorded}
-use Rattle.walter_trail.specs.Records.{CanFollow, replayed}
+use Rattle.walter_tables.specs.declared.replay.ReplayFault.{ReplayFault}
+use Rattle.walter_tables.specs.declared.replay.ReplayFault.TheVariants.{Unfit, NoMemory}
+use Rattle.walter_tables.specs.declared.tables.Tables.{Tables}
+use Rattle.walter_tables.specs.Sites.{site_of, catalog_of, Stands}
+use Rattle.walter_rules.specs.Knowledge.{Knowledge, fresh}
+use Rattle.walter_rules.specs.Learning.{recorded}
+use Rattle.walter_rules.specs.Records.{CanFollow, replayed}
 use Rattle.walter_engine.specs.Steps.{Tell, IsUnreadable}
 use Rattle.walter_engine.specs.declared.replaying.ReadFault.{ReadFault}
 use Rattle.walter_engine.specs.declared.replaying.ReadFault.TheVariants as fault
 
 -- the body spells a record that can follow, which leaves this
-pub record Takes (catalog : Catalog) (i : SiteId) (K : Knowledge) (body : List ℕ) (K' : Knowledge) : Type 0 where
+pub record Takes (old : Tables) (body : List ℕ) (new : Tables) : Type 0 where
   pub rec : Record
-  pub spelled : HasRecordSpelling catalog.sites rec
+  pub spelled : HasRecordSpelling (catalog_of old).sites rec
   pub is : body ≡ record_spelled rec
-  pub follows : CanFollow catalog i K rec
-  pub leaves : K' ≡ recorded i (Some rec) K
+  pub follows : (K : Knowledge) → Stands old K → CanFollow (catalog_of old) (site_of old) K rec
+  pub leaves : (K : Knowledge) → Stands old K → Stands new (recorded (catalog_of old) (site_of old) (Some rec) K)
 
 -- it spells none that can follow
 abbrev pub SpellsNone : Catalog → SiteId → Knowledge → List ℕ → Type 0
-SpellsNone catalog i K body = (rec : Record) → HasRecordSpelling catalog.sites rec → body ≡ record_spelled rec → ¬ CanFollow catalog i K rec
+SpellsNone catalog i K body =
+    (rec : Record) → HasRecordSpelling catalog.sites rec → body ≡ record_spelled rec → ¬ CanFollow catalog i K rec
 
-abbrev pub IsUnfit : Catalog → SiteId → Knowledge → List ℕ → ReplayFault → Type 0
-IsUnfit catalog i K body Unfit = SpellsNone catalog i K body
-IsUnfit catalog i K body NoMemory = Unit {0}
+abbrev pub IsUnfit : Tables → List ℕ → ReplayFault → Type 0
+IsUnfit old body Unfit = (K : Knowledge) → Stands old K → SpellsNone (catalog_of old) (site_of old) K body
+IsUnfit old body NoMemory = Unit {0}
 
--- the bodies tell this
-pub record Tells (catalog : Catalog) (i : SiteId) (bodies : List (List ℕ)) (K : Knowledge) : Type 0 where
+-- the bodies tell what the tables stand for
+pub record Tells (catalog : Catalog) (i : SiteId) (bodies : List (List ℕ)) (tables : Tables) : Type 0 where
   pub records : List Record
   pub tell : Tell catalog i bodies records
-  pub known : K ≡ replayed i (fresh catalog.sites) records
+  pub stands : Stands tables (replayed catalog i fresh records)
 
 abbrev pub IsReadFault : Catalog → SiteId → List (List ℕ) → ReadFault → Type 0
 IsReadFault catalog i bodies (fault.Unreadable index) = IsUnreadable catalog i bodies index

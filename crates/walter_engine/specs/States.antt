@@ -6,7 +6,7 @@ use Rattle.walter_disk.specs.declared.disk.Disk.{Ghosts}
 use Rattle.walter_engine.specs.declared.engine.State.{State}
 use Rattle.walter_engine.specs.declared.engine.State.TheVariants.{Up, Down}
 use Rattle.walter_journal.specs.Journals.{disk_of, capacity_of}
-use Rattle.walter_site.specs.Sites.{site_of, catalog_of}
+use Rattle.walter_tables.specs.Sites.{site_of, catalog_of}
 
 -- the disk, bare or under a journal
 abbrev pub disk_of_state : {D : Type 0} {g : Ghosts D} → State D g → D
@@ -34,3 +34,16 @@ abbrev pub IsOfState : {D : Type 0} {g : Ghosts D} → Catalog → SiteId → �
 IsOfState catalog i capacity None = Unit {0}
 IsOfState catalog i capacity (Some (Up site journal)) = (site_of site ≡ i) × (catalog_of site ≡ catalog) × (capacity_of journal ≡ capacity)
 IsOfState catalog i capacity (Some (Down disk)) = Unit {0}
+
+-- how many sites the running site is among; as many as are said, where none runs
+abbrev pub sites_of_state : {D : Type 0} {g : Ghosts D} → ℕ → State D g → ℕ
+sites_of_state sites (Up site journal) = (catalog_of site).sites
+sites_of_state sites (Down disk) = sites
+
+abbrev pub sites_under : {D : Type 0} {g : Ghosts D} → ℕ → Option (State D g) → ℕ
+sites_under sites None = sites
+sites_under sites (Some state) = sites_of_state sites state
+
+-- the running site is one among so many
+abbrev pub IsAmong : {D : Type 0} {g : Ghosts D} → ℕ → State D g → Type 0
+IsAmong sites state = sites_of_state sites state ≡ sites

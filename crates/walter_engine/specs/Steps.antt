@@ -1,21 +1,31 @@
 -- What a step and a restart come to, as an event of the site's trail.
-use Rattle.std.specs.Prelude.{◌≡◌, ◌≢◌, ◌+◌, ◌<◌, ◌≤◌, ℕ, Bool, List, map, take, slice_get, Option, Some, None, All, IfSome}
+use Rattle.std.specs.Prelude.{◌≡◌, ◌≢◌, ◌+◌, ◌<◌, ◌≤◌, ℕ, Bool, List, [], map, take, slice_get, Option, Some, None, All, IfSome}
 use Rattle.walter_base.specs.declared.catalog.Catalog.{Catalog}
 use Rattle.walter_base.specs.declared.message.Record.{Record}
-use Rattle.walter_base.specs.declared.message.Refusal.TheVariants.{Down as IsDown}
-use Rattle.walter_base.specs.declared.message.Reply.TheVariants.{Unsure, Refused as RefusedCall}
+use Rattle.walter_base.specs.declared.message.Record.TheVariants.{Boot}
+use Rattle.walter_base.specs.declared.message.Reply.TheVariants.{Unsure}
 use Rattle.walter_base.specs.declared.names.SiteId.{SiteId}
 use Rattle.walter_base.specs.declared.names.Tid.{Tid}
-use Rattle.walter_base.specs.Sizes.{IsShortReply, CanBeRecorded}
+use Rattle.walter_base.specs.Sizes.{CanBeRecorded}
+use Rattle.walter_site.specs.Members.{IsShortOutcome}
+use Rattle.walter_packet.specs.Framed.{FramedBytes, frame_of}
+use Rattle.walter_rules.specs.Sending.{Send}
+use Rattle.walter_session.specs.Sessions.{sessions_of}
 use Rattle.walter_journal.specs.Layout.{HasContent, IsForeign, IsDamaged}
 use Rattle.walter_record.specs.Spelling.{record_spelled, HasRecordSpelling}
-use Rattle.walter_trail.specs.declared.trail.Outcome.TheVariants.{Replied, Taken, Failed as HasFailed, Full as IsFull, Memory, Refused as IsRefused}
-use Rattle.walter_trail.specs.declared.trail.TrailEvent.{TrailEvent}
-use Rattle.walter_trail.specs.declared.trail.TrailEvent.TheVariants.{Restart}
-use Rattle.walter_trail.specs.Knowledge.{fresh}
-use Rattle.walter_trail.specs.Records.{CanFollow, CanAllFollow, replayed}
-use Rattle.walter_trail.specs.Standing.{Came, comes_up}
-use Rattle.walter_trail.specs.Trails.{failure, fullness, want, only}
+use Rattle.walter_rules.specs.declared.outcome.Outcome.TheVariants.{Replied, Taken, Failed as HasFailed, Full as IsFull, Memory, Down as IsDown, Refused as IsRefused}
+use Rattle.walter_rules.specs.declared.outcome.Outcome.{Outcome}
+use Rattle.walter_rules.specs.declared.entry.Came.{Came}
+use Rattle.walter_rules.specs.declared.entry.Entry.{Entry}
+use Rattle.walter_rules.specs.declared.event.Event.{Event}
+use Rattle.walter_rules.specs.declared.event.Event.TheVariants.{Restart}
+use Rattle.walter_rules.specs.declared.event.Input.{Input}
+use Rattle.walter_rules.specs.declared.event.Input.TheVariants.{Call, Deliver, Advance, Tick}
+use Rattle.walter_rules.specs.Knowledge.{fresh}
+use Rattle.walter_rules.specs.Records.{CanFollow, CanAllFollow, replayed}
+use Rattle.walter_rules.specs.Sessions.{Sessions}
+use Rattle.walter_rules.specs.Standing.{Standing, comes_up}
+use Rattle.walter_rules.specs.Trails.{failure, fullness, want}
 use Rattle.walter_engine.specs.declared.answers.RefusedRestart.{RefusedRestart}
 use Rattle.walter_engine.specs.declared.answers.RefusedRestart.TheVariants.{Foreign, Damaged, Unreadable, LastEpoch}
 use Rattle.walter_engine.specs.declared.answers.Restarted.{Restarted}
@@ -23,21 +33,30 @@ use Rattle.walter_engine.specs.declared.answers.Restarted.TheVariants as restart
 use Rattle.walter_engine.specs.declared.answers.Stepped.{Stepped}
 use Rattle.walter_engine.specs.declared.answers.Stepped.TheVariants.{Done, Failed, Full, Down, NoMemory}
 
--- what the event of a step came to
-abbrev pub came_of_step : TrailEvent → Stepped → Came
-came_of_step event (Done reply wrote) = record { wrote = wrote; outcome = Replied reply; flight = None }
-came_of_step event (Failed rec) = record { wrote = None; outcome = failure event rec; flight = Some rec }
+-- an outcome alone: no record, and nothing put out
+abbrev pub only : Outcome → Came
+only outcome = record { outcome = outcome; kept = None; wrote = None; flight = None; sends = []; dropped = 0 }
+
+-- what the event of a step came to, where all that is put out finds its place
+abbrev pub came_of_step : Event → Stepped → Came
+came_of_step event (Done outcome wrote sends frames) =
+    record { outcome = outcome; kept = None; wrote = wrote; flight = None; sends = sends; dropped = 0 }
+came_of_step event (Failed rec lost) = record (only (failure event rec)) { flight = Some rec }
 came_of_step event (Full need left) = only (fullness event need left)
-came_of_step event Down = only (Replied (RefusedCall IsDown))
+came_of_step event Down = only IsDown
 came_of_step event NoMemory = only (want event)
 
 -- what a restart came to, and what it found of the record that was in flight
 abbrev pub came_of_restart : Restarted → Came
-came_of_restart (restarted.Up kept wrote) = record { wrote = Some wrote; outcome = Taken; flight = None }
-came_of_restart (restarted.Failed kept flight) = record { wrote = None; outcome = HasFailed; flight = flight }
-came_of_restart (restarted.Full kept need left) = only (IsFull need left)
-came_of_restart (restarted.Refused kept why) = only IsRefused
-came_of_restart (restarted.NoMemory kept) = only Memory
+came_of_restart (restarted.Up kept wrote) = record (only Taken) { kept = kept; wrote = Some wrote }
+came_of_restart (restarted.Failed kept flight) = record (only HasFailed) { kept = kept; flight = flight }
+came_of_restart (restarted.Full kept need left) = record (only (IsFull need left)) { kept = kept }
+came_of_restart (restarted.Refused kept why) = record (only IsRefused) { kept = kept }
+came_of_restart (restarted.NoMemory kept) = record (only Memory) { kept = kept }
+
+-- the first entry of a trail
+abbrev pub opening : Entry
+opening = record { stamp = 1; event = Restart; came = record (only Taken) { wrote = Some (Boot 1) } }
 
 abbrev pub kept_of : Restarted → Option Record
 kept_of (restarted.Up kept wrote) = kept
@@ -46,14 +65,27 @@ kept_of (restarted.Full kept need left) = kept
 kept_of (restarted.Refused kept why) = kept
 kept_of (restarted.NoMemory kept) = kept
 
--- what a step answers has a frame, and what it writes a spelling. No client is told that its commit is unsure by a step that
--- is done.
-abbrev pub IsSizedStep : Stepped → Type 0
-IsSizedStep (Done reply wrote) = IsShortReply reply × IfSome wrote CanBeRecorded × ((tid : Tid) → reply ≢ Unsure tid)
-IsSizedStep (Failed rec) = CanBeRecorded rec
-IsSizedStep (Full need left) = Unit {0}
-IsSizedStep Down = Unit {0}
-IsSizedStep NoMemory = Unit {0}
+-- a reply is short, what is written has a spelling, and for each packet its frame is there. A step that is done met no
+-- fault: it tells no client that its commit is unsure, and it didn't fail.
+pub record IsSizedDone (sites : ℕ) (outcome : Outcome) (wrote : Option Record) (sends : List Send)
+    (frames : List FramedBytes) : Type 0 where
+  pub short : IsShortOutcome outcome
+  pub recorded : IfSome wrote CanBeRecorded
+  pub sure : (tid : Tid) → outcome ≢ Replied (Unsure tid)
+  pub unfailed : outcome ≢ HasFailed
+  pub framed : frames ≡ map (λ s. frame_of sites s.1) sends
+
+abbrev pub IsSizedStep : ℕ → Stepped → Type 0
+IsSizedStep sites (Done outcome wrote sends frames) = IsSizedDone sites outcome wrote sends frames.items
+IsSizedStep sites (Failed rec lost) = CanBeRecorded rec
+IsSizedStep sites (Full need left) = Unit {0}
+IsSizedStep sites Down = Unit {0}
+IsSizedStep sites NoMemory = Unit {0}
+
+-- the sessions that a step that failed loses are these
+abbrev pub DoesLose : Stepped → Sessions → Type 0
+DoesLose (Failed rec lost) sessions = sessions_of lost ≡ sessions
+DoesLose stepped sessions = Unit {0}
 
 -- so it is with what a restart found
 abbrev pub IsSizedRestart : Restarted → Type 0
@@ -63,7 +95,7 @@ IsSizedRestart answer = IfSome (kept_of answer) CanBeRecorded × IfSome (came_of
 pub record Tell (catalog : Catalog) (i : SiteId) (bodies : List (List ℕ)) (records : List Record) : Type 0 where
   pub spell : bodies ≡ map record_spelled records
   pub spelled : All (HasRecordSpelling catalog.sites) records
-  pub follow : CanAllFollow catalog i (fresh catalog.sites) records
+  pub follow : CanAllFollow catalog i fresh records
 
 -- the first bodies do; the one with this index spells no record, or one that can't follow
 pub record IsUnreadable (catalog : Catalog) (i : SiteId) (bodies : List (List ℕ)) (index : ℕ) : Type 0 where
@@ -72,7 +104,7 @@ pub record IsUnreadable (catalog : Catalog) (i : SiteId) (bodies : List (List �
   pub front : Tell catalog i (take index bodies) records
   pub within : slice_get bodies index ≡ Some body
   pub wrong : (rec : Record) → HasRecordSpelling catalog.sites rec → body ≡ record_spelled rec
-      → ¬ CanFollow catalog i (replayed i (fresh catalog.sites) records) rec
+      → ¬ CanFollow catalog i (replayed catalog i fresh records) rec
 
 -- why a restart is refused, by the bodies that the journal has: one of them spells no record that can stand there, or the
 -- epoch that they tell is the last
@@ -81,7 +113,7 @@ IsRefusedOver catalog i bodies Foreign = ⊥
 IsRefusedOver catalog i bodies (Damaged at length) = ⊥
 IsRefusedOver catalog i bodies (Unreadable index) = IsUnreadable catalog i bodies index
 IsRefusedOver catalog i bodies LastEpoch =
-    (records : List Record) × Tell catalog i bodies records × ((replayed i (fresh catalog.sites) records).epoch ≡ 4294967295)
+    (records : List Record) × Tell catalog i bodies records × ((replayed catalog i fresh records).epoch ≡ 4294967295)
 
 -- by the bytes that the disk has: they are no journal, or a damaged one, or one with such bodies
 abbrev pub IsRefusedFor : Catalog → SiteId → List ℕ → RefusedRestart → Type 0
@@ -118,8 +150,8 @@ TakesNoEpoch (restarted.NoMemory kept) = Unit {0}
 
 -- the disk's faults never fall, and a step that failed met one
 abbrev pub IsFaultOfStep : Stepped → ℕ → ℕ → Type 0
-IsFaultOfStep (Failed rec) old new = old < new
-IsFaultOfStep (Done reply wrote) old new = old ≤ new
+IsFaultOfStep (Failed rec lost) old new = old < new
+IsFaultOfStep (Done outcome wrote sends frames) old new = old ≤ new
 IsFaultOfStep (Full need left) old new = old ≤ new
 IsFaultOfStep Down old new = old ≤ new
 IsFaultOfStep NoMemory old new = old ≤ new
@@ -127,9 +159,9 @@ IsFaultOfStep NoMemory old new = old ≤ new
 -- how many calls a step made of the disk that an arm counts: four where a record was written, and at most four where that
 -- failed
 abbrev pub AreCallsOfStep : Stepped → ℕ → ℕ → Type 0
-AreCallsOfStep (Done reply (Some rec)) old new = new ≡ old + 4
-AreCallsOfStep (Done reply None) old new = new ≡ old
-AreCallsOfStep (Failed rec) old new = new ≤ old + 4
+AreCallsOfStep (Done outcome (Some rec) sends frames) old new = new ≡ old + 4
+AreCallsOfStep (Done outcome None sends frames) old new = new ≡ old
+AreCallsOfStep (Failed rec lost) old new = new ≤ old + 4
 AreCallsOfStep (Full need left) old new = new ≡ old
 AreCallsOfStep Down old new = new ≡ old
 AreCallsOfStep NoMemory old new = new ≡ old
@@ -141,3 +173,10 @@ IsFaultOfRestart (restarted.Up kept wrote) old new = old ≤ new
 IsFaultOfRestart (restarted.Full kept need left) old new = old ≤ new
 IsFaultOfRestart (restarted.Refused kept why) old new = old ≤ new
 IsFaultOfRestart (restarted.NoMemory kept) old new = old ≤ new
+
+-- the client that calls isn't owed the news that its transaction is gone
+abbrev pub IsUntold : Standing → Input → Type 0
+IsUntold S (Call client call) = S.gone client ≡ None
+IsUntold S (Deliver from number packet) = Unit {0}
+IsUntold S (Advance from) = Unit {0}
+IsUntold S Tick = Unit {0}

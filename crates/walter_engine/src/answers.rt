@@ -1,15 +1,30 @@
 use thiserror::Error;
-use walter_base::{Record, Reply};
+use walter_base::{Record, Sends};
+use walter_packet::Framed;
+use walter_rules::Outcome;
+use walter_session::Sessions;
 
 /// What a step came to.
-#[derive(Debug, Drop)]
+#[derive(Drop)]
 pub enum Stepped {
-    /// The client is answered so. The record, if there is one, is stable.
-    Done { reply: Reply, wrote: Option<Record> },
-    /// A call on the disk failed while this record was journaled, and the site is down.
-    Failed { flight: Record },
+    /// It came to this. The record, if there is one, is stable, and then this is put out: each packet with its frame.
+    Done {
+        outcome: Outcome,
+        wrote: Option<Record>,
+        sends: Sends,
+        frames: Vec<Framed>,
+    },
+    /// A call on the disk failed while this record was journaled, and the site is down. These transactions are lost,
+    /// but for one whose client is told that its commit is unsure.
+    Failed {
+        flight: Record,
+        lost: Sessions,
+    },
     /// The journal has no place for the record: so many bytes are needed, and so many left.
-    Full { need: u64, left: u64 },
+    Full {
+        need: u64,
+        left: u64,
+    },
     /// The site is down.
     Down,
     /// Memory ran out, and nothing changed.

@@ -1,9 +1,9 @@
 ghost use Rattle.std.specs.Prelude.{◌≡◌, ◌<◌, ◌++◌, ◌∷◌, [], ℕ, Some, option_map, OnOk, OnErr};
 ghost use Rattle.walter_base.specs.declared.catalog.Catalog.{Catalog};
 ghost use Rattle.walter_base.specs.declared.names.SiteId.{SiteId};
-ghost use Rattle.walter_trail.specs.Standing.{Standing};
+ghost use Rattle.walter_rules.specs.Standing.{Standing};
 ghost use Rattle.walter_engine.specs.Engines.{IsInState};
-ghost use Rattle.walter_engine.specs.States.{IsOf, is_up_state, disk_of_state};
+ghost use Rattle.walter_engine.specs.States.{IsOf, IsAmong, is_up_state, disk_of_state};
 
 use crate::engine::State;
 use walter_base::{Mem, NoMemory};
@@ -19,6 +19,7 @@ pub(crate) fn arm_state<D: Disk>(state: State<D>, nth: u64, choice: u64) -> (Sta
     ensures up { is_up_state result.0 ≡ is_up_state state }
     ensures of { (catalog : Catalog) (i : SiteId) (capacity : ℕ) → IsOf catalog i capacity state
         → IsOf catalog i capacity result.0 }
+    ensures among { (sites : ℕ) → IsAmong sites state → IsAmong sites result.0 }
     ensures stands { (S : Standing) → IsInState S (Some state) → IsInState S (Some result.0) }
 {
     match state {

@@ -3,7 +3,7 @@ ghost use Rattle.walter_disk.specs.Images.{LeavesOnly};
 ghost use Rattle.walter_journal.specs.Journals.{calls_of_load, disk_of, capacity_of, left_of, StandsFor};
 ghost use Rattle.walter_engine.specs.Begins.{HasOnly, MayHaveBegun, IsBegun, IsFaultOfBegin};
 ghost use Rattle.walter_engine.specs.Firsts.{HasFirstEpoch, IsAnswerTo, IsBegunOver, MayHaveFirst, not_loaded_by};
-ghost use Rattle.walter_engine.specs.States.{disk_of_state, is_up_state};
+ghost use Rattle.walter_engine.specs.States.{IsAmong, disk_of_state, is_up_state};
 ghost use Rattle.walter_engine.specs.Steps.{IfFull, IfRefused};
 ghost use Rattle.walter_base.specs.Vectors.{most_sites};
 
@@ -34,8 +34,10 @@ pub(crate) fn begin_on<D: Disk>(
 ) -> AfterBegin<D>
     requires here { id.0 < catalog.now.sites }
     requires most { catalog.now.sites ≤ most_sites }
+    requires fewer { catalog.now.tolerated < catalog.now.sites }
     requires place { 19 ≤ capacity }
     ensures up { is_up_state result.state ≡ is_ok result.answer }
+    ensures among { IsAmong catalog.now.sites result.state }
     ensures stands { IsSome (D.known disk).reads → OnOk result.answer (HasFirstEpoch catalog.now capacity id result) }
     ensures begins { (bytes : List ℕ) → HasOnly D.Disk bytes disk → IsBegun bytes result.answer }
     ensures any_moment { (bytes : List ℕ) → HasOnly D.Disk bytes disk
@@ -71,8 +73,10 @@ fn begin_over<D: Disk>(
 ) -> AfterBegin<D>
     requires here { id.0 < catalog.now.sites }
     requires most { catalog.now.sites ≤ most_sites }
+    requires fewer { catalog.now.tolerated < catalog.now.sites }
     requires place { bodies.now ≡ [] → 10 ≤ left_of journal }
     ensures up { is_up_state result.state ≡ is_ok result.answer }
+    ensures among { IsAmong catalog.now.sites result.state }
     ensures stands { StandsFor journal (map (λ body. body.items) bodies.now)
         → OnOk result.answer (HasFirstEpoch catalog.now (capacity_of journal) id result) }
     ensures begins { IsBegunOver (map (λ body. body.items) bodies.now) result.answer }

@@ -1,17 +1,20 @@
 ghost use Rattle.std.specs.Prelude.{◌≡◌, ◌≢◌, ◌+◌, ◌<◌, ◌≤◌, ℕ, List, ◌++◌, ◌∷◌, [], true, false, None, Some, is_ok, is_some, IsSome, IfSome, IfOk, IfErr, OnOk, OnErr, option_map, if◌then◌else◌};
 ghost use Rattle.walter_base.specs.Vectors.{most_sites};
+ghost use Rattle.walter_engine.specs.States.{sites_under};
 
 use crate::answers::{Restarted, Stepped, Unbegun};
 use crate::arming::arm_state;
 use crate::beginning::{AfterBegin, begin_on};
-use crate::restarting::{AfterRestart, disk_of, raise, unloaded};
+use crate::restarting::{AfterRestart, disk_of, fallen, raise, unloaded};
 use crate::stepping::{AfterStep, take};
 use std::alloc::Global;
 use std::mem;
 use walter_base::{Catalog, Mem, NoMemory, SiteId};
 use walter_disk::Disk;
 use walter_journal::{Journal, layouts_differ, load};
-use walter_site::{Input, Site};
+use walter_rules::Input;
+use walter_session::Sessions;
+use walter_site::Site;
 
 /// Whether a site is up.
 #[derive(Drop)]
@@ -57,23 +60,28 @@ pub struct Engine<D: Disk> {
     state: Option<State<D>>,
     ghost here: { site.0 < catalog.sites },
     ghost most: { catalog.sites ≤ most_sites },
+    ghost fewer: { catalog.tolerated < catalog.sites },
     ghost there: { is_some state ≡ true },
+    ghost among: { sites_under catalog.sites state ≡ catalog.sites },
 }
 
 impl<D: Disk + Drop> Engine<D> {
     ghost use Rattle.walter_disk.specs.Images.{LeavesOnly};
-    ghost use Rattle.walter_site.specs.Sites.{event_of, client_of};
-    ghost use Rattle.walter_trail.specs.Rule.{rule};
-    ghost use Rattle.walter_trail.specs.Standing.{Standing, stands_after};
-    ghost use Rattle.walter_trail.specs.Trails.{Comes, only, opening, standing};
-    ghost use Rattle.walter_trail.specs.declared.trail.Outcome.TheVariants.{Taken};
-    ghost use Rattle.walter_trail.specs.declared.trail.TrailEvent.TheVariants.{Stop};
+    ghost use Rattle.walter_site.specs.Members.{IsSizedInput};
+    ghost use Rattle.walter_rules.specs.Rule.{rule};
+    ghost use Rattle.walter_rules.specs.declared.event.Event.{Event};
+    ghost use Rattle.walter_rules.specs.Learning.{after};
+    ghost use Rattle.walter_rules.specs.Standing.{Standing, stands_after};
+    ghost use Rattle.walter_session.specs.Sessions.{sessions_of};
+    ghost use Rattle.walter_rules.specs.Trails.{Comes, standing};
+    ghost use Rattle.walter_rules.specs.declared.outcome.Outcome.TheVariants.{Taken};
+    ghost use Rattle.walter_rules.specs.declared.event.Event.TheVariants.{Stop};
     ghost use Rattle.walter_journal.specs.Journals.{calls_of_load};
     ghost use Rattle.walter_engine.specs.Begins.{HasOnly, MayHaveBegun, IsBegun, IsFaultOfBegin};
     ghost use Rattle.walter_engine.specs.Contents.{AreJournaled, MayHaveRecords, MayHaveBoot};
     ghost use Rattle.walter_engine.specs.Engines.{catalog_in, site_in, capacity_in, disk_in, is_up, OfDisk, OfDisks, IsResting, IsSameEngine, Stands};
     ghost use Rattle.walter_engine.specs.Restarts.{Restarts};
-    ghost use Rattle.walter_engine.specs.Steps.{came_of_step, IsSizedStep, IsSizedRestart, IsFaultOfStep, IsFaultOfRestart, AreCallsOfStep, IsRefusedFor, IfRefused, IfUp, brings_up, kept_of};
+    ghost use Rattle.walter_engine.specs.Steps.{came_of_step, only, opening, IsUntold, DoesLose, IsSizedStep, IsSizedRestart, IsFaultOfStep, IsFaultOfRestart, AreCallsOfStep, IsRefusedFor, IfRefused, IfUp, brings_up, kept_of};
 
     /// A site that is down, with a disk that it knows nothing of. Where there is no memory the disk comes back. Over a
     /// journal with the records of a site it stands as these tell. How a new site goes on, over a disk of no bytes or a
@@ -87,6 +95,7 @@ impl<D: Disk + Drop> Engine<D> {
     ) -> Result<Engine<D>, D>
         requires here { site.0 < catalog.now.sites }
         requires most { catalog.now.sites ≤ most_sites }
+        requires fewer { catalog.now.tolerated < catalog.now.sites }
         ensures disk { IfOk result (λ engine. disk_in engine ≡ Some disk) }
         ensures down { IfOk result (λ engine. is_up engine ≡ false) }
         ensures catalog { IfOk result (λ engine. catalog_in engine ≡ catalog.now) }
@@ -151,21 +160,26 @@ impl<D: Disk + Drop> Engine<D> {
 
     /// Gives the site an input. It takes all its memory before it writes to the journal.
     pub fn step(&mut self, input: &Input) -> Stepped
+        requires sized { IsSizedInput (catalog_in self.old).sites input.now }
         ensures down { is_up self.old ≡ false → (result ≡ Stepped.Down) × (disk_in self.new ≡ disk_in self.old) }
         ensures rests { is_up self.old ≡ false → (S : Standing) → Stands self.old S → Stands self.new S }
         ensures up { is_up self.old ≡ true → result ≢ Stepped.Down }
-        ensures comes { (S : Standing) → Stands self.old S → S.up ≡ true → S.gone (client_of input.now) ≡ None
-            → Comes (catalog_in self.old) (capacity_in self.old) (site_in self.old) S (event_of input.now)
-            (came_of_step (event_of input.now) result) }
-        ensures stands { (S : Standing) → Stands self.old S → S.up ≡ true → S.gone (client_of input.now) ≡ None
-            → Stands self.new (stands_after (site_in self.old) S (event_of input.now)
-            (came_of_step (event_of input.now) result)) }
+        ensures comes { (S : Standing) → Stands self.old S → S.up ≡ true → IsUntold S input.now
+            → Comes (catalog_in self.old) (capacity_in self.old) (site_in self.old) S (Event.Given input.now)
+            (came_of_step (Event.Given input.now) result) }
+        ensures stands { (S : Standing) → Stands self.old S → S.up ≡ true → IsUntold S input.now
+            → Stands self.new (stands_after (catalog_in self.old) (site_in self.old) S (Event.Given input.now)
+            (came_of_step (Event.Given input.now) result)) }
         // a crash at any moment of it leaves the records from before, with the one that the rule brings behind them or
         // without
-        ensures any_moment { (S : Standing) → Stands self.old S → S.up ≡ true → S.gone (client_of input.now) ≡ None
+        ensures any_moment { (S : Standing) → Stands self.old S → S.up ≡ true → IsUntold S input.now
             → OfDisks self.old self.new (λ old new. LeavesOnly D.moment D.left_since old new
-            (MayHaveRecords S.records (rule (catalog_in self.old) (site_in self.old) S (event_of input.now)).wrote)) }
-        ensures sized { IsSizedStep result }
+            (MayHaveRecords S.records (rule (catalog_in self.old) (site_in self.old) S (Event.Given input.now)).wrote)) }
+        ensures sized { IsSizedStep (catalog_in self.old).sites result }
+        // the transactions that a site loses which goes down
+        ensures loses { (S : Standing) → Stands self.old S → S.up ≡ true → IsUntold S input.now
+            → DoesLose result (after (catalog_in self.old) (site_in self.old) S.knows (Event.Given input.now)
+            (came_of_step (Event.Given input.now) result).outcome None).sessions }
         ensures faults { OfDisks self.old self.new (λ old new.
             IsFaultOfStep result (D.known old).faults (D.known new).faults) }
         // how many calls of the disk an arm counts
@@ -181,35 +195,30 @@ impl<D: Disk + Drop> Engine<D> {
             state,
             stepped,
             tally,
-        } = take(self.alloc, state, self.tally, input);
+        } = take(self.alloc, state, self.tally, self.catalog.sites, input);
         self.state = Some(state);
         self.tally = tally;
         stepped
     }
 
-    /// The site loses its memory. One that is down has none to lose.
-    pub fn stop(&mut self)
+    /// The site loses its memory. One that is down has none to lose. It tells whose transactions are lost.
+    pub fn stop(&mut self) -> Option<Sessions>
         ensures stands { (S : Standing) → Stands self.old S → S.up ≡ true
-            → Stands self.new (stands_after (site_in self.old) S Stop (only Taken)) }
+            → Stands self.new (stands_after (catalog_in self.old) (site_in self.old) S Stop (only Taken)) }
         ensures rests { is_up self.old ≡ false → (S : Standing) → Stands self.old S → Stands self.new S }
+        ensures loses { (S : Standing) → Stands self.old S → S.up ≡ true
+            → IfSome result (λ lost. sessions_of lost ≡ S.knows.sessions) }
+        ensures lost { is_some result ≡ is_up self.old }
         ensures down { is_up self.new ≡ false }
         ensures disk { disk_in self.new ≡ disk_in self.old }
         ensures engine { IsSameEngine self.old self.new }
     {
-        self.fall();
-    }
-
-    // Keeps nothing but the disk.
-    fn fall(&mut self)
-        ensures down { is_up self.new ≡ false }
-        ensures disk { disk_in self.new ≡ disk_in self.old }
-        ensures tally { self.new.tally ≡ self.old.tally }
-        ensures rests { is_up self.old ≡ false → (S : Standing) → Stands self.old S → Stands self.new S }
-        ensures engine { IsSameEngine self.old self.new }
-    {
-        if let Some(state) = mem::replace(&mut self.state, None) {
-            self.state = Some(State::Down(disk_of(state)));
-        }
+        let Some(state) = mem::replace(&mut self.state, None) else {
+            unreachable!()
+        };
+        let (disk, lost) = fallen(state);
+        self.state = Some(State::Down(disk));
+        lost
     }
 
     /// The first restart of a site: over a disk of no bytes, which gets its journal, or over a journal without records.
@@ -266,7 +275,7 @@ impl<D: Disk + Drop> Engine<D> {
         // them
         ensures any_moment { (S : Standing) → Stands self.old S
             → OfDisks self.old self.new (λ old new.
-            LeavesOnly D.moment D.left_since old new (MayHaveBoot (site_in self.old) S (kept_of result))) }
+            LeavesOnly D.moment D.left_since old new (MayHaveBoot (catalog_in self.old) (site_in self.old) S (kept_of result))) }
         // where it is refused, the bytes that the disk has are the cause
         ensures refused { OfDisk self.new (λ disk. IfSome (D.known disk).reads (λ bytes.
             IfRefused result (IsRefusedFor (catalog_in self.old) (site_in self.old) bytes))) }

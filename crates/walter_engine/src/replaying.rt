@@ -2,13 +2,13 @@ ghost use Rattle.std.specs.Prelude.{◌≡◌, ◌≤◌, ◌<◌, ◌++◌, ◌
 ghost use Rattle.walter_base.specs.declared.message.Record.{Record};
 ghost use Rattle.walter_base.specs.Sizes.{CanBeRecorded};
 ghost use Rattle.walter_record.specs.Spelling.{record_spelled, HasRecordSpelling};
-ghost use Rattle.walter_site.specs.Sites.{known, site_of, catalog_of};
+ghost use Rattle.walter_tables.specs.Sites.{site_of, catalog_of};
 ghost use Rattle.walter_engine.specs.Replays.{Takes, IsUnfit, Tells, IsReadFault};
 ghost use Rattle.walter_base.specs.Vectors.{most_sites};
 
 use std::alloc::Global;
 use walter_base::{Catalog, Mem, NoMemory, Record, SiteId};
-use walter_site::{ReplayFault, Site};
+use walter_tables::{ReplayFault, Tables};
 
 /// Why bodies make no site.
 #[derive(Clone, Copy, Drop)]
@@ -18,26 +18,29 @@ pub(crate) enum ReadFault {
     NoMemory,
 }
 
-/// The site that these bodies tell.
+/// The tables of the site that these bodies tell.
 pub(crate) fn replay_all(
     alloc: Global,
     catalog: &Catalog,
     id: SiteId,
     bodies: &[Vec<u8>],
-) -> Result<Site, ReadFault>
+) -> Result<Tables, ReadFault>
     requires here { id.0 < catalog.now.sites }
     requires most { catalog.now.sites ≤ most_sites }
-    ensures site { IfOk result (λ site. site_of site ≡ id) }
-    ensures catalog { IfOk result (λ site. catalog_of site ≡ catalog.now) }
-    ensures told { IfOk result (λ site. Tells catalog.now id (map (λ body. body.items) bodies.now) (known site)) }
+    requires fewer { catalog.now.tolerated < catalog.now.sites }
+    ensures site { IfOk result (λ tables. site_of tables ≡ id) }
+    ensures catalog { IfOk result (λ tables. catalog_of tables ≡ catalog.now) }
+    ensures told { IfOk result (Tells catalog.now id (map (λ body. body.items) bodies.now)) }
     ensures fault { IfErr result (IsReadFault catalog.now id (map (λ body. body.items) bodies.now)) }
 {
     let Ok(copy) = catalog.clone() else {
         return Err(ReadFault::NoMemory);
     };
-    let mut site = Site::new(alloc, copy, id);
+    let Ok(mut tables) = Tables::new(alloc, copy, id) else {
+        return Err(ReadFault::NoMemory);
+    };
     for (index, body) in bodies.iter().enumerate() {
-        match replay_body(alloc, &mut site, body, catalog.sites) {
+        match replay_body(alloc, &mut tables, body, catalog.sites) {
             Ok(()) => {}
             Err(ReplayFault::Unfit) => {
                 return Err(ReadFault::Unreadable {
@@ -47,21 +50,25 @@ pub(crate) fn replay_all(
             Err(ReplayFault::NoMemory) => return Err(ReadFault::NoMemory),
         }
     }
-    Ok(site)
+    Ok(tables)
 }
 
 // Takes the record that the body spells.
-fn replay_body(alloc: Global, site: &mut Site, body: &[u8], sites: u8) -> Result<(), ReplayFault>
-    requires sites { (catalog_of site.old).sites ≡ sites }
+fn replay_body(
+    alloc: Global,
+    tables: &mut Tables,
+    body: &[u8],
+    sites: u8,
+) -> Result<(), ReplayFault>
+    requires sites { (catalog_of tables.old).sites ≡ sites }
     requires most { sites ≤ most_sites }
-    ensures taken { OnOk result (Takes (catalog_of site.old) (site_of site.old) (known site.old) body.now
-        (known site.new)) }
-    ensures unfit { IfErr result (IsUnfit (catalog_of site.old) (site_of site.old) (known site.old) body.now) }
-    ensures site { site_of site.new ≡ site_of site.old }
-    ensures catalog { catalog_of site.new ≡ catalog_of site.old }
+    ensures taken { OnOk result (Takes tables.old body.now tables.new) }
+    ensures unfit { IfErr result (IsUnfit tables.old body.now) }
+    ensures site { site_of tables.new ≡ site_of tables.old }
+    ensures catalog { catalog_of tables.new ≡ catalog_of tables.old }
 {
     match walter_record::decode(alloc, body, sites) {
-        Ok(Some(rec)) => site.replay(rec),
+        Ok(Some(rec)) => tables.replay(rec),
         Ok(None) => Err(ReplayFault::Unfit),
         Err(NoMemory) => Err(ReplayFault::NoMemory),
     }

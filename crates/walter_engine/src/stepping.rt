@@ -1,29 +1,39 @@
-ghost use Rattle.std.specs.Prelude.{◌≡◌, ◌≢◌, ◌<◌, ℕ, Some, None, true, false, is_some, IfOk, IfSome, OnErr, OnOk};
+ghost use Rattle.std.specs.Prelude.{◌≡◌, ◌≢◌, ◌≤◌, ℕ, Some, None, [], true, false, is_some, map, All, IfOk, IfSome, OnErr};
 ghost use Rattle.walter_base.specs.declared.catalog.Catalog.{Catalog};
 ghost use Rattle.walter_base.specs.declared.names.SiteId.{SiteId};
-ghost use Rattle.walter_base.specs.declared.names.Tid.{Tid};
-ghost use Rattle.walter_base.specs.Sizes.{CanBeRecorded, IsShortReply};
+ghost use Rattle.walter_base.specs.Sizes.{CanBeRecorded};
+ghost use Rattle.walter_base.specs.Vectors.{most_sites};
 ghost use Rattle.walter_disk.specs.Images.{LeavesOnly};
 ghost use Rattle.walter_journal.specs.Journals.{disk_of, capacity_of};
-ghost use Rattle.walter_site.specs.Sites.{known, site_of, catalog_of, event_of, client_of, call_of, IsPlan, HasRoom};
-ghost use Rattle.walter_trail.specs.Records.{CanFollow, IsRecordAmong};
-ghost use Rattle.walter_trail.specs.Rule.{MayWant, rule};
-ghost use Rattle.walter_trail.specs.Standing.{Standing};
+ghost use Rattle.walter_engine.specs.Advances.{IsSameJournal, IsStagedRecord, IsStagedIfAny, Advances, count_after, IsSizedAdvance, IsFaultOfAdvance, AreCallsOfAdvance};
 ghost use Rattle.walter_engine.specs.Contents.{AreJournaled, MayHaveRecords};
 ghost use Rattle.walter_engine.specs.Engines.{IsRunning, IsInState};
 ghost use Rattle.walter_engine.specs.Moves.{Moves};
+ghost use Rattle.walter_engine.specs.Prepares.{IsPrepared};
 ghost use Rattle.walter_engine.specs.Raises.{IsCounted};
-ghost use Rattle.walter_engine.specs.States.{IsOf, is_up_state, disk_of_state};
-ghost use Rattle.walter_engine.specs.Advances.{IsSameJournal, IsStagedRecord, IsStagedIfAny, TakesCopy, count_after, Advances};
-ghost use Rattle.walter_engine.specs.Steps.{IsSizedStep, IsFaultOfStep, AreCallsOfStep};
+ghost use Rattle.walter_engine.specs.States.{IsOf, IsAmong, is_up_state, disk_of_state};
+ghost use Rattle.walter_engine.specs.Steps.{IsSizedStep, IsFaultOfStep, AreCallsOfStep, IsUntold};
+ghost use Rattle.walter_site.specs.Members.{Knows, IsStanding, IsSizedInput, IsSizedPacket};
+ghost use Rattle.walter_packet.specs.Framed.{frame_of};
+ghost use Rattle.walter_rules.specs.declared.event.Event.{Event};
+ghost use Rattle.walter_rules.specs.Knowledge.{Knowledge};
+ghost use Rattle.walter_rules.specs.Learning.{after};
+ghost use Rattle.walter_rules.specs.Rule.{rule};
+ghost use Rattle.walter_rules.specs.Standing.{Standing};
+ghost use Rattle.walter_rules.specs.Trails.{TakesMemory, failure};
+ghost use Rattle.walter_session.specs.Sessions.{sessions_of};
+ghost use Rattle.walter_tables.specs.Sites.{site_of, catalog_of};
 
 use crate::answers::Stepped;
 use crate::engine::{State, Tally};
 use std::alloc::Global;
-use walter_base::{Bytes, Mem, NoMemory, Record, Reply};
+use walter_base::{Bytes, Mem, NoMemory, Record, Sends};
 use walter_disk::Disk;
 use walter_journal::{AppendFault, Journal};
-use walter_site::{Input, Plan, Site};
+use walter_packet::Framed;
+use walter_rules::Input;
+use walter_session::Sessions;
+use walter_site::{Plan, Site};
 
 /// A record with its bytes, and the number of records that the journal will have then.
 #[derive(Drop)]
@@ -33,11 +43,11 @@ pub(crate) struct StagedRecord {
     pub count: u64,
 }
 
-/// A plan with a copy of its reply, and its record staged, where it has one.
+/// A plan with the frames of its packets, and its record staged, where it has one.
 #[derive(Drop)]
 struct PreparedStep {
     plan: Plan,
-    reply: Reply,
+    frames: Vec<Framed>,
     staged: Option<StagedRecord>,
 }
 
@@ -49,21 +59,26 @@ pub(crate) struct AfterStep<D: Disk> {
     pub tally: Tally,
 }
 
-/// Gives a site in this state an input.
+/// Gives a site in this state an input. The catalog is of so many sites.
 pub(crate) fn take<D: Disk>(
     alloc: Global,
     state: State<D>,
     tally: Tally,
+    sites: u8,
     input: &Input,
 ) -> AfterStep<D>
+    requires most { sites ≤ most_sites }
+    requires among { IsAmong sites state }
+    requires sized { IsSizedInput sites input.now }
     ensures down { is_up_state state ≡ false → (result.stepped ≡ Stepped.Down) × (result.state ≡ state)
         × (result.tally ≡ tally) }
     ensures up { is_up_state state ≡ true → result.stepped ≢ Stepped.Down }
     ensures moves { (catalog : Catalog) (capacity : ℕ) (i : SiteId) (S : Standing) → IsOf catalog i capacity state
         → IsInState S (Some state) → AreJournaled catalog i S → IsCounted tally S
-        → S.up ≡ true → S.gone (client_of input.now) ≡ None
-        → Moves catalog capacity i S (event_of input.now) (disk_of_state state) result }
-    ensures sized { IsSizedStep result.stepped }
+        → S.up ≡ true → IsUntold S input.now
+        → Moves catalog capacity i S (Event.Given input.now) (disk_of_state state) result }
+    ensures among { IsAmong sites result.state }
+    ensures sized { IsSizedStep sites result.stepped }
     ensures faults { IsFaultOfStep result.stepped
         (D.known (disk_of_state state)).faults (D.known (disk_of_state result.state)).faults }
     ensures arms { (D.known (disk_of_state result.state)).arms ≡ (D.known (disk_of_state state)).arms }
@@ -73,23 +88,25 @@ pub(crate) fn take<D: Disk>(
     match state {
         State::Up(mut site, mut journal) => {
             let mut records = tally.records;
-            let stepped = advance(alloc, &mut site, &mut journal, &mut records, input);
-            if let Stepped::Failed { .. } = &stepped {
-                return AfterStep {
-                    state: State::Down(journal.into_disk()),
+            match advance(alloc, &mut site, &mut journal, &mut records, sites, input) {
+                Ok(stepped) => AfterStep {
+                    state: State::Up(site, journal),
                     stepped,
+                    tally: Tally {
+                        records,
+                        in_flight: false,
+                    },
+                },
+                Err(flight) => AfterStep {
+                    state: State::Down(journal.into_disk()),
+                    stepped: Stepped::Failed {
+                        lost: lost_with(site, input, &flight),
+                        flight,
+                    },
                     tally: Tally {
                         records,
                         in_flight: true,
                     },
-                };
-            }
-            AfterStep {
-                state: State::Up(site, journal),
-                stepped,
-                tally: Tally {
-                    records,
-                    in_flight: false,
                 },
             }
         }
@@ -101,42 +118,65 @@ pub(crate) fn take<D: Disk>(
     }
 }
 
+/// The sessions of a site that goes down with this record in flight, but for that of a client which is told that its
+/// commit is unsure.
+fn lost_with(site: Site, input: &Input, flight: &Record) -> Sessions
+    ensures { (K : Knowledge) → Knows site K → sessions_of result
+        ≡ (after (catalog_of site) (site_of site) K (Event.Given input.now)
+        (failure (Event.Given input.now) flight.now) None).sessions }
+{
+    let mut sessions = site.into_sessions();
+    if let (Input::Call { client, .. }, Record::Own(_, _) | Record::SlowBegin(_, _)) = (
+        input, flight,
+    ) {
+        sessions.end(*client);
+    }
+    sessions
+}
+
 // Gives a site that is up an input. All the memory that this takes is taken before the journal is written to, and what
-// is answered stands behind a stable record. `count` is how many records the journal has.
+// is answered and put out stands behind a stable record. `count` is how many records the journal has. The record comes
+// back where a call on the disk failed.
 fn advance<D: Disk>(
     alloc: Global,
     site: &mut Site,
     journal: &mut Journal<D>,
     count: &mut u64,
+    sites: u8,
     input: &Input,
-) -> Stepped
+) -> Result<Stepped, Record>
+    requires most { sites ≤ most_sites }
+    requires among { (catalog_of site.old).sites ≡ sites }
+    requires sized { IsSizedInput sites input.now }
     ensures advances { (S : Standing) → IsRunning S site.old journal.old
-        → AreJournaled (catalog_of site.old) (site_of site.old) S → S.gone (client_of input.now) ≡ None
+        → AreJournaled (catalog_of site.old) (site_of site.old) S → IsUntold S input.now
         → Advances (catalog_of site.old) (capacity_of journal.old) (site_of site.old) S
-        (event_of input.now) result site.new journal.new }
+        (Event.Given input.now) result site.new journal.new }
     ensures any_moment { (S : Standing) → IsRunning S site.old journal.old
-        → AreJournaled (catalog_of site.old) (site_of site.old) S → S.gone (client_of input.now) ≡ None
+        → AreJournaled (catalog_of site.old) (site_of site.old) S → IsUntold S input.now
         → LeavesOnly D.moment D.left_since (disk_of journal.old) (disk_of journal.new)
-        (MayHaveRecords S.records (rule (catalog_of site.old) (site_of site.old) S (event_of input.now)).wrote) }
-    ensures up { result ≢ Stepped.Down }
+        (MayHaveRecords S.records (rule (catalog_of site.old) (site_of site.old) S (Event.Given input.now)).wrote) }
+    ensures up { IfOk result (λ stepped. stepped ≢ Stepped.Down) }
     ensures count { count.new ≡ count_after count.old result }
-    ensures sized { IsSizedStep result }
-    ensures faults { IsFaultOfStep result
+    // the sessions of a site that goes down are those from before
+    ensures knows { OnErr result ((K : Knowledge) → Knows site.old K → Knows site.new K) }
+    ensures sized { IsSizedAdvance sites result }
+    ensures faults { IsFaultOfAdvance result
         (D.known (disk_of journal.old)).faults (D.known (disk_of journal.new)).faults }
     ensures arms { (D.known (disk_of journal.new)).arms ≡ (D.known (disk_of journal.old)).arms }
-    ensures device { AreCallsOfStep result
+    ensures device { AreCallsOfAdvance result
         (D.device_calls (disk_of journal.old)) (D.device_calls (disk_of journal.new)) }
     ensures tells { is_some (D.known (disk_of journal.new)).reads ≡ is_some (D.known (disk_of journal.old)).reads }
     ensures capacity { capacity_of journal.new ≡ capacity_of journal.old }
     ensures site { site_of site.new ≡ site_of site.old }
     ensures catalog { catalog_of site.new ≡ catalog_of site.old }
 {
-    let Ok(ready) = prepare(alloc, site, journal, *count, input) else {
-        return Stepped::NoMemory;
+    let Ok(ready) = prepare(alloc, site, journal, *count, sites, input) else {
+        return Ok(Stepped::NoMemory);
     };
     let PreparedStep {
         plan,
-        reply,
+        frames,
         staged,
     } = ready;
     let Some(
@@ -147,20 +187,27 @@ fn advance<D: Disk>(
         },
     ) = staged
     else {
-        site.apply(plan);
-        return Stepped::Done { reply, wrote: None };
+        let (outcome, sends) = site.apply(input, plan);
+        return Ok(Stepped::Done {
+            outcome,
+            wrote: None,
+            sends,
+            frames,
+        });
     };
     match journal.append(body.as_slice()) {
         Ok(()) => {
-            site.apply(plan);
+            let (outcome, sends) = site.apply(input, plan);
             *count = next;
-            Stepped::Done {
-                reply,
+            Ok(Stepped::Done {
+                outcome,
                 wrote: Some(rec),
-            }
+                sends,
+                frames,
+            })
         }
-        Err(AppendFault::Failed) => Stepped::Failed { flight: rec },
-        Err(AppendFault::Full { need, left }) => Stepped::Full { need, left },
+        Err(AppendFault::Failed) => Err(rec),
+        Err(AppendFault::Full { need, left }) => Ok(Stepped::Full { need, left }),
     }
 }
 
@@ -170,45 +217,44 @@ fn prepare<D: Disk>(
     site: &mut Site,
     journal: &mut Journal<D>,
     count: u64,
+    sites: u8,
     input: &Input,
 ) -> Mem<PreparedStep>
-    ensures plan { IfOk result (λ r. IsPlan (catalog_of site.old) (site_of site.old)
-        (known site.old) input.now r.plan) }
-    ensures room { IfOk result (λ r. HasRoom site.new r.plan) }
-    ensures reply { IfOk result (λ r. r.reply ≡ r.plan.reply) }
-    ensures short { IfOk result (λ r. IsShortReply r.reply) }
-    ensures sure { IfOk result (λ r. (tid : Tid) → r.reply ≢ Reply.Unsure tid) }
-    ensures staged { IfOk result (λ r. IsStagedIfAny journal.new count r.plan.rec r.staged) }
-    ensures follows { IfOk result (λ r. IfSome r.plan.rec (λ rec. 0 < (known site.old).epoch
-        → CanFollow (catalog_of site.old) (site_of site.old) (known site.old) rec)) }
-    ensures sizes { IfOk result (λ r. IfSome r.plan.rec (IsRecordAmong (catalog_of site.old).sites)) }
-    ensures free { OnErr result (MayWant (call_of input.now)) }
+    requires most { sites ≤ most_sites }
+    requires among { (catalog_of site.old).sites ≡ sites }
+    requires sized { IsSizedInput sites input.now }
+    ensures prepared { IfOk result (λ r. IsPrepared site.old input.now site.new r.plan) }
+    ensures frames { IfOk result (λ r. r.frames.items ≡ map (λ s. frame_of sites s.1) r.plan.planned.sends) }
+    ensures staged { IfOk result (λ r. IsStagedIfAny journal.new count r.plan.planned.rec r.staged) }
+    ensures free { OnErr result (TakesMemory true (Event.Given input.now)) }
     ensures journal { IsSameJournal journal.old journal.new }
-    ensures same { known site.new ≡ known site.old }
+    ensures standing { IsStanding site.old }
+    ensures same { (K : Knowledge) → Knows site.old K → Knows site.new K }
     ensures site { site_of site.new ≡ site_of site.old }
     ensures catalog { catalog_of site.new ≡ catalog_of site.old }
 {
     let plan = site.plan(input)?;
-    let reply = copy_reply(&plan.reply)?;
-    let staged = stage_if_any(alloc, journal, count, &plan.rec)?;
+    let frames = frame_all(alloc, &plan.planned.sends, sites)?;
+    let staged = stage_if_any(alloc, journal, count, &plan.planned.rec)?;
     Ok(PreparedStep {
         plan,
-        reply,
+        frames,
         staged,
     })
 }
 
-fn copy_reply(reply: &Reply) -> Mem<Reply>
-    ensures copy { IfOk result (λ copy. copy ≡ reply.now) }
-    ensures free { OnErr result (TakesCopy reply.now) }
+/// The frames of packets, which are among so many sites.
+fn frame_all(alloc: Global, sends: &Sends, sites: u8) -> Mem<Vec<Framed>>
+    requires most { sites ≤ most_sites }
+    requires sized { All (λ s. IsSizedPacket sites s.1) sends.now }
+    ensures frames { IfOk result (λ frames. frames.items ≡ map (λ s. frame_of sites s.1) sends.now) }
+    ensures free { OnErr result (sends.now ≢ []) }
 {
-    match reply {
-        Reply::Count(count) => Ok(Reply::Count(*count)),
-        Reply::Aborted(cause) => Ok(Reply::Aborted(*cause)),
-        Reply::Level(level) => Ok(Reply::Level(*level)),
-        Reply::Refused(refusal) => Ok(Reply::Refused(*refusal)),
-        other => Ok(other.clone()?),
+    let mut frames = Vec::new(alloc);
+    for (_, packet) in sends.as_slice() {
+        frames.push(Framed::new(alloc, packet, sites)?)?;
     }
+    Ok(frames)
 }
 
 fn stage_if_any<D: Disk>(

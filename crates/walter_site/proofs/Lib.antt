@@ -1,6 +1,11 @@
-pub mod Changes
-pub mod HeldRows
-pub mod Opens
-pub mod ReadRows
+pub mod RisingObjects
+pub mod RuledKinds
+pub mod RuledNews
+pub mod RuledCalls
+pub mod RuledSent
 pub mod Ruled
-pub mod Wants
+pub mod Up
+pub mod Outcomes
+pub mod Left
+pub mod Readied
+pub mod Plannings

@@ -1,4 +1,2 @@
-pub mod Open
-pub mod Props
-pub mod Rows
-pub mod Sites
+pub mod Members
+pub mod Plans

@@ -1,16 +1,11 @@
-//! A site: the rules of its trail as a state that is planned for, changed by plans, and made anew from records.
+//! A site among others that is up: what comes of an input by its tables, and what applying that leaves.
 #![tactic(auto)]
 
-mod conflicts;
-mod levels;
+mod applying;
 mod plan;
-mod reading;
-mod replay;
-mod rows;
-mod sessions;
+mod planning;
+mod readying;
 mod site;
-mod sizes;
 
-pub use plan::{Input, Plan};
-pub use replay::ReplayFault;
+pub use plan::Plan;
 pub use site::Site;

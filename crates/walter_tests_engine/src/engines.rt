@@ -6,7 +6,7 @@ use std::test::Fail;
 use walter_base::{Bytes, Catalog, Kind, Mem, ObjId, Record, Refusal, Reply, Request, SiteId};
 use walter_disk_memory::MemoryDisk;
 use walter_engine::{Engine, RefusedRestart, Restarted, Stepped, Unbegun};
-use walter_site::Input;
+use walter_rules::{Input, Outcome};
 
 const OBJECT: ObjId = ObjId {
     container: 1,
@@ -66,6 +66,16 @@ fn over(alloc: Global, disk: MemoryDisk, capacity: u64) -> Result<Engine<MemoryD
     Ok(engine)
 }
 
+// What the client was answered. No call comes to anything else.
+fn answered(outcome: &Outcome) -> Came {
+    match outcome {
+        Outcome::Replied(Reply::Value(value)) => Came::HasRead(value.is_some()),
+        Outcome::Replied(Reply::Refused(refusal)) => Came::IsRefused(*refusal),
+        Outcome::Replied(_) => Came::Answered,
+        _ => Came::Nothing,
+    }
+}
+
 fn asked(engine: &mut Engine<MemoryDisk>, request: Request) -> Came {
     let call = Ok(request);
     match engine.step(&Input::Call { client: 0, call }) {
@@ -73,11 +83,7 @@ fn asked(engine: &mut Engine<MemoryDisk>, request: Request) -> Came {
             wrote: Some(Record::Own(seq, _)),
             ..
         } => Came::HasCommitted(seq),
-        Stepped::Done { reply, .. } => match reply {
-            Reply::Value(value) => Came::HasRead(value.is_some()),
-            Reply::Refused(refusal) => Came::IsRefused(refusal),
-            _ => Came::Answered,
-        },
+        Stepped::Done { outcome, .. } => answered(&outcome),
         Stepped::Failed { .. } => Came::HasFailed,
         Stepped::Full { need, left } => Came::IsFull(need, left),
         Stepped::Down => Came::IsDown,
@@ -117,7 +123,7 @@ fn done(alloc: Global, engine: &mut Engine<MemoryDisk>, act: Act) -> Mem<Came> {
         Act::Read => asked(engine, Request::Read(OBJECT)),
         Act::Commit => asked(engine, Request::Commit),
         Act::Stop => {
-            engine.stop();
+            let _lost = engine.stop();
             Came::Nothing
         }
         Act::Restart => restarted(engine),

@@ -1,8 +1,8 @@
 //! Sites of one catalog, each an engine over a disk in memory, with all that they have put out.
 ghost use Rattle.std.specs.Prelude.{◌≡◌, ◌<◌, ◌≤◌, IfOk};
 ghost use Rattle.walter_base.specs.Vectors.{most_sites};
-ghost use Rattle.walter_host.specs.Engines.{catalog_in};
-ghost use Rattle.walter_member.specs.Members.{IsSizedInput, IsShortOutcome};
+ghost use Rattle.walter_engine.specs.Engines.{catalog_in};
+ghost use Rattle.walter_site.specs.Members.{IsSizedInput, IsShortOutcome};
 
 use std::alloc::Global;
 use std::test::Fail;
@@ -11,7 +11,7 @@ use walter_base::{
     Tid,
 };
 use walter_disk_memory::MemoryDisk;
-use walter_host::{Engine, Restarted, Stepped};
+use walter_engine::{Engine, Restarted, Stepped};
 use walter_packet::Framed;
 use walter_request::RequestFault;
 use walter_rules::{Input, Outcome};

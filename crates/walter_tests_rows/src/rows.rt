@@ -1,6 +1,6 @@
 //! Worked runs of several sites. Each step has what is to come of it, told by hand: a reply or an outcome, the kind of
 //! the record, and what is put out.
-ghost use Rattle.walter_member.specs.Members.{IsShortOutcome};
+ghost use Rattle.walter_site.specs.Members.{IsShortOutcome};
 
 use self::Came::{Passed, Replied, Taken};
 use self::Kept::{Boot, Got, Marks, Nothing, Own, Prepared, Released, Seen, SlowBegin, SlowEnd};

@@ -1,7 +1,7 @@
 //! Runs at random of three sites, which stop and restart. What a site had committed it has behind a restart, and where
 //! all that is put out arrives, the sites have the same.
 ghost use Rattle.std.specs.Prelude.{◌≡◌, ◌<◌, IfOk};
-ghost use Rattle.walter_member.specs.Members.{IsShortOutcome};
+ghost use Rattle.walter_site.specs.Members.{IsShortOutcome};
 
 use crate::hosts::{Act, Net};
 use rand_core::Rng;

@@ -2,7 +2,7 @@
 use std::alloc::Global;
 use walter_base::{Level as HowFar, Mem, Record, Reply, Request, Tid, Update};
 use walter_psi::{Answer, Level, Notice, Step};
-use walter_trail::{Entry, Outcome, TrailEvent};
+use walter_rules::{Entry, Event, Input, Outcome};
 
 // What a client was told by this level. Of a transaction that is open there is nothing to tell.
 fn told_level(level: HowFar) -> Option<Notice> {
@@ -86,9 +86,9 @@ impl Open {
 
 // Whether the site loses its memory.
 fn goes_down(entry: &Entry) -> bool {
-    match (&entry.event, &entry.outcome) {
+    match (&entry.event, &entry.came.outcome) {
         (_, Outcome::Replied(Reply::Unsure(_)) | Outcome::Failed) => true,
-        (TrailEvent::Stop, Outcome::Taken) => true,
+        (Event::Stop, Outcome::Taken) => true,
         _ => false,
     }
 }
@@ -115,15 +115,17 @@ pub(super) fn spelled(alloc: Global, trail: &[Entry]) -> Mem<Vec<Step>> {
         tids: Vec::new(alloc),
     };
     for entry in trail {
-        push(&mut steps, record_step(&entry.kept)?)?;
-        push(&mut steps, record_step(&entry.wrote)?)?;
+        push(&mut steps, record_step(&entry.came.kept)?)?;
+        push(&mut steps, record_step(&entry.came.wrote)?)?;
         if let (
-            TrailEvent::Call {
-                client,
-                call: Ok(request),
-            },
+            Event::Given(
+                Input::Call {
+                    client,
+                    call: Ok(request),
+                },
+            ),
             Outcome::Replied(reply),
-        ) = (&entry.event, &entry.outcome)
+        ) = (&entry.event, &entry.came.outcome)
         {
             let before = open.of(*client);
             push(&mut steps, step_of(request, reply, before)?)?;

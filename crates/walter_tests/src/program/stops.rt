@@ -11,7 +11,8 @@ use walter_disk::{Disk, Failed, Rack};
 use walter_disk_memory::{MemoryDisk, MemoryRack};
 use walter_journal::load;
 use walter_record::decode;
-use walter_trail::{Entry, Outcome, Trail};
+use walter_rules::{Entry, Outcome};
+use walter_trail::Trail;
 
 /// A rack from which the disk that was given back can be taken again.
 #[derive(Drop)]
@@ -55,17 +56,17 @@ struct Told {
 impl Told {
     // Goes on with what an entry tells.
     fn take(&mut self, alloc: Global, entry: &Entry) -> Mem<()> {
-        for stable in [&entry.kept, &entry.wrote] {
+        for stable in [&entry.came.kept, &entry.came.wrote] {
             if let Some(stable) = stable {
                 let text = format!(in alloc; "{stable:?};")?;
                 self.records.push_str(&text)?;
                 self.flight.clear();
             }
         }
-        if let Outcome::Full { .. } = entry.outcome {
+        if let Outcome::Full { .. } = entry.came.outcome {
             self.flight.clear();
         }
-        if let Some(flight) = &entry.flight {
+        if let Some(flight) = &entry.came.flight {
             self.flight = format!(in alloc; "{flight:?};")?;
         }
         Ok(())

@@ -6,9 +6,10 @@ use Rattle.walter_engine.specs.Begins.{HasOnly, MayHaveBegun}
 use Rattle.walter_engine.specs.Engines.{catalog_in, disk_in, Stands}
 use Rattle.walter_scenario.specs.declared.scenario.Client.{Client}
 use Rattle.walter_cell.specs.Builds.{AreFree, AreUnread}
-use Rattle.walter_trail.specs.declared.trail.Entry.{Entry}
-use Rattle.walter_trail.specs.Trails.{standing, opening}
-use Rattle.walter_world.specs.Spelled.{the_site}
+use Rattle.walter_engine.specs.Steps.{opening}
+use Rattle.walter_rules.specs.declared.entry.Entry.{Entry}
+use Rattle.walter_rules.specs.Trails.{standing}
+use Rattle.walter_cell.specs.Entries.{the_site}
 use Rattle.walter_cell.proofs.Openings.{cell_built, known_built, from_found, to_found, leaves_now}
 use Rattle.walter_cell.proofs.building.build.Goals as goal
 
@@ -36,7 +37,7 @@ returns-clause-cell g c =
     cell_built c.args.scenario.now _ is
     (same.catalog ∙ new.catalog) (same.site ∙ new.site) (same.capacity ∙ new.capacity)
     (c.in-Ok.ensures.long ∙ ap length c.as_slice.ensures)
-    (subst (λ (cs : List Client). AreFree (length cs) c.in-Ok.ties.items) c.as_slice.ensures c.in-Ok.ensures.ties)
+    (subst (λ (cs : List Client). AreFree (length cs) c.in-Ok.debts.items) c.as_slice.ensures c.in-Ok.ensures.debts)
     (subst (λ (cs : List Client). AreUnread cs c.in-Ok.lines.items) c.as_slice.ensures c.in-Ok.ensures.lines)
 
 pub returns-clause-known : goal.returns-clause-known
@@ -48,4 +49,4 @@ returns-clause-known g c told =
     let here = subst (λ (i : SiteId). Stands c.begin.new.self (standing (catalog_in engine) i (opening ∷ []))) new.site stands in
     known_built c.args.scenario.now _ is
     c.requires.capacity.0 (subst (λ (k : Catalog). Stands c.begin.new.self (standing k the_site (opening ∷ []))) new.catalog here)
-    (subst (λ (cs : List Client). AreFree (length cs) c.in-Ok.ties.items) c.as_slice.ensures c.in-Ok.ensures.ties)
+    (subst (λ (cs : List Client). AreFree (length cs) c.in-Ok.debts.items) c.as_slice.ensures c.in-Ok.ensures.debts)

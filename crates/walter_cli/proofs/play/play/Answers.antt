@@ -11,7 +11,7 @@ returns-in_err-arm-clause-cell g c =
     let e = c.arm.ensures in
     let s = c.args.scenario.now in
     let inv = c.loop-arm.invariant in
-    cell_kept s c.loop-arm.cell c.arm.new.self inv.cell (e.site s inv.cell.site) (ap (λ es. es.items) e.same.entries) e.same.lines (ap (λ ts. length ts.items) e.same.ties)
+    cell_kept s c.loop-arm.cell c.arm.new.self inv.cell (e.site s inv.cell.site) (ap (λ es. es.items) e.same.entries) e.same.lines (ap (λ ds. length ds.items) e.same.debts)
 
 pub returns-in_err-arm-clause-arms : goal.returns-in_err-arm-clause-arms
 returns-in_err-arm-clause-arms g c =
@@ -31,7 +31,7 @@ loop-arm-preserved g c =
     let arms = c.as_slice-arm-items.result.now in
     let before = subst (λ (all : List Arm). AreArmed old c.loop-arm.cell (take i all)) (sym told) inv.armed in
     record {
-      cell = cell_kept s c.loop-arm.cell new inv.cell (e.site s inv.cell.site) (ap (λ es. es.items) e.same.entries) e.same.lines (ap (λ ts. length ts.items) e.same.ties);
+      cell = cell_kept s c.loop-arm.cell new inv.cell (e.site s inv.cell.site) (ap (λ es. es.items) e.same.entries) e.same.lines (ap (λ ds. length ds.items) e.same.debts);
       known = λ known. e.known s inv.cell.site (inv.known known);
       entries = ap (λ es. es.items) e.same.entries ∙ inv.entries;
       armed = subst (λ (all : List Arm). AreArmed old new (take (i + 1) all)) told

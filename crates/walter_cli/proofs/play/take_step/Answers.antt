@@ -1,5 +1,5 @@
 use Rattle.std.proofs.Common.{◌<◌, length, ap, refl}
-use Rattle.walter_trail.specs.declared.trail.TrailEvent.TheVariants as event
+use Rattle.walter_rules.specs.declared.event.Event.TheVariants as event
 use Rattle.walter_cli.proofs.Turns.{cell_grown, cell_acted, cell_kept, there_is, turn_is, event_is}
 use Rattle.walter_cli.proofs.play.take_step.Goals as goal
 
@@ -8,14 +8,14 @@ returns-in_err-serve-in-Call-clause-cell g c =
     let e = c.serve.ensures in
     let s = c.args.scenario.now in
     let within : c.in-Call.client < length s.clients = rw c.in-Call.is at c.requires.there in
-    cell_grown s c.args.cell.now c.serve.new.self c.requires.cell (e.site s c.requires.cell.site) c.in-Call.client within e.grows e.line e.others e.long e.ties
+    cell_grown s c.args.cell.now c.serve.new.self c.requires.cell (e.site s c.requires.cell.site) c.in-Call.client within e.grows e.line e.others e.long e.debts
 
 pub returns-in_ok-serve-in-Call-clause-cell : goal.returns-in_ok-serve-in-Call-clause-cell
 returns-in_ok-serve-in-Call-clause-cell g c =
     let e = c.serve.ensures in
     let s = c.args.scenario.now in
     let within : c.in-Call.client < length s.clients = rw c.in-Call.is at c.requires.there in
-    cell_grown s c.args.cell.now c.serve.new.self c.requires.cell (e.site s c.requires.cell.site) c.in-Call.client within e.grows e.line e.others e.long e.ties
+    cell_grown s c.args.cell.now c.serve.new.self c.requires.cell (e.site s c.requires.cell.site) c.in-Call.client within e.grows e.line e.others e.long e.debts
 
 pub returns-in_ok-serve-in-Call-clause-took : goal.returns-in_ok-serve-in-Call-clause-took
 returns-in_ok-serve-in-Call-clause-took g c =
@@ -32,25 +32,25 @@ pub returns-in_err-stop-in-Stop-clause-cell : goal.returns-in_err-stop-in-Stop-c
 returns-in_err-stop-in-Stop-clause-cell g c =
     let e = c.in_err-stop-in-Stop.ensures in
     let s = c.args.scenario.now in
-    cell_kept s c.args.cell.now c.stop.new.self c.requires.cell (e.site s c.requires.cell.site) e.kept e.same.lines e.same.ties
+    cell_kept s c.args.cell.now c.stop.new.self c.requires.cell (e.site s c.requires.cell.site) e.kept e.same.lines e.same.debts
 
 pub returns-in_err-restart-in-Restart-clause-cell : goal.returns-in_err-restart-in-Restart-clause-cell
 returns-in_err-restart-in-Restart-clause-cell g c =
     let e = c.in_err-restart-in-Restart.ensures in
     let s = c.args.scenario.now in
-    cell_kept s c.args.cell.now c.restart.new.self c.requires.cell (e.site s c.requires.cell.site) e.kept e.same.lines e.same.ties
+    cell_kept s c.args.cell.now c.restart.new.self c.requires.cell (e.site s c.requires.cell.site) e.kept e.same.lines e.same.debts
 
 pub returns-in_err-arm-in-Arm-clause-cell : goal.returns-in_err-arm-in-Arm-clause-cell
 returns-in_err-arm-in-Arm-clause-cell g c =
     let e = c.arm.ensures in
     let s = c.args.scenario.now in
-    cell_kept s c.args.cell.now c.arm.new.self c.requires.cell (e.site s c.requires.cell.site) (ap (λ es. es.items) e.same.entries) e.same.lines (ap (λ ts. length ts.items) e.same.ties)
+    cell_kept s c.args.cell.now c.arm.new.self c.requires.cell (e.site s c.requires.cell.site) (ap (λ es. es.items) e.same.entries) e.same.lines (ap (λ ds. length ds.items) e.same.debts)
 
 pub returns-in_ok-arm-in-Arm-clause-cell : goal.returns-in_ok-arm-in-Arm-clause-cell
 returns-in_ok-arm-in-Arm-clause-cell g c =
     let e = c.arm.ensures in
     let s = c.args.scenario.now in
-    cell_kept s c.args.cell.now c.arm.new.self c.requires.cell (e.site s c.requires.cell.site) (ap (λ es. es.items) e.same.entries) e.same.lines (ap (λ ts. length ts.items) e.same.ties)
+    cell_kept s c.args.cell.now c.arm.new.self c.requires.cell (e.site s c.requires.cell.site) (ap (λ es. es.items) e.same.entries) e.same.lines (ap (λ ds. length ds.items) e.same.debts)
 
 pub returns-in_ok-stop-in-Stop-clause-cell : goal.returns-in_ok-stop-in-Stop-clause-cell
 returns-in_ok-stop-in-Stop-clause-cell g c =

@@ -3,6 +3,7 @@ use Rattle.walter_cli.specs.Racks.{RackAt, racked}
 use Rattle.walter_cli.specs.Statuses.{status_of}
 use Rattle.walter_cli.proofs.Giving.{none_taken, untouched_before, holds_both}
 use Rattle.walter_cli.proofs.Runs.{promise_run, promise_fault, promise_usage}
+use Rattle.walter_cli.proofs.Wholes.{reading_whole}
 use Rattle.walter_cli.proofs.program.top.Goals as goal
 
 -- the words ask for nothing
@@ -13,6 +14,17 @@ returns-in_default g c =
     let ended = c.early.ensures in
     promise_usage c.args.words.now (racked g.R.D.Disk at at) _ _ c.early.result (ended.status ∙ ap status_of (sym ended.fault)) (inr (none_taken g.R.D.Disk at at refl refl))
     (λ two rose. omega (arith, rose)) (holds_both g.R.D.Disk at at) c.in_default.ensures.none ended.fault ended.trails (untouched_before g.R.D.Disk at at refl) refl
+
+-- what a reading says of its catalog
+pub run-requires-clause-fewer : goal.run-requires-clause-fewer
+run-requires-clause-fewer g c =
+    let reading = c.in-Ok.ensures.ok.reading in
+    omega (arith, reading.sites, reading.tolerated)
+
+pub run-requires-clause-whole : goal.run-requires-clause-whole
+run-requires-clause-whole g c =
+    let taken = c.in-Ok.ensures.ok in
+    λ lifetimes live. reading_whole taken.bytes c.in-Ok.scenario taken.reading
 
 pub returns-in-Ok : goal.returns-in-Ok
 returns-in-Ok g c =

@@ -3,8 +3,9 @@ use Rattle.std.specs.Prelude.{IsSome}
 use Rattle.std.specs.Result.{is_err}
 use Rattle.walter_engine.specs.Begins.{HasNoRecord}
 use Rattle.walter_report.specs.Reports.{HaveFrames}
+use Rattle.walter_report.specs.Traces.{HaveSpellings}
+use Rattle.walter_rules.specs.declared.entry.Entry.{Entry}
 use Rattle.walter_stream.specs.Streams.{Appends}
-use Rattle.walter_trail.specs.declared.trail.Entry.{Entry}
 use Rattle.walter_trail.specs.declared.trail.Trail.{Trail}
 use Rattle.walter_cli.specs.declared.ended.Fault.TheVariants.{Memory, Rack}
 use Rattle.walter_cli.specs.Ending.{IsBuilt, IsWriteFault}
@@ -13,7 +14,7 @@ use Rattle.walter_cli.specs.Racks.{RackAt, Racked, GivesBack, racked}
 use Rattle.walter_cli.specs.Texts.{text_of}
 use Rattle.walter_cli.proofs.Giving.{GivesOne, err_part, ok_part, gives_one, holds_taken, told_reads}
 use Rattle.walter_cli.proofs.Early.{IsTakenFrom, IsGivenTo, returned, gives_back}
-use Rattle.walter_cli.proofs.Played.{IsDriven, disk_driven, run_is, whole_is, cell_frames, ends_with, ends_cut}
+use Rattle.walter_cli.proofs.Played.{IsDriven, disk_driven, run_is, whole_is, cell_frames, cell_spellings, ends_with, ends_cut}
 use Rattle.walter_cli.proofs.running.run.Given.{Over}
 use Rattle.walter_cli.proofs.running.run.Goals.{After-give-given}
 use Rattle.walter_cli.proofs.running.run.Goals as goal
@@ -65,7 +66,7 @@ module _ (g : Over) (c : After-give-given g) where
   -- the trails are those of a run
   run : IsRun rack c.args.scenario.now c.push_reserved.new.self.items
   run =
-      run_is c.args.scenario.now built.disk c.into_parts-disk.result.0 c.in-Ok-build_over.cell c.play-played.new.cell driven rack c.push_reserved.new.self.items c.requires.sites reads
+      run_is c.args.scenario.now built.disk c.into_parts-disk.result.0 c.in-Ok-build_over.cell c.play-played.new.cell driven rack c.push_reserved.new.self.items c.requires.whole c.requires.sites reads
       (holds_taken g.R.D.Disk before after built.disk HasNoRecord built.taken built.no_record)
       (λ told. gives_back g.R.D.Disk before mid after built.disk c.into_parts-disk.result.0 taken c.give-given.result given (IsDiskOf c.args.scenario.now c.play-played.new.cell.entries.items)
       (disk_driven c.args.scenario.now built.disk c.into_parts-disk.result.0 c.in-Ok-build_over.cell c.play-played.new.cell driven (reads told)))
@@ -78,7 +79,7 @@ module _ (g : Over) (c : After-give-given g) where
       let disk = c.into_parts-disk.result.0 in
       let one : GivesOne disk before after =
       ok_part c.give-given.result _ given.given back ∙ ap (λ (o : Option (List (ℕ × g.row.R-D.Denot))). option_map (λ told. told ++ (0, disk) ∷ []) o) built.same_given in
-      whole_is c.args.scenario.now built.disk disk c.in-Ok-build_over.cell c.play-played.new.cell driven rack c.push_reserved.new.self.items c.requires.sites reads
+      whole_is c.args.scenario.now built.disk disk c.in-Ok-build_over.cell c.play-played.new.cell driven rack c.push_reserved.new.self.items c.requires.whole c.requires.sites reads
       (holds_taken g.R.D.Disk before after built.disk HasNoRecord built.taken built.no_record) there (ok_part c.play-played.result _ played.played to_end)
       (ok_part c.play-played.result _ played.armed to_end) (λ P holds. gives_one g.R.D.Disk before after disk P one holds)
 
@@ -115,6 +116,11 @@ pub write_report-requires-clause-frames : goal.write_report-requires-clause-fram
 write_report-requires-clause-frames g c =
     subst HaveFrames (sym c.deref.ensures.value) (cell_frames c.args.scenario.now c.play-played.new.cell c.push_reserved.new.self.items c.play-played.ensures.cell
     (there g (goal.at.write_report-requires-clause-frames g c).After-give-given))
+
+pub write_report-requires-clause-records : goal.write_report-requires-clause-records
+write_report-requires-clause-records g c =
+    subst HaveSpellings (sym c.deref.ensures.value) (cell_spellings c.args.scenario.now c.play-played.new.cell c.push_reserved.new.self.items c.play-played.ensures.cell
+    (there g (goal.at.write_report-requires-clause-records g c).After-give-given))
 
 -- the report was written whole
 pub returns-in-Ok-write_report-clause-run : goal.returns-in-Ok-write_report-clause-run

@@ -58,15 +58,15 @@ returns-clause-refused g c =
 
 pub returns-in-Err-Unreadable-clause-any_moment : goal.returns-in-Err-Unreadable-clause-any_moment
 returns-in-Err-Unreadable-clause-any_moment g c S down all counted found stands =
-    leaves_found {g = g.D.Disk} g.met.D.Disk.only_now c.args.id S _ found c.args.journal stands c.rest.result (ap disk_of_state c.rest.ensures.state)
+    leaves_found {g = g.D.Disk} g.met.D.Disk.only_now c.args.catalog.now c.args.id S _ found c.args.journal stands c.rest.result (ap disk_of_state c.rest.ensures.state)
 
 pub returns-in-Err-NoMemory-clause-any_moment : goal.returns-in-Err-NoMemory-clause-any_moment
 returns-in-Err-NoMemory-clause-any_moment g c S down all counted found stands =
-    leaves_found {g = g.D.Disk} g.met.D.Disk.only_now c.args.id S _ found c.args.journal stands c.rest-in-Err-NoMemory.result (ap disk_of_state c.rest-in-Err-NoMemory.ensures.state)
+    leaves_found {g = g.D.Disk} g.met.D.Disk.only_now c.args.catalog.now c.args.id S _ found c.args.journal stands c.rest-in-Err-NoMemory.result (ap disk_of_state c.rest-in-Err-NoMemory.ensures.state)
 
 pub returns-in_default-clause-any_moment : goal.returns-in_default-clause-any_moment
 returns-in_default-clause-any_moment g c S down all counted found stands =
-    leaves_found {g = g.D.Disk} g.met.D.Disk.only_now c.args.id S _ found c.args.journal stands c.rest-in_default.result (ap disk_of_state c.rest-in_default.ensures.state)
+    leaves_found {g = g.D.Disk} g.met.D.Disk.only_now c.args.catalog.now c.args.id S _ found c.args.journal stands c.rest-in_default.result (ap disk_of_state c.rest-in_default.ensures.state)
 
 pub returns-then-bodies-tally-clause-any_moment : goal.returns-then-bodies-tally-clause-any_moment
 returns-then-bodies-tally-clause-any_moment g c S down all counted found stands =

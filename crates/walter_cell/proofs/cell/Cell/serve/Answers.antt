@@ -4,23 +4,27 @@ use Rattle.std.proofs.lemmas.Option.{slice_get-get_or}
 use Rattle.walter_base.specs.declared.catalog.Catalog.{Catalog}
 use Rattle.walter_base.specs.declared.message.Record.{Record}
 use Rattle.walter_base.specs.declared.names.SiteId.{SiteId}
+use Rattle.walter_base.specs.declared.names.Tid.{Tid}
 use Rattle.walter_conn.specs.Connections.{incoming}
 use Rattle.walter_conn.specs.Frames.{Call}
 use Rattle.walter_conn.specs.Calls.{Incoming}
 use Rattle.walter_engine.specs.Engines.{catalog_in, capacity_in, Stands}
-use Rattle.walter_trail.specs.declared.trail.Entry.{Entry}
-use Rattle.walter_trail.specs.declared.trail.TrailEvent.{TrailEvent}
-use Rattle.walter_trail.specs.declared.trail.TrailEvent.TheVariants.{Call as CallEvent}
-use Rattle.walter_trail.specs.Standing.{Standing, settled, stands_after}
-use Rattle.walter_trail.specs.Trails.{Comes, IsFound, calls_of, standing}
-use Rattle.walter_world.specs.Spelled.{the_site}
+use Rattle.walter_rules.specs.declared.entry.Came.{Came}
+use Rattle.walter_rules.specs.declared.entry.Entry.{Entry}
+use Rattle.walter_rules.specs.declared.event.Event.{Event}
+use Rattle.walter_rules.specs.declared.event.Event.TheVariants.{Given}
+use Rattle.walter_rules.specs.declared.event.Input.TheVariants.{Call as CallInput}
+use Rattle.walter_rules.specs.Learning.{after}
+use Rattle.walter_rules.specs.Standing.{Standing, settled, stands_after, goes_down}
+use Rattle.walter_rules.specs.Trails.{Comes, IsFound, standing}
+use Rattle.walter_trail.specs.Calls.{calls_of}
 use Rattle.walter_cell.specs.declared.cell.Cell.{Cell}
-use Rattle.walter_cell.specs.declared.handling.Handled.{Handled}
-use Rattle.walter_cell.specs.declared.tie.Tie.{Tie}
 use Rattle.walter_cell.specs.Cells.{IsLine}
-use Rattle.walter_cell.specs.Handled.{came}
-use Rattle.walter_cell.proofs.Grown.{entry_by, known_more, site_more}
+use Rattle.walter_cell.specs.Debts.{IsLoss}
+use Rattle.walter_cell.specs.Entries.{the_site}
+use Rattle.walter_cell.proofs.Grown.{entry_by, known_same, known_more, site_more}
 use Rattle.walter_cell.proofs.Lines.{line_at, line_set, line_entries, line_calls, set_there, calls_more}
+use Rattle.walter_cell.proofs.Owing.{OwesAfter, owes_by_loss}
 use Rattle.walter_cell.proofs.cell.Cell.serve.Goals as goal
 
 -- memory ran out before the call was read
@@ -82,52 +86,70 @@ returns-in-Broken-clause-line g c = λ bytes is.
 pub returns-in-Broken-clause-others : goal.returns-in-Broken-clause-others
 returns-in-Broken-clause-others g c = λ other apart. set_there c.args.self.now.lines.items c.args.number other c.next_call.new.line apart
 
+pub returns-in_err-reserve-clause-known : goal.returns-in_err-reserve-clause-known
+returns-in_err-reserve-clause-known g c = λ s site known. known_same s c.args.self.now _ refl c.in_err-reserve.ensures.items refl known
+
+pub returns-in_err-next_call-clause-known : goal.returns-in_err-next_call-clause-known
+returns-in_err-next_call-clause-known g c = λ s site known. known_same s c.args.self.now _ refl c.in_ok-reserve.ensures.items refl known
+
+pub returns-in-Ended-clause-known : goal.returns-in-Ended-clause-known
+returns-in-Ended-clause-known g c = λ s site known. known_same s c.args.self.now _ refl c.in_ok-reserve.ensures.items refl known
+
+pub returns-in-Broken-clause-known : goal.returns-in-Broken-clause-known
+returns-in-Broken-clause-known g c = λ s site known. known_same s c.args.self.now _ refl c.in_ok-reserve.ensures.items refl known
+
 -- the call is answered
 pub returns-then-is_ok-clause-site : goal.returns-then-is_ok-clause-site
 returns-then-is_ok-clause-site g c = λ s site.
     let old : Cell g.row.D.Denot g.D.Disk = c.args.self.now in
-    let mid : Cell g.row.D.Denot g.D.Disk = record { engine = c.handle-handled.new.engine; entries = c.reserve.new.self; lines = old.lines; ties = old.ties } in
+    let mid : Cell g.row.D.Denot g.D.Disk = record { engine = c.handle-came.new.engine; entries = c.reserve.new.self; lines = old.lines; debts = old.debts } in
     let stamp : ℕ = c.len-2.result + 1 in
-    let event : TrailEvent = CallEvent c.args.number c.in-Frame.call in
-    let h : Handled = c.handle-handled.result in
-    let e : Entry = c.entry-entry.result in
-    let entry_is : e ≡ entry_by stamp event h = c.entry-entry.ensures ∙ ap (λ (v : TrailEvent). entry_by stamp v h) c.event_of.ensures in
+    let event : Event = Given (CallInput c.args.number c.in-Frame.call) in
+    let came : Came = c.handle-came.result.came in
     let same : c.reserve.new.self.items ≡ old.entries.items = c.in_ok-reserve.ensures.items in
     let counts : stamp ≡ length old.entries.items + 1 = (let l = ap length same in omega (arith, l, c.len-2.ensures)) in
-    site_more s old mid c.add.new.self stamp event h e entry_is same c.add.ensures.entries counts c.add.ensures.engine site
-    c.handle-handled.ensures.engine c.handle-handled.ensures.sized c.handle-handled.ensures.faults
+    site_more s old mid c.add.new.self stamp event came (λ last is. is) same c.add.ensures.entries counts c.add.ensures.engine site
+    c.handle-came.ensures.engine c.handle-came.ensures.sized c.handle-came.ensures.faults
 
 pub returns-then-is_ok-clause-known : goal.returns-then-is_ok-clause-known
 returns-then-is_ok-clause-known g c = λ s site known.
     let old : Cell g.row.D.Denot g.D.Disk = c.args.self.now in
-    let mid : Cell g.row.D.Denot g.D.Disk = record { engine = c.handle-handled.new.engine; entries = c.reserve.new.self; lines = old.lines; ties = old.ties } in
+    let mid : Cell g.row.D.Denot g.D.Disk = record { engine = c.handle-came.new.engine; entries = c.reserve.new.self; lines = old.lines; debts = old.debts } in
     let stamp : ℕ = c.len-2.result + 1 in
-    let event : TrailEvent = CallEvent c.args.number c.in-Frame.call in
-    let h : Handled = c.handle-handled.result in
-    let e : Entry = c.entry-entry.result in
-    let entry_is : e ≡ entry_by stamp event h = c.entry-entry.ensures ∙ ap (λ (v : TrailEvent). entry_by stamp v h) c.event_of.ensures in
+    let event : Event = Given (CallInput c.args.number c.in-Frame.call) in
+    let came : Came = c.handle-came.result.came in
     let same : c.reserve.new.self.items ≡ old.entries.items = c.in_ok-reserve.ensures.items in
     let counts : stamp ≡ length old.entries.items + 1 = (let l = ap length same in omega (arith, l, c.len-2.ensures)) in
     let S : Standing = standing s.catalog the_site (reverse old.entries.items) in
-    let tie : Tie = c.index-tie.result.now in
-    let at : slice_get old.ties.items c.args.number ≡ Some tie = tie_at old.ties.items c.args.number tie c.requires.tied c.index-tie.ensures in
-    let tied = known.tied c.args.number tie at in
-    let none : h.kept ≡ None = c.handle-handled.ensures.kept in
-    let comes : Comes s.catalog s.capacity the_site S event (came h) =
-    subst (λ (k : Catalog). Comes k s.capacity the_site S event (came h)) site.catalog
-    (subst (λ (n : ℕ). Comes (catalog_in old.engine) n the_site S event (came h)) site.capacity
-    (subst (λ (i : SiteId). Comes (catalog_in old.engine) (capacity_in old.engine) i S event (came h)) site.site
-    (c.handle-handled.ensures.comes S known.stands tied))) in
-    let stands : Stands c.handle-handled.new.engine (stands_after the_site S event (came h)) =
-    subst (λ (i : SiteId). Stands c.handle-handled.new.engine (stands_after i S event (came h))) site.site
-    (c.handle-handled.ensures.stands S known.stands tied) in
-    known_more s old mid c.add.new.self stamp event h e entry_is same c.add.ensures.entries counts c.add.ensures.engine site known refl c.add.ensures.ties
+    let debt : Option Tid = c.index-debt.result.now in
+    let at : slice_get old.debts.items c.args.number ≡ Some debt = debt_at old.debts.items c.args.number debt c.requires.owed c.index-debt.ensures in
+    let owes : S.gone c.args.number ≡ debt = known.owed c.args.number debt (omega arith) at in
+    let none : came.kept ≡ None = c.handle-came.ensures.kept in
+    let comes : Comes s.catalog s.capacity the_site S event came =
+    subst (λ (k : Catalog). Comes k s.capacity the_site S event came) site.catalog
+    (subst (λ (n : ℕ). Comes (catalog_in old.engine) n the_site S event came) site.capacity
+    (subst (λ (i : SiteId). Comes (catalog_in old.engine) (capacity_in old.engine) i S event came) site.site
+    (c.handle-came.ensures.comes S known.stands owes))) in
+    let stands : Stands c.handle-came.new.engine (stands_after s.catalog the_site S event came) =
+    subst (λ (k : Catalog). Stands c.handle-came.new.engine (stands_after k the_site S event came)) site.catalog
+    (subst (λ (i : SiteId). Stands c.handle-came.new.engine (stands_after (catalog_in old.engine) i S event came)) site.site
+    (c.handle-came.ensures.stands S known.stands owes)) in
+    let loss : IsLoss (goes_down event came.outcome) (after s.catalog the_site S.knows event came.outcome came.wrote).sessions c.handle-came.result.lost =
+    subst (λ (k : Catalog). IsLoss (goes_down event came.outcome) (after k the_site S.knows event came.outcome came.wrote).sessions c.handle-came.result.lost) site.catalog
+    (subst (λ (i : SiteId). IsLoss (goes_down event came.outcome)
+    (after (catalog_in old.engine) i S.knows event came.outcome came.wrote).sessions c.handle-came.result.lost) site.site
+    (c.handle-came.ensures.loses S known.stands owes)) in
+    known_more s old mid c.add.new.self stamp event came (λ last is. is) same c.add.ensures.entries counts c.add.ensures.engine c.handle-came.result.lost
+    site known refl c.add.ensures.debts
     (subst (λ (r : Option Record). IfSome r (IsFound S event)) (sym none) tt)
-    (subst (λ (r : Option Record). Comes s.catalog s.capacity the_site (settled the_site r S) event (came h)) (sym none) comes)
-    (subst (λ (r : Option Record). Stands c.handle-handled.new.engine (stands_after the_site (settled the_site r S) event (came h))) (sym none) stands)
+    (subst (λ (r : Option Record). Comes s.catalog s.capacity the_site (settled s.catalog the_site r S) event came) (sym none) comes)
+    (subst (λ (r : Option Record). Stands c.handle-came.new.engine (stands_after s.catalog the_site (settled s.catalog the_site r S) event came)) (sym none) stands)
+    (subst (λ (r : Option Record). OwesAfter s.catalog the_site (settled s.catalog the_site r S) event came c.handle-came.result.lost) (sym none)
+    (owes_by_loss s.catalog the_site S event came c.handle-came.result.lost loss))
   where
-    tie_at : (ties : List Tie) (number : ℕ) (tie : Tie) → number < length ties → tie ≡ get_or ties number tie → slice_get ties number ≡ Some tie
-    tie_at ties number tie within is = slice_get-get_or ties number tie within ∙ ap (λ t. Some t) (sym is)
+    debt_at : (debts : List (Option Tid)) (number : ℕ) (debt : Option Tid) → number < length debts → debt ≡ get_or debts number debt
+        → slice_get debts number ≡ Some debt
+    debt_at debts number debt within is = slice_get-get_or debts number debt within ∙ ap (λ t. Some t) (sym is)
 
 pub returns-then-is_ok-clause-turn : goal.returns-then-is_ok-clause-turn
 returns-then-is_ok-clause-turn g c = λ bytes is.
@@ -135,14 +157,13 @@ returns-then-is_ok-clause-turn g c = λ bytes is.
     let number = c.args.number in
     let old = c.args.self.now.entries.items in
     let call = c.in-Frame.call in
-    let e : Entry = c.entry-entry.result in
-    let of_call : e.event ≡ CallEvent number call = ap (λ (x : Entry). x.event) c.entry-entry.ensures ∙ c.event_of.ensures in
+    let e : Entry = entry_by (c.len-2.result + 1) (Given (CallInput number call)) c.handle-came.result.came in
     let grown : c.add.new.self.entries.items ≡ old ++ e ∷ [] = c.add.ensures.entries ∙ ap (λ es. es ++ e ∷ []) c.in_ok-reserve.ensures.items in
     let before = line_at bytes (calls_of number old) lines number c.index_mut-line.result.now is c.index_mut-line.ensures.value in
     let left : IsLine bytes (calls_of number old ++ call ∷ []) (incoming c.next_call.new.line) = (rw c.in-Frame.is at c.in_ok-next_call.ensures.next) bytes (calls_of number old) before in
-    let all : calls_of number c.add.new.self.entries.items ≡ calls_of number old ++ call ∷ [] = ap (λ es. calls_of number es) grown ∙ calls_more number old e call of_call in
+    let all : calls_of number c.add.new.self.entries.items ≡ calls_of number old ++ call ∷ [] = ap (λ es. calls_of number es) grown ∙ calls_more number old e call refl in
     let told = line_calls bytes (calls_of number old ++ call ∷ []) (calls_of number c.add.new.self.entries.items) (incoming c.next_call.new.line) left all in
-    (omega (arith, c.if-len-ge-MOST_ENTRIES.false, c.len.ensures), (e, call, told.0, grown, of_call, told.1))
+    (omega (arith, c.if-len-ge-MOST_ENTRIES.false, c.len.ensures), (e, call, told.0, grown, refl, told.1))
 
 pub returns-then-is_ok-clause-line : goal.returns-then-is_ok-clause-line
 returns-then-is_ok-clause-line g c = λ bytes is.
@@ -150,12 +171,11 @@ returns-then-is_ok-clause-line g c = λ bytes is.
     let number = c.args.number in
     let old = c.args.self.now.entries.items in
     let call = c.in-Frame.call in
-    let e : Entry = c.entry-entry.result in
-    let of_call : e.event ≡ CallEvent number call = ap (λ (x : Entry). x.event) c.entry-entry.ensures ∙ c.event_of.ensures in
+    let e : Entry = entry_by (c.len-2.result + 1) (Given (CallInput number call)) c.handle-came.result.came in
     let grown : c.add.new.self.entries.items ≡ old ++ e ∷ [] = c.add.ensures.entries ∙ ap (λ es. es ++ e ∷ []) c.in_ok-reserve.ensures.items in
     let before = line_at bytes (calls_of number old) lines number c.index_mut-line.result.now is c.index_mut-line.ensures.value in
     let left : IsLine bytes (calls_of number old ++ call ∷ []) (incoming c.next_call.new.line) = (rw c.in-Frame.is at c.in_ok-next_call.ensures.next) bytes (calls_of number old) before in
-    let all : calls_of number c.add.new.self.entries.items ≡ calls_of number old ++ call ∷ [] = ap (λ es. calls_of number es) grown ∙ calls_more number old e call of_call in
+    let all : calls_of number c.add.new.self.entries.items ≡ calls_of number old ++ call ∷ [] = ap (λ es. calls_of number es) grown ∙ calls_more number old e call refl in
     let put : IsLine bytes (calls_of number c.add.new.self.entries.items) (incoming c.put_reply-written.new.line) =
     subst (λ (calls : List Call). IsLine bytes calls (incoming c.put_reply-written.new.line)) (sym all)
     (subst (λ (now : Incoming). IsLine bytes (calls_of number old ++ call ∷ []) now) (sym c.put_reply-written.ensures.same) left) in

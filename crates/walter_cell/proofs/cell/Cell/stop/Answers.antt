@@ -1,65 +1,60 @@
-use Rattle.std.proofs.Common.{refl, ◌≡◌, ◌+◌, length, reverse, ap, sym, ◌∙◌, subst, arith, true, false}
-use Rattle.std.specs.Prelude.{None}
+use Rattle.std.proofs.Common.{refl, ◌≡◌, ◌+◌, ◌++◌, ◌∷◌, [], length, reverse, ap, ◌∙◌, subst, arith}
+use Rattle.std.specs.Prelude.{Option, true, false}
+use Rattle.walter_base.specs.declared.catalog.Catalog.{Catalog}
 use Rattle.walter_base.specs.declared.names.SiteId.{SiteId}
-use Rattle.walter_engine.specs.Engines.{Stands, OfDisks}
-use Rattle.walter_trail.specs.declared.trail.Outcome.{Outcome}
-use Rattle.walter_trail.specs.declared.trail.Outcome.TheVariants.{Taken}
-use Rattle.walter_trail.specs.declared.trail.TrailEvent.TheVariants.{Stop}
-use Rattle.walter_trail.specs.Standing.{Standing, stands_after}
-use Rattle.walter_trail.specs.Trails.{Comes, only, standing}
-use Rattle.walter_world.specs.Spelled.{the_site}
+use Rattle.walter_engine.specs.Engines.{Stands, catalog_in, is_up}
+use Rattle.walter_engine.specs.Steps.{only}
+use Rattle.walter_rules.specs.declared.entry.Came.{Came}
+use Rattle.walter_rules.specs.declared.event.Event.TheVariants.{Stop}
+use Rattle.walter_rules.specs.declared.outcome.Outcome.TheVariants.{Taken}
+use Rattle.walter_rules.specs.Standing.{Standing, stands_after}
+use Rattle.walter_rules.specs.Trails.{standing}
+use Rattle.walter_session.specs.Sessions.{Table}
 use Rattle.walter_cell.specs.declared.cell.Cell.{Cell}
 use Rattle.walter_cell.specs.declared.handling.Handled.{Handled}
-use Rattle.walter_cell.proofs.Asked.{stands_up}
-use Rattle.walter_cell.specs.Handled.{IsSized, IsFaulty}
+use Rattle.walter_cell.specs.Debts.{AreAfter}
+use Rattle.walter_cell.specs.Entries.{the_site}
+use Rattle.walter_cell.proofs.Grown.{entry_by, known_same, known_more, site_more}
 use Rattle.walter_cell.proofs.Restarting.{same_faults}
-use Rattle.walter_cell.proofs.Grown.{entry_by, known_more, site_more, stop_comes}
+use Rattle.walter_cell.proofs.Stopping.{came_of_stop, sized_stop, stop_faults, stop_stands, stop_owes, stopped_comes}
 use Rattle.walter_cell.proofs.cell.Cell.stop.Goals as goal
-use Rattle.walter_cell.proofs.cell.Cell.stop.Goals.{then-is_up, else-is_up}
 
 pub returns-clause-known : goal.returns-clause-known
 returns-clause-known g c = λ s site known.
     let old : Cell g.row.D.Denot g.D.Disk = c.args.self.now in
-    let mid : Cell g.row.D.Denot g.D.Disk = record { engine = c.stop.new.self; entries = c.reserve.new.self; lines = old.lines; ties = old.ties } in
+    let mid : Cell g.row.D.Denot g.D.Disk = record { engine = c.stop.new.self; entries = c.reserve.new.self; lines = old.lines; debts = old.debts } in
     let stamp = c.len-2.result + 1 in
-    let h : Handled = record { outcome = c.if-is_up.outcome; kept = None; wrote = None; flight = None } in
+    let lost : Option Table = c.stop.result in
+    let came : Came = came_of_stop lost in
+    let is : c.stopped-came.result ≡ record { came = came; lost = lost } = c.stopped-came.ensures in
     let S : Standing = standing s.catalog the_site (reverse old.entries.items) in
-    let is_up = c.is_up.ensures ∙ stands_up old.engine S known.stands in
-    let entry_is : c.entry.result ≡ entry_by stamp Stop h = c.entry.ensures ∙ ap (λ (x : Handled). entry_by stamp Stop x) c.only.ensures in
     let same : mid.entries.items ≡ old.entries.items = c.in_ok-reserve.ensures.items in
     let counts : stamp ≡ length old.entries.items + 1 = (let l = ap length same in omega (arith, l, c.len-2.ensures)) in
-    elim c.if-is_up.branch [
-      | then-is_up w ↦
-          let up : S.up ≡ true = sym is_up ∙ w.if-is_up.true in
-          known_more s old mid c.add.new.self stamp Stop h c.entry.result entry_is same c.add.ensures.entries counts c.add.ensures.engine site known refl c.add.ensures.ties tt
-          (subst (λ (o : Outcome). Comes s.catalog s.capacity the_site S Stop (only o)) (sym w.outcome-is) (stop_comes s.catalog s.capacity the_site S true up))
-          (subst (λ (o : Outcome). Stands mid.engine (stands_after the_site S Stop (only o))) (sym w.outcome-is)
-          (subst (λ (i : SiteId). Stands c.stop.new.self (stands_after i S Stop (only Taken))) site.site (c.stop.ensures.stands S known.stands up)))
-      | else-is_up w ↦
-          let up : S.up ≡ false = sym is_up ∙ w.if-is_up.false in
-          known_more s old mid c.add.new.self stamp Stop h c.entry.result entry_is same c.add.ensures.entries counts c.add.ensures.engine site known refl c.add.ensures.ties tt
-          (subst (λ (o : Outcome). Comes s.catalog s.capacity the_site S Stop (only o)) (sym w.outcome-is) (stop_comes s.catalog s.capacity the_site S false up))
-          (subst (λ (o : Outcome). Stands mid.engine (stands_after the_site S Stop (only o))) (sym w.outcome-is)
-          (c.stop.ensures.rests (sym c.is_up.ensures ∙ w.if-is_up.false) S known.stands))
-    ]
+    let e = c.stop.ensures in
+    let down : S.up ≡ true → Stands c.stop.new.self (stands_after s.catalog the_site S Stop (only Taken)) =
+    λ up. subst (λ (k : Catalog). Stands c.stop.new.self (stands_after k the_site S Stop (only Taken))) site.catalog
+    (subst (λ (i : SiteId). Stands c.stop.new.self (stands_after (catalog_in old.engine) i S Stop (only Taken))) site.site (e.stands S known.stands up)) in
+    let rests : is_up old.engine ≡ false → Stands old.engine S → Stands c.stop.new.self S = λ was. e.rests was S in
+    let grown = c.add.ensures.entries ∙ ap (λ (h : Handled). mid.entries.items ++ entry_by stamp Stop h.came ∷ []) is in
+    let after = subst (λ (h : Handled). AreAfter Stop h.came.outcome h.lost old.debts.items c.add.new.self.debts.items) is c.add.ensures.debts in
+    known_more s old mid c.add.new.self stamp Stop came (λ last n. n) same grown counts c.add.ensures.engine lost site known refl after tt
+    (stopped_comes s.catalog s.capacity the_site old.engine c.stop.new.self S known.stands down rests lost e.lost)
+    (stop_stands s.catalog s.capacity the_site old.engine c.stop.new.self S known.stands down rests lost e.lost)
+    (stop_owes s.catalog s.capacity the_site old.engine c.stop.new.self S known.stands down rests lost e.lost (e.loses S known.stands))
 
 pub returns-clause-site : goal.returns-clause-site
 returns-clause-site g c = λ s site.
     let old : Cell g.row.D.Denot g.D.Disk = c.args.self.now in
-    let mid : Cell g.row.D.Denot g.D.Disk = record { engine = c.stop.new.self; entries = c.reserve.new.self; lines = old.lines; ties = old.ties } in
+    let mid : Cell g.row.D.Denot g.D.Disk = record { engine = c.stop.new.self; entries = c.reserve.new.self; lines = old.lines; debts = old.debts } in
     let stamp = c.len-2.result + 1 in
-    let h : Handled = record { outcome = c.if-is_up.outcome; kept = None; wrote = None; flight = None } in
-    let entry_is : c.entry.result ≡ entry_by stamp Stop h = c.entry.ensures ∙ ap (λ (x : Handled). entry_by stamp Stop x) c.only.ensures in
+    let lost : Option Table = c.stop.result in
+    let came : Came = came_of_stop lost in
+    let is : c.stopped-came.result ≡ record { came = came; lost = lost } = c.stopped-came.ensures in
     let same : mid.entries.items ≡ old.entries.items = c.in_ok-reserve.ensures.items in
     let counts : stamp ≡ length old.entries.items + 1 = (let l = ap length same in omega (arith, l, c.len-2.ensures)) in
-    let more = site_more s old mid c.add.new.self stamp Stop h c.entry.result entry_is same c.add.ensures.entries counts c.add.ensures.engine site c.stop.ensures.engine in
-    elim c.if-is_up.branch [
-      | then-is_up w ↦
-          more (subst (λ (o : Outcome). IsSized (record h { outcome = o })) (sym w.outcome-is) (record { outcome = tt; kept = tt; wrote = tt; flight = tt }))
-          (subst (λ (o : Outcome). OfDisks old.engine mid.engine (λ x y. IsFaulty (record h { outcome = o }) (g.D.Disk.known x).faults (g.D.Disk.known y).faults)) (sym w.outcome-is)
-          (same_faults old.engine mid.engine c.stop.ensures.disk))
-      | else-is_up w ↦
-          more (subst (λ (o : Outcome). IsSized (record h { outcome = o })) (sym w.outcome-is) (record { outcome = tt; kept = tt; wrote = tt; flight = tt }))
-          (subst (λ (o : Outcome). OfDisks old.engine mid.engine (λ x y. IsFaulty (record h { outcome = o }) (g.D.Disk.known x).faults (g.D.Disk.known y).faults)) (sym w.outcome-is)
-          (same_faults old.engine mid.engine c.stop.ensures.disk))
-    ]
+    let grown = c.add.ensures.entries ∙ ap (λ (h : Handled). mid.entries.items ++ entry_by stamp Stop h.came ∷ []) is in
+    site_more s old mid c.add.new.self stamp Stop came (λ last n. n) same grown counts c.add.ensures.engine site c.stop.ensures.engine
+    (sized_stop lost) (stop_faults lost old.engine mid.engine (same_faults old.engine mid.engine c.stop.ensures.disk))
+
+pub returns-in_err-reserve-clause-known : goal.returns-in_err-reserve-clause-known
+returns-in_err-reserve-clause-known g c = λ s site known. known_same s c.args.self.now _ refl c.in_err-reserve.ensures.items refl known

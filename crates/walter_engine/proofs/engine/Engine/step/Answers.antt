@@ -40,3 +40,11 @@ returns-clause-rests g c = λ down S stands.
       state = rw same.1 state;
       tallied = subst (λ (t : Tally). IsTallied t S) (sym same.2) stands.tallied;
     }
+
+pub returns-clause-loses : goal.returns-clause-loses
+returns-clause-loses g c = λ S stands up untold.
+    let is = sym c.replace.ensures.value ∙ c.in-Some.is in
+    let of = rw is at stands.of in
+    let state = rw is at stands.state in
+    let m = c.take-state.ensures.moves c.args.self.now.catalog c.args.self.now.capacity c.args.self.now.site S of state stands.journaled (counted_up c.args.self.now.tally S up stands.tallied) up untold in
+    m.loses

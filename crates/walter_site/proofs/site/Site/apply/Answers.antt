@@ -1,38 +1,71 @@
-use Rattle.std.proofs.Common.{◌≡◌, ℕ, ◌+◌, Option, Some, None, All, ap, sym, ◌∙◌, subst}
-use Rattle.std.specs.Prelude.{IfSome}
-use Rattle.walter_base.specs.declared.catalog.Catalog.{Catalog}
-use Rattle.walter_base.specs.declared.message.Record.{Record}
-use Rattle.walter_base.specs.declared.message.Record.TheVariants.{Boot, Own, Got, Seen, Prepared, Released, SlowBegin, SlowEnd, Marks}
-use Rattle.walter_base.specs.declared.names.SiteId.{SiteId}
-use Rattle.walter_base.specs.Vectors.{entry_at}
-use Rattle.walter_site.specs.Open.{IsOpenAt, opens_of}
-use Rattle.walter_site.specs.Sites.{known, site_of, catalog_of, IsNext}
-use Rattle.walter_base.proofs.ByClient.{all_of_client}
-use Rattle.walter_site.proofs.Ruled.{IsGood, planned_good}
-use Rattle.walter_trail.specs.Knowledge.{Knowledge}
-use Rattle.walter_trail.specs.Records.{IsDeclared}
+use Rattle.std.proofs.Common.{◌≡◌, refl, IfSome, sym, subst}
+use Rattle.walter_site.specs.Members.{Knows, input_rule}
+use Rattle.walter_site.specs.Plans.{IsReady, IsFromWithin}
+use Rattle.walter_rules.specs.declared.event.Event.TheVariants.{Given}
+use Rattle.walter_rules.specs.declared.event.Input.{Input}
+use Rattle.walter_tables.specs.declared.plan.Planned.{Planned}
+use Rattle.walter_tables.specs.declared.tables.Tables.{Tables}
+use Rattle.walter_rules.specs.Knowledge.{Knowledge}
+use Rattle.walter_rules.specs.Learning.{after}
+use Rattle.walter_rules.specs.Records.{IsRecordAmong}
+use Rattle.walter_tables.specs.Planning.{expected_of}
+use Rattle.walter_tables.specs.Sites.{site_of, catalog_of}
+use Rattle.walter_site.proofs.Plannings.{plan_for, plan_within, planned_takes_in, planned_knows}
 use Rattle.walter_site.proofs.site.Site.apply.Goals as goal
 
--- what is next goes by the commits alone
-next_kept : (catalog other : Catalog) (i j : SiteId) (K L : Knowledge) (rec : Option Record) → other ≡ catalog → j ≡ i → L.committed ≡ K.committed → IfSome rec (IsGood catalog i K) → IsNext other j L rec
-next_kept catalog other i j K L None same site commits good = tt
-next_kept catalog other i j K L (Some (Boot epoch)) same site commits good = good.next
-next_kept catalog other i j K L (Some (Own seq tx)) same site commits good =
-    let here : entry_at L.committed j ≡ entry_at K.committed i = λ d. entry_at (commits d) (site d) in
-    let next = good.next in
-    (next.0 ∙ ap (λ (n : ℕ). n + 1) (sym here), next.1, subst (λ (c : Catalog). All (IsDeclared c) tx.updates) (sym same) next.2)
-next_kept catalog other i j K L (Some (Got from seq tx)) same site commits good = good.next
-next_kept catalog other i j K L (Some (Seen from seq)) same site commits good = good.next
-next_kept catalog other i j K L (Some (Prepared from slow tid objects)) same site commits good = good.next
-next_kept catalog other i j K L (Some (Released from slow)) same site commits good = good.next
-next_kept catalog other i j K L (Some (SlowBegin slow tx)) same site commits good = good.next
-next_kept catalog other i j K L (Some (SlowEnd slow)) same site commits good = good.next
-next_kept catalog other i j K L (Some (Marks durable visible)) same site commits good = good.next
+-- a knowledge by which the plan is the rule's
+abbrev HasRule : Tables → Input → Planned → Type 0
+HasRule t input p = (K : Knowledge) × Knows t K × (expected_of p ≡ input_rule (catalog_of t) (site_of t) K input)
 
-pub keep-requires-clause-next : goal.keep-requires-clause-next
-unfolding known site_of catalog_of
-keep-requires-clause-next c =
-    let self = c.args.self.now in
-    let is = all_of_client (IsOpenAt self.catalog self.site) _ (opens_of self.sessions) self.opens.each in
-    next_kept self.catalog _ self.site _ (known self) (known c.answer.new.self) c.args.plan.rec c.answer.ensures.catalog c.answer.ensures.site (ap (λ (K : Knowledge). K.committed) c.answer.ensures.known)
-    (planned_good self.catalog self.site (known self) _ _ (c.args.plan.rec, c.args.plan.reply) self.most is c.requires.planned.rule_is)
+pub take_in-requires-clause-takes_in : goal.take_in-requires-clause-takes_in
+take_in-requires-clause-takes_in c =
+    let t = c.self.inside.tables in
+    let input = c.args.input.now in
+    let p = c.args.plan.planned in
+    let rule = subst (λ x. HasRule x input p) (sym c.self.view_is) c.requires.rule in
+    let sizes = subst (λ x. IfSome p.rec (IsRecordAmong (catalog_of x).sites)) (sym c.self.view_is) c.requires.sizes in
+    let ready = subst (λ x. IsReady x input c.args.plan) (sym c.self.view_is) c.requires.ready in
+    let kept = c.keep_any.ensures in
+    planned_takes_in t c.keep_any.new.tables c.keep_any.new.tables input p c.number_begun-begun.result kept.site
+    kept.catalog refl kept.stands sizes rule.0 rule.1 rule.2 kept.sessions c.args.plan.asked ready.takes_in
+
+pub take_in-requires-clause-within : goal.take_in-requires-clause-within
+take_in-requires-clause-within c =
+    let input = c.args.input.now in
+    let p = c.args.plan.planned in
+    let rule = subst (λ x. HasRule x input p) (sym c.self.view_is) c.requires.rule in
+    subst (λ x. IsFromWithin x input p.outcome) (sym c.keep_any.ensures.catalog)
+    (plan_within c.self.inside.tables rule.0 rule.1 input p rule.2)
+
+pub take_in-requires-clause-of_input : goal.take_in-requires-clause-of_input
+take_in-requires-clause-of_input c =
+    let input = c.args.input.now in
+    let p = c.args.plan.planned in
+    let rule = subst (λ x. HasRule x input p) (sym c.self.view_is) c.requires.rule in
+    plan_for c.self.inside.tables rule.0 rule.1 input p rule.2
+
+pub invariant_of-self : goal.invariant_of-self
+invariant_of-self c =
+    let t = c.self.inside.tables in
+    let input = c.args.input.now in
+    let p = c.args.plan.planned in
+    let rule = subst (λ x. HasRule x input p) (sym c.self.view_is) c.requires.rule in
+    let sizes = subst (λ x. IfSome p.rec (IsRecordAmong (catalog_of x).sites)) (sym c.self.view_is) c.requires.sizes in
+    let kept = c.keep_any.ensures in (
+      after (catalog_of t) (site_of t) rule.0 (Given input) p.outcome p.rec,
+      planned_knows t c.keep_any.new.tables c.take_in.new.tables input p c.number_begun-begun.result kept.site
+          kept.catalog c.take_in.ensures.site kept.stands sizes rule.0 rule.1 rule.2 c.number_begun-begun.ensures
+          c.take_in.ensures.stands,
+    )
+
+pub returns-clause-knows : goal.returns-clause-knows
+returns-clause-knows c =
+    let t = c.self.inside.tables in
+    let input = c.args.input.now in
+    let p = c.args.plan.planned in
+    let sizes = subst (λ x. IfSome p.rec (IsRecordAmong (catalog_of x).sites)) (sym c.self.view_is) c.requires.sizes in
+    let kept = c.keep_any.ensures in
+    subst (λ x. (K : Knowledge) → Knows x K → expected_of p ≡ input_rule (catalog_of x) (site_of x) K input
+    → Knows c.take_in.new.tables (after (catalog_of x) (site_of x) K (Given input) p.outcome p.rec)) c.self.view_is
+    (λ K S ruled. planned_knows t c.keep_any.new.tables c.take_in.new.tables input p c.number_begun-begun.result kept.site
+    kept.catalog c.take_in.ensures.site kept.stands sizes K S ruled c.number_begun-begun.ensures c.take_in.ensures.stands)

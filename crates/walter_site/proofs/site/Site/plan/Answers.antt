@@ -1,33 +1,73 @@
-use Rattle.std.proofs.Common.{Option, Some, None}
-use Rattle.std.specs.Prelude.{IfSome}
-use Rattle.walter_base.specs.declared.message.Record.{Record}
-use Rattle.walter_site.specs.Open.{IsOpenAt, opens_of}
-use Rattle.walter_site.specs.Sites.{known, site_of, catalog_of}
-use Rattle.walter_base.proofs.ByClient.{all_of_client}
-use Rattle.walter_site.proofs.Ruled.{IsGood, planned_good, planned_short}
+use Rattle.std.proofs.Common.{true, All, IfSome, sym, subst}
+use Rattle.walter_site.specs.Members.{Knows, IsSizedPacket, IsSizedInput}
+use Rattle.walter_rules.specs.declared.event.Event.TheVariants.{Given}
+use Rattle.walter_rules.specs.Knowledge.{Knowledge}
+use Rattle.walter_rules.specs.Records.{CanFollow, IsRecordAmong}
+use Rattle.walter_rules.specs.Trails.{TakesMemory}
+use Rattle.walter_tables.specs.Sites.{site_of, catalog_of}
+use Rattle.walter_site.proofs.Plannings.{plan_follows, plan_recorded, plan_sent, plan_short, plan_wants_record, plan_wants_room, plan_fits, on_err}
 use Rattle.walter_site.proofs.site.Site.plan.Goals as goal
 
-each : (P Q : Record → Type 0) → ((rec : Record) → P rec → Q rec) → (o : Option Record) → IfSome o P → IfSome o Q
-each P Q gives None h = tt
-each P Q gives (Some rec) h = gives rec h
+pub returns-in_err-made-clause-free : goal.returns-in_err-made-clause-free
+returns-in_err-made-clause-free c =
+    let t = c.self.inside.tables in
+    let K = c.self.invariant.0 in
+    let S = c.self.invariant.1 in
+    let input = c.args.input.now in
+    on_err (TakesMemory true (Given input)) c.from_residual-in_err-made.result
+    (plan_wants_record t K S input c.in_ok-planned.planned (c.in_ok-planned.ensures.rule K S.stands)
+    c.in_err-made.ensures.free)
+
+pub returns-in_err-asked-clause-free : goal.returns-in_err-asked-clause-free
+returns-in_err-asked-clause-free c =
+    let t = c.self.inside.tables in
+    let K = c.self.invariant.0 in
+    let S = c.self.invariant.1 in
+    let input = c.args.input.now in
+    on_err (TakesMemory true (Given input)) c.from_residual-in_err-asked.result
+    (plan_wants_room t K S input c.in_ok-planned.planned (c.in_ok-planned.ensures.rule K S.stands)
+    c.in_err-asked.ensures.free)
+
+pub ready_answer-requires : goal.ready_answer-requires
+ready_answer-requires c =
+    let t = c.self.inside.tables in
+    let K = c.self.invariant.0 in
+    let stands = c.self.invariant.1.stands in
+    let made = c.make_ready.ensures in
+    record {
+      fits = plan_fits t c.make_ready.new.tables K (made.stands K stands) made.site made.catalog c.args.input.now
+          c.in_ok-planned.planned (c.in_ok-planned.ensures.rule K stands);
+    }
 
 pub returns-clause-follows : goal.returns-clause-follows
-unfolding known site_of catalog_of
 returns-clause-follows c =
-    let self = c.args.self.now in
-    let is = all_of_client (IsOpenAt self.catalog self.site) _ (opens_of self.sessions) self.opens.each in
-    each (IsGood self.catalog self.site (known self)) _ (λ rec good. good.follows) _ (planned_good self.catalog self.site (known self) _ _ _ self.most is c.in_ok-rec.ensures.rule)
+    let p = c.in_ok-planned.planned in
+    subst (λ t. (K : Knowledge) → Knows t K → IfSome p.rec (CanFollow (catalog_of t) (site_of t) K)) c.self.view_is
+    (λ K S. plan_follows c.self.inside.tables K S c.args.input.now p (c.in_ok-planned.ensures.rule K S.stands))
 
 pub returns-clause-sizes : goal.returns-clause-sizes
-unfolding known site_of catalog_of
 returns-clause-sizes c =
-    let self = c.args.self.now in
-    let is = all_of_client (IsOpenAt self.catalog self.site) _ (opens_of self.sessions) self.opens.each in
-    each (IsGood self.catalog self.site (known self)) _ (λ rec good. good.sizes) _ (planned_good self.catalog self.site (known self) _ _ _ self.most is c.in_ok-rec.ensures.rule)
+    let p = c.in_ok-planned.planned in
+    let input = c.args.input.now in
+    let K = c.self.invariant.0 in
+    let S = c.self.invariant.1 in
+    let sized = subst (λ t. IsSizedInput (catalog_of t).sites input) (sym c.self.view_is) c.requires.sized in
+    subst (λ t. IfSome p.rec (IsRecordAmong (catalog_of t).sites)) c.self.view_is
+    (plan_recorded c.self.inside.tables K S input p (c.in_ok-planned.ensures.rule K S.stands) sized)
 
 pub returns-clause-short : goal.returns-clause-short
-unfolding known site_of catalog_of
 returns-clause-short c =
-    let self = c.args.self.now in
-    let is = all_of_client (IsOpenAt self.catalog self.site) _ (opens_of self.sessions) self.opens.each in
-    planned_short self.catalog self.site (known self) _ _ (c.in_ok-rec.rec, c.in_ok-rec.reply) self.short is c.in_ok-rec.ensures.rule
+    let K = c.self.invariant.0 in
+    let S = c.self.invariant.1 in
+    plan_short c.self.inside.tables K S c.args.input.now c.in_ok-planned.planned
+    (c.in_ok-planned.ensures.rule K S.stands)
+
+pub returns-clause-sent : goal.returns-clause-sent
+returns-clause-sent c =
+    let p = c.in_ok-planned.planned in
+    let input = c.args.input.now in
+    let K = c.self.invariant.0 in
+    let S = c.self.invariant.1 in
+    let sized = subst (λ t. IsSizedInput (catalog_of t).sites input) (sym c.self.view_is) c.requires.sized in
+    subst (λ t. All (λ s. IsSizedPacket (catalog_of t).sites s.1) p.sends) c.self.view_is
+    (plan_sent c.self.inside.tables K S input p (c.in_ok-planned.ensures.rule K S.stands) sized)

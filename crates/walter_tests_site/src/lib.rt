@@ -1,5 +1,0 @@
-//! Tests of a site. The crate has nothing else.
-#![tactic(auto)]
-
-#[cfg(test)]
-mod sites;

@@ -1,5 +1,0 @@
-use Rattle.walter_world.proofs.Journaled.{right_journaled}
-use Rattle.walter_world.proofs.laws.a_restart_keeps_what_is_journaled.Goals as goal
-
-pub returns : goal.returns
-returns c = record { records = right_journaled }
