@@ -30,11 +30,13 @@ LINE = re.compile(rf"({NAME})\s*:\s*(.*)")
 TOKEN = re.compile(rf"{TEXT}|[^\s\"]+")
 ESCAPE = re.compile(r'\\(x[0-9a-fA-F]{2}|["\\n])')
 
-WANTS = {
-    "object": "an object as container:number",
-    "value": 'a value as "text" or hex DIGITS',
-    "id": "an id, a whole number below 2^64",
-    "transaction": "a transaction as site.epoch.number",
+LIMITS = {"B": 1 << 8, "I": 1 << 32, "Q": 1 << 64}
+
+# Of each field that is numbers: how they are packed, what stands between them in a script, and what is wanted there.
+NUMBERS = {
+    "object": (">IQ", ":", "an object as container:number"),
+    "id": (">Q", " ", "an id, a whole number below 2^64"),
+    "transaction": (">BIQ", ".", "a transaction as site.epoch.number"),
 }
 FORMS = (
     "sites N tolerated F",
@@ -69,7 +71,7 @@ def value_of(tokens):
     if first == "hex" and tokens and re.fullmatch(r"([0-9a-fA-F]{2})+", tokens[0]):
         return bytes.fromhex(tokens.pop(0))
     if not re.fullmatch(TEXT, first):
-        raise Wrong(WANTS["value"])
+        raise Wrong('a value as "text" or hex DIGITS')
     pieces = ESCAPE.split(first[1:-1])
     if any("\\" in piece for piece in pieces[::2]):
         raise Wrong(r'a text whose escapes are \", \\, \n and \x with two digits')
@@ -85,15 +87,11 @@ def field_of(kind, tokens):
     if kind == "value":
         value = value_of(tokens)
         return struct.pack(">I", len(value)) + value
-    text, wants = tokens.pop(0) if tokens else "", WANTS[kind]
-    if kind == "id":
-        return struct.pack(">Q", number(text, 0, 1 << 64, wants))
-    parts = text.split(":" if kind == "object" else ".")
-    limits = (1 << 32, 1 << 64) if kind == "object" else (1 << 8, 1 << 32, 1 << 64)
+    packed, between, wants = NUMBERS[kind]
+    parts, limits = (tokens.pop(0) if tokens else "").split(between), [LIMITS[size] for size in packed[1:]]
     if len(parts) != len(limits):
         raise Wrong(wants)
-    numbers = [number(part, 0, limit, wants) for part, limit in zip(parts, limits)]
-    return struct.pack(">IQ" if kind == "object" else ">BIQ", *numbers)
+    return struct.pack(packed, *(number(part, 0, limit, wants) for part, limit in zip(parts, limits)))
 
 
 def frame_of(tokens):
@@ -116,12 +114,12 @@ def words_of_value(value):
 
 def words_of_field(kind, body):
     """The words of a field with which bytes begin, and what is behind it."""
-    sizes = {"object": ">IQ", "id": ">Q", "transaction": ">BIQ", "value": ">I"}
-    size = struct.calcsize(sizes[kind])
-    numbers, rest = struct.unpack(sizes[kind], body[:size]), body[size:]
+    packed, between, _ = NUMBERS.get(kind, (">I", "", ""))
+    size = struct.calcsize(packed)
+    numbers, rest = struct.unpack(packed, body[:size]), body[size:]
     if kind == "value":
         return words_of_value(rest[: numbers[0]]), rest[numbers[0] :]
-    return {"object": ":", "transaction": ".", "id": ""}[kind].join(map(str, numbers)), rest
+    return between.join(map(str, numbers)), rest
 
 
 def words_of(frame):
@@ -168,8 +166,7 @@ class Script:
 
     def declare(self, words):
         """Takes a line without a colon. Answers whether it has such a form."""
-        shape = [word for place, word in enumerate(words) if place % 2 == 0]
-        given = words[1::2]
+        shape, given = words[::2], words[1::2]
         if shape == ["sites", "tolerated"] and len(given) == 2:
             if self.sites is not None:
                 raise Wrong("the sites once")
@@ -192,7 +189,10 @@ class Script:
             self.clients.append([self.site(given[1]), b""])
         elif shape in (["arm", "call", "choice"], ["armed", "call", "choice"]) and len(given) == 3:
             fault = self.fault(*given)
-            self.arms.append(fault) if words[0] == "armed" else self.steps.append(["arm", *fault])
+            if words[0] == "armed":
+                self.arms.append(fault)
+            else:
+                self.steps.append(["arm", *fault])
         elif shape in (["stop"], ["restart"]) and len(given) == 1:
             self.steps.append([words[0], self.site(given[0])])
         else:
