@@ -113,6 +113,12 @@ impl Sends {
     {
         &self.items
     }
+
+    pub fn into_vec(self) -> Vec<(SiteId, Packet)>
+        ensures { result.items ≡ self }
+    {
+        self.items
+    }
 }
 
 impl Clone for Sends {

@@ -1,6 +1,6 @@
 -- What was planned at a site, once it has made ready for it and when it is applied.
 use Rattle.std.proofs.Common.{◌≡◌, ◌∙◌, ℕ, false, List, map, Option, ap, sym, subst}
-use Rattle.std.specs.Prelude.{IfSome}
+use Rattle.std.specs.Prelude.{All, IfSome}
 use Rattle.walter_base.specs.declared.catalog.Catalog.{Catalog}
 use Rattle.walter_base.specs.declared.message.Record.{Record}
 use Rattle.walter_base.specs.declared.names.SiteId.{SiteId}
@@ -8,6 +8,7 @@ use Rattle.walter_base.specs.Sizes.{CanBeRecorded}
 use Rattle.walter_site.specs.declared.plan.Plan.{Plan}
 use Rattle.walter_site.specs.Members.{Knows, IsStanding, input_rule, up_with, IsShortOutcome}
 use Rattle.walter_packet.specs.Framed.{FramedBytes, frame_of}
+use Rattle.walter_packet.specs.Spelling.{HasPacketSpelling}
 use Rattle.walter_rules.specs.declared.event.Event.TheVariants.{Given}
 use Rattle.walter_rules.specs.declared.event.Input.{Input}
 use Rattle.walter_rules.specs.declared.outcome.Outcome.{Outcome}
@@ -60,13 +61,15 @@ pub sized_done : (sites : ℕ) (catalog : Catalog) (i : SiteId) (K : Knowledge) 
     (outcome : Outcome) (wrote : Option Record) (sends : List Send) (frames : List FramedBytes)
     → expected_of planned ≡ input_rule catalog i K input → IsShortOutcome planned.outcome
     → outcome ≡ planned.outcome → sends ≡ planned.sends → IfSome wrote CanBeRecorded
+    → All (λ s. HasPacketSpelling sites s.1) planned.sends
     → frames ≡ map (λ s. frame_of sites s.1) planned.sends → IsSizedDone sites outcome wrote sends frames
-sized_done sites catalog i K input planned outcome wrote sends frames rule short is_outcome is_sends recorded framed =
+sized_done sites catalog i K input planned outcome wrote sends frames rule short is_outcome is_sends recorded spelled framed =
     let stays = planned_stays catalog i K input (expected_of planned) rule in
     record {
       short = subst (λ (o : Outcome). IsShortOutcome o) (sym is_outcome) short;
       recorded = recorded;
       sure = λ tid told. stays_sure input (expected_of planned).outcome stays tid (sym is_outcome ∙ told);
       unfailed = λ failed. stays_unfailed input (expected_of planned).outcome stays (sym is_outcome ∙ failed);
+      spelled = subst (λ (all : List Send). All (λ s. HasPacketSpelling sites s.1) all) (sym is_sends) spelled;
       framed = framed ∙ ap (map (λ (s : Send). frame_of sites s.1)) (sym is_sends);
     }

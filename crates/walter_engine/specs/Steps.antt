@@ -9,6 +9,7 @@ use Rattle.walter_base.specs.declared.names.Tid.{Tid}
 use Rattle.walter_base.specs.Sizes.{CanBeRecorded}
 use Rattle.walter_site.specs.Members.{IsShortOutcome}
 use Rattle.walter_packet.specs.Framed.{FramedBytes, frame_of}
+use Rattle.walter_packet.specs.Spelling.{HasPacketSpelling}
 use Rattle.walter_rules.specs.Sending.{Send}
 use Rattle.walter_session.specs.Sessions.{sessions_of}
 use Rattle.walter_journal.specs.Layout.{HasContent, IsForeign, IsDamaged}
@@ -65,14 +66,15 @@ kept_of (restarted.Full kept need left) = kept
 kept_of (restarted.Refused kept why) = kept
 kept_of (restarted.NoMemory kept) = kept
 
--- a reply is short, what is written has a spelling, and for each packet its frame is there. A step that is done met no
--- fault: it tells no client that its commit is unsure, and it didn't fail.
+-- a reply is short, what is written has a spelling, and so has each packet, of which the frame is there. A step that is
+-- done met no fault: it tells no client that its commit is unsure, and it didn't fail.
 pub record IsSizedDone (sites : ℕ) (outcome : Outcome) (wrote : Option Record) (sends : List Send)
     (frames : List FramedBytes) : Type 0 where
   pub short : IsShortOutcome outcome
   pub recorded : IfSome wrote CanBeRecorded
   pub sure : (tid : Tid) → outcome ≢ Replied (Unsure tid)
   pub unfailed : outcome ≢ HasFailed
+  pub spelled : All (λ s. HasPacketSpelling sites s.1) sends
   pub framed : frames ≡ map (λ s. frame_of sites s.1) sends
 
 abbrev pub IsSizedStep : ℕ → Stepped → Type 0

@@ -15,6 +15,7 @@ ghost use Rattle.walter_engine.specs.States.{IsOf, IsAmong, is_up_state, disk_of
 ghost use Rattle.walter_engine.specs.Steps.{IsSizedStep, IsFaultOfStep, AreCallsOfStep, IsUntold};
 ghost use Rattle.walter_site.specs.Members.{Knows, IsStanding, IsSizedInput, IsSizedPacket};
 ghost use Rattle.walter_packet.specs.Framed.{frame_of};
+ghost use Rattle.walter_packet.specs.Spelling.{HasPacketSpelling};
 ghost use Rattle.walter_rules.specs.declared.event.Event.{Event};
 ghost use Rattle.walter_rules.specs.Knowledge.{Knowledge};
 ghost use Rattle.walter_rules.specs.Learning.{after};
@@ -225,6 +226,7 @@ fn prepare<D: Disk>(
     requires sized { IsSizedInput sites input.now }
     ensures prepared { IfOk result (λ r. IsPrepared site.old input.now site.new r.plan) }
     ensures frames { IfOk result (λ r. r.frames.items ≡ map (λ s. frame_of sites s.1) r.plan.planned.sends) }
+    ensures spelled { IfOk result (λ r. All (λ s. HasPacketSpelling sites s.1) r.plan.planned.sends) }
     ensures staged { IfOk result (λ r. IsStagedIfAny journal.new count r.plan.planned.rec r.staged) }
     ensures free { OnErr result (TakesMemory true (Event.Given input.now)) }
     ensures journal { IsSameJournal journal.old journal.new }
@@ -248,6 +250,7 @@ fn frame_all(alloc: Global, sends: &Sends, sites: u8) -> Mem<Vec<Framed>>
     requires most { sites ≤ most_sites }
     requires sized { All (λ s. IsSizedPacket sites s.1) sends.now }
     ensures frames { IfOk result (λ frames. frames.items ≡ map (λ s. frame_of sites s.1) sends.now) }
+    ensures spelled { IfOk result (λ _. All (λ s. HasPacketSpelling sites s.1) sends.now) }
     ensures free { OnErr result (sends.now ≢ []) }
 {
     let mut frames = Vec::new(alloc);

@@ -1,17 +1,17 @@
 use crate::event::Event;
 use crate::outcome::Outcome;
-use walter_base::{Record, Sends};
+use walter_base::{MaybeRecord, Sends};
 
 /// What came of an event.
 #[derive(Debug, Drop)]
 pub struct Came {
     pub outcome: Outcome,
     /// The record that was in flight, where a restart found it in the journal.
-    pub kept: Option<Record>,
+    pub kept: MaybeRecord,
     /// The record that the event made stable.
-    pub wrote: Option<Record>,
+    pub wrote: MaybeRecord,
     /// The record that met a fault of the disk. It is in the journal or not: the next restart that ends well finds out.
-    pub flight: Option<Record>,
+    pub flight: MaybeRecord,
     /// What was put out, in order.
     pub sends: Sends,
     /// How many packets found no place on their lane, and were lost there.

@@ -143,7 +143,7 @@ returns-in_default-staged-clause-sized g c =
     let e = c.in-Ok.ensures in
     let out = c.apply-outcome.ensures in
     sized_done c.args.sites (catalog_of c.args.site.now) (site_of c.args.site.now) e.standing.0 c.args.input.now c.in-Ok.ready.plan.planned _ None _ _
-    (e.prepared.rule e.standing.0 e.standing.1) e.prepared.short out.outcome out.sends tt e.frames
+    (e.prepared.rule e.standing.0 e.standing.1) e.prepared.short out.outcome out.sends tt e.spelled e.frames
 
 pub returns-in-Ok-append-clause-advances : goal.returns-in-Ok-append-clause-advances
 returns-in-Ok-append-clause-advances g c = λ S running J untold.
@@ -168,4 +168,4 @@ returns-in-Ok-append-clause-sized g c =
     let out = c.apply-outcome-in-Ok-append.ensures in
     let s = staged_some c.prepare.new.journal c.args.count.now c.in-Ok.ready.plan.planned.rec c.in-Ok.ready.staged c.in-Some.field-0 e.staged c.in-Some.is in
     sized_done c.args.sites (catalog_of c.args.site.now) (site_of c.args.site.now) e.standing.0 c.args.input.now c.in-Ok.ready.plan.planned _ (Some c.in-Some.field-0.rec) _ _
-    (e.prepared.rule e.standing.0 e.standing.1) e.prepared.short out.outcome out.sends (subst (λ (r : Record). CanBeRecorded r) (sym s.2.rec_is) s.2.sized) e.frames
+    (e.prepared.rule e.standing.0 e.standing.1) e.prepared.short out.outcome out.sends (subst (λ (r : Record). CanBeRecorded r) (sym s.2.rec_is) s.2.sized) e.spelled e.frames
