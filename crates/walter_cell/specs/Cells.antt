@@ -1,5 +1,8 @@
--- What holds of a site with its trail and its clients' connections between two events.
-use Rattle.std.specs.Prelude.{◌≡◌, ◌≢◌, ◌<◌, ◌≤◌, ◌⊎◌, ℕ, List, [], ◌∷◌, ◌++◌, length, reverse, slice_get, count_by, Some, All}
+-- What holds of a cell between two events, and what its calls come to.
+use Rattle.std.specs.Prelude.{◌≡◌, ◌≢◌, ◌<◌, ◌≤◌, ◌⊎◌, ◌+◌, ◌^◌, max, ℕ, List, [], ◌∷◌, ◌++◌, length, reverse, slice_get, Option, Some, None}
+use Rattle.walter_base.specs.declared.catalog.Catalog.{Catalog}
+use Rattle.walter_base.specs.declared.names.SiteId.{SiteId}
+use Rattle.walter_base.specs.declared.packet.Packet.{Packet}
 use Rattle.walter_conn.specs.Calls.{Incoming}
 use Rattle.walter_conn.specs.Connections.{incoming}
 use Rattle.walter_conn.specs.Frames.{Call}
@@ -9,26 +12,27 @@ use Rattle.walter_conn.specs.declared.next.Next.{Next}
 use Rattle.walter_conn.specs.declared.next.Next.TheVariants.{Frame, Ended, Broken}
 use Rattle.walter_conn.specs.declared.state.State.TheVariants as state
 use Rattle.walter_disk.specs.declared.disk.Disk.{Ghosts}
-use Rattle.walter_engine.specs.Engines.{catalog_in, site_in, capacity_in, OfDisk, Stands}
-use Rattle.walter_engine.specs.Steps.{opening}
-use Rattle.walter_scenario.specs.declared.scenario.Client.{Client}
-use Rattle.walter_scenario.specs.declared.scenario.Scenario.{Scenario}
-use Rattle.walter_stream.specs.declared.sink.Sink.{Ghosts as SinkGhosts}
-use Rattle.walter_stream.specs.declared.source.Source.{Ghosts as SourceGhosts}
+use Rattle.walter_engine.specs.Engines.{IsSameEngine}
+use Rattle.walter_lane.specs.Lanes.{Receiving}
+use Rattle.walter_lane.specs.declared.posted.Posted.{Posted}
+use Rattle.walter_packet.specs.Framed.{IsFramed}
 use Rattle.walter_rules.specs.declared.entry.Entry.{Entry}
 use Rattle.walter_rules.specs.declared.event.Event.{Event}
 use Rattle.walter_rules.specs.declared.event.Event.TheVariants as event
 use Rattle.walter_rules.specs.declared.event.Input.TheVariants as input
-use Rattle.walter_rules.specs.Trails.{standing, clock, IsRightTrail}
+use Rattle.walter_stream.specs.declared.sink.Sink.{Ghosts as SinkGhosts}
+use Rattle.walter_stream.specs.declared.source.Source.{Ghosts as SourceGhosts}
 use Rattle.walter_trail.specs.Calls.{calls_of}
-use Rattle.walter_cell.specs.declared.cell.Acted.{Acted}
-use Rattle.walter_cell.specs.declared.cell.Acted.TheVariants as acted
+use Rattle.walter_cell.specs.declared.answers.Acted.{Acted}
+use Rattle.walter_cell.specs.declared.answers.Acted.TheVariants as acted
+use Rattle.walter_cell.specs.declared.answers.Moved.{Moved}
+use Rattle.walter_cell.specs.declared.answers.Moved.TheVariants as moved
+use Rattle.walter_cell.specs.declared.answers.Serve.{Serve}
+use Rattle.walter_cell.specs.declared.answers.Serve.TheVariants as serve
 use Rattle.walter_cell.specs.declared.cell.Cell.{Cell}
-use Rattle.walter_cell.specs.declared.cell.Serve.{Serve}
-use Rattle.walter_cell.specs.declared.cell.Serve.TheVariants as serve
-use Rattle.walter_cell.specs.Debts.{AreOwed}
-use Rattle.walter_cell.specs.Entries.{the_site, IsSpent, HaveRisingStamps, IsOfClients}
-use Rattle.walter_cell.specs.Handled.{IsSized, is_faulty}
+use Rattle.walter_cell.specs.Entries.{IsSpent, Grows}
+use Rattle.walter_cell.specs.Lanes.{arrived_from, in_rings, out_rings, AreNext}
+use Rattle.walter_cell.specs.Nodes.{IsNode, IsKnownNode}
 
 -- ---- connections
 
@@ -37,21 +41,17 @@ pub record IsLine (bytes : List ℕ) (calls : List Call) (now : Incoming) : Type
   pub stands : HasCalled bytes calls now
   pub broken : now.state ≡ state.Broken → AreAllCalls bytes calls
 
--- so it is with the connection at this place
-abbrev pub IsLineAt : {S K : Type 0} {s : SourceGhosts S} {k : SinkGhosts K} → List ℕ → List Call → List (Conn S K s k) → ℕ → Type 0
-IsLineAt {S = S} {K = K} {s = s} {k = k} bytes calls lines place =
-    (line : Conn S K s k) × (slice_get lines place ≡ Some line) × IsLine bytes calls (incoming line)
-
--- and with the connections of all clients, by the calls in the trail
-abbrev pub AreLines : {S K : Type 0} {s : SourceGhosts S} {k : SinkGhosts K} → List Client → List Entry → List (Conn S K s k) → Type 0
-AreLines clients entries lines =
-    (number : ℕ) (client : Client) → slice_get clients number ≡ Some client → IsLineAt client.bytes (calls_of number entries) lines number
+-- the client of this number has its connection here, of which so much was read
+abbrev pub IsLineAt : {S K : Type 0} {s : SourceGhosts S} {k : SinkGhosts K} → List ℕ → List Call
+    → List (Option (Conn S K s k)) → ℕ → Type 0
+IsLineAt {S = S} {K = K} {s = s} {k = k} bytes calls lines number =
+    (line : Conn S K s k) × (slice_get lines number ≡ Some (Some line)) × IsLine bytes calls (incoming line)
 
 -- behind a call the connection isn't broken
-abbrev pub IsReady : Incoming → Next → Type 0
-IsReady now (Frame call) = now.state ≢ state.Broken
-IsReady now Ended = Unit {0}
-IsReady now Broken = Unit {0}
+abbrev pub IsUnbroken : Incoming → Next → Type 0
+IsUnbroken now (Frame call) = now.state ≢ state.Broken
+IsUnbroken now Ended = Unit {0}
+IsUnbroken now Broken = Unit {0}
 
 -- what the next answer of a connection leaves
 abbrev pub Leaves : List ℕ → List Call → Incoming → Next → Type 0
@@ -61,62 +61,72 @@ Leaves bytes calls now Broken = IsLine bytes calls now × AreAllCalls bytes call
 
 -- ---- cells
 
--- whatever its disk tells: the site is the scenario's, its trail begins with the opening and has an entry for each stamp, and
--- its disk failed at least as often as the trail says
-pub record IsSite {D : Type 0} {g : Ghosts D} (s : Scenario) (cell : Cell D g) : Type 0 where
-  pub catalog : catalog_in cell.engine ≡ s.catalog
-  pub site : site_in cell.engine ≡ the_site
-  pub capacity : capacity_in cell.engine ≡ s.capacity
-  pub begins : slice_get cell.entries.items 0 ≡ Some opening
-  pub stamps : clock (reverse cell.entries.items) ≡ length cell.entries.items
-  pub rise : HaveRisingStamps (reverse cell.entries.items)
-  pub sized : All (λ e. IsSized e.came) cell.entries.items
-  pub faults : OfDisk cell.engine (λ disk. count_by (λ e. is_faulty e.came.outcome) cell.entries.items ≤ (g.known disk).faults)
+-- whatever its disk tells: its site with the trail and the lanes to the others is in order, and each packet that was
+-- delivered had arrived
+pub record IsCell {D : Type 0} {g : Ghosts D} (catalog : Catalog) (capacity : ℕ) (i : SiteId)
+    (cell : Cell D g) : Type 0 where
+  pub node : IsNode catalog capacity i cell.node
+  pub ins : length cell.ins.items ≡ catalog.sites
+  pub next : AreNext i cell.ins.items (reverse cell.node.entries.items)
 
--- where its disk tells what it holds: the site stands as its trail says, the trail is right, and the clients are owed so
-pub record IsKnown {D : Type 0} {g : Ghosts D} (s : Scenario) (cell : Cell D g) : Type 0 where
-  pub stands : Stands cell.engine (standing s.catalog the_site (reverse cell.entries.items))
-  pub right : IsRightTrail s.catalog s.capacity the_site cell.entries.items
-  pub owed : AreOwed (standing s.catalog the_site (reverse cell.entries.items)) cell.debts.items
+-- where its disk tells what it holds
+abbrev pub IsKnown : {D : Type 0} {g : Ghosts D} → Catalog → ℕ → SiteId → Cell D g → Type 0
+IsKnown catalog capacity i cell = IsKnownNode catalog capacity i cell.node
 
--- a cell of a scenario
-pub record IsCell {D : Type 0} {g : Ghosts D} (s : Scenario) (cell : Cell D g) : Type 0 where
-  pub site : IsSite s cell
-  pub calls_within : All (λ e. IsOfClients (length s.clients) e.event) cell.entries.items
-  pub long : length cell.lines.items ≡ length s.clients
-  pub debts : length cell.debts.items ≡ length s.clients
-  pub lines : AreLines s.clients cell.entries.items cell.lines.items
+-- what each call leaves as it was: the site, the lanes, and how many clients there are
+pub record IsSameCell {D : Type 0} {g : Ghosts D} (old new : Cell D g) : Type 0 where
+  pub engine : IsSameEngine old.node.engine new.node.engine
+  pub outs : out_rings new.node.outs.items ≡ out_rings old.node.outs.items
+  pub ins : in_rings new.ins.items ≡ in_rings old.ins.items
+  pub lines : length new.lines.items ≡ length old.lines.items
+  pub debts : length new.node.debts.items ≡ length old.node.debts.items
+
+-- its trail is as before
+abbrev pub HasSameTrail : {D : Type 0} {g : Ghosts D} → (old new : Cell D g) → Type 0
+HasSameTrail old new = new.node.entries.items ≡ old.node.entries.items
 
 -- ---- what calls of a cell come to
 
--- the trail is as before, or has one more entry, of such an event
-abbrev pub Grows : (Event → Type 0) → List Entry → List Entry → Type 0
-Grows P old new = (new ≡ old) ⊎ ((e : Entry) × (new ≡ old ++ e ∷ []) × P e.event)
-
-abbrev pub IsCallOf : ℕ → Event → Type 0
-IsCallOf client ev = (call : Call) × (ev ≡ event.Given (input.Call client call))
+-- a trail has place for an entry with this stamp
+abbrev pub HasPlace : ℕ → List Entry → Type 0
+HasPlace stamp trail = (length trail < 100000) × (stamp < 2 ^ 62)
 
 -- what a client's turn comes to: the trail is spent; or all calls of its bytes are made; or its next call comes to the trail
-abbrev pub TurnsTo : ℕ → List ℕ → List Entry → List Entry → Serve → Type 0
-TurnsTo client bytes old new serve.Spent = IsSpent old × (new ≡ old)
-TurnsTo client bytes old new serve.Ended = (length old < 100000) × AreAllCalls bytes (calls_of client old) × (new ≡ old)
-TurnsTo client bytes old new serve.Broken = (length old < 100000) × AreAllCalls bytes (calls_of client old) × (new ≡ old)
-TurnsTo client bytes old new serve.Served =
-    (length old < 100000)
-    × ((e : Entry) × (call : Call) × (rest : List ℕ) × (new ≡ old ++ e ∷ []) × (e.event ≡ event.Given (input.Call client call)) × AreCalls bytes (calls_of client new) rest)
+abbrev pub TurnsTo : ℕ → List ℕ → ℕ → List Entry → List Entry → Serve → Type 0
+TurnsTo client bytes clock old new serve.Spent = IsSpent (clock + 1) old × (new ≡ old)
+TurnsTo client bytes clock old new serve.Ended =
+    HasPlace (clock + 1) old × AreAllCalls bytes (calls_of client old) × (new ≡ old)
+TurnsTo client bytes clock old new serve.Broken =
+    HasPlace (clock + 1) old × AreAllCalls bytes (calls_of client old) × (new ≡ old)
+TurnsTo client bytes clock old new serve.Served =
+    HasPlace (clock + 1) old × ((call : Call) × (rest : List ℕ) × Grows (event.Given (input.Call client call)) old new
+    × AreCalls bytes (calls_of client new) rest)
 
--- what another event comes to: the trail is spent, or has one more entry of it
-abbrev pub Acts : Event → List Entry → List Entry → Acted → Type 0
-Acts ev old new acted.Spent = IsSpent old × (new ≡ old)
-Acts ev old new acted.Did = (length old < 100000) × ((e : Entry) × (new ≡ old ++ e ∷ []) × (e.event ≡ ev))
+-- what an event that brings nothing comes to: the trail is spent, or has one more entry of it
+abbrev pub Acts : Event → ℕ → List Entry → List Entry → Acted → Type 0
+Acts event clock old new acted.Spent = IsSpent (clock + 1) old × (new ≡ old)
+Acts event clock old new acted.Did = HasPlace (clock + 1) old × Grows event old new
 
--- the connections are as before, and as many clients may be owed something
-pub record AreOwedAsMany {D : Type 0} {g : Ghosts D} (old new : Cell D g) : Type 0 where
-  pub lines : new.lines ≡ old.lines
-  pub debts : length new.debts.items ≡ length old.debts.items
+-- the packet of a number that has arrived from a site, if it has
+abbrev pub arrival : List Receiving → SiteId → ℕ → Option Posted
+arrival ins j zero = None
+arrival ins j (suc before) = slice_get (arrived_from ins j.0) before
 
--- but for the disk all is as before
-pub record AreSame {D : Type 0} {g : Ghosts D} (old new : Cell D g) : Type 0 where
-  pub entries : new.entries ≡ old.entries
-  pub lines : new.lines ≡ old.lines
-  pub debts : new.debts ≡ old.debts
+-- the stamp that its delivery would have
+abbrev pub stamp_behind : ℕ → Option Posted → ℕ
+stamp_behind clock None = clock + 1
+stamp_behind clock (Some post) = max clock post.stamp + 1
+
+-- no packet of this number has arrived that is one among so many sites
+abbrev pub IsMissing : ℕ → Option Posted → Type 0
+IsMissing sites None = Unit {0}
+IsMissing sites (Some post) = post.framed.sites ≢ sites
+
+-- what a delivery comes to: the trail is spent; or nothing has arrived; or it comes to the trail
+abbrev pub MovesTo : SiteId → ℕ → Option Posted → ℕ → ℕ → List Entry → List Entry → Moved → Type 0
+MovesTo j number post sites clock old new moved.Spent = IsSpent (stamp_behind clock post) old × (new ≡ old)
+MovesTo j number post sites clock old new moved.Nothing =
+    HasPlace (stamp_behind clock post) old × IsMissing sites post × (new ≡ old)
+MovesTo j number post sites clock old new moved.Did =
+    HasPlace (stamp_behind clock post) old × ((there : Posted) × (packet : Packet) × (post ≡ Some there)
+    × IsFramed there.framed packet × Grows (event.Given (input.Deliver j number packet)) old new)

@@ -1,5 +1,7 @@
 pub mod Entries
+pub mod Lanes
 pub mod Debts
 pub mod Handled
+pub mod Nodes
 pub mod Cells
 pub mod Builds

@@ -1,13 +1,25 @@
 ghost use Rattle.std.specs.Prelude.{◌≡◌, ◌<◌, ◌^◌, ℕ, length, slice_get, Option, Some};
 ghost use Rattle.walter_base.specs.declared.names.Tid.{Tid};
 ghost use Rattle.walter_rules.specs.Sessions.{session_in};
-ghost use Rattle.walter_rules.specs.Standing.{told, owed};
+ghost use Rattle.walter_rules.specs.Standing.{Standing, told, owed};
 ghost use Rattle.walter_session.specs.Sessions.{sessions_of};
-ghost use Rattle.walter_cell.specs.Debts.{AreAfter};
+ghost use Rattle.walter_cell.specs.Debts.{AreOwed, IsDebtOf, AreAfter};
+ghost use Rattle.walter_cell.specs.Entries.{IsOfClients};
 
 use walter_base::{Refusal, Reply, Tid};
 use walter_rules::{Event, Input, Outcome};
 use walter_session::Sessions;
+
+/// What the client of an event is owed.
+pub fn debt_of(debts: &[Option<Tid>], event: &Event) -> Option<Tid>
+    requires { IsOfClients (length debts.now) event.now }
+    ensures { (S : Standing) → AreOwed S debts.now → IsDebtOf S event.now result }
+{
+    match event {
+        Event::Given(Input::Call { client, .. }) => debts[*client as usize],
+        _ => None,
+    }
+}
 
 /// What clients are owed behind an event that lost these sessions, if it lost any.
 pub fn settle(debts: &mut [Option<Tid>], event: &Event, outcome: &Outcome, lost: &Option<Sessions>)

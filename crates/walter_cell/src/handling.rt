@@ -1,51 +1,90 @@
-ghost use Rattle.std.specs.Prelude.{◌≡◌, None, is_some, if◌then◌else◌};
-ghost use Rattle.walter_engine.specs.Engines.{catalog_in, site_in, capacity_in, OfDisks, IsSameEngine, Stands};
-ghost use Rattle.walter_engine.specs.Steps.{only, came_of_step, came_of_restart};
+ghost use Rattle.std.specs.Prelude.{◌≡◌, ◌+◌, ◌≤◌, [], None, vec_len, map, is_some, if◌then◌else◌};
+ghost use Rattle.walter_engine.specs.Engines.{catalog_in, site_in, capacity_in, is_up, OfDisks, IsSameEngine, Stands};
+ghost use Rattle.walter_engine.specs.Steps.{only, came_of_step, came_of_restart, IsSizedStep};
+ghost use Rattle.walter_packet.specs.Framed.{frame_of};
 ghost use Rattle.walter_rules.specs.declared.event.Event.{Event};
 ghost use Rattle.walter_rules.specs.Learning.{after};
 ghost use Rattle.walter_rules.specs.Standing.{Standing, stands_after, goes_down};
 ghost use Rattle.walter_rules.specs.Trails.{Comes, failure, fullness, want};
 ghost use Rattle.walter_site.specs.Members.{IsSizedInput};
-ghost use Rattle.walter_cell.specs.Debts.{IsDebt, IsLoss};
-ghost use Rattle.walter_cell.specs.Handled.{refused_first, lost_in, IsSized, IsFaulty};
+ghost use Rattle.walter_cell.specs.Debts.{IsDebt, IsDebtOf, IsLoss};
+ghost use Rattle.walter_cell.specs.Entries.{IsSizedEvent};
+ghost use Rattle.walter_cell.specs.Handled.{refused_first, lost_in, frames_in, IsSized, IsFaulty, IsYoung, HasCome};
 
+use crate::places::place_any;
 use std::alloc::Global;
-use walter_base::{BadFrame, Record, Refusal, Reply, Request, Sends, Tid};
+use walter_base::{BadFrame, MaybeRecord, Record, RecordPlace, Refusal, Reply, Request, Sends, Tid};
 use walter_disk::Disk;
 use walter_engine::{Engine, Restarted, Stepped};
-use walter_rules::{Came, Input, Outcome};
+use walter_packet::Framed;
+use walter_rules::{Came, Event, Input, Outcome};
 use walter_session::Sessions;
 
-/// What an event came to, and the sessions that a site lost by it which went down.
+/// What an event came to before anything was put out, with the frames of what is to be; and the sessions that a site lost
+/// by it which went down.
 #[derive(Drop)]
 pub struct Handled {
     pub came: Came,
+    pub frames: Vec<Framed>,
     pub lost: Option<Sessions>,
 }
 
 /// An outcome alone: no record, and nothing put out.
-pub fn only(alloc: Global, outcome: Outcome) -> Came
+fn only(alloc: Global, outcome: Outcome) -> Came
     ensures { result ≡ only outcome }
 {
     Came {
         outcome,
-        kept: None,
-        wrote: None,
-        flight: None,
+        kept: MaybeRecord::none(),
+        wrote: MaybeRecord::none(),
+        flight: MaybeRecord::none(),
         sends: Sends::from(Vec::new(alloc)),
         dropped: 0,
     }
 }
 
-/// Gives the site an input. A bad frame, a call of a site that is down and one of a client whose transaction is gone are
-/// answered before the site is asked.
+/// Lets an event come to the site. Its records get two of the places.
 pub fn handle<D: Disk + Drop>(
     alloc: Global,
     engine: &mut Engine<D>,
+    places: &mut Vec<RecordPlace>,
+    debt: Option<Tid>,
+    event: &Event,
+) -> Handled
+    requires sized { IsSizedEvent (catalog_in engine.old).sites event.now }
+    requires places { 2 ≤ vec_len places.old }
+    ensures comes { (S : Standing) → Stands engine.old S → IsDebtOf S event.now debt
+        → IsYoung D.Disk (catalog_in engine.old) (site_in engine.old) S
+        → HasCome (catalog_in engine.old) (capacity_in engine.old) (site_in engine.old) S event.now
+        result.came result.lost engine.new }
+    ensures sized { IsSized (catalog_in engine.old).sites result.came }
+    ensures framed { result.frames.items
+        ≡ map (λ s. frame_of (catalog_in engine.old).sites s.1) result.came.sends }
+    ensures none_dropped { result.came.dropped ≡ 0 }
+    ensures faults { OfDisks engine.old engine.new (λ old new.
+        IsFaulty result.came (D.known old).faults (D.known new).faults) }
+    ensures arms { OfDisks engine.old engine.new (λ old new. (D.known new).arms ≡ (D.known old).arms) }
+    ensures engine { IsSameEngine engine.old engine.new }
+{
+    match event {
+        Event::Given(input) => give(alloc, engine, places, debt, input),
+        Event::Stop => stopped(alloc, engine.stop()),
+        Event::Restart if engine.is_up() => alone(alloc, Outcome::Passed),
+        Event::Restart => restarted(alloc, places, engine.restart()),
+    }
+}
+
+/// Gives the site an input. A bad frame, a call of a site that is down and one of a client whose transaction is gone are
+/// answered before the site is asked.
+fn give<D: Disk + Drop>(
+    alloc: Global,
+    engine: &mut Engine<D>,
+    places: &mut Vec<RecordPlace>,
     debt: Option<Tid>,
     input: &Input,
 ) -> Handled
     requires sized { IsSizedInput (catalog_in engine.old).sites input.now }
+    requires places { 2 ≤ vec_len places.old }
     ensures comes { (S : Standing) → Stands engine.old S → IsDebt S input.now debt
         → Comes (catalog_in engine.old) (capacity_in engine.old) (site_in engine.old) S (Event.Given input.now) result.came }
     ensures stands { (S : Standing) → Stands engine.old S → IsDebt S input.now debt
@@ -55,18 +94,18 @@ pub fn handle<D: Disk + Drop>(
         (after (catalog_in engine.old) (site_in engine.old) S.knows (Event.Given input.now) result.came.outcome
         result.came.wrote).sessions result.lost }
     ensures kept { result.came.kept ≡ None }
-    ensures sized { IsSized result.came }
+    ensures sized { IsSized (catalog_in engine.old).sites result.came }
+    ensures framed { result.frames.items
+        ≡ map (λ s. frame_of (catalog_in engine.old).sites s.1) result.came.sends }
+    ensures none_dropped { result.came.dropped ≡ 0 }
     ensures faults { OfDisks engine.old engine.new (λ old new.
         IsFaulty result.came (D.known old).faults (D.known new).faults) }
     ensures arms { OfDisks engine.old engine.new (λ old new. (D.known new).arms ≡ (D.known old).arms) }
     ensures engine { IsSameEngine engine.old engine.new }
 {
     match refusal(engine.is_up(), debt, input) {
-        Some(refusal) => Handled {
-            came: only(alloc, Outcome::Replied(Reply::Refused(refusal))),
-            lost: None,
-        },
-        None => stepped(alloc, input, engine.step(input)),
+        Some(refusal) => alone(alloc, Outcome::Replied(Reply::Refused(refusal))),
+        None => stepped(alloc, places, input, engine.step(input)),
     }
 }
 
@@ -87,8 +126,15 @@ fn refusal(is_up: bool, debt: Option<Tid>, input: &Input) -> Option<Refusal>
 }
 
 // What a step came to.
-fn stepped(alloc: Global, input: &Input, stepped: Stepped) -> Handled
+fn stepped(
+    alloc: Global,
+    places: &mut Vec<RecordPlace>,
+    input: &Input,
+    stepped: Stepped,
+) -> Handled
+    requires { 2 ≤ vec_len places.old }
     ensures came { result.came ≡ came_of_step (Event.Given input.now) stepped }
+    ensures frames { result.frames.items ≡ frames_in stepped }
     ensures lost { result.lost ≡ lost_in stepped }
 {
     match stepped {
@@ -96,22 +142,27 @@ fn stepped(alloc: Global, input: &Input, stepped: Stepped) -> Handled
             outcome,
             wrote,
             sends,
-            ..
+            frames,
         } => Handled {
             came: Came {
-                outcome,
-                kept: None,
-                wrote,
-                flight: None,
+                wrote: place_any(places, wrote),
                 sends,
-                dropped: 0,
+                ..only(alloc, outcome)
             },
+            frames,
             lost: None,
         },
-        Stepped::Failed { flight, lost } => Handled {
-            came: without_record(alloc, failure(input, &flight), None, Some(flight)),
-            lost: Some(lost),
-        },
+        Stepped::Failed { flight, lost } => {
+            let outcome = failure(input, &flight);
+            Handled {
+                came: Came {
+                    flight: place_any(places, Some(flight)),
+                    ..only(alloc, outcome)
+                },
+                frames: Vec::new(alloc),
+                lost: Some(lost),
+            }
+        }
         Stepped::Full { need, left } => alone(alloc, fullness(input, need, left)),
         Stepped::Down => alone(alloc, Outcome::Down),
         Stepped::NoMemory => alone(alloc, want(input)),
@@ -119,30 +170,14 @@ fn stepped(alloc: Global, input: &Input, stepped: Stepped) -> Handled
 }
 
 fn alone(alloc: Global, outcome: Outcome) -> Handled
-    ensures { result ≡ record { came = only outcome; lost = None } }
+    ensures came { result.came ≡ only outcome }
+    ensures frames { result.frames.items ≡ [] }
+    ensures lost { result.lost ≡ None }
 {
     Handled {
         came: only(alloc, outcome),
+        frames: Vec::new(alloc),
         lost: None,
-    }
-}
-
-// No record was made stable, and nothing put out.
-fn without_record(
-    alloc: Global,
-    outcome: Outcome,
-    kept: Option<Record>,
-    flight: Option<Record>,
-) -> Came
-    ensures { result ≡ record (only outcome) { kept = kept; flight = flight } }
-{
-    Came {
-        outcome,
-        kept,
-        wrote: None,
-        flight,
-        sends: Sends::from(Vec::new(alloc)),
-        dropped: 0,
     }
 }
 
@@ -178,9 +213,11 @@ fn fullness(input: &Input, need: u64, left: u64) -> Outcome
     }
 }
 
-/// What a stop came to, which lost these sessions, if the site was up.
-pub fn stopped(alloc: Global, lost: Option<Sessions>) -> Handled
-    ensures { result ≡ record { came = only (if is_some lost then Outcome.Taken else Outcome.Down); lost = lost } }
+// What a stop came to, which lost these sessions, if the site was up.
+fn stopped(alloc: Global, lost: Option<Sessions>) -> Handled
+    ensures came { result.came ≡ only (if is_some lost then Outcome.Taken else Outcome.Down) }
+    ensures frames { result.frames.items ≡ [] }
+    ensures lost { result.lost ≡ lost }
 {
     let outcome = if lost.is_some() {
         Outcome::Taken
@@ -188,29 +225,51 @@ pub fn stopped(alloc: Global, lost: Option<Sessions>) -> Handled
         Outcome::Down
     };
     Handled {
-        came: only(alloc, outcome),
         lost,
+        ..alone(alloc, outcome)
     }
 }
 
-/// What a restart came to.
-pub fn restarted(alloc: Global, restarted: Restarted) -> Came
+fn restarted(alloc: Global, places: &mut Vec<RecordPlace>, restarted: Restarted) -> Handled
+    requires { 2 ≤ vec_len places.old }
+    ensures came { result.came ≡ came_of_restart restarted }
+    ensures frames { result.frames.items ≡ [] }
+    ensures lost { result.lost ≡ None }
+{
+    Handled {
+        came: came_of(alloc, places, restarted),
+        frames: Vec::new(alloc),
+        lost: None,
+    }
+}
+
+// What a restart came to.
+fn came_of(alloc: Global, places: &mut Vec<RecordPlace>, restarted: Restarted) -> Came
+    requires { 2 ≤ vec_len places.old }
     ensures { result ≡ came_of_restart restarted }
 {
     match restarted {
         Restarted::Up { kept, wrote } => Came {
-            outcome: Outcome::Taken,
-            kept,
-            wrote: Some(wrote),
-            flight: None,
-            sends: Sends::from(Vec::new(alloc)),
-            dropped: 0,
+            kept: place_any(places, kept),
+            wrote: place_any(places, Some(wrote)),
+            ..only(alloc, Outcome::Taken)
         },
-        Restarted::Failed { kept, flight } => without_record(alloc, Outcome::Failed, kept, flight),
-        Restarted::Full { kept, need, left } => {
-            without_record(alloc, Outcome::Full { need, left }, kept, None)
-        }
-        Restarted::Refused { kept, .. } => without_record(alloc, Outcome::Refused, kept, None),
-        Restarted::NoMemory { kept } => without_record(alloc, Outcome::Memory, kept, None),
+        Restarted::Failed { kept, flight } => Came {
+            kept: place_any(places, kept),
+            flight: place_any(places, flight),
+            ..only(alloc, Outcome::Failed)
+        },
+        Restarted::Full { kept, need, left } => Came {
+            kept: place_any(places, kept),
+            ..only(alloc, Outcome::Full { need, left })
+        },
+        Restarted::Refused { kept, .. } => Came {
+            kept: place_any(places, kept),
+            ..only(alloc, Outcome::Refused)
+        },
+        Restarted::NoMemory { kept } => Came {
+            kept: place_any(places, kept),
+            ..only(alloc, Outcome::Memory)
+        },
     }
 }

@@ -1,11 +1,16 @@
-//! A cell: a site over its disk with its trail and the connections of its clients, which outlive a stop.
+//! A cell: a site over its disk with its trail, its ends of the lanes to and from the other sites, and the connections of
+//! its clients. All but the site outlives a stop.
 #![tactic(auto)]
 
-mod building;
+mod answers;
 mod cell;
 mod debt;
 mod handling;
 mod line;
+mod node;
+mod outbox;
+mod places;
 
-pub use building::build;
-pub use cell::{Acted, Cell, Serve};
+pub use answers::{Acted, Moved, Serve};
+pub use cell::Cell;
+pub use line::{Line, open_line};

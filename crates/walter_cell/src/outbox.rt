@@ -1,0 +1,41 @@
+ghost use Rattle.std.specs.Prelude.{◌≡◌, ◌≤◌, ◌<◌, length, map};
+ghost use Rattle.walter_packet.specs.Framed.{frame_of};
+ghost use Rattle.walter_rules.specs.Trails.{IsPutOut};
+ghost use Rattle.walter_cell.specs.Lanes.{carried_by, IsPut, HavePutMore};
+
+use walter_base::Sends;
+use walter_lane::{Outbound, Posted};
+use walter_packet::Framed;
+
+/// Puts packets on their lanes, in order, each with its frame and this stamp. What is put out comes back, and how many
+/// packets found their lane full. The rules name no site that has no lane.
+pub fn put_out(outs: &mut [Outbound], stamp: u64, sends: Sends, frames: Vec<Framed>) -> (Sends, u64)
+    requires { length frames.items ≡ length sends }
+    ensures out { IsPutOut (carried_by outs.old) sends result.0 result.1 }
+    ensures lanes { (sites : ℕ) → frames.items ≡ map (λ s. frame_of sites s.1) sends
+        → HavePutMore sites stamp outs.old outs.new result.0 }
+{
+    let mut sends = sends.into_vec();
+    let mut count = 0;
+    let mut dropped = 0;
+    for framed in frames {
+        let (to, _) = sends[count];
+        if put(outs, to.0, Posted { stamp, framed }) {
+            count += 1;
+        } else {
+            sends.remove(count);
+            dropped += 1;
+        }
+    }
+    (Sends::from(sends), dropped)
+}
+
+// Puts a packet on the lane to a site, unless that is full.
+fn put(outs: &mut [Outbound], to: u8, posted: Posted) -> bool
+    ensures { IsPut outs.old outs.new to posted result }
+{
+    let Some(lane) = outs.get_mut(usize::from(to)) else {
+        return true;
+    };
+    lane.put(posted).is_ok()
+}
