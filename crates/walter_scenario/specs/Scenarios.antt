@@ -84,19 +84,22 @@ pub record HasContainers (bytes : List ℕ) (members : Members) (sites tolerated
   pub are : AreContainers sites values declared
 
 -- and these clients
-pub record HasClients (bytes : List ℕ) (members : Members) (sites tolerated : ℕ) (declared : List Item) (clients : List Client) : Type 0 where
+pub record HasClients (bytes : List ℕ) (members : Members) (sites tolerated : ℕ)
+    (declared : List Item) (clients : List Client) : Type 0 where
   pub has_containers : HasContainers bytes members sites tolerated declared
   pub values : List Data
   pub spelled : HasMember members (codes "clients") (list values)
   pub are : AreClients sites values clients
 
 -- and this capacity
-pub record HasCapacity (bytes : List ℕ) (members : Members) (sites tolerated : ℕ) (declared : List Item) (clients : List Client) (capacity : ℕ) : Type 0 where
+pub record HasCapacity (bytes : List ℕ) (members : Members) (sites tolerated : ℕ)
+    (declared : List Item) (clients : List Client) (capacity : ℕ) : Type 0 where
   pub has_clients : HasClients bytes members sites tolerated declared clients
   pub given : GivesCapacity (get_member (codes "capacity") members) capacity
 
 -- and these arms
-pub record HasArms (bytes : List ℕ) (members : Members) (sites tolerated : ℕ) (declared : List Item) (clients : List Client) (capacity : ℕ) (arms : List Arm) : Type 0 where
+pub record HasArms (bytes : List ℕ) (members : Members) (sites tolerated : ℕ)
+    (declared : List Item) (clients : List Client) (capacity : ℕ) (arms : List Arm) : Type 0 where
   pub has_capacity : HasCapacity bytes members sites tolerated declared clients capacity
   pub given : GivesArms sites (get_member (codes "arms") members) arms
 
@@ -122,20 +125,25 @@ IsRefusedAt bytes F =
     (members : Members) × (sites : ℕ) × HasSites bytes members sites
     × ((tolerated : ℕ) → tolerated < sites → ¬ HasMember members (codes "f") (whole tolerated))
 IsRefusedAt bytes (Containers place) =
-    (members : Members) × (sites : ℕ) × (tolerated : ℕ) × (value : Data) × HasTolerated bytes members sites tolerated × HasMember members (codes "containers") value
+    (members : Members) × (sites : ℕ) × (tolerated : ℕ) × (value : Data) × HasTolerated bytes members sites tolerated
+    × HasMember members (codes "containers") value
     × IsWrongAt (λ values. (declared : List Item) × AreContainers sites values declared) value place
 IsRefusedAt bytes (Clients place) =
-    (members : Members) × (sites : ℕ) × (tolerated : ℕ) × (declared : List Item) × (value : Data) × HasContainers bytes members sites tolerated declared
-    × HasMember members (codes "clients") value × IsWrongAt (λ values. (clients : List Client) × AreClients sites values clients) value place
+    (members : Members) × (sites : ℕ) × (tolerated : ℕ) × (declared : List Item) × (value : Data)
+    × HasContainers bytes members sites tolerated declared × HasMember members (codes "clients") value
+    × IsWrongAt (λ values. (clients : List Client) × AreClients sites values clients) value place
 IsRefusedAt bytes Capacity =
-    (members : Members) × (sites : ℕ) × (tolerated : ℕ) × (declared : List Item) × (clients : List Client) × HasClients bytes members sites tolerated declared clients
+    (members : Members) × (sites : ℕ) × (tolerated : ℕ) × (declared : List Item) × (clients : List Client)
+    × HasClients bytes members sites tolerated declared clients
     × ((capacity : ℕ) → ¬ GivesCapacity (get_member (codes "capacity") members) capacity)
 IsRefusedAt bytes (Arms place) =
-    (members : Members) × (sites : ℕ) × (tolerated : ℕ) × (declared : List Item) × (clients : List Client) × (capacity : ℕ) × (value : Data)
+    (members : Members) × (sites : ℕ) × (tolerated : ℕ) × (declared : List Item) × (clients : List Client)
+    × (capacity : ℕ) × (value : Data)
     × HasCapacity bytes members sites tolerated declared clients capacity × HasMember members (codes "arms") value
     × IsWrongAt (λ values. (arms : List Arm) × AreArms sites values arms) value place
 IsRefusedAt bytes (Steps place) =
-    (members : Members) × (sites : ℕ) × (tolerated : ℕ) × (declared : List Item) × (clients : List Client) × (capacity : ℕ) × (arms : List Arm) × (value : Data)
+    (members : Members) × (sites : ℕ) × (tolerated : ℕ) × (declared : List Item) × (clients : List Client)
+    × (capacity : ℕ) × (arms : List Arm) × (value : Data)
     × HasArms bytes members sites tolerated declared clients capacity arms × HasMember members (codes "steps") value
     × IsWrongAt (λ values. (steps : List Step) × AreSteps sites (length clients) values steps) value place
 

@@ -1,8 +1,7 @@
-ghost use Rattle.std.specs.Prelude.{◌≢◌, ◌<◌, ◌≤◌, ℕ, IfSome, IfNone};
+ghost use Rattle.std.specs.Prelude.{◌≡◌, ◌≢◌, ◌<◌, ◌≤◌, ℕ, IfSome, IfNone};
 ghost use Rattle.serde_json.specs.View.{view};
 ghost use Rattle.walter_base.specs.Vectors.{most_sites};
 ghost use Rattle.walter_scenario.specs.Parts.{whole};
-ghost use Rattle.std.specs.Prelude.{◌≡◌};
 
 use crate::values::{number_below, whole_of};
 use serde_json::Value;
@@ -10,7 +9,7 @@ use walter_base::MOST_SITES;
 
 /// The number of sites that the value is.
 pub fn sites_of(value: &Value) -> Option<u8>
-    ensures there { IfSome result (λ sites. 1 ≤ sites × (sites ≤ most_sites)) }
+    ensures there { IfSome result (λ sites. (1 ≤ sites) × (sites ≤ most_sites)) }
     ensures some { IfSome result (λ sites. view value.now ≡ whole sites) }
     ensures none { IfNone result
         ((sites : ℕ) → 1 ≤ sites → sites ≤ most_sites → view value.now ≢ whole sites) }

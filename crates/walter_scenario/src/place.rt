@@ -30,7 +30,7 @@ pub enum Place {
     #[error("arm {0}: wants [site, nth, choice] in a list, a site below sites, an nth from 1 to 1000000, a choice below 2^64")]
     Arms(usize),
     /// The first wrong step; 0 where the value is no list.
-    #[error(r#"step {0}: wants ["call", client], ["deliver", site, from, number], ["advance", site, from], ["tick", site], ["stop", site], ["restart", site] or ["arm", site, nth, choice] in a list, a client of the scenario, a site below sites, another one to come from, a number from 1 to 4294967295, an nth from 1 to 1000000, a choice below 2^64"#)]
+    #[error(r#"step {0}: wants ["call", client], ["deliver", site, from, number], ["advance", site, from], ["tick", site], ["stop", site], ["restart", site] or ["arm", site, nth, choice] in a list, a client of the scenario, a site below sites, a from that is another one, a number from 1 to 4294967295, an nth from 1 to 1000000, a choice below 2^64"#)]
     Steps(usize),
 }
 

@@ -26,7 +26,7 @@ fn client_of(clients: usize, value: &Value) -> Option<u32>
     (u64::from(client) < clients as u64).then_some(client)
 }
 
-/// The two sites that the values name, of so many.
+/// The two sites that the values name, of so many. They are different.
 fn peers_of(sites: u8, site: &Value, other: &Value) -> Option<(SiteId, SiteId)>
     ensures there { IfSome result (λ found. ArePeers sites found.0.0 found.1.0) }
     ensures some { IfSome result
@@ -86,10 +86,12 @@ fn step_of_two(sites: u8, word: &Value, at: &Value, from: &Value) -> Option<Step
 /// The step that hands over the packet that three values name.
 fn delivery_of(sites: u8, to: &Value, from: &Value, number: &Value) -> Option<Step>
     ensures there { IfSome result (λ step. (clients : ℕ) → IsStep sites clients step) }
-    ensures some { IfSome result (λ step. list (string (codes "deliver") ∷ view to.now ∷ view from.now ∷ view number.now ∷ [])
+    ensures some { IfSome result
+        (λ step. list (string (codes "deliver") ∷ view to.now ∷ view from.now ∷ view number.now ∷ [])
         ≡ step_spelled step) }
     ensures none { IfNone result ((clients : ℕ) (step : Step) → IsStep sites clients step
-        → list (string (codes "deliver") ∷ view to.now ∷ view from.now ∷ view number.now ∷ []) ≢ step_spelled step) }
+        → list (string (codes "deliver") ∷ view to.now ∷ view from.now ∷ view number.now ∷ [])
+        ≢ step_spelled step) }
 {
     let (to, from) = peers_of(sites, to, from)?;
     let number = packet_number_of(number)?;
@@ -119,10 +121,12 @@ fn step_of_three(
     third: &Value,
 ) -> Option<Step>
     ensures there { IfSome result (λ step. (clients : ℕ) → IsStep sites clients step) }
-    ensures some { IfSome result (λ step. list (view word.now ∷ view first.now ∷ view second.now ∷ view third.now ∷ [])
+    ensures some { IfSome result
+        (λ step. list (view word.now ∷ view first.now ∷ view second.now ∷ view third.now ∷ [])
         ≡ step_spelled step) }
     ensures none { IfNone result ((clients : ℕ) (step : Step) → IsStep sites clients step
-        → list (view word.now ∷ view first.now ∷ view second.now ∷ view third.now ∷ []) ≢ step_spelled step) }
+        → list (view word.now ∷ view first.now ∷ view second.now ∷ view third.now ∷ [])
+        ≢ step_spelled step) }
 {
     match string_of(word)? {
         "deliver" => delivery_of(sites, first, second, third),
