@@ -76,10 +76,10 @@ pub same_declared : (cs ds : List Item) → All IsContainer cs → All IsContain
 same_declared cs ds a b e = same_items container_spelled IsContainer same_container cs ds a b e
 
 -- the catalog of all values
-pub is_catalog : (sites : ℕ) (value : Data) (values : List Data) (front : List Item) (catalog : Catalog) → value ≡ list values → IsFront values front
-    → length front ≡ length values → catalog.sites ≡ sites → catalog.tolerated ≡ 0 → catalog.containers ≡ containers_of front → AreRight sites front
-    → IsCatalog sites value catalog
-is_catalog sites value values front catalog e is n of_sites none_tolerated containers right = record {
+pub is_catalog : (sites tolerated : ℕ) (value : Data) (values : List Data) (front : List Item) (catalog : Catalog) → value ≡ list values → IsFront values front
+    → length front ≡ length values → catalog.sites ≡ sites → catalog.tolerated ≡ tolerated → catalog.containers ≡ containers_of front → AreRight sites front
+    → IsCatalog sites tolerated value catalog
+is_catalog sites tolerated value values front catalog e is n of_sites of_tolerated containers right = record {
   values = values;
   declared = front;
   spelled = e;
@@ -89,7 +89,7 @@ is_catalog sites value values front catalog e is n of_sites none_tolerated conta
     right = right;
   };
   of_sites = of_sites;
-  none_tolerated = none_tolerated;
+  of_tolerated = of_tolerated;
   containers = containers;
 }
 

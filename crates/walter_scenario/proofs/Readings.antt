@@ -1,84 +1,130 @@
--- From what is wrong with the value of the last key to what is wrong with the bytes.
-use Rattle.std.proofs.Common.{◌≡◌, ℕ, List, length, Some, sym, ap, ◌∙◌, subst}
+-- From what is wrong with the value of one of the last two keys to what is wrong with the bytes.
+use Rattle.std.proofs.Common.{◌≡◌, ◌<◌, ◌≤◌, ℕ, List, length, Some, sym, ap, ◌∙◌, subst}
 use Rattle.serde_json.specs.Data.{Members}
 use Rattle.serde_json.specs.View.{view}
 use Rattle.walter_base.specs.declared.catalog.Catalog.{Catalog}
+use Rattle.walter_base.specs.Vectors.{most_sites}
 use Rattle.walter_scenario.specs.declared.members.Parts.{Parts}
 use Rattle.walter_scenario.specs.declared.place.ReadFault.{ReadFault}
 use Rattle.walter_scenario.specs.declared.place.ReadFault.TheVariants.{Refused, NoMemory}
 use Rattle.walter_scenario.specs.declared.scenario.Arm.{Arm}
 use Rattle.walter_scenario.specs.declared.scenario.Client.{Client}
-use Rattle.walter_scenario.specs.Faults.{IsStepsFault}
+use Rattle.walter_scenario.specs.Faults.{IsGivenArmsFault, IsStepsFault}
 use Rattle.walter_scenario.specs.Fronts.{IsCatalog, ListsClients}
 use Rattle.walter_scenario.specs.Members.{data_in, AreParts, IsFaultOf}
 use Rattle.walter_scenario.specs.Parts.{whole}
-use Rattle.walter_scenario.specs.Scenarios.{GivesCapacity, GivesArms, HasKeys, HasTolerated, HasContainers, HasClients, HasArms, IsRefusedAt}
+use Rattle.walter_scenario.specs.Scenarios.{GivesCapacity, GivesArms, HasKeys, HasSites, HasTolerated, HasContainers, HasClients, HasCapacity, HasArms, IsRefusedAt}
 
--- one site, of which none may be lost
-pub record HasNumbers (parts : Parts) : Type 0 where
-  pub one : view parts.sites.now ≡ whole 1
-  pub none : view parts.tolerated.now ≡ whole 0
+-- so many sites, of which so many may be lost
+pub record HasNumbers (parts : Parts) (sites tolerated : ℕ) : Type 0 where
+  pub is_sites : view parts.sites.now ≡ whole sites
+  pub some : 1 ≤ sites
+  pub most : sites ≤ most_sites
+  pub is_tolerated : view parts.tolerated.now ≡ whole tolerated
+  pub fewer : tolerated < sites
 
 -- and what else was read: the containers, and the clients
-pub record HasRead (parts : Parts) (catalog : Catalog) (clients : List Client) : Type 0 where
-  pub numbers : HasNumbers parts
-  pub containers : IsCatalog 1 (view parts.containers.now) catalog
-  pub are_clients : ListsClients 1 (view parts.clients.now) clients
+pub record HasRead (parts : Parts) (sites tolerated : ℕ) (catalog : Catalog) (clients : List Client) : Type 0 where
+  pub numbers : HasNumbers parts sites tolerated
+  pub containers : IsCatalog sites tolerated (view parts.containers.now) catalog
+  pub are_clients : ListsClients sites (view parts.clients.now) clients
 
--- and the capacity, and the arms
-pub record HasReadArms (parts : Parts) (catalog : Catalog) (clients : List Client) (capacity : ℕ) (arms : List Arm) : Type 0 where
-  pub read : HasRead parts catalog clients
+-- and the capacity
+pub record HasReadCapacity (parts : Parts) (sites tolerated : ℕ) (catalog : Catalog) (clients : List Client) (capacity : ℕ) : Type 0 where
+  pub read : HasRead parts sites tolerated catalog clients
   pub gives_capacity : GivesCapacity (data_in parts.capacity) capacity
-  pub gives_arms : GivesArms 1 (data_in parts.arms) arms
 
-has_tolerated : (parts : Parts) (bytes : List ℕ) (ms : Members) → HasNumbers parts → HasKeys bytes ms → AreParts ms parts → HasTolerated bytes ms
-has_tolerated parts bytes ms numbers keys are = record {
-  has_sites = record { has_keys = keys; one = are.sites ∙ ap Some numbers.one };
-  none = are.tolerated ∙ ap Some numbers.none;
+-- and the arms
+pub record HasReadArms (parts : Parts) (sites tolerated : ℕ) (catalog : Catalog) (clients : List Client) (capacity : ℕ) (arms : List Arm) : Type 0 where
+  pub before : HasReadCapacity parts sites tolerated catalog clients capacity
+  pub gives_arms : GivesArms sites (data_in parts.arms) arms
+
+has_sites : (parts : Parts) (sites tolerated : ℕ) (bytes : List ℕ) (ms : Members) → HasNumbers parts sites tolerated → HasKeys bytes ms → AreParts ms parts
+    → HasSites bytes ms sites
+has_sites parts sites tolerated bytes ms numbers keys are = record {
+  has_keys = keys;
+  spelled = are.sites ∙ ap Some numbers.is_sites;
+  some = numbers.some;
+  most = numbers.most;
 }
 
-has_containers : (parts : Parts) (catalog : Catalog) (bytes : List ℕ) (ms : Members) → HasNumbers parts → (is : IsCatalog 1 (view parts.containers.now) catalog)
-    → HasKeys bytes ms → AreParts ms parts → HasContainers bytes ms is.declared
-has_containers parts catalog bytes ms numbers is keys are = record {
-  has_tolerated = has_tolerated parts bytes ms numbers keys are;
+has_tolerated : (parts : Parts) (sites tolerated : ℕ) (bytes : List ℕ) (ms : Members) → HasNumbers parts sites tolerated → HasKeys bytes ms → AreParts ms parts
+    → HasTolerated bytes ms sites tolerated
+has_tolerated parts sites tolerated bytes ms numbers keys are = record {
+  has_sites = has_sites parts sites tolerated bytes ms numbers keys are;
+  spelled = are.tolerated ∙ ap Some numbers.is_tolerated;
+  fewer = numbers.fewer;
+}
+
+has_containers : (parts : Parts) (sites tolerated : ℕ) (catalog : Catalog) (bytes : List ℕ) (ms : Members) → HasNumbers parts sites tolerated
+    → (is : IsCatalog sites tolerated (view parts.containers.now) catalog) → HasKeys bytes ms → AreParts ms parts
+    → HasContainers bytes ms sites tolerated is.declared
+has_containers parts sites tolerated catalog bytes ms numbers is keys are = record {
+  has_tolerated = has_tolerated parts sites tolerated bytes ms numbers keys are;
   values = is.values;
   spelled = are.containers ∙ ap Some is.spelled;
   are = is.are;
 }
 
-has_clients : (parts : Parts) (catalog : Catalog) (clients : List Client) (bytes : List ℕ) (ms : Members) → (read : HasRead parts catalog clients) → HasKeys bytes ms
-    → AreParts ms parts → HasClients bytes ms read.containers.declared clients
-has_clients parts catalog clients bytes ms read keys are = record {
-  has_containers = has_containers parts catalog bytes ms read.numbers read.containers keys are;
+has_clients : (parts : Parts) (sites tolerated : ℕ) (catalog : Catalog) (clients : List Client) (bytes : List ℕ) (ms : Members)
+    → (read : HasRead parts sites tolerated catalog clients) → HasKeys bytes ms → AreParts ms parts
+    → HasClients bytes ms sites tolerated read.containers.declared clients
+has_clients parts sites tolerated catalog clients bytes ms read keys are = record {
+  has_containers = has_containers parts sites tolerated catalog bytes ms read.numbers read.containers keys are;
   values = read.are_clients.0;
   spelled = are.clients ∙ ap Some read.are_clients.1;
   are = read.are_clients.2;
 }
 
-has_arms : (parts : Parts) (catalog : Catalog) (clients : List Client) (capacity : ℕ) (arms : List Arm) (bytes : List ℕ) (ms : Members)
-    → (all : HasReadArms parts catalog clients capacity arms) → HasKeys bytes ms → AreParts ms parts
-    → HasArms bytes ms all.read.containers.declared clients capacity arms
-has_arms parts catalog clients capacity arms bytes ms all keys are = record {
-  has_capacity = record {
-    has_clients = has_clients parts catalog clients bytes ms all.read keys are;
-    given = subst (λ g. GivesCapacity g capacity) (sym are.capacity) all.gives_capacity;
-  };
-  given = subst (λ g. GivesArms 1 g arms) (sym are.arms) all.gives_arms;
+has_capacity : (parts : Parts) (sites tolerated : ℕ) (catalog : Catalog) (clients : List Client) (capacity : ℕ) (bytes : List ℕ) (ms : Members)
+    → (before : HasReadCapacity parts sites tolerated catalog clients capacity) → HasKeys bytes ms → AreParts ms parts
+    → HasCapacity bytes ms sites tolerated before.read.containers.declared clients capacity
+has_capacity parts sites tolerated catalog clients capacity bytes ms before keys are = record {
+  has_clients = has_clients parts sites tolerated catalog clients bytes ms before.read keys are;
+  given = subst (λ g. GivesCapacity g capacity) (sym are.capacity) before.gives_capacity;
 }
 
+has_arms : (parts : Parts) (sites tolerated : ℕ) (catalog : Catalog) (clients : List Client) (capacity : ℕ) (arms : List Arm) (bytes : List ℕ) (ms : Members)
+    → (all : HasReadArms parts sites tolerated catalog clients capacity arms) → HasKeys bytes ms → AreParts ms parts
+    → HasArms bytes ms sites tolerated all.before.read.containers.declared clients capacity arms
+has_arms parts sites tolerated catalog clients capacity arms bytes ms all keys are = record {
+  has_capacity = has_capacity parts sites tolerated catalog clients capacity bytes ms all.before keys are;
+  given = subst (λ g. GivesArms sites g arms) (sym are.arms) all.gives_arms;
+}
+
+-- a fault of the arms
+pub arms_fault : (parts : Parts) (sites tolerated : ℕ) (catalog : Catalog) (clients : List Client) (capacity : ℕ) (fault : ReadFault)
+    → HasReadCapacity parts sites tolerated catalog clients capacity → IsGivenArmsFault sites (data_in parts.arms) fault → IsFaultOf parts fault
+arms_fault parts sites tolerated catalog clients capacity NoMemory before wrong bytes ms keys are = tt
+arms_fault parts sites tolerated catalog clients capacity (Refused place detail) before wrong bytes ms keys are =
+    subst (IsRefusedAt bytes) (sym wrong.2.named) (
+      ms,
+      sites,
+      tolerated,
+      before.read.containers.declared,
+      clients,
+      capacity,
+      wrong.0,
+      has_capacity parts sites tolerated catalog clients capacity bytes ms before keys are,
+      are.arms ∙ wrong.1,
+      wrong.2.wrong,
+    )
+
 -- a fault of the steps
-pub steps_fault : (parts : Parts) (catalog : Catalog) (clients : List Client) (capacity : ℕ) (arms : List Arm) (fault : ReadFault)
-    → HasReadArms parts catalog clients capacity arms → IsStepsFault 1 (length clients) (view parts.steps.now) fault → IsFaultOf parts fault
-steps_fault parts catalog clients capacity arms NoMemory all wrong bytes ms keys are = tt
-steps_fault parts catalog clients capacity arms (Refused place detail) all wrong bytes ms keys are =
+pub steps_fault : (parts : Parts) (sites tolerated : ℕ) (catalog : Catalog) (clients : List Client) (capacity : ℕ) (arms : List Arm) (fault : ReadFault)
+    → HasReadArms parts sites tolerated catalog clients capacity arms → IsStepsFault sites (length clients) (view parts.steps.now) fault → IsFaultOf parts fault
+steps_fault parts sites tolerated catalog clients capacity arms NoMemory all wrong bytes ms keys are = tt
+steps_fault parts sites tolerated catalog clients capacity arms (Refused place detail) all wrong bytes ms keys are =
     subst (IsRefusedAt bytes) (sym wrong.named) (
       ms,
-      all.read.containers.declared,
+      sites,
+      tolerated,
+      all.before.read.containers.declared,
       clients,
       capacity,
       arms,
       view parts.steps.now,
-      has_arms parts catalog clients capacity arms bytes ms all keys are,
+      has_arms parts sites tolerated catalog clients capacity arms bytes ms all keys are,
       are.steps,
       wrong.wrong,
     )

@@ -8,7 +8,7 @@ use Rattle.serde_json.specs.Data.{Data, string}
 use Rattle.walter_scenario.specs.declared.place.Place.{Place}
 use Rattle.walter_scenario.specs.declared.scenario.Arm.{Arm}
 use Rattle.walter_scenario.specs.declared.scenario.Step.{Step}
-use Rattle.walter_scenario.specs.declared.scenario.Step.TheVariants.{Call, Stop, Restart, Arm as Armed}
+use Rattle.walter_scenario.specs.declared.scenario.Step.TheVariants.{Call, Deliver, Advance, Tick, Stop, Restart, Arm as Armed}
 use Rattle.walter_scenario.specs.Faults.{IsItem}
 use Rattle.walter_scenario.specs.Parts.{whole, list, arm_items, arm_spelled, step_spelled, IsArm, IsStep, AreSpelled, AreArms, AreSteps}
 use Rattle.walter_scenario.proofs.Spelling.{one_more, no_more, same_items}
@@ -61,18 +61,27 @@ same_arms sites values a b are be =
 -- a step is its word, and the values behind it
 abbrev word_of : Step → List ℕ
 word_of (Call client) = codes "call"
+word_of (Deliver to from nth) = codes "deliver"
+word_of (Advance at from) = codes "advance"
+word_of (Tick site) = codes "tick"
 word_of (Stop site) = codes "stop"
 word_of (Restart site) = codes "restart"
 word_of (Armed arm) = codes "arm"
 
 abbrev values_of : Step → List Data
 values_of (Call client) = whole client ∷ []
+values_of (Deliver to from nth) = whole to.0 ∷ whole from.0 ∷ whole nth ∷ []
+values_of (Advance at from) = whole at.0 ∷ whole from.0 ∷ []
+values_of (Tick site) = whole site.0 ∷ []
 values_of (Stop site) = whole site.0 ∷ []
 values_of (Restart site) = whole site.0 ∷ []
 values_of (Armed arm) = arm_items arm
 
 step_parts : (a : Step) → step_spelled a ≡ list (string (word_of a) ∷ values_of a)
 step_parts (Call client) = refl
+step_parts (Deliver to from nth) = refl
+step_parts (Advance at from) = refl
+step_parts (Tick site) = refl
 step_parts (Stop site) = refl
 step_parts (Restart site) = refl
 step_parts (Armed arm) = refl
@@ -84,15 +93,33 @@ same_word a word values e =
 
 same_step_at : (a b : Step) → word_of a ≡ word_of b → step_spelled a ≡ step_spelled b → a ≡ b
 same_step_at (Call m) (Call n) word e = let same : m ≡ n = cc in ap Call same
+same_step_at (Deliver a b m) (Deliver c d n) word e =
+    let to : a.0 ≡ c.0 = cc in
+    let from : b.0 ≡ d.0 = cc in
+    let nth : m ≡ n = cc in
+    λ i. Deliver (record { 0 = to i }) (record { 0 = from i }) (nth i)
+same_step_at (Advance a b) (Advance c d) word e =
+    let at : a.0 ≡ c.0 = cc in
+    let from : b.0 ≡ d.0 = cc in
+    λ i. Advance (record { 0 = at i }) (record { 0 = from i })
+same_step_at (Tick m) (Tick n) word e = let same : m.0 ≡ n.0 = cc in (λ i. Tick (record { 0 = same i }))
 same_step_at (Stop m) (Stop n) word e = let same : m.0 ≡ n.0 = cc in (λ i. Stop (record { 0 = same i }))
 same_step_at (Restart m) (Restart n) word e = let same : m.0 ≡ n.0 = cc in (λ i. Restart (record { 0 = same i }))
 same_step_at (Armed a) (Armed b) word e =
     let arm : arm_spelled a ≡ arm_spelled b = cc in
     ap Armed (same_arm a b arm)
-same_step_at a b word e = absurd (omega (arith, ap (λ w. slice_index w 0) word))
+same_step_at a b word e = absurd (omega (arith, ap (λ w. slice_index w 0) word, ap (λ w. slice_index w 1) word))
 
 same_step : (a b : Step) → step_spelled a ≡ step_spelled b → a ≡ b
 same_step a b e = same_step_at a b (same_word b (word_of a) (values_of a) (sym (step_parts a) ∙ e)) e
+
+-- where three values are no arm, the word of one in front of them makes no step
+pub arms_nothing : (sites clients : ℕ) (site nth choice : Data) → ((arm : Arm) → IsArm sites arm → site ∷ nth ∷ choice ∷ [] ≢ arm_items arm)
+    → (step : Step) → IsStep sites clients step → list (string (codes "arm") ∷ site ∷ nth ∷ choice ∷ []) ≢ step_spelled step
+arms_nothing sites clients site nth choice none (Armed arm) is e = none arm is cc
+arms_nothing sites clients site nth choice none step is e =
+    let word = same_word step (codes "arm") (site ∷ nth ∷ choice ∷ []) e in
+    absurd (omega (arith, ap (λ w. slice_index w 0) word, ap (λ w. slice_index w 1) word))
 
 -- values spell one list of steps
 pub same_steps : (sites clients : ℕ) (values : List Data) (a b : List Step) → AreSteps sites clients values a → AreSteps sites clients values b → a ≡ b

@@ -1,8 +1,8 @@
 -- The clients of a scenario.
-use Rattle.std.proofs.Common.{◌≡◌, ℕ, zero, suc, ◌+◌, ◌<◌, ◌≤◌, Bool, true, false, cond, List, [], ◌∷◌, ◌++◌, length, take, drop, All, refl, sym, ap, ◌∙◌, subst, arith, zero-add, add-one}
+use Rattle.std.proofs.Common.{◌≡◌, ℕ, zero, suc, ◌+◌, ◌*◌, ◌<◌, ◌≤◌, Bool, true, false, cond, List, [], ◌∷◌, ◌++◌, length, take, drop, All, refl, sym, ap, ◌∙◌, subst, arith, zero-add, add-one, inl, inr}
 use Rattle.std.specs.Prelude.{count_by, nat_eq}
 use Rattle.std.specs.List.{HoldsAt}
-use Rattle.std.proofs.lemmas.Bool.{eqb-true, eq-eqb}
+use Rattle.std.proofs.lemmas.Bool.{eqb-true, eq-eqb, cases_lt}
 use Rattle.std.proofs.lemmas.List.{length_push, get_or_push, take-append-drop}
 use Rattle.std.proofs.lemmas.List.Elements.{All-push, All-take, All-head, All-tail}
 use Rattle.std.proofs.lemmas.List.Sums.{sum_by-append}
@@ -132,16 +132,43 @@ clients_closed sites n values have = (
         let whole = ap (λ xs. count_by p xs) (take-append-drop n cs) in
         omega (arith, both, whole)
 
-counted : (cs : List Client) → All (λ client. client.site.0 < 1) cs → count_by (λ other. nat_eq other.site.0 0) cs ≡ length cs
-counted [] all = refl
-counted (c ∷ cs) all =
-    let first = All-head (λ client. client.site.0 < 1) c cs all in
-    let later = counted cs (All-tail (λ client. client.site.0 < 1) c cs all) in
-    let here : c.site.0 ≡ 0 = omega (arith, first) in
-    let one = ap {B = ℕ} (λ b. cond b 1 0) (eq-eqb c.site.0 0 here) in
-    let both = sum_by-append (λ x. cond (nat_eq x.site.0 0) 1 0) (c ∷ []) cs in
-    omega (arith, both, one, later)
+-- how many clients the sites below a number have
+abbrev clients_below : ℕ → List Client → ℕ
+clients_below zero cs = 0
+clients_below (suc n) cs = clients_below n cs + count_by (λ other. nat_eq other.site.0 n) cs
 
--- all clients of the one site are few
-pub one_site : (values : List Data) (cs : List Client) → AreClients 1 values cs → length cs ≤ 1024
-one_site values cs are = let few = are.few 0 in omega (arith, counted cs are.within, few)
+count_first : (n : ℕ) (c : Client) (cs : List Client)
+    → count_by (λ other. nat_eq other.site.0 n) (c ∷ cs) ≡ cond (nat_eq c.site.0 n) 1 0 + count_by (λ other. nat_eq other.site.0 n) cs
+count_first n c cs =
+    sum_by-append (λ x. cond (nat_eq x.site.0 n) 1 0) (c ∷ []) cs
+    ∙ ap (λ m. m + count_by (λ other. nat_eq other.site.0 n) cs) (zero-add (cond (nat_eq c.site.0 n) 1 0))
+
+no_fewer : (n : ℕ) (c : Client) (cs : List Client) → clients_below n cs ≤ clients_below n (c ∷ cs)
+no_fewer zero c cs = omega arith
+no_fewer (suc n) c cs = omega (arith, no_fewer n c cs, count_first n c cs)
+
+counted_once : (n : ℕ) (c : Client) (cs : List Client) → c.site.0 < n → clients_below n cs < clients_below n (c ∷ cs)
+counted_once zero c cs h = absurd (omega (arith, h))
+counted_once (suc n) c cs h =
+    elim (cases_lt c.site.0 n) [
+      | inl less ↦ omega (arith, counted_once n c cs less, count_first n c cs)
+      | inr least ↦
+          let here : c.site.0 ≡ n = omega (arith, least, h) in
+          let one = ap {B = ℕ} (λ b. cond b 1 0) (eq-eqb c.site.0 n here) in
+          omega (arith, no_fewer n c cs, count_first n c cs, one)
+    ]
+
+each_counted : (n : ℕ) (cs : List Client) → All (λ client. client.site.0 < n) cs → length cs ≤ clients_below n cs
+each_counted n [] all = omega arith
+each_counted n (c ∷ cs) all =
+    let here = counted_once n c cs (All-head (λ client. client.site.0 < n) c cs all) in
+    let later = each_counted n cs (All-tail (λ client. client.site.0 < n) c cs all) in
+    omega (arith, here, later)
+
+few_below : (n : ℕ) (cs : List Client) → ((site : ℕ) → count_by (λ other. nat_eq other.site.0 site) cs ≤ 1024) → clients_below n cs ≤ n * 1024
+few_below zero cs few = omega arith
+few_below (suc n) cs few = omega (arith, few_below n cs few, few n)
+
+-- all clients of all sites are few
+pub all_sites : (sites : ℕ) (values : List Data) (cs : List Client) → AreClients sites values cs → length cs ≤ sites * 1024
+all_sites sites values cs are = omega (arith, each_counted sites cs are.within, few_below sites cs are.few)

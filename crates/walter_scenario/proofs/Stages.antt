@@ -15,7 +15,7 @@ use Rattle.walter_scenario.specs.Scenarios.{HasMember, AreKeys, GivesCapacity, G
 use Rattle.walter_scenario.proofs.Declared.{containers_closed}
 use Rattle.walter_scenario.proofs.Scripts.{items_closed}
 use Rattle.walter_scenario.proofs.Sent.{clients_closed}
-use Rattle.walter_scenario.proofs.Uniqueness.{one_object, one_value, containers_object, clients_object, arms_object, one_of_clients}
+use Rattle.walter_scenario.proofs.Uniqueness.{one_object, one_value, containers_object, clients_object, arms_object, one_of_sites, one_of_clients}
 use Rattle.walter_scenario.proofs.Wrong.{right_nowhere, one_place}
 
 -- the bytes are right in so many stages
@@ -24,18 +24,18 @@ Passed zero bytes = Unit {0}
 Passed (suc zero) bytes = IsWithinLimit bytes
 Passed (suc (suc zero)) bytes = IsWithinLimit bytes × ((members : Members) × IsJsonObject bytes members)
 Passed (suc (suc (suc zero))) bytes = (members : Members) × HasKeys bytes members
-Passed (suc (suc (suc (suc zero)))) bytes = (members : Members) × HasSites bytes members
-Passed (suc (suc (suc (suc (suc zero))))) bytes = (members : Members) × HasTolerated bytes members
-Passed (suc (suc (suc (suc (suc (suc zero)))))) bytes = (members : Members) × (declared : List Item) × HasContainers bytes members declared
+Passed (suc (suc (suc (suc zero)))) bytes = (members : Members) × (sites : ℕ) × HasSites bytes members sites
+Passed (suc (suc (suc (suc (suc zero))))) bytes = (members : Members) × (sites : ℕ) × (tolerated : ℕ) × HasTolerated bytes members sites tolerated
+Passed (suc (suc (suc (suc (suc (suc zero)))))) bytes = (members : Members) × (sites : ℕ) × (tolerated : ℕ) × (declared : List Item) × HasContainers bytes members sites tolerated declared
 Passed (suc (suc (suc (suc (suc (suc (suc zero))))))) bytes =
-    (members : Members) × (declared : List Item) × (clients : List Client) × HasClients bytes members declared clients
+    (members : Members) × (sites : ℕ) × (tolerated : ℕ) × (declared : List Item) × (clients : List Client) × HasClients bytes members sites tolerated declared clients
 Passed (suc (suc (suc (suc (suc (suc (suc (suc zero)))))))) bytes =
-    (members : Members) × (declared : List Item) × (clients : List Client) × (capacity : ℕ) × HasCapacity bytes members declared clients capacity
+    (members : Members) × (sites : ℕ) × (tolerated : ℕ) × (declared : List Item) × (clients : List Client) × (capacity : ℕ) × HasCapacity bytes members sites tolerated declared clients capacity
 Passed (suc (suc (suc (suc (suc (suc (suc (suc (suc zero))))))))) bytes =
-    (members : Members) × (declared : List Item) × (clients : List Client) × (capacity : ℕ) × (arms : List Arm) × HasArms bytes members declared clients capacity arms
+    (members : Members) × (sites : ℕ) × (tolerated : ℕ) × (declared : List Item) × (clients : List Client) × (capacity : ℕ) × (arms : List Arm) × HasArms bytes members sites tolerated declared clients capacity arms
 Passed (suc (suc (suc (suc (suc (suc (suc (suc (suc (suc n)))))))))) bytes =
-    (members : Members) × (declared : List Item) × (clients : List Client) × (capacity : ℕ) × (arms : List Arm) × (values : List Data)
-    × HasArms bytes members declared clients capacity arms × HasMember members (codes "steps") (list values) × HaveSteps 1 (length clients) values
+    (members : Members) × (sites : ℕ) × (tolerated : ℕ) × (declared : List Item) × (clients : List Client) × (capacity : ℕ) × (arms : List Arm) × (values : List Data)
+    × HasArms bytes members sites tolerated declared clients capacity arms × HasMember members (codes "steps") (list values) × HaveSteps sites (length clients) values
 
 -- the number of stages before the place's
 abbrev stage : Place → ℕ
@@ -54,13 +54,13 @@ one_less : (bytes : List ℕ) (n : ℕ) → Passed (suc n) bytes → Passed n by
 one_less bytes zero p = tt
 one_less bytes (suc zero) p = p.0
 one_less bytes (suc (suc zero)) p = (p.1.short, (p.0, p.1.is_object))
-one_less bytes (suc (suc (suc zero))) p = (p.0, p.1.has_keys)
-one_less bytes (suc (suc (suc (suc zero)))) p = (p.0, p.1.has_sites)
-one_less bytes (suc (suc (suc (suc (suc zero))))) p = (p.0, p.2.has_tolerated)
-one_less bytes (suc (suc (suc (suc (suc (suc zero)))))) p = (p.0, p.1, p.3.has_containers)
-one_less bytes (suc (suc (suc (suc (suc (suc (suc zero))))))) p = (p.0, p.1, p.2, p.4.has_clients)
-one_less bytes (suc (suc (suc (suc (suc (suc (suc (suc zero)))))))) p = (p.0, p.1, p.2, p.3, p.5.has_capacity)
-one_less bytes (suc (suc (suc (suc (suc (suc (suc (suc (suc zero))))))))) p = (p.0, p.1, p.2, p.3, p.4, p.6)
+one_less bytes (suc (suc (suc zero))) p = (p.0, p.2.has_keys)
+one_less bytes (suc (suc (suc (suc zero)))) p = (p.0, p.1, p.3.has_sites)
+one_less bytes (suc (suc (suc (suc (suc zero))))) p = (p.0, p.1, p.2, p.4.has_tolerated)
+one_less bytes (suc (suc (suc (suc (suc (suc zero)))))) p = (p.0, p.1, p.2, p.3, p.5.has_containers)
+one_less bytes (suc (suc (suc (suc (suc (suc (suc zero))))))) p = (p.0, p.1, p.2, p.3, p.4, p.6.has_clients)
+one_less bytes (suc (suc (suc (suc (suc (suc (suc (suc zero)))))))) p = (p.0, p.1, p.2, p.3, p.4, p.5, p.7.has_capacity)
+one_less bytes (suc (suc (suc (suc (suc (suc (suc (suc (suc zero))))))))) p = (p.0, p.1, p.2, p.3, p.4, p.5, p.6, p.8)
 one_less bytes (suc (suc (suc (suc (suc (suc (suc (suc (suc (suc n)))))))))) p = p
 
 fewer : (bytes : List ℕ) (m n : ℕ) → m ≤ n → Passed n bytes → Passed m bytes
@@ -77,18 +77,22 @@ reached bytes TooLong is = tt
 reached bytes Json is = is.0
 reached bytes Key is = (is.0, (is.1.0, is.1.1))
 reached bytes Sites is = (is.0, is.1)
-reached bytes F is = (is.0, is.1)
-reached bytes (Containers place) is = (is.0, is.2)
-reached bytes (Clients place) is = (is.0, is.1, is.3)
-reached bytes Capacity is = (is.0, is.1, is.2, is.3)
-reached bytes (Arms place) is = (is.0, is.1, is.2, is.3, is.5)
-reached bytes (Steps place) is = (is.0, is.1, is.2, is.3, is.4, is.6)
+reached bytes F is = (is.0, is.1, is.2)
+reached bytes (Containers place) is = (is.0, is.1, is.2, is.4)
+reached bytes (Clients place) is = (is.0, is.1, is.2, is.3, is.5)
+reached bytes Capacity is = (is.0, is.1, is.2, is.3, is.4, is.5)
+reached bytes (Arms place) is = (is.0, is.1, is.2, is.3, is.4, is.5, is.7)
+reached bytes (Steps place) is = (is.0, is.1, is.2, is.3, is.4, is.5, is.6, is.8)
 
 arms_closed : (sites n : ℕ) (values : List Data) → HaveArms sites values → HaveArms sites (take n values)
 arms_closed sites n values have = items_closed arm_spelled (IsArm sites) n values have
 
 steps_closed : (sites clients n : ℕ) (values : List Data) → HaveSteps sites clients values → HaveSteps sites clients (take n values)
 steps_closed sites clients n values have = items_closed step_spelled (IsStep sites clients) n values have
+
+sites_of_clients : (bytes : List ℕ) (ms : Members) (sites tolerated : ℕ) (declared : List Item) (clients : List Client)
+    → HasClients bytes ms sites tolerated declared clients → HasSites bytes ms sites
+sites_of_clients bytes ms sites tolerated declared clients has = has.has_containers.has_tolerated.has_sites
 
 -- and it isn't
 stopped : (bytes : List ℕ) (place : Place) → IsRefusedAt bytes place → ¬ Passed (suc (stage place)) bytes
@@ -98,32 +102,42 @@ stopped bytes Key is p =
     let same = one_object bytes p.0 is.1.0 p.1.is_object is.1.1 in
     is.1.2 (subst AreKeys same p.1.keys)
 stopped bytes Sites is p =
-    let same = one_object bytes p.0 is.0 p.1.has_keys.is_object is.1.is_object in
-    is.2 (subst (λ ms. HasMember ms (codes "sites") (whole 1)) same p.1.one)
+    let same = one_object bytes p.0 is.0 p.2.has_keys.is_object is.1.is_object in
+    is.2 p.1 p.2.some p.2.most (subst (λ ms. HasMember ms (codes "sites") (whole p.1)) same p.2.spelled)
 stopped bytes F is p =
-    let same = one_object bytes p.0 is.0 p.1.has_sites.has_keys.is_object is.1.has_keys.is_object in
-    is.2 (subst (λ ms. HasMember ms (codes "f") (whole 0)) same p.1.none)
+    let same = one_object bytes p.0 is.0 p.3.has_sites.has_keys.is_object is.2.has_keys.is_object in
+    let sites = one_of_sites bytes p.0 is.0 p.1 is.1 p.3.has_sites is.2 in
+    is.3 p.2 (subst (λ n. p.2 < n) sites p.3.fewer) (subst (λ ms. HasMember ms (codes "f") (whole p.2)) same p.3.spelled)
 stopped bytes (Containers place) is p =
-    let same = one_object bytes is.0 p.0 is.2.has_sites.has_keys.is_object (containers_object bytes p.0 p.1 p.2) in
-    let value = one_value (codes "containers") is.0 p.0 is.1 (list p.2.values) same is.3 p.2.spelled in
-    right_nowhere (HaveContainers 1) (containers_closed 1) is.1 p.2.values place value (p.1, p.2.are) is.4
+    let same = one_object bytes is.0 p.0 is.4.has_sites.has_keys.is_object (containers_object bytes p.0 p.1 p.2 p.3 p.4) in
+    let sites = one_of_sites bytes p.0 is.0 p.1 is.1 p.4.has_tolerated.has_sites is.4.has_sites in
+    let value = one_value (codes "containers") is.0 p.0 is.3 (list p.4.values) same is.5 p.4.spelled in
+    right_nowhere (HaveContainers is.1) (containers_closed is.1) is.3 p.4.values place value
+    (subst (λ n. HaveContainers n p.4.values) sites (p.3, p.4.are)) is.6
 stopped bytes (Clients place) is p =
-    let same = one_object bytes is.0 p.0 (containers_object bytes is.0 is.1 is.3) (containers_object bytes p.0 p.1 p.3.has_containers) in
-    let value = one_value (codes "clients") is.0 p.0 is.2 (list p.3.values) same is.4 p.3.spelled in
-    right_nowhere (HaveClients 1) (clients_closed 1) is.2 p.3.values place value (p.2, p.3.are) is.5
+    let same = one_object bytes is.0 p.0 (containers_object bytes is.0 is.1 is.2 is.3 is.5) (containers_object bytes p.0 p.1 p.2 p.3 p.5.has_containers) in
+    let sites = one_of_sites bytes p.0 is.0 p.1 is.1 p.5.has_containers.has_tolerated.has_sites is.5.has_tolerated.has_sites in
+    let value = one_value (codes "clients") is.0 p.0 is.4 (list p.5.values) same is.6 p.5.spelled in
+    right_nowhere (HaveClients is.1) (clients_closed is.1) is.4 p.5.values place value
+    (subst (λ n. HaveClients n p.5.values) sites (p.4, p.5.are)) is.7
 stopped bytes Capacity is p =
-    let same = one_object bytes p.0 is.0 (clients_object bytes p.0 p.1 p.2 p.4.has_clients) (clients_object bytes is.0 is.1 is.2 is.3) in
-    is.4 p.3 (subst (λ ms. GivesCapacity (get_member (codes "capacity") ms) p.3) same p.4.given)
+    let same = one_object bytes p.0 is.0 (clients_object bytes p.0 p.1 p.2 p.3 p.4 p.6.has_clients) (clients_object bytes is.0 is.1 is.2 is.3 is.4 is.5) in
+    is.6 p.5 (subst (λ ms. GivesCapacity (get_member (codes "capacity") ms) p.5) same p.6.given)
 stopped bytes (Arms place) is p =
-    let same = one_object bytes p.0 is.0 (arms_object bytes p.0 p.1 p.2 p.3 p.4 p.5) (clients_object bytes is.0 is.1 is.2 is.5.has_clients) in
-    let given = subst (λ g. GivesArms 1 g p.4) (ap (λ ms. get_member (codes "arms") ms) same ∙ is.6) p.5.given in
-    right_nowhere (HaveArms 1) (arms_closed 1) is.4 given.0 place given.1 (p.4, given.2) is.7
+    let same = one_object bytes p.0 is.0 (arms_object bytes p.0 p.1 p.2 p.3 p.4 p.5 p.6 p.7) (clients_object bytes is.0 is.1 is.2 is.3 is.4 is.7.has_clients) in
+    let sites = one_of_sites bytes p.0 is.0 p.1 is.1 (sites_of_clients bytes p.0 p.1 p.2 p.3 p.4 p.7.has_capacity.has_clients)
+    (sites_of_clients bytes is.0 is.1 is.2 is.3 is.4 is.7.has_clients) in
+    let given = subst (λ g. GivesArms p.1 g p.6) (ap (λ ms. get_member (codes "arms") ms) same ∙ is.8) p.7.given in
+    right_nowhere (HaveArms is.1) (arms_closed is.1) is.6 given.0 place given.1 (subst (λ n. HaveArms n given.0) sites (p.6, given.2)) is.9
 stopped bytes (Steps place) is p =
-    let same = one_object bytes is.0 p.0 (arms_object bytes is.0 is.1 is.2 is.3 is.4 is.6) (arms_object bytes p.0 p.1 p.2 p.3 p.4 p.6) in
-    let value = one_value (codes "steps") is.0 p.0 is.5 (list p.5) same is.7 p.7 in
-    let clients = one_of_clients bytes p.0 is.0 p.1 is.1 p.2 is.2 p.6.has_capacity.has_clients is.6.has_capacity.has_clients in
-    right_nowhere (HaveSteps 1 (length is.2)) (steps_closed 1 (length is.2)) is.5 p.5 place value
-    (subst (λ cs. HaveSteps 1 (length cs) p.5) clients p.8) is.8
+    let same = one_object bytes is.0 p.0 (arms_object bytes is.0 is.1 is.2 is.3 is.4 is.5 is.6 is.8) (arms_object bytes p.0 p.1 p.2 p.3 p.4 p.5 p.6 p.8) in
+    let in_p = p.8.has_capacity.has_clients in
+    let in_is = is.8.has_capacity.has_clients in
+    let sites = one_of_sites bytes p.0 is.0 p.1 is.1 (sites_of_clients bytes p.0 p.1 p.2 p.3 p.4 in_p) (sites_of_clients bytes is.0 is.1 is.2 is.3 is.4 in_is) in
+    let value = one_value (codes "steps") is.0 p.0 is.7 (list p.7) same is.9 p.9 in
+    let clients = one_of_clients bytes p.0 is.0 p.1 is.1 p.2 is.2 p.3 is.3 p.4 is.4 in_p in_is in
+    right_nowhere (HaveSteps is.1 (length is.4)) (steps_closed is.1 (length is.4)) is.7 p.7 place value
+    (subst (λ n. HaveSteps n (length is.4) p.7) sites (subst (λ cs. HaveSteps p.1 (length cs) p.7) clients p.10)) is.10
 
 few : (place : Place) → stage place < 10
 few TooLong = omega arith
@@ -140,7 +154,19 @@ few (Steps place) = omega arith
 -- bytes that spell a scenario are refused nowhere
 pub read_nowhere_refused : (bytes : List ℕ) (s : Scenario) (place : Place) → IsReading bytes s → ¬ IsRefusedAt bytes place
 read_nowhere_refused bytes s place is refused =
-    let all : Passed 10 bytes = (is.members, is.declared, s.clients, s.capacity, s.arms, is.values, is.has_arms, is.spelled, (s.steps, is.are)) in
+    let all : Passed 10 bytes = (
+      is.members,
+      s.catalog.sites,
+      s.catalog.tolerated,
+      is.declared,
+      s.clients,
+      s.capacity,
+      s.arms,
+      is.values,
+      is.has_arms,
+      is.spelled,
+      (s.steps, is.are),
+    ) in
     stopped bytes place refused (fewer bytes (suc (stage place)) 10 (omega (arith, few place)) all)
 
 not_before : (bytes : List ℕ) (place other : Place) → IsRefusedAt bytes place → IsRefusedAt bytes other → ¬ (stage place < stage other)
@@ -153,25 +179,37 @@ same_place bytes Key Key e a b = refl
 same_place bytes Sites Sites e a b = refl
 same_place bytes F F e a b = refl
 same_place bytes (Containers m) (Containers n) e a b =
-    let same = one_object bytes a.0 b.0 a.2.has_sites.has_keys.is_object b.2.has_sites.has_keys.is_object in
-    let value = one_value (codes "containers") a.0 b.0 a.1 b.1 same a.3 b.3 in
-    ap Containers (one_place (HaveContainers 1) (containers_closed 1) b.1 m n (subst (λ v. IsWrongAt (HaveContainers 1) v m) value a.4) b.4)
+    let same = one_object bytes a.0 b.0 a.4.has_sites.has_keys.is_object b.4.has_sites.has_keys.is_object in
+    let sites = one_of_sites bytes a.0 b.0 a.1 b.1 a.4.has_sites b.4.has_sites in
+    let value = one_value (codes "containers") a.0 b.0 a.3 b.3 same a.5 b.5 in
+    let wrong = subst (λ v. IsWrongAt (HaveContainers a.1) v m) value a.6 in
+    ap Containers (one_place (HaveContainers b.1) (containers_closed b.1) b.3 m n (subst (λ k. IsWrongAt (HaveContainers k) b.3 m) sites wrong) b.6)
 same_place bytes (Clients m) (Clients n) e a b =
-    let same = one_object bytes a.0 b.0 (containers_object bytes a.0 a.1 a.3) (containers_object bytes b.0 b.1 b.3) in
-    let value = one_value (codes "clients") a.0 b.0 a.2 b.2 same a.4 b.4 in
-    ap Clients (one_place (HaveClients 1) (clients_closed 1) b.2 m n (subst (λ v. IsWrongAt (HaveClients 1) v m) value a.5) b.5)
+    let same = one_object bytes a.0 b.0 (containers_object bytes a.0 a.1 a.2 a.3 a.5) (containers_object bytes b.0 b.1 b.2 b.3 b.5) in
+    let sites = one_of_sites bytes a.0 b.0 a.1 b.1 a.5.has_tolerated.has_sites b.5.has_tolerated.has_sites in
+    let value = one_value (codes "clients") a.0 b.0 a.4 b.4 same a.6 b.6 in
+    let wrong = subst (λ v. IsWrongAt (HaveClients a.1) v m) value a.7 in
+    ap Clients (one_place (HaveClients b.1) (clients_closed b.1) b.4 m n (subst (λ k. IsWrongAt (HaveClients k) b.4 m) sites wrong) b.7)
 same_place bytes Capacity Capacity e a b = refl
 same_place bytes (Arms m) (Arms n) e a b =
-    let same = one_object bytes a.0 b.0 (clients_object bytes a.0 a.1 a.2 a.5.has_clients) (clients_object bytes b.0 b.1 b.2 b.5.has_clients) in
-    let value = one_value (codes "arms") a.0 b.0 a.4 b.4 same a.6 b.6 in
-    ap Arms (one_place (HaveArms 1) (arms_closed 1) b.4 m n (subst (λ v. IsWrongAt (HaveArms 1) v m) value a.7) b.7)
+    let in_a = a.7.has_clients in
+    let in_b = b.7.has_clients in
+    let same = one_object bytes a.0 b.0 (clients_object bytes a.0 a.1 a.2 a.3 a.4 in_a) (clients_object bytes b.0 b.1 b.2 b.3 b.4 in_b) in
+    let sites = one_of_sites bytes a.0 b.0 a.1 b.1 (sites_of_clients bytes a.0 a.1 a.2 a.3 a.4 in_a) (sites_of_clients bytes b.0 b.1 b.2 b.3 b.4 in_b) in
+    let value = one_value (codes "arms") a.0 b.0 a.6 b.6 same a.8 b.8 in
+    let wrong = subst (λ v. IsWrongAt (HaveArms a.1) v m) value a.9 in
+    ap Arms (one_place (HaveArms b.1) (arms_closed b.1) b.6 m n (subst (λ k. IsWrongAt (HaveArms k) b.6 m) sites wrong) b.9)
 same_place bytes (Steps m) (Steps n) e a b =
-    let same = one_object bytes a.0 b.0 (arms_object bytes a.0 a.1 a.2 a.3 a.4 a.6) (arms_object bytes b.0 b.1 b.2 b.3 b.4 b.6) in
-    let value = one_value (codes "steps") a.0 b.0 a.5 b.5 same a.7 b.7 in
-    let clients = one_of_clients bytes a.0 b.0 a.1 b.1 a.2 b.2 a.6.has_capacity.has_clients b.6.has_capacity.has_clients in
-    let wrong = subst (λ v. IsWrongAt (HaveSteps 1 (length a.2)) v m) value a.8 in
-    ap Steps (one_place (HaveSteps 1 (length b.2)) (steps_closed 1 (length b.2)) b.5 m n
-    (subst (λ cs. IsWrongAt (HaveSteps 1 (length cs)) b.5 m) clients wrong) b.8)
+    let in_a = a.8.has_capacity.has_clients in
+    let in_b = b.8.has_capacity.has_clients in
+    let same = one_object bytes a.0 b.0 (arms_object bytes a.0 a.1 a.2 a.3 a.4 a.5 a.6 a.8) (arms_object bytes b.0 b.1 b.2 b.3 b.4 b.5 b.6 b.8) in
+    let sites = one_of_sites bytes a.0 b.0 a.1 b.1 (sites_of_clients bytes a.0 a.1 a.2 a.3 a.4 in_a) (sites_of_clients bytes b.0 b.1 b.2 b.3 b.4 in_b) in
+    let value = one_value (codes "steps") a.0 b.0 a.7 b.7 same a.9 b.9 in
+    let clients = one_of_clients bytes a.0 b.0 a.1 b.1 a.2 b.2 a.3 b.3 a.4 b.4 in_a in_b in
+    let wrong = subst (λ v. IsWrongAt (HaveSteps a.1 (length a.4)) v m) value a.10 in
+    let of_clients = subst (λ cs. IsWrongAt (HaveSteps a.1 (length cs)) b.7 m) clients wrong in
+    ap Steps (one_place (HaveSteps b.1 (length b.4)) (steps_closed b.1 (length b.4)) b.7 m n
+    (subst (λ k. IsWrongAt (HaveSteps k (length b.4)) b.7 m) sites of_clients) b.10)
 same_place bytes place other e a b = absurd (omega (arith, e))
 
 -- bytes are refused at one place

@@ -25,13 +25,13 @@ pub record IsFront (values : List Data) (front : List Item) : Type 0 where
   pub ends : length front < length values → HoldsAt SpellsNoContainer values (length front)
 
 -- the catalog of the containers that the value spells
-pub record IsCatalog (sites : ℕ) (value : Data) (catalog : Catalog) : Type 0 where
+pub record IsCatalog (sites tolerated : ℕ) (value : Data) (catalog : Catalog) : Type 0 where
   pub values : List Data
   pub declared : List Item
   pub spelled : value ≡ list values
   pub are : AreContainers sites values declared
   pub of_sites : catalog.sites ≡ sites
-  pub none_tolerated : catalog.tolerated ≡ 0
+  pub of_tolerated : catalog.tolerated ≡ tolerated
   pub containers : catalog.containers ≡ containers_of declared
 
 -- the client may stand behind these: its site is there, and has room

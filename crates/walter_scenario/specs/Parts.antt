@@ -9,7 +9,7 @@ use Rattle.walter_base.specs.Catalogs.{Item, AreRight}
 use Rattle.walter_scenario.specs.declared.scenario.Arm.{Arm}
 use Rattle.walter_scenario.specs.declared.scenario.Client.{Client}
 use Rattle.walter_scenario.specs.declared.scenario.Step.{Step}
-use Rattle.walter_scenario.specs.declared.scenario.Step.TheVariants.{Call, Stop, Restart, Arm as Armed}
+use Rattle.walter_scenario.specs.declared.scenario.Step.TheVariants.{Call, Deliver, Advance, Tick, Stop, Restart, Arm as Armed}
 
 -- a whole number
 abbrev pub whole : ℕ → Data
@@ -71,16 +71,28 @@ pub record IsArm (sites : ℕ) (arm : Arm) : Type 0 where
   pub last : arm.nth ≤ 1000000
   pub fits : arm.choice < 2 ^ 64
 
--- a step: a word, and a client's number, or a site's, or an arm
+-- a step: a word, and a client's number, or a site's, or two sites' and a packet's number, or two sites', or an arm
 abbrev pub step_spelled : Step → Data
 step_spelled (Call client) = list (string (codes "call") ∷ whole client ∷ [])
+step_spelled (Deliver to from nth) = list (string (codes "deliver") ∷ whole to.0 ∷ whole from.0 ∷ whole nth ∷ [])
+step_spelled (Advance at from) = list (string (codes "advance") ∷ whole at.0 ∷ whole from.0 ∷ [])
+step_spelled (Tick site) = list (string (codes "tick") ∷ whole site.0 ∷ [])
 step_spelled (Stop site) = list (string (codes "stop") ∷ whole site.0 ∷ [])
 step_spelled (Restart site) = list (string (codes "restart") ∷ whole site.0 ∷ [])
 step_spelled (Armed arm) = list (string (codes "arm") ∷ arm_items arm)
 
--- the client or the site of a step is there
+-- both sites are there, and they are different
+pub record ArePeers (sites site other : ℕ) : Type 0 where
+  pub there : site < sites
+  pub other_there : other < sites
+  pub apart : site ≢ other
+
+-- the client or the sites of a step are there, a packet comes from another site, and its number fits
 abbrev pub IsStep : ℕ → ℕ → Step → Type 0
 IsStep sites clients (Call client) = client < clients
+IsStep sites clients (Deliver to from nth) = ArePeers sites to.0 from.0 × (1 ≤ nth) × (nth < 2 ^ 32)
+IsStep sites clients (Advance at from) = ArePeers sites at.0 from.0
+IsStep sites clients (Tick site) = site.0 < sites
 IsStep sites clients (Stop site) = site.0 < sites
 IsStep sites clients (Restart site) = site.0 < sites
 IsStep sites clients (Armed arm) = IsArm sites arm

@@ -5,6 +5,7 @@ use Rattle.serde_json.specs.Data.{Data, Members, no_members, member, object}
 use Rattle.serde_json.specs.Find.{get_member}
 use Rattle.serde_json.specs.Read.{read}
 use Rattle.walter_base.specs.Catalogs.{Item, containers_of}
+use Rattle.walter_base.specs.Vectors.{most_sites}
 use Rattle.walter_scenario.specs.declared.place.Place.{Place}
 use Rattle.walter_scenario.specs.declared.place.Place.TheVariants.{TooLong, Json, Key, Sites, F, Containers, Clients, Capacity, Arms, Steps}
 use Rattle.walter_scenario.specs.declared.place.ReadFault.{ReadFault}
@@ -62,75 +63,89 @@ pub record HasKeys (bytes : List ℕ) (members : Members) : Type 0 where
   pub is_object : IsJsonObject bytes members
   pub keys : AreKeys members
 
--- there is one site
-pub record HasSites (bytes : List ℕ) (members : Members) : Type 0 where
+-- there are so many sites
+pub record HasSites (bytes : List ℕ) (members : Members) (sites : ℕ) : Type 0 where
   pub has_keys : HasKeys bytes members
-  pub one : HasMember members (codes "sites") (whole 1)
+  pub spelled : HasMember members (codes "sites") (whole sites)
+  pub some : 1 ≤ sites
+  pub most : sites ≤ most_sites
 
--- of which none may be lost
-pub record HasTolerated (bytes : List ℕ) (members : Members) : Type 0 where
-  pub has_sites : HasSites bytes members
-  pub none : HasMember members (codes "f") (whole 0)
+-- of which so many may be lost
+pub record HasTolerated (bytes : List ℕ) (members : Members) (sites tolerated : ℕ) : Type 0 where
+  pub has_sites : HasSites bytes members sites
+  pub spelled : HasMember members (codes "f") (whole tolerated)
+  pub fewer : tolerated < sites
 
 -- with these containers
-pub record HasContainers (bytes : List ℕ) (members : Members) (declared : List Item) : Type 0 where
-  pub has_tolerated : HasTolerated bytes members
+pub record HasContainers (bytes : List ℕ) (members : Members) (sites tolerated : ℕ) (declared : List Item) : Type 0 where
+  pub has_tolerated : HasTolerated bytes members sites tolerated
   pub values : List Data
   pub spelled : HasMember members (codes "containers") (list values)
-  pub are : AreContainers 1 values declared
+  pub are : AreContainers sites values declared
 
 -- and these clients
-pub record HasClients (bytes : List ℕ) (members : Members) (declared : List Item) (clients : List Client) : Type 0 where
-  pub has_containers : HasContainers bytes members declared
+pub record HasClients (bytes : List ℕ) (members : Members) (sites tolerated : ℕ)
+    (declared : List Item) (clients : List Client) : Type 0 where
+  pub has_containers : HasContainers bytes members sites tolerated declared
   pub values : List Data
   pub spelled : HasMember members (codes "clients") (list values)
-  pub are : AreClients 1 values clients
+  pub are : AreClients sites values clients
 
 -- and this capacity
-pub record HasCapacity (bytes : List ℕ) (members : Members) (declared : List Item) (clients : List Client) (capacity : ℕ) : Type 0 where
-  pub has_clients : HasClients bytes members declared clients
+pub record HasCapacity (bytes : List ℕ) (members : Members) (sites tolerated : ℕ)
+    (declared : List Item) (clients : List Client) (capacity : ℕ) : Type 0 where
+  pub has_clients : HasClients bytes members sites tolerated declared clients
   pub given : GivesCapacity (get_member (codes "capacity") members) capacity
 
 -- and these arms
-pub record HasArms (bytes : List ℕ) (members : Members) (declared : List Item) (clients : List Client) (capacity : ℕ) (arms : List Arm) : Type 0 where
-  pub has_capacity : HasCapacity bytes members declared clients capacity
-  pub given : GivesArms 1 (get_member (codes "arms") members) arms
+pub record HasArms (bytes : List ℕ) (members : Members) (sites tolerated : ℕ)
+    (declared : List Item) (clients : List Client) (capacity : ℕ) (arms : List Arm) : Type 0 where
+  pub has_capacity : HasCapacity bytes members sites tolerated declared clients capacity
+  pub given : GivesArms sites (get_member (codes "arms") members) arms
 
 -- the scenario is what the bytes spell
 pub record IsReading (bytes : List ℕ) (s : Scenario) : Type 0 where
   pub members : Members
   pub declared : List Item
-  pub has_arms : HasArms bytes members declared s.clients s.capacity s.arms
-  pub sites : s.catalog.sites ≡ 1
-  pub tolerated : s.catalog.tolerated ≡ 0
+  pub has_arms : HasArms bytes members s.catalog.sites s.catalog.tolerated declared s.clients s.capacity s.arms
   pub containers : s.catalog.containers ≡ containers_of declared
   pub values : List Data
   pub spelled : HasMember members (codes "steps") (list values)
-  pub are : AreSteps 1 (length s.clients) values s.steps
+  pub are : AreSteps s.catalog.sites (length s.clients) values s.steps
 
 -- the place is the first that is wrong: what comes before it is right, and it isn't
 abbrev pub IsRefusedAt : List ℕ → Place → Type 0
 IsRefusedAt bytes TooLong = 16777216 < length bytes
 IsRefusedAt bytes Json = IsWithinLimit bytes × ((members : Members) → ¬ IsJsonObject bytes members)
 IsRefusedAt bytes Key = IsWithinLimit bytes × ((members : Members) × IsJsonObject bytes members × ¬ AreKeys members)
-IsRefusedAt bytes Sites = (members : Members) × HasKeys bytes members × ¬ HasMember members (codes "sites") (whole 1)
-IsRefusedAt bytes F = (members : Members) × HasSites bytes members × ¬ HasMember members (codes "f") (whole 0)
+IsRefusedAt bytes Sites =
+    (members : Members) × HasKeys bytes members
+    × ((sites : ℕ) → 1 ≤ sites → sites ≤ most_sites → ¬ HasMember members (codes "sites") (whole sites))
+IsRefusedAt bytes F =
+    (members : Members) × (sites : ℕ) × HasSites bytes members sites
+    × ((tolerated : ℕ) → tolerated < sites → ¬ HasMember members (codes "f") (whole tolerated))
 IsRefusedAt bytes (Containers place) =
-    (members : Members) × (value : Data) × HasTolerated bytes members × HasMember members (codes "containers") value
-    × IsWrongAt (λ values. (declared : List Item) × AreContainers 1 values declared) value place
+    (members : Members) × (sites : ℕ) × (tolerated : ℕ) × (value : Data) × HasTolerated bytes members sites tolerated
+    × HasMember members (codes "containers") value
+    × IsWrongAt (λ values. (declared : List Item) × AreContainers sites values declared) value place
 IsRefusedAt bytes (Clients place) =
-    (members : Members) × (declared : List Item) × (value : Data) × HasContainers bytes members declared × HasMember members (codes "clients") value
-    × IsWrongAt (λ values. (clients : List Client) × AreClients 1 values clients) value place
+    (members : Members) × (sites : ℕ) × (tolerated : ℕ) × (declared : List Item) × (value : Data)
+    × HasContainers bytes members sites tolerated declared × HasMember members (codes "clients") value
+    × IsWrongAt (λ values. (clients : List Client) × AreClients sites values clients) value place
 IsRefusedAt bytes Capacity =
-    (members : Members) × (declared : List Item) × (clients : List Client) × HasClients bytes members declared clients
+    (members : Members) × (sites : ℕ) × (tolerated : ℕ) × (declared : List Item) × (clients : List Client)
+    × HasClients bytes members sites tolerated declared clients
     × ((capacity : ℕ) → ¬ GivesCapacity (get_member (codes "capacity") members) capacity)
 IsRefusedAt bytes (Arms place) =
-    (members : Members) × (declared : List Item) × (clients : List Client) × (capacity : ℕ) × (value : Data) × HasCapacity bytes members declared clients capacity
-    × HasMember members (codes "arms") value × IsWrongAt (λ values. (arms : List Arm) × AreArms 1 values arms) value place
+    (members : Members) × (sites : ℕ) × (tolerated : ℕ) × (declared : List Item) × (clients : List Client)
+    × (capacity : ℕ) × (value : Data)
+    × HasCapacity bytes members sites tolerated declared clients capacity × HasMember members (codes "arms") value
+    × IsWrongAt (λ values. (arms : List Arm) × AreArms sites values arms) value place
 IsRefusedAt bytes (Steps place) =
-    (members : Members) × (declared : List Item) × (clients : List Client) × (capacity : ℕ) × (arms : List Arm) × (value : Data)
-    × HasArms bytes members declared clients capacity arms × HasMember members (codes "steps") value
-    × IsWrongAt (λ values. (steps : List Step) × AreSteps 1 (length clients) values steps) value place
+    (members : Members) × (sites : ℕ) × (tolerated : ℕ) × (declared : List Item) × (clients : List Client)
+    × (capacity : ℕ) × (arms : List Arm) × (value : Data)
+    × HasArms bytes members sites tolerated declared clients capacity arms × HasMember members (codes "steps") value
+    × IsWrongAt (λ values. (steps : List Step) × AreSteps sites (length clients) values steps) value place
 
 abbrev pub IsReadFault : List ℕ → ReadFault → Type 0
 IsReadFault bytes (Refused place detail) = IsRefusedAt bytes place

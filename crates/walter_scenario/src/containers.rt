@@ -50,16 +50,22 @@ fn front_of(alloc: Global, values: &[Value]) -> Result<Vec<(u32, Kind, SiteId)>,
     Ok(front)
 }
 
-/// The catalog of the containers that the value spells, for so many sites.
-pub fn catalog_of(alloc: Global, sites: u8, value: &Value) -> Result<Catalog, ReadFault>
+/// The catalog of the containers that the value spells, for so many sites, of which so many may be lost.
+pub fn catalog_of(
+    alloc: Global,
+    sites: u8,
+    tolerated: u8,
+    value: &Value,
+) -> Result<Catalog, ReadFault>
     requires some { 0 < sites }
     requires most { sites ≤ most_sites }
-    ensures ok { IfOk result (IsCatalog sites (view value.now)) }
+    requires fewer { tolerated < sites }
+    ensures ok { IfOk result (IsCatalog sites tolerated (view value.now)) }
     ensures fault { IfErr result (IsContainersFault sites (view value.now)) }
 {
     let values = items_of(value).ok_or(Place::Containers(0))?;
     let front = front_of(alloc, values)?;
-    match Catalog::build(alloc, sites, 0, &front) {
+    match Catalog::build(alloc, sites, tolerated, &front) {
         Ok(catalog) if front.len() == values.len() => Ok(catalog),
         Ok(_) => Err(ReadFault::from(Place::Containers(front.len()))),
         Err(CatalogFault::Bad { index }) => Err(ReadFault::from(Place::Containers(index))),

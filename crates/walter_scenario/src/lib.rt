@@ -9,6 +9,7 @@ mod faults;
 mod laws;
 mod lists;
 mod members;
+mod numbers;
 mod place;
 mod reading;
 mod scenario;

@@ -14,23 +14,23 @@ pub enum Place {
     /// A key is none of a scenario's, or one is wanting.
     #[error("the keys: wants sites, f, containers, clients and steps, and takes capacity and arms besides")]
     Key,
-    #[error("the number of sites: wants 1")]
+    #[error("sites: wants a whole number from 1 to 8")]
     Sites,
-    #[error("f: wants 0")]
+    #[error("f: wants a whole number below sites")]
     F,
     /// The first wrong container; 0 where the value is no list.
-    #[error(r#"container {0}: wants [number, "regular" or "cset", site] in a list, numbers below 2^32 that rise, a site below 1, at most 256"#)]
+    #[error(r#"container {0}: wants [number, "regular" or "cset", site] in a list, numbers below 2^32 that rise, a site below sites, at most 256"#)]
     Containers(usize),
     /// The first wrong client; 0 where the value is no list.
-    #[error("client {0}: wants [site, bytes] in a list, a site below 1, an even number of hex digits, at most 1024")]
+    #[error("client {0}: wants [site, bytes] in a list, a site below sites, an even number of hex digits, at most 1024 of each site")]
     Clients(usize),
     #[error("the capacity: wants a whole number from 19 to 1099511627776")]
     Capacity,
     /// The first wrong arm; 0 where the value is no list.
-    #[error("arm {0}: wants [site, nth, choice] in a list, a site below 1, an nth from 1 to 1000000, a choice below 2^64")]
+    #[error("arm {0}: wants [site, nth, choice] in a list, a site below sites, an nth from 1 to 1000000, a choice below 2^64")]
     Arms(usize),
     /// The first wrong step; 0 where the value is no list.
-    #[error(r#"step {0}: wants ["call", client], ["stop", site], ["restart", site] or ["arm", site, nth, choice] in a list, a client of the scenario, a site below 1, an nth from 1 to 1000000, a choice below 2^64"#)]
+    #[error(r#"step {0}: wants ["call", client], ["deliver", site, from, number], ["advance", site, from], ["tick", site], ["stop", site], ["restart", site] or ["arm", site, nth, choice] in a list, a client of the scenario, a site below sites, a from that is another one, a number from 1 to 4294967295, an nth from 1 to 1000000, a choice below 2^64"#)]
     Steps(usize),
 }
 

@@ -8,11 +8,11 @@ use crate::clients::clients_of;
 use crate::containers::catalog_of;
 use crate::lists::{Arms, Clients, Steps};
 use crate::members::{Parts, other_key, parts_of};
+use crate::numbers::{sites_of, tolerated_of};
 use crate::place::{Place, ReadFault};
 use crate::scenario::{LONGEST_TEXT, Scenario};
 use crate::steps::steps_of;
 use crate::text::{members_of, value_of};
-use crate::values::is_whole;
 use std::alloc::Global;
 
 /// The scenario that the parts spell.
@@ -20,17 +20,13 @@ fn scenario_of(alloc: Global, parts: Parts<'_>) -> Result<Scenario, ReadFault>
     ensures ok { IfOk result (IsReadingOf parts.entry) }
     ensures fault { IfErr result (IsFaultOf parts.entry) }
 {
-    if !is_whole(parts.sites, 1) {
-        return Err(ReadFault::from(Place::Sites));
-    }
-    if !is_whole(parts.tolerated, 0) {
-        return Err(ReadFault::from(Place::F));
-    }
-    let catalog = catalog_of(alloc, 1, parts.containers)?;
-    let clients = clients_of(alloc, 1, parts.clients)?;
+    let sites = sites_of(parts.sites).ok_or(Place::Sites)?;
+    let tolerated = tolerated_of(sites, parts.tolerated).ok_or(Place::F)?;
+    let catalog = catalog_of(alloc, sites, tolerated, parts.containers)?;
+    let clients = clients_of(alloc, sites, parts.clients)?;
     let capacity = capacity_of(parts.capacity).ok_or(Place::Capacity)?;
-    let arms = given_arms(alloc, 1, parts.arms)?;
-    let steps = steps_of(alloc, 1, clients.len(), parts.steps)?;
+    let arms = given_arms(alloc, sites, parts.arms)?;
+    let steps = steps_of(alloc, sites, clients.len(), parts.steps)?;
     Ok(Scenario {
         catalog,
         clients: Clients::from(clients),

@@ -39,6 +39,19 @@ pub struct Arm {
 pub enum Step {
     /// The client of this number has its turn.
     Call(u32),
+    /// The site `to` is handed the packet of this number, counted from 1, among those that `from` put out to it.
+    Deliver {
+        to: SiteId,
+        from: SiteId,
+        number: u32,
+    },
+    /// The site `at` is to commit the next transaction of `from`.
+    Advance {
+        at: SiteId,
+        from: SiteId,
+    },
+    /// The site is to say again what its peers may have missed.
+    Tick(SiteId),
     /// The site loses its memory.
     Stop(SiteId),
     /// The site is to come up.

@@ -1,17 +1,18 @@
-ghost use Rattle.std.specs.Prelude.{◌≡◌, ◌≢◌, ◌<◌, ◌≤◌, ◌^◌, ◌∷◌, [], ℕ, IfSome, IfNone, IfOk, IfErr};
+ghost use Rattle.std.specs.Prelude.{◌≡◌, ◌≢◌, ◌<◌, ◌≤◌, ◌^◌, ◌∷◌, [], ℕ, codes, IfSome, IfNone, IfOk, IfErr};
+ghost use Rattle.serde_json.specs.Data.{string};
 ghost use Rattle.serde_json.specs.View.{view};
-ghost use Rattle.walter_scenario.specs.declared.scenario.Arm.{Arm};
 ghost use Rattle.walter_scenario.specs.declared.scenario.Step.{Step};
 ghost use Rattle.walter_scenario.specs.Faults.{IsStepsFault};
 ghost use Rattle.walter_scenario.specs.Fronts.{ListsSteps};
-ghost use Rattle.walter_scenario.specs.Parts.{list, whole, step_spelled, IsArm, IsStep};
+ghost use Rattle.walter_scenario.specs.Parts.{list, whole, step_spelled, ArePeers, IsStep};
 
 use crate::arms::arm_from;
 use crate::place::{Place, ReadFault};
 use crate::scenario::Step;
-use crate::values::{four_of, is_string, items_of, pair_of, site_of, string_of, whole_of};
+use crate::values::{four_of, items_of, pair_of, site_of, string_of, triple_of, whole_of};
 use serde_json::Value;
 use std::alloc::Global;
+use walter_base::SiteId;
 
 /// The client that the value names, of so many.
 fn client_of(clients: usize, value: &Value) -> Option<u32>
@@ -25,8 +26,32 @@ fn client_of(clients: usize, value: &Value) -> Option<u32>
     (u64::from(client) < clients as u64).then_some(client)
 }
 
+/// The two sites that the values name, of so many. They are different.
+fn peers_of(sites: u8, site: &Value, other: &Value) -> Option<(SiteId, SiteId)>
+    ensures there { IfSome result (λ found. ArePeers sites found.0.0 found.1.0) }
+    ensures some { IfSome result
+        (λ found. (view site.now ≡ whole found.0.0) × (view other.now ≡ whole found.1.0)) }
+    ensures none { IfNone result ((m n : ℕ) → ArePeers sites m n
+        → view site.now ≡ whole m → view other.now ≢ whole n) }
+{
+    let site = site_of(sites, site)?;
+    let other = site_of(sites, other)?;
+    (site != other).then_some((site, other))
+}
+
+/// The number of a packet that the value is.
+fn packet_number_of(value: &Value) -> Option<u32>
+    ensures first { IfSome result (λ number. 1 ≤ number) }
+    ensures some { IfSome result (λ number. view value.now ≡ whole number) }
+    ensures none { IfNone result
+        ((number : ℕ) → 1 ≤ number → number < 2 ^ 32 → view value.now ≢ whole number) }
+{
+    let number = u32::try_from(whole_of(value)?).ok()?;
+    (number >= 1).then_some(number)
+}
+
 /// The step that a word and a number spell.
-fn short_step(sites: u8, clients: usize, word: &Value, number: &Value) -> Option<Step>
+fn step_of_one(sites: u8, clients: usize, word: &Value, number: &Value) -> Option<Step>
     requires { clients ≤ 2 ^ 32 }
     ensures there { IfSome result (IsStep sites clients) }
     ensures some { IfSome result
@@ -36,27 +61,81 @@ fn short_step(sites: u8, clients: usize, word: &Value, number: &Value) -> Option
 {
     match string_of(word)? {
         "call" => Some(Step::Call(client_of(clients, number)?)),
+        "tick" => Some(Step::Tick(site_of(sites, number)?)),
         "stop" => Some(Step::Stop(site_of(sites, number)?)),
         "restart" => Some(Step::Restart(site_of(sites, number)?)),
         _ => None,
     }
 }
 
-/// The step that an array of four items spells.
-fn long_step(sites: u8, value: &Value) -> Option<Step>
+/// The step that a word and two numbers spell.
+fn step_of_two(sites: u8, word: &Value, at: &Value, from: &Value) -> Option<Step>
+    ensures there { IfSome result (λ step. (clients : ℕ) → IsStep sites clients step) }
     ensures some { IfSome result
-        (λ step. (clients : ℕ) → IsStep sites clients step × (view value.now ≡ step_spelled step)) }
-    ensures none { IfNone result ((arm : Arm) → IsArm sites arm
-        → view value.now ≢ step_spelled (Step.Arm arm)) }
+        (λ step. list (view word.now ∷ view at.now ∷ view from.now ∷ []) ≡ step_spelled step) }
+    ensures none { IfNone result ((clients : ℕ) (step : Step) → IsStep sites clients step
+        → list (view word.now ∷ view at.now ∷ view from.now ∷ []) ≢ step_spelled step) }
 {
-    let (word, site, nth, choice) = four_of(value)?;
-    if !is_string(word, "arm") {
+    if string_of(word)? != "advance" {
         return None;
     }
+    let (at, from) = peers_of(sites, at, from)?;
+    Some(Step::Advance { at, from })
+}
+
+/// The step that hands over the packet that three values name.
+fn delivery_of(sites: u8, to: &Value, from: &Value, number: &Value) -> Option<Step>
+    ensures there { IfSome result (λ step. (clients : ℕ) → IsStep sites clients step) }
+    ensures some { IfSome result
+        (λ step. list (string (codes "deliver") ∷ view to.now ∷ view from.now ∷ view number.now ∷ [])
+        ≡ step_spelled step) }
+    ensures none { IfNone result ((clients : ℕ) (step : Step) → IsStep sites clients step
+        → list (string (codes "deliver") ∷ view to.now ∷ view from.now ∷ view number.now ∷ [])
+        ≢ step_spelled step) }
+{
+    let (to, from) = peers_of(sites, to, from)?;
+    let number = packet_number_of(number)?;
+    Some(Step::Deliver { to, from, number })
+}
+
+/// The step that arms a disk as three values say.
+#[tactic(auto, using(crate::proofs::Scripts::arms_nothing))]
+fn arming_of(sites: u8, site: &Value, nth: &Value, choice: &Value) -> Option<Step>
+    ensures there { IfSome result (λ step. (clients : ℕ) → IsStep sites clients step) }
+    ensures some { IfSome result
+        (λ step. list (string (codes "arm") ∷ view site.now ∷ view nth.now ∷ view choice.now ∷ [])
+        ≡ step_spelled step) }
+    ensures none { IfNone result ((clients : ℕ) (step : Step) → IsStep sites clients step
+        → list (string (codes "arm") ∷ view site.now ∷ view nth.now ∷ view choice.now ∷ [])
+        ≢ step_spelled step) }
+{
     Some(Step::Arm(arm_from(sites, site, nth, choice)?))
 }
 
-/// The step that the value spells, where its client or its site is there.
+/// The step that a word and three numbers spell.
+fn step_of_three(
+    sites: u8,
+    word: &Value,
+    first: &Value,
+    second: &Value,
+    third: &Value,
+) -> Option<Step>
+    ensures there { IfSome result (λ step. (clients : ℕ) → IsStep sites clients step) }
+    ensures some { IfSome result
+        (λ step. list (view word.now ∷ view first.now ∷ view second.now ∷ view third.now ∷ [])
+        ≡ step_spelled step) }
+    ensures none { IfNone result ((clients : ℕ) (step : Step) → IsStep sites clients step
+        → list (view word.now ∷ view first.now ∷ view second.now ∷ view third.now ∷ [])
+        ≢ step_spelled step) }
+{
+    match string_of(word)? {
+        "deliver" => delivery_of(sites, first, second, third),
+        "arm" => arming_of(sites, first, second, third),
+        _ => None,
+    }
+}
+
+/// The step that the value spells, where its client or its sites are there.
 fn step_of(sites: u8, clients: usize, value: &Value) -> Option<Step>
     requires { clients ≤ 2 ^ 32 }
     ensures some { IfSome result
@@ -64,10 +143,14 @@ fn step_of(sites: u8, clients: usize, value: &Value) -> Option<Step>
     ensures none { IfNone result
         ((step : Step) → IsStep sites clients step → view value.now ≢ step_spelled step) }
 {
-    match pair_of(value) {
-        Some((word, number)) => short_step(sites, clients, word, number),
-        None => long_step(sites, value),
+    if let Some((word, number)) = pair_of(value) {
+        return step_of_one(sites, clients, word, number);
     }
+    if let Some((word, at, from)) = triple_of(value) {
+        return step_of_two(sites, word, at, from);
+    }
+    let (word, first, second, third) = four_of(value)?;
+    step_of_three(sites, word, first, second, third)
 }
 
 /// The steps that the value spells, over so many sites and clients.

@@ -1,4 +1,4 @@
-ghost use Rattle.std.specs.Prelude.{◌≡◌, ◌≢◌, ◌<◌, ◌↔◌, ◌∷◌, [], ℕ, List, map, IsTrue, IfSome, IfNone};
+ghost use Rattle.std.specs.Prelude.{◌≡◌, ◌≢◌, ◌<◌, ◌∷◌, [], ℕ, List, map, IfSome, IfNone};
 ghost use Rattle.serde_json.specs.Data.{Data, string};
 ghost use Rattle.serde_json.specs.View.{view};
 ghost use Rattle.walter_scenario.specs.Parts.{list, whole};
@@ -75,26 +75,21 @@ pub fn string_of(value: &Value) -> Option<&str>
     value.as_str()
 }
 
+/// The whole number that the value is, below the limit.
+pub fn number_below(limit: u8, value: &Value) -> Option<u8>
+    ensures there { IfSome result (λ number. number < limit) }
+    ensures some { IfSome result (λ number. view value.now ≡ whole number) }
+    ensures none { IfNone result ((number : ℕ) → number < limit → view value.now ≢ whole number) }
+{
+    let number = u8::try_from(whole_of(value)?).ok()?;
+    (number < limit).then_some(number)
+}
+
 /// The site that the value names, of so many.
 pub fn site_of(sites: u8, value: &Value) -> Option<SiteId>
     ensures there { IfSome result (λ site. site.0 < sites) }
     ensures some { IfSome result (λ site. view value.now ≡ whole site.0) }
     ensures none { IfNone result ((site : ℕ) → site < sites → view value.now ≢ whole site) }
 {
-    let site = u8::try_from(whole_of(value)?).ok()?;
-    (site < sites).then_some(SiteId(site))
-}
-
-/// Whether the value is this whole number.
-pub fn is_whole(value: &Value, n: u64) -> bool
-    ensures { IsTrue result ↔ (view value.now ≡ whole n) }
-{
-    whole_of(value) == Some(n)
-}
-
-/// Whether the value is this text.
-pub fn is_string(value: &Value, text: &str) -> bool
-    ensures { IsTrue result ↔ (view value.now ≡ string text.now) }
-{
-    string_of(value).is_some_and(|found| found == text)
+    Some(SiteId(number_below(sites, value)?))
 }

@@ -19,9 +19,13 @@ const FULL: &str =
 
 const STEPS: &str = r#"[["call",1],["call",0],["call",1]]"#;
 
-/// The good scenario with one text in place of another.
-fn changed(alloc: Global, old: &str, new: &str) -> Result<String, Fail> {
-    let (before, after) = GOOD.split_once(old).ok_or("not in the scenario")?;
+/// Three sites, of which one may be lost, and each step that is of two sites or more.
+const SEVERAL: &str =
+    r#"{"sites":3,"f":1,"arms":[[1,1,0]],"containers":[[1,"regular",2]],"clients":[[2,""]],"steps":[["deliver",0,2,1],["advance",2,1],["tick",1],["call",0]]}"#;
+
+/// The scenario with one text in place of another.
+fn changed(alloc: Global, scenario: &str, old: &str, new: &str) -> Result<String, Fail> {
+    let (before, after) = scenario.split_once(old).ok_or("not in the scenario")?;
     Ok(format!(in alloc; "{before}{new}{after}")?)
 }
 
@@ -128,7 +132,7 @@ fn a_full_scenario_is_read(rt: HostRuntime) -> Result<(), Fail> {
 }
 
 /// What of the good scenario is replaced, by what, and where it is refused then.
-const TABLE: [(&str, &str, Option<Place>); 60] = [
+const TABLE: [(&str, &str, Option<Place>); 61] = [
     (GOOD, "[", Some(Place::Json)),
     (GOOD, "[]", Some(Place::Json)),
     (GOOD, "", Some(Place::Json)),
@@ -136,7 +140,8 @@ const TABLE: [(&str, &str, Option<Place>); 60] = [
     ("\"f\":0,", "\"f\":0,\"g\":0,", Some(Place::Key)),
     ("\"f\":0,", "\"F\":0,", Some(Place::Key)),
     ("\"sites\":1", "\"sites\":9", Some(Place::Sites)),
-    ("\"sites\":1", "\"sites\":2", Some(Place::Sites)),
+    ("\"sites\":1", "\"sites\":0", Some(Place::Sites)),
+    ("\"sites\":1", "\"sites\":8", None),
     ("\"sites\":1", "\"sites\":\"1\"", Some(Place::Sites)),
     ("\"sites\":1", "\"sites\":1.0", Some(Place::Sites)),
     ("\"sites\":1", "\"sites\":-0", Some(Place::Sites)),
@@ -241,17 +246,118 @@ const TABLE: [(&str, &str, Option<Place>); 60] = [
     ("[\"call\",0]", "[\"arm\",0]", Some(Place::Steps(1))),
     ("[\"call\",0]", "[\"arm\",0,0,0]", Some(Place::Steps(1))),
     ("[\"call\",0]", "[\"arm\",1,1,0]", Some(Place::Steps(1))),
-    ("[\"call\",0]", "[\"tick\",0]", Some(Place::Steps(1))),
+    ("[\"call\",0]", "[\"tick\",0]", None),
     ("[\"call\",0]", "[0,0]", Some(Place::Steps(1))),
     ("\"f\":0", "\"f\":1,\"f\":0", None),
     ("\"f\":0", "\"f\":0,\"f\":1", Some(Place::F)),
 ];
 
+/// What of the scenario of several sites is replaced, by what, and where it is refused then.
+const TABLE_OF_SEVERAL: [(&str, &str, Option<Place>); 24] = [
+    (SEVERAL, SEVERAL, None),
+    ("\"sites\":3", "\"sites\":8", None),
+    ("\"sites\":3", "\"sites\":9", Some(Place::Sites)),
+    ("\"f\":1", "\"f\":0", None),
+    ("\"f\":1", "\"f\":2", None),
+    ("\"f\":1", "\"f\":3", Some(Place::F)),
+    ("\"f\":1", "\"f\":256", Some(Place::F)),
+    ("\"sites\":3,\"f\":1", "\"sites\":8,\"f\":8", Some(Place::F)),
+    (
+        "\"sites\":3,\"f\":1",
+        "\"sites\":2,\"f\":1",
+        Some(Place::Containers(0)),
+    ),
+    (
+        "[1,\"regular\",2]",
+        "[1,\"regular\",3]",
+        Some(Place::Containers(0)),
+    ),
+    ("[2,\"\"]", "[3,\"\"]", Some(Place::Clients(0))),
+    ("[1,1,0]", "[3,1,0]", Some(Place::Arms(0))),
+    ("[\"deliver\",0,2,1]", "[\"deliver\",2,0,4294967295]", None),
+    (
+        "[\"deliver\",0,2,1]",
+        "[\"deliver\",2,2,1]",
+        Some(Place::Steps(0)),
+    ),
+    (
+        "[\"deliver\",0,2,1]",
+        "[\"deliver\",3,2,1]",
+        Some(Place::Steps(0)),
+    ),
+    (
+        "[\"deliver\",0,2,1]",
+        "[\"deliver\",0,3,1]",
+        Some(Place::Steps(0)),
+    ),
+    (
+        "[\"deliver\",0,2,1]",
+        "[\"deliver\",0,2,0]",
+        Some(Place::Steps(0)),
+    ),
+    (
+        "[\"deliver\",0,2,1]",
+        "[\"deliver\",0,2,4294967296]",
+        Some(Place::Steps(0)),
+    ),
+    (
+        "[\"deliver\",0,2,1]",
+        "[\"deliver\",0,2]",
+        Some(Place::Steps(0)),
+    ),
+    (
+        "[\"advance\",2,1]",
+        "[\"advance\",1,1]",
+        Some(Place::Steps(1)),
+    ),
+    (
+        "[\"advance\",2,1]",
+        "[\"advance\",2,3]",
+        Some(Place::Steps(1)),
+    ),
+    (
+        "[\"advance\",2,1]",
+        "[\"advance\",2,1,1]",
+        Some(Place::Steps(1)),
+    ),
+    ("[\"tick\",1]", "[\"tick\",3]", Some(Place::Steps(2))),
+    ("[\"tick\",1]", "[\"tick\",1,2]", Some(Place::Steps(2))),
+];
+
+#[test]
+fn a_scenario_of_several_sites_is_read(rt: HostRuntime) -> Result<(), Fail> {
+    let alloc = rt.alloc();
+    let scenario = read(alloc, SEVERAL.as_bytes())?;
+    assert_eq!(rt;
+        (scenario.catalog.sites, scenario.catalog.tolerated),
+        (3, 1)
+    );
+    let steps = [
+        Step::Deliver {
+            to: SiteId(0),
+            from: SiteId(2),
+            number: 1,
+        },
+        Step::Advance {
+            at: SiteId(2),
+            from: SiteId(1),
+        },
+        Step::Tick(SiteId(1)),
+        Step::Call(0),
+    ];
+    assert_eq!(rt; scenario.steps.as_slice(), steps.as_slice());
+    for (old, new, place) in TABLE_OF_SEVERAL {
+        let text = changed(alloc, SEVERAL, old, new)?;
+        assert!(rt; is_refused_at(alloc, text.as_bytes(), place), "{new}");
+    }
+    Ok(())
+}
+
 #[test]
 fn each_wrong_place_is_named(rt: HostRuntime) -> Result<(), Fail> {
     let alloc = rt.alloc();
     for (old, new, place) in TABLE {
-        let text = changed(alloc, old, new)?;
+        let text = changed(alloc, GOOD, old, new)?;
         assert!(rt; is_refused_at(alloc, text.as_bytes(), place), "{new}");
     }
     assert!(rt; is_refused_at(alloc, &[b'"', 0xff, b'"'], Some(Place::Json)));
@@ -273,7 +379,7 @@ fn each_wrong_place_is_named(rt: HostRuntime) -> Result<(), Fail> {
             Some(Place::Clients(1024)),
         ),
     ] {
-        let text = changed(alloc, old, &new)?;
+        let text = changed(alloc, GOOD, old, &new)?;
         assert!(rt; is_refused_at(alloc, text.as_bytes(), place));
     }
     Ok(())
@@ -307,17 +413,21 @@ fn faults_have_texts(rt: HostRuntime) -> Result<(), Fail> {
             "\"f\":0,\"seed\":0,",
             "key \"seed\": a scenario has none",
         ),
-        ("\"sites\":1", "\"sites\":2", "the number of sites: wants 1"),
-        ("\"f\":0", "\"f\":1", "f: wants 0"),
+        (
+            "\"sites\":1",
+            "\"sites\":9",
+            "sites: wants a whole number from 1 to 8",
+        ),
+        ("\"f\":0", "\"f\":1", "f: wants a whole number below sites"),
         (
             "4294967295",
             "1",
-            "container 1: wants [number, \"regular\" or \"cset\", site] in a list, numbers below 2^32 that rise, a site below 1, at most 256",
+            "container 1: wants [number, \"regular\" or \"cset\", site] in a list, numbers below 2^32 that rise, a site below sites, at most 256",
         ),
         (
             "00fFAb",
             "0",
-            "client 1: wants [site, bytes] in a list, a site below 1, an even number of hex digits, at most 1024",
+            "client 1: wants [site, bytes] in a list, a site below sites, an even number of hex digits, at most 1024 of each site",
         ),
         (
             "\"f\":0",
@@ -327,15 +437,15 @@ fn faults_have_texts(rt: HostRuntime) -> Result<(), Fail> {
         (
             "\"f\":0",
             "\"f\":0,\"arms\":{}",
-            "arm 0: wants [site, nth, choice] in a list, a site below 1, an nth from 1 to 1000000, a choice below 2^64",
+            "arm 0: wants [site, nth, choice] in a list, a site below sites, an nth from 1 to 1000000, a choice below 2^64",
         ),
         (
             "[\"call\",0]",
             "[]",
-            "step 1: wants [\"call\", client], [\"stop\", site], [\"restart\", site] or [\"arm\", site, nth, choice] in a list, a client of the scenario, a site below 1, an nth from 1 to 1000000, a choice below 2^64",
+            "step 1: wants [\"call\", client], [\"deliver\", site, from, number], [\"advance\", site, from], [\"tick\", site], [\"stop\", site], [\"restart\", site] or [\"arm\", site, nth, choice] in a list, a client of the scenario, a site below sites, a from that is another one, a number from 1 to 4294967295, an nth from 1 to 1000000, a choice below 2^64",
         ),
     ] {
-        let scenario = changed(alloc, old, new)?;
+        let scenario = changed(alloc, GOOD, old, new)?;
         assert_eq!(rt;
             fault_text(alloc, scenario.as_bytes())?.as_str(),
             text,

@@ -11,7 +11,7 @@ returns-in-Ok-clause-ok c =
     let front = c.in_ok-front.front.items in
     let spelled = MatchOption-at_some _ _ _ c.in_ok-values.ensures.ok_part c.items_of.ensures.some in
     let built = rw c.deref.ensures.value at c.in-Ok.ensures in
-    is_catalog c.args.sites (view c.args.value.now) (map view values) front c.in-Ok.catalog spelled c.in_ok-front.ensures
+    is_catalog c.args.sites c.args.tolerated (view c.args.value.now) (map view values) front c.in-Ok.catalog spelled c.in_ok-front.ensures
     (omega (arith, c.len.ensures, c.if-len-values.true, length-map values view)) built.sites built.tolerated built.containers built.right
 
 pub returns-in-Ok-2-clause-fault : goal.returns-in-Ok-2-clause-fault
