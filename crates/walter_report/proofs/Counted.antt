@@ -10,25 +10,31 @@ use Rattle.walter_rules.specs.Knowledge.{site_at}
 use Rattle.walter_report.specs.Sites.{counts}
 use Rattle.walter_report.specs.Adding.{one_more}
 
-map-range_same : (f g : ℕ → ℕ) (a n : ℕ) → ((k : ℕ) → a ≤ k → g k ≡ f k) → map g (range_with_len a n) ≡ map f (range_with_len a n)
+map-range_same : (f g : ℕ → ℕ) (a n : ℕ) → ((k : ℕ) → a ≤ k → g k ≡ f k)
+    → map g (range_with_len a n) ≡ map f (range_with_len a n)
 map-range_same f g a zero same = refl
-map-range_same f g a (suc n) same = λ j. same a (omega arith) j ∷ map-range_same f g (a + 1) n (λ k le. same k (omega arith)) j
+map-range_same f g a (suc n) same = λ j. same a (omega arith) j ∷ map-range_same f g (a + 1) n
+    (λ k le. same k (omega arith)) j
 
 -- one more at a place, in a list by places
-map-range_one : (f g : ℕ → ℕ) (a n place at : ℕ) → at ≡ a + place → g at ≡ f at + 1 → ((k : ℕ) → (k ≡ at → ⊥) → g k ≡ f k)
+map-range_one : (f g : ℕ → ℕ) (a n place at : ℕ) → at ≡ a + place → g at ≡ f at + 1
+    → ((k : ℕ) → (k ≡ at → ⊥) → g k ≡ f k)
     → map g (range_with_len a n) ≡ one_more place (map f (range_with_len a n))
 map-range_one f g a zero place at is here others = refl
 map-range_one f g a (suc n) zero at is here others =
     let first : at ≡ a = omega (arith, is) in
-    λ j. subst (λ k. g k ≡ f k + 1) first here j ∷ map-range_same f g (a + 1) n (λ k le. others k (λ e. omega (arith, e, is))) j
+    λ j. subst (λ k. g k ≡ f k + 1) first here j ∷ map-range_same f g (a + 1) n
+    (λ k le. others k (λ e. omega (arith, e, is))) j
 map-range_one f g a (suc n) (suc place) at is here others =
     λ j. others a (λ e. omega (arith, e, is)) j ∷ map-range_one f g (a + 1) n place at (omega (arith, is)) here others j
 
-count_by_yes : (test : Record → Bool) (recs : List Record) (rec : Record) → test rec ≡ true → count_by test (recs ++ rec ∷ []) ≡ count_by test recs + 1
+count_by_yes : (test : Record → Bool) (recs : List Record) (rec : Record) → test rec ≡ true
+    → count_by test (recs ++ rec ∷ []) ≡ count_by test recs + 1
 count_by_yes test recs rec is =
     sum_by_push (λ x. cond (test x) 1 0) recs rec ∙ ap (λ (b : Bool). count_by test recs + cond {A = ℕ} b 1 0) is
 
-count_by_no : (test : Record → Bool) (recs : List Record) (rec : Record) → test rec ≡ false → count_by test (recs ++ rec ∷ []) ≡ count_by test recs
+count_by_no : (test : Record → Bool) (recs : List Record) (rec : Record) → test rec ≡ false
+    → count_by test (recs ++ rec ∷ []) ≡ count_by test recs
 count_by_no test recs rec is =
     let more : count_by test (recs ++ rec ∷ []) ≡ count_by test recs + 0 =
     sum_by_push (λ x. cond (test x) 1 0) recs rec ∙ ap (λ (b : Bool). count_by test recs + cond {A = ℕ} b 1 0) is in
@@ -40,7 +46,8 @@ apart a b differ = elim (nat_eq a b) as (λ t. nat_eq a b ≡ t → t ≡ false)
   | false ↦ λ other. refl
 ] refl
 
-none_by : (tells : SiteId → Record → Bool) (a n : ℕ) → replicate n 0 ≡ map (λ k. count_by (tells (site_at k)) []) (range_with_len a n)
+none_by : (tells : SiteId → Record → Bool) (a n : ℕ)
+    → replicate n 0 ≡ map (λ k. count_by (tells (site_at k)) []) (range_with_len a n)
 none_by tells a zero = refl
 none_by tells a (suc n) = ap (λ t. 0 ∷ t) (none_by tells (a + 1) n)
 
@@ -50,19 +57,23 @@ counts_none tells sites = none_by tells 0 sites
 
 -- a record that tells of a commit of one site
 counts_one : (tells : SiteId → Record → Bool) (recs : List Record) (rec : Record) (sites place : ℕ)
-    → ((k : ℕ) → tells (site_at k) rec ≡ nat_eq place k) → counts sites tells (recs ++ rec ∷ []) ≡ one_more place (counts sites tells recs)
+    → ((k : ℕ) → tells (site_at k) rec ≡ nat_eq place k)
+    → counts sites tells (recs ++ rec ∷ []) ≡ one_more place (counts sites tells recs)
 counts_one tells recs rec sites place is =
-    map-range_one (λ k. count_by (tells (site_at k)) recs) (λ k. count_by (tells (site_at k)) (recs ++ rec ∷ [])) 0 sites place place (omega arith)
+    map-range_one (λ k. count_by (tells (site_at k)) recs)
+    (λ k. count_by (tells (site_at k)) (recs ++ rec ∷ [])) 0 sites place place (omega arith)
     (count_by_yes (tells (site_at place)) recs rec (is place ∙ eq-eqb place place refl))
     (λ k differ. count_by_no (tells (site_at k)) recs rec (is k ∙ apart place k differ))
 
-pub counted_one : (tells : SiteId → Record → Bool) (recs : List Record) (rec : Record) (sites place : ℕ) (old new : List ℕ)
+pub counted_one : (tells : SiteId → Record → Bool) (recs : List Record) (rec : Record) (sites place : ℕ)
+    (old new : List ℕ)
     → ((k : ℕ) → tells (site_at k) rec ≡ nat_eq place k) → new ≡ one_more place old → old ≡ counts sites tells recs
     → new ≡ counts sites tells (recs ++ rec ∷ [])
 counted_one tells recs rec sites place old new is more before =
     more ∙ ap (one_more place) before ∙ sym (counts_one tells recs rec sites place is)
 
-pub one_more-set : (place : ℕ) (ns : List ℕ) → place < length ns → one_more place ns ≡ set ns place (get_or ns place 0 + 1)
+pub one_more-set : (place : ℕ) (ns : List ℕ) → place < length ns
+    → one_more place ns ≡ set ns place (get_or ns place 0 + 1)
 one_more-set place [] within = absurd (omega arith)
 one_more-set zero (n ∷ ns) within = refl
 one_more-set (suc place) (n ∷ ns) within = ap (λ t. n ∷ t) (one_more-set place ns (omega (arith, within)))
@@ -72,12 +83,14 @@ one_more-past place [] past = refl
 one_more-past zero (n ∷ ns) past = absurd (omega arith)
 one_more-past (suc place) (n ∷ ns) past = ap (λ t. n ∷ t) (one_more-past place ns (omega (arith, past)))
 
-pub All-at_most_more : (most : ℕ) (ns : List ℕ) → All (λ n. n ≤ most) ns → All (λ n. n ≤ most + 1) ns
+All-at_most_more : (most : ℕ) (ns : List ℕ) → All (λ n. n ≤ most) ns → All (λ n. n ≤ most + 1) ns
 All-at_most_more most ns all i d within = omega (arith, all i d within)
 
 pub All-one_more : (most place : ℕ) (ns : List ℕ) → All (λ n. n ≤ most) ns → All (λ n. n ≤ most + 1) (one_more place ns)
 All-one_more most place [] all = All-nil (λ n. n ≤ most + 1)
 All-one_more most zero (n ∷ ns) all =
-    All-cons (λ m. m ≤ most + 1) (n + 1) ns (omega (arith, All-head (λ m. m ≤ most) n ns all)) (All-at_most_more most ns (All-tail (λ m. m ≤ most) n ns all))
+    All-cons (λ m. m ≤ most + 1) (n + 1) ns (omega (arith, All-head (λ m. m ≤ most) n ns all))
+    (All-at_most_more most ns (All-tail (λ m. m ≤ most) n ns all))
 All-one_more most (suc place) (n ∷ ns) all =
-    All-cons (λ m. m ≤ most + 1) n (one_more place ns) (omega (arith, All-head (λ m. m ≤ most) n ns all)) (All-one_more most place ns (All-tail (λ m. m ≤ most) n ns all))
+    All-cons (λ m. m ≤ most + 1) n (one_more place ns) (omega (arith, All-head (λ m. m ≤ most) n ns all))
+    (All-one_more most place ns (All-tail (λ m. m ≤ most) n ns all))

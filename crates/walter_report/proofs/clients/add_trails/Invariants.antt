@@ -4,4 +4,5 @@ use Rattle.walter_report.specs.Tallies.{AddEach}
 use Rattle.walter_report.proofs.clients.add_trails.Given as goal
 
 abbrev pub invariant-loop-trail : goal.invariant-loop-trail
-invariant-loop-trail l = AddEach l.initial.tallies l.tallies (λ c. flat_map (replies_to c) (take l.trail-index l.trails))
+invariant-loop-trail l = AddEach l.initial.tallies l.tallies
+    (λ c. flat_map (replies_to c) (take l.trail-index l.trails))

@@ -21,4 +21,5 @@ loop-number-preserved c =
     let has = subst (λ (t : Tally). Has t replies) (sym c.index.ensures)
     (c.in_ok-tallies.ensures.replies number tally (omega (arith, within, c.in_ok-tallies.ensures.clients))) in
     ap (λ t. t ++ rest) (c.in_ok-push_client_line.ensures replies has) ∙ append_assoc before line rest
-    ∙ ap (λ t. before ++ t) (sym (client_lines-more clients number client trails within c.index-clients-number.is)) ∙ c.loop-number.invariant
+    ∙ ap (λ t. before ++ t) (sym (client_lines-more clients number client trails within c.index-clients-number.is))
+    ∙ c.loop-number.invariant

@@ -12,14 +12,17 @@ returns-in-Own-clause-counts c = λ sites recs before.
 
 pub returns-in-Own-clause-most : goal.returns-in-Own-clause-most
 returns-in-Own-clause-most c = λ most all.
-    subst (λ (ns : List ℕ). All (λ n. n ≤ most + 1) ns) (sym c.count_one.ensures) (All-one_more most c.args.site c.args.got.now all)
+    subst (λ (ns : List ℕ). All (λ n. n ≤ most + 1) ns) (sym c.count_one.ensures)
+    (All-one_more most c.args.site c.args.got.now all)
 
 pub returns-in-Got-clause-counts : goal.returns-in-Got-clause-counts
 returns-in-Got-clause-counts c = λ sites recs before.
     let i = site_at c.args.site in
     counted_one (is_got i) recs c.args.stable.now sites c.from.result c.args.got.now c.count_one-in-Got.new.counts
-    (λ k. ap (is_got i (site_at k)) c.in-Got.is ∙ ap (λ p. nat_eq p k) (sym c.from.ensures)) c.count_one-in-Got.ensures before
+    (λ k. ap (is_got i (site_at k)) c.in-Got.is ∙ ap (λ p. nat_eq p k) (sym c.from.ensures))
+    c.count_one-in-Got.ensures before
 
 pub returns-in-Got-clause-most : goal.returns-in-Got-clause-most
 returns-in-Got-clause-most c = λ most all.
-    subst (λ (ns : List ℕ). All (λ n. n ≤ most + 1) ns) (sym c.count_one-in-Got.ensures) (All-one_more most c.from.result c.args.got.now all)
+    subst (λ (ns : List ℕ). All (λ n. n ≤ most + 1) ns) (sym c.count_one-in-Got.ensures)
+    (All-one_more most c.from.result c.args.got.now all)

@@ -12,14 +12,17 @@ returns-in-Own-clause-counts c = λ sites recs before.
 
 pub returns-in-Own-clause-most : goal.returns-in-Own-clause-most
 returns-in-Own-clause-most c = λ most all.
-    subst (λ (ns : List ℕ). All (λ n. n ≤ most + 1) ns) (sym c.count_one.ensures) (All-one_more most c.args.site c.args.seen.now all)
+    subst (λ (ns : List ℕ). All (λ n. n ≤ most + 1) ns) (sym c.count_one.ensures)
+    (All-one_more most c.args.site c.args.seen.now all)
 
 pub returns-in-Seen-clause-counts : goal.returns-in-Seen-clause-counts
 returns-in-Seen-clause-counts c = λ sites recs before.
     let i = site_at c.args.site in
     counted_one (is_seen i) recs c.args.stable.now sites c.from.result c.args.seen.now c.count_one-in-Seen.new.counts
-    (λ k. ap (is_seen i (site_at k)) c.in-Seen.is ∙ ap (λ p. nat_eq p k) (sym c.from.ensures)) c.count_one-in-Seen.ensures before
+    (λ k. ap (is_seen i (site_at k)) c.in-Seen.is ∙ ap (λ p. nat_eq p k) (sym c.from.ensures))
+    c.count_one-in-Seen.ensures before
 
 pub returns-in-Seen-clause-most : goal.returns-in-Seen-clause-most
 returns-in-Seen-clause-most c = λ most all.
-    subst (λ (ns : List ℕ). All (λ n. n ≤ most + 1) ns) (sym c.count_one-in-Seen.ensures) (All-one_more most c.from.result c.args.seen.now all)
+    subst (λ (ns : List ℕ). All (λ n. n ≤ most + 1) ns) (sym c.count_one-in-Seen.ensures)
+    (All-one_more most c.from.result c.args.seen.now all)

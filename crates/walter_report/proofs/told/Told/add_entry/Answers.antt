@@ -21,5 +21,6 @@ returns c = λ sites up recs tells.
       seen = tells.seen;
       log = tells.log;
     } in
-    subst (λ (rs : List Record). OnOk c.add_stable-2.result (Tells c.add_stable-2.new.self sites i now rs)) (append_assoc recs kept wrote)
+    subst (λ (rs : List Record). OnOk c.add_stable-2.result (Tells c.add_stable-2.new.self sites i now rs))
+    (append_assoc recs kept wrote)
     (c.add_stable-2.ensures.tells sites now (recs ++ kept) first)

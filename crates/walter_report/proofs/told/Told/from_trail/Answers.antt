@@ -7,7 +7,8 @@ use Rattle.walter_report.proofs.told.Told.from_trail.Goals as goal
 pub add_entry-requires : goal.add_entry-requires
 add_entry-requires c =
     let within : c.loop-entry.entry-index < length c.args.trail.now = search rules in
-    omega (arith, within, c.loop-entry.invariant.records, records_of_front c.args.trail.now c.loop-entry.entry-index (omega (arith, within)))
+    let few = records_of_front c.args.trail.now c.loop-entry.entry-index (omega (arith, within)) in
+    omega (arith, within, c.loop-entry.invariant.records, few)
 
 pub loop-entry-preserved : goal.loop-entry-preserved
 loop-entry-preserved c =
