@@ -13,7 +13,7 @@ use Rattle.walter_report.specs.Sites.{up_from, is_up, record_in, records}
 newest_last : (e : Entry) (older : List Entry) → reverse (e ∷ older) ≡ reverse older ++ e ∷ []
 newest_last e older = reverse-append (e ∷ []) older
 
-up_from-append : (up : Bool) (es others : List Entry) → up_from up (es ++ others) ≡ up_from (up_from up es) others
+pub up_from-append : (up : Bool) (es others : List Entry) → up_from up (es ++ others) ≡ up_from (up_from up es) others
 up_from-append up [] others = refl
 up_from-append up (e ∷ es) others = up_from-append (up_after e.event e.came.outcome up) es others
 

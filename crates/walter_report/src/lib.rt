@@ -4,7 +4,9 @@
 mod clients;
 mod laws;
 mod sites;
+mod tally;
 mod text;
+mod told;
 mod traces;
 
 pub use laws::as_it_stands;

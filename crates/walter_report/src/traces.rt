@@ -7,7 +7,7 @@ ghost use Rattle.walter_report.specs.Reports.{reply_in, HaveFrames};
 ghost use Rattle.walter_report.specs.Traces.{HasSpellings, HaveSpellings, call_word, packet_word, input_text, event_text, outcome_text, record_text, send_text, sends_text, happened_part, records_part, sends_part, trace_line, trace_text};
 ghost use Rattle.walter_base.specs.Vectors.{most_sites};
 
-use crate::clients::push_reply;
+use crate::tally::push_reply;
 use crate::text::list_of;
 use std::alloc::Global;
 use walter_base::{Bytes, Call, Mem, Packet, Record, Reply, Request, SiteId};
