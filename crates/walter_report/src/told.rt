@@ -11,7 +11,7 @@ ghost use Rattle.walter_rules.specs.Learning.{epoch_after};
 ghost use Rattle.walter_rules.specs.Standing.{up_after};
 
 use std::alloc::Global;
-use walter_base::{Mem, Record, Reply};
+use walter_base::{MaybeRecord, Mem, Record, Reply};
 use walter_rules::{Entry, Event, Outcome};
 
 // What the line of a site tells. Of each site it has how many of its commits the site has, its own among them, and how
@@ -67,13 +67,13 @@ impl Told {
         self.add_stable(site, &entry.came.wrote)
     }
 
-    fn add_stable(&mut self, site: usize, stable: &Option<Record>) -> Mem<()>
+    fn add_stable(&mut self, site: usize, stable: &MaybeRecord) -> Mem<()>
         requires { self.old.records + 1 < 2 ^ 64 }
         ensures tells { (sites : ℕ) (up : Bool) (recs : List Stable) → Tells self.old sites (site_at site) up recs
             → OnOk result (Tells self.new sites (site_at site) up (recs ++ record_in stable.now)) }
         ensures counted { self.new.records ≤ self.old.records + 1 }
     {
-        match stable {
+        match stable.as_ref() {
             Some(record) => self.add_record(site, record),
             None => Ok(()),
         }

@@ -10,7 +10,7 @@ ghost use Rattle.walter_base.specs.Vectors.{most_sites};
 use crate::tally::push_reply;
 use crate::text::list_of;
 use std::alloc::Global;
-use walter_base::{Bytes, Call, Mem, Packet, Record, Reply, Request, SiteId};
+use walter_base::{Bytes, Call, MaybeRecord, Mem, Packet, Reply, Request, SiteId};
 use walter_record::encode;
 use walter_rules::{Came, Entry, Event, Input, Outcome};
 use walter_trail::{Trail, merge};
@@ -214,11 +214,11 @@ fn text_of_reply(alloc: Global, reply: &Reply) -> Mem<String>
 }
 
 // The record in hex, or a dash.
-fn text_of_record(alloc: Global, found: &Option<Record>) -> Mem<String>
+fn text_of_record(alloc: Global, found: &MaybeRecord) -> Mem<String>
     requires { IfSome found.now CanBeRecorded }
     ensures { IfOk result (λ text. string_bytes text ≡ record_text found.now) }
 {
-    match found {
+    match found.as_ref() {
         Some(stable) => {
             let spelling = encode(alloc, stable)?;
             Ok(hex::encode(alloc, spelling.as_slice())?)
