@@ -16,7 +16,7 @@ use Rattle.walter_rules.specs.declared.event.Input.TheVariants.{Deliver}
 use Rattle.walter_rules.specs.Trails.{IsRightTrail}
 use Rattle.walter_runs.specs.Runs.{AreRightTrails}
 use Rattle.walter_scenario.specs.declared.scenario.Scenario.{Scenario}
-use Rattle.walter_cell.specs.Entries.{the_site, IsOfClients}
+use Rattle.walter_solo.specs.Entries.{the_site, IsOfClients}
 use Rattle.walter_cli.specs.Headline.{AreTold}
 
 abbrev site_at : ℕ → SiteId

@@ -26,13 +26,13 @@ use Rattle.walter_scenario.specs.declared.scenario.Arm.{Arm}
 use Rattle.walter_scenario.specs.declared.scenario.Scenario.{Scenario}
 use Rattle.walter_site.specs.Members.{IsShortOutcome}
 use Rattle.walter_trail.specs.Calls.{calls_of}
-use Rattle.walter_cell.specs.declared.cell.Cell.{Cell}
+use Rattle.walter_solo.specs.declared.cell.Cell.{Cell}
 use Rattle.walter_cli.specs.declared.ended.Fault.{Fault}
 use Rattle.walter_cli.specs.declared.ended.Fault.TheVariants.{Usage, Scenario as ScenarioFault, Read, Write, Memory, Rack, Journal}
-use Rattle.walter_cell.specs.Cells.{IsKnown, IsCell}
-use Rattle.walter_cell.specs.Entries.{the_site}
+use Rattle.walter_solo.specs.Cells.{IsKnown, IsCell}
+use Rattle.walter_solo.specs.Entries.{the_site}
 use Rattle.walter_cli.specs.Ending.{IsWriteFault, EndsRun}
-use Rattle.walter_cell.specs.Handled.{IsSized}
+use Rattle.walter_solo.specs.Handled.{IsSized}
 use Rattle.walter_cli.specs.Headline.{IsDiskOf, AreTold, IsRun, IsWholeRun}
 use Rattle.walter_cli.specs.Plays.{AreCallsOf, IsPlayed, AreArmed, ArmsMore, armed_by, all_arms, arms_of}
 use Rattle.walter_cli.proofs.Alone.{alone_tells}

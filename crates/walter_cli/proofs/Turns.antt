@@ -17,16 +17,16 @@ use Rattle.walter_scenario.specs.declared.scenario.Client.{Client}
 use Rattle.walter_scenario.specs.declared.scenario.Scenario.{Scenario}
 use Rattle.walter_scenario.specs.declared.scenario.Step.{Step}
 use Rattle.walter_trail.specs.Calls.{call_by, calls_of}
-use Rattle.walter_cell.specs.declared.cell.Acted.{Acted}
-use Rattle.walter_cell.specs.declared.cell.Acted.TheVariants as acted
-use Rattle.walter_cell.specs.declared.cell.Cell.{Cell}
-use Rattle.walter_cell.specs.declared.cell.Serve.{Serve}
-use Rattle.walter_cell.specs.declared.cell.Serve.TheVariants as serve
-use Rattle.walter_cell.specs.Cells.{IsSite, IsCell, IsLineAt, Grows, IsCallOf, TurnsTo, Acts, AreOwedAsMany}
-use Rattle.walter_cell.specs.Entries.{IsOfClients}
+use Rattle.walter_solo.specs.declared.cell.Acted.{Acted}
+use Rattle.walter_solo.specs.declared.cell.Acted.TheVariants as acted
+use Rattle.walter_solo.specs.declared.cell.Cell.{Cell}
+use Rattle.walter_solo.specs.declared.cell.Serve.{Serve}
+use Rattle.walter_solo.specs.declared.cell.Serve.TheVariants as serve
+use Rattle.walter_solo.specs.Cells.{IsSite, IsCell, IsLineAt, Grows, IsCallOf, TurnsTo, Acts, AreOwedAsMany}
+use Rattle.walter_solo.specs.Entries.{IsOfClients}
 use Rattle.walter_cli.specs.Plays.{IsTurn, IsEvent, Takes, Plays, AreArmed, ArmsMore, armed_by, arms_of, arms_by, spent, over, served, came}
-use Rattle.walter_cell.proofs.Asked.{of_disks_so}
-use Rattle.walter_cell.proofs.Lines.{calls_same}
+use Rattle.walter_solo.proofs.Asked.{of_disks_so}
+use Rattle.walter_solo.proofs.Lines.{calls_same}
 
 -- there is an element at each place before the end
 pub there_is : {X : Type 0} (xs : List X) (n : ℕ) → n < length xs → (x : X) × (slice_get xs n ≡ Some x)

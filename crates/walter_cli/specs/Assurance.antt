@@ -2,7 +2,7 @@
 -- where the scenario arms it. Nothing here has a premise on the disk.
 use Rattle.std.specs.Prelude.{◌≡◌, ◌≢◌, ◌<◌, ◌↔◌, ◌⊎◌, ℕ, Bool, List, [], ◌∷◌, count_by, Some, String}
 use Rattle.std.specs.Global.{Global}
-use Rattle.walter_cell.specs.Handled.{is_faulty}
+use Rattle.walter_solo.specs.Handled.{is_faulty}
 use Rattle.walter_rules.specs.declared.entry.Entry.{Entry}
 use Rattle.walter_scenario.specs.declared.place.Detail.{Detail}
 use Rattle.walter_scenario.specs.declared.place.Place.{Place}

@@ -1,7 +1,7 @@
 -- What the parts of a call of the program come to.
 use Rattle.std.specs.Prelude.{◌≡◌, ◌+◌, ◌<◌, ◌≤◌, ◌⊎◌, ℕ, Bool, List, [], ◌∷◌, Option, Some, None, IsSome, IfSome}
-use Rattle.walter_cell.specs.Cells.{IsCell, IsKnown}
-use Rattle.walter_cell.specs.declared.cell.Cell.{Cell}
+use Rattle.walter_solo.specs.Cells.{IsCell, IsKnown}
+use Rattle.walter_solo.specs.declared.cell.Cell.{Cell}
 use Rattle.walter_disk.specs.Racks.{IsFresh}
 use Rattle.walter_disk.specs.declared.disk.Disk.{Ghosts}
 use Rattle.walter_engine.specs.Begins.{HasNoRecord}

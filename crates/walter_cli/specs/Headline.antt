@@ -2,7 +2,7 @@
 use Rattle.std.specs.Prelude.{◌≡◌, ◌≢◌, ◌<◌, ◌≤◌, ◌↔◌, ◌⊎◌, ℕ, Bool, List, [], ◌∷◌, length, reverse, count_by, ◌++◌, slice_get, Option, Some, IfSome, String}
 use Rattle.std.specs.Global.{Global}
 use Rattle.walter_disk.specs.Disks.{DiskState}
-use Rattle.walter_cell.specs.Entries.{HaveRisingStamps, the_site}
+use Rattle.walter_solo.specs.Entries.{HaveRisingStamps, the_site}
 use Rattle.walter_engine.specs.Begins.{HasNoRecord}
 use Rattle.walter_engine.specs.Contents.{MayHaveRecords}
 use Rattle.walter_engine.specs.Steps.{opening}
@@ -24,7 +24,7 @@ use Rattle.walter_stream.specs.Streams.{AtEnd, TakesFront, Appends, AppendsFront
 use Rattle.walter_cli.specs.declared.ended.Ended.{Ended}
 use Rattle.walter_cli.specs.declared.ended.Fault.TheVariants as fault
 use Rattle.walter_cli.specs.declared.ended.JournalCause.{JournalCause}
-use Rattle.walter_cell.specs.Handled.{is_faulty}
+use Rattle.walter_solo.specs.Handled.{is_faulty}
 use Rattle.walter_cli.specs.Plays.{AreCallsOf, IsPlayed, all_arms}
 use Rattle.walter_cli.specs.Racks.{Racked, GivesBack, IsUntouched, HasFailed, HasCause}
 use Rattle.walter_cli.specs.Statuses.{status_of}

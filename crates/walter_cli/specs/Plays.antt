@@ -15,8 +15,8 @@ use Rattle.walter_rules.specs.declared.event.Event.{Event}
 use Rattle.walter_rules.specs.declared.event.Event.TheVariants as event
 use Rattle.walter_rules.specs.declared.event.Input.TheVariants as input
 use Rattle.walter_trail.specs.Calls.{calls_of}
-use Rattle.walter_cell.specs.Entries.{IsSpent, IsOfClients}
-use Rattle.walter_cell.specs.declared.cell.Cell.{Cell}
+use Rattle.walter_solo.specs.Entries.{IsSpent, IsOfClients}
+use Rattle.walter_solo.specs.declared.cell.Cell.{Cell}
 
 -- the turn of a client that sends these bytes: its next call comes to the trail; nothing does where it has made all its
 -- calls, or where the trail is spent

@@ -1,12 +1,12 @@
 ghost use Rattle.std.specs.Prelude.{◌≡◌, ◌++◌, [], ◌∷◌, ℕ, List, length, take, map, All, OnOk};
 ghost use Rattle.walter_scenario.specs.Parts.{IsArm, IsStep};
 ghost use Rattle.walter_engine.specs.Steps.{opening};
-ghost use Rattle.walter_cell.specs.Cells.{IsCell, IsKnown};
+ghost use Rattle.walter_solo.specs.Cells.{IsCell, IsKnown};
 ghost use Rattle.walter_cli.specs.Plays.{Takes, IsPlayed, AreArmed, ArmsMore, arms_of};
 
 use std::alloc::Global;
 use walter_base::Mem;
-use walter_cell::Cell;
+use walter_solo::Cell;
 use walter_disk::Disk;
 use walter_scenario::{Arm, Scenario, Step};
 

@@ -14,7 +14,7 @@ use crate::ended::{Ended, Fault, JournalCause};
 use crate::play::play;
 use std::alloc::Global;
 use walter_base::Mem;
-use walter_cell::{Cell, build};
+use walter_solo::{Cell, build};
 use walter_disk::Rack;
 use walter_engine::Unbegun;
 use walter_report::{report, trace};

@@ -1,5 +1,5 @@
 use Rattle.std.proofs.Common.{◌≡◌, ◌++◌, take}
-use Rattle.walter_cell.specs.Cells.{IsCell, IsKnown}
+use Rattle.walter_solo.specs.Cells.{IsCell, IsKnown}
 use Rattle.walter_cli.specs.Plays.{Plays, AreArmed, arms_of}
 use Rattle.walter_cli.proofs.play.play.Given as goal
 

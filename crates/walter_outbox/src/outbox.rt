@@ -1,7 +1,7 @@
-ghost use Rattle.std.specs.Prelude.{◌≡◌, ◌≤◌, ◌<◌, length, map};
+ghost use Rattle.std.specs.Prelude.{◌≡◌, ◌≤◌, ◌<◌, ℕ, length, map};
 ghost use Rattle.walter_packet.specs.Framed.{frame_of};
 ghost use Rattle.walter_rules.specs.Trails.{IsPutOut};
-ghost use Rattle.walter_cell.specs.Lanes.{carried_by, IsPut, HavePutMore};
+ghost use Rattle.walter_outbox.specs.Lanes.{carried_by, IsPut, HavePutMore};
 
 use walter_base::Sends;
 use walter_lane::{Outbound, Posted};
@@ -34,8 +34,12 @@ pub fn put_out(outs: &mut [Outbound], stamp: u64, sends: Sends, frames: Vec<Fram
 fn put(outs: &mut [Outbound], to: u8, posted: Posted) -> bool
     ensures { IsPut outs.old outs.new to posted result }
 {
-    let Some(lane) = outs.get_mut(usize::from(to)) else {
+    let place = usize::from(to);
+    if place >= outs.len() {
         return true;
-    };
-    lane.put(posted).is_ok()
+    }
+    match outs[place].put(posted) {
+        Ok(()) => true,
+        Err(_) => false,
+    }
 }

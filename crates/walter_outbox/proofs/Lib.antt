@@ -1,0 +1,5 @@
+pub mod Fields
+pub mod Carried
+pub mod Putting
+pub mod Grown
+pub mod Linked

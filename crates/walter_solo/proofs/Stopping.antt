@@ -1,0 +1,50 @@
+-- What a stop comes to in a cell.
+use Rattle.std.proofs.Common.{◌≡◌, ◌≤◌, ℕ, true, false, Option, Some, None, sym, ◌∙◌, if◌then◌else◌}
+use Rattle.std.specs.Prelude.{IfSome, is_some}
+use Rattle.walter_base.specs.declared.catalog.Catalog.{Catalog}
+use Rattle.walter_base.specs.declared.names.SiteId.{SiteId}
+use Rattle.walter_disk.specs.declared.disk.Disk.{Ghosts}
+use Rattle.walter_engine.specs.declared.engine.Engine.{Engine}
+use Rattle.walter_engine.specs.Engines.{is_up, OfDisks, Stands}
+use Rattle.walter_engine.specs.Steps.{only}
+use Rattle.walter_rules.specs.declared.entry.Came.{Came}
+use Rattle.walter_rules.specs.declared.event.Event.TheVariants.{Stop}
+use Rattle.walter_rules.specs.declared.outcome.Outcome.TheVariants.{Taken, Down}
+use Rattle.walter_rules.specs.Standing.{Standing, stands_after}
+use Rattle.walter_rules.specs.Trails.{Comes}
+use Rattle.walter_session.specs.Sessions.{Table, sessions_of}
+use Rattle.walter_solo.specs.Handled.{IsSized, IsFaulty}
+use Rattle.walter_solo.proofs.Asked.{stands_up, stands_owing}
+use Rattle.walter_solo.proofs.Grown.{stop_comes}
+use Rattle.walter_solo.proofs.Owing.{OwesAfter, owes_by_loss}
+
+-- what a stop comes to that lost these sessions, or found the site down
+abbrev pub came_of_stop : Option Table → Came
+came_of_stop lost = only (if is_some lost then Taken else Down)
+
+pub sized_stop : (lost : Option Table) → IsSized (came_of_stop lost)
+sized_stop None = record { outcome = tt; kept = tt; wrote = tt; flight = tt }
+sized_stop (Some lost) = record { outcome = tt; kept = tt; wrote = tt; flight = tt }
+
+module _ {D : Type 0} {g : Ghosts D} (catalog : Catalog) (capacity : ℕ) (i : SiteId) (old new : Engine D g) (S : Standing) (stands : Stands old S)
+    (down : S.up ≡ true → Stands new (stands_after catalog i S Stop (only Taken)))
+    (rests : is_up old ≡ false → Stands old S → Stands new S) where
+  pub stop_stands : (lost : Option Table) → is_some lost ≡ is_up old → Stands new (stands_after catalog i S Stop (came_of_stop lost))
+  stop_stands None none =
+      let T : Standing = stands_after catalog i S Stop (only Down) in stands_owing new S T.gone T.carried (rests (sym none) stands)
+  stop_stands (Some lost) some = down (sym (stands_up old S stands) ∙ sym some)
+
+  pub stop_owes : (lost : Option Table) → is_some lost ≡ is_up old → (S.up ≡ true → IfSome lost (λ table. sessions_of table ≡ S.knows.sessions))
+      → OwesAfter catalog i S Stop (came_of_stop lost) lost
+  stop_owes None none loses = owes_by_loss catalog i S Stop (only Down) None tt
+  stop_owes (Some lost) some loses = owes_by_loss catalog i S Stop (only Taken) (Some lost) (loses (sym (stands_up old S stands) ∙ sym some))
+
+  pub stopped_comes : (lost : Option Table) → is_some lost ≡ is_up old → Comes catalog capacity i S Stop (came_of_stop lost)
+  stopped_comes lost is = stop_comes catalog capacity i S (is_some lost) (sym (stands_up old S stands) ∙ sym is)
+
+-- a stop meets no fault
+pub stop_faults : {D : Type 0} {g : Ghosts D} → (lost : Option Table) (old new : Engine D g)
+    → OfDisks old new (λ x y. (g.known x).faults ≤ (g.known y).faults)
+    → OfDisks old new (λ x y. IsFaulty (came_of_stop lost) (g.known x).faults (g.known y).faults)
+stop_faults None old new rises = rises
+stop_faults (Some lost) old new rises = rises
