@@ -1,8 +1,7 @@
-pub mod Lines
-pub mod Owing
 pub mod Asked
 pub mod Sizes
-pub mod Grown
+pub mod Owing
+pub mod Ages
+pub mod Nodes
 pub mod Restarting
 pub mod Stopping
-pub mod Openings

@@ -19,7 +19,7 @@ use Rattle.walter_rules.specs.Learning.{after}
 use Rattle.walter_rules.specs.Sessions.{Sessions, session_in}
 use Rattle.walter_rules.specs.Standing.{Standing, settled, stands_after, goes_down, told, owed}
 use Rattle.walter_session.specs.Sessions.{Table, sessions_of}
-use Rattle.walter_cell.specs.Debts.{AreOwed, AreAfter, IsLoss, debt_after}
+use Rattle.walter_cell.specs.Debts.{AreOwed, AreAfter, IsLoss, OwesAfter, debt_after}
 
 -- what a client is told of goes by its own debt
 told_own : (event : Event) (outcome : Outcome) (gone : ℕ → Option Tid) (c : ℕ) → told event outcome gone c ≡ told event outcome (λ k. gone c) c
@@ -34,10 +34,6 @@ gone_by true event outcome sessions gone None client is = absurd is
 gone_by true event outcome sessions gone (Some lost) client is = ap (λ (ss : Sessions). owed (session_in client ss) (gone client)) (sym is)
 gone_by false event outcome sessions gone None client is = told_own event outcome gone client
 gone_by false event outcome sessions gone (Some lost) client is = absurd is
-
--- what each client is owed behind an event is worked out by its own debt
-abbrev pub OwesAfter : Catalog → SiteId → Standing → Event → Came → Option Table → Type 0
-OwesAfter catalog i S event c lost = (client : ℕ) → (stands_after catalog i S event c).gone client ≡ debt_after event c.outcome lost client (S.gone client)
 
 pub owes_by_loss : (catalog : Catalog) (i : SiteId) (S : Standing) (event : Event) (c : Came) (lost : Option Table)
     → IsLoss (goes_down event c.outcome) (after catalog i S.knows event c.outcome c.wrote).sessions lost → OwesAfter catalog i S event c lost

@@ -1,6 +1,8 @@
 -- What a restart comes to in a cell.
 use Rattle.std.proofs.Common.{◌≡◌, ◌<◌, ◌≤◌, ℕ, List, [], length, reverse, false, Option, Some, None, refl, ap, sym, ◌∙◌, subst, arith, inl, inr}
-use Rattle.std.specs.Prelude.{IfSome}
+use Rattle.std.specs.Prelude.{All, IfSome}
+use Rattle.walter_packet.specs.Spelling.{HasPacketSpelling}
+use Rattle.walter_rules.specs.Sending.{Send}
 use Rattle.walter_base.specs.declared.catalog.Catalog.{Catalog}
 use Rattle.walter_base.specs.declared.message.Record.{Record}
 use Rattle.walter_base.specs.declared.names.SiteId.{SiteId}
@@ -17,18 +19,16 @@ use Rattle.walter_engine.specs.Raises.{IsRefused}
 use Rattle.walter_engine.specs.Restarts.{Restarts}
 use Rattle.walter_engine.specs.Steps.{came_of_restart, kept_of, IsSizedRestart, IsFaultOfRestart}
 use Rattle.walter_rules.specs.declared.entry.Came.{Came}
-use Rattle.walter_rules.specs.declared.entry.Entry.{Entry}
 use Rattle.walter_rules.specs.declared.event.Event.TheVariants.{Restart}
 use Rattle.walter_rules.specs.Knowledge.{Knowledge}
 use Rattle.walter_rules.specs.Sessions.{Sessions, session_in}
 use Rattle.walter_rules.specs.Standing.{Standing, settled, stands_after, owed}
-use Rattle.walter_rules.specs.Trails.{Comes, IsFound, standing}
+use Rattle.walter_rules.specs.Trails.{Comes, IsFound}
 use Rattle.walter_site.specs.Members.{IsShortOutcome}
-use Rattle.walter_cell.specs.Entries.{the_site}
-use Rattle.walter_cell.specs.Handled.{IsSized, is_faulty, RisesIf, IsFaulty}
+use Rattle.walter_cell.specs.Debts.{OwesAfter}
+use Rattle.walter_cell.specs.Handled.{IsSized, is_faulty, RisesIf, IsFaulty, IsYoung, HasCome}
 use Rattle.walter_cell.proofs.Asked.{stands_owing}
-use Rattle.walter_cell.proofs.Grown.{epoch_left}
-use Rattle.walter_cell.proofs.Owing.{OwesAfter}
+use Rattle.walter_cell.proofs.Sizes.{none_sent}
 
 -- the same engine has the same disk
 pub same_disks : {D : Type 0} {g : Ghosts D} → (old new : Engine D g) → new ≡ old → OfDisks old new (λ x y. (g.known x).faults ≤ (g.known y).faults)
@@ -52,12 +52,35 @@ kept_came (restarted.Full kept need left) = refl
 kept_came (restarted.Refused kept why) = refl
 kept_came (restarted.NoMemory kept) = refl
 
-pub sized_restart : (came : Came) (answer : Restarted) → came ≡ came_of_restart answer → IsSizedRestart answer → IsSized came
-sized_restart came answer is sized = subst IsSized (sym is) (record {
+no_sends : (answer : Restarted) → (came_of_restart answer).sends ≡ []
+no_sends (restarted.Up kept wrote) = refl
+no_sends (restarted.Failed kept flight) = refl
+no_sends (restarted.Full kept need left) = refl
+no_sends (restarted.Refused kept why) = refl
+no_sends (restarted.NoMemory kept) = refl
+
+no_drops : (answer : Restarted) → (came_of_restart answer).dropped ≡ 0
+no_drops (restarted.Up kept wrote) = refl
+no_drops (restarted.Failed kept flight) = refl
+no_drops (restarted.Full kept need left) = refl
+no_drops (restarted.Refused kept why) = refl
+no_drops (restarted.NoMemory kept) = refl
+
+-- a restart puts nothing out, and loses nothing
+pub restart_sends : (came : Came) (answer : Restarted) → came ≡ came_of_restart answer → came.sends ≡ []
+restart_sends came answer is = ap (λ (c : Came). c.sends) is ∙ no_sends answer
+
+pub restart_drops : (came : Came) (answer : Restarted) → came ≡ came_of_restart answer → came.dropped ≡ 0
+restart_drops came answer is = ap (λ (c : Came). c.dropped) is ∙ no_drops answer
+
+pub sized_restart : (sites : ℕ) (came : Came) (answer : Restarted) → came ≡ came_of_restart answer → IsSizedRestart answer
+    → IsSized sites came
+sized_restart sites came answer is sized = subst (λ (c : Came). IsSized sites c) (sym is) (record {
   outcome = restart_fits answer;
   kept = subst (λ (r : Option Record). IfSome r CanBeRecorded) (sym (kept_came answer)) sized.0;
   wrote = sized.1;
   flight = sized.2;
+  sends = subst (λ (l : List Send). All (λ (s : Send). HasPacketSpelling sites s.1) l) (sym (no_sends answer)) (none_sent sites);
 })
 
 restart_rises : (answer : Restarted) (old new : ℕ) → IsFaultOfRestart answer old new → RisesIf (is_faulty (came_of_restart answer).outcome) old new
@@ -93,48 +116,46 @@ module _ {D : Type 0} {g : Ghosts D} where
   no_sessions S (Some (state.Up site journal)) is down = absurd cc
   no_sessions S (Some (state.Down disk)) is down = ap (λ (K : Knowledge). K.sessions) (sym is.rests)
 
--- a trail that isn't spent: the restart isn't refused
-module _ {D : Type 0} {g : Ghosts D} (catalog : Catalog) (capacity : ℕ) (old new : Engine D g) (es : List Entry) (answer : Restarted) (came : Came) where
-  abbrev S : Standing
-  S = standing catalog the_site (reverse es)
-
+-- a site whose epochs have not run out: its restart isn't refused
+module _ {D : Type 0} {g : Ghosts D} (catalog : Catalog) (capacity : ℕ) (i : SiteId) (old new : Engine D g) (S : Standing)
+    (answer : Restarted) (came : Came) where
   -- how it stands where the record in flight was found, or wasn't
   abbrev With : Option Record → Standing
-  With kept = settled catalog the_site kept S
+  With kept = settled catalog i kept S
 
-  not_refused : length es < 100000 → Restarts catalog capacity the_site S answer new → IsRefused answer
-      → Comes catalog capacity the_site (With (kept_of answer)) Restart (came_of_restart answer)
-  not_refused few restarts refused =
+  not_refused : IsYoung g catalog i S → Restarts catalog capacity i S answer new → IsRefused answer
+      → Comes catalog capacity i (With (kept_of answer)) Restart (came_of_restart answer)
+  not_refused young restarts refused =
       let kept : Option Record = refused.0 in
       let last = restarts.last kept refused.1 refused.2 in
-      let behind : Stands new (stands_after catalog the_site (With kept) Restart (came_of_restart (restarted.Refused kept refused.1))) =
-      subst (λ (a : Restarted). Stands new (stands_after catalog the_site (With (kept_of a)) Restart (came_of_restart a))) refused.2 restarts.stands in
+      let behind : Stands new (stands_after catalog i (With kept) Restart (came_of_restart (restarted.Refused kept refused.1))) =
+      subst (λ (a : Restarted). Stands new (stands_after catalog i (With (kept_of a)) Restart (came_of_restart a))) refused.2 restarts.stands in
       let stands : Stands new (With kept) = stands_owing new _ (With kept).gone (With kept).carried behind in
-      let less = epoch_left new catalog es kept few stands in
+      let less = young kept new stands in
       let most = last.1 in
       absurd (omega (arith, less, most))
 
-  pub known_restart : length es < 100000 → came ≡ came_of_restart answer → is_up old ≡ false → Stands old S → Restarts catalog capacity the_site S answer new
-      → IfSome came.kept (IsFound S Restart) × Comes catalog capacity the_site (With came.kept) Restart came
-      × Stands new (stands_after catalog the_site (With came.kept) Restart came) × OwesAfter catalog the_site (With came.kept) Restart came None
-  known_restart few is down stands restarts =
-      let comes : Comes catalog capacity the_site (With (kept_of answer)) Restart (came_of_restart answer) =
+  pub restart_comes : came ≡ came_of_restart answer → is_up old ≡ false → Stands old S → IsYoung g catalog i S
+      → Restarts catalog capacity i S answer new → HasCome catalog capacity i S Restart came None new
+  restart_comes is down stands young restarts =
+      let comes : Comes catalog capacity i (With (kept_of answer)) Restart (came_of_restart answer) =
       elim restarts.comes [
-        | inl refused ↦ not_refused few restarts refused
+        | inl refused ↦ not_refused young restarts refused
         | inr comes ↦ comes
       ] in
       let kept : came.kept ≡ kept_of answer = ap (λ (c : Came). c.kept) is ∙ kept_came answer in
       let none : (With (kept_of answer)).knows.sessions ≡ [] =
-      sessions_settled catalog the_site (kept_of answer) S ∙ no_sessions S old.state stands.state down in (
-        subst (λ (r : Option Record). IfSome r (IsFound S Restart)) (sym kept) restarts.found,
-        subst (λ (c : Came). Comes catalog capacity the_site (With came.kept) Restart c) (sym is)
-            (subst (λ (r : Option Record). Comes catalog capacity the_site (With r) Restart (came_of_restart answer)) (sym kept) comes),
-        subst (λ (c : Came). Stands new (stands_after catalog the_site (With came.kept) Restart c)) (sym is)
-            (subst (λ (r : Option Record). Stands new (stands_after catalog the_site (With r) Restart (came_of_restart answer))) (sym kept) restarts.stands),
-        subst (λ (c : Came). OwesAfter catalog the_site (With came.kept) Restart c None) (sym is)
-            (subst (λ (r : Option Record). OwesAfter catalog the_site (With r) Restart (came_of_restart answer) None) (sym kept)
-            (restart_owes catalog the_site (With (kept_of answer)) answer none)),
-      )
+      sessions_settled catalog i (kept_of answer) S ∙ no_sessions S old.state stands.state down in
+      record {
+        found = subst (λ (r : Option Record). IfSome r (IsFound S Restart)) (sym kept) restarts.found;
+        comes = subst (λ (c : Came). Comes catalog capacity i (With came.kept) Restart c) (sym is)
+            (subst (λ (r : Option Record). Comes catalog capacity i (With r) Restart (came_of_restart answer)) (sym kept) comes);
+        stands = subst (λ (c : Came). Stands new (stands_after catalog i (With came.kept) Restart c)) (sym is)
+            (subst (λ (r : Option Record). Stands new (stands_after catalog i (With r) Restart (came_of_restart answer))) (sym kept) restarts.stands);
+        owes = subst (λ (c : Came). OwesAfter catalog i (With came.kept) Restart c None) (sym is)
+            (subst (λ (r : Option Record). OwesAfter catalog i (With r) Restart (came_of_restart answer) None) (sym kept)
+            (restart_owes catalog i (With (kept_of answer)) answer none));
+      }
 
 -- the faults of the disk, where the engine has the one that it had
 pub same_faults : {D : Type 0} {g : Ghosts D} → (old new : Engine D g) → disk_in new ≡ disk_in old → OfDisks old new (λ x y. (g.known x).faults ≤ (g.known y).faults)

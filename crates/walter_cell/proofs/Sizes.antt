@@ -1,5 +1,7 @@
 -- What an input comes to can be spelled, tells of the faults that the disk met, and of the sessions that were lost.
-use Rattle.std.proofs.Common.{◌≡◌, ◌≢◌, ◌<◌, ◌≤◌, ◌⊎◌, ℕ, Bool, true, false, Option, Some, None, refl, ap, sym, ◌∙◌, subst, inl, inr}
+use Rattle.std.proofs.Common.{◌≡◌, ◌≢◌, ◌<◌, ◌≤◌, ◌⊎◌, ℕ, Bool, true, false, List, [], map, Option, Some, None, refl, ap, sym, ◌∙◌, subst, inl, inr}
+use Rattle.std.specs.Prelude.{All}
+use Rattle.std.proofs.lemmas.List.Elements.{All-nil}
 use Rattle.walter_base.specs.declared.catalog.Catalog.{Catalog}
 use Rattle.walter_base.specs.declared.message.Record.{Record}
 use Rattle.walter_base.specs.declared.message.Record.TheVariants.{Own, SlowBegin}
@@ -12,8 +14,11 @@ use Rattle.walter_engine.specs.declared.answers.Stepped.{Stepped}
 use Rattle.walter_engine.specs.declared.answers.Stepped.TheVariants.{Done, Failed, Full, Down, NoMemory}
 use Rattle.walter_engine.specs.declared.engine.Engine.{Engine}
 use Rattle.walter_engine.specs.Engines.{is_up, Stands}
-use Rattle.walter_engine.specs.Steps.{came_of_step, IsSizedStep, IsFaultOfStep, IsUntold, DoesLose}
+use Rattle.walter_engine.specs.Steps.{only, came_of_step, IsSizedStep, IsFaultOfStep, IsUntold, DoesLose}
 use Rattle.walter_engine.proofs.Staying.{fault_falls}
+use Rattle.walter_packet.specs.Framed.{frame_of}
+use Rattle.walter_packet.specs.Spelling.{HasPacketSpelling}
+use Rattle.walter_rules.specs.Sending.{Send}
 use Rattle.walter_rules.specs.declared.event.Event.TheVariants.{Given}
 use Rattle.walter_rules.specs.declared.event.Input.{Input}
 use Rattle.walter_rules.specs.declared.event.Input.TheVariants.{Call, Deliver, Advance, Tick}
@@ -25,7 +30,7 @@ use Rattle.walter_rules.specs.Standing.{Standing, goes_down}
 use Rattle.walter_rules.specs.Trails.{failure, fullness, want}
 use Rattle.walter_site.specs.Members.{IsShortOutcome}
 use Rattle.walter_cell.specs.Debts.{IsDebt, IsLoss}
-use Rattle.walter_cell.specs.Handled.{refused_first, lost_in, IsSized, is_faulty, RisesIf}
+use Rattle.walter_cell.specs.Handled.{refused_first, lost_in, frames_in, IsSized, is_faulty, RisesIf}
 use Rattle.walter_cell.proofs.Asked.{asked, owing_none, stands_owing, stands_up}
 
 short_failure : (input : Input) (rec : Record) → IsShortOutcome (failure (Given input) rec)
@@ -56,13 +61,44 @@ none_kept input (Full need left) = refl
 none_kept input Down = refl
 none_kept input NoMemory = refl
 
-pub step_sized : (sites : ℕ) (input : Input) (answer : Stepped) → IsSizedStep sites answer → IsSized (came_of_step (Given input) answer)
+-- of no packets each has a spelling
+pub none_sent : (sites : ℕ) → All (λ (s : Send). HasPacketSpelling sites s.1) []
+none_sent sites = All-nil (λ (s : Send). HasPacketSpelling sites s.1)
+
+pub step_sized : (sites : ℕ) (input : Input) (answer : Stepped) → IsSizedStep sites answer
+    → IsSized sites (came_of_step (Given input) answer)
 step_sized sites input (Done outcome wrote sends frames) sized =
-    record { outcome = sized.short; kept = tt; wrote = sized.recorded; flight = tt }
-step_sized sites input (Failed rec lost) sized = record { outcome = short_failure input rec; kept = tt; wrote = tt; flight = sized }
-step_sized sites input (Full need left) sized = record { outcome = short_fullness input need left; kept = tt; wrote = tt; flight = tt }
-step_sized sites input Down sized = record { outcome = tt; kept = tt; wrote = tt; flight = tt }
-step_sized sites input NoMemory sized = record { outcome = short_want input; kept = tt; wrote = tt; flight = tt }
+    record { outcome = sized.short; kept = tt; wrote = sized.recorded; flight = tt; sends = sized.spelled }
+step_sized sites input (Failed rec lost) sized =
+    record { outcome = short_failure input rec; kept = tt; wrote = tt; flight = sized; sends = none_sent sites }
+step_sized sites input (Full need left) sized =
+    record { outcome = short_fullness input need left; kept = tt; wrote = tt; flight = tt; sends = none_sent sites }
+step_sized sites input Down sized =
+    record { outcome = tt; kept = tt; wrote = tt; flight = tt; sends = none_sent sites }
+step_sized sites input NoMemory sized =
+    record { outcome = short_want input; kept = tt; wrote = tt; flight = tt; sends = none_sent sites }
+
+-- an outcome alone
+pub sized_only : (sites : ℕ) (outcome : Outcome) → IsShortOutcome outcome → IsSized sites (only outcome)
+sized_only sites outcome short =
+    record { outcome = short; kept = tt; wrote = tt; flight = tt; sends = none_sent sites }
+
+-- for each packet its frame is there
+pub step_framed : (sites : ℕ) (input : Input) (answer : Stepped) → IsSizedStep sites answer
+    → frames_in answer ≡ map (λ (s : Send). frame_of sites s.1) (came_of_step (Given input) answer).sends
+step_framed sites input (Done outcome wrote sends frames) sized = sized.framed
+step_framed sites input (Failed rec lost) sized = refl
+step_framed sites input (Full need left) sized = refl
+step_framed sites input Down sized = refl
+step_framed sites input NoMemory sized = refl
+
+-- and none is lost yet
+pub none_lost : (input : Input) (answer : Stepped) → (came_of_step (Given input) answer).dropped ≡ 0
+none_lost input (Done outcome wrote sends frames) = refl
+none_lost input (Failed rec lost) = refl
+none_lost input (Full need left) = refl
+none_lost input Down = refl
+none_lost input NoMemory = refl
 
 -- ---- faults
 

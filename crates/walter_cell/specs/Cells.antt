@@ -31,7 +31,7 @@ use Rattle.walter_cell.specs.declared.answers.Serve.{Serve}
 use Rattle.walter_cell.specs.declared.answers.Serve.TheVariants as serve
 use Rattle.walter_cell.specs.declared.cell.Cell.{Cell}
 use Rattle.walter_cell.specs.Entries.{IsSpent, Grows}
-use Rattle.walter_cell.specs.Lanes.{arrived_from, in_rings, out_rings, AreNext}
+use Rattle.walter_outbox.specs.Lanes.{arrived_from, in_rings, out_rings, AreNext}
 use Rattle.walter_cell.specs.Nodes.{IsNode, IsKnownNode}
 
 -- ---- connections

@@ -1,5 +1,4 @@
 pub mod Entries
-pub mod Lanes
 pub mod Debts
 pub mod Handled
 pub mod Nodes

@@ -13,7 +13,7 @@ ghost use Rattle.walter_trail.specs.Calls.{calls_of};
 ghost use Rattle.walter_cell.specs.Cells.{IsCell, IsKnown};
 ghost use Rattle.walter_cell.specs.Builds.{OfCell, begun_by};
 ghost use Rattle.walter_cell.specs.Entries.{IsPlain};
-ghost use Rattle.walter_cell.specs.Lanes.{put_to, arrived_from, ring_to, ring_from};
+ghost use Rattle.walter_outbox.specs.Lanes.{put_to, arrived_from, ring_to, ring_from};
 ghost use Rattle.walter_cell.specs.Nodes.{IsSameButLanes};
 
 use crate::answers::{Acted, Moved, Serve};

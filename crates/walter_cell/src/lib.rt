@@ -8,7 +8,6 @@ mod debt;
 mod handling;
 mod line;
 mod node;
-mod outbox;
 mod places;
 
 pub use answers::{Acted, Moved, Serve};

@@ -6,18 +6,19 @@ ghost use Rattle.walter_engine.specs.Begins.{HasOnly, IsBegun, IsFaultOfBegin, M
 ghost use Rattle.walter_engine.specs.Steps.{opening};
 ghost use Rattle.walter_cell.specs.Builds.{AreFree, OfBuilt, begun_by};
 ghost use Rattle.walter_cell.specs.Entries.{IsSpent, IsOfClients, IsSizedEvent};
-ghost use Rattle.walter_cell.specs.Lanes.{put_to};
+ghost use Rattle.walter_outbox.specs.Lanes.{put_to};
 ghost use Rattle.walter_cell.specs.Nodes.{IsNode, IsKnownNode};
 
 use crate::debt::{debt_of, settle};
 use crate::handling::{Handled, handle, only};
-use crate::outbox::put_out;
+
 use crate::places::{make_places, place_any};
 use std::alloc::Global;
 use walter_base::{Catalog, Mem, Record, RecordPlace, SiteId, Tid};
 use walter_disk::Disk;
 use walter_engine::{Engine, Unbegun};
 use walter_lane::Outbound;
+use walter_outbox::put_out;
 use walter_rules::{Came, Entry, Event, Outcome};
 
 /// The most entries that a trail may have.

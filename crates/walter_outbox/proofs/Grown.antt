@@ -57,7 +57,7 @@ count_from k stamp m (s ∷ sends) = by (same_site s.0 k) (λ n. count_from k st
     by true rest = let c = rest (m + 1) in omega (arith, c)
     by false rest = let c = rest (m + 0) in omega (arith, c)
 
-settled_carried : (catalog : Catalog) (i : SiteId) (kept : Option Record) (S : Standing) (k : SiteId)
+pub settled_carried : (catalog : Catalog) (i : SiteId) (kept : Option Record) (S : Standing) (k : SiteId)
     → (settled catalog i kept S).carried k ≡ S.carried k
 settled_carried catalog i None S k = refl
 settled_carried catalog i (Some rec) S k = refl

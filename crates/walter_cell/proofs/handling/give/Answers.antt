@@ -1,4 +1,6 @@
-use Rattle.std.proofs.Common.{◌≡◌, ap, sym, ◌∙◌, subst, Bool, Option, Some, None}
+use Rattle.walter_packet.specs.Framed.{frame_of}
+use Rattle.walter_rules.specs.Sending.{Send}
+use Rattle.std.proofs.Common.{◌≡◌, map, ap, sym, ◌∙◌, subst, Bool, Option, Some, None}
 use Rattle.walter_engine.specs.Engines.{catalog_in, site_in, capacity_in, Stands}
 use Rattle.walter_engine.specs.Steps.{came_of_step, IsFaultOfStep}
 use Rattle.walter_rules.specs.declared.entry.Came.{Came}
@@ -10,8 +12,8 @@ use Rattle.walter_session.specs.Sessions.{Table}
 use Rattle.walter_cell.specs.Debts.{IsLoss}
 use Rattle.walter_cell.specs.Handled.{refused_first, IsSized, IsFaulty}
 use Rattle.walter_cell.proofs.Asked.{comes_refused, stands_refused, stands_up, step_comes, step_stands, of_disks_so}
-use Rattle.walter_cell.proofs.Sizes.{none_kept, step_sized, step_rises, step_loses, loses_asked}
-use Rattle.walter_cell.proofs.handling.handle.Goals as goal
+use Rattle.walter_cell.proofs.Sizes.{none_kept, step_framed, none_lost, step_sized, step_rises, step_loses, loses_asked}
+use Rattle.walter_cell.proofs.handling.give.Goals as goal
 
 pub returns-in-Some-clause-comes : goal.returns-in-Some-clause-comes
 returns-in-Some-clause-comes g c = λ S stands owes.
@@ -20,13 +22,13 @@ returns-in-Some-clause-comes g c = λ S stands owes.
     let up = c.is_up.ensures ∙ stands_up engine S stands in
     let refused : refused_first S.up c.args.debt input ≡ Some c.in-Some.refusal =
     ap (λ (b : Bool). refused_first b c.args.debt input) (sym up) ∙ (sym c.refusal.ensures ∙ c.in-Some.is) in
-    subst (λ (o : Came). Comes (catalog_in engine) (capacity_in engine) (site_in engine) S (Given input) o) (sym c.only.ensures)
+    subst (λ (o : Came). Comes (catalog_in engine) (capacity_in engine) (site_in engine) S (Given input) o) (sym c.alone.ensures.came)
     (comes_refused (catalog_in engine) (capacity_in engine) (site_in engine) S input c.args.debt c.in-Some.refusal owes refused)
 
 pub returns-in-Some-clause-stands : goal.returns-in-Some-clause-stands
 returns-in-Some-clause-stands g c = λ S stands owes.
     let engine = c.args.engine.now in
-    subst (λ (o : Came). Stands engine (stands_after (catalog_in engine) (site_in engine) S (Given c.args.input.now) o)) (sym c.only.ensures)
+    subst (λ (o : Came). Stands engine (stands_after (catalog_in engine) (site_in engine) S (Given c.args.input.now) o)) (sym c.alone.ensures.came)
     (stands_refused engine (catalog_in engine) (site_in engine) S c.args.input.now c.in-Some.refusal stands)
 
 pub returns-in-None-clause-comes : goal.returns-in-None-clause-comes
@@ -75,7 +77,7 @@ returns-in-None-clause-kept g c = ap (λ (o : Came). o.kept) c.stepped.ensures.c
 
 pub returns-in-None-clause-sized : goal.returns-in-None-clause-sized
 returns-in-None-clause-sized g c =
-    subst IsSized (sym c.stepped.ensures.came)
+    subst (λ (o : Came). IsSized (catalog_in c.args.engine.now).sites o) (sym c.stepped.ensures.came)
     (step_sized (catalog_in c.args.engine.now).sites c.args.input.now c.step.result c.step.ensures.sized)
 
 pub returns-in-None-clause-faults : goal.returns-in-None-clause-faults
@@ -87,3 +89,14 @@ returns-in-None-clause-faults g c =
     (step_rises (catalog_in c.args.engine.now).sites c.args.input.now c.step.result (g.D.Disk.known old).faults
     (g.D.Disk.known new).faults c.step.ensures.sized rises))
     c.step.ensures.faults
+
+pub returns-in-None-clause-framed : goal.returns-in-None-clause-framed
+returns-in-None-clause-framed g c =
+    let sites = (catalog_in c.args.engine.now).sites in
+    c.stepped.ensures.frames
+    ∙ (step_framed sites c.args.input.now c.step.result c.step.ensures.sized
+    ∙ ap (λ (o : Came). map (λ (s : Send). frame_of sites s.1) o.sends) (sym c.stepped.ensures.came))
+
+pub returns-in-None-clause-none_dropped : goal.returns-in-None-clause-none_dropped
+returns-in-None-clause-none_dropped g c =
+    ap (λ (o : Came). o.dropped) c.stepped.ensures.came ∙ none_lost c.args.input.now c.step.result
