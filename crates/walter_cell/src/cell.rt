@@ -82,7 +82,9 @@ impl<D: Disk + Drop> Cell<D> {
     {
         let Cell { node, lines, .. } = self;
         let Node {
-            engine, entries, ..
+            engine,
+            entries,
+            ..
         } = node;
         (engine.into_disk(), Trail::from(entries), lines)
     }
@@ -141,7 +143,8 @@ impl<D: Disk + Drop> Cell<D> {
             Next::Frame(call) => call,
         };
         let client = number;
-        self.node.take(alloc, stamp, Event::Given(Input::Call { client, call }));
+        self.node
+            .take(alloc, stamp, Event::Given(Input::Call { client, call }));
         match self.node.entries.last() {
             Some(entry) if put_reply(line, &entry.came.outcome).is_err() => Ok(Serve::Broken),
             _ => Ok(Serve::Served),

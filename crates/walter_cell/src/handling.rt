@@ -13,7 +13,9 @@ ghost use Rattle.walter_cell.specs.Handled.{refused_first, lost_in, frames_in, I
 
 use crate::places::place_any;
 use std::alloc::Global;
-use walter_base::{BadFrame, MaybeRecord, Record, RecordPlace, Refusal, Reply, Request, Sends, Tid};
+use walter_base::{
+    BadFrame, MaybeRecord, Record, RecordPlace, Refusal, Reply, Request, Sends, Tid,
+};
 use walter_disk::Disk;
 use walter_engine::{Engine, Restarted, Stepped};
 use walter_packet::Framed;
@@ -126,12 +128,7 @@ fn refusal(is_up: bool, debt: Option<Tid>, input: &Input) -> Option<Refusal>
 }
 
 // What a step came to.
-fn stepped(
-    alloc: Global,
-    places: &mut Vec<RecordPlace>,
-    input: &Input,
-    stepped: Stepped,
-) -> Handled
+fn stepped(alloc: Global, places: &mut Vec<RecordPlace>, input: &Input, stepped: Stepped) -> Handled
     requires { 2 ≤ vec_len places.old }
     ensures came { result.came ≡ came_of_step (Event.Given input.now) stepped }
     ensures frames { result.frames.items ≡ frames_in stepped }

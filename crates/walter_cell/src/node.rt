@@ -11,7 +11,6 @@ ghost use Rattle.walter_cell.specs.Nodes.{IsNode, IsKnownNode};
 
 use crate::debt::{debt_of, settle};
 use crate::handling::{Handled, handle, only};
-
 use crate::places::{make_places, place_any};
 use std::alloc::Global;
 use walter_base::{Catalog, Mem, Record, RecordPlace, SiteId, Tid};
@@ -133,8 +132,13 @@ impl<D: Disk + Drop> Node<D> {
         ensures arms { OfDisks self.old.engine self.new.engine (λ old new. (D.known new).arms ≡ (D.known old).arms) }
     {
         let debt = debt_of(&self.debts, &event);
-        let Handled { came, frames, lost } =
-            handle(alloc, &mut self.engine, &mut self.places, debt, &event);
+        let Handled { came, frames, lost } = handle(
+            alloc,
+            &mut self.engine,
+            &mut self.places,
+            debt,
+            &event,
+        );
         let (sends, dropped) = put_out(&mut self.outs, stamp, came.sends, frames);
         settle(&mut self.debts, &event, &came.outcome, &lost);
         self.clock = stamp;
@@ -193,5 +197,9 @@ fn open(alloc: Global, clients: usize) -> Mem<(Vec<Option<Tid>>, Vec<Entry>, Rec
     ensures place { IfOk result (λ parts. 0 < vec_capacity parts.1) }
 {
     let debts = vec![in alloc; None; clients]?;
-    Ok((debts, Vec::with_capacity(alloc, 1)?, RecordPlace::new(alloc)?))
+    Ok((
+        debts,
+        Vec::with_capacity(alloc, 1)?,
+        RecordPlace::new(alloc)?,
+    ))
 }
