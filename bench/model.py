@@ -227,7 +227,8 @@ class Site:
                 return outcome
             self.records.append(plan.record)
         commits = plan.record is not None and plan.record[0] == OWN
-        before = self.marks()[0] if commits else 0
+        # The marks cost the most of all; where there is no peer nobody is told of them.
+        before = self.marks()[0] if commits and self.peers else 0
         if plan.record:
             self.learn(plan.record)
         plan.change()
@@ -236,6 +237,8 @@ class Site:
         return plan.outcome
 
     def own_sends(self, before):
+        if not self.peers:
+            return []
         number, durable = self.own(), self.marks()[0]
         sends = [(k, self.propagate(number)) for k in self.peers if number <= self.acked[k] + WINDOW]
         return sends + ([(k, (DSMARK, durable)) for k in self.peers] if durable > before else [])

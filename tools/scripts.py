@@ -3,6 +3,7 @@
 Stands on docs/FORMATS.md alone. Nothing here is proved.
 """
 
+import functools
 import json
 import re
 import struct
@@ -112,6 +113,7 @@ def words_of_field(kind, body):
     return between.join(map(str, numbers)), rest
 
 
+@functools.lru_cache(maxsize=16384)
 def words_of(frame):
     """The words whose frame this is, or None where there are none."""
     word = WORDS.get(frame[4]) if len(frame) > 4 else None
@@ -126,6 +128,11 @@ def words_of(frame):
         return line if frame_of(TOKEN.findall(line)) == frame else None
     except (struct.error, Wrong):
         return None
+
+
+def value_in(frame):
+    """The value of a write, by its frame."""
+    return frame[21:]
 
 
 def front(sent):
@@ -348,6 +355,14 @@ def write(made):
             raise ValueError(word)
     lines += [f"client{place}: bytes {rest.hex()}" for place, rest in enumerate(sent) if rest]
     return "\n".join(lines) + "\n"
+
+
+def script_of(text):
+    """A script of a scenario that is JSON."""
+    try:
+        return write(json.loads(text))
+    except (ValueError, TypeError, KeyError, IndexError, AttributeError):
+        raise Wrong("wants a scenario, as docs/FORMATS.md has it") from None
 
 
 def text_of(made):

@@ -1,20 +1,16 @@
 """The transactions that bench/growth.py spreads over three sites are what it says."""
 
 import json
-import os
-import sys
 import unittest
 from collections import Counter
 
-TOP = os.path.dirname(os.path.dirname(os.path.dirname(os.path.abspath(__file__))))
-sys.path[:0] = [os.path.join(TOP, "tools"), os.path.join(TOP, "bench")]
+from played import by_model
 import growth
-import model
 
 
 class Growth(unittest.TestCase):
     def test_each_transaction_reaches_every_site(self):
-        run = model.played(json.loads(growth.spread(60)), Counter())
+        run = by_model(growth.spread(60))
         self.assertEqual(growth.strays(run.text(), 60), [])
         self.assertEqual(growth.strays(run.text(), 61), [0, 1, 2])
         for site in run.sites:

@@ -1,6 +1,5 @@
 """Scripts become the scenarios that they say, and come back; wrong lines are refused where they stand."""
 
-import glob
 import json
 import os
 import random
@@ -8,8 +7,7 @@ import subprocess
 import sys
 import unittest
 
-TOP = os.path.dirname(os.path.dirname(os.path.dirname(os.path.abspath(__file__))))
-sys.path[:0] = [os.path.join(TOP, "tools"), os.path.join(TOP, "bench")]
+from played import TOP, RANDOM, examples, file_text
 import compare
 import scripts
 
@@ -51,15 +49,6 @@ WRONG_OF_THREE = [
 ]
 
 
-def file_text(path):
-    with open(path, encoding="utf-8") as source:
-        return source.read()
-
-
-def examples(kind):
-    return sorted(glob.glob(os.path.join(TOP, "examples", "*." + kind)))
-
-
 def as_bytes(made):
     """A scenario with its clients' bytes, of which the hex may be written in two ways."""
     return {**made, "clients": [[site, bytes.fromhex(sent)] for site, sent in made["clients"]]}
@@ -70,12 +59,13 @@ class Scripts(unittest.TestCase):
         self.assertTrue(examples("script"))
         for path in examples("script"):
             with self.subTest(os.path.basename(path)):
-                made = json.loads(file_text(path[: -len("script")] + "json"))
-                self.assertEqual(as_bytes(scripts.read(file_text(path))), as_bytes(made))
+                made, read = json.loads(file_text(path[: -len("script")] + "json")), scripts.read(file_text(path))
+                self.assertEqual(as_bytes(read), as_bytes(made))
+                self.assertEqual(scripts.read(scripts.write(read)), read)
 
     def test_scenarios_go_to_scripts_and_back(self):
         made = [json.loads(file_text(path)) for path in examples("json")]
-        for one in made + [compare.scenario(seed) for seed in range(200)]:
+        for one in made + [compare.scenario(seed) for seed in RANDOM]:
             text = scripts.write(one)
             self.assertEqual(as_bytes(scripts.read(text)), as_bytes(one))
             self.assertEqual(scripts.write(scripts.read(text)), text)
