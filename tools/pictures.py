@@ -11,11 +11,12 @@ import reports
 import words
 
 MOST = 500
-ROW, FONT, LETTER = 18, 12, 7.4
+ROW, FONT, LETTER = 22, 12, 7.4
 MARGIN, STAMPS, GAP, BAR = 14, 56, 72, 7
 LONGEST, BEND = 110, 14
 # How long a packet's line is that no site took, and how many of them a fan has before they are drawn by receiver.
 STUB, FAN = 20, 6
+FLAT, STEEP = 0.02 * math.pi, 0.31 * math.pi
 # Spreading is thin and slow commits are thick; of each kind of packet, how its line is dashed.
 LINES = {
     "propagate": (1.1, "none"),
@@ -86,7 +87,8 @@ class Picture:
         self.longest = max(map(len, self.short.values()), default=0)
         self.bars = self.locks()
         self.width_of_bars = BAR * (1 + max((slot for *_, slot in self.bars), default=-1))
-        self.top = MARGIN + 2 * ROW
+        self.heads = MARGIN + FONT
+        self.top = self.heads + 2 * ROW
         self.bottom = self.top + ROW * len(self.moments)
 
     def words(self, moment, whole):
@@ -153,7 +155,7 @@ class Picture:
         drawn = []
         for site in range(self.run.scenario.sites):
             x = self.x(site)
-            drawn.append(label(x, self.top - ROW, f"site {site}", "middle"))
+            drawn.append(label(x, self.heads, f"site {site}", "middle"))
             for begins, ends in self.stays(site):
                 drawn.append(line((x, begins), (x, ends), kind="column"))
                 if ends < self.bottom:
@@ -169,14 +171,18 @@ class Picture:
 
     def arrow(self, packet, came):
         """From the entry that put a packet out to one that took it, where it has its head if that is in the picture."""
-        begins, ends = (self.x(packet.sender), self.y(packet.put_out)), (self.x(packet.receiver), self.y(came))
-        bend = bent(begins, ends, abs(packet.sender - packet.receiver) - 1)
+        begins, bend, ends = self.places(packet, came)
         start, angle = shifted(begins, towards(begins, bend), 5), towards(bend, ends)
         title = f"{words.route(packet)}: {words.outcome(came)}"
         if came not in self.rows:
             return tag("g", curve(start, bend, ends, **line_of(packet.kind)), title, kind="delivery")
         shaft = curve(start, bend, shifted(ends, angle, -15), **line_of(packet.kind))
         return tag("g", shaft + head(shifted(ends, angle, -7), angle, came.entry.outcome[0]), title, kind="delivery")
+
+    def places(self, packet, came):
+        """Where an arrow begins, where it bends, and where it ends."""
+        begins, ends = (self.x(packet.sender), self.y(packet.put_out)), (self.x(packet.receiver), self.y(came))
+        return begins, bent(begins, ends, abs(packet.sender - packet.receiver) - 1), ends
 
     def arrows(self):
         """Of each packet one for each delivery, where either end is in the picture."""
@@ -186,17 +192,23 @@ class Picture:
 
     def stubs(self):
         """What an entry put out and no site took: to each side a fan of short lines with a bar at their ends."""
-        drawn = []
-        for moment in self.moments:
-            for side in (-1, 1):
-                lost = [one for one in moment.sends if not one.came and (one.receiver - one.sender) * side > 0]
-                fan = [[one] for one in lost] if len(lost) <= FAN else by_receiver(lost)
-                drawn += [self.stub(packets, side, (place + 0.5) / len(fan)) for place, packets in enumerate(fan)]
-        return drawn
+        return [stub for moment in self.moments for side in (-1, 1) for stub in self.fan(moment, side)]
 
-    def stub(self, packets, side, share):
-        angle = (0.03 + 0.27 * share) * math.pi
-        angle = angle if side > 0 else math.pi - angle
+    def fan(self, moment, side):
+        sends = [one for one in moment.sends if (one.receiver - one.sender) * side > 0]
+        lost = [one for one in sends if not one.came]
+        lines = [[one] for one in lost] if len(lost) <= FAN else by_receiver(lost)
+        begins, ends = widest([self.slope(one, came) for one in sends for came in one.came])
+        return [self.stub(packets, side, begins + (ends - begins) * (place + 0.5) / len(lines))
+                for place, packets in enumerate(lines)]
+
+    def slope(self, packet, came):
+        """How far from the horizontal an arrow goes down where it begins."""
+        begins, bend, _ = self.places(packet, came)
+        return math.atan2(bend[1] - begins[1], abs(bend[0] - begins[0]))
+
+    def stub(self, packets, side, slope):
+        angle = slope if side > 0 else math.pi - slope
         middle = self.x(packets[0].sender), self.y(packets[0].put_out)
         begins, ends = shifted(middle, angle, 5), shifted(middle, angle, STUB)
         across = [shifted(ends, angle + turn, 2) for turn in (math.pi / 2, -math.pi / 2)]
@@ -249,7 +261,7 @@ class Picture:
     def svg(self):
         width = max(self.words_at() + self.longest * LETTER + MARGIN, MARGIN + 30 + 300 + 150)
         height = self.bottom + 3 * ROW + 8 * ROW + MARGIN
-        heads = [label(MARGIN + STAMPS - 8, self.top - ROW, "stamp", "end"), label(self.words_at() - 22, self.top - ROW, "at")]
+        heads = [label(MARGIN + STAMPS - 8, self.heads, "stamp", "end"), label(self.words_at() - 22, self.heads, "at")]
         parts = [self.background(), self.columns(), [self.bar(lock, slot) for lock, slot in self.bars], heads,
                  self.stubs(), self.arrows(), [self.entry(moment) for moment in self.moments], self.legend()]
         body = "\n".join(part for some in parts for part in some)
@@ -265,6 +277,12 @@ def by_receiver(packets):
     return list(by.values())
 
 
+def widest(slopes):
+    """The widest range of slopes of a fan in which no arrow begins."""
+    edges = [FLAT, *sorted(min(max(slope, FLAT), STEEP) for slope in slopes), STEEP]
+    return max(zip(edges, edges[1:]), key=lambda pair: pair[1] - pair[0])
+
+
 def towards(one, other):
     return math.atan2(other[1] - one[1], other[0] - one[0])
 
@@ -273,7 +291,9 @@ def bent(begins, ends, passed):
     """Where a line bends that passes columns, so that it lies on none that ends at one of these."""
     angle = towards(begins, ends) + math.pi / 2
     middle = (begins[0] + ends[0]) / 2, (begins[1] + ends[1]) / 2
-    return shifted(middle, angle, (-1 if math.sin(angle) > 0 else 1) * BEND * passed)
+    # The more columns, the farther, and never more than two and a half times as far as for one.
+    far = BEND * (1 - 0.6**passed) / 0.4
+    return shifted(middle, angle, -far if math.sin(angle) > 0 else far)
 
 
 def curve(begins, bend, ends, **given):

@@ -312,7 +312,7 @@ class Reading:
 
     def outcome(self, text, event):
         match = first_match(OUTCOMES, text)
-        self.check(match and (match[1] == "reply") == (event[0] == "call"), "an outcome: a reply of a call, and of a call alone")
+        self.check(match and (match[1] == "reply") == (event[0] == "call"), "an outcome, a reply of calls and of them alone")
         if match[1] != "reply":
             return parts_of(match)
         frame = bytes.fromhex(match[2])

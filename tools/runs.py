@@ -4,7 +4,6 @@ A trace names the kinds of packets alone. What they say follows from the records
 many commits the sender has received, a DSMARK how many of its own are durable, and so on.
 """
 
-import json
 import struct
 from collections import Counter, namedtuple
 
@@ -18,6 +17,23 @@ Step = namedtuple("Step", "place line made call moment reply why", defaults=(Non
 
 
 # ---- the scenario
+
+
+def text_of(path):
+    """What a file has, or standard input where none is named."""
+    with open(path or 0, encoding="utf-8") as source:
+        return source.read()
+
+
+def script_of(text):
+    """The script of a scenario, and whether that is JSON."""
+    if text.lstrip()[:1] not in ("{", "["):
+        return scripts.read_script(text), False
+    try:
+        return scripts.read_script(scripts.script_of(text)), True
+    except scripts.Wrong:
+        # Lines of a script that was made of JSON are nobody's.
+        raise scripts.Wrong(scripts.NO_SCENARIO) from None
 
 
 def calls_of(sent):
@@ -38,8 +54,7 @@ class Scenario:
     """A scenario, with the names and the lines of its script. One that is JSON has client0 and so on, and no lines."""
 
     def __init__(self, text):
-        is_json = text.lstrip()[:1] in ("{", "[")
-        script = scripts.read_script(scripts.script_of(text) if is_json else text)
+        script, is_json = script_of(text)
         self.sites, self.tolerated = script.sites, script.tolerated
         self.containers = {number: (kind, site) for number, kind, site in script.containers}
         self.names = list(script.numbers)

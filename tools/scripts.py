@@ -41,6 +41,7 @@ NUMBERS = {
 }
 STEPS = ("arm", "stop", "restart", "deliver", "advance", "tick")
 MOST_SITES, MOST_PACKET = 8, (1 << 32) - 1
+NO_SCENARIO = "wants a scenario, as docs/FORMATS.md has it"
 
 
 class Wrong(Exception):
@@ -362,7 +363,7 @@ def script_of(text):
     try:
         return write(json.loads(text))
     except (ValueError, TypeError, KeyError, IndexError, AttributeError):
-        raise Wrong("wants a scenario, as docs/FORMATS.md has it") from None
+        raise Wrong(NO_SCENARIO) from None
 
 
 def text_of(made):

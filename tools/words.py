@@ -146,17 +146,18 @@ def taken(moment):
     if wrote is None:
         return "heard"
     if wrote.kind == "Marks":
-        durable, visible = moment.news or (None, None)
-        told = [f"{what} mark {mark}" for what, mark in (("durable", durable), ("visible", visible)) if mark is not None]
+        told = [f"{what} mark {mark}" for what, mark in zip(("durable", "visible"), moment.news) if mark is not None]
         return ", ".join(told) or record(wrote, moment.site)
-    return {
-        "Got": lambda: f"received {pair((wrote.site, wrote.number))}",
-        "Seen": lambda: f"committed {pair((wrote.site, wrote.number))}",
-        "Own": lambda: f"committed {pair((moment.site, wrote.number))}",
-        "Prepared": lambda: f"locks {objects(wrote.objects or ())}, votes YES",
-        "Released": lambda: f"the slow commit {wrote.number} of {wrote.site} is over here",
-        "SlowEnd": lambda: f"the slow commit {wrote.number} has ended",
-    }.get(wrote.kind, lambda: record(wrote, moment.site))()
+    site = moment.site if wrote.site is None else wrote.site
+    if wrote.kind in ("Own", "Seen"):
+        return f"committed {pair((site, wrote.number))}"
+    if wrote.kind == "Got":
+        return f"received {pair((site, wrote.number))}"
+    if wrote.kind == "Prepared":
+        return f"locks {objects(wrote.objects)}, votes YES"
+    if wrote.kind == "Released":
+        return f"the slow commit {wrote.number} of {site} is over here"
+    return f"the slow commit {wrote.number} has ended" if wrote.kind == "SlowEnd" else record(wrote, moment.site)
 
 
 def passed(moment):
@@ -196,7 +197,7 @@ def outcome(moment, whole=True):
     if kind == "stop":
         return f"site {moment.site} is down"
     if kind == "tick":
-        return sends(moment.sends, whole) or "nothing is owed"
+        return sends(moment.sends, whole) or ("nothing is put out" if moment.entry.dropped else "nothing is owed")
     return taken(moment) if word == "taken" else passed(moment)
 
 

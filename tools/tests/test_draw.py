@@ -14,6 +14,10 @@ SVG = "{http://www.w3.org/2000/svg}"
 LETTER = 7.3
 
 
+def places_of(curve):
+    return [tuple(map(float, place.split(","))) for place in curve.replace("M", "").replace("Q", "").split(" ")]
+
+
 class Drawn:
     """A picture's parts, read back from its SVG."""
 
@@ -26,6 +30,12 @@ class Drawn:
 
     def titles(self, kind):
         return [one.find(SVG + "title").text for one in self.all("g", kind)]
+
+    def curves(self):
+        """The middle of each line that bends."""
+        for one in self.all("path"):
+            (x, y), (bend_x, bend_y), (end_x, end_y) = places_of(one.get("d"))
+            yield (x + 2 * bend_x + end_x) / 4, (y + 2 * bend_y + end_y) / 4
 
     def labels(self):
         """Each label's row, where it begins and where it ends."""
@@ -77,6 +87,8 @@ class Draw(unittest.TestCase):
         self.assertEqual(len(drawn.all("g", "delivery")), came)
         if len(seen) == len(run.moments):
             self.assertEqual(came, sum(moment.entry.event[0] == "deliver" for moment in run.moments))
+        for x, y in drawn.curves():
+            self.assertTrue(picture.x(0) <= x <= picture.x(run.scenario.sites - 1) and picture.heads + 4 < y < picture.bottom + 5)
         lost = sum(not packet.came and packet.put_out in seen for packet in packets)
         self.assertEqual(sum(len(title.split("\n")) for title in drawn.titles("lost")), lost)
 

@@ -45,8 +45,9 @@ cat: bytes 00000001
 stop 1
 bob: bytes 0000000108
 """
-LINES = """armed 0 call 30 choice 0 -> never comes: a later one takes its place
-armed 0 call 7 choice 1 -> comes at: 0 <- 1 packet 2 PROPAGATE 1 of 1.1.1 (write 1:5 "s"): the disk failed; Got 1:1 is in flight, site 0 is down
+FAULT = '0 <- 1 packet 2 PROPAGATE 1 of 1.1.1 (write 1:5 "s"): the disk failed; Got 1:1 is in flight, site 0 is down'
+LINES = f"""armed 0 call 30 choice 0 -> never comes: a later one takes its place
+armed 0 call 7 choice 1 -> comes at: {FAULT}
 bob start -> started 1.1.1
 bob write 1:5 "s" -> done
 bob commit -> deciding 1.1.1; the slow commit 1 begins
@@ -56,7 +57,7 @@ ann write 1:5 hex 00ff -> done
 ann commit -> aborted: 1:5 is locked by 1.1.1
 1 <- 0 packet 1 VOTE 1 YES: committed 1:1
 tick 1 -> to 0: PROPAGATE 1 of 1.1.1 (write 1:5 "s") as packet 3
-0 <- 1 packet 2 PROPAGATE 1 of 1.1.1 (write 1:5 "s"): the disk failed; Got 1:1 is in flight, site 0 is down
+{FAULT}
 ann level 0.1.1 -> refused: the site is down
 restart 0 -> site 0 is up in epoch 2; found Got 1:1
 arm 1 call 5 choice 1 -> never comes
@@ -224,6 +225,15 @@ class Explain(unittest.TestCase):
             "not played: ann again in line 4: the trail of site 0 is spent",
             "spent: the trail of site 0 has 100,000 entries",
         ])
+
+    def test_a_scenario_that_is_none_is_refused(self):
+        for text, said in [
+            ("{}", "wants a scenario"),
+            ('{"sites":1,"f":0,"containers":[[1,"regular",7]],"clients":[],"steps":[]}', "wants a scenario"),
+            ("sites 1 tolerated 0\ntick 1", "line 2: wants a site below 1"),
+        ]:
+            with self.assertRaisesRegex(scripts.Wrong, said):
+                runs.Scenario(text)
 
     def test_a_history(self):
         _, run = self.read("""sites 1 tolerated 0

@@ -15,7 +15,8 @@ class Growth(unittest.TestCase):
         self.assertEqual(growth.strays(run.text(), 61), [0, 1, 2])
         for site in run.sites:
             self.assertEqual(site.marks(), (20, 20))
-            self.assertEqual({entry.outcome for entry in site.entries if entry.event.startswith(("deliver", "advance"))}, {"taken"})
+            heard = [entry for entry in site.entries if entry.event.startswith(("deliver", "advance"))]
+            self.assertEqual({entry.outcome for entry in heard}, {"taken"})
             self.assertEqual([len(site.put_out[peer]) for peer in site.peers], [80, 80])
 
     def test_the_scenario_is_within_its_bounds(self):
