@@ -62,8 +62,8 @@ def value_of(value):
     return f"{value:.1f}" if isinstance(value, float) else str(value)
 
 
-def label(x, y, text, anchor="start", title=None):
-    return tag("text", escape(text), title, x=x, y=y, text_anchor=anchor)
+def label(x, y, text, anchor="start"):
+    return tag("text", escape(text), x=x, y=y, text_anchor=anchor)
 
 
 def line(one, other, **given):
@@ -83,7 +83,7 @@ class Picture:
                           "choose some of their stamps by --from and --to")
         self.rows = {moment: row for row, moment in enumerate(self.moments)}
         self.early = set(self.before)
-        self.short = {moment: self.words(moment, False) for moment in self.moments}
+        self.short = {moment: self.said(moment, False) for moment in self.moments}
         self.longest = max(map(len, self.short.values()), default=0)
         self.bars = self.locks()
         self.width_of_bars = BAR * (1 + max((slot for *_, slot in self.bars), default=-1))
@@ -91,7 +91,7 @@ class Picture:
         self.top = self.heads + 2 * ROW
         self.bottom = self.top + ROW * len(self.moments)
 
-    def words(self, moment, whole):
+    def said(self, moment, whole):
         """The line of a moment, and the record that it made stable; or as much of this as a row has place for."""
         wrote = moment.entry.wrote
         stable = f" [{words.record(wrote, moment.site).split(',')[0]}]" if wrote else ""
@@ -181,8 +181,13 @@ class Picture:
 
     def places(self, packet, came):
         """Where an arrow begins, where it bends, and where it ends."""
-        begins, ends = (self.x(packet.sender), self.y(packet.put_out)), (self.x(packet.receiver), self.y(came))
+        begins, ends = self.end(packet, packet.sender, packet.put_out), self.end(packet, packet.receiver, came)
         return begins, bent(begins, ends, abs(packet.sender - packet.receiver) - 1), ends
+
+    def end(self, packet, site, moment):
+        """An end of an arrow; beyond the picture, each kind of packet has a place of its own beside the column."""
+        aside = 0 if moment in self.rows else 4 * (reports.PACKETS.index(packet.kind) - 3.5)
+        return self.x(site) + aside, self.y(moment)
 
     def arrows(self):
         """Of each packet one for each delivery, where either end is in the picture."""
@@ -231,7 +236,7 @@ class Picture:
         below, at = self.y(moment) + FONT / 3, self.words_at()
         drawn = label(MARGIN + STAMPS - 8, below, str(moment.entry.stamp), "end") + self.mark(moment)
         drawn += label(at - 22, below, str(moment.site)) + label(at, below, self.short[moment])
-        return tag("g", drawn, f"{self.words(moment, True)}\n{moment.entry.line}", kind="entry")
+        return tag("g", drawn, f"{self.said(moment, True)}\n{moment.entry.line}", kind="entry")
 
     # The legend
 

@@ -88,7 +88,8 @@ class Draw(unittest.TestCase):
         if len(seen) == len(run.moments):
             self.assertEqual(came, sum(moment.entry.event[0] == "deliver" for moment in run.moments))
         for x, y in drawn.curves():
-            self.assertTrue(picture.x(0) <= x <= picture.x(run.scenario.sites - 1) and picture.heads + 4 < y < picture.bottom + 5)
+            self.assertTrue(picture.x(0) - 20 <= x <= picture.x(run.scenario.sites - 1) + 20)
+            self.assertTrue(picture.heads + 4 < y < picture.bottom + 5)
         lost = sum(not packet.came and packet.put_out in seen for packet in packets)
         self.assertEqual(sum(len(title.split("\n")) for title in drawn.titles("lost")), lost)
 
@@ -112,21 +113,27 @@ class Draw(unittest.TestCase):
         bars = {lock.site: lock.ends for lock, _ in picture.bars}
         self.assertEqual((bars[0].entry.event[3], bars[1]), ("release", None))
 
+    def test_too_many_entries_are_refused(self):
+        run = example_run(os.path.join(TOP, "examples", "ten_thousand_calls.json"))
+        for first, last, count in [(None, None, "10,001"), (2, 502, "501"), (9_000, None, "1,002")]:
+            with self.assertRaisesRegex(pictures.TooMany, f"{count} entries, where a picture has at most 500"):
+                pictures.Picture(run, first, last)
+        self.assertEqual(len(pictures.Picture(run, 2, 501).moments), 500)
+
     def test_the_tool(self):
         tool = [sys.executable, os.path.join(TOP, "tools", "draw")]
-        slow, many = (os.path.join(TOP, "examples", name) for name in ("slow_commit.json", "ten_thousand_calls.json"))
+        slow = os.path.join(TOP, "examples", "slow_commit.json")
         text = by_model(file_text(slow)).text()
         made = subprocess.run(tool + [source_of(slow)], input=text, capture_output=True, text=True)
         self.assertEqual((made.returncode, made.stderr), (0, ""))
         self.assertEqual(len(Drawn(made.stdout).all("g", "delivery")), 2)
         some = subprocess.run(tool + [source_of(slow), "--from", "3", "--to", "4"], input=text, capture_output=True, text=True)
         self.assertEqual(len(Drawn(some.stdout).all("g", "entry")), text.count("\ne 3 ") + text.count("\ne 4 "))
-        for path, given, said in [
-            (many, by_model(file_text(many)).text(), "draw: 10,001 entries, where a picture has at most 500"),
-            (slow, without_trace(text), "draw: the report: line 6: wants the trace"),
-            (slow, "sites\n", "draw: the report: line 1: wants sites N f F clients N"),
+        for given, said in [
+            (without_trace(text), "draw: the report: line 6: wants the trace"),
+            ("sites\n", "draw: the report: line 1: wants sites N f F clients N"),
         ]:
-            wrong = subprocess.run(tool + [path], input=given, capture_output=True, text=True)
+            wrong = subprocess.run(tool + [slow], input=given, capture_output=True, text=True)
             self.assertEqual((wrong.returncode, wrong.stdout), (2, ""))
             self.assertTrue(wrong.stderr.startswith(said), wrong.stderr)
 
