@@ -177,7 +177,7 @@ def long_frame(rng):
 # Scenarios of several sites
 
 # How many sites there are, the weights of the steps, how many of the packets are lost, and how many come in any order or
-# again, how often disks are armed from the start, whether journals are short, and how many transactions write nothing.
+# again, how often disks are armed from the start, whether journals are short, and how much clients read.
 Kind = namedtuple("Kind", "sites weights lost mixed arms short reads")
 WORDS = ["call", "deliver", "advance", "tick", "stop", "restart", "arm"]
 SEVERAL = {
@@ -185,7 +185,7 @@ SEVERAL = {
     "lossy": Kind((2, 3, 4), (30, 50, 14, 10, 0.3, 1, 0), 0.3, 0.4, 0, False, 0.3),
     "stopped": Kind((2, 2, 3, 4), (30, 45, 12, 10, 3, 6, 0), 0.1, 0.2, 0, False, 0.3),
     "failing": Kind((2, 2, 3), (30, 40, 12, 8, 1, 6, 6), 0.05, 0.2, 0.7, False, 0.2),
-    "short": Kind((2, 2, 3, 4), (40, 45, 14, 6, 0.8, 3, 0.5), 0.05, 0.1, 0.2, True, 0.1),
+    "short": Kind((2, 2, 3, 4), (40, 50, 14, 8, 2.5, 8, 0.5), 0.05, 0.1, 0.2, True, 0),
     "wide": Kind((5, 6, 7, 8), (30, 70, 22, 2, 0.3, 1, 0.3), 0.05, 0.1, 0.1, False, 0.2),
     "fought over": Kind((2, 3, 3, 4), (50, 60, 6, 4, 0.3, 2, 2), 0.05, 0.15, 0.1, False, 0),
 }
@@ -215,7 +215,7 @@ class Maker:
                      "containers": self.containers(), "clients": self.clients()}
         if kind.short:
             # A slow commit begins where its coordinator has about 140 bytes, and its locks take about 40 at each participant.
-            self.made["capacity"] = rng.randint(*rng.choice([(19, 60), (150, 190), (190, 400), (400, 1300)]))
+            self.made["capacity"] = rng.randint(*rng.choice([(19, 60), (150, 190), (150, 190), (190, 400), (400, 1300)]))
         if rng.random() < kind.arms:
             self.made["arms"] = [arm(rng, rng.randrange(self.sites))[1:] for _ in range(rng.randint(1, 3))]
         self.run = model.Run(self.made, Counter())
