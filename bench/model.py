@@ -196,6 +196,7 @@ class Site:
         """One more entry. What finds its lane full is dropped, and counted."""
         self.clock, dropped, out = stamp, 0, []
         for to, packet in sorted(sends, key=lambda send: (send[0], send[1][0], send[1][1])):
+            meet(self.met, "packets of a lane", self.waiting[to] + 1, LANE)
             if self.waiting[to] == LANE:
                 dropped += 1
                 continue
@@ -226,7 +227,8 @@ class Site:
                 return outcome
             self.records.append(plan.record)
         commits = plan.record is not None and plan.record[0] == OWN
-        before = self.marks()[0] if commits else 0
+        # The marks cost the most of all; where there is no peer nobody is told of them.
+        before = self.marks()[0] if commits and self.peers else 0
         if plan.record:
             self.learn(plan.record)
         plan.change()
@@ -235,6 +237,8 @@ class Site:
         return plan.outcome
 
     def own_sends(self, before):
+        if not self.peers:
+            return []
         number, durable = self.own(), self.marks()[0]
         sends = [(k, self.propagate(number)) for k in self.peers if number <= self.acked[k] + WINDOW]
         return sends + ([(k, (DSMARK, durable)) for k in self.peers] if durable > before else [])
@@ -595,10 +599,18 @@ class Run:
         if place <= self.arrived[i, j]:
             self.sites[i].deliver(j, place, *self.sites[j].put_out[i][place - 1])
 
+    def text(self):
+        return report(self.sites, self.clients, self.replies)
 
-def play(scenario, met):
-    """What `walter play --trace` writes of the scenario. Counts in `met` the limits that the run came to."""
+
+def played(scenario, met):
+    """The run of the scenario. Counts in `met` the limits that it came to."""
     run = Run(scenario, met)
     for step in scenario["steps"]:
         run.step(*step)
-    return report(run.sites, run.clients, run.replies)
+    return run
+
+
+def play(scenario, met):
+    """What `walter play --trace` writes of the scenario."""
+    return played(scenario, met).text()

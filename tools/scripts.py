@@ -3,6 +3,7 @@
 Stands on docs/FORMATS.md alone. Nothing here is proved.
 """
 
+import functools
 import json
 import re
 import struct
@@ -38,18 +39,9 @@ NUMBERS = {
     "id": (">Q", " ", "an id, a whole number below 2^64"),
     "transaction": (">BIQ", ".", "a transaction as site.epoch.number"),
 }
-FORMS = (
-    "sites N tolerated F",
-    "capacity N",
-    "container N regular at SITE",
-    "container N set at SITE",
-    "client NAME at SITE",
-    "armed SITE call N choice N",
-    "arm SITE call N choice N",
-    "stop SITE",
-    "restart SITE",
-    "NAME: OPERATION ..",
-)
+STEPS = ("arm", "stop", "restart", "deliver", "advance", "tick")
+MOST_SITES, MOST_PACKET = 8, (1 << 32) - 1
+NO_SCENARIO = "wants a scenario, as docs/FORMATS.md has it"
 
 
 class Wrong(Exception):
@@ -122,6 +114,7 @@ def words_of_field(kind, body):
     return between.join(map(str, numbers)), rest
 
 
+@functools.lru_cache(maxsize=16384)
 def words_of(frame):
     """The words whose frame this is, or None where there are none."""
     word = WORDS.get(frame[4]) if len(frame) > 4 else None
@@ -138,6 +131,11 @@ def words_of(frame):
         return None
 
 
+def value_in(frame):
+    """The value of a write, by its frame."""
+    return frame[21:]
+
+
 def front(sent):
     """The first frame of a client's bytes, or all of them where none is whole."""
     if len(sent) < 4:
@@ -150,54 +148,94 @@ def front(sent):
 
 
 class Script:
-    """A script while it is read, line by line."""
+    """A script while it is read, line by line. `places` has the line of each step, and `armed_at` that of each arm."""
 
     def __init__(self):
+        self.place = 0
         self.sites = self.tolerated = self.capacity = None
         self.containers, self.arms, self.steps = [], [], []
         self.clients, self.numbers = [], {}
+        self.places, self.armed_at = [], []
 
     def site(self, text):
         return number(text, 0, self.sites, f"a site below {self.sites}")
+
+    def two_sites(self, one, other):
+        """The site at which something comes, and the one from which it comes."""
+        here, there = self.site(one), self.site(other)
+        if here == there:
+            raise Wrong(f"a site below {self.sites} other than {here}")
+        return [here, there]
 
     def fault(self, site, nth, choice):
         nth = number(nth, 1, 1_000_001, "a call from 1 to 1000000")
         return [self.site(site), nth, number(choice, 0, 1 << 64, "a choice below 2^64")]
 
+    def step(self, *made):
+        self.steps.append(list(made))
+        self.places.append(self.place)
+
+    # The lines without a colon, in the order of FORMS.
+
+    def take_sites(self, sites, tolerated):
+        if self.sites is not None:
+            raise Wrong("the sites once")
+        self.sites = number(sites, 1, MOST_SITES + 1, f"a number of sites from 1 to {MOST_SITES}")
+        self.tolerated = number(tolerated, 0, self.sites, "fewer sites that may be lost than there are")
+
+    def take_capacity(self, size):
+        self.capacity = number(size, 0, 1 << 64, "a whole number of bytes")
+
+    def take_regular(self, which, site):
+        self.take_container(which, "regular", site)
+
+    def take_set(self, which, site):
+        self.take_container(which, "cset", site)
+
+    def take_container(self, which, kind, site):
+        least = self.containers[-1][0] + 1 if self.containers else 0
+        which = number(which, least, 1 << 32, f"a number of a container from {least}, below 2^32")
+        self.containers.append([which, kind, self.site(site)])
+
+    def take_client(self, name, site):
+        if not re.fullmatch(NAME, name) or name in self.numbers:
+            raise Wrong("a client's name that is new: letters, digits, _ and -, no digit first")
+        self.numbers[name] = len(self.clients)
+        self.clients.append([self.site(site), b""])
+
+    def take_armed(self, *fault):
+        self.arms.append(self.fault(*fault))
+        self.armed_at.append(self.place)
+
+    def take_arm(self, *fault):
+        self.step("arm", *self.fault(*fault))
+
+    def take_stop(self, site):
+        self.step("stop", self.site(site))
+
+    def take_restart(self, site):
+        self.step("restart", self.site(site))
+
+    def take_deliver(self, receiver, sender, packet):
+        sites = self.two_sites(receiver, sender)
+        wanted = f"a packet's number from 1 to {MOST_PACKET}"
+        self.step("deliver", *sites, number(packet, 1, MOST_PACKET + 1, wanted))
+
+    def take_advance(self, here, there):
+        self.step("advance", *self.two_sites(here, there))
+
+    def take_tick(self, site):
+        self.step("tick", self.site(site))
+
     def declare(self, words):
-        """Takes a line without a colon. Answers whether it has such a form."""
-        shape, given = words[::2], words[1::2]
-        if shape == ["sites", "tolerated"] and len(given) == 2:
-            if self.sites is not None:
-                raise Wrong("the sites once")
-            self.sites = number(given[0], 1, 256, "a number of sites from 1")
-            self.tolerated = number(given[1], 0, self.sites, "fewer sites that may be lost than there are")
-            return True
-        if self.sites is None:
+        """Takes a line without a colon."""
+        if self.sites is None and words[0] != "sites":
             raise Wrong("sites N tolerated F first")
-        if shape == ["capacity"] and len(given) == 1:
-            self.capacity = number(given[0], 0, 1 << 64, "a whole number of bytes")
-        elif len(words) == 5 and words[0] == "container" and words[2] in ("regular", "set") and words[3] == "at":
-            least = self.containers[-1][0] + 1 if self.containers else 0
-            kind = "regular" if words[2] == "regular" else "cset"
-            which = number(words[1], least, 1 << 32, f"a number of a container from {least}, below 2^32")
-            self.containers.append([which, kind, self.site(words[4])])
-        elif shape == ["client", "at"] and len(given) == 2:
-            if not re.fullmatch(NAME, given[0]) or given[0] in self.numbers:
-                raise Wrong("a client's name that is new: letters, digits, _ and -, no digit first")
-            self.numbers[given[0]] = len(self.clients)
-            self.clients.append([self.site(given[1]), b""])
-        elif shape in (["arm", "call", "choice"], ["armed", "call", "choice"]) and len(given) == 3:
-            fault = self.fault(*given)
-            if words[0] == "armed":
-                self.arms.append(fault)
-            else:
-                self.steps.append(["arm", *fault])
-        elif shape in (["stop"], ["restart"]) and len(given) == 1:
-            self.steps.append([words[0], self.site(given[0])])
-        else:
-            return False
-        return True
+        for form, take in FORMS.items():
+            given = fit(form.split(), words)
+            if given is not None:
+                return take(self, *given)
+        raise Wrong("one of " + "; ".join([*FORMS, "NAME: OPERATION .."]))
 
     def turn(self, name, tokens):
         """Takes a line of a client: a request and its turn, bytes without a turn, or a turn without bytes."""
@@ -211,7 +249,7 @@ class Script:
             return
         if tokens != ["again"]:
             self.clients[client][1] += frame_of(tokens)
-        self.steps.append(["call", client])
+        self.step("call", client)
 
     def take(self, line):
         code = CODE.match(line)
@@ -223,8 +261,8 @@ class Script:
         turn = LINE.fullmatch(words)
         if turn is not None:
             self.turn(turn[1], TOKEN.findall(turn[2]))
-        elif not self.declare(words.split()):
-            raise Wrong("one of " + "; ".join(FORMS))
+        else:
+            self.declare(words.split())
 
     def scenario(self):
         made = {"sites": self.sites, "f": self.tolerated, "containers": self.containers}
@@ -237,17 +275,48 @@ class Script:
         return made
 
 
-def read(text):
-    """The scenario of a script. A line that is wrong is named with what is wanted there."""
+# What a line without a colon may be: capitals stand for what is given there.
+FORMS = {
+    "sites N tolerated F": Script.take_sites,
+    "capacity N": Script.take_capacity,
+    "container N regular at SITE": Script.take_regular,
+    "container N set at SITE": Script.take_set,
+    "client NAME at SITE": Script.take_client,
+    "armed SITE call N choice N": Script.take_armed,
+    "arm SITE call N choice N": Script.take_arm,
+    "stop SITE": Script.take_stop,
+    "restart SITE": Script.take_restart,
+    "deliver to SITE from SITE packet N": Script.take_deliver,
+    "advance SITE from SITE": Script.take_advance,
+    "tick SITE": Script.take_tick,
+}
+
+
+def fit(form, words):
+    """What is given for the capitals of a form, or None where the words have another form."""
+    pairs = list(zip(form, words))
+    if len(form) != len(words) or any(part != word for part, word in pairs if not part.isupper()):
+        return None
+    return [word for part, word in pairs if part.isupper()]
+
+
+def read_script(text):
+    """A script, read to its end. A line that is wrong is named with what is wanted there."""
     script, lines = Script(), text.split("\n")
     for place, line in enumerate(lines, 1):
+        script.place = place
         try:
             script.take(line)
         except Wrong as wrong:
             raise Wrong(f"line {place}: wants {wrong}") from None
     if script.sites is None:
         raise Wrong(f"line {len(lines)}: wants sites N tolerated F")
-    return script.scenario()
+    return script
+
+
+def read(text):
+    """The scenario of a script."""
+    return read_script(text).scenario()
 
 
 def turn_lines(name, sent):
@@ -260,6 +329,13 @@ def turn_lines(name, sent):
     return lines, sent[len(frame) :]
 
 
+def words_of_step(word, *numbers):
+    """The line of a step that isn't a client's turn."""
+    form = next(form for form in FORMS if form.split()[0] == word)
+    given = iter(numbers)
+    return " ".join(str(next(given)) if part.isupper() else part for part in form.split())
+
+
 def write(made):
     """A script of a scenario. Clients are named by their numbers, client0 and so on."""
     sent = [bytes.fromhex(sent) for _, sent in made["clients"]]
@@ -269,19 +345,25 @@ def write(made):
     for which, kind, site in made["containers"]:
         lines.append(f"container {which} {'set' if kind == 'cset' else kind} at {site}")
     lines += [f"client client{place} at {site}" for place, (site, _) in enumerate(made["clients"])]
-    lines += [f"armed {site} call {nth} choice {choice}" for site, nth, choice in made.get("arms", [])]
-    for word, where, *fault in made["steps"]:
+    lines += [words_of_step("armed", *arm) for arm in made.get("arms", [])]
+    for word, where, *more in made["steps"]:
         if word == "call":
-            more, sent[where] = turn_lines(f"client{where}", sent[where])
-            lines += more
-        elif word == "arm":
-            lines.append(f"arm {where} call {fault[0]} choice {fault[1]}")
-        elif word in ("stop", "restart"):
-            lines.append(f"{word} {where}")
+            turns, sent[where] = turn_lines(f"client{where}", sent[where])
+            lines += turns
+        elif word in STEPS:
+            lines.append(words_of_step(word, where, *more))
         else:
             raise ValueError(word)
     lines += [f"client{place}: bytes {rest.hex()}" for place, rest in enumerate(sent) if rest]
     return "\n".join(lines) + "\n"
+
+
+def script_of(text):
+    """A script of a scenario that is JSON."""
+    try:
+        return write(json.loads(text))
+    except (ValueError, TypeError, KeyError, IndexError, AttributeError):
+        raise Wrong(NO_SCENARIO) from None
 
 
 def text_of(made):

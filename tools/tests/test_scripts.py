@@ -1,6 +1,5 @@
 """Scripts become the scenarios that they say, and come back; wrong lines are refused where they stand."""
 
-import glob
 import json
 import os
 import random
@@ -8,8 +7,7 @@ import subprocess
 import sys
 import unittest
 
-TOP = os.path.dirname(os.path.dirname(os.path.dirname(os.path.abspath(__file__))))
-sys.path[:0] = [os.path.join(TOP, "tools"), os.path.join(TOP, "bench")]
+from played import TOP, RANDOM, examples, file_text
 import compare
 import scripts
 
@@ -35,13 +33,20 @@ WRONG = [
 ]
 
 
-def file_text(path):
-    with open(path, encoding="utf-8") as source:
-        return source.read()
-
-
-def examples(kind):
-    return sorted(glob.glob(os.path.join(TOP, "examples", "*." + kind)))
+HEAD_OF_THREE = "sites 3 tolerated 1\ncontainer 1 regular at 2\nclient ann at 1\n"
+WRONG_OF_THREE = [
+    ("deliver to 1 from 1 packet 1", 4, "a site below 3 other than 1"),
+    ("deliver to 3 from 1 packet 1", 4, "a site below 3"),
+    ("ann: start\ndeliver to 1 from 0 packet 0", 5, "a packet's number from 1 to 4294967295"),
+    ("deliver to 1 from 0 packet 4294967296", 4, "a packet's number from 1 to 4294967295"),
+    ("deliver 1 from 0 packet 1", 4, "one of sites N tolerated F; capacity N; "),
+    ("tick 0\nadvance 2 from 2", 5, "a site below 3 other than 2"),
+    ("advance 1 from 3", 4, "a site below 3"),
+    ("advance 1", 4, "one of sites N tolerated F; capacity N; "),
+    ("tick 3", 4, "a site below 3"),
+    ("client bob at 3", 4, "a site below 3"),
+    ("container 2 set at 3", 4, "a site below 3"),
+]
 
 
 def as_bytes(made):
@@ -54,12 +59,13 @@ class Scripts(unittest.TestCase):
         self.assertTrue(examples("script"))
         for path in examples("script"):
             with self.subTest(os.path.basename(path)):
-                made = json.loads(file_text(path[: -len("script")] + "json"))
-                self.assertEqual(as_bytes(scripts.read(file_text(path))), as_bytes(made))
+                made, read = json.loads(file_text(path[: -len("script")] + "json")), scripts.read(file_text(path))
+                self.assertEqual(as_bytes(read), as_bytes(made))
+                self.assertEqual(scripts.read(scripts.write(read)), read)
 
     def test_scenarios_go_to_scripts_and_back(self):
         made = [json.loads(file_text(path)) for path in examples("json")]
-        for one in made + [compare.scenario(seed) for seed in range(200)]:
+        for one in made + [compare.scenario(seed) for seed in RANDOM]:
             text = scripts.write(one)
             self.assertEqual(as_bytes(scripts.read(text)), as_bytes(one))
             self.assertEqual(scripts.write(scripts.read(text)), text)
@@ -84,12 +90,30 @@ class Scripts(unittest.TestCase):
             self.assertEqual(bytes.fromhex(sent)[21:], value)
 
     def test_a_wrong_line_is_refused_with_what_is_wanted(self):
-        for lines, place, wanted in WRONG:
-            with self.subTest(lines), self.assertRaises(scripts.Wrong) as wrong:
-                scripts.read(HEAD + lines)
-            self.assertTrue(str(wrong.exception).startswith(f"line {place}: wants {wanted}"), str(wrong.exception))
-        with self.assertRaisesRegex(scripts.Wrong, "line 1: wants sites N tolerated F first"):
-            scripts.read("client ann at 0")
+        for head, cases in [(HEAD, WRONG), (HEAD_OF_THREE, WRONG_OF_THREE)]:
+            for lines, place, wanted in cases:
+                self.is_refused(head + lines, place, wanted)
+        self.is_refused("client ann at 0", 1, "sites N tolerated F first")
+        self.is_refused("sites 9 tolerated 0", 1, "a number of sites from 1 to 8")
+        self.is_refused("sites 3 tolerated 3", 1, "fewer sites that may be lost than there are")
+        self.is_refused("# no sites\n\n", 3, "sites N tolerated F")
+
+    def is_refused(self, text, place, wanted):
+        with self.subTest(text), self.assertRaises(scripts.Wrong) as wrong:
+            scripts.read(text)
+        self.assertTrue(str(wrong.exception).startswith(f"line {place}: wants {wanted}"), str(wrong.exception))
+
+    def test_the_steps_of_several_sites(self):
+        lines = "sites 8 tolerated 7\ncontainer 1 set at 7\nclient ann at 5\n" \
+            "deliver to 1 from 0 packet 4294967295 # late\nadvance 7 from 2\ntick 6\nstop 3\n"
+        made = {"sites": 8, "f": 7, "containers": [[1, "cset", 7]], "clients": [[5, ""]],
+                "steps": [["deliver", 1, 0, 4294967295], ["advance", 7, 2], ["tick", 6], ["stop", 3]]}
+        self.assertEqual(scripts.read(lines), made)
+        self.assertEqual(scripts.write(made), lines.replace("ann", "client0").replace(" # late", ""))
+
+    def test_each_step_has_its_line(self):
+        script = scripts.read_script(HEAD_OF_THREE + "ann: start\n\nann: bytes 00\ntick 0\narmed 1 call 1 choice 0")
+        self.assertEqual((script.places, script.armed_at), ([4, 7], [8]))
 
     def test_the_tool_reads_a_file_or_its_input(self):
         tool = [sys.executable, os.path.join(TOP, "tools", "scenario")]

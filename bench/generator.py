@@ -1,0 +1,333 @@
+"""Random scenarios, each by its seed: of one site and of several, and some that come to a limit.
+
+Of ten seeds in a row one makes a scenario that comes to a limit: a site's open transactions, the updates and the bytes of a
+transaction, the ids of a set, the bytes of a value and of a frame, the packets of a lane. Two make one of one site, and
+seven one of several, in the kinds of `SEVERAL`. These are made beside a run of the plain model, which tells which packets
+there are: so most deliveries find one, in order or not, again, late or never.
+"""
+
+import random
+import struct
+from collections import Counter, namedtuple
+
+import model
+from spelled import frame, on_set, write
+
+CONTAINERS = [[1, "regular", 0], [2, "cset", 0], [7, "regular", 0]]
+CUT = [b"", b"\2\0\0", b"\3" + bytes(12) + b"\0\0\0\5abc", b"\x0a" + bytes(12)]
+BAD_BODIES = CUT + [b"\0", b"\x0b", b"\1\0", b"\4" + bytes(21)]
+BAD_ENDS = [b"\0\0", struct.pack(">I", 70000) + b"\1", struct.pack(">I", 9) + b"\1"]
+START, COMMIT, ABORT = (bytes([operation]) for operation in (model.START, model.COMMIT, model.ABORT))
+CHOICES = [0, 1, 1, 2, 7, 256, 257]
+
+
+def frames(bodies):
+    return b"".join(map(frame, bodies))
+
+
+def near(rng, limit):
+    """A number at the limit, or close to it."""
+    return limit + rng.choice([-1, 0, 0, 1, 1, 2])
+
+
+# What clients send
+
+
+def object_for(rng, operation, strict, regular=(1, 7)):
+    """Mostly of a container of the operation's kind, where `strict` wants it always."""
+    fitting = regular if operation in (model.READ, model.WRITE) else (2,)
+    containers = fitting if strict or rng.random() < 0.7 else (1, 2, 7, 3)
+    return struct.pack(">IQ", rng.choice(containers), rng.randint(1, 2))
+
+
+def request(rng, operation, strict, regular=(1, 7)):
+    body = bytes([operation]) + object_for(rng, operation, strict, regular)
+    if operation == model.WRITE:
+        return body + frame(rng.randbytes(rng.randint(0, 4)))
+    if operation in (model.SET_ADD, model.SET_DEL, model.SET_READ_ID):
+        return body + struct.pack(">Q", rng.choice([1, 2, 3, 2**64 - 1]))
+    return body
+
+
+def change_or_read(rng, strict):
+    operations = [model.READ, model.WRITE, model.SET_ADD, model.SET_DEL, model.SET_READ, model.SET_READ_ID]
+    return request(rng, rng.choice(operations), strict)
+
+
+def level(*tid):
+    return struct.pack(">BBIQ", model.LEVEL, *tid)
+
+
+def any_body(rng):
+    if rng.random() < 0.1:
+        return rng.choice(BAD_BODIES)
+    if rng.random() < 0.2:
+        return level(rng.choice([0, 0, 0, 1]), rng.randint(0, 3), rng.randint(0, 8))
+    if rng.random() < 0.5:
+        return rng.choice([START, COMMIT, ABORT])
+    return change_or_read(rng, False)
+
+
+def transaction(rng):
+    changes = [change_or_read(rng, True) for _ in range(rng.randint(0, 5))]
+    return [START, *changes, ABORT if rng.random() < 0.1 else COMMIT]
+
+
+def sent(rng):
+    """What a client sends: transactions, and anything between them."""
+    bodies = []
+    for _ in range(rng.randint(0, 8)):
+        bodies += transaction(rng) if rng.random() < 0.8 else [any_body(rng) for _ in range(4)]
+    return frames(bodies) + (rng.choice(BAD_ENDS) if rng.random() < 0.1 else b"")
+
+
+# Scenarios of one site
+
+
+def arm(rng, site):
+    return ["arm", site, rng.randint(1, rng.choice([4, 12])), rng.choice(CHOICES)]
+
+
+def step(rng, clients, calm):
+    if rng.random() < calm:
+        return ["call", rng.randrange(clients)]
+    word = rng.choice(["stop", "restart", "restart", "arm"])
+    return arm(rng, 0) if word == "arm" else [word, 0]
+
+
+def small(rng):
+    """What some clients send, and steps in any order."""
+    clients = [sent(rng) for _ in range(rng.randint(1, 5))]
+    calm = rng.choice([1, 0.97, 0.85])
+    made = of_one(clients, [step(rng, len(clients), calm) for _ in range(rng.randint(5, 200))])
+    if rng.random() < 0.3:
+        made["arms"] = [[0, rng.randint(1, 30), rng.choice([0, 1, 7, 257])] for _ in range(rng.randint(1, 2))]
+    if rng.random() < 0.3:
+        made["capacity"] = rng.choice([19, 30, 150, 300, 700, 2000])
+    return made
+
+
+def of_one(clients, steps):
+    clients = [[0, client.hex()] for client in clients]
+    return {"sites": 1, "f": 0, "containers": CONTAINERS, "clients": clients, "steps": steps}
+
+
+# Scenarios of one site that come to a limit
+
+
+def many_open(rng):
+    """About as many clients start as may have a transaction open; then each has two more turns, in any order."""
+    count = near(rng, 256)
+    clients = [frames([START, *(any_body(rng) for _ in range(2))]) for _ in range(count)]
+    order = rng.sample(range(count), count)
+    return of_one(clients, [["call", client] for client in order + rng.choices(order, k=2 * count)])
+
+
+def many_updates(rng):
+    """A transaction of about as many updates as may be, of ids in one set."""
+    changes = [on_set(model.SET_ADD, (2, 1), rng.randrange(2**64)) for _ in range(near(rng, 256))]
+    bodies = [START, *changes, any_body(rng), COMMIT, any_body(rng)]
+    return of_one([frames(bodies)], [["call", 0]] * len(bodies))
+
+
+def many_bytes(rng):
+    """A transaction of about as many bytes as may be, and an update more."""
+    values = [4096] * rng.randint(0, 14)
+    left = near(rng, 60000) - 87 - sum(17 + size for size in values)
+    while left > 17 + 4096:
+        values.append(rng.randint(2000, 4096 - 17))
+        left -= 17 + values[-1]
+    values.append(max(0, left - 17))
+    changes = [write((1, place % 3), rng.randbytes(size)) for place, size in enumerate(values)]
+    bodies = [START, *changes, change_or_read(rng, True), COMMIT, any_body(rng)]
+    return of_one([frames(bodies)], [["call", 0]] * len(bodies))
+
+
+def many_ids(rng):
+    """About as many ids in a set as may be read, committed but for the last few, and one taken away or more."""
+    ids = rng.sample(range(2**32), near(rng, 4095))
+    bodies = []
+    for first in range(0, 4095 - 255, 255):
+        bodies += [START, *(on_set(model.SET_ADD, (2, 1), number) for number in ids[first : first + 255]), COMMIT]
+    added = (len(bodies) // 257) * 255
+    read = bytes([model.SET_READ]) + struct.pack(">IQ", 2, 1)
+    bodies += [START, *(on_set(model.SET_ADD, (2, 1), number) for number in ids[added:]), read]
+    for number in rng.sample(ids, rng.randint(0, 2)):
+        bodies += [on_set(model.SET_DEL, (2, 1), number), read]
+    return of_one([frames([*bodies, COMMIT])], [["call", 0]] * (len(bodies) + 1))
+
+
+def long_value(rng):
+    """Values of about as many bytes as one may have, and reads of them."""
+    read = bytes([model.READ]) + struct.pack(">IQ", 1, 1)
+    bodies = [START]
+    for _ in range(4):
+        bodies += [write((1, 1), rng.randbytes(near(rng, 4096))), read]
+    bodies += [COMMIT, START, read]
+    return of_one([frames(bodies)], [["call", 0]] * len(bodies))
+
+
+def long_frame(rng):
+    """A frame of about as many bytes as one may have, and what is sent behind it."""
+    body = write((1, 1), bytes(near(rng, 65536) - 17))
+    bodies = [START, body, write((1, 1), b"a"), COMMIT]
+    return of_one([frames(bodies)], [["call", 0]] * len(bodies))
+
+
+# Scenarios of several sites
+
+# How many sites there are, the weights of the steps, how many of the packets are lost, and how many come in any order or
+# again, how often disks are armed from the start, whether journals are short, and how much clients read.
+Kind = namedtuple("Kind", "sites weights lost mixed arms short reads")
+WORDS = ["call", "deliver", "advance", "tick", "stop", "restart", "arm"]
+SEVERAL = {
+    "quiet": Kind((2, 3, 3, 4), (40, 50, 18, 2, 0, 0.1, 0), 0, 0.05, 0, False, 0.3),
+    "lossy": Kind((2, 3, 4), (30, 50, 14, 10, 0.3, 1, 0), 0.3, 0.4, 0, False, 0.3),
+    "stopped": Kind((2, 2, 3, 4), (30, 45, 12, 10, 3, 6, 0), 0.1, 0.2, 0, False, 0.3),
+    "failing": Kind((2, 2, 3), (30, 40, 12, 8, 1, 6, 6), 0.05, 0.2, 0.7, False, 0.2),
+    "short": Kind((2, 2, 3, 4), (40, 50, 14, 8, 2.5, 8, 0.5), 0.05, 0.1, 0.2, True, 0),
+    "wide": Kind((5, 6, 7, 8), (30, 70, 22, 2, 0.3, 1, 0.3), 0.05, 0.1, 0.1, False, 0.2),
+    "fought over": Kind((2, 3, 3, 4), (50, 60, 6, 4, 0.3, 2, 2), 0.05, 0.15, 0.1, False, 0),
+}
+
+
+def of_several(rng, site, regular, reads):
+    """What a client of one of several sites sends: its slow commits are asked about, and its levels."""
+    bodies, operations = [], [model.WRITE, model.SET_ADD, model.SET_DEL, model.READ, model.SET_READ, model.SET_READ_ID]
+    weights = (60, 10, 6, 40 * reads, 20 * reads, 20 * reads)
+    for _ in range(rng.randint(1, 8)):
+        chosen = rng.choices(operations, weights, k=rng.randint(0 if reads else 1, 3))
+        bodies += [START, *(request(rng, operation, True, regular) for operation in chosen), COMMIT]
+        bodies += [COMMIT] * rng.choice([0, 0, 1, 2])
+        bodies += [level(site, rng.choice([1, 1, 1, 2]), rng.randint(1, 4)) for _ in range(rng.choice([0, 0, 1, 2]))]
+        if rng.random() < 0.1:
+            bodies.append(any_body(rng))
+    return frames(bodies)
+
+
+class Maker:
+    """A scenario of several sites while it is made, beside a run of the model that has played its steps so far."""
+
+    def __init__(self, rng, kind):
+        self.rng, self.kind, self.steps = rng, kind, []
+        self.sites = rng.choice(kind.sites)
+        self.made = {"sites": self.sites, "f": rng.choice([0, 0, 1, rng.randrange(self.sites)]),
+                     "containers": self.containers(), "clients": self.clients()}
+        if kind.short:
+            # A slow commit begins where its coordinator has about 140 bytes, and its locks take about 40 at each participant.
+            self.made["capacity"] = rng.randint(*rng.choice([(19, 60), (150, 190), (150, 190), (190, 400), (400, 1300)]))
+        if rng.random() < kind.arms:
+            self.made["arms"] = [arm(rng, rng.randrange(self.sites))[1:] for _ in range(rng.randint(1, 3))]
+        self.run = model.Run(self.made, Counter())
+        # Up to where each lane has come, in order.
+        self.come = Counter()
+
+    def regular(self):
+        """The containers of regular objects: more where there are more sites, so that a slow commit may ask several."""
+        return (1, 7, *range(8, 4 + self.sites))
+
+    def containers(self):
+        """Few objects, so that they are fought over, preferred at any sites."""
+        kinds = {2: "cset", **{number: "regular" for number in self.regular()}}
+        return [[number, kinds[number], self.rng.randrange(self.sites)] for number in sorted(kinds)]
+
+    def clients(self):
+        sites = [self.rng.randrange(self.sites) for _ in range(self.rng.randint(2, 6))]
+        return [[site, of_several(self.rng, site, self.regular(), self.kind.reads).hex()] for site in sites]
+
+    def peers(self):
+        return self.rng.sample(range(self.sites), 2)
+
+    def take(self, made):
+        self.steps.append(made)
+        self.run.step(*made)
+
+    def lanes(self, *packets):
+        """The lanes on which there is a packet to come, the next of them one of these if any are named."""
+        for here, there in self.run.arrived:
+            put_out, come = self.run.sites[there].put_out[here], self.come[here, there]
+            if come < len(put_out) and (not packets or put_out[come][1][0] in packets):
+                yield here, there
+
+    def call(self):
+        return ["call", self.rng.randrange(len(self.made["clients"]))]
+
+    def deliver(self):
+        """Mostly a packet of a lane on which some are still to come."""
+        lanes = list(self.lanes())
+        if not lanes and self.rng.random() < 0.8:
+            return self.call()
+        here, there = self.rng.choice(lanes) if lanes and self.rng.random() < 0.95 else self.peers()
+        return ["deliver", here, there, self.packet(here, there)]
+
+    def packet(self, here, there):
+        """Mostly the next on the lane, once some are lost; else any of the last few, or one that isn't there."""
+        rng, last = self.rng, len(self.run.sites[there].put_out[here])
+        if last == 0 or rng.random() < 0.01:
+            return last + rng.randint(1, 3)
+        if self.come[here, there] == last or rng.random() < self.kind.mixed:
+            return rng.randint(max(1, last - 8), last)
+        self.come[here, there] += 1
+        while self.come[here, there] < last and rng.random() < self.kind.lost:
+            self.come[here, there] += 1
+        return self.come[here, there]
+
+    def advance(self):
+        """Mostly where there is something to commit."""
+        able = [(site.me, peer) for site in self.run.sites for peer in site.peers
+                if min(site.got[peer], site.durable_at[peer]) > site.committed[peer]]
+        if not able and self.rng.random() < 0.9:
+            return self.deliver()
+        return ["advance", *(self.rng.choice(able) if able and self.rng.random() < 0.95 else self.peers())]
+
+    def tick(self):
+        return ["tick", self.rng.randrange(self.sites)]
+
+    def stop(self):
+        return ["stop", self.rng.randrange(self.sites)]
+
+    def restart(self):
+        down = [site.me for site in self.run.sites if not site.up]
+        if not down and self.rng.random() < 0.8:
+            return self.deliver()
+        return ["restart", self.rng.choice(down or range(self.sites))]
+
+    def arm(self):
+        """Half of the arms are aimed at the record that ends a slow commit, and its packet comes at once."""
+        lanes = list(self.lanes(model.VOTE, model.RELEASE))
+        if not lanes or self.rng.random() < 0.5:
+            return arm(self.rng, self.rng.randrange(self.sites))
+        here, there = self.rng.choice(lanes)
+        self.take(["arm", here, self.rng.randint(1, 4), self.rng.choice(CHOICES)])
+        return ["deliver", here, there, self.come[here, there] + 1]
+
+    def scenario(self, count):
+        for _ in range(count):
+            self.take(getattr(self, self.rng.choices(WORDS, self.kind.weights)[0])())
+        return {**self.made, "steps": self.steps}
+
+
+def several(rng, kind):
+    return Maker(rng, SEVERAL[kind]).scenario(rng.randint(20, 300))
+
+
+def full_lane(rng):
+    """A site says two packets again until about as many wait for another as a lane may have; then one of them comes."""
+    client = [0, frames([START, on_set(model.SET_ADD, (2, 1), 9), COMMIT]).hex()]
+    late = [["deliver", 1, 0, near(rng, 1024)], ["tick", 0], ["deliver", 1, 0, near(rng, 1025)], ["tick", 0]]
+    steps = [["call", 0]] * 3 + [["tick", 0]] * near(rng, 1024 // 2 - 1) + late
+    return {"sites": 2, "f": 0, "containers": [[2, "cset", 0]], "clients": [client], "steps": steps}
+
+
+# The kinds, by seed
+
+AT_LIMIT = [many_open, many_updates, many_bytes, many_ids, long_value, long_frame, full_lane]
+# Of ten seeds in a row: what is made by each but the first.
+BY_SEED = [None, "one", "one", *SEVERAL]
+
+
+def scenario(seed):
+    rng, kind = random.Random(seed), BY_SEED[seed % 10]
+    if kind is None:
+        return AT_LIMIT[seed // 10 % len(AT_LIMIT)](rng)
+    return small(rng) if kind == "one" else several(rng, kind)

@@ -1,0 +1,382 @@
+"""Reads what `walter play` and `walter play --trace` write, by docs/FORMATS.md alone. A line that doesn't fit is refused."""
+
+import functools
+import re
+import struct
+from collections import namedtuple
+
+MOST_BODY, MOST_ENTRIES, MOST_UPDATES, MOST_IDS, MOST_SITES = 65536, 100_000, 256, 4095, 8
+PACKETS = ("propagate", "ack", "dsmark", "visible", "prepare", "vote", "release", "released")
+CALLS = ("start", "read", "write", "setadd", "setdel", "setread", "setreadid", "commit", "abort", "level", "bad")
+
+# A client's line: its site, and the frames of its replies.
+Client = namedtuple("Client", "site replies")
+# An entry of a trail, with its line and that line's number. An event is its word and what stands behind it: the client and
+# the name of a call, the sender, the number and the name of a packet, the site of an Advance; and so an outcome.
+Entry = namedtuple("Entry", "place line stamp site event outcome kept wrote flight sends dropped")
+# `entries` has no items where the trace wasn't written.
+Report = namedtuple("Report", "sites tolerated clients lines entries")
+# A site's line, as it says it of the site's trail.
+SiteLine = namedtuple("SiteLine", "place up epoch events records got committed log")
+# A record: its kind, and of these what it has. `site` is another site, `number` an epoch, a commit, or a slow commit.
+Record = namedtuple("Record", "kind site number transaction name objects marks", defaults=(None,) * 6)
+# An update is its kind, `write`, `setadd` or `setdel`, the object, and its bytes or its id.
+Transaction = namedtuple("Transaction", "name slow snapshot updates")
+Reply = namedtuple("Reply", "kind fields")
+
+WHOLE = "(?:0|[1-9][0-9]{0,19})"
+VERSION = f"{WHOLE}:{WHOLE}"
+NUMBER, LIST, VERSIONS = f"({WHOLE})", f"({WHOLE}(?:,{WHOLE})*)", f"({VERSION}(?:,{VERSION})*|-)"
+HEX = "((?:[0-9a-f]{2})+|-)"
+HEAD_LINE = re.compile(f"sites {NUMBER} f {NUMBER} clients {NUMBER}")
+CLIENT_LINE = re.compile(f"client {NUMBER} site {NUMBER} replies {NUMBER} {HEX}")
+SITE_LINE = re.compile(f"site {NUMBER} (up|down) epoch {NUMBER} events {NUMBER} records {NUMBER} "
+                       f"got {LIST} committed {LIST} log {VERSIONS}")
+ENTRY_LINE = re.compile(rf"e {NUMBER} {NUMBER} (\S+) (\S+) {HEX} {HEX} {HEX} (\S+) {NUMBER}")
+EVENTS = [
+    re.compile(f"(call):{NUMBER}:({'|'.join(CALLS)})"),
+    re.compile(f"(deliver):{NUMBER}:{NUMBER}:({'|'.join(PACKETS)})"),
+    re.compile(f"(advance):{NUMBER}"),
+    re.compile("(tick|stop|restart)"),
+]
+OUTCOMES = [
+    re.compile("(reply):((?:[0-9a-f]{2})+)"),
+    re.compile(f"(full):{NUMBER}:{NUMBER}"),
+    re.compile("(taken|passed|failed|memory|down)"),
+]
+SEND = re.compile(f"{NUMBER}:({'|'.join(PACKETS)})")
+
+
+class Wrong(Exception):
+    """A report that doesn't fit the formats, or not its scenario."""
+
+
+def wrong(place, wants):
+    return Wrong(f"line {place}: wants {wants}")
+
+
+# ---- bytes
+
+
+class Cursor:
+    """Bytes, read field by field. What isn't there, or isn't right, is a ValueError."""
+
+    def __init__(self, data):
+        self.data, self.at = data, 0
+
+    def take(self, packed):
+        fields = struct.unpack_from(">" + packed, self.data, self.at) if self.left() >= struct.calcsize(">" + packed) else None
+        if fields is None:
+            raise ValueError("bytes are wanting")
+        self.at += struct.calcsize(">" + packed)
+        return fields
+
+    def left(self):
+        return len(self.data) - self.at
+
+    def number(self, size):
+        return self.take(size)[0]
+
+    def block(self):
+        length = self.number("I")
+        return self.take(f"{length}s")[0]
+
+    def end(self):
+        require(self.left() == 0)
+
+
+def require(right):
+    if not right:
+        raise ValueError("not as docs/FORMATS.md has it")
+
+
+def transaction_of(cursor, sites):
+    name, slow, vector = cursor.take("BIQ"), cursor.number("Q"), cursor.take("8Q")
+    require(name[0] < sites and not any(vector[sites:]))
+    count = cursor.number("H")
+    require(1 <= count <= MOST_UPDATES)
+    return Transaction(name, slow, vector[:sites], tuple(update_of(cursor) for _ in range(count)))
+
+
+def update_of(cursor):
+    kind = cursor.number("B")
+    require(kind in (1, 2, 3))
+    oid = cursor.take("IQ")
+    if kind == 1:
+        return "write", oid, cursor.block()
+    return "setadd" if kind == 2 else "setdel", oid, cursor.number("Q")
+
+
+def objects_of(cursor):
+    count = cursor.number("H")
+    objects = tuple(cursor.take("IQ") for _ in range(count))
+    require(1 <= count <= MOST_UPDATES and all(one < other for one, other in zip(objects, objects[1:])))
+    return objects
+
+
+def record_of(data, sites):
+    """The record that these bytes spell."""
+    cursor = Cursor(data)
+    record = record_at(cursor, cursor.number("B"), sites)
+    cursor.end()
+    require(record.site is None or record.site < sites)
+    return record
+
+
+def record_at(cursor, kind, sites):
+    require(1 <= kind <= 9)
+    name = ("Boot", "Own", "Got", "Seen", "Prepared", "Released", "SlowBegin", "SlowEnd", "Marks")[kind - 1]
+    if name == "Boot":
+        return Record(name, number=cursor.number("I"))
+    if name == "Marks":
+        return Record(name, marks=cursor.take("QQ"))
+    site = cursor.number("B") if name in ("Got", "Seen", "Prepared", "Released") else None
+    record = Record(name, site, cursor.number("Q"))
+    if name in ("Own", "Got", "SlowBegin"):
+        return record._replace(transaction=transaction_of(cursor, sites))
+    if name == "Prepared":
+        return record._replace(name=cursor.take("BIQ"), objects=objects_of(cursor))
+    return record
+
+
+@functools.lru_cache(maxsize=16384)
+def reply_of(frame):
+    """The reply whose frame this is."""
+    cursor = Cursor(frame)
+    require(cursor.number("I") == cursor.left() <= MOST_BODY)
+    reply = reply_at(cursor, cursor.number("B"))
+    cursor.end()
+    return reply
+
+
+def reply_at(cursor, kind):
+    if kind in (0x80, 0x87, 0x8A):
+        return Reply({0x80: "started", 0x87: "deciding", 0x8A: "unsure"}[kind], cursor.take("BIQ"))
+    if kind == 0x81:
+        flag = cursor.number("B")
+        require(flag < 2)
+        return Reply("value", cursor.block() if flag else None)
+    if kind in (0x82, 0x89):
+        return Reply("done" if kind == 0x82 else "ended", None)
+    if kind == 0x83:
+        return Reply("set", counts_of(cursor))
+    if kind == 0x84:
+        return Reply("count", cursor.number("q"))
+    if kind == 0x85:
+        return Reply("committed", cursor.take("BQ"))
+    if kind == 0x86:
+        return Reply("aborted", conflict_of(cursor))
+    if kind == 0x88:
+        level = cursor.number("B")
+        require(level <= 5)
+        return Reply("level", level)
+    require(kind == 0xE0)
+    return Reply("refused", refusal_of(cursor))
+
+
+def counts_of(cursor):
+    entries = tuple(cursor.take("Qq") for _ in range(cursor.number("I")))
+    rising = all(one[0] < other[0] for one, other in zip(entries, entries[1:]))
+    require(len(entries) <= MOST_IDS and rising and all(count for _, count in entries))
+    return entries
+
+
+def conflict_of(cursor):
+    """The cause of an abort: a word, and of a conflict the object and what stands in the way of it."""
+    cause = cursor.number("B")
+    require(cause in (1, 2, 3))
+    if cause == 3:
+        return ("asked",)
+    oid = cursor.take("IQ")
+    return ("modified", oid, cursor.take("BQ")) if cause == 1 else ("locked", oid, cursor.take("BIQ"))
+
+
+def refusal_of(cursor):
+    """Why a call was refused: the number, and what stands behind it."""
+    why = cursor.number("B")
+    require(1 <= why <= 15)
+    behind = {7: "BIQ", 8: "I", 10: "QQ"}.get(why)
+    return (why, cursor.take(behind)) if behind else (why, None)
+
+
+def frames_of(data):
+    """The frames that stand one behind another."""
+    frames, at = [], 0
+    while at < len(data):
+        require(len(data) - at >= 4)
+        (length,) = struct.unpack_from(">I", data, at)
+        require(length <= len(data) - at - 4)
+        frames.append(data[at : at + 4 + length])
+        at += 4 + length
+    return frames
+
+
+# ---- lines
+
+
+def hex_of(text):
+    return b"" if text == "-" else bytes.fromhex(text)
+
+
+def numbers_of(text):
+    return tuple(map(int, text.split(",")))
+
+
+def first_match(patterns, text):
+    return next((match for match in (pattern.fullmatch(text) for pattern in patterns) if match), None)
+
+
+def parts_of(match):
+    return tuple(int(part) if part.isdigit() else part for part in match.groups())
+
+
+class Reading:
+    """A report while it is read, line by line."""
+
+    def __init__(self, text):
+        if not text.endswith("\n"):
+            raise wrong(text.count("\n") + 1, "a line feed at the end of the report")
+        self.lines, self.at = text[:-1].split("\n"), 0
+
+    def match(self, pattern, wants):
+        line = self.lines[self.at] if self.at < len(self.lines) else ""
+        self.at += 1
+        match = pattern.fullmatch(line)
+        if match is None:
+            raise wrong(self.at, wants)
+        return match
+
+    def check(self, right, wants):
+        if not right:
+            raise wrong(self.at, wants)
+
+    def bytes_as(self, decode, wants, *given):
+        """What the bytes are, by a decoder that says where they are nothing."""
+        try:
+            return decode(*given)
+        except (ValueError, struct.error):
+            raise wrong(self.at, wants) from None
+
+    def report(self):
+        sites, tolerated, count = map(int, self.match(HEAD_LINE, "sites N f F clients N").groups())
+        self.check(1 <= sites <= MOST_SITES and tolerated < sites, f"1 to {MOST_SITES} sites, fewer of them to be lost")
+        self.sites = sites
+        clients = [self.client(number) for number in range(count)]
+        lines = [self.site(number) for number in range(sites)]
+        entries = []
+        while self.at < len(self.lines):
+            entries.append(self.entry(entries[-1] if entries else None, count))
+        return Report(sites, tolerated, clients, lines, entries)
+
+    def client(self, number):
+        match = self.match(CLIENT_LINE, f"client {number} site S replies K HEX")
+        who, site, count = map(int, match.groups()[:3])
+        self.check(who == number and site < self.sites, f"client {number} at a site below {self.sites}")
+        replies = self.bytes_as(frames_of, "the frames of replies", hex_of(match[4]))
+        self.check(len(replies) == count, f"as many replies as it says, and not {len(replies)}")
+        for reply in replies:
+            self.bytes_as(reply_of, "replies as docs/FORMATS.md has them", reply)
+        return Client(site, replies)
+
+    def site(self, number):
+        wants = f"site {number} up or down, epoch E events N records N got LIST committed LIST log LIST"
+        match = self.match(SITE_LINE, wants)
+        self.check(int(match[1]) == number, wants)
+        got, committed = numbers_of(match[6]), numbers_of(match[7])
+        self.check(len(got) == len(committed) == self.sites, f"{self.sites} numbers in got and in committed")
+        log = [] if match[8] == "-" else [tuple(map(int, version.split(":"))) for version in match[8].split(",")]
+        return SiteLine(self.at, match[2] == "up", *map(int, match.groups()[2:5]), got, committed, log)
+
+    def entry(self, before, clients):
+        match = self.match(ENTRY_LINE, "e STAMP SITE EVENT OUTCOME KEPT WROTE FLIGHT SENDS DROPPED")
+        stamp, site = int(match[1]), int(match[2])
+        self.check(site < self.sites, f"a site below {self.sites}")
+        self.check(before is None or (before.stamp, before.site) < (stamp, site), "entries by stamp, and then by site")
+        event = self.event(match[3], site, clients)
+        records = [self.bytes_as(record_of, "records as docs/FORMATS.md has them", hex_of(text), self.sites)
+                   if text != "-" else None for text in match.groups()[4:7]]
+        sends = self.sends(match[8], site)
+        outcome = self.outcome(match[4], event)
+        return Entry(self.at, match[0], stamp, site, event, outcome, *records, sends, int(match[9]))
+
+    def event(self, text, site, clients):
+        match = first_match(EVENTS, text)
+        self.check(match, "an event")
+        event = parts_of(match)
+        if event[0] == "call":
+            self.check(event[1] < clients, "a client of the report")
+        elif event[0] in ("deliver", "advance"):
+            self.check(event[1] < self.sites and event[1] != site, "another site")
+            self.check(event[0] == "advance" or event[2] > 0, "a packet's number from 1")
+        return event
+
+    def outcome(self, text, event):
+        match = first_match(OUTCOMES, text)
+        self.check(match and (match[1] == "reply") == (event[0] == "call"), "an outcome, a reply of calls and of them alone")
+        if match[1] != "reply":
+            return parts_of(match)
+        frame = bytes.fromhex(match[2])
+        self.bytes_as(reply_of, "a reply as docs/FORMATS.md has it", frame)
+        return "reply", frame
+
+    def sends(self, text, site):
+        if text == "-":
+            return ()
+        matches = [SEND.fullmatch(send) for send in text.split(",")]
+        self.check(all(matches), "packets that are put out, as SITE:NAME")
+        sends = tuple((int(match[1]), match[2]) for match in matches)
+        self.check(all(to < self.sites and to != site for to, _ in sends), f"other sites below {self.sites}")
+        return sends
+
+
+# ---- what the lines of a report say of each other
+
+
+def goes_down(entry):
+    return entry.flight is not None or entry.event[0] == "stop" and entry.outcome[0] == "taken" or entry.outcome[0] == "failed"
+
+
+def records_of(entries):
+    return [record for entry in entries for record in (entry.kept, entry.wrote) if record]
+
+
+def line_of_trail(place, sites, me, entries):
+    """What the line of a site is to say of its trail."""
+    up = False
+    for entry in entries:
+        up = not goes_down(entry) and (up or entry.event[0] == "restart" and entry.outcome[0] == "taken")
+    records, got, committed, log = records_of(entries), [0] * sites, [0] * sites, []
+    for record in records:
+        site = me if record.kind == "Own" else record.site
+        if record.kind in ("Own", "Got"):
+            got[site] += 1
+        if record.kind in ("Own", "Seen"):
+            committed[site] += 1
+            log.append((site, record.number))
+    epoch = next((record.number for record in reversed(records) if record.kind == "Boot"), 0)
+    return SiteLine(place, up, epoch, len(entries), len(records), tuple(got), tuple(committed), log)
+
+
+def check_trails(report):
+    """Where a trace was written, the lines of sites and clients are those of the trails."""
+    for site, line in enumerate(report.lines):
+        trail = [entry for entry in report.entries if entry.site == site]
+        if line != line_of_trail(line.place, report.sites, site, trail):
+            raise wrong(line.place, "what the entries of the site say")
+    replies = [[] for _ in report.clients]
+    for entry in report.entries:
+        if entry.event[0] == "call":
+            if report.clients[entry.event[1]].site != entry.site:
+                raise wrong(entry.place, "a call at its client's site")
+            replies[entry.event[1]].append(entry.outcome[1])
+    for number, client in enumerate(report.clients):
+        if client.replies != replies[number]:
+            raise wrong(number + 2, "the replies of the client's entries")
+
+
+def read(text):
+    """The report, with its trace where there is one."""
+    report = Reading(text).report()
+    if report.entries:
+        check_trails(report)
+    return report

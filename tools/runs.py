@@ -1,0 +1,452 @@
+"""What a report and a trace tell of a scenario's run: the packets with what they say, the locks, and what each step came to.
+
+A trace names the kinds of packets alone. What they say follows from the records before them, by docs/SITE.md: an ACK says how
+many commits the sender has received, a DSMARK how many of its own are durable, and so on.
+"""
+
+import struct
+from collections import Counter, namedtuple
+
+import reports
+import scripts
+
+Wrong = reports.Wrong
+# What came of a step: its place among the steps, the line of the script that it stands in, the step itself, the call that a
+# turn made, and the moment or the reply that it came to; or else why it came to nothing.
+Step = namedtuple("Step", "place line made call moment reply why", defaults=(None,) * 4)
+
+
+# ---- the scenario
+
+
+def text_of(path):
+    """What a file has, or standard input where none is named."""
+    with open(path or 0, encoding="utf-8") as source:
+        return source.read()
+
+
+def script_of(text):
+    """The script of a scenario, and whether that is JSON."""
+    if text.lstrip()[:1] not in ("{", "["):
+        return scripts.read_script(text), False
+    try:
+        return scripts.read_script(scripts.script_of(text)), True
+    except scripts.Wrong:
+        # Lines of a script that was made of JSON are nobody's.
+        raise scripts.Wrong(scripts.NO_SCENARIO) from None
+
+
+def calls_of(sent):
+    """The frames of a client's bytes that are calls, and the bytes that are none."""
+    calls = []
+    while sent:
+        if len(sent) >= 4 and struct.unpack(">I", sent[:4])[0] > scripts.MOST_BODY:
+            return calls + [sent[:4]], sent[4:]
+        frame = scripts.front(sent)
+        if len(frame) < 4 or len(frame) != 4 + struct.unpack(">I", frame[:4])[0]:
+            return calls, sent
+        calls.append(frame)
+        sent = sent[len(frame) :]
+    return calls, sent
+
+
+class Scenario:
+    """A scenario, with the names and the lines of its script. One that is JSON has client0 and so on, and no lines."""
+
+    def __init__(self, text):
+        script, is_json = script_of(text)
+        self.sites, self.tolerated = script.sites, script.tolerated
+        self.containers = {number: (kind, site) for number, kind, site in script.containers}
+        self.names = list(script.numbers)
+        self.homes = [site for site, _ in script.clients]
+        self.calls, self.rests = zip(*(calls_of(sent) for _, sent in script.clients)) if script.clients else ((), ())
+        self.arms, self.steps = script.arms, script.steps
+        self.places = [None] * len(self.steps) if is_json else script.places
+
+    def home(self, oid):
+        return self.containers.get(oid[0], ("", 0))[1]
+
+    def regular(self, transaction):
+        """The regular objects that a transaction writes, rising."""
+        return sorted({oid for kind, oid, _ in transaction.updates if kind == "write"})
+
+
+# ---- what happened, entry by entry
+
+
+class Packet:
+    """A packet: who put it out, to whom, its number and its kind; what it says; the moments that put it out and took it."""
+
+    def __init__(self, sender, receiver, number, kind, says, moment):
+        self.sender, self.receiver, self.number, self.kind = sender, receiver, number, kind
+        self.says, self.put_out, self.came = says, moment, []
+
+
+# What packets say: a number, and behind it a transaction, the objects of a PREPARE, or what stands in the way of a YES.
+Says = namedtuple("Says", "number transaction name objects against", defaults=(None,) * 4)
+
+
+class Moment:
+    """An entry, with the call or the packet that it took, and the packets that it put out."""
+
+    def __init__(self, entry):
+        self.entry, self.site = entry, entry.site
+        self.call = self.packet = self.news = None
+        self.sends = []
+
+
+class Lock:
+    """Objects of one site that a slow commit has locked, from a moment on, up to another if it was let go."""
+
+    def __init__(self, site, name, objects, moment):
+        self.site, self.name, self.objects, self.begins, self.ends = site, name, objects, moment, None
+
+
+class Slow:
+    """A slow commit of this site: its transaction, whom it asks, who said YES, and who confirmed its RELEASE."""
+
+    def __init__(self, transaction, asked):
+        self.transaction, self.asked, self.stands = transaction, asked, "undecided"
+        self.yes, self.confirmed = set(), set()
+
+
+class Site:
+    """What the records of a site tell, and what its peers have said since it came up."""
+
+    def __init__(self, scenario, me):
+        self.scenario, self.me = scenario, me
+        self.log, self.held = [], {}
+        self.got, self.committed = [0] * scenario.sites, [0] * scenario.sites
+        self.slows, self.locks, self.over, self.all_locks = {}, {}, set(), []
+        self.floors, self.last = (0, 0), 0
+        self.go_down()
+
+    def go_down(self):
+        """What no record tells is lost."""
+        self.acked, self.counted = Counter(), 0
+
+    def learn(self, record, moment):
+        learns = {"Boot": self.boot, "Own": self.own, "Got": self.receive, "Seen": self.see, "Prepared": self.prepared,
+                  "Released": self.released, "SlowBegin": self.slow_begin, "SlowEnd": self.slow_end, "Marks": self.marks}
+        learns[record.kind](record, moment)
+
+    def boot(self, _, moment):
+        for number, slow in self.slows.items():
+            slow.confirmed = set()
+            if slow.stands == "undecided":
+                self.end(number, moment, "dropped")
+
+    def keep(self, site, record):
+        self.log.append((site, record.number, record.transaction))
+        self.held[site, record.number] = record.transaction
+        self.got[site] = record.number
+
+    def own(self, record, moment):
+        self.keep(self.me, record)
+        self.committed[self.me] = record.number
+        if record.transaction.slow in self.slows:
+            self.end(record.transaction.slow, moment, "decided")
+
+    def receive(self, record, _):
+        self.keep(record.site, record)
+
+    def see(self, record, moment):
+        self.committed[record.site] = record.number
+        transaction = self.held.get((record.site, record.number))
+        if transaction and transaction.slow:
+            self.let_go(record.site, transaction.slow, moment)
+
+    def prepared(self, record, moment):
+        self.lock(record.site, record.number, record.name, record.objects, moment)
+
+    def released(self, record, moment):
+        self.let_go(record.site, record.number, moment)
+
+    def slow_begin(self, record, moment):
+        objects, home = self.scenario.regular(record.transaction), self.scenario.home
+        asked = sorted({home(oid) for oid in objects} - {self.me})
+        self.slows[record.number] = Slow(record.transaction, asked)
+        self.lock(self.me, record.number, record.transaction.name, self.here(record.transaction), moment)
+
+    def slow_end(self, record, moment):
+        if record.number in self.slows:
+            self.end(record.number, moment, "dropped")
+
+    def marks(self, record, _):
+        self.floors = record.marks
+
+    def end(self, number, moment, stands):
+        self.slows[number].stands = stands
+        self.unlock(self.me, number, moment)
+
+    def let_go(self, site, number, moment):
+        self.over.add((site, number))
+        self.unlock(site, number, moment)
+
+    def lock(self, site, number, name, objects, moment):
+        if objects:
+            self.locks[site, number] = Lock(self.me, name, tuple(objects), moment)
+            self.all_locks.append(self.locks[site, number])
+
+    def unlock(self, site, number, moment):
+        lock = self.locks.pop((site, number), None)
+        if lock:
+            lock.ends = moment
+
+    def here(self, transaction, site=None):
+        site = self.me if site is None else site
+        return tuple(oid for oid in self.scenario.regular(transaction) if self.scenario.home(oid) == site)
+
+    def durable(self):
+        """The durable mark. What peers have said only grows until the site goes down, so it is counted on."""
+        while (self.me, self.counted + 1) in self.held and self.is_durable(self.counted + 1):
+            self.counted += 1
+        return max(self.floors[0], self.counted)
+
+    def is_durable(self, number):
+        holders = {self.me, *(peer for peer, acked in self.acked.items() if acked >= number)}
+        homes = {self.scenario.home(oid) for _, oid, _ in self.held[self.me, number].updates}
+        return len(holders) > self.scenario.tolerated and homes <= holders
+
+    def against(self, objects, asking):
+        """What stands in the way of a transaction's lock: a version outside its snapshot, or another lock."""
+        for oid in objects:
+            for site, number, transaction in self.log:
+                if number > asking.snapshot[site] and any(one[:2] == ("write", oid) for one in transaction.updates):
+                    return "modified", oid, (site, number)
+            for lock in self.locks.values():
+                if oid in lock.objects:
+                    return "locked", oid, lock.name
+        return None
+
+    # What a packet says that is put out at a moment: the nth of its kind to this receiver.
+
+    def says(self, kind, receiver, nth, moment):
+        record = moment.entry.wrote
+        if kind == "propagate":
+            number = record.number if record and record.kind == "Own" else self.acked[receiver] + 1 + nth
+            return Says(number, self.held.get((self.me, number)))
+        if kind == "ack":
+            return Says(self.got[receiver])
+        if kind == "dsmark":
+            return Says(self.durable())
+        if kind == "visible":
+            return Says(self.committed[receiver])
+        if kind == "prepare":
+            number = record.number if record else self.nth_of(nth, receiver, "undecided", "yes")
+            return self.says_prepare(number, receiver)
+        if kind == "release":
+            return Says(record.number if record else self.nth_of(nth, receiver, "dropped", "confirmed"))
+        if moment.packet is None:
+            return Says(None)
+        return self.says_vote(moment) if kind == "vote" else Says(moment.packet.says.number)
+
+    def nth_of(self, nth, receiver, stands, done):
+        """The number of a slow commit that a Tick speaks of to this receiver."""
+        owed = [number for number, slow in self.slows.items()
+                if slow.stands == stands and receiver in slow.asked and receiver not in getattr(slow, done)]
+        return owed[nth] if nth < len(owed) else None
+
+    def says_prepare(self, number, receiver):
+        if number not in self.slows:
+            return Says(number)
+        transaction = self.slows[number].transaction
+        return Says(number, transaction, transaction.name, self.here(transaction, receiver))
+
+    def says_vote(self, moment):
+        asks = moment.packet.says
+        slow = moment.packet.sender, asks.number
+        if moment.entry.wrote or slow in self.locks:
+            return Says(asks.number)
+        if slow in self.over:
+            return Says(asks.number, against=("over",))
+        return Says(asks.number, against=self.against(asks.objects or (), asks.transaction) or ("unknown",))
+
+    # What a packet that was taken leaves, beside its record.
+
+    def hear(self, packet):
+        number = packet.says.number
+        if packet.kind == "ack":
+            self.acked[packet.sender] = number
+        elif packet.kind == "vote" and number in self.slows and not packet.says.against:
+            self.slows[number].yes.add(packet.sender)
+        elif packet.kind == "released" and number in self.slows:
+            self.slows[number].confirmed.add(packet.sender)
+
+
+class Run:
+    """A run of a scenario: its moments in the order of the trace, its packets by lane, and its steps."""
+
+    def __init__(self, scenario, report):
+        self.scenario, self.report = scenario, report
+        self.check_report()
+        self.sites = [Site(scenario, me) for me in range(scenario.sites)]
+        self.lanes = {(one, other): [] for one in range(scenario.sites) for other in range(scenario.sites) if one != other}
+        self.made = Counter()
+        self.moments = [self.moment(entry) for entry in report.entries]
+        self.arms = []
+        self.steps = Steps(self).all() if report.entries else list(replies_of(self))
+
+    def check_report(self):
+        """The report is one of this scenario."""
+        scenario, report = self.scenario, self.report
+        if (report.sites, report.tolerated, len(report.clients)) != (scenario.sites, scenario.tolerated, len(scenario.homes)):
+            raise reports.wrong(1, "the sites and the clients of the scenario")
+        for number, client in enumerate(report.clients):
+            if client.site != scenario.homes[number] or len(client.replies) > len(scenario.calls[number]):
+                raise reports.wrong(number + 2, "the client's site, and no more replies than it has calls")
+
+    def moment(self, entry):
+        moment, site = Moment(entry), self.sites[entry.site]
+        if entry.event[0] == "call":
+            moment.call = self.next_call(entry)
+        elif entry.event[0] == "deliver":
+            moment.packet = self.packet(entry)
+            moment.packet.came.append(moment)
+        before = site.floors
+        for record in (entry.kept, entry.wrote):
+            if record:
+                site.learn(record, moment)
+        moment.news = tuple(now if now > was else None for was, now in zip(before, site.floors))
+        if moment.packet and entry.outcome[0] == "taken":
+            site.hear(moment.packet)
+        if reports.goes_down(entry):
+            site.go_down()
+        self.put_out(moment, site)
+        return moment
+
+    def next_call(self, entry):
+        _, client, name = entry.event
+        calls, made = self.scenario.calls[client], self.made[client]
+        self.made[client] += 1
+        words = scripts.words_of(calls[made])
+        if (words.split()[0] if words else "bad") != name:
+            raise reports.wrong(entry.place, f"the next call of {self.scenario.names[client]}")
+        return client, calls[made]
+
+    def packet(self, entry):
+        _, sender, number, kind = entry.event
+        lane = self.lanes[sender, entry.site]
+        packet = lane[number - 1] if number <= len(lane) else None
+        if packet is None or packet.kind != kind or packet.put_out.entry.stamp >= entry.stamp:
+            raise reports.wrong(entry.place, "a packet that was put out before, of that kind")
+        return packet
+
+    def put_out(self, moment, site):
+        told = Counter()
+        for receiver, kind in moment.entry.sends:
+            lane = self.lanes[moment.site, receiver]
+            says = site.says(kind, receiver, told[receiver, kind], moment)
+            told[receiver, kind] += 1
+            lane.append(Packet(moment.site, receiver, len(lane) + 1, kind, says, moment))
+            moment.sends.append(lane[-1])
+
+    def locks(self):
+        return [lock for site in self.sites for lock in site.all_locks]
+
+
+# ---- what came of each step
+
+
+class Arm:
+    """An arm of a disk: its site and its numbers, and the moment at which it came, if it did."""
+
+    def __init__(self, arm):
+        self.arm, self.moment, self.follower = arm, None, False
+
+
+class Steps:
+    """The steps of a run, each with the entry that it brought."""
+
+    def __init__(self, run):
+        self.run, self.scenario = run, run.scenario
+        self.trails = [[moment for moment in run.moments if moment.site == site] for site in range(self.scenario.sites)]
+        self.at, self.turns, self.out, self.armed = Counter(), Counter(), Counter(), {}
+
+    def all(self):
+        for site, trail in enumerate(self.trails):
+            self.next_of(site, ("restart",), None)
+        for arm in self.scenario.arms:
+            self.arm(arm)
+        steps = [self.step(place, made) for place, made in enumerate(self.scenario.steps)]
+        left = [trail[self.at[site]] for site, trail in enumerate(self.trails) if self.at[site] < len(trail)]
+        for moment in left:
+            raise reports.wrong(moment.entry.place, "no such entry: no step brings it")
+        return steps
+
+    def step(self, place, made):
+        step, (word, where, *more) = Step(place, self.scenario.places[place], made), made
+        if word == "arm":
+            return step._replace(moment=self.arm(made[1:]))
+        if word == "call":
+            return self.turn(step, where)
+        if self.is_spent(where):
+            return step._replace(why=f"the trail of site {where} is spent")
+        if word == "deliver" and more[1] > self.out[more[0], where]:
+            return step._replace(why="no such packet was put out")
+        return step._replace(moment=self.next_of(where, (word, *more), step))
+
+    def turn(self, step, client):
+        site, calls = self.scenario.homes[client], self.scenario.calls[client]
+        if self.turns[client] == len(calls):
+            return step._replace(why="all calls are made")
+        if self.is_spent(site):
+            return step._replace(why=f"the trail of site {site} is spent")
+        self.turns[client] += 1
+        moment = self.next_of(site, ("call", client), step)
+        return step._replace(call=moment.call, moment=moment, reply=moment.entry.outcome[1])
+
+    def is_spent(self, site):
+        return self.at[site] >= reports.MOST_ENTRIES
+
+    def next_of(self, site, event, step):
+        """The next moment of a site, which is of this event."""
+        trail, place = self.trails[site], self.at[site]
+        if place == len(trail) or trail[place].entry.event[: len(event)] != event:
+            wanted = self.said(step) if step else f"the opening of site {site}"
+            at = trail[place].entry.place if place < len(trail) else self.run.report.lines[site].place
+            raise reports.wrong(at, f"{wanted} to be played next at site {site}")
+        moment = trail[place]
+        self.at[site] += 1
+        for packet in moment.sends:
+            self.out[packet.sender, packet.receiver] += 1
+        if moment.entry.flight or moment.entry.outcome[0] == "failed":
+            self.came(moment)
+        return moment
+
+    def said(self, step):
+        word, where, *more = step.made
+        return f"a turn of {self.scenario.names[where]}" if word == "call" else scripts.words_of_step(word, where, *more)
+
+    def arm(self, numbers):
+        """A later arm of a disk takes the place of one that hasn't come."""
+        if numbers[0] in self.armed:
+            self.armed[numbers[0]].follower = True
+        arm = self.armed[numbers[0]] = Arm(numbers)
+        self.run.arms.append(arm)
+        return arm
+
+    def came(self, moment):
+        if moment.site not in self.armed:
+            raise reports.wrong(moment.entry.place, "no fault of a disk that isn't armed")
+        self.armed.pop(moment.site).moment = moment
+
+
+def replies_of(run):
+    """The steps that were turns, each with its reply, where the trace wasn't written."""
+    turns = Counter()
+    for place, made in enumerate(run.scenario.steps):
+        if made[0] != "call":
+            continue
+        step, client = Step(place, run.scenario.places[place], made), made[1]
+        calls, replies = run.scenario.calls[client], run.report.clients[client].replies
+        if turns[client] < len(replies):
+            call, reply = (client, calls[turns[client]]), replies[turns[client]]
+            turns[client] += 1
+            yield step._replace(call=call, reply=reply)
+        elif turns[client] == len(calls):
+            yield step._replace(why="all calls are made")
+        elif run.report.lines[run.scenario.homes[client]].events == reports.MOST_ENTRIES:
+            yield step._replace(why=f"the trail of site {run.scenario.homes[client]} is spent")
+        else:
+            raise reports.wrong(client + 2, f"a reply to each call that {run.scenario.names[client]} made")

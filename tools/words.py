@@ -1,0 +1,292 @@
+"""The words for what happened in a run, a line for each call, packet and step. Stands on docs/FORMATS.md and docs/SITE.md."""
+
+import scripts
+import reports
+
+LEVELS = ("not committed", "open", "being decided", "committed at its own site", "durable", "visible")
+REFUSALS = {
+    1: "the catalog lacks the container",
+    2: "the container is of the other kind",
+    3: "the transaction has no place for the update",
+    4: "the value is too long",
+    5: "no transaction is open",
+    6: "one is open",
+    9: "the site is down",
+    11: "the set has too many ids",
+    12: "as many transactions are open as may be",
+    13: "memory ran out",
+    14: "the transaction is another site's",
+    15: "no such transaction was started",
+}
+
+
+def name(transaction):
+    return "%d.%d.%d" % transaction
+
+
+def pair(numbers):
+    """An object or a version."""
+    return "%d:%d" % numbers
+
+
+def many(count, what):
+    return f"{count:,} {what}" + ("" if count == 1 else "s")
+
+
+def update(change):
+    kind, oid, what = change
+    return f"{kind} {pair(oid)} " + (scripts.words_of_value(what) if kind == "write" else str(what))
+
+
+def updates(transaction):
+    return ", ".join(map(update, transaction.updates))
+
+
+# ---- replies
+
+
+def conflict(cause, *fields):
+    """What stands in the way of a commit."""
+    if cause == "modified":
+        return f"{pair(fields[0])} was modified by {pair(fields[1])}"
+    if cause == "locked":
+        return f"{pair(fields[0])} is locked by {name(fields[1])}"
+    return {"asked": "it was asked for", "over": "it is over", "unknown": "for a cause that isn't told"}[cause]
+
+
+def refusal(why, behind):
+    if why == 7:
+        return f"{name(behind)} was lost in a stop"
+    if why == 8:
+        return f"a bad frame at {behind[0]}"
+    if why == 10:
+        return full(*behind)
+    return REFUSALS[why]
+
+
+def full(need, left):
+    return f"the journal needs {many(need, 'byte')} and has {left:,} left"
+
+
+def reply(frame):
+    kind, fields = reports.reply_of(frame)
+    if kind in ("started", "deciding", "unsure"):
+        return f"{kind} {name(fields)}"
+    if kind == "value":
+        return "no value" if fields is None else scripts.words_of_value(fields)
+    if kind == "set":
+        return "{" + ", ".join(f"{number}: {count}" for number, count in fields) + "}"
+    if kind == "committed":
+        return f"committed {pair(fields)}"
+    if kind == "aborted":
+        return f"aborted: {conflict(*fields)}"
+    if kind == "level":
+        return f"level {fields}: {LEVELS[fields]}"
+    if kind == "refused":
+        return f"refused: {refusal(*fields)}"
+    return kind if fields is None else f"{kind} {fields}"
+
+
+# ---- records and packets
+
+
+def record(one, site):
+    """A record, as what a site has or may have of it."""
+    if one.kind in ("Own", "Got", "Seen"):
+        return f"{one.kind} {pair((site if one.site is None else one.site, one.number))}"
+    if one.kind == "Prepared":
+        return f"Prepared {one.number} of {one.site}, {objects(one.objects)} for {name(one.name)}"
+    if one.kind == "Released":
+        return f"Released {one.number} of {one.site}"
+    return "Marks %d %d" % one.marks if one.kind == "Marks" else f"{one.kind} {one.number}"
+
+
+def objects(oids):
+    return ", ".join(map(pair, oids))
+
+
+def packet(one, whole=True):
+    """A packet's kind, and what it says: the whole of it, or its number."""
+    says, kind = one.says, one.kind.upper()
+    words = kind if says.number is None else f"{kind} {says.number}"
+    if one.kind == "vote":
+        words += " NO" if says.against else " YES"
+    if not whole:
+        return words
+    if one.kind == "propagate" and says.transaction:
+        return f"{words} of {name(says.transaction.name)} ({updates(says.transaction)})"
+    if one.kind == "prepare" and says.name:
+        return f"{words} of {name(says.name)} for {objects(says.objects)}"
+    return f"{words}, {conflict(*says.against)}" if says.against else words
+
+
+def route(one, whole=True):
+    return f"{one.receiver} <- {one.sender} packet {one.number} {packet(one, whole)}"
+
+
+def sends(packets, whole=True):
+    """What is put out, by receiver."""
+    by = {}
+    for one in packets:
+        by.setdefault(one.receiver, []).append(f"{packet(one, whole)} as packet {one.number}")
+    return "; ".join(f"to {receiver}: {', '.join(said)}" for receiver, said in by.items())
+
+
+# ---- entries
+
+
+def call(scenario, made):
+    client, frame = made
+    return f"{scenario.names[client]} {scripts.words_of(frame) or 'bytes ' + frame.hex()}"
+
+
+def taken(moment):
+    """What came of a packet or an Advance that was taken."""
+    wrote = moment.entry.wrote
+    if wrote is None:
+        return "heard"
+    if wrote.kind == "Marks":
+        told = [f"{what} mark {mark}" for what, mark in zip(("durable", "visible"), moment.news) if mark is not None]
+        return ", ".join(told) or record(wrote, moment.site)
+    site = moment.site if wrote.site is None else wrote.site
+    if wrote.kind in ("Own", "Seen"):
+        return f"committed {pair((site, wrote.number))}"
+    if wrote.kind == "Got":
+        return f"received {pair((site, wrote.number))}"
+    if wrote.kind == "Prepared":
+        return f"locks {objects(wrote.objects)}, votes YES"
+    if wrote.kind == "Released":
+        return f"the slow commit {wrote.number} of {site} is over here"
+    return f"the slow commit {wrote.number} has ended" if wrote.kind == "SlowEnd" else record(wrote, moment.site)
+
+
+def passed(moment):
+    """Why a packet or an Advance changed nothing, and what is answered to it."""
+    if moment.entry.event[0] == "advance":
+        return "nothing is to be committed yet"
+    if moment.packet.kind == "propagate":
+        return "received already" if moment.sends else "not received: something is missing before it"
+    if moment.packet.kind == "prepare" and moment.sends:
+        against = moment.sends[0].says.against
+        return f"votes NO, {conflict(*against)}" if against else "votes YES again"
+    if moment.packet.kind == "release":
+        return "over here already"
+    return "nothing new"
+
+
+def fault(moment):
+    """What the disk's fault left in flight."""
+    flight = moment.entry.flight
+    left = f"{record(flight, moment.site)} is in flight, " if flight else ""
+    return f"the disk failed; {left}site {moment.site} is down"
+
+
+def outcome(moment, whole=True):
+    word, *fields = moment.entry.outcome
+    if word == "failed":
+        return fault(moment)
+    if word == "full":
+        return full(*fields)
+    if word == "down":
+        return f"site {moment.site} is down"
+    if word == "memory":
+        return "memory ran out"
+    kind = moment.entry.event[0]
+    if kind == "restart":
+        return restarted(moment)
+    if kind == "stop":
+        return f"site {moment.site} is down"
+    if kind == "tick":
+        return sends(moment.sends, whole) or ("nothing is put out" if moment.entry.dropped else "nothing is owed")
+    return taken(moment) if word == "taken" else passed(moment)
+
+
+def restarted(moment):
+    if moment.entry.outcome[0] == "passed":
+        return f"site {moment.site} is up already"
+    return f"site {moment.site} is up in epoch {moment.entry.wrote.number}" if moment.entry.wrote else "taken"
+
+
+def behind(moment):
+    """What a call left beside its reply, what a restart found, and what was lost."""
+    entry, said = moment.entry, []
+    if entry.event[0] == "call":
+        if entry.flight:
+            said.append(fault(moment))
+        elif entry.wrote and entry.wrote.kind == "SlowBegin":
+            said.append(f"the slow commit {entry.wrote.number} begins")
+    if entry.kept:
+        said.append(f"found {record(entry.kept, moment.site)}")
+    if entry.dropped:
+        said.append(f"{many(entry.dropped, 'packet')} found no place")
+    return "".join("; " + one for one in said)
+
+
+def moment_line(scenario, moment, whole=True):
+    """The line of an entry."""
+    word, *fields = moment.entry.event
+    if word == "call":
+        came = f"{call(scenario, moment.call)} -> {reply(moment.entry.outcome[1])}"
+    elif word == "deliver":
+        came = f"{route(moment.packet, whole)}: {outcome(moment, whole)}"
+    else:
+        came = f"{scripts.words_of_step(word, moment.site, *fields)} -> {outcome(moment, whole)}"
+    return came + behind(moment)
+
+
+# ---- steps
+
+
+def arm_line(scenario, word, arm):
+    line = scripts.words_of_step(word, *arm.arm)
+    if arm.moment:
+        return f"{line} -> comes at: {moment_line(scenario, arm.moment)}"
+    return f"{line} -> never comes" + (": a later one takes its place" if arm.follower else "")
+
+
+def step_words(scenario, step):
+    """A step, as the scenario has it."""
+    word, where, *more = step.made
+    said = f"{scenario.names[where]} again" if word == "call" else scripts.words_of_step(word, where, *more)
+    return f"{said} in line {step.line}" if step.line else f"{said}, step {step.place}"
+
+
+def lines(run, packets=False):
+    """A line for each step that brought something: all of them with a trace, else those of calls."""
+    played = iter(run.arms)
+    for _ in run.scenario.arms:
+        if run.report.entries:
+            yield arm_line(run.scenario, "armed", next(played))
+    for step in run.steps:
+        if step.made[0] == "arm":
+            yield arm_line(run.scenario, "arm", next(played))
+        elif step.moment:
+            put_out = sends(step.moment.sends) if packets and step.made[0] != "tick" else ""
+            yield moment_line(run.scenario, step.moment) + (f" | {put_out}" if put_out else "")
+        elif step.reply:
+            yield f"{call(run.scenario, step.call)} -> {reply(step.reply)}"
+
+
+def left_over(run):
+    """What wasn't played as it was written."""
+    scenario = run.scenario
+    for client, calls in enumerate(scenario.calls):
+        for frame in calls[len(run.report.clients[client].replies) :]:
+            yield f"not played: {call(scenario, (client, frame))}: it had no turn"
+        if scenario.rests[client]:
+            yield f"not played: {scenario.names[client]} bytes {scenario.rests[client].hex()}: {why_no_call(calls)}"
+    for step in run.steps:
+        if step.why:
+            yield f"not played: {step_words(scenario, step)}: {step.why}"
+    for site, line in enumerate(run.report.lines):
+        if line.events >= reports.MOST_ENTRIES:
+            yield f"spent: the trail of site {site} has {line.events:,} entries"
+    for lane in run.lanes.values():
+        for one in lane:
+            if not one.came:
+                yield f"never delivered: {route(one)}"
+
+
+def why_no_call(calls):
+    too_long = calls and len(calls[-1]) == 4 and calls[-1] != bytes(4)
+    return "nothing is read behind a bad length" if too_long else "they end inside a frame"
