@@ -614,3 +614,10 @@ def played(scenario, met):
 def play(scenario, met):
     """What `walter play --trace` writes of the scenario."""
     return played(scenario, met).text()
+
+
+if __name__ == "__main__":
+    import json
+    import sys
+
+    sys.stdout.write(play(json.load(sys.stdin), Counter()))
