@@ -8,8 +8,8 @@ ghost use Rattle.walter_report.specs.Traces.{HasSpellings, HaveSpellings};
 use std::alloc::Global;
 use std::test::Fail;
 use walter_base::{
-    Answer, BadFrame, Bytes, Call, Catalog, Kind, Mem, ObjId, Packet, Record, Refusal, Reply,
-    Request, Sends, SiteId, Tid, Tx, Updates, Version, Vts,
+    Answer, BadFrame, Bytes, Call, Catalog, Kind, MaybeRecord, Mem, ObjId, Packet, Record,
+    RecordPlace, Refusal, Reply, Request, Sends, SiteId, Tid, Tx, Updates, Version, Vts,
 };
 use walter_report::{as_it_stands, report, trace};
 use walter_rules::{Came, Entry, Event, Input, Outcome};
@@ -48,6 +48,19 @@ fn both(alloc: Global, to: SiteId, first: Packet, second: Packet) -> Mem<Sends> 
     Ok(Sends::from(vec![in alloc; (to, first), (to, second)]?))
 }
 
+/// The record, on the heap.
+fn on_heap(alloc: Global, record: Record) -> Mem<MaybeRecord> {
+    Ok(RecordPlace::new(alloc)?.fill(record))
+}
+
+/// The boot of this epoch, if there is one.
+fn boot(alloc: Global, epoch: Option<u32>) -> Mem<MaybeRecord> {
+    match epoch {
+        Some(epoch) => on_heap(alloc, Record::Boot(epoch)),
+        None => Ok(MaybeRecord::none()),
+    }
+}
+
 /// An entry that isn't a call, with the epochs of the boots that it kept, wrote and left in flight.
 fn happened(
     alloc: Global,
@@ -55,23 +68,23 @@ fn happened(
     event: Event,
     outcome: Outcome,
     boots: [Option<u32>; 3],
-) -> Entry {
+) -> Mem<Entry> {
     let [kept, wrote, flight] = boots;
-    Entry {
+    Ok(Entry {
         stamp,
         event,
         came: Came {
             outcome,
-            kept: kept.map(Record::Boot),
-            wrote: wrote.map(Record::Boot),
-            flight: flight.map(Record::Boot),
+            kept: boot(alloc, kept)?,
+            wrote: boot(alloc, wrote)?,
+            flight: boot(alloc, flight)?,
             sends: nothing(alloc),
             dropped: 0,
         },
-    }
+    })
 }
 
-fn opening(alloc: Global) -> Entry {
+fn opening(alloc: Global) -> Mem<Entry> {
     happened(
         alloc,
         1,
@@ -81,27 +94,12 @@ fn opening(alloc: Global) -> Entry {
     )
 }
 
-fn answered(alloc: Global, client: u32, call: Call, reply: Reply, wrote: Option<Record>) -> Entry {
-    Entry {
-        stamp: 2,
-        event: Event::Given(Input::Call { client, call }),
-        came: Came {
-            outcome: Outcome::Replied(reply),
-            kept: None,
-            wrote,
-            flight: None,
-            sends: nothing(alloc),
-            dropped: 0,
-        },
-    }
-}
-
 /// What is given to a site, with what was put out and how many packets were lost.
 fn given(
     stamp: u64,
     input: Input,
     outcome: Outcome,
-    wrote: Option<Record>,
+    wrote: MaybeRecord,
     sends: Sends,
     dropped: u64,
 ) -> Entry {
@@ -110,24 +108,25 @@ fn given(
         event: Event::Given(input),
         came: Came {
             outcome,
-            kept: None,
+            kept: MaybeRecord::none(),
             wrote,
-            flight: None,
+            flight: MaybeRecord::none(),
             sends,
             dropped,
         },
     }
 }
 
-fn journaled(alloc: Global, record: Record) -> Entry {
-    given(
-        2,
-        Input::Tick,
-        Outcome::Taken,
-        Some(record),
-        nothing(alloc),
-        0,
-    )
+/// A call that was answered, and wrote no record.
+fn answered(alloc: Global, client: u32, call: Call, reply: Reply) -> Entry {
+    let call = Input::Call { client, call };
+    let replied = Outcome::Replied(reply);
+    given(2, call, replied, MaybeRecord::none(), nothing(alloc), 0)
+}
+
+fn journaled(alloc: Global, record: Record) -> Mem<Entry> {
+    let wrote = on_heap(alloc, record)?;
+    Ok(given(2, Input::Tick, Outcome::Taken, wrote, nothing(alloc), 0))
 }
 
 fn empty_tx(alloc: Global, site: SiteId) -> Tx {
@@ -176,10 +175,13 @@ fn have_frames(trails: &[Trail]) -> bool
 }
 
 // These have a spelling whatever their numbers are.
-fn is_short(found: &Option<Record>) -> bool
+fn is_short(found: &MaybeRecord) -> bool
     ensures { IsTrue result → IfSome found.now CanBeRecorded }
 {
-    matches!(found, None | Some(Record::Boot(_) | Record::Seen(_, _)))
+    matches!(
+        found.as_ref(),
+        None | Some(Record::Boot(_) | Record::Seen(_, _))
+    )
 }
 
 fn has_spellings(entry: &Entry) -> bool
@@ -246,19 +248,18 @@ fn a_report_has_a_line_for_each_client_and_site(rt: HostRuntime) -> Result<(), F
     let version = Version { site: SITE, seq: 1 };
     let hello = Reply::Value(Some(Bytes::from_slice(alloc, b"hello")?));
     let bad = Reply::Refused(Refusal::BadFrame { at: 1 });
-    let own = Some(Record::Own(1, empty_tx(alloc, SITE)));
+    let own = on_heap(alloc, Record::Own(1, empty_tx(alloc, SITE)))?;
+    let commit = Input::Call {
+        client: 1,
+        call: Ok(Request::Commit),
+    };
+    let committed = Outcome::Replied(Reply::Committed(version));
     let entries = vec![in alloc;
-        opening(alloc),
-        answered(alloc, 1, Ok(Request::Start), Reply::Started(tid), None),
-        answered(alloc, 0, Err(BadFrame { at: 1 }), bad, None),
-        answered(alloc, 1, Ok(Request::Start), hello, None),
-        answered(
-            alloc,
-            1,
-            Ok(Request::Commit),
-            Reply::Committed(version),
-            own
-        ),
+        opening(alloc)?,
+        answered(alloc, 1, Ok(Request::Start), Reply::Started(tid)),
+        answered(alloc, 0, Err(BadFrame { at: 1 }), bad),
+        answered(alloc, 1, Ok(Request::Start), hello),
+        given(2, commit, committed, own, nothing(alloc), 0),
     ]?;
     let text = "sites 1 f 0 clients 3\n\
         client 0 site 0 replies 1 00000006e00800000001\n\
@@ -268,33 +269,33 @@ fn a_report_has_a_line_for_each_client_and_site(rt: HostRuntime) -> Result<(), F
         site 0 up epoch 1 events 5 records 2 got 1 committed 1 log 0:1\n";
     assert!(rt; is_reported(alloc, 3, entries, text)?);
     let entries = vec![in alloc;
-        opening(alloc),
-        happened(alloc, 2, Event::Stop, Outcome::Taken, [None; 3]),
-        happened(alloc, 3, Event::Restart, Outcome::Failed, [None; 3]),
-        happened(alloc, 4, Event::Stop, Outcome::Down, [None; 3]),
+        opening(alloc)?,
+        happened(alloc, 2, Event::Stop, Outcome::Taken, [None; 3])?,
+        happened(alloc, 3, Event::Restart, Outcome::Failed, [None; 3])?,
+        happened(alloc, 4, Event::Stop, Outcome::Down, [None; 3])?,
     ]?;
     let text =
         "sites 1 f 0 clients 0\nsite 0 down epoch 1 events 4 records 1 got 0 committed 0 log -\n";
     assert!(rt; is_reported(alloc, 0, entries, text)?, "behind a stop");
     let entries = vec![in alloc;
-        opening(alloc),
-        happened(alloc, 2, Event::Stop, Outcome::Taken, [None; 3]),
+        opening(alloc)?,
+        happened(alloc, 2, Event::Stop, Outcome::Taken, [None; 3])?,
         happened(
             alloc,
             3,
             Event::Restart,
             Outcome::Taken,
             [Some(2), Some(3), None]
-        ),
-        happened(alloc, 4, Event::Restart, Outcome::Passed, [None; 3]),
+        )?,
+        happened(alloc, 4, Event::Restart, Outcome::Passed, [None; 3])?,
     ]?;
     let text =
         "sites 1 f 0 clients 0\nsite 0 up epoch 3 events 4 records 3 got 0 committed 0 log -\n";
     assert!(rt; is_reported(alloc, 0, entries, text)?, "behind a restart");
-    let unsure = answered(alloc, 0, Ok(Request::Commit), Reply::Unsure(tid), None);
+    let unsure = answered(alloc, 0, Ok(Request::Commit), Reply::Unsure(tid));
     let text =
         "sites 1 f 0 clients 0\nsite 0 down epoch 1 events 2 records 1 got 0 committed 0 log -\n";
-    let entries = vec![in alloc; opening(alloc), unsure]?;
+    let entries = vec![in alloc; opening(alloc)?, unsure]?;
     assert!(rt; is_reported(alloc, 0, entries, text)?, "behind a fault");
     Ok(())
 }
@@ -316,17 +317,17 @@ fn a_trace_has_a_line_for_each_entry(rt: HostRuntime) -> Result<(), Fail> {
     let level = Reply::Refused(Refusal::NotIssued);
     let boots = [Some(2), None, Some(3)];
     let entries = vec![in alloc;
-        opening(alloc),
-        answered(alloc, 7, Err(BadFrame { at: 1 }), bad, None),
-        answered(alloc, 0, Ok(Request::Level(tid)), level, None),
-        answered(alloc, 0, Ok(Request::SetAdd(set, 9)), Reply::Done, None),
-        answered(alloc, 0, Ok(Request::SetDel(set, 9)), Reply::Done, None),
-        answered(alloc, 0, Ok(Request::SetRead(set)), Reply::Ended, None),
-        answered(alloc, 0, Ok(Request::SetReadId(set, 9)), Reply::Ended, None),
-        happened(alloc, 4, Event::Stop, Outcome::Taken, [None; 3]),
-        happened(alloc, 5, Event::Stop, Outcome::Down, [None; 3]),
-        happened(alloc, 6, Event::Restart, full, [None; 3]),
-        happened(alloc, 7, Event::Restart, Outcome::Failed, boots),
+        opening(alloc)?,
+        answered(alloc, 7, Err(BadFrame { at: 1 }), bad),
+        answered(alloc, 0, Ok(Request::Level(tid)), level),
+        answered(alloc, 0, Ok(Request::SetAdd(set, 9)), Reply::Done),
+        answered(alloc, 0, Ok(Request::SetDel(set, 9)), Reply::Done),
+        answered(alloc, 0, Ok(Request::SetRead(set)), Reply::Ended),
+        answered(alloc, 0, Ok(Request::SetReadId(set, 9)), Reply::Ended),
+        happened(alloc, 4, Event::Stop, Outcome::Taken, [None; 3])?,
+        happened(alloc, 5, Event::Stop, Outcome::Down, [None; 3])?,
+        happened(alloc, 6, Event::Restart, full, [None; 3])?,
+        happened(alloc, 7, Event::Restart, Outcome::Failed, boots)?,
     ]?;
     let trails = vec![in alloc; Trail::from(entries)]?;
     assert!(rt; have_frames(&trails) && have_spellings(&trails));
@@ -352,20 +353,20 @@ fn a_trace_has_a_line_for_each_entry(rt: HostRuntime) -> Result<(), Fail> {
 fn a_site_counts_the_commits_of_each_site(rt: HostRuntime) -> Result<(), Fail> {
     let alloc = rt.alloc();
     let first = vec![in alloc;
-        opening(alloc),
-        journaled(alloc, Record::Own(1, empty_tx(alloc, SITE))),
-        journaled(alloc, Record::Got(OTHER, 1, empty_tx(alloc, OTHER))),
-        journaled(alloc, Record::Seen(OTHER, 1)),
-        journaled(alloc, Record::Own(2, empty_tx(alloc, SITE))),
-        journaled(alloc, Record::Got(OTHER, 2, empty_tx(alloc, OTHER))),
+        opening(alloc)?,
+        journaled(alloc, Record::Own(1, empty_tx(alloc, SITE)))?,
+        journaled(alloc, Record::Got(OTHER, 1, empty_tx(alloc, OTHER)))?,
+        journaled(alloc, Record::Seen(OTHER, 1))?,
+        journaled(alloc, Record::Own(2, empty_tx(alloc, SITE)))?,
+        journaled(alloc, Record::Got(OTHER, 2, empty_tx(alloc, OTHER)))?,
     ]?;
     let mut second = vec![in alloc;
-        opening(alloc),
-        journaled(alloc, Record::Got(SITE, 1, empty_tx(alloc, SITE))),
-        journaled(alloc, Record::Got(SITE, 2, empty_tx(alloc, SITE))),
+        opening(alloc)?,
+        journaled(alloc, Record::Got(SITE, 1, empty_tx(alloc, SITE)))?,
+        journaled(alloc, Record::Got(SITE, 2, empty_tx(alloc, SITE)))?,
     ]?;
-    let mut restart = journaled(alloc, Record::Boot(2));
-    restart.came.kept = Some(Record::Own(1, empty_tx(alloc, OTHER)));
+    let mut restart = journaled(alloc, Record::Boot(2))?;
+    restart.came.kept = on_heap(alloc, Record::Own(1, empty_tx(alloc, OTHER)))?;
     second.push(restart)?;
     let trails = vec![in alloc; Trail::from(first), Trail::from(second)]?;
     let text = "sites 2 f 1 clients 0\n\
@@ -382,13 +383,20 @@ fn a_trace_has_the_packets_of_each_entry(rt: HostRuntime) -> Result<(), Fail> {
     let shown = both(alloc, OTHER, Packet::Visible(1), Packet::Released(4))?;
     let from_other = Input::Advance { from: OTHER };
     let first = vec![in alloc;
-        opening(alloc),
-        given(2, Input::Tick, Outcome::Passed, None, said, 1),
+        opening(alloc)?,
+        given(
+            2,
+            Input::Tick,
+            Outcome::Passed,
+            MaybeRecord::none(),
+            said,
+            1
+        ),
         given(
             3,
             from_other,
             Outcome::Taken,
-            Some(Record::Seen(OTHER, 1)),
+            on_heap(alloc, Record::Seen(OTHER, 1))?,
             shown,
             0
         ),
@@ -405,12 +413,12 @@ fn a_trace_has_the_packets_of_each_entry(rt: HostRuntime) -> Result<(), Fail> {
         packet: Packet::Ack(2),
     };
     let second = vec![in alloc;
-        opening(alloc),
+        opening(alloc)?,
         given(
             2,
             delivery,
             Outcome::Taken,
-            Some(Record::Seen(SITE, 5)),
+            on_heap(alloc, Record::Seen(SITE, 5))?,
             voted,
             20
         ),

@@ -1,29 +1,29 @@
 use std::alloc::Global;
 use std::test::Fail;
-use walter_base::{Mem, Record, Sends};
+use walter_base::{MaybeRecord, Mem, Record, RecordPlace, Sends};
 use walter_rules::{Came, Entry, Event, Outcome};
 use walter_trail::{Trail, merge};
 
 // The opening of a trail, at this stamp.
-fn opening(alloc: Global, stamp: u64) -> Entry {
-    Entry {
+fn opening(alloc: Global, stamp: u64) -> Mem<Entry> {
+    Ok(Entry {
         stamp,
         event: Event::Restart,
         came: Came {
             outcome: Outcome::Taken,
-            kept: None,
-            wrote: Some(Record::Boot(1)),
-            flight: None,
+            kept: MaybeRecord::none(),
+            wrote: RecordPlace::new(alloc)?.fill(Record::Boot(1)),
+            flight: MaybeRecord::none(),
             sends: Sends::from(Vec::new(alloc)),
             dropped: 0,
         },
-    }
+    })
 }
 
 fn trail_of(alloc: Global, stamps: &[u64]) -> Mem<Trail> {
     let mut entries = Vec::new(alloc);
     for stamp in stamps {
-        entries.push(opening(alloc, *stamp))?;
+        entries.push(opening(alloc, *stamp)?)?;
     }
     Ok(Trail::from(entries))
 }
