@@ -16,3 +16,4 @@ pub mod Staging
 pub mod Standings
 pub mod Staying
 pub mod Stopping
+pub mod Framing
