@@ -5,7 +5,8 @@ use Rattle.std.proofs.lemmas.List.Elements.{All-nil, All-cons, All-append, All-m
 use Rattle.walter_rules.specs.declared.entry.Entry.{Entry}
 use Rattle.walter_rules.specs.Merges.{Named, named_from, precedes, placed, in_order, merge}
 
-All-either : (P : Named → Type 0) (test : Bool) (xs ys : List Named) → All P xs → All P ys → All P (if test then xs else ys)
+All-either : (P : Named → Type 0) (test : Bool) (xs ys : List Named) → All P xs → All P ys
+    → All P (if test then xs else ys)
 All-either P true xs ys one other = one
 All-either P false xs ys one other = other
 
@@ -17,14 +18,17 @@ All-placed P n (m ∷ ns) one all =
 
 All-in_order : (P : Named → Type 0) (ns : List Named) → All P ns → All P (in_order ns)
 All-in_order P [] all = all
-All-in_order P (n ∷ ns) all = All-placed P n (in_order ns) (All-head P n ns all) (All-in_order P ns (All-tail P n ns all))
+All-in_order P (n ∷ ns) all =
+    All-placed P n (in_order ns) (All-head P n ns all) (All-in_order P ns (All-tail P n ns all))
 
-All-named_from : (P : Entry → Type 0) (i : ℕ) (trails : List (List Entry)) → All (λ trail. All P trail) trails → All (λ n. P n.1) (named_from i trails)
+All-named_from : (P : Entry → Type 0) (i : ℕ) (trails : List (List Entry)) → All (λ trail. All P trail) trails
+    → All (λ n. P n.1) (named_from i trails)
 All-named_from P i [] all = All-nil (λ n. P n.1)
 All-named_from P i (trail ∷ trails) all =
     All-append (λ n. P n.1) (map (λ e. (record { 0 = i }, e)) trail) (named_from (i + 1) trails)
     (All-map (λ n. P n.1) (λ e. (record { 0 = i }, e)) trail (All-head (λ t. All P t) trail trails all))
     (All-named_from P (i + 1) trails (All-tail (λ t. All P t) trail trails all))
 
-pub All-merge : (P : Entry → Type 0) (trails : List (List Entry)) → All (λ trail. All P trail) trails → All (λ n. P n.1) (merge trails)
+pub All-merge : (P : Entry → Type 0) (trails : List (List Entry)) → All (λ trail. All P trail) trails
+    → All (λ n. P n.1) (merge trails)
 All-merge P trails all = All-in_order (λ n. P n.1) (named_from 0 trails) (All-named_from P 0 trails all)

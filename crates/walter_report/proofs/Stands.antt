@@ -1,4 +1,5 @@
--- A trail, the oldest entry first, tells what a site's standing has, which is made of the entries with the newest first.
+-- A trail, the oldest entry first, tells what a site's standing has, which is made of the entries with the newest
+-- first.
 use Rattle.std.proofs.Common.{◌≡◌, Bool, false, List, [], ◌∷◌, ◌++◌, reverse, Option, Some, None, refl, sym, ap, ◌∙◌, append_assoc, append-nil}
 use Rattle.std.proofs.lemmas.List.{reverse-append, reverse-reverse}
 use Rattle.std.proofs.lemmas.List.Concat.{flat_map-append}
@@ -29,7 +30,8 @@ up_of catalog i (e ∷ older) =
     (up_settled catalog i e.came.kept (standing catalog i older) ∙ up_of catalog i older)
     ∙ sym (up_from-append false (reverse older) (e ∷ [])) ∙ ap (up_from false) (sym (newest_last e older))
 
-pub is_up_stands : (catalog : Catalog) (i : SiteId) (trail : List Entry) → (standing catalog i (reverse trail)).up ≡ is_up trail
+pub is_up_stands : (catalog : Catalog) (i : SiteId) (trail : List Entry)
+    → (standing catalog i (reverse trail)).up ≡ is_up trail
 is_up_stands catalog i trail = up_of catalog i (reverse trail) ∙ ap is_up (reverse-reverse trail)
 
 records_settled : (catalog : Catalog) (i : SiteId) (kept : Option Record) (S : Standing)
@@ -54,5 +56,6 @@ records_of catalog i (e ∷ older) =
     ∙ sym (flat_map-append (λ entry. record_in entry.came.kept ++ record_in entry.came.wrote) (reverse older) (e ∷ []))
     ∙ ap records (sym (newest_last e older))
 
-pub records_stand : (catalog : Catalog) (i : SiteId) (trail : List Entry) → (standing catalog i (reverse trail)).records ≡ records trail
+pub records_stand : (catalog : Catalog) (i : SiteId) (trail : List Entry)
+    → (standing catalog i (reverse trail)).records ≡ records trail
 records_stand catalog i trail = records_of catalog i (reverse trail) ∙ ap records (reverse-reverse trail)

@@ -16,7 +16,7 @@ use Rattle.walter_scenario.specs.declared.scenario.Scenario.{Scenario}
 use Rattle.walter_report.specs.Sites.{site_lines}
 use Rattle.walter_report.specs.Words.{line_feed, or_dash}
 
--- the reply in an outcome, and that of an entry to a client
+-- the reply in an outcome, and the one in an entry to a client
 abbrev pub reply_in : Outcome → List Reply
 reply_in (Replied reply) = reply ∷ []
 reply_in outcome = []
@@ -33,13 +33,15 @@ replies_to client trail = flat_map (λ e. reply_to client e.event e.came.outcome
 abbrev pub HaveFrames : List (List Entry) → Type 0
 HaveFrames trails = All (λ trail. All (λ e. All FitsFrame (reply_in e.came.outcome)) trail) trails
 
+-- a reply as a client gets it: its length in four bytes, and its bytes
 abbrev pub reply_frame : Reply → List ℕ
 reply_frame reply = block_spelled (reply_spelled reply)
 
 -- "client <c> site <s> replies <k> <hex>": how many replies, and their frames
 abbrev pub client_line : ℕ → ℕ → List Reply → List ℕ
 client_line client site replies =
-    codes "client " ++ decimal client ++ codes " site " ++ decimal site ++ codes " replies " ++ decimal (length replies) ++ codes " "
+    codes "client " ++ decimal client ++ codes " site " ++ decimal site
+    ++ codes " replies " ++ decimal (length replies) ++ codes " "
     ++ or_dash (encode_lower (flat_map reply_frame replies)) ++ line_feed
 
 -- a line for each client, from this one on
@@ -51,7 +53,8 @@ client_lines number (client ∷ clients) trails =
 -- "sites <n> f <f> clients <c>"
 abbrev pub first_line : Scenario → List ℕ
 first_line s =
-    codes "sites " ++ decimal s.catalog.sites ++ codes " f " ++ decimal s.catalog.tolerated ++ codes " clients " ++ decimal (length s.clients) ++ line_feed
+    codes "sites " ++ decimal s.catalog.sites ++ codes " f " ++ decimal s.catalog.tolerated
+    ++ codes " clients " ++ decimal (length s.clients) ++ line_feed
 
 -- a line for the run, one for each client, one for each site
 abbrev pub report_text : Scenario → List (List Entry) → List ℕ

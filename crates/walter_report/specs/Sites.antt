@@ -72,8 +72,9 @@ log_pieces i recs = flat_map (logged i) recs
 -- "site <i> <up|down> epoch <e> events <n> records <r>"
 abbrev pub events_part : ℕ → List Entry → List ℕ
 events_part site trail =
-    codes "site " ++ decimal site ++ codes " " ++ up_word (is_up trail) ++ codes " epoch " ++ decimal (last_epoch 0 (records trail)) ++ codes " events "
-    ++ decimal (length trail) ++ codes " records " ++ decimal (length (records trail))
+    codes "site " ++ decimal site ++ codes " " ++ up_word (is_up trail)
+    ++ codes " epoch " ++ decimal (last_epoch 0 (records trail))
+    ++ codes " events " ++ decimal (length trail) ++ codes " records " ++ decimal (length (records trail))
 
 -- " got <list> committed <list> log <list>"
 abbrev pub lists_part : List ℕ → List ℕ → List ℕ → List ℕ

@@ -14,8 +14,8 @@ use std::alloc::Global;
 use walter_base::{MaybeRecord, Mem, Record, Reply};
 use walter_rules::{Entry, Event, Outcome};
 
-// What the line of a site tells. Of each site it has how many of its commits the site has, its own among them, and how
-// many are committed at the site; the log is text.
+// What the line of a site tells. For each site of the catalog, `got` has how many of that site's commits this one has,
+// and `seen` how many of them are committed here; its own count in both. The log is text.
 #[derive(Drop)]
 pub(crate) struct Told {
     pub up: bool,

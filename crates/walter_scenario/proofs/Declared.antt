@@ -25,19 +25,23 @@ get_front (suc n) (x ∷ items) zero h = refl
 get_front (suc n) (x ∷ items) (suc j) h = get_front n items j (omega arith)
 
 -- what is wrong at a place is wrong in each list that begins so, as far as the place
-wrong_in_front : (sites : ℕ) (items : List Item) (place n : ℕ) → place < n → IsWrong sites items place → IsWrong sites (take n items) place
+wrong_in_front : (sites : ℕ) (items : List Item) (place n : ℕ) → place < n → IsWrong sites items place
+    → IsWrong sites (take n items) place
 wrong_in_front sites items place n h (too_many many) = too_many many
 wrong_in_front sites items place n h (falls before last here next prior is low) =
     falls before last here next (get_front n items before (omega arith) ∙ prior) (get_front n items place h ∙ is) low
 wrong_in_front sites items place n h (nowhere here is far) = nowhere here (get_front n items place h ∙ is) far
 
-wrong_behind_front : (sites : ℕ) (items : List Item) (place n : ℕ) → place < n → IsWrong sites (take n items) place → IsWrong sites items place
+wrong_behind_front : (sites : ℕ) (items : List Item) (place n : ℕ) → place < n → IsWrong sites (take n items) place
+    → IsWrong sites items place
 wrong_behind_front sites items place n h (too_many many) = too_many many
 wrong_behind_front sites items place n h (falls before last here next prior is low) =
-    falls before last here next (sym (get_front n items before (omega arith)) ∙ prior) (sym (get_front n items place h) ∙ is) low
+    falls before last here next (sym (get_front n items before (omega arith)) ∙ prior)
+    (sym (get_front n items place h) ∙ is) low
 wrong_behind_front sites items place n h (nowhere here is far) = nowhere here (sym (get_front n items place h) ∙ is) far
 
-right_front : (sites : ℕ) (items : List Item) (n end : ℕ) → n ≤ end → AreRightBelow sites items end → AreRight sites (take n items)
+right_front : (sites : ℕ) (items : List Item) (n end : ℕ) → n ≤ end → AreRightBelow sites items end
+    → AreRight sites (take n items)
 right_front sites items n end h right place within wrong =
     let below : place < n = omega (arith, length-take n items) in
     right place (omega arith) (wrong_behind_front sites items place n below wrong)
@@ -46,7 +50,8 @@ right_front sites items n end h right place within wrong =
 abbrev Fits : Item → Type 0
 Fits c = IsContainer c × (c.2.0 < 256)
 
-site_fits : (sites : ℕ) → sites ≤ most_sites → (cs : List Item) (k : ℕ) (d : Item) → k < length cs → AreRight sites cs → (get_or cs k d).2.0 < 256
+site_fits : (sites : ℕ) → sites ≤ most_sites → (cs : List Item) (k : ℕ) (d : Item) → k < length cs → AreRight sites cs
+    → (get_or cs k d).2.0 < 256
 site_fits sites few cs k d h right =
     elim (cases_lt ((get_or cs k d).2.0) sites) [
       | inl lt ↦ omega (arith, lt)
@@ -72,12 +77,15 @@ same_container c d a b e =
     λ i. (number i, kind i, record { 0 = site i })
 
 -- values spell one list of containers
-pub same_declared : (cs ds : List Item) → All IsContainer cs → All IsContainer ds → map container_spelled cs ≡ map container_spelled ds → cs ≡ ds
+pub same_declared : (cs ds : List Item) → All IsContainer cs → All IsContainer ds
+    → map container_spelled cs ≡ map container_spelled ds → cs ≡ ds
 same_declared cs ds a b e = same_items container_spelled IsContainer same_container cs ds a b e
 
 -- the catalog of all values
-pub is_catalog : (sites tolerated : ℕ) (value : Data) (values : List Data) (front : List Item) (catalog : Catalog) → value ≡ list values → IsFront values front
-    → length front ≡ length values → catalog.sites ≡ sites → catalog.tolerated ≡ tolerated → catalog.containers ≡ containers_of front → AreRight sites front
+pub is_catalog : (sites tolerated : ℕ) (value : Data) (values : List Data) (front : List Item) (catalog : Catalog)
+    → value ≡ list values → IsFront values front
+    → length front ≡ length values → catalog.sites ≡ sites → catalog.tolerated ≡ tolerated
+    → catalog.containers ≡ containers_of front → AreRight sites front
     → IsCatalog sites tolerated value catalog
 is_catalog sites tolerated value values front catalog e is n of_sites of_tolerated containers right = record {
   values = values;
@@ -94,8 +102,10 @@ is_catalog sites tolerated value values front catalog e is n of_sites of_tolerat
 }
 
 -- the value behind a right front spells no container
-pub none_behind : (sites : ℕ) → sites ≤ most_sites → (value : Data) (values : List Data) (front : List Item) → value ≡ list values → IsFront values front
-    → AreRight sites front → length front ≢ length values → IsItem Containers (HaveContainers sites) value (Containers (length front))
+pub none_behind : (sites : ℕ) → sites ≤ most_sites → (value : Data) (values : List Data) (front : List Item)
+    → value ≡ list values → IsFront values front
+    → AreRight sites front → length front ≢ length values
+    → IsItem Containers (HaveContainers sites) value (Containers (length front))
 none_behind sites few value values front e is right other =
     let within = is.within in
     let less : length front < length values = omega (arith, within, other) in
@@ -109,8 +119,10 @@ none_behind sites few value values front e is right other =
     }
 
 -- the container at the place makes no catalog with those before it
-pub bad_container : (sites : ℕ) (value : Data) (values : List Data) (front : List Item) (index : ℕ) → value ≡ list values → IsFront values front
-    → index < length front → IsWrong sites front index → AreRightBelow sites front index → IsItem Containers (HaveContainers sites) value (Containers index)
+pub bad_container : (sites : ℕ) (value : Data) (values : List Data) (front : List Item) (index : ℕ)
+    → value ≡ list values → IsFront values front
+    → index < length front → IsWrong sites front index → AreRightBelow sites front index
+    → IsItem Containers (HaveContainers sites) value (Containers index)
 bad_container sites value values front index e is h wrong right =
     let within = is.within in
     let before = spelled_front container_spelled values index front (omega arith) is.spelled in
@@ -120,15 +132,23 @@ bad_container sites value values front index e is h wrong right =
       named = refl;
       wrong = first_wrong (HaveContainers sites) value values index e (omega arith) (
         take index front,
-        record { spelled = before; numbers = All-take IsContainer index front is.declared; right = right_front sites front index index (omega arith) right },
+        record {
+          spelled = before;
+          numbers = All-take IsContainer index front is.declared;
+          right = right_front sites front index index (omega arith) right;
+        },
       )
           (λ more.
-          let same = same_declared more.0 (take (index + 1) front) more.1.numbers (All-take IsContainer (index + 1) front is.declared) (sym more.1.spelled ∙ to) in
+          let same =
+          same_declared more.0 (take (index + 1) front) more.1.numbers
+          (All-take IsContainer (index + 1) front is.declared) (sym more.1.spelled ∙ to) in
           let there : AreRight sites (take (index + 1) front) = subst (AreRight sites) same more.1.right in
-          there index (omega (arith, length-take (index + 1) front)) (wrong_in_front sites front index (index + 1) (omega arith) wrong));
+          there index (omega (arith, length-take (index + 1) front))
+          (wrong_in_front sites front index (index + 1) (omega arith) wrong));
     }
 
-pub containers_closed : (sites n : ℕ) (values : List Data) → HaveContainers sites values → HaveContainers sites (take n values)
+pub containers_closed : (sites n : ℕ) (values : List Data) → HaveContainers sites values
+    → HaveContainers sites (take n values)
 containers_closed sites n values have = (
   take n have.0,
   record {

@@ -30,16 +30,19 @@ pub record HasRead (parts : Parts) (sites tolerated : ℕ) (catalog : Catalog) (
   pub are_clients : ListsClients sites (view parts.clients.now) clients
 
 -- and the capacity
-pub record HasReadCapacity (parts : Parts) (sites tolerated : ℕ) (catalog : Catalog) (clients : List Client) (capacity : ℕ) : Type 0 where
+pub record HasReadCapacity (parts : Parts) (sites tolerated : ℕ) (catalog : Catalog) (clients : List Client)
+    (capacity : ℕ) : Type 0 where
   pub read : HasRead parts sites tolerated catalog clients
   pub gives_capacity : GivesCapacity (data_in parts.capacity) capacity
 
 -- and the arms
-pub record HasReadArms (parts : Parts) (sites tolerated : ℕ) (catalog : Catalog) (clients : List Client) (capacity : ℕ) (arms : List Arm) : Type 0 where
+pub record HasReadArms (parts : Parts) (sites tolerated : ℕ) (catalog : Catalog) (clients : List Client) (capacity : ℕ)
+    (arms : List Arm) : Type 0 where
   pub before : HasReadCapacity parts sites tolerated catalog clients capacity
   pub gives_arms : GivesArms sites (data_in parts.arms) arms
 
-has_sites : (parts : Parts) (sites tolerated : ℕ) (bytes : List ℕ) (ms : Members) → HasNumbers parts sites tolerated → HasKeys bytes ms → AreParts ms parts
+has_sites : (parts : Parts) (sites tolerated : ℕ) (bytes : List ℕ) (ms : Members) → HasNumbers parts sites tolerated
+    → HasKeys bytes ms → AreParts ms parts
     → HasSites bytes ms sites
 has_sites parts sites tolerated bytes ms numbers keys are = record {
   has_keys = keys;
@@ -48,7 +51,8 @@ has_sites parts sites tolerated bytes ms numbers keys are = record {
   most = numbers.most;
 }
 
-has_tolerated : (parts : Parts) (sites tolerated : ℕ) (bytes : List ℕ) (ms : Members) → HasNumbers parts sites tolerated → HasKeys bytes ms → AreParts ms parts
+has_tolerated : (parts : Parts) (sites tolerated : ℕ) (bytes : List ℕ) (ms : Members) → HasNumbers parts sites tolerated
+    → HasKeys bytes ms → AreParts ms parts
     → HasTolerated bytes ms sites tolerated
 has_tolerated parts sites tolerated bytes ms numbers keys are = record {
   has_sites = has_sites parts sites tolerated bytes ms numbers keys are;
@@ -56,7 +60,8 @@ has_tolerated parts sites tolerated bytes ms numbers keys are = record {
   fewer = numbers.fewer;
 }
 
-has_containers : (parts : Parts) (sites tolerated : ℕ) (catalog : Catalog) (bytes : List ℕ) (ms : Members) → HasNumbers parts sites tolerated
+has_containers : (parts : Parts) (sites tolerated : ℕ) (catalog : Catalog) (bytes : List ℕ) (ms : Members)
+    → HasNumbers parts sites tolerated
     → (is : IsCatalog sites tolerated (view parts.containers.now) catalog) → HasKeys bytes ms → AreParts ms parts
     → HasContainers bytes ms sites tolerated is.declared
 has_containers parts sites tolerated catalog bytes ms numbers is keys are = record {
@@ -66,7 +71,8 @@ has_containers parts sites tolerated catalog bytes ms numbers is keys are = reco
   are = is.are;
 }
 
-has_clients : (parts : Parts) (sites tolerated : ℕ) (catalog : Catalog) (clients : List Client) (bytes : List ℕ) (ms : Members)
+has_clients : (parts : Parts) (sites tolerated : ℕ) (catalog : Catalog) (clients : List Client) (bytes : List ℕ)
+    (ms : Members)
     → (read : HasRead parts sites tolerated catalog clients) → HasKeys bytes ms → AreParts ms parts
     → HasClients bytes ms sites tolerated read.containers.declared clients
 has_clients parts sites tolerated catalog clients bytes ms read keys are = record {
@@ -76,7 +82,8 @@ has_clients parts sites tolerated catalog clients bytes ms read keys are = recor
   are = read.are_clients.2;
 }
 
-has_capacity : (parts : Parts) (sites tolerated : ℕ) (catalog : Catalog) (clients : List Client) (capacity : ℕ) (bytes : List ℕ) (ms : Members)
+has_capacity : (parts : Parts) (sites tolerated : ℕ) (catalog : Catalog) (clients : List Client) (capacity : ℕ)
+    (bytes : List ℕ) (ms : Members)
     → (before : HasReadCapacity parts sites tolerated catalog clients capacity) → HasKeys bytes ms → AreParts ms parts
     → HasCapacity bytes ms sites tolerated before.read.containers.declared clients capacity
 has_capacity parts sites tolerated catalog clients capacity bytes ms before keys are = record {
@@ -84,7 +91,8 @@ has_capacity parts sites tolerated catalog clients capacity bytes ms before keys
   given = subst (λ g. GivesCapacity g capacity) (sym are.capacity) before.gives_capacity;
 }
 
-has_arms : (parts : Parts) (sites tolerated : ℕ) (catalog : Catalog) (clients : List Client) (capacity : ℕ) (arms : List Arm) (bytes : List ℕ) (ms : Members)
+has_arms : (parts : Parts) (sites tolerated : ℕ) (catalog : Catalog) (clients : List Client) (capacity : ℕ)
+    (arms : List Arm) (bytes : List ℕ) (ms : Members)
     → (all : HasReadArms parts sites tolerated catalog clients capacity arms) → HasKeys bytes ms → AreParts ms parts
     → HasArms bytes ms sites tolerated all.before.read.containers.declared clients capacity arms
 has_arms parts sites tolerated catalog clients capacity arms bytes ms all keys are = record {
@@ -93,8 +101,10 @@ has_arms parts sites tolerated catalog clients capacity arms bytes ms all keys a
 }
 
 -- a fault of the arms
-pub arms_fault : (parts : Parts) (sites tolerated : ℕ) (catalog : Catalog) (clients : List Client) (capacity : ℕ) (fault : ReadFault)
-    → HasReadCapacity parts sites tolerated catalog clients capacity → IsGivenArmsFault sites (data_in parts.arms) fault → IsFaultOf parts fault
+pub arms_fault : (parts : Parts) (sites tolerated : ℕ) (catalog : Catalog) (clients : List Client) (capacity : ℕ)
+    (fault : ReadFault)
+    → HasReadCapacity parts sites tolerated catalog clients capacity → IsGivenArmsFault sites (data_in parts.arms) fault
+    → IsFaultOf parts fault
 arms_fault parts sites tolerated catalog clients capacity NoMemory before wrong bytes ms keys are = tt
 arms_fault parts sites tolerated catalog clients capacity (Refused place detail) before wrong bytes ms keys are =
     subst (IsRefusedAt bytes) (sym wrong.2.named) (
@@ -111,8 +121,10 @@ arms_fault parts sites tolerated catalog clients capacity (Refused place detail)
     )
 
 -- a fault of the steps
-pub steps_fault : (parts : Parts) (sites tolerated : ℕ) (catalog : Catalog) (clients : List Client) (capacity : ℕ) (arms : List Arm) (fault : ReadFault)
-    → HasReadArms parts sites tolerated catalog clients capacity arms → IsStepsFault sites (length clients) (view parts.steps.now) fault → IsFaultOf parts fault
+pub steps_fault : (parts : Parts) (sites tolerated : ℕ) (catalog : Catalog) (clients : List Client) (capacity : ℕ)
+    (arms : List Arm) (fault : ReadFault)
+    → HasReadArms parts sites tolerated catalog clients capacity arms
+    → IsStepsFault sites (length clients) (view parts.steps.now) fault → IsFaultOf parts fault
 steps_fault parts sites tolerated catalog clients capacity arms NoMemory all wrong bytes ms keys are = tt
 steps_fault parts sites tolerated catalog clients capacity arms (Refused place detail) all wrong bytes ms keys are =
     subst (IsRefusedAt bytes) (sym wrong.named) (

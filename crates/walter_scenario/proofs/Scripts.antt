@@ -18,7 +18,8 @@ abbrev pub HaveSpelled : {A : Type 0} (f : A → Data) (May : A → Type 0) → 
 HaveSpelled {A} f May values = (xs : List A) × AreSpelled f May values xs
 
 -- one more item was read
-pub item_more : {A : Type 0} (f : A → Data) (May : A → Type 0) (values : List Data) (i : ℕ) (xs : List A) (x : A) → i < length values → AreSpelled f May (take i values) xs
+pub item_more : {A : Type 0} (f : A → Data) (May : A → Type 0) (values : List Data) (i : ℕ) (xs : List A) (x : A)
+    → i < length values → AreSpelled f May (take i values) xs
     → May x → HoldsAt (λ d. d ≡ f x) values i → AreSpelled f May (take (i + 1) values) (xs ++ x ∷ [])
 item_more f May values i xs x h are there is = record {
   spelled = one_more f values i xs x h are.spelled is;
@@ -26,16 +27,20 @@ item_more f May values i xs x h are there is = record {
 }
 
 -- the value at the place spells no item
-pub item_wrong : {A : Type 0} (f : A → Data) (May : A → Type 0) (name : ℕ → Place) (value : Data) (values : List Data) (i : ℕ) (xs : List A) → value ≡ list values
-    → i < length values → AreSpelled f May (take i values) xs → HoldsAt (λ d. (x : A) → May x → d ≢ f x) values i → IsItem name (HaveSpelled f May) value (name i)
+pub item_wrong : {A : Type 0} (f : A → Data) (May : A → Type 0) (name : ℕ → Place) (value : Data) (values : List Data)
+    (i : ℕ) (xs : List A) → value ≡ list values
+    → i < length values → AreSpelled f May (take i values) xs → HoldsAt (λ d. (x : A) → May x → d ≢ f x) values i
+    → IsItem name (HaveSpelled f May) value (name i)
 item_wrong f May name value values i xs e h are none = record {
   index = i;
   named = refl;
-  wrong = first_wrong (HaveSpelled f May) value values i e h (xs, are) (λ more. no_more f May values i more.0 h more.1.spelled more.1.within none);
+  wrong = first_wrong (HaveSpelled f May) value values i e h (xs, are)
+      (λ more. no_more f May values i more.0 h more.1.spelled more.1.within none);
 }
 
 -- what is spelled in front is spelled
-pub items_closed : {A : Type 0} (f : A → Data) (May : A → Type 0) (n : ℕ) (values : List Data) → HaveSpelled f May values → HaveSpelled f May (take n values)
+pub items_closed : {A : Type 0} (f : A → Data) (May : A → Type 0) (n : ℕ) (values : List Data)
+    → HaveSpelled f May values → HaveSpelled f May (take n values)
 items_closed f May n values have = (
   take n have.0,
   record {
@@ -54,9 +59,11 @@ same_arm a b e =
     λ i. record { site = record { 0 = site i }; nth = nth i; choice = choice i }
 
 -- values spell one list of arms
-pub same_arms : (sites : ℕ) (values : List Data) (a b : List Arm) → AreArms sites values a → AreArms sites values b → a ≡ b
+pub same_arms : (sites : ℕ) (values : List Data) (a b : List Arm) → AreArms sites values a → AreArms sites values b
+    → a ≡ b
 same_arms sites values a b are be =
-    same_items arm_spelled (IsArm sites) (λ x y p q e. same_arm x y e) a b are.within be.within (sym are.spelled ∙ be.spelled)
+    same_items arm_spelled (IsArm sites) (λ x y p q e. same_arm x y e) a b are.within be.within
+    (sym are.spelled ∙ be.spelled)
 
 -- a step is its word, and the values behind it
 abbrev word_of : Step → List ℕ
@@ -86,7 +93,8 @@ step_parts (Stop site) = refl
 step_parts (Restart site) = refl
 step_parts (Armed arm) = refl
 
-same_word : (a : Step) (word : List ℕ) (values : List Data) → list (string word ∷ values) ≡ step_spelled a → word ≡ word_of a
+same_word : (a : Step) (word : List ℕ) (values : List Data) → list (string word ∷ values) ≡ step_spelled a
+    → word ≡ word_of a
 same_word a word values e =
     let is : list (string word ∷ values) ≡ list (string (word_of a) ∷ values_of a) = e ∙ step_parts a in
     cc
@@ -114,14 +122,18 @@ same_step : (a b : Step) → step_spelled a ≡ step_spelled b → a ≡ b
 same_step a b e = same_step_at a b (same_word b (word_of a) (values_of a) (sym (step_parts a) ∙ e)) e
 
 -- where three values are no arm, the word of one in front of them makes no step
-pub arms_nothing : (sites clients : ℕ) (site nth choice : Data) → ((arm : Arm) → IsArm sites arm → site ∷ nth ∷ choice ∷ [] ≢ arm_items arm)
-    → (step : Step) → IsStep sites clients step → list (string (codes "arm") ∷ site ∷ nth ∷ choice ∷ []) ≢ step_spelled step
+pub arms_nothing : (sites clients : ℕ) (site nth choice : Data)
+    → ((arm : Arm) → IsArm sites arm → site ∷ nth ∷ choice ∷ [] ≢ arm_items arm)
+    → (step : Step) → IsStep sites clients step
+    → list (string (codes "arm") ∷ site ∷ nth ∷ choice ∷ []) ≢ step_spelled step
 arms_nothing sites clients site nth choice none (Armed arm) is e = none arm is cc
 arms_nothing sites clients site nth choice none step is e =
     let word = same_word step (codes "arm") (site ∷ nth ∷ choice ∷ []) e in
     absurd (omega (arith, ap (λ w. slice_index w 0) word, ap (λ w. slice_index w 1) word))
 
 -- values spell one list of steps
-pub same_steps : (sites clients : ℕ) (values : List Data) (a b : List Step) → AreSteps sites clients values a → AreSteps sites clients values b → a ≡ b
+pub same_steps : (sites clients : ℕ) (values : List Data) (a b : List Step) → AreSteps sites clients values a
+    → AreSteps sites clients values b → a ≡ b
 same_steps sites clients values a b are be =
-    same_items step_spelled (IsStep sites clients) (λ x y p q e. same_step x y e) a b are.within be.within (sym are.spelled ∙ be.spelled)
+    same_items step_spelled (IsStep sites clients) (λ x y p q e. same_step x y e) a b are.within be.within
+    (sym are.spelled ∙ be.spelled)

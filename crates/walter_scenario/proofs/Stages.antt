@@ -25,17 +25,25 @@ Passed (suc zero) bytes = IsWithinLimit bytes
 Passed (suc (suc zero)) bytes = IsWithinLimit bytes × ((members : Members) × IsJsonObject bytes members)
 Passed (suc (suc (suc zero))) bytes = (members : Members) × HasKeys bytes members
 Passed (suc (suc (suc (suc zero)))) bytes = (members : Members) × (sites : ℕ) × HasSites bytes members sites
-Passed (suc (suc (suc (suc (suc zero))))) bytes = (members : Members) × (sites : ℕ) × (tolerated : ℕ) × HasTolerated bytes members sites tolerated
-Passed (suc (suc (suc (suc (suc (suc zero)))))) bytes = (members : Members) × (sites : ℕ) × (tolerated : ℕ) × (declared : List Item) × HasContainers bytes members sites tolerated declared
+Passed (suc (suc (suc (suc (suc zero))))) bytes =
+    (members : Members) × (sites : ℕ) × (tolerated : ℕ) × HasTolerated bytes members sites tolerated
+Passed (suc (suc (suc (suc (suc (suc zero)))))) bytes =
+    (members : Members) × (sites : ℕ) × (tolerated : ℕ) × (declared : List Item)
+    × HasContainers bytes members sites tolerated declared
 Passed (suc (suc (suc (suc (suc (suc (suc zero))))))) bytes =
-    (members : Members) × (sites : ℕ) × (tolerated : ℕ) × (declared : List Item) × (clients : List Client) × HasClients bytes members sites tolerated declared clients
+    (members : Members) × (sites : ℕ) × (tolerated : ℕ) × (declared : List Item) × (clients : List Client)
+    × HasClients bytes members sites tolerated declared clients
 Passed (suc (suc (suc (suc (suc (suc (suc (suc zero)))))))) bytes =
-    (members : Members) × (sites : ℕ) × (tolerated : ℕ) × (declared : List Item) × (clients : List Client) × (capacity : ℕ) × HasCapacity bytes members sites tolerated declared clients capacity
+    (members : Members) × (sites : ℕ) × (tolerated : ℕ) × (declared : List Item) × (clients : List Client)
+    × (capacity : ℕ) × HasCapacity bytes members sites tolerated declared clients capacity
 Passed (suc (suc (suc (suc (suc (suc (suc (suc (suc zero))))))))) bytes =
-    (members : Members) × (sites : ℕ) × (tolerated : ℕ) × (declared : List Item) × (clients : List Client) × (capacity : ℕ) × (arms : List Arm) × HasArms bytes members sites tolerated declared clients capacity arms
+    (members : Members) × (sites : ℕ) × (tolerated : ℕ) × (declared : List Item) × (clients : List Client)
+    × (capacity : ℕ) × (arms : List Arm) × HasArms bytes members sites tolerated declared clients capacity arms
 Passed (suc (suc (suc (suc (suc (suc (suc (suc (suc (suc n)))))))))) bytes =
-    (members : Members) × (sites : ℕ) × (tolerated : ℕ) × (declared : List Item) × (clients : List Client) × (capacity : ℕ) × (arms : List Arm) × (values : List Data)
-    × HasArms bytes members sites tolerated declared clients capacity arms × HasMember members (codes "steps") (list values) × HaveSteps sites (length clients) values
+    (members : Members) × (sites : ℕ) × (tolerated : ℕ) × (declared : List Item) × (clients : List Client)
+    × (capacity : ℕ) × (arms : List Arm) × (values : List Data)
+    × HasArms bytes members sites tolerated declared clients capacity arms
+    × HasMember members (codes "steps") (list values) × HaveSteps sites (length clients) values
 
 -- the number of stages before the place's
 abbrev stage : Place → ℕ
@@ -87,7 +95,8 @@ reached bytes (Steps place) is = (is.0, is.1, is.2, is.3, is.4, is.5, is.6, is.8
 arms_closed : (sites n : ℕ) (values : List Data) → HaveArms sites values → HaveArms sites (take n values)
 arms_closed sites n values have = items_closed arm_spelled (IsArm sites) n values have
 
-steps_closed : (sites clients n : ℕ) (values : List Data) → HaveSteps sites clients values → HaveSteps sites clients (take n values)
+steps_closed : (sites clients n : ℕ) (values : List Data) → HaveSteps sites clients values
+    → HaveSteps sites clients (take n values)
 steps_closed sites clients n values have = items_closed step_spelled (IsStep sites clients) n values have
 
 sites_of_clients : (bytes : List ℕ) (ms : Members) (sites tolerated : ℕ) (declared : List Item) (clients : List Client)
@@ -107,33 +116,48 @@ stopped bytes Sites is p =
 stopped bytes F is p =
     let same = one_object bytes p.0 is.0 p.3.has_sites.has_keys.is_object is.2.has_keys.is_object in
     let sites = one_of_sites bytes p.0 is.0 p.1 is.1 p.3.has_sites is.2 in
-    is.3 p.2 (subst (λ n. p.2 < n) sites p.3.fewer) (subst (λ ms. HasMember ms (codes "f") (whole p.2)) same p.3.spelled)
+    is.3 p.2 (subst (λ n. p.2 < n) sites p.3.fewer)
+    (subst (λ ms. HasMember ms (codes "f") (whole p.2)) same p.3.spelled)
 stopped bytes (Containers place) is p =
-    let same = one_object bytes is.0 p.0 is.4.has_sites.has_keys.is_object (containers_object bytes p.0 p.1 p.2 p.3 p.4) in
+    let same =
+    one_object bytes is.0 p.0 is.4.has_sites.has_keys.is_object (containers_object bytes p.0 p.1 p.2 p.3 p.4) in
     let sites = one_of_sites bytes p.0 is.0 p.1 is.1 p.4.has_tolerated.has_sites is.4.has_sites in
     let value = one_value (codes "containers") is.0 p.0 is.3 (list p.4.values) same is.5 p.4.spelled in
     right_nowhere (HaveContainers is.1) (containers_closed is.1) is.3 p.4.values place value
     (subst (λ n. HaveContainers n p.4.values) sites (p.3, p.4.are)) is.6
 stopped bytes (Clients place) is p =
-    let same = one_object bytes is.0 p.0 (containers_object bytes is.0 is.1 is.2 is.3 is.5) (containers_object bytes p.0 p.1 p.2 p.3 p.5.has_containers) in
-    let sites = one_of_sites bytes p.0 is.0 p.1 is.1 p.5.has_containers.has_tolerated.has_sites is.5.has_tolerated.has_sites in
+    let same =
+    one_object bytes is.0 p.0 (containers_object bytes is.0 is.1 is.2 is.3 is.5)
+    (containers_object bytes p.0 p.1 p.2 p.3 p.5.has_containers) in
+    let sites =
+    one_of_sites bytes p.0 is.0 p.1 is.1 p.5.has_containers.has_tolerated.has_sites is.5.has_tolerated.has_sites in
     let value = one_value (codes "clients") is.0 p.0 is.4 (list p.5.values) same is.6 p.5.spelled in
     right_nowhere (HaveClients is.1) (clients_closed is.1) is.4 p.5.values place value
     (subst (λ n. HaveClients n p.5.values) sites (p.4, p.5.are)) is.7
 stopped bytes Capacity is p =
-    let same = one_object bytes p.0 is.0 (clients_object bytes p.0 p.1 p.2 p.3 p.4 p.6.has_clients) (clients_object bytes is.0 is.1 is.2 is.3 is.4 is.5) in
+    let same =
+    one_object bytes p.0 is.0 (clients_object bytes p.0 p.1 p.2 p.3 p.4 p.6.has_clients)
+    (clients_object bytes is.0 is.1 is.2 is.3 is.4 is.5) in
     is.6 p.5 (subst (λ ms. GivesCapacity (get_member (codes "capacity") ms) p.5) same p.6.given)
 stopped bytes (Arms place) is p =
-    let same = one_object bytes p.0 is.0 (arms_object bytes p.0 p.1 p.2 p.3 p.4 p.5 p.6 p.7) (clients_object bytes is.0 is.1 is.2 is.3 is.4 is.7.has_clients) in
-    let sites = one_of_sites bytes p.0 is.0 p.1 is.1 (sites_of_clients bytes p.0 p.1 p.2 p.3 p.4 p.7.has_capacity.has_clients)
+    let same =
+    one_object bytes p.0 is.0 (arms_object bytes p.0 p.1 p.2 p.3 p.4 p.5 p.6 p.7)
+    (clients_object bytes is.0 is.1 is.2 is.3 is.4 is.7.has_clients) in
+    let sites =
+    one_of_sites bytes p.0 is.0 p.1 is.1 (sites_of_clients bytes p.0 p.1 p.2 p.3 p.4 p.7.has_capacity.has_clients)
     (sites_of_clients bytes is.0 is.1 is.2 is.3 is.4 is.7.has_clients) in
     let given = subst (λ g. GivesArms p.1 g p.6) (ap (λ ms. get_member (codes "arms") ms) same ∙ is.8) p.7.given in
-    right_nowhere (HaveArms is.1) (arms_closed is.1) is.6 given.0 place given.1 (subst (λ n. HaveArms n given.0) sites (p.6, given.2)) is.9
+    right_nowhere (HaveArms is.1) (arms_closed is.1) is.6 given.0 place given.1
+    (subst (λ n. HaveArms n given.0) sites (p.6, given.2)) is.9
 stopped bytes (Steps place) is p =
-    let same = one_object bytes is.0 p.0 (arms_object bytes is.0 is.1 is.2 is.3 is.4 is.5 is.6 is.8) (arms_object bytes p.0 p.1 p.2 p.3 p.4 p.5 p.6 p.8) in
+    let same =
+    one_object bytes is.0 p.0 (arms_object bytes is.0 is.1 is.2 is.3 is.4 is.5 is.6 is.8)
+    (arms_object bytes p.0 p.1 p.2 p.3 p.4 p.5 p.6 p.8) in
     let in_p = p.8.has_capacity.has_clients in
     let in_is = is.8.has_capacity.has_clients in
-    let sites = one_of_sites bytes p.0 is.0 p.1 is.1 (sites_of_clients bytes p.0 p.1 p.2 p.3 p.4 in_p) (sites_of_clients bytes is.0 is.1 is.2 is.3 is.4 in_is) in
+    let sites =
+    one_of_sites bytes p.0 is.0 p.1 is.1 (sites_of_clients bytes p.0 p.1 p.2 p.3 p.4 in_p)
+    (sites_of_clients bytes is.0 is.1 is.2 is.3 is.4 in_is) in
     let value = one_value (codes "steps") is.0 p.0 is.7 (list p.7) same is.9 p.9 in
     let clients = one_of_clients bytes p.0 is.0 p.1 is.1 p.2 is.2 p.3 is.3 p.4 is.4 in_p in_is in
     right_nowhere (HaveSteps is.1 (length is.4)) (steps_closed is.1 (length is.4)) is.7 p.7 place value
@@ -152,7 +176,8 @@ few (Arms place) = omega arith
 few (Steps place) = omega arith
 
 -- bytes that spell a scenario are refused nowhere
-pub read_nowhere_refused : (bytes : List ℕ) (s : Scenario) (place : Place) → IsReading bytes s → ¬ IsRefusedAt bytes place
+pub read_nowhere_refused : (bytes : List ℕ) (s : Scenario) (place : Place) → IsReading bytes s
+    → ¬ IsRefusedAt bytes place
 read_nowhere_refused bytes s place is refused =
     let all : Passed 10 bytes = (
       is.members,
@@ -169,10 +194,13 @@ read_nowhere_refused bytes s place is refused =
     ) in
     stopped bytes place refused (fewer bytes (suc (stage place)) 10 (omega (arith, few place)) all)
 
-not_before : (bytes : List ℕ) (place other : Place) → IsRefusedAt bytes place → IsRefusedAt bytes other → ¬ (stage place < stage other)
-not_before bytes place other a b h = stopped bytes place a (fewer bytes (suc (stage place)) (stage other) (omega arith) (reached bytes other b))
+not_before : (bytes : List ℕ) (place other : Place) → IsRefusedAt bytes place → IsRefusedAt bytes other
+    → ¬ (stage place < stage other)
+not_before bytes place other a b h =
+    stopped bytes place a (fewer bytes (suc (stage place)) (stage other) (omega arith) (reached bytes other b))
 
-same_place : (bytes : List ℕ) (place other : Place) → stage place ≡ stage other → IsRefusedAt bytes place → IsRefusedAt bytes other → place ≡ other
+same_place : (bytes : List ℕ) (place other : Place) → stage place ≡ stage other → IsRefusedAt bytes place
+    → IsRefusedAt bytes other → place ≡ other
 same_place bytes TooLong TooLong e a b = refl
 same_place bytes Json Json e a b = refl
 same_place bytes Key Key e a b = refl
@@ -183,27 +211,40 @@ same_place bytes (Containers m) (Containers n) e a b =
     let sites = one_of_sites bytes a.0 b.0 a.1 b.1 a.4.has_sites b.4.has_sites in
     let value = one_value (codes "containers") a.0 b.0 a.3 b.3 same a.5 b.5 in
     let wrong = subst (λ v. IsWrongAt (HaveContainers a.1) v m) value a.6 in
-    ap Containers (one_place (HaveContainers b.1) (containers_closed b.1) b.3 m n (subst (λ k. IsWrongAt (HaveContainers k) b.3 m) sites wrong) b.6)
+    ap Containers (one_place (HaveContainers b.1) (containers_closed b.1) b.3 m n
+    (subst (λ k. IsWrongAt (HaveContainers k) b.3 m) sites wrong) b.6)
 same_place bytes (Clients m) (Clients n) e a b =
-    let same = one_object bytes a.0 b.0 (containers_object bytes a.0 a.1 a.2 a.3 a.5) (containers_object bytes b.0 b.1 b.2 b.3 b.5) in
+    let same =
+    one_object bytes a.0 b.0 (containers_object bytes a.0 a.1 a.2 a.3 a.5)
+    (containers_object bytes b.0 b.1 b.2 b.3 b.5) in
     let sites = one_of_sites bytes a.0 b.0 a.1 b.1 a.5.has_tolerated.has_sites b.5.has_tolerated.has_sites in
     let value = one_value (codes "clients") a.0 b.0 a.4 b.4 same a.6 b.6 in
     let wrong = subst (λ v. IsWrongAt (HaveClients a.1) v m) value a.7 in
-    ap Clients (one_place (HaveClients b.1) (clients_closed b.1) b.4 m n (subst (λ k. IsWrongAt (HaveClients k) b.4 m) sites wrong) b.7)
+    ap Clients (one_place (HaveClients b.1) (clients_closed b.1) b.4 m n
+    (subst (λ k. IsWrongAt (HaveClients k) b.4 m) sites wrong) b.7)
 same_place bytes Capacity Capacity e a b = refl
 same_place bytes (Arms m) (Arms n) e a b =
     let in_a = a.7.has_clients in
     let in_b = b.7.has_clients in
-    let same = one_object bytes a.0 b.0 (clients_object bytes a.0 a.1 a.2 a.3 a.4 in_a) (clients_object bytes b.0 b.1 b.2 b.3 b.4 in_b) in
-    let sites = one_of_sites bytes a.0 b.0 a.1 b.1 (sites_of_clients bytes a.0 a.1 a.2 a.3 a.4 in_a) (sites_of_clients bytes b.0 b.1 b.2 b.3 b.4 in_b) in
+    let same =
+    one_object bytes a.0 b.0 (clients_object bytes a.0 a.1 a.2 a.3 a.4 in_a)
+    (clients_object bytes b.0 b.1 b.2 b.3 b.4 in_b) in
+    let sites =
+    one_of_sites bytes a.0 b.0 a.1 b.1 (sites_of_clients bytes a.0 a.1 a.2 a.3 a.4 in_a)
+    (sites_of_clients bytes b.0 b.1 b.2 b.3 b.4 in_b) in
     let value = one_value (codes "arms") a.0 b.0 a.6 b.6 same a.8 b.8 in
     let wrong = subst (λ v. IsWrongAt (HaveArms a.1) v m) value a.9 in
-    ap Arms (one_place (HaveArms b.1) (arms_closed b.1) b.6 m n (subst (λ k. IsWrongAt (HaveArms k) b.6 m) sites wrong) b.9)
+    ap Arms (one_place (HaveArms b.1) (arms_closed b.1) b.6 m n
+    (subst (λ k. IsWrongAt (HaveArms k) b.6 m) sites wrong) b.9)
 same_place bytes (Steps m) (Steps n) e a b =
     let in_a = a.8.has_capacity.has_clients in
     let in_b = b.8.has_capacity.has_clients in
-    let same = one_object bytes a.0 b.0 (arms_object bytes a.0 a.1 a.2 a.3 a.4 a.5 a.6 a.8) (arms_object bytes b.0 b.1 b.2 b.3 b.4 b.5 b.6 b.8) in
-    let sites = one_of_sites bytes a.0 b.0 a.1 b.1 (sites_of_clients bytes a.0 a.1 a.2 a.3 a.4 in_a) (sites_of_clients bytes b.0 b.1 b.2 b.3 b.4 in_b) in
+    let same =
+    one_object bytes a.0 b.0 (arms_object bytes a.0 a.1 a.2 a.3 a.4 a.5 a.6 a.8)
+    (arms_object bytes b.0 b.1 b.2 b.3 b.4 b.5 b.6 b.8) in
+    let sites =
+    one_of_sites bytes a.0 b.0 a.1 b.1 (sites_of_clients bytes a.0 a.1 a.2 a.3 a.4 in_a)
+    (sites_of_clients bytes b.0 b.1 b.2 b.3 b.4 in_b) in
     let value = one_value (codes "steps") a.0 b.0 a.7 b.7 same a.9 b.9 in
     let clients = one_of_clients bytes a.0 b.0 a.1 b.1 a.2 b.2 a.3 b.3 a.4 b.4 in_a in_b in
     let wrong = subst (λ v. IsWrongAt (HaveSteps a.1 (length a.4)) v m) value a.10 in
@@ -213,7 +254,8 @@ same_place bytes (Steps m) (Steps n) e a b =
 same_place bytes place other e a b = absurd (omega (arith, e))
 
 -- bytes are refused at one place
-pub one_refused : (bytes : List ℕ) (place other : Place) → IsRefusedAt bytes place → IsRefusedAt bytes other → place ≡ other
+pub one_refused : (bytes : List ℕ) (place other : Place) → IsRefusedAt bytes place → IsRefusedAt bytes other
+    → place ≡ other
 one_refused bytes place other a b =
     let below = not_before bytes place other a b in
     let above = not_before bytes other place b a in

@@ -20,42 +20,54 @@ one_object bytes m n a b = cc
 pub one_value : (key : List ℕ) (m n : Members) (a b : Data) → m ≡ n → HasMember m key a → HasMember n key b → a ≡ b
 one_value key m n a b same is other = same_Some a b (sym is ∙ ap (λ ms. get_member key ms) same ∙ other)
 
-pub one_list : (key : List ℕ) (m n : Members) (a b : List Data) → m ≡ n → HasMember m key (list a) → HasMember n key (list b) → a ≡ b
+pub one_list : (key : List ℕ) (m n : Members) (a b : List Data) → m ≡ n → HasMember m key (list a)
+    → HasMember n key (list b) → a ≡ b
 one_list key m n a b same is other = list_of (list a) a b refl (one_value key m n (list a) (list b) same is other)
 
 -- a value is one whole number
-pub one_number : (key : List ℕ) (m n : Members) (a b : ℕ) → m ≡ n → HasMember m key (whole a) → HasMember n key (whole b) → a ≡ b
-one_number key m n a b same is other = let e : whole a ≡ whole b = one_value key m n (whole a) (whole b) same is other in cc
+pub one_number : (key : List ℕ) (m n : Members) (a b : ℕ) → m ≡ n → HasMember m key (whole a)
+    → HasMember n key (whole b) → a ≡ b
+one_number key m n a b same is other =
+    let e : whole a ≡ whole b = one_value key m n (whole a) (whole b) same is other in cc
 
 pub one_of_sites : (bytes : List ℕ) (m n : Members) (s t : ℕ) → HasSites bytes m s → HasSites bytes n t → s ≡ t
 one_of_sites bytes m n s t a b =
-    one_number (codes "sites") m n s t (one_object bytes m n a.has_keys.is_object b.has_keys.is_object) a.spelled b.spelled
+    one_number (codes "sites") m n s t
+    (one_object bytes m n a.has_keys.is_object b.has_keys.is_object) a.spelled b.spelled
 
-pub one_tolerated : (bytes : List ℕ) (m n : Members) (s t f g : ℕ) → HasTolerated bytes m s f → HasTolerated bytes n t g → f ≡ g
+pub one_tolerated : (bytes : List ℕ) (m n : Members) (s t f g : ℕ) → HasTolerated bytes m s f → HasTolerated bytes n t g
+    → f ≡ g
 one_tolerated bytes m n s t f g a b =
     let same = one_object bytes m n a.has_sites.has_keys.is_object b.has_sites.has_keys.is_object in
     one_number (codes "f") m n f g same a.spelled b.spelled
 
-pub containers_object : (bytes : List ℕ) (m : Members) (s f : ℕ) (ds : List Item) → HasContainers bytes m s f ds → IsJsonObject bytes m
+pub containers_object : (bytes : List ℕ) (m : Members) (s f : ℕ) (ds : List Item) → HasContainers bytes m s f ds
+    → IsJsonObject bytes m
 containers_object bytes m s f ds has = has.has_tolerated.has_sites.has_keys.is_object
 
-pub one_declared : (bytes : List ℕ) (m n : Members) (s t f g : ℕ) (ds es : List Item) → HasContainers bytes m s f ds → HasContainers bytes n t g es → ds ≡ es
+pub one_declared : (bytes : List ℕ) (m n : Members) (s t f g : ℕ) (ds es : List Item) → HasContainers bytes m s f ds
+    → HasContainers bytes n t g es → ds ≡ es
 one_declared bytes m n s t f g ds es a b =
     let same = one_object bytes m n (containers_object bytes m s f ds a) (containers_object bytes n t g es b) in
     let values = one_list (codes "containers") m n a.values b.values same a.spelled b.spelled in
     same_declared ds es a.are.numbers b.are.numbers (sym a.are.spelled ∙ values ∙ b.are.spelled)
 
-pub one_of_clients : (bytes : List ℕ) (m n : Members) (s t f g : ℕ) (ds es : List Item) (cs others : List Client) → HasClients bytes m s f ds cs
+pub one_of_clients : (bytes : List ℕ) (m n : Members) (s t f g : ℕ) (ds es : List Item) (cs others : List Client)
+    → HasClients bytes m s f ds cs
     → HasClients bytes n t g es others → cs ≡ others
 one_of_clients bytes m n s t f g ds es cs others a b =
-    let same = one_object bytes m n (containers_object bytes m s f ds a.has_containers) (containers_object bytes n t g es b.has_containers) in
+    let same =
+    one_object bytes m n (containers_object bytes m s f ds a.has_containers)
+    (containers_object bytes n t g es b.has_containers) in
     let values = one_list (codes "clients") m n a.values b.values same a.spelled b.spelled in
     same_clients b.values cs others (subst (λ vs. SpellClients vs cs) values a.are.spelled) b.are.spelled
 
-pub clients_object : (bytes : List ℕ) (m : Members) (s f : ℕ) (ds : List Item) (cs : List Client) → HasClients bytes m s f ds cs → IsJsonObject bytes m
+pub clients_object : (bytes : List ℕ) (m : Members) (s f : ℕ) (ds : List Item) (cs : List Client)
+    → HasClients bytes m s f ds cs → IsJsonObject bytes m
 clients_object bytes m s f ds cs has = containers_object bytes m s f ds has.has_containers
 
-pub arms_object : (bytes : List ℕ) (m : Members) (s f : ℕ) (ds : List Item) (cs : List Client) (capacity : ℕ) (arms : List Arm) → HasArms bytes m s f ds cs capacity arms
+pub arms_object : (bytes : List ℕ) (m : Members) (s f : ℕ) (ds : List Item) (cs : List Client) (capacity : ℕ)
+    (arms : List Arm) → HasArms bytes m s f ds cs capacity arms
     → IsJsonObject bytes m
 arms_object bytes m s f ds cs capacity arms has = clients_object bytes m s f ds cs has.has_capacity.has_clients
 
@@ -63,9 +75,11 @@ pub one_capacity : (given : Option Data) (m n : ℕ) → GivesCapacity given m �
 one_capacity None m n a b = a ∙ sym b
 one_capacity (Some value) m n a b = let e : whole m ≡ whole n = sym a.0 ∙ b.0 in cc
 
-pub one_of_arms : (sites : ℕ) (given : Option Data) (xs ys : List Arm) → GivesArms sites given xs → GivesArms sites given ys → xs ≡ ys
+pub one_of_arms : (sites : ℕ) (given : Option Data) (xs ys : List Arm) → GivesArms sites given xs
+    → GivesArms sites given ys → xs ≡ ys
 one_of_arms sites None xs ys a b = a ∙ sym b
-one_of_arms sites (Some value) xs ys a b = same_arms sites b.0 xs ys (subst (λ vs. AreArms sites vs xs) (list_of value a.0 b.0 a.1 b.1) a.2) b.2
+one_of_arms sites (Some value) xs ys a b =
+    same_arms sites b.0 xs ys (subst (λ vs. AreArms sites vs xs) (list_of value a.0 b.0 a.1 b.1) a.2) b.2
 
 pub one_scenario : (bytes : List ℕ) (s t : Scenario) → IsReading bytes s → IsReading bytes t → s ≡ t
 one_scenario bytes s t a b =
@@ -77,19 +91,30 @@ one_scenario bytes s t a b =
     let n = t.catalog.sites in
     let f = s.catalog.tolerated in
     let g = t.catalog.tolerated in
-    let same = one_object bytes a.members b.members of_s.has_sites.has_keys.is_object of_t.has_sites.has_keys.is_object in
+    let same =
+    one_object bytes a.members b.members of_s.has_sites.has_keys.is_object of_t.has_sites.has_keys.is_object in
     let sites : m ≡ n = one_of_sites bytes a.members b.members m n of_s.has_sites of_t.has_sites in
     let tolerated : f ≡ g = one_tolerated bytes a.members b.members m n f g of_s of_t in
-    let declared = one_declared bytes a.members b.members m n f g a.declared b.declared in_s.has_clients.has_containers in_t.has_clients.has_containers in
+    let declared =
+    one_declared bytes a.members b.members m n f g a.declared b.declared in_s.has_clients.has_containers
+    in_t.has_clients.has_containers in
     let containers = a.containers ∙ ap (λ ds. containers_of ds) declared ∙ sym b.containers in
-    let clients = one_of_clients bytes a.members b.members m n f g a.declared b.declared s.clients t.clients in_s.has_clients in_t.has_clients in
-    let capacity = one_capacity (get_member (codes "capacity") b.members) s.capacity t.capacity (subst (λ ms. GivesCapacity (get_member (codes "capacity") ms) s.capacity) same in_s.given) in_t.given in
+    let clients =
+    one_of_clients bytes a.members b.members m n f g a.declared b.declared s.clients t.clients in_s.has_clients
+    in_t.has_clients in
+    let capacity =
+    one_capacity (get_member (codes "capacity") b.members) s.capacity t.capacity
+    (subst (λ ms. GivesCapacity (get_member (codes "capacity") ms) s.capacity) same in_s.given) in_t.given in
     let given = subst (λ ms. GivesArms m (get_member (codes "arms") ms) s.arms) same a.has_arms.given in
-    let arms = one_of_arms n (get_member (codes "arms") b.members) s.arms t.arms (subst (λ k. GivesArms k (get_member (codes "arms") b.members) s.arms) sites given) b.has_arms.given in
+    let arms =
+    one_of_arms n (get_member (codes "arms") b.members) s.arms t.arms
+    (subst (λ k. GivesArms k (get_member (codes "arms") b.members) s.arms) sites given) b.has_arms.given in
     let values = one_list (codes "steps") a.members b.members a.values b.values same a.spelled b.spelled in
     let are = subst (λ vs. AreSteps m (length s.clients) vs s.steps) values a.are in
     let there = subst (λ cs. AreSteps m (length cs) b.values s.steps) clients are in
-    let steps = same_steps n (length t.clients) b.values s.steps t.steps (subst (λ k. AreSteps k (length t.clients) b.values s.steps) sites there) b.are in
+    let steps =
+    same_steps n (length t.clients) b.values s.steps t.steps
+    (subst (λ k. AreSteps k (length t.clients) b.values s.steps) sites there) b.are in
     λ i. record {
       catalog = record { sites = sites i; tolerated = tolerated i; containers = containers i };
       clients = clients i;

@@ -45,7 +45,8 @@ IsArmsFault sites value = IfRefusedAt (IsItem Arms (HaveArms sites) value)
 
 -- of a key that may be absent
 abbrev pub IsGivenArmsFault : ℕ → Option Data → ReadFault → Type 0
-IsGivenArmsFault sites given = IfRefusedAt (λ place. (value : Data) × (given ≡ Some value) × IsItem Arms (HaveArms sites) value place)
+IsGivenArmsFault sites given =
+    IfRefusedAt (λ place. (value : Data) × (given ≡ Some value) × IsItem Arms (HaveArms sites) value place)
 
 abbrev pub IsStepsFault : ℕ → ℕ → Data → ReadFault → Type 0
 IsStepsFault sites clients value = IfRefusedAt (IsItem Steps (HaveSteps sites clients) value)

@@ -49,4 +49,5 @@ ListsArms sites value arms = (values : List Data) × (value ≡ list values) × 
 
 -- the value is a list that spells these steps
 abbrev pub ListsSteps : ℕ → ℕ → Data → List Step → Type 0
-ListsSteps sites clients value steps = (values : List Data) × (value ≡ list values) × AreSteps sites clients values steps
+ListsSteps sites clients value steps =
+    (values : List Data) × (value ≡ list values) × AreSteps sites clients values steps

@@ -26,8 +26,10 @@ pub record AreParts (members : Members) (parts : Parts) : Type 0 where
 
 -- the scenario of all bytes whose object has these parts
 abbrev pub IsReadingOf : Parts → Scenario → Type 0
-IsReadingOf parts s = (bytes : List ℕ) (members : Members) → HasKeys bytes members → AreParts members parts → IsReading bytes s
+IsReadingOf parts s =
+    (bytes : List ℕ) (members : Members) → HasKeys bytes members → AreParts members parts → IsReading bytes s
 
 -- what a fault says of all these bytes
 abbrev pub IsFaultOf : Parts → ReadFault → Type 0
-IsFaultOf parts fault = (bytes : List ℕ) (members : Members) → HasKeys bytes members → AreParts members parts → IsReadFault bytes fault
+IsFaultOf parts fault =
+    (bytes : List ℕ) (members : Members) → HasKeys bytes members → AreParts members parts → IsReadFault bytes fault

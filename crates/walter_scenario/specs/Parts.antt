@@ -98,7 +98,8 @@ IsStep sites clients (Restart site) = site.0 < sites
 IsStep sites clients (Armed arm) = IsArm sites arm
 
 -- the values are the spellings of these items, each of which may be there
-pub record AreSpelled {A : Type 0} (spelling : A → Data) (May : A → Type 0) (values : List Data) (items : List A) : Type 0 where
+pub record AreSpelled {A : Type 0} (spelling : A → Data) (May : A → Type 0)
+    (values : List Data) (items : List A) : Type 0 where
   pub spelled : values ≡ map spelling items
   pub within : All May items
 
@@ -120,4 +121,5 @@ pub record IsFirstWrong (Right : List Data → Type 0) (value : Data) (place : �
 
 -- the place of what is wrong with a list: 0 where the value is none
 abbrev pub IsWrongAt : (Right : List Data → Type 0) → Data → ℕ → Type 0
-IsWrongAt Right value place = (((values : List Data) → value ≢ list values) × (place ≡ 0)) ⊎ IsFirstWrong Right value place
+IsWrongAt Right value place =
+    (((values : List Data) → value ≢ list values) × (place ≡ 0)) ⊎ IsFirstWrong Right value place

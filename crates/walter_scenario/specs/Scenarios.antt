@@ -1,5 +1,5 @@
--- The scenario that bytes spell, and the place of what is wrong with them: JSON as serde_json reads it, whose outermost value
--- is an object with seven keys, of which two may be absent (docs/FORMATS.md, "Scenarios").
+-- The scenario that bytes spell, and the place of what is wrong with them: JSON as serde_json reads it, whose outermost
+-- value is an object with seven keys, of which two may be absent (docs/FORMATS.md, "Scenarios").
 use Rattle.std.specs.Prelude.{◌≡◌, ◌⊎◌, ◌≤◌, ◌<◌, ℕ, List, [], length, codes, Option, Some, None, IsSome, IsUtf8}
 use Rattle.serde_json.specs.Data.{Data, Members, no_members, member, object}
 use Rattle.serde_json.specs.Find.{get_member}
@@ -18,7 +18,9 @@ use Rattle.walter_scenario.specs.Parts.{whole, list, AreContainers, AreClients, 
 
 -- the keys that a scenario needs
 abbrev pub IsNeeded : List ℕ → Type 0
-IsNeeded key = (key ≡ codes "sites") ⊎ (key ≡ codes "f") ⊎ (key ≡ codes "containers") ⊎ (key ≡ codes "clients") ⊎ (key ≡ codes "steps")
+IsNeeded key =
+    (key ≡ codes "sites") ⊎ (key ≡ codes "f") ⊎ (key ≡ codes "containers") ⊎ (key ≡ codes "clients")
+    ⊎ (key ≡ codes "steps")
 
 -- those, and two that may be absent
 abbrev pub IsKey : List ℕ → Type 0
@@ -77,7 +79,8 @@ pub record HasTolerated (bytes : List ℕ) (members : Members) (sites tolerated 
   pub fewer : tolerated < sites
 
 -- with these containers
-pub record HasContainers (bytes : List ℕ) (members : Members) (sites tolerated : ℕ) (declared : List Item) : Type 0 where
+pub record HasContainers (bytes : List ℕ) (members : Members) (sites tolerated : ℕ)
+    (declared : List Item) : Type 0 where
   pub has_tolerated : HasTolerated bytes members sites tolerated
   pub values : List Data
   pub spelled : HasMember members (codes "containers") (list values)
@@ -147,6 +150,7 @@ IsRefusedAt bytes (Steps place) =
     × HasArms bytes members sites tolerated declared clients capacity arms × HasMember members (codes "steps") value
     × IsWrongAt (λ values. (steps : List Step) × AreSteps sites (length clients) values steps) value place
 
+-- the place that is named is the first that is wrong; where memory ran out, nothing is said
 abbrev pub IsReadFault : List ℕ → ReadFault → Type 0
 IsReadFault bytes (Refused place detail) = IsRefusedAt bytes place
 IsReadFault bytes NoMemory = Unit {0}

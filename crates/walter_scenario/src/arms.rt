@@ -54,7 +54,7 @@ fn arms_of(alloc: Global, sites: u8, value: &Value) -> Result<Vec<Arm>, ReadFaul
     Ok(arms)
 }
 
-/// The arms that the value of their key gives.
+/// The arms that the value of their key gives; none where the key is absent.
 pub fn given_arms(alloc: Global, sites: u8, given: Option<&Value>) -> Result<Vec<Arm>, ReadFault>
     ensures ok { IfOk result (λ arms. GivesArms sites (data_in given.entry) arms.items) }
     ensures fault { IfErr result (IsGivenArmsFault sites (data_in given.entry)) }

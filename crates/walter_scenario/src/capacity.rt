@@ -6,7 +6,7 @@ use crate::scenario::{COMMON_CAPACITY, GREATEST_CAPACITY, LEAST_CAPACITY};
 use crate::values::whole_of;
 use serde_json::Value;
 
-/// The capacity that the value of its key gives.
+/// The capacity that the value of its key gives, in bytes; the common one where the key is absent.
 pub fn capacity_of(given: Option<&Value>) -> Option<u64>
     ensures some { IfSome result (GivesCapacity (data_in given.entry)) }
     ensures none { IfNone result ((capacity : ℕ) → ¬ GivesCapacity (data_in given.entry) capacity) }

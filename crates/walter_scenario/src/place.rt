@@ -1,8 +1,8 @@
 use std::fmt::{self, Display, Formatter, Write};
 use thiserror::Error;
 
-/// The place of a scenario that is wrong. Places are tried in this order, and the first that is wrong is named. The text
-/// of a place says what is wanted there.
+/// The place of a scenario that is wrong. Places are tried in this order, and the first that is wrong is named. The
+/// text of a place says what is wanted there.
 #[derive(Clone, Copy, Debug, PartialEq, Eq, Error)]
 pub enum Place {
     /// There are more bytes than a scenario may have.
@@ -18,19 +18,25 @@ pub enum Place {
     Sites,
     #[error("f: wants a whole number below sites")]
     F,
-    /// The first wrong container; 0 where the value is no list.
-    #[error(r#"container {0}: wants [number, "regular" or "cset", site] in a list, numbers below 2^32 that rise, a site below sites, at most 256"#)]
+    /// The first wrong container, counted from 0; 0 where the value is no list.
+    #[error("container {0}: wants [number, \"regular\" or \"cset\", site] in a list, numbers below 2^32 that rise, \
+        a site below sites, at most 256")]
     Containers(usize),
-    /// The first wrong client; 0 where the value is no list.
-    #[error("client {0}: wants [site, bytes] in a list, a site below sites, an even number of hex digits, at most 1024 of each site")]
+    /// The first wrong client, counted from 0; 0 where the value is no list.
+    #[error("client {0}: wants [site, bytes] in a list, a site below sites, an even number of hex digits, \
+        at most 1024 of each site")]
     Clients(usize),
     #[error("the capacity: wants a whole number from 19 to 1099511627776")]
     Capacity,
-    /// The first wrong arm; 0 where the value is no list.
-    #[error("arm {0}: wants [site, nth, choice] in a list, a site below sites, an nth from 1 to 1000000, a choice below 2^64")]
+    /// The first wrong arm, counted from 0; 0 where the value is no list.
+    #[error("arm {0}: wants [site, nth, choice] in a list, a site below sites, an nth from 1 to 1000000, \
+        a choice below 2^64")]
     Arms(usize),
-    /// The first wrong step; 0 where the value is no list.
-    #[error(r#"step {0}: wants ["call", client], ["deliver", site, from, number], ["advance", site, from], ["tick", site], ["stop", site], ["restart", site] or ["arm", site, nth, choice] in a list, a client of the scenario, a site below sites, a from that is another one, a number from 1 to 4294967295, an nth from 1 to 1000000, a choice below 2^64"#)]
+    /// The first wrong step, counted from 0; 0 where the value is no list.
+    #[error("step {0}: wants [\"call\", client], [\"deliver\", site, from, number], [\"advance\", site, from], \
+        [\"tick\", site], [\"stop\", site], [\"restart\", site] or [\"arm\", site, nth, choice] in a list, \
+        a client of the scenario, a site below sites, a from that is another one, \
+        a number from 1 to 4294967295, an nth from 1 to 1000000, a choice below 2^64")]
     Steps(usize),
 }
 
@@ -66,8 +72,10 @@ impl Display for Refusal<'_> {
 /// Why bytes gave no scenario.
 #[derive(Debug, Drop, PartialEq, Eq, Error)]
 pub enum ReadFault {
+    /// They spell none: the first place that is wrong, and what more a reader may want to know.
     #[error("{}", Refusal {place: *.place, detail: .detail})]
     Refused { place: Place, detail: Detail },
+    /// Memory ran out: they may spell one or not.
     #[error("out of memory")]
     NoMemory,
 }

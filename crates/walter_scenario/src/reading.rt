@@ -36,7 +36,7 @@ fn scenario_of(alloc: Global, parts: Parts<'_>) -> Result<Scenario, ReadFault>
     })
 }
 
-/// The scenario that the bytes spell.
+/// The scenario that the bytes spell. Where they spell none, it is the first place that is wrong.
 pub fn read(alloc: Global, bytes: &[u8]) -> Result<Scenario, ReadFault>
     ensures ok { IfOk result (IsReading bytes.now) }
     ensures fault { IfErr result (IsReadFault bytes.now) }
@@ -52,6 +52,5 @@ pub fn read(alloc: Global, bytes: &[u8]) -> Result<Scenario, ReadFault>
             detail: other_key(alloc, members),
         });
     };
-    let scenario = scenario_of(alloc, parts)?;
-    Ok(scenario)
+    scenario_of(alloc, parts)
 }

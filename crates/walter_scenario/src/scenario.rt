@@ -7,13 +7,13 @@ pub const LONGEST_TEXT: usize = 16_777_216;
 /// The most clients that a site may have.
 pub const MOST_CLIENTS: usize = 1024;
 
-/// The least capacity of a journal: there is place for the first epoch.
+/// The least capacity of a journal, in bytes: there is place for the first epoch.
 pub const LEAST_CAPACITY: u64 = 19;
 
-/// The greatest capacity of a journal.
+/// The greatest capacity of a journal, in bytes.
 pub const GREATEST_CAPACITY: u64 = 1_099_511_627_776;
 
-/// The capacity of each journal, where a scenario names none.
+/// The capacity of each journal in bytes, where a scenario names none.
 pub const COMMON_CAPACITY: u64 = 16_777_216;
 
 /// The last call on a disk that may be armed, counted from 1.
@@ -26,7 +26,8 @@ pub struct Client {
     pub bytes: Bytes,
 }
 
-/// A fault of a site's disk that is to come: at its `nth` call from when it is armed, with this choice.
+/// A fault of a site's disk that is to come: at its `nth` call, counted from 1 from when it is armed. The choice says
+/// what is left there of the bytes that weren't synced.
 #[derive(Clone, Copy, Debug, PartialEq, Eq)]
 pub struct Arm {
     pub site: SiteId,
@@ -60,8 +61,8 @@ pub enum Step {
     Arm(Arm),
 }
 
-/// What is to be played: the sites and their containers, the clients by their numbers from 0, the capacity of each site's
-/// journal, what is armed before the first step, and the script.
+/// What is to be played: the sites and their containers, the clients by their numbers from 0, the capacity of each
+/// site's journal in bytes, what is armed before the first step, and the script.
 #[derive(Debug, Drop)]
 pub struct Scenario {
     pub catalog: Catalog,

@@ -35,8 +35,7 @@ pub fn value_of(alloc: Global, bytes: &[u8]) -> Result<Value, ReadFault>
         × ((value : Data) → IsUtf8 bytes.now → reading bytes.now ≢ Some value))) }
 {
     let text = str::from_utf8(bytes).ok().ok_or(Place::Json)?;
-    let value = json_of(alloc, text)?;
-    Ok(value)
+    json_of(alloc, text)
 }
 
 /// The members of an object.

@@ -11,4 +11,5 @@ push_lines-requires-clause-frames c =
     (All-merge (λ e. All FitsFrame (reply_in e.came.outcome)) c.args.trails.now c.requires.frames)
 
 pub push_lines-requires-clause-records : goal.push_lines-requires-clause-records
-push_lines-requires-clause-records c = rw (c.as_slice.ensures, c.in_ok-merged.ensures) (All-merge HasSpellings c.args.trails.now c.requires.records)
+push_lines-requires-clause-records c =
+    rw (c.as_slice.ensures, c.in_ok-merged.ensures) (All-merge HasSpellings c.args.trails.now c.requires.records)

@@ -16,8 +16,13 @@ returns-in_err-ok_or-clause-fault c =
     let i = c.loop-index.index in
     let spelled = MatchOption-at_some _ _ _ c.in_ok-values.ensures.ok_part c.items_of.ensures.some in
     let none = MatchOption-at_none _ _ c.in_err-ok_or.ensures.ok_part c.arm_of.ensures.none in
-    let at = seen_at (λ d. (arm : Arm) → IsArm c.args.sites arm → d ≢ arm_spelled arm) values i c.index-values-index.result c.loop-index-test.true c.index-values-index.is none in
-    let wrong = item_wrong arm_spelled (IsArm c.args.sites) Arms (view c.args.value.now) (map view values) i c.loop-index.arms.items spelled (omega (arith, length-map values view)) c.loop-index.invariant at in
+    let at =
+    seen_at (λ d. (arm : Arm) → IsArm c.args.sites arm → d ≢ arm_spelled arm) values i c.index-values-index.result
+    c.loop-index-test.true c.index-values-index.is none in
+    let wrong =
+    item_wrong arm_spelled (IsArm c.args.sites) Arms (view c.args.value.now)
+    (map view values) i c.loop-index.arms.items spelled
+    (omega (arith, length-map values view)) c.loop-index.invariant at in
     let fault = err_from_is_err_and c.from_residual-in_err-ok_or.result c.from_residual-in_err-ok_or.ensures.1 in
     rw (fault.1, fault.2) (let n : c.in_err-ok_or.field-0.0 ≡ Arms i = grind arith in rw n wrong)
 
@@ -27,6 +32,9 @@ loop-index-preserved c =
     let i = c.loop-index.index in
     let arm = c.in_ok-ok_or.field-0 in
     let found = MatchOption-at_some _ _ _ c.in_ok-ok_or.ensures.ok_part c.arm_of.ensures.some in
-    let at = seen_at (λ d. d ≡ arm_spelled arm) values i c.index-values-index.result c.loop-index-test.true c.index-values-index.is found.1 in
+    let at =
+    seen_at (λ d. d ≡ arm_spelled arm) values i c.index-values-index.result c.loop-index-test.true
+    c.index-values-index.is found.1 in
     rw c.in_ok-push.ensures.items
-    (item_more arm_spelled (IsArm c.args.sites) (map view values) i c.loop-index.arms.items arm (omega (arith, length-map values view)) c.loop-index.invariant found.0 at)
+    (item_more arm_spelled (IsArm c.args.sites) (map view values) i c.loop-index.arms.items arm
+    (omega (arith, length-map values view)) c.loop-index.invariant found.0 at)

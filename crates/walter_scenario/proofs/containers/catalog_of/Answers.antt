@@ -11,8 +11,10 @@ returns-in-Ok-clause-ok c =
     let front = c.in_ok-front.front.items in
     let spelled = MatchOption-at_some _ _ _ c.in_ok-values.ensures.ok_part c.items_of.ensures.some in
     let built = rw c.deref.ensures.value at c.in-Ok.ensures in
-    is_catalog c.args.sites c.args.tolerated (view c.args.value.now) (map view values) front c.in-Ok.catalog spelled c.in_ok-front.ensures
-    (omega (arith, c.len.ensures, c.if-len-values.true, length-map values view)) built.sites built.tolerated built.containers built.right
+    is_catalog c.args.sites c.args.tolerated (view c.args.value.now)
+    (map view values) front c.in-Ok.catalog spelled c.in_ok-front.ensures
+    (omega (arith, c.len.ensures, c.if-len-values.true, length-map values view)) built.sites built.tolerated
+    built.containers built.right
 
 pub returns-in-Ok-2-clause-fault : goal.returns-in-Ok-2-clause-fault
 returns-in-Ok-2-clause-fault c =
@@ -22,7 +24,9 @@ returns-in-Ok-2-clause-fault c =
     let built = rw c.deref.ensures.value at c.in-Ok-2.ensures in
     let count = length-map values view in
     let other : length front ≢ length (map view values) = omega (arith, c.len.ensures, c.if-len-values.false, count) in
-    let wrong = none_behind c.args.sites c.requires.most (view c.args.value.now) (map view values) front spelled c.in_ok-front.ensures built.right other in
+    let wrong =
+    none_behind c.args.sites c.requires.most (view c.args.value.now)
+    (map view values) front spelled c.in_ok-front.ensures built.right other in
     let named : c.len-in-Ok-2.result ≡ length front = omega (arith, c.len-in-Ok-2.ensures) in
     rw (c.from.ensures, named) wrong
 
@@ -33,4 +37,5 @@ returns-in-Err-Bad-clause-fault c =
     let spelled = MatchOption-at_some _ _ _ c.in_ok-values.ensures.ok_part c.items_of.ensures.some in
     let fault = rw (c.in-Err-Bad.field-0-is, c.deref.ensures.value) at c.in-Err-Bad.ensures.fault in
     rw (c.from-in-Err-Bad.ensures, c.in-Err-Bad.index-is)
-    (bad_container c.args.sites (view c.args.value.now) (map view values) front c.in-Err-Bad.index spelled c.in_ok-front.ensures fault.0 fault.1 fault.2)
+    (bad_container c.args.sites (view c.args.value.now)
+    (map view values) front c.in-Err-Bad.index spelled c.in_ok-front.ensures fault.0 fault.1 fault.2)

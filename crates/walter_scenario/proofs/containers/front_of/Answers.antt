@@ -15,10 +15,13 @@ loop-value-preserved c =
     let front = c.loop-value.front.items in
     let container = c.in-Some.container in
     let kept = c.loop-value.invariant in
-    let at = seen_at (λ d. d ≡ container_spelled container) values i c.value-item.result c.loop-value-test.true c.value-item.is c.in-Some.ensures.some.1 in
+    let at =
+    seen_at (λ d. d ≡ container_spelled container) values i c.value-item.result c.loop-value-test.true c.value-item.is
+    c.in-Some.ensures.some.1 in
     rw c.in_ok-push-in-Some.ensures.items
     (record {
       count = omega (arith, kept.count, length_push front container);
-      spelled = one_more container_spelled (map view values) i front container (omega (arith, length-map values view)) kept.spelled at;
+      spelled = one_more container_spelled (map view values) i front container
+          (omega (arith, length-map values view)) kept.spelled at;
       declared = All-push IsContainer front container kept.declared c.in-Some.ensures.some.0;
     })

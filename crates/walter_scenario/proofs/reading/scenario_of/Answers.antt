@@ -9,7 +9,12 @@ pub steps_of-requires : goal.steps_of-requires
 steps_of-requires c =
     let clients = c.in_ok-clients.ensures.ok in
     let there = MatchOption-at_some _ _ _ c.in_ok-sites.ensures.ok_part c.sites_of.ensures.there in
-    omega (arith, c.len.ensures, all_sites c.in_ok-sites.sites clients.0 c.in_ok-clients.clients.items clients.2, there.1)
+    omega (
+      arith,
+      c.len.ensures,
+      all_sites c.in_ok-sites.sites clients.0 c.in_ok-clients.clients.items clients.2,
+      there.1,
+    )
 
 pub returns-in_err-arms-clause-fault : goal.returns-in_err-arms-clause-fault
 returns-in_err-arms-clause-fault c =
@@ -35,7 +40,8 @@ returns-in_err-arms-clause-fault c =
       };
       gives_capacity = MatchOption-at_some _ _ _ c.in_ok-capacity.ensures.ok_part c.capacity_of.ensures.some;
     } in
-    rw (fault.1, fault.2) (arms_fault c.args.parts sites tolerated catalog clients capacity c.in_err-arms.field-0.0 before c.in_err-arms.ensures.fault)
+    rw (fault.1, fault.2) (arms_fault c.args.parts sites tolerated catalog clients capacity c.in_err-arms.field-0.0
+    before c.in_err-arms.ensures.fault)
 
 pub returns-in_err-steps-clause-fault : goal.returns-in_err-steps-clause-fault
 returns-in_err-steps-clause-fault c =
@@ -64,4 +70,5 @@ returns-in_err-steps-clause-fault c =
     } in
     let count : c.len.result ≡ length clients = omega (arith, c.len.ensures) in
     rw (fault.1, fault.2)
-    (steps_fault c.args.parts sites tolerated catalog clients capacity arms c.in_err-steps.field-0.0 (record { before = before; gives_arms = c.in_ok-arms.ensures.ok }) (rw count at c.in_err-steps.ensures.fault))
+    (steps_fault c.args.parts sites tolerated catalog clients capacity arms c.in_err-steps.field-0.0
+    (record { before = before; gives_arms = c.in_ok-arms.ensures.ok }) (rw count at c.in_err-steps.ensures.fault))
