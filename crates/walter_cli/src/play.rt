@@ -50,6 +50,9 @@ fn take_step<D: Disk + Drop>(
         Step::Call(client) => {
             cell.serve(alloc, client)?;
         }
+        Step::Tick(_) => {
+            cell.tick(alloc)?;
+        }
         Step::Stop(_) => {
             cell.stop(alloc)?;
         }
@@ -57,6 +60,8 @@ fn take_step<D: Disk + Drop>(
             cell.restart(alloc)?;
         }
         Step::Arm(Arm { nth, choice, .. }) => cell.arm(nth, choice)?,
+        // One site has no other.
+        Step::Deliver { .. } | Step::Advance { .. } => unreachable!(),
     }
     Ok(())
 }
