@@ -1,6 +1,6 @@
 //! The history that a trail spells, as code, for the checker.
 use std::alloc::Global;
-use walter_base::{Level as HowFar, Mem, Record, Reply, Request, Tid, Update};
+use walter_base::{Level as HowFar, MaybeRecord, Mem, Record, Reply, Request, Tid, Update};
 use walter_psi::{Answer, Level, Notice, Step};
 use walter_rules::{Entry, Event, Input, Outcome};
 
@@ -94,8 +94,8 @@ fn goes_down(entry: &Entry) -> bool {
 }
 
 // The step of a record.
-fn record_step(recorded: &Option<Record>) -> Mem<Option<Step>> {
-    match recorded {
+fn record_step(recorded: &MaybeRecord) -> Mem<Option<Step>> {
+    match recorded.as_ref() {
         Some(Record::Own(_, tx)) => Ok(Some(Step::Commit(tx.tid, tx.updates.clone()?))),
         _ => Ok(None),
     }

@@ -57,7 +57,7 @@ impl Told {
     // Goes on with what an entry tells.
     fn take(&mut self, alloc: Global, entry: &Entry) -> Mem<()> {
         for stable in [&entry.came.kept, &entry.came.wrote] {
-            if let Some(stable) = stable {
+            if let Some(stable) = stable.as_ref() {
                 let text = format!(in alloc; "{stable:?};")?;
                 self.records.push_str(&text)?;
                 self.flight.clear();
@@ -66,7 +66,7 @@ impl Told {
         if let Outcome::Full { .. } = entry.came.outcome {
             self.flight.clear();
         }
-        if let Some(flight) = &entry.came.flight {
+        if let Some(flight) = entry.came.flight.as_ref() {
             self.flight = format!(in alloc; "{flight:?};")?;
         }
         Ok(())
