@@ -6,9 +6,9 @@ ghost use Rattle.walter_cli.specs.Plays.{Takes, IsPlayed, AreArmed, ArmsMore, ar
 
 use std::alloc::Global;
 use walter_base::Mem;
-use walter_solo::Cell;
 use walter_disk::Disk;
 use walter_scenario::{Arm, Scenario, Step};
+use walter_solo::Cell;
 
 /// Arms the disk as the scenario says, and takes its steps in order. Where memory runs out, what was done so far stands.
 pub fn play<D: Disk + Drop>(alloc: Global, cell: &mut Cell<D>, scenario: &Scenario) -> Mem<()>
