@@ -122,6 +122,7 @@ module _ {D : Type 0} {g : Ghosts D} (s : Scenario) (first disk : D) (built cell
       → (rack.told → rack.failed ⊎ rack.gives (IsDiskOf s cell.entries.items)) → trails ≡ cell.entries.items ∷ [] → IsRun rack s trails
   run_is rack trails whole one reads none given same = record {
     trail = cell.entries.items;
+    sites = one;
     one_site = same;
     begins = has.is.site.begins;
     stamps_rise = has.is.site.rise;

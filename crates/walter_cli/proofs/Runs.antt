@@ -6,37 +6,58 @@ use Rattle.std.proofs.lemmas.List.{append-nil, length-append}
 use Rattle.walter_engine.specs.Begins.{HasNoRecord}
 use Rattle.walter_scenario.specs.declared.place.Detail.{Detail}
 use Rattle.walter_scenario.specs.declared.place.Place.{Place}
-use Rattle.walter_scenario.specs.declared.place.Place.TheVariants.{TooLong}
+use Rattle.walter_scenario.specs.declared.place.Place.TheVariants.{TooLong, Sites}
 use Rattle.walter_scenario.specs.declared.scenario.Scenario.{Scenario}
 use Rattle.walter_scenario.specs.Scenarios.{IsReading, IsRefusedAt}
 use Rattle.walter_scenario.proofs.Stages.{read_nowhere_refused, one_refused}
+use Rattle.walter_scenario.proofs.Uniqueness.{one_scenario}
 use Rattle.walter_stream.specs.Streams.{AtEnd, Appends, AppendsFront}
 use Rattle.walter_cli.specs.declared.ended.Ended.{Ended}
 use Rattle.walter_cli.specs.declared.ended.Fault.{Fault}
 use Rattle.walter_cli.specs.declared.ended.Fault.TheVariants.{Usage, Scenario as ScenarioFault, Read, Write, Memory, Rack, Journal}
 use Rattle.walter_cli.specs.declared.ended.JournalCause.{JournalCause}
 use Rattle.walter_cli.specs.Ending.{IsTaken, IsTakeFault, MayHaveRun, EndsRun}
-use Rattle.walter_cli.specs.Headline.{Outside, HasNoReading, IsRun, IsWholeRun, Runs, RunsWhole, Promise}
+use Rattle.walter_cli.specs.Headline.{Outside, TellsOfSeveral, HasNoReading, IsRun, IsWholeRun, Runs, RunsWhole, Promise}
 use Rattle.walter_cli.specs.Racks.{Racked, GivesBack, IsUntouched, HasFailed, HasCause}
 use Rattle.walter_cli.specs.Statuses.{status_of}
 use Rattle.walter_cli.specs.Texts.{text_of}
 use Rattle.walter_cli.specs.Words.{IsPlayLine, IsLine}
 use Rattle.walter_cli.proofs.Causes.{cause_has_record, one_cause}
 
--- what a source that has no reading gave is wrong at the place that is named, and at no other
-none_wrong : (before after : Option (List ℕ)) (bytes : List ℕ) (place : Place) → HasNoReading before after place → before ≡ Some bytes → IsRefusedAt bytes place
+-- bytes are wrong at this place, or tell of several sites there
+abbrev IsWrong : List ℕ → Place → Type 0
+IsWrong bytes place = IsRefusedAt bytes place ⊎ ((place ≡ Sites) × TellsOfSeveral bytes)
+
+-- a scenario of one site is not of several
+not_several : (bytes : List ℕ) (s : Scenario) → IsReading bytes s → s.catalog.sites ≡ 1 → TellsOfSeveral bytes → ⊥
+not_several bytes s reading one several =
+    several.2 (ap (λ (t : Scenario). t.catalog.sites) (one_scenario bytes several.0 s several.1 reading) ∙ one)
+
+nowhere_wrong : (bytes : List ℕ) (s : Scenario) (place : Place) → IsReading bytes s → s.catalog.sites ≡ 1 → IsWrong bytes place → ⊥
+nowhere_wrong bytes s place reading one (inl wrong) = read_nowhere_refused bytes s place reading wrong
+nowhere_wrong bytes s place reading one (inr several) = not_several bytes s reading one several.1
+
+-- what a source that has no reading gave is wrong at the place that is named
+none_wrong : (before after : Option (List ℕ)) (bytes : List ℕ) (place : Place) → HasNoReading before after place → before ≡ Some bytes → IsWrong bytes place
 none_wrong before after bytes place none told = here after none.wrong (sym told ∙ none.taken)
   where
-    here : (left : Option (List ℕ)) → ((AtEnd left × IsRefusedAt none.front place) ⊎ ((place ≡ TooLong) × (16777216 < length none.front)))
-        → Some bytes ≡ option_map (λ rest. none.front ++ rest) left → IsRefusedAt bytes place
+    whole : (rest : List ℕ) → bytes ≡ none.front ++ rest → rest ≡ [] → none.front ≡ bytes
+    whole rest same end = sym (same ∙ ap (λ r. none.front ++ r) end ∙ append-nil none.front)
+
+    here : (left : Option (List ℕ))
+        → (AtEnd left × IsRefusedAt none.front place) ⊎ ((place ≡ TooLong) × (16777216 < length none.front)) ⊎ (AtEnd left × (place ≡ Sites) × TellsOfSeveral none.front)
+        → Some bytes ≡ option_map (λ rest. none.front ++ rest) left → IsWrong bytes place
     here None why e = absurd cc
     here (Some rest) why e =
         let same : bytes ≡ none.front ++ rest = cc in
         elim why [
-          | inl wrong ↦ subst (λ (b : List ℕ). IsRefusedAt b place) (sym (same ∙ ap (λ r. none.front ++ r) wrong.0 ∙ append-nil none.front)) wrong.1
-          | inr long ↦
-              subst (λ (p : Place). IsRefusedAt bytes p) (sym long.0)
-              (let l = ap length same ∙ length-append none.front rest in let many = long.1 in omega (arith, l, many))
+          | inl wrong ↦ inl (subst (λ (b : List ℕ). IsRefusedAt b place) (whole rest same wrong.0) wrong.1)
+          | inr other ↦ elim other [
+            | inl long ↦
+                inl (subst (λ (p : Place). IsRefusedAt bytes p) (sym long.0)
+                (let l = ap length same ∙ length-append none.front rest in let many = long.1 in omega (arith, l, many)))
+            | inr several ↦ inr (several.1, subst (λ (b : List ℕ). TellsOfSeveral b) (whole rest same several.0) several.2)
+          ]
         ]
 
 -- a scenario that was taken is what the bytes that are told spell
@@ -129,34 +150,34 @@ module _ (words : List (String Global)) (rack : Racked) (before after : Outside)
     run_has_none : (s : Scenario) (cause : JournalCause) (place : ℕ) → IsRun rack s ended.trails.items → rack.told → rack.holds (HasCause cause place) → ⊥
     run_has_none s cause place run told why = both (HasCause cause place) HasNoRecord ⊥ (cause_has_record cause place) told why run.no_record_before
 
-    -- where nothing fails, a scenario that the bytes spell is run
-    completes : (fault : Option Fault) → ended.status ≡ status_of fault → Tells fault → (bytes : List ℕ) (s : Scenario) → before.left ≡ Some bytes → IsReading bytes s → rack.told → rack.holds HasNoRecord
+    -- where nothing fails, a scenario of one site that the bytes spell is run
+    completes : (fault : Option Fault) → ended.status ≡ status_of fault → Tells fault → (bytes : List ℕ) (s : Scenario) → before.left ≡ Some bytes → IsReading bytes s → s.catalog.sites ≡ 1 → rack.told → rack.holds HasNoRecord
         → after.source_faults ≡ before.source_faults → after.sink_faults ≡ before.sink_faults → ¬ rack.failed
         → (ended.status ≡ 0) ⊎ (ended.status ≡ 5) ⊎ DiskFailed
-    completes None is told bytes s left reading known new source sink ok = inl is
-    completes (Some Usage) is told bytes s left reading known new source sink ok = absurd told
-    completes (Some (ScenarioFault place detail)) is told bytes s left reading known new source sink ok =
-        absurd (read_nowhere_refused bytes s place reading (none_wrong before.left after.left bytes place told.0 left))
-    completes (Some Read) is told bytes s left reading known new source sink ok = absurd (let rose = told.0 in omega (arith, rose, source))
-    completes (Some Write) is told bytes s left reading known new source sink ok = absurd (let rose = told.1 in omega (arith, rose, sink))
-    completes (Some Memory) is told bytes s left reading known new source sink ok = inr (inl is)
-    completes (Some (Rack site)) is told bytes s left reading known new source sink ok = elim told.1 [ inl rose ↦ absurd (ok rose) | inr disk ↦ inr (inr disk) ]
-    completes (Some (Journal site cause place)) is told bytes s left reading known new source sink ok =
+    completes None is told bytes s left reading one known new source sink ok = inl is
+    completes (Some Usage) is told bytes s left reading one known new source sink ok = absurd told
+    completes (Some (ScenarioFault place detail)) is told bytes s left reading one known new source sink ok =
+        absurd (nowhere_wrong bytes s place reading one (none_wrong before.left after.left bytes place told.0 left))
+    completes (Some Read) is told bytes s left reading one known new source sink ok = absurd (let rose = told.0 in omega (arith, rose, source))
+    completes (Some Write) is told bytes s left reading one known new source sink ok = absurd (let rose = told.1 in omega (arith, rose, sink))
+    completes (Some Memory) is told bytes s left reading one known new source sink ok = inr (inl is)
+    completes (Some (Rack site)) is told bytes s left reading one known new source sink ok = elim told.1 [ inl rose ↦ absurd (ok rose) | inr disk ↦ inr (inr disk) ]
+    completes (Some (Journal site cause place)) is told bytes s left reading one known new source sink ok =
         absurd (both (HasCause cause place) HasNoRecord ⊥ (cause_has_record cause place) known told.1 new)
 
     -- where the disk has what no site can begin with, just that is named
     names : (fault : Option Fault) → ended.fault ≡ fault → ended.status ≡ status_of fault → Tells fault → (bytes : List ℕ) (s : Scenario) (cause : JournalCause) (place : ℕ)
-        → before.left ≡ Some bytes → IsReading bytes s → rack.told → rack.holds (HasCause cause place) → after.source_faults ≡ before.source_faults → ¬ rack.failed
+        → before.left ≡ Some bytes → IsReading bytes s → s.catalog.sites ≡ 1 → rack.told → rack.holds (HasCause cause place) → after.source_faults ≡ before.source_faults → ¬ rack.failed
         → (ended.fault ≡ Some (Journal 0 cause place)) ⊎ (ended.status ≡ 5) ⊎ DiskFailed
-    names None named is told bytes s cause place left reading known why source ok = absurd (run_has_none told.scenario cause place told.run.run known why)
-    names (Some Usage) named is told bytes s cause place left reading known why source ok = absurd told
-    names (Some (ScenarioFault p detail)) named is told bytes s cause place left reading known why source ok =
-        absurd (read_nowhere_refused bytes s p reading (none_wrong before.left after.left bytes p told.0 left))
-    names (Some Read) named is told bytes s cause place left reading known why source ok = absurd (let rose = told.0 in omega (arith, rose, source))
-    names (Some Write) named is told bytes s cause place left reading known why source ok = absurd (run_has_none told.0.scenario cause place told.0.run.run known why)
-    names (Some Memory) named is told bytes s cause place left reading known why source ok = inr (inl is)
-    names (Some (Rack site)) named is told bytes s cause place left reading known why source ok = elim told.1 [ inl rose ↦ absurd (ok rose) | inr disk ↦ inr (inr disk) ]
-    names (Some (Journal site c p)) named is told bytes s cause place left reading known why source ok =
+    names None named is told bytes s cause place left reading one known why source ok = absurd (run_has_none told.scenario cause place told.run.run known why)
+    names (Some Usage) named is told bytes s cause place left reading one known why source ok = absurd told
+    names (Some (ScenarioFault p detail)) named is told bytes s cause place left reading one known why source ok =
+        absurd (nowhere_wrong bytes s p reading one (none_wrong before.left after.left bytes p told.0 left))
+    names (Some Read) named is told bytes s cause place left reading one known why source ok = absurd (let rose = told.0 in omega (arith, rose, source))
+    names (Some Write) named is told bytes s cause place left reading one known why source ok = absurd (run_has_none told.0.scenario cause place told.0.run.run known why)
+    names (Some Memory) named is told bytes s cause place left reading one known why source ok = inr (inl is)
+    names (Some (Rack site)) named is told bytes s cause place left reading one known why source ok = elim told.1 [ inl rose ↦ absurd (ok rose) | inr disk ↦ inr (inr disk) ]
+    names (Some (Journal site c p)) named is told bytes s cause place left reading one known why source ok =
         let same = both (HasCause c p) (HasCause cause place) ((c ≡ cause) × (p ≡ place)) (λ bs x y. one_cause c cause p place bs x y) known told.1 why in
         inl (named ∙ (ap (λ n. Some (Journal n c p)) told.0 ∙ (ap (λ k. Some (Journal 0 k p)) same.0 ∙ ap (λ n. Some (Journal 0 cause n)) same.1)))
 
@@ -165,10 +186,15 @@ module _ (words : List (String Global)) (rack : Racked) (before after : Outside)
     Refuses = (bytes : List ℕ) (place : Place) → before.left ≡ Some bytes → IsRefusedAt bytes place → after.source_faults ≡ before.source_faults
         → ((detail : Detail) × (ended.fault ≡ Some (ScenarioFault place detail))) ⊎ (ended.status ≡ 5)
 
+    -- where they tell of several sites, the number of sites is
+    abbrev RefusesSeveral : Type 0
+    RefusesSeveral = (bytes : List ℕ) → before.left ≡ Some bytes → TellsOfSeveral bytes → after.source_faults ≡ before.source_faults
+        → ((detail : Detail) × (ended.fault ≡ Some (ScenarioFault Sites detail))) ⊎ (ended.status ≡ 5)
+
     -- all that is promised, by what is so with the fault
     promise : (fault : Option Fault) → ended.fault ≡ fault → Tells fault → (ended.status ≢ 0 → ended.status ≢ 4 → after.holds ≡ before.holds)
-        → MayRun → Refuses → Promise words rack before after ended
-    promise fault named told silent legal refuses =
+        → MayRun → Refuses → RefusesSeveral → Promise words rack before after ended
+    promise fault named told silent legal refuses several =
         let is : ended.status ≡ status_of fault = status ∙ ap status_of named in
         record {
           status = status;
@@ -189,25 +215,31 @@ module _ (words : List (String Global)) (rack : Racked) (before after : Outside)
           no_trails = no_trails fault told is;
           complete = λ bytes s play. completes fault is told bytes s;
           refuses = λ bytes place play. refuses bytes place;
+          several = λ bytes play. several bytes;
         }
 
     -- the bytes of a scenario that was taken are refused nowhere
     never : (s : Scenario) → IsTaken before.left after.left s → Refuses
     never s taken = λ bytes place left wrong source. absurd (read_nowhere_refused bytes s place (taken_reading before.left after.left bytes s taken left) wrong)
 
+    -- and tell of one site
+    never_several : (s : Scenario) → IsTaken before.left after.left s → RefusesSeveral
+    never_several s taken = λ bytes left tells source.
+        absurd (not_several bytes s (taken_reading before.left after.left bytes s taken left) taken.one_site tells)
+
     -- a run over a scenario that was taken
     pub promise_run : (s : Scenario) (fault : Option Fault) → ended.fault ≡ fault → IsTaken before.left after.left s
         → EndsRun rack trace s before.holds after.holds before.sink_faults after.sink_faults ended.trails.items fault → Promise words rack before after ended
     promise_run s None named taken ends =
         promise None named (whole s (Appends before.holds after.holds) taken ends.0 ends.1) (λ not_done not_cut. absurd (not_done (status ∙ ap status_of named)))
-        (inr (runs s taken ends.0.run)) (never s taken)
+        (inr (runs s taken ends.0.run)) (never s taken) (never_several s taken)
     promise_run s (Some Write) named taken ends =
         promise (Some Write) named (whole s (AppendsFront before.holds after.holds) taken ends.0 ends.1, ends.2) (λ not_done not_cut. absurd (not_cut (status ∙ ap status_of named)))
-        (inr (runs s taken ends.0.run)) (never s taken)
-    promise_run s (Some Memory) named taken ends = promise (Some Memory) named tt (λ not_done not_cut. ends.1) (runs_if s taken ends.0) (never s taken)
-    promise_run s (Some (Rack site)) named taken ends = promise (Some (Rack site)) named (ends.2, ends.3) (λ not_done not_cut. ends.1) (runs_if s taken ends.0) (never s taken)
+        (inr (runs s taken ends.0.run)) (never s taken) (never_several s taken)
+    promise_run s (Some Memory) named taken ends = promise (Some Memory) named tt (λ not_done not_cut. ends.1) (runs_if s taken ends.0) (never s taken) (never_several s taken)
+    promise_run s (Some (Rack site)) named taken ends = promise (Some (Rack site)) named (ends.2, ends.3) (λ not_done not_cut. ends.1) (runs_if s taken ends.0) (never s taken) (never_several s taken)
     promise_run s (Some (Journal site cause place)) named taken ends =
-        promise (Some (Journal site cause place)) named (ends.2, ends.3, ends.0.0) (λ not_done not_cut. ends.1) (inl ends.0) (never s taken)
+        promise (Some (Journal site cause place)) named (ends.2, ends.3, ends.0.0) (λ not_done not_cut. ends.1) (inl ends.0) (never s taken) (never_several s taken)
     promise_run s (Some Usage) named taken ends = absurd ends
     promise_run s (Some (ScenarioFault place detail)) named taken ends = absurd ends
     promise_run s (Some Read) named taken ends = absurd ends
@@ -216,12 +248,21 @@ module _ (words : List (String Global)) (rack : Racked) (before after : Outside)
     pub promise_fault : (fault : Fault) → ended.fault ≡ Some fault → ended.trails.items ≡ [] → IsUntouched rack → after.holds ≡ before.holds
         → IsTakeFault before.left after.left before.source_faults after.source_faults fault → Promise words rack before after ended
     promise_fault (ScenarioFault place detail) named none untouched same why =
-        promise (Some (ScenarioFault place detail)) named (why, none) (λ not_done not_cut. same) (inl (none, untouched)) (λ bytes other left wrong source.
-        inl (detail, named ∙ ap (λ (p : Place). Some (ScenarioFault p detail)) (one_refused bytes place other (none_wrong before.left after.left bytes place why left) wrong)))
+        promise (Some (ScenarioFault place detail)) named (why, none) (λ not_done not_cut. same) (inl (none, untouched))
+        (λ bytes other left wrong source. elim (none_wrong before.left after.left bytes place why left) [
+          | inl here ↦ inl (detail, named ∙ ap (λ (p : Place). Some (ScenarioFault p detail)) (one_refused bytes place other here wrong))
+          | inr several ↦ absurd (read_nowhere_refused bytes several.1.0 other several.1.1 wrong)
+        ])
+        (λ bytes left tells source. elim (none_wrong before.left after.left bytes place why left) [
+          | inl here ↦ absurd (read_nowhere_refused bytes tells.0 place tells.1 here)
+          | inr several ↦ inl (detail, named ∙ ap (λ (p : Place). Some (ScenarioFault p detail)) several.0)
+        ])
     promise_fault Read named none untouched same why =
         promise (Some Read) named (why, none) (λ not_done not_cut. same) (inl (none, untouched)) (λ bytes place left wrong source. absurd (omega (arith, why, source)))
+        (λ bytes left tells source. absurd (omega (arith, why, source)))
     promise_fault Memory named none untouched same why =
         promise (Some Memory) named tt (λ not_done not_cut. same) (inl (none, untouched)) (λ bytes place left wrong source. inr (status ∙ ap status_of named))
+        (λ bytes left tells source. inr (status ∙ ap status_of named))
     promise_fault Usage named none untouched same why = absurd why
     promise_fault Write named none untouched same why = absurd why
     promise_fault (Rack site) named none untouched same why = absurd why
@@ -250,4 +291,5 @@ module _ (words : List (String Global)) (rack : Racked) (before after : Outside)
         no_trails = inl none;
         complete = λ bytes s play. absurd (other play);
         refuses = λ bytes place play. absurd (other play);
+        several = λ bytes play. absurd (other play);
       }

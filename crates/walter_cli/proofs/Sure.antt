@@ -116,11 +116,12 @@ module _ (words : List (String Global)) {D : Type 0} (g : Ghosts D) (first last 
         holds_both g first last (HasCause named.1 named.2) HasNoRecord ⊥ (cause_has_record named.1 named.2) told why.1 empty;
     legal_trails = elim promised.legal_trails [ inl none ↦ inl none.0 | inr runs ↦ inr (sure runs) ];
     silent = promised.silent;
-    complete = λ bytes s play left reading source sink. elim (promised.complete bytes s play left reading told empty source sink ok) [
+    complete = λ bytes s play left reading one source sink. elim (promised.complete bytes s play left reading one told empty source sink ok) [
       | inl done ↦ inl done
       | inr other ↦ elim other [ inl memory ↦ inr memory | inr disk ↦ absurd (never disk.0 disk.1) ]
     ];
     refuses = promised.refuses;
+    several = promised.several;
   }
 
 -- where there was no memory for the rack
@@ -136,8 +137,9 @@ assured_early words at ended line is named none = record {
   never_unfit = λ h. omega (arith, is, h);
   legal_trails = inl none;
   silent = λ not_done not_cut. refl;
-  complete = λ bytes s play left reading source sink. inr is;
+  complete = λ bytes s play left reading one source sink. inr is;
   refuses = λ bytes place play left wrong source. inr is;
+  several = λ bytes play left tells source. inr is;
 }
 
 -- the words ask for nothing
@@ -155,4 +157,5 @@ assured_usage words at ended other is named none = record {
   silent = λ not_done not_cut. refl;
   complete = λ bytes s play. absurd (other play);
   refuses = λ bytes place play. absurd (other play);
+  several = λ bytes play. absurd (other play);
 }

@@ -48,7 +48,7 @@ within_grown clients number old new within all (inr more) =
     subst (λ es. All (λ (e : Entry). IsOfClients clients e.event) es) (sym more.1)
     (All-push (λ (e : Entry). IsOfClients clients e.event) old more.0 all (subst (λ (v : Event). IsOfClients clients v) (sym more.2.1) within))
 
--- a stop or a restart calls nothing
+-- a tick, a stop or a restart calls nothing
 abbrev pub IsNoCall : Event → Type 0
 IsNoCall ev = (client : ℕ) → call_by client ev ≡ []
 
@@ -108,7 +108,7 @@ module _ {D : Type 0} {g : Ghosts D} (s : Scenario) (old new : Cell D g) (is : I
     ];
   }
 
-  -- after a stop or a restart
+  -- after a tick, a stop or a restart
   pub cell_acted : (ev : Event) → IsNoCall ev → IsOfClients (length s.clients) ev → (answer : Acted) → Acts ev old.entries.items new.entries.items answer → AreOwedAsMany old new → IsCell s new
   cell_acted ev none of answer acts same = record {
     site = site;

@@ -1,4 +1,4 @@
--- The catalog of a reading is whole: each container is preferred at the one site.
+-- The catalog of a reading is whole: each container is preferred at one of its sites.
 use Rattle.std.proofs.Common.{◌≡◌, ℕ, ◌<◌, zero, suc, List, [], ◌∷◌, map, cond, Bool, true, false, Option, Some, slice_get, refl, ap, sym, ◌∙◌, subst, inl, inr}
 use Rattle.std.proofs.lemmas.Bool.{cases_lt}
 use Rattle.std.proofs.lemmas.Option.{slice_get_within}
@@ -55,6 +55,5 @@ right_whole catalog items right are number container at =
 pub reading_whole : (bytes : List ℕ) (s : Scenario) → IsReading bytes s → IsWhole s.catalog
 reading_whole bytes s reading =
     right_whole s.catalog reading.declared
-    (subst (λ n. AreRight n reading.declared) (sym reading.sites)
-    reading.has_arms.has_capacity.has_clients.has_containers.are.right)
+    reading.has_arms.has_capacity.has_clients.has_containers.are.right
     reading.containers

@@ -6,12 +6,13 @@ use Rattle.walter_solo.specs.Handled.{is_faulty}
 use Rattle.walter_rules.specs.declared.entry.Entry.{Entry}
 use Rattle.walter_scenario.specs.declared.place.Detail.{Detail}
 use Rattle.walter_scenario.specs.declared.place.Place.{Place}
+use Rattle.walter_scenario.specs.declared.place.Place.TheVariants.{Sites}
 use Rattle.walter_scenario.specs.declared.scenario.Scenario.{Scenario}
 use Rattle.walter_scenario.specs.Scenarios.{IsReading, IsRefusedAt}
 use Rattle.walter_stream.specs.Streams.{Appends, AppendsFront}
 use Rattle.walter_cli.specs.declared.ended.Ended.{Ended}
 use Rattle.walter_cli.specs.declared.ended.Fault.TheVariants as fault
-use Rattle.walter_cli.specs.Headline.{Outside, IsSource, HasNoReading, AreTold}
+use Rattle.walter_cli.specs.Headline.{Outside, IsSource, TellsOfSeveral, HasNoReading, AreTold}
 use Rattle.walter_cli.specs.Plays.{AreCallsOf, IsPlayed, all_arms}
 use Rattle.walter_cli.specs.Statuses.{status_of}
 use Rattle.walter_cli.specs.Texts.{text_of}
@@ -45,7 +46,8 @@ pub record Assures (words : List (String Global)) (before after : Outside) (ende
   pub written : ended.status ≡ 0 → IsSureReport words before after ended.trails.items (Appends before.holds after.holds)
   -- 1: exactly where the words are neither "play" nor "play --trace"
   pub usage : (ended.status ≡ 1) ↔ (¬ IsLine words)
-  -- 2: the bytes spell no scenario, and the place that is named is the first that is wrong
+  -- 2: the bytes spell no scenario, and the place that is named is the first that is wrong; or they spell one of several
+  -- sites, which don't run yet, and the number of sites is named
   pub unreadable : (place : Place) (detail : Detail) → ended.fault ≡ Some (fault.Scenario place detail)
       → HasNoReading before.left after.left place
   -- 3: the source failed. 4: the sink did, with a front of the report of a whole run written
@@ -58,11 +60,15 @@ pub record Assures (words : List (String Global)) (before after : Outside) (ende
   -- whatever the status, there are no trails or those of a run, and but for 0 and 4 nothing is written
   pub legal_trails : (ended.trails.items ≡ []) ⊎ IsSureRun before after ended.trails.items
   pub silent : ended.status ≢ 0 → ended.status ≢ 4 → after.holds ≡ before.holds
-  -- where source and sink don't fail, bytes that spell a scenario are played, and those that don't are refused at
-  -- their place; or it is 5, for want of memory
+  -- where source and sink don't fail, bytes that spell a scenario of one site are played, and those that spell none
+  -- are refused at their place; or it is 5, for want of memory
   pub complete : (bytes : List ℕ) (s : Scenario) → IsLine words → before.left ≡ Some bytes → IsReading bytes s
-      → after.source_faults ≡ before.source_faults → after.sink_faults ≡ before.sink_faults
+      → s.catalog.sites ≡ 1 → after.source_faults ≡ before.source_faults → after.sink_faults ≡ before.sink_faults
       → (ended.status ≡ 0) ⊎ (ended.status ≡ 5)
   pub refuses : (bytes : List ℕ) (place : Place) → IsLine words → before.left ≡ Some bytes → IsRefusedAt bytes place
       → after.source_faults ≡ before.source_faults
       → ((detail : Detail) × (ended.fault ≡ Some (fault.Scenario place detail))) ⊎ (ended.status ≡ 5)
+  -- several sites don't run yet: a scenario of theirs is refused at the number of sites
+  pub several : (bytes : List ℕ) → IsLine words → before.left ≡ Some bytes → TellsOfSeveral bytes
+      → after.source_faults ≡ before.source_faults
+      → ((detail : Detail) × (ended.fault ≡ Some (fault.Scenario Sites detail))) ⊎ (ended.status ≡ 5)

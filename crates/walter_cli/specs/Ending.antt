@@ -20,11 +20,12 @@ use Rattle.walter_cli.specs.Headline.{IsSource, HasNoReading, IsRun, IsWholeRun}
 use Rattle.walter_cli.specs.Racks.{RackAt, Racked, IsUntouched, HasFailed, HasCause}
 use Rattle.walter_cli.specs.Texts.{text_of}
 
--- the scenario is a reading of the bytes of the source
+-- the scenario is a reading of the bytes of the source, and has one site
 pub record IsTaken (before after : Option (List ℕ)) (s : Scenario) : Type 0 where
   pub bytes : List ℕ
   pub source : IsSource before after bytes
   pub reading : IsReading bytes s
+  pub one_site : s.catalog.sites ≡ 1
 
 -- why no scenario was taken from a source that had failed so often, and has now
 abbrev pub IsTakeFault : Option (List ℕ) → Option (List ℕ) → ℕ → ℕ → Fault → Type 0

@@ -17,7 +17,7 @@ use Rattle.walter_rules.specs.Trails.{standing}
 use Rattle.walter_runs.specs.Runs.{AreRightTrails}
 use Rattle.walter_scenario.specs.declared.place.Detail.{Detail}
 use Rattle.walter_scenario.specs.declared.place.Place.{Place}
-use Rattle.walter_scenario.specs.declared.place.Place.TheVariants.{TooLong}
+use Rattle.walter_scenario.specs.declared.place.Place.TheVariants.{TooLong, Sites}
 use Rattle.walter_scenario.specs.declared.scenario.Scenario.{Scenario}
 use Rattle.walter_scenario.specs.Scenarios.{IsReading, IsRefusedAt}
 use Rattle.walter_stream.specs.Streams.{AtEnd, TakesFront, Appends, AppendsFront}
@@ -46,11 +46,17 @@ pub record IsSource (before after : Option (List ℕ)) (bytes : List ℕ) : Type
   pub taken : TakesFront before after bytes
   pub end : AtEnd after
 
--- the bytes of a source spell no scenario, and are wrong at this place: those that were taken, to its end; or they are too many
+-- the bytes spell a scenario of several sites; several don't run yet
+abbrev pub TellsOfSeveral : List ℕ → Type 0
+TellsOfSeveral bytes = (s : Scenario) × IsReading bytes s × (s.catalog.sites ≢ 1)
+
+-- the bytes of a source spell no scenario, and are wrong at this place: those that were taken, to its end; or they are too
+-- many; or those that were taken, to its end, spell a scenario of several sites, and the place is the number of sites
 pub record HasNoReading (before after : Option (List ℕ)) (place : Place) : Type 0 where
   pub front : List ℕ
   pub taken : TakesFront before after front
   pub wrong : (AtEnd after × IsRefusedAt front place) ⊎ ((place ≡ TooLong) × (16777216 < length front))
+      ⊎ (AtEnd after × (place ≡ Sites) × TellsOfSeveral front)
 
 -- ---- the run
 
@@ -77,6 +83,7 @@ pub record AreTold (s : Scenario) (trails : List (List Entry)) : Type 0 where
 -- holds, and the disk was given back, unless the rack failed
 pub record IsRun (rack : Racked) (s : Scenario) (trails : List (List Entry)) : Type 0 where
   pub trail : List Entry
+  pub sites : s.catalog.sites ≡ 1
   pub one_site : trails ≡ trail ∷ []
   pub begins : slice_get trail 0 ≡ Some opening
   pub stamps_rise : HaveRisingStamps (reverse trail)
@@ -120,7 +127,8 @@ pub record Promise (words : List (String Global)) (rack : Racked) (before after 
   pub written : ended.status ≡ 0 → RunsWhole rack words before after ended.trails.items (Appends before.holds after.holds)
   -- 1: exactly where the words are neither "play" nor "play --trace"
   pub usage : (ended.status ≡ 1) ↔ (¬ IsLine words)
-  -- 2: the bytes spell no scenario, and the place that is named is the first that is wrong
+  -- 2: the bytes spell no scenario, and the place that is named is the first that is wrong; or they spell one of several
+  -- sites, which don't run yet, and the number of sites is named
   pub unreadable : (place : Place) (detail : Detail) → ended.fault ≡ Some (fault.Scenario place detail)
       → HasNoReading before.left after.left place
   -- 3: the source failed
@@ -136,7 +144,8 @@ pub record Promise (words : List (String Global)) (rack : Racked) (before after 
       → (site ≡ 0) × rack.holds (HasCause cause place)
   -- and exactly then, where the source and the rack don't fail, and the disk doesn't before the site is up
   pub unfit_named : (bytes : List ℕ) (s : Scenario) (cause : JournalCause) (place : ℕ) → IsLine words
-      → before.left ≡ Some bytes → IsReading bytes s → rack.told → rack.holds (HasCause cause place) → after.source_faults ≡ before.source_faults → ¬ rack.failed
+      → before.left ≡ Some bytes → IsReading bytes s → s.catalog.sites ≡ 1
+      → rack.told → rack.holds (HasCause cause place) → after.source_faults ≡ before.source_faults → ¬ rack.failed
       → (ended.fault ≡ Some (fault.Journal 0 cause place)) ⊎ (ended.status ≡ 5)
       ⊎ ((ended.trails.items ≡ []) × rack.gives HasFailed)
   -- whatever the status, each disk that was taken was given back, unless the rack failed; and one of which two calls
@@ -152,11 +161,16 @@ pub record Promise (words : List (String Global)) (rack : Racked) (before after 
   pub no_trails : (ended.trails.items ≡ []) ⊎ (ended.status ≡ 0) ⊎ (ended.status ≡ 4) ⊎ (ended.status ≡ 5)
       ⊎ (ended.status ≡ 6)
   -- where nothing fails, the source tells its bytes and the disk tells that it has no record: if the bytes spell a
-  -- scenario the status is 0, and if they are wrong at a place it is 2 with this place; or it is 5 for want of memory
+  -- scenario of one site the status is 0, and if they are wrong at a place it is 2 with this place; or it is 5 for want
+  -- of memory
   pub complete : (bytes : List ℕ) (s : Scenario) → IsLine words → before.left ≡ Some bytes → IsReading bytes s
-      → rack.told → rack.holds HasNoRecord
+      → s.catalog.sites ≡ 1 → rack.told → rack.holds HasNoRecord
       → after.source_faults ≡ before.source_faults → after.sink_faults ≡ before.sink_faults → ¬ rack.failed
       → (ended.status ≡ 0) ⊎ (ended.status ≡ 5) ⊎ ((ended.trails.items ≡ []) × rack.gives HasFailed)
   pub refuses : (bytes : List ℕ) (place : Place) → IsLine words → before.left ≡ Some bytes → IsRefusedAt bytes place
       → after.source_faults ≡ before.source_faults
       → ((detail : Detail) × (ended.fault ≡ Some (fault.Scenario place detail))) ⊎ (ended.status ≡ 5)
+  -- several sites don't run yet: a scenario of theirs is refused at the number of sites
+  pub several : (bytes : List ℕ) → IsLine words → before.left ≡ Some bytes → TellsOfSeveral bytes
+      → after.source_faults ≡ before.source_faults
+      → ((detail : Detail) × (ended.fault ≡ Some (fault.Scenario Sites detail))) ⊎ (ended.status ≡ 5)

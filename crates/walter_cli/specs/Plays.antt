@@ -32,9 +32,12 @@ pub data IsEvent (ev : Event) (old new : List Entry) : Type 0 where
   spent : IsSpent old → new ≡ old → IsEvent ev old new
   came : length old < 100000 → (e : Entry) → new ≡ old ++ e ∷ [] → e.event ≡ ev → IsEvent ev old new
 
--- a step is the turn of its client, or an event of the site; arming the disk is none
+-- a step is the turn of its client, or an event of the site; arming the disk is none. Nothing comes from another site
 abbrev pub Takes : List Client → Step → (old new : List Entry) → Type 0
 Takes clients (step.Call number) old new = (client : Client) × (slice_get clients number ≡ Some client) × IsTurn number client.bytes old new
+Takes clients (step.Deliver to from number) old new = ⊥
+Takes clients (step.Advance site from) old new = ⊥
+Takes clients (step.Tick site) old new = IsEvent (event.Given input.Tick) old new
 Takes clients (step.Stop site) old new = IsEvent event.Stop old new
 Takes clients (step.Restart site) old new = IsEvent event.Restart old new
 Takes clients (step.Arm arm) old new = new ≡ old
@@ -62,6 +65,9 @@ armed_by arm = (arm.nth, arm.choice)
 -- what the steps arm
 abbrev pub arms_by : Step → List Arm
 arms_by (step.Call number) = []
+arms_by (step.Deliver to from number) = []
+arms_by (step.Advance site from) = []
+arms_by (step.Tick site) = []
 arms_by (step.Stop site) = []
 arms_by (step.Restart site) = []
 arms_by (step.Arm arm) = arm ∷ []

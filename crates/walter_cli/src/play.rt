@@ -6,9 +6,9 @@ ghost use Rattle.walter_cli.specs.Plays.{Takes, IsPlayed, AreArmed, ArmsMore, ar
 
 use std::alloc::Global;
 use walter_base::Mem;
-use walter_solo::Cell;
 use walter_disk::Disk;
 use walter_scenario::{Arm, Scenario, Step};
+use walter_solo::Cell;
 
 /// Arms the disk as the scenario says, and takes its steps in order. Where memory runs out, what was done so far stands.
 pub fn play<D: Disk + Drop>(alloc: Global, cell: &mut Cell<D>, scenario: &Scenario) -> Mem<()>
@@ -50,6 +50,9 @@ fn take_step<D: Disk + Drop>(
         Step::Call(client) => {
             cell.serve(alloc, client)?;
         }
+        Step::Tick(_) => {
+            cell.tick(alloc)?;
+        }
         Step::Stop(_) => {
             cell.stop(alloc)?;
         }
@@ -57,6 +60,8 @@ fn take_step<D: Disk + Drop>(
             cell.restart(alloc)?;
         }
         Step::Arm(Arm { nth, choice, .. }) => cell.arm(nth, choice)?,
+        // One site has no other.
+        Step::Deliver { .. } | Step::Advance { .. } => unreachable!(),
     }
     Ok(())
 }

@@ -14,11 +14,11 @@ use crate::ended::{Ended, Fault, JournalCause};
 use crate::play::play;
 use std::alloc::Global;
 use walter_base::Mem;
-use walter_solo::{Cell, build};
 use walter_disk::Rack;
 use walter_engine::Unbegun;
 use walter_report::{report, trace};
 use walter_scenario::Scenario;
+use walter_solo::{Cell, build};
 use walter_stream::{Sink, write_all};
 use walter_trail::Trail;
 

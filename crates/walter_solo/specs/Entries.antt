@@ -20,11 +20,11 @@ abbrev pub HaveRisingStamps : List Entry → Type 0
 HaveRisingStamps [] = Unit {0}
 HaveRisingStamps (e ∷ older) = (clock older < e.stamp) × HaveRisingStamps older
 
--- a call is of one of so many clients, and nothing is of another site
+-- a call is of one of so many clients, and nothing comes from another site
 abbrev pub IsOfClients : ℕ → Event → Type 0
 IsOfClients clients (Given (Call client call)) = client < clients
 IsOfClients clients (Given (Deliver from number packet)) = ⊥
 IsOfClients clients (Given (Advance from)) = ⊥
-IsOfClients clients (Given Tick) = ⊥
+IsOfClients clients (Given Tick) = Unit {0}
 IsOfClients clients Stop = Unit {0}
 IsOfClients clients Restart = Unit {0}

@@ -29,7 +29,7 @@ pub enum Serve {
     Spent,
 }
 
-/// What a stop and a restart came to.
+/// What a tick, a stop and a restart came to.
 #[derive(Clone, Copy, Debug, PartialEq, Eq)]
 pub enum Acted {
     /// An entry came to the trail.
@@ -53,6 +53,7 @@ impl<D: Disk + Drop> Cell<D> {
     ghost use Rattle.walter_engine.specs.Engines.{disk_in, OfDisks};
     ghost use Rattle.walter_scenario.specs.declared.scenario.Scenario.{Scenario};
     ghost use Rattle.walter_rules.specs.declared.event.Event.TheVariants as event;
+    ghost use Rattle.walter_rules.specs.declared.event.Input.TheVariants as input;
     ghost use Rattle.walter_trail.specs.Calls.{calls_of};
     ghost use Rattle.walter_solo.specs.Cells.{IsSite, IsKnown, IsLineAt, TurnsTo, Acts, Grows, IsCallOf, AreOwedAsMany, AreSame};
     ghost use Rattle.walter_solo.specs.Debts.{AreAfter};
@@ -137,6 +138,37 @@ impl<D: Disk + Drop> Cell<D> {
         } else {
             Serve::Broken
         })
+    }
+
+    /// The site is to say again what its peers may have missed.
+    pub fn tick(&mut self, alloc: Global) -> Mem<Acted>
+        ensures site { (s : Scenario) → IsSite s self.old → IsSite s self.new }
+        ensures known { (s : Scenario) → IsSite s self.old → IsKnown s self.old → IsKnown s self.new }
+        ensures acts { IfOk result (Acts (event.Given input.Tick) self.old.entries.items self.new.entries.items) }
+        ensures kept { OnErr result (self.new.entries.items ≡ self.old.entries.items) }
+        ensures same { AreOwedAsMany self.old self.new }
+        ensures arms { OfDisks self.old.engine self.new.engine (λ old new. (D.known new).arms ≡ (D.known old).arms) }
+    {
+        if self.entries.len() >= MOST_ENTRIES {
+            return Ok(Acted::Spent);
+        }
+        self.entries.reserve(1)?;
+        make_places(alloc, &mut self.places)?;
+        let input = Input::Tick;
+        let Handled { came, lost } = handle(
+            alloc,
+            &mut self.engine,
+            &mut self.places,
+            None,
+            &input,
+        );
+        let entry = Entry {
+            stamp: self.entries.len() as u64 + 1,
+            event: Event::Given(input),
+            came,
+        };
+        self.add(entry, lost);
+        Ok(Acted::Did)
     }
 
     /// The site loses its memory.

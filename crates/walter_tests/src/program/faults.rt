@@ -86,6 +86,15 @@ fn bytes_that_spell_no_scenario_are_refused_at_their_first_wrong_place(
             r#"{"sites":9,"f":0,"containers":[],"clients":[],"steps":[]}"#,
             Place::Sites,
         ),
+        // Several sites don't run yet, but what they are to do is read before.
+        (
+            r#"{"sites":2,"f":1,"containers":[],"clients":[[1,""]],"steps":[["call",0],["deliver",0,1,1],["advance",1,0],["tick",1]]}"#,
+            Place::Sites,
+        ),
+        (
+            r#"{"sites":2,"f":1,"containers":[],"clients":[],"steps":[["deliver",0,0,1]]}"#,
+            Place::Steps(0),
+        ),
         (
             r#"{"sites":1,"f":1,"containers":[],"clients":[],"steps":[]}"#,
             Place::F,
@@ -111,7 +120,11 @@ fn bytes_that_spell_no_scenario_are_refused_at_their_first_wrong_place(
             Place::Steps(1),
         ),
         (
-            r#"{"sites":1,"f":0,"containers":[],"clients":[[0,""]],"steps":[["tick",0]]}"#,
+            r#"{"sites":1,"f":0,"containers":[],"clients":[[0,""]],"steps":[["tick",0],["tick",1]]}"#,
+            Place::Steps(1),
+        ),
+        (
+            r#"{"sites":1,"f":0,"containers":[],"clients":[],"steps":[["deliver",0,0,1]]}"#,
             Place::Steps(0),
         ),
         (
@@ -281,16 +294,19 @@ fn faults_are_lines_that_a_person_understands(rt: HostRuntime) -> Result<(), Fai
         ),
         (
             wrong(Place::Sites),
-            "the scenario has no reading: the number of sites: wants 1",
+            "the scenario has no reading: sites: wants a whole number from 1 to 8",
         ),
-        (wrong(Place::F), "the scenario has no reading: f: wants 0"),
+        (
+            wrong(Place::F),
+            "the scenario has no reading: f: wants a whole number below sites",
+        ),
         (
             wrong(Place::Containers(3)),
-            "the scenario has no reading: container 3: wants [number, \"regular\" or \"cset\", site] in a list, numbers below 2^32 that rise, a site below 1, at most 256",
+            "the scenario has no reading: container 3: wants [number, \"regular\" or \"cset\", site] in a list, numbers below 2^32 that rise, a site below sites, at most 256",
         ),
         (
             wrong(Place::Clients(0)),
-            "the scenario has no reading: client 0: wants [site, bytes] in a list, a site below 1, an even number of hex digits, at most 1024",
+            "the scenario has no reading: client 0: wants [site, bytes] in a list, a site below sites, an even number of hex digits, at most 1024 of each site",
         ),
         (
             wrong(Place::Capacity),
@@ -298,11 +314,11 @@ fn faults_are_lines_that_a_person_understands(rt: HostRuntime) -> Result<(), Fai
         ),
         (
             wrong(Place::Arms(1)),
-            "the scenario has no reading: arm 1: wants [site, nth, choice] in a list, a site below 1, an nth from 1 to 1000000, a choice below 2^64",
+            "the scenario has no reading: arm 1: wants [site, nth, choice] in a list, a site below sites, an nth from 1 to 1000000, a choice below 2^64",
         ),
         (
             wrong(Place::Steps(100_000)),
-            "the scenario has no reading: step 100000: wants [\"call\", client], [\"stop\", site], [\"restart\", site] or [\"arm\", site, nth, choice] in a list, a client of the scenario, a site below 1, an nth from 1 to 1000000, a choice below 2^64",
+            "the scenario has no reading: step 100000: wants [\"call\", client], [\"deliver\", site, from, number], [\"advance\", site, from], [\"tick\", site], [\"stop\", site], [\"restart\", site] or [\"arm\", site, nth, choice] in a list, a client of the scenario, a site below sites, a from that is another one, a number from 1 to 4294967295, an nth from 1 to 1000000, a choice below 2^64",
         ),
         (
             Fault::Scenario {

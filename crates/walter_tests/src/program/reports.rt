@@ -5,7 +5,7 @@ use walter_disk_memory::MemoryRack;
 use walter_stream::{BytesSource, Failed, Source};
 
 // Each scenario, and the report of it.
-const REPORTS: [(&str, &str); 14] = [
+const REPORTS: [(&str, &str); 15] = [
     // A write is read back and committed.
     (FIRST_RUN, FIRST_REPORT),
     // A transaction without updates ends.
@@ -67,6 +67,11 @@ const REPORTS: [(&str, &str); 14] = [
     (
         r#"{"sites":1,"f":0,"containers":[],"clients":[],"steps":[]}"#,
         "sites 1 f 0 clients 0\nsite 0 up epoch 1 events 1 records 1 got 0 committed 0 log -\n",
+    ),
+    // A tick is an event, also of a site that is down; a site alone has nobody to say anything to.
+    (
+        r#"{"sites":1,"f":0,"containers":[],"clients":[],"steps":[["tick",0],["stop",0],["tick",0],["restart",0]]}"#,
+        "sites 1 f 0 clients 0\nsite 0 up epoch 2 events 5 records 2 got 0 committed 0 log -\n",
     ),
     // Set updates of two writers both commit.
     (

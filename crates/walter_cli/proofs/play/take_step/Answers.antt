@@ -1,5 +1,6 @@
 use Rattle.std.proofs.Common.{◌<◌, length, ap, refl}
 use Rattle.walter_rules.specs.declared.event.Event.TheVariants as event
+use Rattle.walter_rules.specs.declared.event.Input.TheVariants as input
 use Rattle.walter_cli.proofs.Turns.{cell_grown, cell_acted, cell_kept, there_is, turn_is, event_is}
 use Rattle.walter_cli.proofs.play.take_step.Goals as goal
 
@@ -71,3 +72,20 @@ returns-in_ok-restart-in-Restart-clause-cell g c =
 pub returns-in_ok-restart-in-Restart-clause-took : goal.returns-in_ok-restart-in-Restart-clause-took
 returns-in_ok-restart-in-Restart-clause-took g c =
     rw c.in-Restart.is (event_is event.Restart c.args.cell.now.entries.items c.restart.new.self.entries.items c.in_ok-restart-in-Restart.field-0 c.in_ok-restart-in-Restart.ensures.acts)
+
+pub returns-in_err-tick-in-Tick-clause-cell : goal.returns-in_err-tick-in-Tick-clause-cell
+returns-in_err-tick-in-Tick-clause-cell g c =
+    let e = c.in_err-tick-in-Tick.ensures in
+    let s = c.args.scenario.now in
+    cell_kept s c.args.cell.now c.tick.new.self c.requires.cell (e.site s c.requires.cell.site) e.kept e.same.lines e.same.debts
+
+pub returns-in_ok-tick-in-Tick-clause-cell : goal.returns-in_ok-tick-in-Tick-clause-cell
+returns-in_ok-tick-in-Tick-clause-cell g c =
+    let e = c.in_ok-tick-in-Tick.ensures in
+    let s = c.args.scenario.now in
+    cell_acted s c.args.cell.now c.tick.new.self c.requires.cell (e.site s c.requires.cell.site) (event.Given input.Tick) (λ client. refl) tt
+    c.in_ok-tick-in-Tick.field-0 e.acts e.same
+
+pub returns-in_ok-tick-in-Tick-clause-took : goal.returns-in_ok-tick-in-Tick-clause-took
+returns-in_ok-tick-in-Tick-clause-took g c =
+    rw c.in-Tick.is (event_is (event.Given input.Tick) c.args.cell.now.entries.items c.tick.new.self.entries.items c.in_ok-tick-in-Tick.field-0 c.in_ok-tick-in-Tick.ensures.acts)

@@ -102,3 +102,6 @@ returns-clause-known g c = λ s site known.
 
 pub returns-in_err-reserve-clause-known : goal.returns-in_err-reserve-clause-known
 returns-in_err-reserve-clause-known g c = λ s site known. known_same s c.args.self.now _ refl c.in_err-reserve.ensures.items refl known
+
+pub returns-in_err-make_places-clause-known : goal.returns-in_err-make_places-clause-known
+returns-in_err-make_places-clause-known g c = λ s site known. known_same s c.args.self.now _ refl c.in_ok-reserve.ensures.items refl known

@@ -32,6 +32,10 @@ pub returns-in_err-reserve-clause-line : goal.returns-in_err-reserve-clause-line
 returns-in_err-reserve-clause-line g c = λ bytes is.
     line_entries bytes c.args.number c.args.self.now.entries.items c.reserve.new.self.items c.args.self.now.lines.items c.in_err-reserve.ensures.items is
 
+pub returns-in_err-make_places-clause-line : goal.returns-in_err-make_places-clause-line
+returns-in_err-make_places-clause-line g c = λ bytes is.
+    line_entries bytes c.args.number c.args.self.now.entries.items c.reserve.new.self.items c.args.self.now.lines.items c.in_ok-reserve.ensures.items is
+
 pub returns-in_err-next_call-clause-line : goal.returns-in_err-next_call-clause-line
 returns-in_err-next_call-clause-line g c = λ bytes is.
     let lines = c.args.self.now.lines.items in
@@ -88,6 +92,9 @@ returns-in-Broken-clause-others g c = λ other apart. set_there c.args.self.now.
 
 pub returns-in_err-reserve-clause-known : goal.returns-in_err-reserve-clause-known
 returns-in_err-reserve-clause-known g c = λ s site known. known_same s c.args.self.now _ refl c.in_err-reserve.ensures.items refl known
+
+pub returns-in_err-make_places-clause-known : goal.returns-in_err-make_places-clause-known
+returns-in_err-make_places-clause-known g c = λ s site known. known_same s c.args.self.now _ refl c.in_ok-reserve.ensures.items refl known
 
 pub returns-in_err-next_call-clause-known : goal.returns-in_err-next_call-clause-known
 returns-in_err-next_call-clause-known g c = λ s site known. known_same s c.args.self.now _ refl c.in_ok-reserve.ensures.items refl known
