@@ -4,7 +4,7 @@
 They are those of generator.py: of one site and of several, one of ten made to come to a limit. Says how often each reply,
 reason of a refusal, outcome, record and packet was met, and each limit, with a number at it and with one above it; and which
 of these were not met. Ends with status 1 where a scenario differs, and prints its seed and the first line that does. With
---model the model plays alone, and nothing is compared.
+--model the model plays alone, and nothing is compared; with --one-site the scenarios of several sites are left out.
 """
 
 import argparse
@@ -128,17 +128,23 @@ def main():
     parser.add_argument("--program", metavar="PATH", help="the program; without it that of this repository, which "
                         "./walter proves and builds first where that isn't done yet")
     parser.add_argument("--model", action="store_true", help="play the model alone")
+    parser.add_argument("--one-site", action="store_true", help="leave out the seeds whose scenarios have several sites, "
+                        "which the program doesn't run yet")
     words = parser.parse_args()
     program, met = None if words.model else words.program or built(), Counter()
-    for seed in range(words.seed, words.seed + words.scenarios):
-        made = scenario(seed)
+    made_by_seed = ((seed, scenario(seed)) for seed in range(words.seed, words.seed + words.scenarios))
+    played = 0
+    for seed, made in made_by_seed:
+        if words.one_site and made["sites"] > 1:
+            continue
+        played += 1
         run = model.played(made, met)
         if program:
             compare(program, seed, made, run.text())
         count_met(run, made["steps"], met)
     print("met: " + "; ".join(f"{kind}: {met[kind]:,}" for kind in ALL if met[kind]))
     print("not met: " + ("; ".join(kind for kind in ALL if not met[kind]) or "none"))
-    print(f"{words.scenarios:,} scenarios from seed {words.seed}: " + ("the same" if program else "played by the model"))
+    print(f"{played:,} scenarios from seed {words.seed}: " + ("the same" if program else "played by the model"))
 
 
 if __name__ == "__main__":

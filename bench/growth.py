@@ -109,7 +109,10 @@ def time_of_spread(program, transactions):
     text = spread(transactions)
     if len(text) >= MOST_BYTES:
         sys.exit(f"{transactions} transactions at three sites are a scenario of {len(text)} bytes")
-    report = subprocess.run([program, "play"], input=text, capture_output=True, text=True, check=True).stdout
+    ended = subprocess.run([program, "play"], input=text, capture_output=True, text=True)
+    if ended.returncode != 0:
+        sys.exit(f"three sites weren't played: status {ended.returncode}, {ended.stderr.strip()}")
+    report = ended.stdout
     if strays(report, transactions):
         sys.exit(f"not all of {transactions} transactions are committed at the sites {strays(report, transactions)}")
     return least_time(program, text)

@@ -12,7 +12,8 @@ import sys
 TOP = os.path.dirname(os.path.dirname(os.path.abspath(__file__)))
 USAGE = "usage: walter play [--trace], with a scenario on standard input; the report comes on standard output"
 NO_READING = "the scenario has no reading: "
-CLIENT = "client 0: wants [site, bytes] in a list, a site below 1, an even number of hex digits, at most 1024"
+CLIENT = "client 0: wants [site, bytes] in a list, a site below sites, an even number of hex digits, at most 1024 of each site"
+SITES = "sites: wants a whole number from 1 to 8"
 CLOSED = None
 
 
@@ -34,7 +35,9 @@ CASES = [
     ("no words", [], FIRST_RUN, None, 1, USAGE, ""),
     ("play --fast", ["play", "--fast"], FIRST_RUN, None, 1, USAGE, ""),
     ("an open bracket", ["play"], "[", None, 2, NO_READING + "the text is no JSON: line 1, column 1", ""),
-    ("nine sites", ["play"], scenario(sites="9"), None, 2, NO_READING + "the number of sites: wants 1", ""),
+    ("nine sites", ["play"], scenario(sites="9"), None, 2, NO_READING + SITES, ""),
+    # Several sites don't run yet.
+    ("three sites", ["play"], scenario(sites="3"), None, 2, NO_READING + SITES, ""),
     ("another key", ["play"], scenario(more=',"speed":1'), None, 2, NO_READING + 'key "speed": a scenario has none', ""),
     ("odd hex", ["play"], scenario(clients='[0,"0"]'), None, 2, NO_READING + CLIENT, ""),
     ("a closed standard input", ["play"], CLOSED, None, 3, "the scenario could not be read to its end", ""),
