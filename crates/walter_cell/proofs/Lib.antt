@@ -1,7 +1,0 @@
-pub mod Asked
-pub mod Sizes
-pub mod Owing
-pub mod Ages
-pub mod Nodes
-pub mod Restarting
-pub mod Stopping

@@ -1,6 +1,0 @@
-pub mod Entries
-pub mod Debts
-pub mod Handled
-pub mod Nodes
-pub mod Cells
-pub mod Builds
