@@ -1,7 +1,4 @@
-ghost use Rattle.std.specs.Prelude.{◌≡◌, ◌≢◌, OnErr, IfOk, IfErr};
-ghost use Rattle.walter_scenario.specs.declared.place.Detail.TheVariants as detail;
-ghost use Rattle.walter_scenario.specs.declared.place.Place.TheVariants as place;
-ghost use Rattle.walter_cli.specs.declared.ended.Fault.TheVariants as fault;
+ghost use Rattle.std.specs.Prelude.{◌≡◌, IfOk, IfErr};
 ghost use Rattle.walter_cli.specs.Ending.{IsTaken, IsTakeFault};
 
 use crate::ended::Fault;
@@ -26,20 +23,13 @@ pub fn take_scenario<S: Source>(alloc: Global, source: &mut S) -> Result<Scenari
         Err(ReadError::Failed) => return Err(Fault::Read),
         Err(ReadError::NoMemory) => return Err(Fault::Memory),
     };
-    match read(alloc, &bytes) {
-        Ok(scenario) => of_one_site(scenario),
-        Err(ReadFault::Refused { place, detail }) => Err(Fault::Scenario { place, detail }),
-        Err(ReadFault::NoMemory) => Err(Fault::Memory),
-    }
-}
-
-// The scenario, if it has one site.
-fn of_one_site(scenario: Scenario) -> Result<Scenario, Fault>
-    ensures same { IfOk result (λ it. it ≡ scenario) }
-    ensures one { IfOk result (λ it. it.catalog.sites ≡ 1) }
-    ensures several { OnErr result (scenario.catalog.sites ≢ 1) }
-    ensures fault { IfErr result (λ it. it ≡ fault.Scenario place.Sites detail.None) }
-{
+    let scenario = match read(alloc, &bytes) {
+        Ok(scenario) => scenario,
+        Err(ReadFault::Refused { place, detail }) => {
+            return Err(Fault::Scenario { place, detail });
+        }
+        Err(ReadFault::NoMemory) => return Err(Fault::Memory),
+    };
     if scenario.catalog.sites != 1 {
         return Err(Fault::Scenario {
             place: Place::Sites,

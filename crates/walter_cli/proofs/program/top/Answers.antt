@@ -18,7 +18,8 @@ returns-in_default g c =
 -- what a reading says of its catalog
 pub run-requires-clause-fewer : goal.run-requires-clause-fewer
 run-requires-clause-fewer g c =
-    c.in-Ok.ensures.ok.reading.has_arms.has_capacity.has_clients.has_containers.has_tolerated.fewer
+    let taken = c.in-Ok.ensures.ok in
+    λ lifetimes live. taken.reading.has_arms.has_capacity.has_clients.has_containers.has_tolerated.fewer
 
 pub run-requires-clause-whole : goal.run-requires-clause-whole
 run-requires-clause-whole g c =
