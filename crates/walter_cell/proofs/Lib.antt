@@ -1,0 +1,12 @@
+pub mod Asked
+pub mod Sizes
+pub mod Owing
+pub mod Ages
+pub mod Nodes
+pub mod Restarting
+pub mod Stopping
+pub mod Openings
+pub mod Lines
+pub mod Taken
+pub mod Coming
+pub mod Meeting

@@ -1,0 +1,186 @@
+-- A site with its trail and its lanes, behind one more entry.
+use Rattle.std.proofs.Common.{◌≡◌, ◌<◌, ◌≤◌, ◌+◌, ◌^◌, ℕ, List, [], ◌∷◌, ◌++◌, length, take, drop, reverse, Bool, true, false, Option, Some, None, is_some, refl, ap, sym, ◌∙◌, subst, arith, slice_get, if◌then◌else◌}
+use Rattle.std.specs.Prelude.{All, IfSome, count_by}
+use Rattle.std.proofs.lemmas.List.Sums.{fold-append}
+use Rattle.std.proofs.lemmas.List.{reverse-append, append-nil, take_all, drop_all}
+use Rattle.std.proofs.lemmas.List.Elements.{All-push}
+use Rattle.walter_base.specs.declared.catalog.Catalog.{Catalog}
+use Rattle.walter_base.specs.declared.names.SiteId.{SiteId}
+use Rattle.walter_base.specs.declared.names.Tid.{Tid}
+use Rattle.walter_disk.specs.declared.disk.Disk.{Ghosts}
+use Rattle.walter_engine.specs.declared.engine.Engine.{Engine}
+use Rattle.walter_engine.specs.declared.engine.State.{State}
+use Rattle.walter_engine.specs.Engines.{disk_in, OfDisk, OfDisks, IsSameEngine, Stands}
+use Rattle.walter_engine.specs.States.{disk_under}
+use Rattle.walter_engine.specs.Steps.{opening}
+use Rattle.walter_outbox.specs.Lanes.{carried_by, HavePut, HavePutMore}
+use Rattle.walter_outbox.proofs.Carried.{carried_more}
+use Rattle.walter_outbox.proofs.Grown.{put_grown, carried_less, settled_carried, with_sends, comes_out, all_put}
+use Rattle.walter_packet.specs.Spelling.{HasPacketSpelling}
+use Rattle.walter_rules.specs.declared.entry.Came.{Came}
+use Rattle.walter_rules.specs.declared.entry.Entry.{Entry}
+use Rattle.walter_rules.specs.declared.event.Event.{Event}
+use Rattle.walter_rules.specs.Sending.{Send}
+use Rattle.walter_rules.specs.Standing.{Standing, settled, stands_after, carried_after}
+use Rattle.walter_rules.specs.Trails.{IsPutOut, IsNextStamp, AreRight, IsRightTrail, clock, standing}
+use Rattle.walter_session.specs.Sessions.{Table}
+use Rattle.walter_cell.specs.declared.node.Node.{Node}
+use Rattle.walter_cell.specs.Debts.{AreOwed, AreAfter}
+use Rattle.walter_cell.specs.Entries.{HaveRisingStamps}
+use Rattle.walter_cell.specs.Handled.{IsSized, is_faulty, RisesIf, IsFaulty, HasCome}
+use Rattle.walter_cell.specs.Nodes.{entry_by, IsNode, IsKnownNode}
+use Rattle.walter_cell.proofs.Asked.{stands_owing}
+use Rattle.walter_cell.proofs.Owing.{debts_after}
+
+turned : (trail : List Entry) (e : Entry) → reverse (trail ++ e ∷ []) ≡ e ∷ reverse trail
+turned trail e = reverse-append trail (e ∷ [])
+
+first_stays : (trail : List Entry) (e x : Entry) → slice_get trail 0 ≡ Some x → slice_get (trail ++ e ∷ []) 0 ≡ Some x
+first_stays [] e x h = absurd cc
+first_stays (y ∷ trail) e x h = h
+
+-- a list that was lent whole, and comes back changed
+pub all_back : {X : Type 0} (len : ℕ) (new old : List X) → len ≡ length old → length new ≡ length old
+    → take len (new ++ drop (length new) old) ≡ new
+all_back len new old is long =
+    ap (λ rest. take len (new ++ rest)) (drop_all (length new) old (omega (arith, long)))
+    ∙ (ap (λ l. take len l) (append-nil new) ∙ take_all len new (omega (arith, is, long)))
+
+-- how many entries have a fault, with one more
+count_more : (p : Entry → Bool) (es : List Entry) (e : Entry) → count_by p (es ++ e ∷ []) ≡ count_by p es + (if p e then 1 else 0)
+count_more p es e = fold-append (λ n x. n + (if p x then 1 else 0)) 0 es (e ∷ [])
+
+rises_more : (n f f' : ℕ) (b : Bool) → n ≤ f → RisesIf b f f' → n + (if b then 1 else 0) ≤ f'
+rises_more n f f' true most rises = omega arith
+rises_more n f f' false most rises = omega arith
+
+module _ {D : Type 0} {g : Ghosts D} where
+  state_has : (state : Option (State D g)) → is_some state ≡ true → is_some (disk_under state) ≡ true
+  state_has None there = absurd cc
+  state_has (Some state) there = refl
+
+  faults_more : (old new : Engine D g) (n : ℕ) (b : Bool) → OfDisk old (λ d. n ≤ (g.known d).faults) → OfDisks old new (λ x y. RisesIf b (g.known x).faults (g.known y).faults)
+      → OfDisk new (λ d. n + (if b then 1 else 0) ≤ (g.known d).faults)
+  faults_more old new n b most rises = both (disk_in old) (disk_in new) (state_has old.state old.there) most rises
+    where
+      both : (x y : Option D) → is_some x ≡ true → IfSome x (λ d. n ≤ (g.known d).faults) → IfSome x (λ d. IfSome y (λ e. RisesIf b (g.known d).faults (g.known e).faults))
+          → IfSome y (λ d. n + (if b then 1 else 0) ≤ (g.known d).faults)
+      both None y there most rises = absurd cc
+      both (Some d) None there most rises = tt
+      both (Some d) (Some e) there most rises = rises_more n (g.known d).faults (g.known e).faults b most rises
+
+  module _ (catalog : Catalog) (capacity : ℕ) (i : SiteId) (old new : Node D g) (stamp : ℕ) (event : Event) (came : Came)
+      (sends : List Send) (dropped : ℕ)
+      (grown : new.entries.items ≡ old.entries.items ++ entry_by stamp event (with_sends sends dropped came) ∷ [])
+      (out : IsPutOut (carried_by old.outs.items) came.sends sends dropped)
+      (node : IsNode catalog capacity i old) where
+    abbrev trail : List Entry
+    trail = old.entries.items
+
+    abbrev own : Entry
+    own = entry_by stamp event (with_sends sends dropped came)
+
+    abbrev S : Standing
+    S = standing catalog i (reverse trail)
+
+    back : reverse new.entries.items ≡ own ∷ reverse trail
+    back = ap reverse grown ∙ turned trail own
+
+    pub node_more : new.clock ≡ stamp → IsSameEngine old.engine new.engine → IsSized catalog.sites came
+        → HavePutMore catalog.sites stamp old.outs.items new.outs.items sends
+        → OfDisks old.engine new.engine (λ x y. IsFaulty came (g.known x).faults (g.known y).faults)
+        → old.clock < stamp → stamp < 2 ^ 62 → IsNode catalog capacity i new
+    node_more clock_is same sized put rises later early = record {
+      catalog_is = same.catalog ∙ node.catalog_is;
+      site = same.site ∙ node.site;
+      capacity_is = same.capacity ∙ node.capacity_is;
+      begins = ap (λ es. slice_get es 0) grown ∙ first_stays trail own opening node.begins;
+      last = clock_is ∙ sym (ap clock back);
+      early = subst (λ n. n < 2 ^ 62) (sym clock_is) early;
+      rise = subst HaveRisingStamps (sym back) ((let last = node.last in omega (arith, last, later)), node.rise);
+      sized = subst (λ es. All (λ (x : Entry). IsSized catalog.sites x.came) es) (sym grown)
+          (All-push (λ (x : Entry). IsSized catalog.sites x.came) trail own node.sized (record {
+            outcome = sized.outcome;
+            kept = sized.kept;
+            wrote = sized.wrote;
+            flight = sized.flight;
+            sends = all_put (λ (s : Send). HasPacketSpelling catalog.sites s.1) (carried_by old.outs.items) came.sends sends dropped out sized.sends;
+          }));
+      put = subst (λ (es : List Entry). HavePut catalog.sites es new.outs.items) (sym grown)
+          (put_grown catalog.sites trail old.outs.items new.outs.items own node.put put);
+      faults =
+          let n : ℕ = count_by (λ (x : Entry). is_faulty x.came.outcome) trail in
+          let all : count_by (λ (x : Entry). is_faulty x.came.outcome) new.entries.items ≡ n + (if is_faulty came.outcome then 1 else 0) =
+          ap (λ es. count_by (λ (x : Entry). is_faulty x.came.outcome) es) grown ∙ count_more (λ (x : Entry). is_faulty x.came.outcome) trail own in
+          subst (λ (k : ℕ). OfDisk new.engine (λ d. k ≤ (g.known d).faults)) (sym all)
+          (faults_more old.engine new.engine n (is_faulty came.outcome) node.faults rises);
+    }
+
+    pub known_more : (lost : Option Table) → came.dropped ≡ 0 → HasCome catalog capacity i S event came lost new.engine
+        → AreAfter event came.outcome lost old.debts.items new.debts.items → IsNextStamp event old.clock stamp
+        → IsKnownNode catalog capacity i old → IsKnownNode catalog capacity i new
+    known_more lost none has after next known =
+        let T : Standing = settled catalog i came.kept S in
+        let carried : IsPutOut T.carried came.sends sends dropped =
+        carried_more (carried_by old.outs.items) T.carried came.sends sends dropped
+        (λ k. let less = carried_less catalog i catalog.sites trail old.outs.items node.put k in
+        let same = settled_carried catalog i came.kept S k in omega (arith, less, same)) out in
+        let stands_ : standing catalog i (reverse new.entries.items) ≡ stands_after catalog i T event (with_sends sends dropped came) =
+        ap (λ es. standing catalog i es) back in
+        let behind : Standing = stands_after catalog i T event came in
+        record {
+          stands = subst (λ (U : Standing). Stands new.engine U) (sym stands_)
+              (stands_owing new.engine behind behind.gone (carried_after sends T.carried) has.stands);
+          right = record {
+            opening = known.right.opening;
+            begins = ap (λ es. slice_get es 0) grown ∙ first_stays trail own known.right.opening known.right.begins;
+            opens = known.right.opens;
+            right = subst (λ es. AreRight catalog capacity i es) (sym back) (
+              known.right.right,
+              record {
+                stamp = subst (λ n. IsNextStamp event n stamp) node.last next;
+                kept = has.found;
+                comes = comes_out catalog capacity i T event came sends dropped none carried has.comes;
+              },
+            );
+          };
+          owed = subst (λ (U : Standing). AreOwed U new.debts.items) (sym stands_)
+              (debts_after catalog i S came.kept event came lost old.debts.items new.debts.items known.owed has.owes after);
+        }
+
+  -- the same but for its room
+  pub known_same : (catalog : Catalog) (capacity : ℕ) (i : SiteId) (old new : Node D g) → new.engine ≡ old.engine
+      → new.entries.items ≡ old.entries.items → new.debts.items ≡ old.debts.items
+      → IsKnownNode catalog capacity i old → IsKnownNode catalog capacity i new
+  known_same catalog capacity i old new engine entries debts known = record {
+    stands = subst (λ (es : List Entry). Stands new.engine (standing catalog i (reverse es))) (sym entries)
+        (subst (λ (n : Engine D g). Stands n (standing catalog i (reverse old.entries.items))) (sym engine) known.stands);
+    right = subst (λ (es : List Entry). IsRightTrail catalog capacity i es) (sym entries) known.right;
+    owed = subst (λ (es : List Entry). AreOwed (standing catalog i (reverse es)) new.debts.items) (sym entries)
+        (subst (λ (ds : List (Option Tid)). AreOwed (standing catalog i (reverse old.entries.items)) ds) (sym debts) known.owed);
+  }
+
+  -- the same but for its room, and for what its lanes know
+  pub node_kept : (catalog : Catalog) (capacity : ℕ) (i : SiteId) (old new : Node D g) → new.engine ≡ old.engine
+      → new.entries.items ≡ old.entries.items → new.clock ≡ old.clock → HavePut catalog.sites old.entries.items new.outs.items
+      → IsNode catalog capacity i old → IsNode catalog capacity i new
+  node_kept catalog capacity i old new engine entries clock_is put node = record {
+    catalog_is = ap (λ (n : Engine D g). n.catalog) engine ∙ node.catalog_is;
+    site = ap (λ (n : Engine D g). n.site) engine ∙ node.site;
+    capacity_is = ap (λ (n : Engine D g). n.capacity) engine ∙ node.capacity_is;
+    begins = ap (λ es. slice_get es 0) entries ∙ node.begins;
+    last = clock_is ∙ (node.last ∙ ap (λ es. clock (reverse es)) (sym entries));
+    early = subst (λ n. n < 2 ^ 62) (sym clock_is) node.early;
+    rise = subst (λ (es : List Entry). HaveRisingStamps (reverse es)) (sym entries) node.rise;
+    sized = subst (λ es. All (λ (x : Entry). IsSized catalog.sites x.came) es) (sym entries) node.sized;
+    put = subst (λ (es : List Entry). HavePut catalog.sites es new.outs.items) (sym entries) put;
+    faults = subst (λ (n : Engine D g). OfDisk n (λ d. count_by (λ (x : Entry). is_faulty x.came.outcome) new.entries.items ≤ (g.known d).faults)) (sym engine)
+        (subst (λ (es : List Entry). OfDisk old.engine (λ d. count_by (λ (x : Entry). is_faulty x.came.outcome) es ≤ (g.known d).faults)) (sym entries) node.faults);
+  }
+
+  pub node_same : (catalog : Catalog) (capacity : ℕ) (i : SiteId) (old new : Node D g) → new.engine ≡ old.engine
+      → new.entries.items ≡ old.entries.items → new.clock ≡ old.clock → new.outs.items ≡ old.outs.items
+      → IsNode catalog capacity i old → IsNode catalog capacity i new
+  node_same catalog capacity i old new engine entries clock_is outs node =
+      node_kept catalog capacity i old new engine entries clock_is
+      (subst (λ os. HavePut catalog.sites old.entries.items os) (sym outs) node.put) node

@@ -1,0 +1,114 @@
+-- A site with its trail and its lanes that has come up for the first time.
+use Rattle.std.proofs.Common.{◌≡◌, ◌<◌, ◌≤◌, ◌-◌, ℕ, List, [], ◌∷◌, length, refl, ap, sym, ◌∙◌, subst, arith, Option, Some, None, slice_get}
+use Rattle.std.specs.Prelude.{All, IfSome, replicate, reverse, count_by}
+use Rattle.std.proofs.lemmas.List.{length-replicate, get_or-replicate}
+use Rattle.std.proofs.lemmas.List.Elements.{All-nil, All-push}
+use Rattle.std.proofs.lemmas.Option.{slice_get_within, get_or_from_slice_get}
+use Rattle.walter_base.specs.declared.catalog.Catalog.{Catalog}
+use Rattle.walter_base.specs.declared.names.SiteId.{SiteId}
+use Rattle.walter_base.specs.declared.names.Tid.{Tid}
+use Rattle.walter_disk.specs.Images.{LeavesOnly}
+use Rattle.walter_disk.specs.declared.disk.Disk.{Ghosts}
+use Rattle.walter_engine.specs.Engines.{catalog_in, site_in, capacity_in, disk_in, Stands}
+use Rattle.walter_engine.specs.Steps.{opening}
+use Rattle.walter_outbox.specs.Lanes.{put_to, HavePut}
+use Rattle.walter_rules.specs.declared.entry.Entry.{Entry}
+use Rattle.walter_rules.specs.Standing.{unmade}
+use Rattle.walter_rules.specs.Trails.{ruled, standing, clock, all_out, IsRightTrail}
+use Rattle.walter_cell.specs.declared.node.Node.{Node}
+use Rattle.walter_cell.specs.Builds.{AreFree}
+use Rattle.walter_cell.specs.Entries.{HaveRisingStamps}
+use Rattle.walter_cell.specs.Handled.{IsSized, is_faulty}
+use Rattle.walter_cell.specs.Debts.{AreOwed}
+use Rattle.walter_cell.specs.Nodes.{IsNode, IsKnownNode}
+use Rattle.walter_cell.proofs.Sizes.{none_sent}
+
+one_of_all : {X : Type 0} (P : X → Type 0) (x : X) → P x → All P (x ∷ [])
+one_of_all P x holds = All-push P [] x (All-nil P) holds
+
+-- clients that are owed nothing
+all_free : (n client : ℕ) (debt : Option Tid) → slice_get (replicate n None) client ≡ Some debt → debt ≡ None
+all_free n client debt at =
+    let within = slice_get_within (replicate n None) client debt at in
+    let long = length-replicate {A = Option Tid} n None in
+    sym (get_or_from_slice_get (replicate n None) client debt debt at) ∙ get_or-replicate n client None debt (omega (arith, within, long))
+
+free_owed : (catalog : Catalog) (i : SiteId) (n : ℕ) (debts : List (Option Tid)) → AreFree n debts → AreOwed (standing catalog i (opening ∷ [])) debts
+free_owed catalog i n debts free client debt small at = sym (all_free n client debt (ap (λ ds. slice_get ds client) (sym free) ∙ at))
+
+opening_right : (catalog : Catalog) (capacity : ℕ) (i : SiteId) → 19 ≤ capacity
+    → IsRightTrail catalog capacity i (opening ∷ [])
+opening_right catalog capacity i fits =
+    let place : 10 ≤ capacity - 9 = omega (arith, fits) in
+    record {
+      opening = opening;
+      begins = refl;
+      opens = record { stamp = refl; event = refl; wrote = refl };
+      right = (
+        tt,
+        record {
+          stamp = refl;
+          kept = tt;
+          comes = ruled place (record { outcome = refl; wrote = refl; flight = refl; sends = all_out unmade.carried });
+        },
+      );
+    }
+
+of_some : {X : Type 0} (o : Option X) (P : X → Type 0) → ((x : X) → P x) → IfSome o P
+of_some None P all = tt
+of_some (Some x) P all = all x
+
+-- what holds of the disk that is found, holds of the disk
+pub from_found : {X : Type 0} (found : Option X) (x : X) (P : X → Type 0) → found ≡ Some x → IfSome found P → P x
+from_found found x P is holds = subst (λ o. IfSome o P) is holds
+
+pub to_found : {X : Type 0} (found : Option X) (x : X) (P : X → Type 0) → found ≡ Some x → P x → IfSome found P
+to_found found x P is holds = subst (λ o. IfSome o P) (sym is) holds
+
+-- what a crash now leaves of the disk in an engine, by what one leaves at any moment of a call
+pub leaves_now : {D : Type 0} (g : Ghosts D) → ((disk : D) (t : ℕ) (image : List ℕ) → t ≤ g.moment disk → g.may_leave disk image → g.left_since disk t image)
+    → (old new : Option D) (disk : D) (P : List ℕ → Type 0) → old ≡ Some disk → IfSome old (λ before. IfSome new (λ after. LeavesOnly g.moment g.left_since before after P))
+    → IfSome new (λ after. (image : List ℕ) → g.may_leave after image → P image)
+leaves_now {D = D} g counts_now old new disk P is both = by new (from_found old disk (λ before. IfSome new (λ after. LeavesOnly g.moment g.left_since before after P)) is both)
+  where
+    by : (found : Option D) → IfSome found (λ after. LeavesOnly g.moment g.left_since disk after P) → IfSome found (λ after. (image : List ℕ) → g.may_leave after image → P image)
+    by None leaves = tt
+    by (Some after) leaves = λ image left. leaves.each image (counts_now after (g.moment disk) image leaves.later left)
+
+-- the same, told of an equal list
+module _ {X : Type 0} (P : List X → Type 0) where
+  of_one : (xs : List X) (x : X) → xs ≡ x ∷ [] → P (x ∷ []) → P xs
+  of_one xs x is holds = subst P (sym is) holds
+
+module _ {D : Type 0} {g : Ghosts D} (catalog : Catalog) (capacity : ℕ) (i : SiteId) (node : Node D g)
+    (is : node.entries.items ≡ opening ∷ []) where
+  -- where the engine stands as the opening says
+  pub known_built : (clients : ℕ) → 19 ≤ capacity → Stands node.engine (standing catalog i (opening ∷ []))
+      → AreFree clients node.debts.items → IsKnownNode catalog capacity i node
+  known_built clients fits stands free = record {
+    stands = of_one (λ (es : List Entry). Stands node.engine (standing catalog i (reverse es))) node.entries.items opening is stands;
+    right = of_one (λ (es : List Entry). IsRightTrail catalog capacity i es) node.entries.items opening is (opening_right catalog capacity i fits);
+    owed = of_one (λ (es : List Entry). AreOwed (standing catalog i (reverse es)) node.debts.items) node.entries.items opening is
+        (free_owed catalog i clients node.debts.items free);
+  }
+
+  -- whatever its disk tells
+  pub node_built : catalog_in node.engine ≡ catalog → site_in node.engine ≡ i → capacity_in node.engine ≡ capacity
+      → node.clock ≡ 1 → length node.outs.items ≡ catalog.sites
+      → ((k : ℕ) → k < catalog.sites → put_to node.outs.items k ≡ []) → IsNode catalog capacity i node
+  node_built catalog_is site capacity_is one long empty = record {
+    catalog_is = catalog_is;
+    site = site;
+    capacity_is = capacity_is;
+    begins = ap (λ es. slice_get es 0) is;
+    last = one ∙ of_one (λ (es : List Entry). 1 ≡ clock (reverse es)) node.entries.items opening is refl;
+    early = omega (arith, one);
+    rise = of_one (λ (es : List Entry). HaveRisingStamps (reverse es)) node.entries.items opening is (omega arith, tt);
+    sized = of_one (λ (es : List Entry). All (λ (e : Entry). IsSized catalog.sites e.came) es) node.entries.items opening is
+        (one_of_all (λ (e : Entry). IsSized catalog.sites e.came) opening
+        (record { outcome = tt; kept = tt; wrote = omega arith; flight = tt; sends = none_sent catalog.sites }));
+    put = of_one (λ (es : List Entry). HavePut catalog.sites es node.outs.items) node.entries.items opening is
+        (record { long = long; each = λ k below. empty k below });
+    faults = of_some (disk_in node.engine) (λ disk. count_by (λ (e : Entry). is_faulty e.came.outcome) node.entries.items ≤ (g.known disk).faults)
+        (λ disk. let none = ap (λ (es : List Entry). count_by (λ (e : Entry). is_faulty e.came.outcome) es) is in omega (arith, none));
+  }

@@ -1,0 +1,15 @@
+//! A cell: a site over its disk with its trail, its ends of the lanes to and from the other sites, and the connections
+//! of its clients. All but the site outlives a stop.
+#![tactic(auto)]
+
+mod answers;
+mod cell;
+mod debt;
+mod handling;
+mod line;
+mod node;
+mod places;
+
+pub use answers::{Acted, Moved, Serve};
+pub use cell::Cell;
+pub use line::{Line, open_line};
