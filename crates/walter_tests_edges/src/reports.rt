@@ -129,6 +129,30 @@ fn journaled(alloc: Global, record: Record) -> Mem<Entry> {
     Ok(given(2, Input::Tick, Outcome::Taken, wrote, nothing(alloc), 0))
 }
 
+/// What happens to a site: the stamp, the event, its outcome, and the epochs of the boots.
+type Happening = (u64, Event, Outcome, [Option<u32>; 3]);
+
+/// The entries, and behind them those of what happens.
+fn with_happenings(
+    alloc: Global,
+    mut entries: Vec<Entry>,
+    happenings: Vec<Happening>,
+) -> Mem<Vec<Entry>> {
+    for (stamp, event, outcome, boots) in happenings {
+        entries.push(happened(alloc, stamp, event, outcome, boots)?)?;
+    }
+    Ok(entries)
+}
+
+/// The opening, and behind it an entry for each of the records.
+fn with_records(alloc: Global, records: Vec<Record>) -> Mem<Vec<Entry>> {
+    let mut entries = vec![in alloc; opening(alloc)?]?;
+    for record in records {
+        entries.push(journaled(alloc, record)?)?;
+    }
+    Ok(entries)
+}
+
 fn empty_tx(alloc: Global, site: SiteId) -> Tx {
     Tx {
         tid: Tid {
@@ -268,27 +292,23 @@ fn a_report_has_a_line_for_each_client_and_site(rt: HostRuntime) -> Result<(), F
         client 2 site 0 replies 0 -\n\
         site 0 up epoch 1 events 5 records 2 got 1 committed 1 log 0:1\n";
     assert!(rt; is_reported(alloc, 3, entries, text)?);
-    let entries = vec![in alloc;
-        opening(alloc)?,
-        happened(alloc, 2, Event::Stop, Outcome::Taken, [None; 3])?,
-        happened(alloc, 3, Event::Restart, Outcome::Failed, [None; 3])?,
-        happened(alloc, 4, Event::Stop, Outcome::Down, [None; 3])?,
+    let happenings = vec![in alloc;
+        (2, Event::Stop, Outcome::Taken, [None; 3]),
+        (3, Event::Restart, Outcome::Failed, [None; 3]),
+        (4, Event::Stop, Outcome::Down, [None; 3]),
     ]?;
+    let opened = vec![in alloc; opening(alloc)?]?;
+    let entries = with_happenings(alloc, opened, happenings)?;
     let text =
         "sites 1 f 0 clients 0\nsite 0 down epoch 1 events 4 records 1 got 0 committed 0 log -\n";
     assert!(rt; is_reported(alloc, 0, entries, text)?, "behind a stop");
-    let entries = vec![in alloc;
-        opening(alloc)?,
-        happened(alloc, 2, Event::Stop, Outcome::Taken, [None; 3])?,
-        happened(
-            alloc,
-            3,
-            Event::Restart,
-            Outcome::Taken,
-            [Some(2), Some(3), None]
-        )?,
-        happened(alloc, 4, Event::Restart, Outcome::Passed, [None; 3])?,
+    let happenings = vec![in alloc;
+        (2, Event::Stop, Outcome::Taken, [None; 3]),
+        (3, Event::Restart, Outcome::Taken, [Some(2), Some(3), None]),
+        (4, Event::Restart, Outcome::Passed, [None; 3]),
     ]?;
+    let opened = vec![in alloc; opening(alloc)?]?;
+    let entries = with_happenings(alloc, opened, happenings)?;
     let text =
         "sites 1 f 0 clients 0\nsite 0 up epoch 3 events 4 records 3 got 0 committed 0 log -\n";
     assert!(rt; is_reported(alloc, 0, entries, text)?, "behind a restart");
@@ -316,7 +336,7 @@ fn a_trace_has_a_line_for_each_entry(rt: HostRuntime) -> Result<(), Fail> {
     let full = Outcome::Full { need: 10, left: 9 };
     let level = Reply::Refused(Refusal::NotIssued);
     let boots = [Some(2), None, Some(3)];
-    let entries = vec![in alloc;
+    let calls = vec![in alloc;
         opening(alloc)?,
         answered(alloc, 7, Err(BadFrame { at: 1 }), bad),
         answered(alloc, 0, Ok(Request::Level(tid)), level),
@@ -324,11 +344,14 @@ fn a_trace_has_a_line_for_each_entry(rt: HostRuntime) -> Result<(), Fail> {
         answered(alloc, 0, Ok(Request::SetDel(set, 9)), Reply::Done),
         answered(alloc, 0, Ok(Request::SetRead(set)), Reply::Ended),
         answered(alloc, 0, Ok(Request::SetReadId(set, 9)), Reply::Ended),
-        happened(alloc, 4, Event::Stop, Outcome::Taken, [None; 3])?,
-        happened(alloc, 5, Event::Stop, Outcome::Down, [None; 3])?,
-        happened(alloc, 6, Event::Restart, full, [None; 3])?,
-        happened(alloc, 7, Event::Restart, Outcome::Failed, boots)?,
     ]?;
+    let happenings = vec![in alloc;
+        (4, Event::Stop, Outcome::Taken, [None; 3]),
+        (5, Event::Stop, Outcome::Down, [None; 3]),
+        (6, Event::Restart, full, [None; 3]),
+        (7, Event::Restart, Outcome::Failed, boots),
+    ]?;
+    let entries = with_happenings(alloc, calls, happenings)?;
     let trails = vec![in alloc; Trail::from(entries)]?;
     assert!(rt; have_frames(&trails) && have_spellings(&trails));
     let text = trace(alloc, &trails)?;
@@ -352,19 +375,19 @@ fn a_trace_has_a_line_for_each_entry(rt: HostRuntime) -> Result<(), Fail> {
 #[test]
 fn a_site_counts_the_commits_of_each_site(rt: HostRuntime) -> Result<(), Fail> {
     let alloc = rt.alloc();
-    let first = vec![in alloc;
-        opening(alloc)?,
-        journaled(alloc, Record::Own(1, empty_tx(alloc, SITE)))?,
-        journaled(alloc, Record::Got(OTHER, 1, empty_tx(alloc, OTHER)))?,
-        journaled(alloc, Record::Seen(OTHER, 1))?,
-        journaled(alloc, Record::Own(2, empty_tx(alloc, SITE)))?,
-        journaled(alloc, Record::Got(OTHER, 2, empty_tx(alloc, OTHER)))?,
+    let records = vec![in alloc;
+        Record::Own(1, empty_tx(alloc, SITE)),
+        Record::Got(OTHER, 1, empty_tx(alloc, OTHER)),
+        Record::Seen(OTHER, 1),
+        Record::Own(2, empty_tx(alloc, SITE)),
+        Record::Got(OTHER, 2, empty_tx(alloc, OTHER)),
     ]?;
-    let mut second = vec![in alloc;
-        opening(alloc)?,
-        journaled(alloc, Record::Got(SITE, 1, empty_tx(alloc, SITE)))?,
-        journaled(alloc, Record::Got(SITE, 2, empty_tx(alloc, SITE)))?,
+    let first = with_records(alloc, records)?;
+    let records = vec![in alloc;
+        Record::Got(SITE, 1, empty_tx(alloc, SITE)),
+        Record::Got(SITE, 2, empty_tx(alloc, SITE)),
     ]?;
+    let mut second = with_records(alloc, records)?;
     let mut restart = journaled(alloc, Record::Boot(2))?;
     restart.came.kept = on_heap(alloc, Record::Own(1, empty_tx(alloc, OTHER)))?;
     second.push(restart)?;
@@ -382,6 +405,7 @@ fn a_trace_has_the_packets_of_each_entry(rt: HostRuntime) -> Result<(), Fail> {
     let said = both(alloc, OTHER, Packet::Ack(2), Packet::Dsmark(3))?;
     let shown = both(alloc, OTHER, Packet::Visible(1), Packet::Released(4))?;
     let from_other = Input::Advance { from: OTHER };
+    let seen = on_heap(alloc, Record::Seen(OTHER, 1))?;
     let first = vec![in alloc;
         opening(alloc)?,
         given(
@@ -392,14 +416,7 @@ fn a_trace_has_the_packets_of_each_entry(rt: HostRuntime) -> Result<(), Fail> {
             said,
             1
         ),
-        given(
-            3,
-            from_other,
-            Outcome::Taken,
-            on_heap(alloc, Record::Seen(OTHER, 1))?,
-            shown,
-            0
-        ),
+        given(3, from_other, Outcome::Taken, seen, shown, 0),
     ]?;
     let voted = both(
         alloc,
@@ -412,16 +429,10 @@ fn a_trace_has_the_packets_of_each_entry(rt: HostRuntime) -> Result<(), Fail> {
         number: 7,
         packet: Packet::Ack(2),
     };
+    let seen = on_heap(alloc, Record::Seen(SITE, 5))?;
     let second = vec![in alloc;
         opening(alloc)?,
-        given(
-            2,
-            delivery,
-            Outcome::Taken,
-            on_heap(alloc, Record::Seen(SITE, 5))?,
-            voted,
-            20
-        ),
+        given(2, delivery, Outcome::Taken, seen, voted, 20),
     ]?;
     let trails = vec![in alloc; Trail::from(first), Trail::from(second)]?;
     let text = "sites 2 f 1 clients 0\n\
