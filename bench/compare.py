@@ -132,9 +132,9 @@ def main():
                         "which the program doesn't run yet")
     words = parser.parse_args()
     program, met = None if words.model else words.program or built(), Counter()
-    made_by_seed = ((seed, scenario(seed)) for seed in range(words.seed, words.seed + words.scenarios))
     played = 0
-    for seed, made in made_by_seed:
+    for seed in range(words.seed, words.seed + words.scenarios):
+        made = scenario(seed)
         if words.one_site and made["sites"] > 1:
             continue
         played += 1
