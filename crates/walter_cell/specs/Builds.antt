@@ -4,6 +4,8 @@ use Rattle.walter_base.specs.declared.names.Tid.{Tid}
 use Rattle.walter_disk.specs.declared.disk.Disk.{Ghosts}
 use Rattle.walter_engine.specs.Engines.{OfDisk}
 use Rattle.walter_engine.specs.declared.answers.Unbegun.{Unbegun}
+use Rattle.walter_stream.specs.declared.sink.Sink.{Ghosts as SinkGhosts}
+use Rattle.walter_stream.specs.declared.source.Source.{Ghosts as SourceGhosts}
 use Rattle.walter_cell.specs.declared.cell.Cell.{Cell}
 use Rattle.walter_cell.specs.declared.node.Node.{Node}
 
@@ -21,6 +23,7 @@ abbrev pub OfBuilt : {D : Type 0} {g : Ghosts D} → Result (Node D g) (D × Unb
 OfBuilt (Ok node) P = OfDisk node.engine P
 OfBuilt (Err back) P = P back.0
 
-abbrev pub OfCell : {D : Type 0} {g : Ghosts D} → Result (Cell D g) (D × Unbegun) → (D → Type 0) → Type 0
+abbrev pub OfCell : {D S K : Type 0} {g : Ghosts D} {s : SourceGhosts S} {k : SinkGhosts K}
+    → Result (Cell D S K g s k) (D × Unbegun) → (D → Type 0) → Type 0
 OfCell (Ok cell) P = OfDisk cell.node.engine P
 OfCell (Err back) P = P back.0

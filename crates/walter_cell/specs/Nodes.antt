@@ -1,5 +1,5 @@
 -- What holds of a site with its trail and its lanes between two events.
-use Rattle.std.specs.Prelude.{◌≡◌, ◌<◌, ◌≤◌, ◌^◌, ℕ, [], ◌∷◌, ◌++◌, length, reverse, slice_get, count_by, vec_len, vec_capacity, Some, All}
+use Rattle.std.specs.Prelude.{◌≡◌, ◌<◌, ◌≤◌, ◌⊎◌, ◌^◌, ℕ, List, [], ◌∷◌, ◌++◌, length, reverse, slice_get, count_by, vec_len, vec_capacity, Some, All}
 use Rattle.walter_base.specs.declared.catalog.Catalog.{Catalog}
 use Rattle.walter_base.specs.declared.names.SiteId.{SiteId}
 use Rattle.walter_disk.specs.declared.disk.Disk.{Ghosts}
@@ -8,13 +8,15 @@ use Rattle.walter_engine.specs.Steps.{opening}
 use Rattle.walter_rules.specs.declared.entry.Came.{Came}
 use Rattle.walter_rules.specs.declared.entry.Entry.{Entry}
 use Rattle.walter_rules.specs.declared.event.Event.{Event}
+use Rattle.walter_rules.specs.Rule.{rule}
+use Rattle.walter_rules.specs.Standing.{settled}
 use Rattle.walter_rules.specs.Trails.{standing, clock, IsRightTrail}
 use Rattle.walter_site.specs.Members.{IsShortOutcome}
 use Rattle.walter_cell.specs.declared.node.Node.{Node}
 use Rattle.walter_cell.specs.Debts.{AreOwed}
 use Rattle.walter_cell.specs.Entries.{HaveRisingStamps}
 use Rattle.walter_cell.specs.Handled.{IsSized, is_faulty}
-use Rattle.walter_outbox.specs.Lanes.{HavePut, out_rings}
+use Rattle.walter_outbox.specs.Lanes.{HavePut, out_rings, mets, met_to, IsPutWhereFree}
 
 -- the entry of an event that came to this
 abbrev pub entry_by : ℕ → Event → Came → Entry
@@ -65,6 +67,7 @@ pub record Takes {D : Type 0} {g : Ghosts D} (stamp : ℕ) (event : Event) (old 
   pub clock_is : new.clock ≡ stamp
   pub engine : IsSameEngine old.engine new.engine
   pub rings : out_rings new.outs.items ≡ out_rings old.outs.items
+  pub same_mets : mets new.outs.items ≡ mets old.outs.items
   pub debts : length new.debts.items ≡ length old.debts.items
 
 -- but for what its lanes know it is as before
@@ -73,3 +76,16 @@ pub record IsSameButLanes {D : Type 0} {g : Ghosts D} (old new : Node D g) : Typ
   pub entries : new.entries ≡ old.entries
   pub clock_is : new.clock ≡ old.clock
   pub debts : new.debts ≡ old.debts
+
+-- what this entry puts out is all that the rule says, but for what finds its lane full, which is dropped; or it puts
+-- out nothing, and drops nothing. So many packets had been put for each site when the ends of its lane last met
+abbrev pub DropsWhereFull : Catalog → SiteId → (ℕ → ℕ) → List Entry → Entry → Type 0
+DropsWhereFull catalog i met older e =
+    ((e.came.sends ≡ []) × (e.came.dropped ≡ 0))
+    ⊎ IsPutWhereFree met (settled catalog i e.came.kept (standing catalog i older)).carried
+    (rule catalog i (settled catalog i e.came.kept (standing catalog i older)) e.event).sends e.came.sends e.came.dropped
+
+-- so does the entry that comes to a trail, if one does
+abbrev pub MayDrop : Catalog → SiteId → (ℕ → ℕ) → List Entry → List Entry → Type 0
+MayDrop catalog i met old new =
+    (new ≡ old) ⊎ ((e : Entry) × (new ≡ old ++ e ∷ []) × DropsWhereFull catalog i met (reverse old) e)

@@ -1,9 +1,8 @@
-ghost use Rattle.std.specs.Prelude.{◌≡◌, ◌≢◌, ◌<◌, ◌≤◌, ◌++◌, ◌∷◌, ◌+◌, [], ℕ, List, Option, slice_get, length, option_map, Some, IsSome, OnErr, OnOk, IfOk};
+ghost use Rattle.std.specs.Prelude.{◌≡◌, ◌≢◌, ◌<◌, ◌≤◌, ◌++◌, ◌∷◌, ◌+◌, [], ℕ, List, Option, slice_get, length, option_map, Some, IsSome, OnErr, OnOk, IfOk, IsTrue, ◌↔◌};
 ghost use mathlib.Core.List.{IsPrefix};
 ghost use Rattle.walter_base.specs.Vectors.{most_sites};
 ghost use Rattle.walter_base.specs.declared.catalog.Catalog.{Catalog};
 ghost use Rattle.walter_base.specs.declared.names.SiteId.{SiteId};
-ghost use Rattle.walter_conn.specs.declared.conn.Conn.{Conn};
 ghost use Rattle.walter_engine.specs.Begins.{HasOnly, IsBegun, IsFaultOfBegin, MayHaveBegun};
 ghost use Rattle.walter_engine.specs.Engines.{catalog_in, site_in, OfDisks};
 ghost use Rattle.walter_engine.specs.Steps.{opening};
@@ -12,34 +11,35 @@ ghost use Rattle.walter_rules.specs.declared.event.Input.TheVariants as input;
 ghost use Rattle.walter_trail.specs.Calls.{calls_of};
 ghost use Rattle.walter_cell.specs.Cells.{IsCell, IsKnown};
 ghost use Rattle.walter_cell.specs.Builds.{OfCell, begun_by};
-ghost use Rattle.walter_cell.specs.Entries.{IsPlain};
-ghost use Rattle.walter_outbox.specs.Lanes.{put_to, arrived_from, ring_to, ring_from};
-ghost use Rattle.walter_cell.specs.Nodes.{IsSameButLanes};
+ghost use Rattle.walter_cell.specs.Entries.{IsPlain, IsSpent};
+ghost use Rattle.walter_outbox.specs.Lanes.{put_to, arrived_from, mets, met_to, ring_to, ring_from};
+ghost use Rattle.walter_cell.specs.Nodes.{IsSameButLanes, MayDrop};
 
 use crate::answers::{Acted, Moved, Serve};
-use crate::line::{Line, next_call, put_reply};
+use crate::line::{next_call, put_reply};
 use crate::node::Node;
 use std::alloc::Global;
 use walter_base::{Catalog, Mem, SiteId};
-use walter_conn::Next;
+use walter_conn::{Conn, Next};
 use walter_disk::Disk;
 use walter_engine::Unbegun;
 use walter_lane::{Inbound, Outbound, compare, meet};
 use walter_rules::{Event, Input};
+use walter_stream::{Sink, Source};
 use walter_trail::Trail;
 
 /// A site over its disk with its trail, its ends of the lanes to and from all sites, and the connections of its
 /// clients, by the clients' numbers: there is none where a client is another site's.
 #[derive(Drop)]
-pub struct Cell<D: Disk> {
+pub struct Cell<D: Disk, S: Source + Drop, K: Sink + Drop> {
     pub node: Node<D>,
     pub ins: Vec<Inbound>,
-    pub lines: Vec<Option<Line>>,
+    pub lines: Vec<Option<Conn<S, K>>>,
 }
 
-impl<D: Disk + Drop> Cell<D> {
+impl<D: Disk + Drop, S: Source + Drop, K: Sink + Drop> Cell<D, S, K> {
     ghost use Rattle.walter_engine.specs.Engines.{disk_in};
-    ghost use Rattle.walter_cell.specs.Cells.{IsSameCell, IsUnchanged, HasSameTrail, IsLineAt, TurnsTo, Acts, MovesTo, arrival};
+    ghost use Rattle.walter_cell.specs.Cells.{IsSameCell, IsUnchanged, HasSameTrail, OfLine, IsLineAt, HasFaultAt, TurnsTo, Acts, MovesTo, arrival};
 
     /// A site over its disk, up in its first epoch. Where it doesn't begin the disk comes back.
     pub fn begin(
@@ -50,8 +50,8 @@ impl<D: Disk + Drop> Cell<D> {
         capacity: u64,
         outs: Vec<Outbound>,
         ins: Vec<Inbound>,
-        lines: Vec<Option<Line>>,
-    ) -> Result<Cell<D>, (D, Unbegun)>
+        lines: Vec<Option<Conn<S, K>>>,
+    ) -> Result<Cell<D, S, K>, (D, Unbegun)>
         requires here { site.0 < catalog.now.sites }
         requires most { catalog.now.sites ≤ most_sites }
         requires fewer { catalog.now.tolerated < catalog.now.sites }
@@ -76,7 +76,7 @@ impl<D: Disk + Drop> Cell<D> {
     }
 
     /// The disk, the trail so far, and the connections.
-    pub fn into_parts(self) -> (D, Trail, Vec<Option<Line>>)
+    pub fn into_parts(self) -> (D, Trail, Vec<Option<Conn<S, K>>>)
         ensures disk { Some result.0 ≡ disk_in self.node.engine }
         ensures trail { result.1 ≡ self.node.entries.items }
         ensures lines { result.2 ≡ self.lines }
@@ -111,10 +111,17 @@ impl<D: Disk + Drop> Cell<D> {
         self.node.arm(nth, choice)
     }
 
+    /// Whether the trail has no place for another entry, of an event that brings no packet.
+    pub fn is_spent(&self) -> bool
+        ensures { IsTrue result ↔ IsSpent (self.now.node.clock + 1) self.now.node.entries.items }
+    {
+        self.node.next_stamp(0).is_none()
+    }
+
     /// Gives a client of this site its turn: one entry comes to the trail, or none where no call follows, where the
     /// trail is spent, or where memory runs out before the call is read.
     pub fn serve(&mut self, alloc: Global, number: u32) -> Mem<Serve>
-        requires there { (line : Conn _ _ _ _) × (slice_get self.old.lines.items number ≡ Some (Some line)) }
+        requires there { OfLine self.old.lines.items number (λ line. Unit {0}) }
         requires owed { number < length self.old.node.debts.items }
         ensures cell { (catalog : Catalog) (capacity : ℕ) (i : SiteId) → IsCell catalog capacity i self.old
             → IsCell catalog capacity i self.new }
@@ -124,7 +131,7 @@ impl<D: Disk + Drop> Cell<D> {
         ensures kept { OnErr result (HasSameTrail self.old self.new) }
         ensures turn { (bytes : List ℕ)
             → IsLineAt bytes (calls_of number self.old.node.entries.items) self.old.lines.items number
-            → IfOk result (TurnsTo number bytes self.old.node.clock
+            → IfOk result (TurnsTo number bytes self.old.node.clock (HasFaultAt self.new.lines.items number)
             self.old.node.entries.items self.new.node.entries.items) }
         ensures line { (bytes : List ℕ)
             → IsLineAt bytes (calls_of number self.old.node.entries.items) self.old.lines.items number
@@ -132,6 +139,11 @@ impl<D: Disk + Drop> Cell<D> {
         ensures others { (other : ℕ) → other ≢ number
             → slice_get self.new.lines.items other ≡ slice_get self.old.lines.items other }
         ensures ins { self.new.ins ≡ self.old.ins }
+        ensures drops { (catalog : Catalog) (capacity : ℕ) (i : SiteId) → IsCell catalog capacity i self.old
+            → IsKnown catalog capacity i self.old
+            → MayDrop catalog i (met_to self.old.node.outs.items) self.old.node.entries.items
+            self.new.node.entries.items }
+        ensures mets { mets self.new.node.outs.items ≡ mets self.old.node.outs.items }
         ensures arms { OfDisks self.old.node.engine self.new.node.engine (λ old new.
             (D.known new).arms ≡ (D.known old).arms) }
     {
@@ -171,6 +183,11 @@ impl<D: Disk + Drop> Cell<D> {
             (length self.old.ins.items) self.old.node.clock self.old.node.entries.items self.new.node.entries.items) }
         ensures ins { self.new.ins ≡ self.old.ins }
         ensures lines { self.new.lines ≡ self.old.lines }
+        ensures drops { (catalog : Catalog) (capacity : ℕ) (i : SiteId) → IsCell catalog capacity i self.old
+            → IsKnown catalog capacity i self.old
+            → MayDrop catalog i (met_to self.old.node.outs.items) self.old.node.entries.items
+            self.new.node.entries.items }
+        ensures mets { mets self.new.node.outs.items ≡ mets self.old.node.outs.items }
         ensures arms { OfDisks self.old.node.engine self.new.node.engine (λ old new.
             (D.known new).arms ≡ (D.known old).arms) }
     {
@@ -211,6 +228,11 @@ impl<D: Disk + Drop> Cell<D> {
             self.old.node.entries.items self.new.node.entries.items) }
         ensures ins { self.new.ins ≡ self.old.ins }
         ensures lines { self.new.lines ≡ self.old.lines }
+        ensures drops { (catalog : Catalog) (capacity : ℕ) (i : SiteId) → IsCell catalog capacity i self.old
+            → IsKnown catalog capacity i self.old
+            → MayDrop catalog i (met_to self.old.node.outs.items) self.old.node.entries.items
+            self.new.node.entries.items }
+        ensures mets { mets self.new.node.outs.items ≡ mets self.old.node.outs.items }
         ensures arms { OfDisks self.old.node.engine self.new.node.engine (λ old new.
             (D.known new).arms ≡ (D.known old).arms) }
     {
@@ -229,6 +251,11 @@ impl<D: Disk + Drop> Cell<D> {
             self.old.node.entries.items self.new.node.entries.items) }
         ensures ins { self.new.ins ≡ self.old.ins }
         ensures lines { self.new.lines ≡ self.old.lines }
+        ensures drops { (catalog : Catalog) (capacity : ℕ) (i : SiteId) → IsCell catalog capacity i self.old
+            → IsKnown catalog capacity i self.old
+            → MayDrop catalog i (met_to self.old.node.outs.items) self.old.node.entries.items
+            self.new.node.entries.items }
+        ensures mets { mets self.new.node.outs.items ≡ mets self.old.node.outs.items }
         ensures arms { OfDisks self.old.node.engine self.new.node.engine (λ old new.
             (D.known new).arms ≡ (D.known old).arms) }
     {
@@ -247,6 +274,11 @@ impl<D: Disk + Drop> Cell<D> {
             self.old.node.entries.items self.new.node.entries.items) }
         ensures ins { self.new.ins ≡ self.old.ins }
         ensures lines { self.new.lines ≡ self.old.lines }
+        ensures drops { (catalog : Catalog) (capacity : ℕ) (i : SiteId) → IsCell catalog capacity i self.old
+            → IsKnown catalog capacity i self.old
+            → MayDrop catalog i (met_to self.old.node.outs.items) self.old.node.entries.items
+            self.new.node.entries.items }
+        ensures mets { mets self.new.node.outs.items ≡ mets self.old.node.outs.items }
         ensures arms { OfDisks self.old.node.engine self.new.node.engine (λ old new.
             (D.known new).arms ≡ (D.known old).arms) }
     {
@@ -265,6 +297,11 @@ impl<D: Disk + Drop> Cell<D> {
             self.old.node.entries.items self.new.node.entries.items) }
         ensures ins { self.new.ins ≡ self.old.ins }
         ensures lines { self.new.lines ≡ self.old.lines }
+        ensures drops { (catalog : Catalog) (capacity : ℕ) (i : SiteId) → IsCell catalog capacity i self.old
+            → IsKnown catalog capacity i self.old
+            → MayDrop catalog i (met_to self.old.node.outs.items) self.old.node.entries.items
+            self.new.node.entries.items }
+        ensures mets { mets self.new.node.outs.items ≡ mets self.old.node.outs.items }
         ensures arms { OfDisks self.old.node.engine self.new.node.engine (λ old new.
             (D.known new).arms ≡ (D.known old).arms) }
     {
@@ -284,6 +321,11 @@ impl<D: Disk + Drop> Cell<D> {
             self.old.node.entries.items self.new.node.entries.items) }
         ensures ins { self.new.ins ≡ self.old.ins }
         ensures lines { self.new.lines ≡ self.old.lines }
+        ensures drops { (catalog : Catalog) (capacity : ℕ) (i : SiteId) → IsCell catalog capacity i self.old
+            → IsKnown catalog capacity i self.old
+            → MayDrop catalog i (met_to self.old.node.outs.items) self.old.node.entries.items
+            self.new.node.entries.items }
+        ensures mets { mets self.new.node.outs.items ≡ mets self.old.node.outs.items }
         ensures arms { OfDisks self.old.node.engine self.new.node.engine (λ old new.
             (D.known new).arms ≡ (D.known old).arms) }
     {
@@ -296,7 +338,7 @@ impl<D: Disk + Drop> Cell<D> {
     }
 
     /// All that another site has put for this one arrives. The two are these sites.
-    pub fn meet(&mut self, to: SiteId, sender: &mut Cell<D>, from: SiteId) -> Mem<()>
+    pub fn meet(&mut self, to: SiteId, sender: &mut Cell<D, S, K>, from: SiteId) -> Mem<()>
         requires from { from.0 < length self.old.ins.items }
         requires to { to.0 < length sender.old.node.outs.items }
         requires ring { ring_to sender.old.node.outs.items to.0 ≡ ring_from self.old.ins.items from.0 }
@@ -311,14 +353,23 @@ impl<D: Disk + Drop> Cell<D> {
             (arrived_from self.new.ins.items from.0 ≡ put_to sender.old.node.outs.items to.0) }
         ensures other { (j : ℕ) → j ≢ from.0 → arrived_from self.new.ins.items j ≡ arrived_from self.old.ins.items j }
         ensures sends { (k : ℕ) → put_to sender.new.node.outs.items k ≡ put_to sender.old.node.outs.items k }
+        ensures known_sender { (catalog : Catalog) (capacity : ℕ) (i : SiteId) → IsKnown catalog capacity i sender.old
+            → IsKnown catalog capacity i sender.new }
         ensures rest { IsSameButLanes sender.old.node sender.new.node × (sender.new.ins ≡ sender.old.ins) }
+        ensures met { OnOk result
+            (met_to sender.new.node.outs.items to.0 ≡ length (put_to sender.old.node.outs.items to.0)) }
+        ensures other_mets { (k : ℕ) → k ≢ to.0
+            → met_to sender.new.node.outs.items k ≡ met_to sender.old.node.outs.items k }
+        // For want of memory nothing arrives.
+        ensures unmet { OnErr result ((mets sender.new.node.outs.items ≡ mets sender.old.node.outs.items)
+            × (arrived_from self.new.ins.items from.0 ≡ arrived_from self.old.ins.items from.0)) }
     {
         let outbound = &mut sender.node.outs[usize::from(to.0)];
         meet(outbound, &mut self.ins[usize::from(from.0)])
     }
 
     /// What has arrived from another site is a beginning of what that one has put for this one.
-    pub fn compare(&mut self, to: SiteId, sender: &mut Cell<D>, from: SiteId)
+    pub fn compare(&mut self, to: SiteId, sender: &mut Cell<D, S, K>, from: SiteId)
         requires from { from.0 < length self.old.ins.items }
         requires to { to.0 < length sender.old.node.outs.items }
         requires ring { ring_to sender.old.node.outs.items to.0 ≡ ring_from self.old.ins.items from.0 }

@@ -12,4 +12,3 @@ mod places;
 
 pub use answers::{Acted, Moved, Serve};
 pub use cell::Cell;
-pub use line::{Line, open_line};

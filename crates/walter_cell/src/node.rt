@@ -6,8 +6,8 @@ ghost use Rattle.walter_engine.specs.Begins.{HasOnly, IsBegun, IsFaultOfBegin, M
 ghost use Rattle.walter_engine.specs.Steps.{opening};
 ghost use Rattle.walter_cell.specs.Builds.{AreFree, OfBuilt, begun_by};
 ghost use Rattle.walter_cell.specs.Entries.{IsSpent, IsOfClients, IsSizedEvent};
-ghost use Rattle.walter_outbox.specs.Lanes.{put_to};
-ghost use Rattle.walter_cell.specs.Nodes.{IsNode, IsKnownNode};
+ghost use Rattle.walter_outbox.specs.Lanes.{put_to, met_to};
+ghost use Rattle.walter_cell.specs.Nodes.{IsNode, IsKnownNode, MayDrop};
 
 use crate::debt::{debt_of, settle};
 use crate::handling::{Handled, handle, only};
@@ -129,6 +129,9 @@ impl<D: Disk + Drop> Node<D> {
         ensures known { (catalog : Catalog) (capacity : ℕ) (i : SiteId) → IsNode catalog capacity i self.old
             → length self.old.entries.items < 100000 → IsNextStamp event self.old.clock stamp
             → IsKnownNode catalog capacity i self.old → IsKnownNode catalog capacity i self.new }
+        ensures drops { (catalog : Catalog) (capacity : ℕ) (i : SiteId) → IsNode catalog capacity i self.old
+            → length self.old.entries.items < 100000 → IsKnownNode catalog capacity i self.old
+            → MayDrop catalog i (met_to self.old.outs.items) self.old.entries.items self.new.entries.items }
         ensures arms { OfDisks self.old.engine self.new.engine (λ old new. (D.known new).arms ≡ (D.known old).arms) }
     {
         let debt = debt_of(&self.debts, &event);

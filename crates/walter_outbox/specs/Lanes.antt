@@ -1,5 +1,5 @@
 -- The lanes of a site: what it has put on those to the other sites, and what has arrived on those from them.
-use Rattle.std.specs.Prelude.{◌≡◌, ◌≢◌, ◌+◌, ◌<◌, ◌≤◌, nat_eq, max, ℕ, Bool, true, false, List, [], ◌∷◌, ◌++◌, length, map, count_by, filter_map, slice_get, slice_index_or, Some, None, if◌then◌else◌}
+use Rattle.std.specs.Prelude.{◌≡◌, ◌≢◌, ◌+◌, ◌<◌, ◌≤◌, ◌⊎◌, nat_eq, max, ℕ, Bool, true, false, List, [], ◌∷◌, ◌++◌, length, map, count_by, filter_map, slice_get, slice_index_or, Some, None, if◌then◌else◌}
 use denote.RawPtr.{null_ptr}
 use Rattle.walter_base.specs.declared.names.SiteId.{SiteId}
 use Rattle.walter_base.specs.declared.packet.Packet.{Packet}
@@ -15,7 +15,7 @@ use Rattle.walter_rules.specs.declared.event.Input.TheVariants.{Call, Deliver, A
 use Rattle.walter_rules.specs.Knowledge.{site_at}
 use Rattle.walter_rules.specs.Merges.{Stamped, put_out_to}
 use Rattle.walter_rules.specs.Sending.{Send}
-use Rattle.walter_rules.specs.Trails.{clock, lane_places}
+use Rattle.walter_rules.specs.Trails.{clock, lane_places, carried_one}
 
 -- ---- the ends of lanes, by the numbers of the sites
 
@@ -41,7 +41,32 @@ put_to outs to = slice_index_or (map (λ (s : Sending). s.put) outs) to []
 abbrev pub arrived_from : List Receiving → ℕ → List Posted
 arrived_from ins from = slice_index_or (map (λ (r : Receiving). r.arrived) ins) from []
 
+-- how many packets were put for each site when the two ends of its lane last met
+abbrev pub mets : List Sending → List ℕ
+mets outs = map (λ (s : Sending). s.met) outs
+
+abbrev pub met_to : List Sending → ℕ → ℕ
+met_to outs to = slice_index_or (mets outs) to 0
+
 -- ---- what is put on lanes
+
+-- how many packets a lane carries at most
+abbrev pub most_packets : ℕ
+most_packets = 4294967295
+
+-- a lane that has carried so many is full: 1,024 of them were put since its ends last met, or it carries no more
+abbrev pub IsFull : (met carried : ℕ) → Type 0
+IsFull met carried = (met + lane_places ≤ carried) ⊎ (carried ≡ most_packets)
+
+-- Of what is to be put out, all is, in order, but what finds its lane full, which is counted.
+pub data IsPutWhereFree (met : ℕ → ℕ) : (SiteId → ℕ) → List Send → List Send → ℕ → Type 0 where
+  none_left : (carried : SiteId → ℕ) → IsPutWhereFree met carried [] [] 0
+  goes_out : (carried : SiteId → ℕ) (send : Send) (planned sends : List Send) (dropped : ℕ)
+      → IsPutWhereFree met (carried_one send.0 carried) planned sends dropped
+      → IsPutWhereFree met carried (send ∷ planned) (send ∷ sends) dropped
+  finds_full : (carried : SiteId → ℕ) (send : Send) (planned sends : List Send) (dropped : ℕ)
+      → IsFull (met send.0.0) (carried send.0) → IsPutWhereFree met carried planned sends dropped
+      → IsPutWhereFree met carried (send ∷ planned) sends (dropped + 1)
 
 -- a packet with its stamp, as it lies on a lane among so many sites
 abbrev pub posted : ℕ → Stamped → Posted
@@ -58,16 +83,18 @@ carried_by outs k = length (put_to outs k.0)
 -- a packet was put for a site
 pub record HavePutOne (outs new : List Sending) (to : ℕ) (post : Posted) : Type 0 where
   pub rings : out_rings new ≡ out_rings outs
+  pub same_mets : mets new ≡ mets outs
   pub each : (k : ℕ) → k < length outs → put_to new k ≡ put_to outs k ++ (if nat_eq to k then post ∷ [] else [])
 
 -- so it is; or the lane to that site is full, and nothing changed
 abbrev pub IsPut : (outs new : List Sending) → ℕ → Posted → Bool → Type 0
 IsPut outs new to post true = HavePutOne outs new to post
-IsPut outs new to post false = (new ≡ outs) × (lane_places ≤ length (put_to outs to))
+IsPut outs new to post false = (new ≡ outs) × IsFull (met_to outs to) (length (put_to outs to))
 
 -- these packets were put, each for its site, in order
 pub record HavePutMore (sites stamp : ℕ) (outs new : List Sending) (sends : List Send) : Type 0 where
   pub rings : out_rings new ≡ out_rings outs
+  pub same_mets : mets new ≡ mets outs
   pub each : (k : ℕ) → k < length outs
       → put_to new k ≡ put_to outs k ++ map (posted sites) (stamped_to stamp (site_at k) sends)
 

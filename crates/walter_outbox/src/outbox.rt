@@ -1,7 +1,6 @@
 ghost use Rattle.std.specs.Prelude.{◌≡◌, ◌≤◌, ◌<◌, ℕ, length, map};
 ghost use Rattle.walter_packet.specs.Framed.{frame_of};
-ghost use Rattle.walter_rules.specs.Trails.{IsPutOut};
-ghost use Rattle.walter_outbox.specs.Lanes.{carried_by, IsPut, HavePutMore};
+ghost use Rattle.walter_outbox.specs.Lanes.{carried_by, met_to, IsPutWhereFree, IsPut, HavePutMore};
 
 use walter_base::Sends;
 use walter_lane::{Outbound, Posted};
@@ -11,7 +10,7 @@ use walter_packet::Framed;
 /// packets found their lane full. The rules name no site that has no lane.
 pub fn put_out(outs: &mut [Outbound], stamp: u64, sends: Sends, frames: Vec<Framed>) -> (Sends, u64)
     requires { length frames.items ≡ length sends }
-    ensures out { IsPutOut (carried_by outs.old) sends result.0 result.1 }
+    ensures out { IsPutWhereFree (met_to outs.old) (carried_by outs.old) sends result.0 result.1 }
     ensures lanes { (sites : ℕ) → frames.items ≡ map (λ s. frame_of sites s.1) sends
         → HavePutMore sites stamp outs.old outs.new result.0 }
 {
