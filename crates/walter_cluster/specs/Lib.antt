@@ -1,0 +1,4 @@
+pub mod Benches
+pub mod Moments
+pub mod Lanes
+pub mod Builds

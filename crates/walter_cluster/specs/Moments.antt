@@ -1,0 +1,110 @@
+-- What the trails of all sites are at a moment and how many packets have arrived, and what an event makes of it.
+use Rattle.std.specs.Prelude.{◌≡◌, ◌≢◌, ◌<◌, ◌≤◌, ◌⊎◌, ◌+◌, ◌∷◌, ◌++◌, max, ℕ, zero, suc, List, [], length, replicate, reverse, slice_get, Option, Some, None}
+use Rattle.walter_base.specs.declared.catalog.Catalog.{Catalog}
+use Rattle.walter_base.specs.declared.names.SiteId.{SiteId}
+use Rattle.walter_base.specs.declared.packet.Packet.{Packet}
+use Rattle.walter_cell.specs.declared.answers.Acted.{Acted}
+use Rattle.walter_cell.specs.declared.answers.Moved.{Moved}
+use Rattle.walter_cell.specs.declared.answers.Moved.TheVariants as moved
+use Rattle.walter_cell.specs.declared.answers.Serve.{Serve}
+use Rattle.walter_cell.specs.declared.cell.Cell.{Cell}
+use Rattle.walter_cell.specs.Cells.{HasPlace, TurnsTo, Acts}
+use Rattle.walter_cell.specs.Entries.{IsSpent, Grows}
+use Rattle.walter_cell.specs.Nodes.{MayDrop}
+use Rattle.walter_disk.specs.declared.disk.Disk.{Ghosts}
+use Rattle.walter_engine.specs.Steps.{opening}
+use Rattle.walter_outbox.specs.Lanes.{arrived_from}
+use Rattle.walter_rules.specs.declared.entry.Entry.{Entry}
+use Rattle.walter_rules.specs.declared.event.Event.{Event}
+use Rattle.walter_rules.specs.declared.event.Event.TheVariants as event
+use Rattle.walter_rules.specs.declared.event.Input.TheVariants as input
+use Rattle.walter_rules.specs.Merges.{Stamped, put_out_to, trail_of}
+use Rattle.walter_rules.specs.Trails.{clock}
+use Rattle.walter_stream.specs.declared.sink.Sink.{Ghosts as SinkGhosts}
+use Rattle.walter_stream.specs.declared.source.Source.{Ghosts as SourceGhosts}
+use Rattle.walter_cluster.specs.Benches.{trails_of, ins_at}
+
+-- the trails of all sites, in order; and how many packets have arrived at a site from another
+pub record Moment : Type 0 where
+  pub trails : List (List Entry)
+  pub arrived : (to from : ℕ) → ℕ
+
+abbrev pub moment_of : {D S K : Type 0} {g : Ghosts D} {s : SourceGhosts S} {k : SinkGhosts K}
+    → List (Cell D S K g s k) → Moment
+moment_of cells = record { trails = trails_of cells; arrived = λ to from. length (arrived_from (ins_at cells to) from) }
+
+-- before the first step: each trail has its opening alone, and nothing has arrived
+pub record IsFirst (sites : ℕ) (m : Moment) : Type 0 where
+  pub openings : m.trails ≡ replicate sites (opening ∷ [])
+  pub none_arrived : (to from : ℕ) → m.arrived to from ≡ 0
+
+-- the stamp of the last entry of a site
+abbrev pub clock_at : Moment → SiteId → ℕ
+clock_at m i = clock (reverse (trail_of m.trails i))
+
+-- ---- what changes
+
+-- no trail but that of one site changes
+pub record ChangesAt (i : SiteId) (old new : Moment) : Type 0 where
+  pub sites : length new.trails ≡ length old.trails
+  pub others : (j : SiteId) → j ≢ i → trail_of new.trails j ≡ trail_of old.trails j
+
+-- no packet arrives
+abbrev pub NoneArrive : (old new : Moment) → Type 0
+NoneArrive old new = (to from : ℕ) → new.arrived to from ≡ old.arrived to from
+
+-- all arrives that the other sites have put out to this one, and nothing elsewhere
+pub record AllArrive (to : SiteId) (old new : Moment) : Type 0 where
+  pub here : (from : SiteId) → from ≢ to
+      → new.arrived to.0 from.0 ≡ length (put_out_to to (trail_of old.trails from))
+  pub elsewhere : (i from : ℕ) → (i ≢ to.0) ⊎ (from ≡ to.0) → new.arrived i from ≡ old.arrived i from
+
+-- of what the entry that comes to a site's trail is to put out, only what finds 1,024 packets on its lane that haven't
+-- arrived is dropped, or what is behind all that a lane carries
+abbrev pub Drops : Catalog → SiteId → (old new : Moment) → Type 0
+Drops catalog i old new =
+    MayDrop catalog i (λ k. old.arrived k i.0) (trail_of old.trails i) (trail_of new.trails i)
+
+-- ---- what calls of a bench come to
+
+-- a client's turn at its site, whose connection may have failed
+pub record TurnsAt (i : SiteId) (number : ℕ) (bytes : List ℕ) (fault : Type 0) (old new : Moment)
+    (answer : Serve) : Type 0 where
+  pub turns : TurnsTo number bytes (clock_at old i) fault (trail_of old.trails i) (trail_of new.trails i) answer
+  pub others : ChangesAt i old new
+  pub none_arrive : NoneArrive old new
+
+-- an event that brings nothing
+pub record ActsAt (i : SiteId) (happens : Event) (old new : Moment) (answer : Acted) : Type 0 where
+  pub acts : Acts happens (clock_at old i) (trail_of old.trails i) (trail_of new.trails i) answer
+  pub others : ChangesAt i old new
+  pub none_arrive : NoneArrive old new
+
+-- the packet of a number among those that a site has put out to another, with the stamp of its entry
+abbrev pub put_out_as : List (List Entry) → (to from : SiteId) → ℕ → Option Stamped
+put_out_as trails to from zero = None
+put_out_as trails to from (suc before) = slice_get (put_out_to to (trail_of trails from)) before
+
+-- the stamp that its delivery would have
+abbrev pub stamp_for : ℕ → Option Stamped → ℕ
+stamp_for last None = last + 1
+stamp_for last (Some put) = max last put.0 + 1
+
+-- what the delivery comes to, once all has arrived that was put out to the site: the trail is spent; or no such packet
+-- was put out; or it comes to the trail
+abbrev pub HandsOver : SiteId → ℕ → Option Stamped → ℕ → List Entry → List Entry → Moved → Type 0
+HandsOver from number put last old new moved.Spent = IsSpent (stamp_for last put) old × (new ≡ old)
+HandsOver from number put last old new moved.Nothing =
+    HasPlace (stamp_for last put) old × (put ≡ None) × (new ≡ old)
+HandsOver from number put last old new moved.Did = HasPlace (stamp_for last put) old
+    × ((there : Stamped) × (put ≡ Some there) × Grows (event.Given (input.Deliver from number there.1)) old new)
+
+-- where the trail is spent, nothing changes; else all arrives first
+pub data MovesAt (to from : SiteId) (number : ℕ) (old new : Moment) : Moved → Type 0 where
+  at_once : IsSpent (clock_at old to + 1) (trail_of old.trails to) → new.trails ≡ old.trails → NoneArrive old new
+      → MovesAt to from number old new moved.Spent
+  arrives : (answer : Moved) → HasPlace (clock_at old to + 1) (trail_of old.trails to) → AllArrive to old new
+      → ChangesAt to old new
+      → HandsOver from number (put_out_as old.trails to from number) (clock_at old to) (trail_of old.trails to)
+      (trail_of new.trails to) answer
+      → MovesAt to from number old new answer

@@ -1,0 +1,73 @@
+ghost use Rattle.std.specs.Prelude.{◌≡◌, length};
+ghost use Rattle.walter_rules.specs.Merges.{AreLinked};
+ghost use Rattle.walter_scenario.specs.declared.scenario.Scenario.{Scenario};
+ghost use Rattle.walter_cluster.specs.Benches.{IsBench};
+ghost use Rattle.walter_cluster.specs.Builds.{GivesBack};
+
+use crate::bench::Bench;
+use walter_base::SiteId;
+use walter_cell::Cell;
+use walter_conn::Conn;
+use walter_disk::Disk;
+use walter_stream::{Sink, Source};
+use walter_trail::Trail;
+
+/// What is left of a bench: the trails, the disks, and the connections of the clients, each by the numbers of the
+/// sites; the connections of a site by the clients' numbers.
+#[derive(Drop)]
+pub struct Closed<D: Disk, S: Source + Drop, K: Sink + Drop> {
+    pub trails: Vec<Trail>,
+    pub disks: Vec<D>,
+    pub conns: Vec<Vec<Option<Conn<S, K>>>>,
+}
+
+impl<D: Disk + Drop, S: Source + Drop, K: Sink + Drop> Bench<D, S, K> {
+    /// Takes a bench apart. It takes no memory. What was delivered anywhere had been put out by its sender.
+    pub fn close(self) -> Closed<D, S, K>
+        requires { (t : Scenario) × IsBench t self }
+        ensures gives { GivesBack self.cells.items result }
+        ensures linked { AreLinked result.trails.items }
+    {
+        let Bench { mut cells, trails, disks, conns, .. } = self;
+        compare_all(&mut cells);
+        let mut closed = Closed { trails, disks, conns };
+        for cell in cells {
+            let (disk, trail, lines) = cell.into_parts();
+            closed.trails.push_reserved(trail);
+            closed.disks.push_reserved(disk);
+            closed.conns.push_reserved(lines);
+        }
+        closed
+    }
+}
+
+// What has arrived at each site is a beginning of what was put for it. Nothing changes.
+fn compare_all<D: Disk + Drop, S: Source + Drop, K: Sink + Drop>(cells: &mut [Cell<D, S, K>]) {
+    for to in 0..cells.len() {
+        compare_with_all(cells, to);
+    }
+}
+
+fn compare_with_all<D: Disk + Drop, S: Source + Drop, K: Sink + Drop>(
+    cells: &mut [Cell<D, S, K>],
+    to: usize,
+) {
+    for from in 0..cells.len() {
+        compare_one(cells, to, from);
+    }
+}
+
+fn compare_one<D: Disk + Drop, S: Source + Drop, K: Sink + Drop>(
+    cells: &mut [Cell<D, S, K>],
+    to: usize,
+    from: usize,
+) {
+    let (receiver, sender) = (SiteId(to as u8), SiteId(from as u8));
+    if from < to {
+        let (low, high) = cells.split_at_mut(to);
+        high[0].compare(receiver, &mut low[from], sender);
+    } else if to < from {
+        let (low, high) = cells.split_at_mut(from);
+        low[to].compare(receiver, &mut high[0], sender);
+    }
+}

@@ -1,0 +1,33 @@
+use walter_base::{Mem, SiteId};
+use walter_cell::Cell;
+use walter_disk::Disk;
+use walter_stream::{Sink, Source};
+
+/// All that the other sites have put for this one arrives there.
+pub fn meet_all<D: Disk + Drop, S: Source + Drop, K: Sink + Drop>(
+    cells: &mut [Cell<D, S, K>],
+    to: usize,
+) -> Mem<()> {
+    for from in 0..cells.len() {
+        meet_one(cells, to, from)?;
+    }
+    Ok(())
+}
+
+// All that one site has put for another arrives there; a site puts nothing for itself.
+fn meet_one<D: Disk + Drop, S: Source + Drop, K: Sink + Drop>(
+    cells: &mut [Cell<D, S, K>],
+    to: usize,
+    from: usize,
+) -> Mem<()> {
+    let (receiver, sender) = (SiteId(to as u8), SiteId(from as u8));
+    if from < to {
+        let (low, high) = cells.split_at_mut(to);
+        high[0].meet(receiver, &mut low[from], sender)
+    } else if to < from {
+        let (low, high) = cells.split_at_mut(from);
+        low[to].meet(receiver, &mut high[0], sender)
+    } else {
+        Ok(())
+    }
+}

@@ -1,0 +1,8 @@
+//! The script of a scenario, played on a bench.
+#![tactic(auto)]
+
+mod lines;
+mod play;
+
+pub use lines::{Line, open_lines};
+pub use play::play;

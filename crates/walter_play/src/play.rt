@@ -1,0 +1,85 @@
+ghost use Rattle.std.specs.Prelude.{◌≡◌, ◌++◌, ◌∷◌, [], ℕ, length, All, OnOk};
+ghost use Rattle.walter_scenario.specs.Parts.{IsArm, IsStep};
+ghost use Rattle.walter_cluster.specs.Benches.{IsBench, IsKnownAt, AreAllConnected, AreMet};
+ghost use Rattle.walter_cluster.specs.Moments.{moment_of};
+ghost use Rattle.walter_play.specs.Scripts.{Takes, Plays, ArmsMore, AreArmed, arms_of};
+
+use std::alloc::Global;
+use walter_base::Mem;
+use walter_cluster::Bench;
+use walter_disk::Disk;
+use walter_scenario::{Arm, Scenario, Step};
+use walter_stream::{BytesSource, NullSink};
+
+/// Arms the disks as the scenario says, and takes its steps in order. Where memory runs out, what was done so far stands.
+pub fn play<D: Disk + Drop>(
+    alloc: Global,
+    bench: &mut Bench<D, BytesSource, NullSink>,
+    scenario: &Scenario,
+) -> Mem<()>
+    requires bench { IsBench scenario.now bench.old }
+    requires connected { AreAllConnected scenario.now bench.old }
+    requires met { AreMet bench.old }
+    requires arms { All (IsArm scenario.now.catalog.sites) scenario.now.arms }
+    requires steps { All (IsStep scenario.now.catalog.sites (length scenario.now.clients)) scenario.now.steps }
+    ensures bench { IsBench scenario.now bench.new }
+    ensures known { (i : ℕ) → IsKnownAt scenario.now i bench.old → IsKnownAt scenario.now i bench.new }
+    ensures connected { AreAllConnected scenario.now bench.new }
+    // By the script; of a site whose disk tells what it holds also what it drops.
+    ensures played { OnOk result (Plays (λ i. IsKnownAt scenario.now i bench.old) scenario.now scenario.now.steps
+        (moment_of bench.old.cells.items) (moment_of bench.new.cells.items)) }
+    ensures arms { ArmsMore bench.old bench.new (scenario.now.arms ++ arms_of scenario.now.steps) }
+    ensures armed { OnOk result (AreArmed bench.old bench.new (scenario.now.arms ++ arms_of scenario.now.steps)) }
+{
+    for arm in scenario.arms.as_slice() {
+        bench.arm(arm.site, arm.nth, arm.choice)?;
+    }
+    for step in scenario.steps.as_slice() {
+        take_step(alloc, bench, scenario, *step)?;
+    }
+    Ok(())
+}
+
+// Takes a step.
+fn take_step<D: Disk + Drop>(
+    alloc: Global,
+    bench: &mut Bench<D, BytesSource, NullSink>,
+    scenario: &Scenario,
+    step: Step,
+) -> Mem<()>
+    requires bench { IsBench scenario.now bench.old }
+    requires connected { AreAllConnected scenario.now bench.old }
+    requires met { AreMet bench.old }
+    requires there { IsStep scenario.now.catalog.sites (length scenario.now.clients) step }
+    ensures bench { IsBench scenario.now bench.new }
+    ensures known { (i : ℕ) → IsKnownAt scenario.now i bench.old → IsKnownAt scenario.now i bench.new }
+    ensures connected { AreAllConnected scenario.now bench.new }
+    ensures met { AreMet bench.new }
+    ensures took { OnOk result (Takes (λ i. IsKnownAt scenario.now i bench.old) scenario.now step
+        (moment_of bench.old.cells.items) (moment_of bench.new.cells.items)) }
+    ensures armed { OnOk result (AreArmed bench.old bench.new (arms_of (step ∷ []))) }
+    ensures arms { ArmsMore bench.old bench.new (arms_of (step ∷ [])) }
+{
+    match step {
+        Step::Call(client) => {
+            bench.turn(alloc, client)?;
+        }
+        Step::Deliver { to, from, number } => {
+            bench.deliver(alloc, to, from, number)?;
+        }
+        Step::Advance { at, from } => {
+            bench.advance(alloc, at, from)?;
+        }
+        Step::Tick(site) => {
+            bench.tick(alloc, site)?;
+        }
+        Step::Stop(site) => {
+            bench.stop(alloc, site)?;
+        }
+        Step::Restart(site) => {
+            bench.restart(alloc, site)?;
+        }
+        Step::Arm(Arm { site, nth, choice }) => bench.arm(site, nth, choice)?,
+    }
+    Ok(())
+}
