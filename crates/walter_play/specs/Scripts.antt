@@ -6,7 +6,7 @@ use Rattle.walter_cell.specs.declared.answers.Moved.{Moved}
 use Rattle.walter_cell.specs.declared.answers.Serve.{Serve}
 use Rattle.walter_cluster.specs.declared.bench.Bench.{Bench}
 use Rattle.walter_cluster.specs.Benches.{arms_at}
-use Rattle.walter_cluster.specs.Moments.{Moment, IsFirst, NoneArrive, Drops, TurnsAt, ActsAt, MovesAt}
+use Rattle.walter_cluster.specs.Moments.{Moment, IsFirst, Drops, TurnsAt, ActsAt, MovesAt}
 use Rattle.walter_disk.specs.declared.disk.Disk.{Ghosts}
 use Rattle.walter_rules.specs.declared.entry.Entry.{Entry}
 use Rattle.walter_rules.specs.declared.event.Event.{Event}
@@ -43,11 +43,6 @@ pub record IsDelivery (told : ℕ → Type 0) (t : Scenario) (to from : SiteId) 
   pub moves : MovesAt to from number old new answer
   pub drops : told to.0 → Drops t.catalog to old new
 
--- nothing comes
-pub record IsSame (old new : Moment) : Type 0 where
-  pub trails : new.trails ≡ old.trails
-  pub none_arrive : NoneArrive old new
-
 -- what a step is; arming a disk brings nothing to a trail
 abbrev pub Takes : (told : ℕ → Type 0) → Scenario → Step → (old new : Moment) → Type 0
 Takes told t (step.Call number) old new = IsTurn told t number old new
@@ -56,11 +51,11 @@ Takes told t (step.Advance at from) old new = IsEventAt told t at (event.Given (
 Takes told t (step.Tick site) old new = IsEventAt told t site (event.Given input.Tick) old new
 Takes told t (step.Stop site) old new = IsEventAt told t site event.Stop old new
 Takes told t (step.Restart site) old new = IsEventAt told t site event.Restart old new
-Takes told t (step.Arm arm) old new = IsSame old new
+Takes told t (step.Arm arm) old new = new ≡ old
 
 -- the steps are taken in order
 abbrev pub Plays : (told : ℕ → Type 0) → Scenario → List Step → (old new : Moment) → Type 0
-Plays told t [] old new = IsSame old new
+Plays told t [] old new = new ≡ old
 Plays told t (step ∷ steps) old new = (next : Moment) × Takes told t step old next × Plays told t steps next new
 
 -- so the trails of a run come of the openings

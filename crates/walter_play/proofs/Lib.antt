@@ -1,0 +1,3 @@
+mod Arming
+mod Steps
+mod Lines
