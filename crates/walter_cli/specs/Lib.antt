@@ -1,8 +1,9 @@
-pub mod Plays
 pub mod Statuses
 pub mod Words
 pub mod Racks
 pub mod Texts
+pub mod Promises
 pub mod Headline
+pub mod Disks
 pub mod Ending
 pub mod Assurance

@@ -1,5 +1,5 @@
 -- What is known of a rack before a run and after it, and why no site can begin with a disk.
-use Rattle.std.specs.Prelude.{◌≡◌, ◌≢◌, ◌⊎◌, ◌+◌, ◌<◌, ◌≤◌, ℕ, List, [], ◌∷◌, ◌++◌, length, All, Option, None, Some, IfSome, IsSome}
+use Rattle.std.specs.Prelude.{◌≡◌, ◌≢◌, ◌⊎◌, ◌+◌, ◌<◌, ◌≤◌, ℕ, List, [], ◌∷◌, ◌++◌, length, All, Contains, Option, None, Some, IfSome, IsSome}
 use Rattle.walter_disk.specs.Disks.{DiskState}
 use Rattle.walter_disk.specs.declared.disk.Disk.{Ghosts}
 use Rattle.walter_engine.specs.Begins.{MayHaveBegun}
@@ -24,48 +24,68 @@ pub record RackAt (D : Type 0) : Type 0 where
 abbrev pub OfADisk : Type 1
 OfADisk = DiskState → (List ℕ → Type 0) → Type 0
 
--- what is known of a rack by a call of the program
+-- what is known of a rack by a call of the program; of what it was given it is so where the rack tells that
 pub record Racked : Type 1 where
-  -- the rack tells its disks, and that of the site tells what it holds
-  pub told : Type 0
-  -- this disk holds bytes of which it is so, where that is told
-  pub holds : (List ℕ → Type 0) → Type 0
-  -- one disk was given back, of which it is so, where the rack tells what it was given
-  pub gives : OfADisk → Type 0
-  -- each disk that was given back is so, where the rack tells what it was given
-  pub each : OfADisk → Type 0
-  -- as many disks were given back as were taken, where the rack tells what it was given
+  -- the bytes that the disk of each site has before the run, where the rack tells its disks and the disk what it holds
+  pub bytes : ℕ → Option (List ℕ)
+  -- each disk that was given back, of some site, is so
+  pub each : (ℕ → OfADisk) → Type 0
+  -- a disk was given back as this site's, and is so
+  pub one : ℕ → OfADisk → Type 0
+  -- so many disks were given back, those of the first sites, in order; each is so
+  pub all : ℕ → (ℕ → OfADisk) → Type 0
+  -- each disk that was taken was given back, but for one at most for each time that the rack failed
   pub balanced : Type 0
   -- the rack failed
   pub failed : Type 0
-  -- two calls of it don't fail: a disk can be taken and given back
-  pub unfailing : Type 0
+  -- so many calls of it don't fail
+  pub unfailing : ℕ → Type 0
 
--- the rack tells its disks, and that of the site tells what it holds
-abbrev pub IsToldBy : {D : Type 0} (g : Ghosts D) → Option (Option (List ℕ) → ℕ → D) → Type 0
-IsToldBy g None = ⊥
-IsToldBy g (Some take) = IsSome (g.known (take None 0)).reads
+-- the bytes of the disk that is taken for a site, where they are told
+abbrev pub bytes_of : {D : Type 0} (g : Ghosts D) → Option (Option (List ℕ) → ℕ → D) → ℕ → Option (List ℕ)
+bytes_of g None i = None
+bytes_of g (Some take) i = (g.known (take None i)).reads
 
 -- the disks that a rack was given between two moments, where it tells them
 abbrev pub IsGiven : {D : Type 0} → (before after : RackAt D) → (List (ℕ × D) → Type 0) → Type 0
 IsGiven {D = D} before after P =
     IfSome before.given (λ old. (more : List (ℕ × D)) × (after.given ≡ Some (old ++ more)) × P more)
 
+-- the disks, each with its number from this one on
+abbrev pub numbered : {D : Type 0} → ℕ → List D → List (ℕ × D)
+numbered i [] = []
+numbered i (disk ∷ disks) = (i, disk) ∷ numbered (i + 1) disks
+
+-- each is so, by its site
+abbrev pub AreSo : {D : Type 0} (g : Ghosts D) → (ℕ → OfADisk) → List (ℕ × D) → Type 0
+AreSo g P disks = All (λ it. P it.0 (g.known it.1) (g.may_leave it.1)) disks
+
 -- by what is known of the rack before the call and after it
 abbrev pub racked : {D : Type 0} (g : Ghosts D) → (before after : RackAt D) → Racked
 racked {D = D} g before after = record {
-  told = IsToldBy g before.disks;
-  holds = λ P. IfSome before.disks (λ take. IfSome (g.known (take None 0)).reads P);
-  gives = λ P. IsGiven before after (λ more. (disk : D) × (more ≡ (0, disk) ∷ []) × P (g.known disk) (g.may_leave disk));
-  each = λ P. IsGiven before after (λ more. All (λ it. P (g.known it.1) (g.may_leave it.1)) more);
-  balanced = IfSome before.given (λ old. IfSome after.given (λ new. length new + before.taken ≡ length old + after.taken));
+  bytes = λ i. bytes_of g before.disks i;
+  each = λ P. IsGiven before after (AreSo g P);
+  one = λ i P. IsGiven before after (λ more.
+      (disk : D) × Contains more (i, disk) × P (g.known disk) (g.may_leave disk));
+  all = λ n P. IsGiven before after (λ more.
+      (disks : List D) × (length disks ≡ n) × (more ≡ numbered 0 disks) × AreSo g P more);
+  balanced = IfSome before.given (λ old. IfSome after.given (λ new.
+      length old + after.taken + before.faults ≤ length new + before.taken + after.faults));
   failed = before.faults < after.faults;
-  unfailing = 2 ≤ before.unfailing;
+  unfailing = λ calls. calls ≤ before.unfailing;
 }
 
--- each disk that was taken was given back, unless the rack failed
-abbrev pub GivesBack : Racked → Type 0
-GivesBack rack = rack.failed ⊎ rack.balanced
+-- the rack tells the disk of a site, and this what it holds
+abbrev pub IsTold : Racked → ℕ → Type 0
+IsTold rack i = IsSome (rack.bytes i)
+
+-- so it is of the first sites, so many
+abbrev pub AreAllTold : Racked → ℕ → Type 0
+AreAllTold rack n = (i : ℕ) → i < n → IsTold rack i
+
+-- the disk of a site has bytes of which it is so, where they are told
+abbrev pub Holds : Racked → ℕ → (List ℕ → Type 0) → Type 0
+Holds rack i P = IfSome (rack.bytes i) P
 
 -- the disk has no arm, where it tells its arms
 abbrev pub IsUnarmed : OfADisk
@@ -78,8 +98,9 @@ HasFailed known images = 0 < known.faults
 -- where no run began, each disk that was given back has no arm, and a crash leaves on it what it held; where it held no
 -- record, at most the first bytes of a journal, or the first epoch
 pub record IsUntouched (rack : Racked) : Type 0 where
-  pub unarmed : rack.each IsUnarmed
-  pub kept : rack.holds (λ bytes. rack.each (λ known images. (image : List ℕ) → images image → MayHaveBegun bytes image))
+  pub unarmed : rack.each (λ i. IsUnarmed)
+  pub kept : rack.each (λ i known images. Holds rack i (λ bytes.
+      (image : List ℕ) → images image → MayHaveBegun bytes image))
 
 -- why no new site can begin with these bytes, and at which place that stands: they are no journal, or a damaged one, or
 -- one with records, behind the first gate

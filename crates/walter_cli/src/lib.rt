@@ -1,9 +1,9 @@
 //! The program: reads a scenario, plays it, and writes the report.
 #![tactic(auto)]
 
+mod disks;
 mod ended;
 mod memory;
-mod play;
 mod program;
 mod running;
 mod taking;

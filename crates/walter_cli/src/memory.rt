@@ -7,7 +7,7 @@ use crate::words::command_of;
 use walter_disk_memory::MemoryRack;
 use walter_stream::{Sink, Source};
 
-/// The program over a disk in memory that has no bytes: `top` over a rack that is made here, and let go.
+/// The program over disks in memory that have no bytes: `top` over a rack that is made here, and let go.
 pub fn top_in_memory<X: AllocGlobal, S: Source, K: Sink>(
     rt: &X,
     words: &[String],
@@ -34,8 +34,8 @@ pub fn top_in_memory<X: AllocGlobal, S: Source, K: Sink>(
     let Some(_) = command_of(words) else {
         return Ended::early(alloc, Fault::Usage);
     };
-    // One disk is taken and given back.
-    let Ok(mut rack) = MemoryRack::with_room(alloc, 2) else {
+    // For each site a disk is taken and given back.
+    let Ok(mut rack) = MemoryRack::with_room(alloc, 16) else {
         return Ended::early(alloc, Fault::Memory);
     };
     let ended = top(rt, words, source, sink, &mut rack);

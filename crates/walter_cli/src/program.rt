@@ -9,7 +9,7 @@ use walter_disk::Rack;
 use walter_stream::{Sink, Source};
 
 /// The program: if the words, those behind the program's name, are `play` or `play --trace`, it plays the scenario that the
-/// source has over the rack's disk, and writes the report to the sink.
+/// source has over the rack's disks, and writes the report to the sink.
 pub fn top<X: AllocGlobal, S: Source, K: Sink, R: Rack>(
     rt: &X,
     words: &[String],

@@ -1,28 +1,30 @@
 ghost use Rattle.std.specs.Prelude.{◌≡◌, ◌≤◌, ◌<◌, length, All, IfOk, OnOk, IfErr};
+ghost use Rattle.walter_base.specs.Vectors.{most_sites};
 ghost use Rattle.walter_linked.specs.Catalogs.{IsWhole};
 ghost use Rattle.walter_report.specs.Reports.{HaveFrames};
 ghost use Rattle.walter_report.specs.Traces.{HaveSpellings};
+ghost use Rattle.walter_scenario.specs.declared.scenario.Client.{Client};
 ghost use Rattle.walter_scenario.specs.Parts.{IsArm, IsStep, IsCapacity};
 ghost use Rattle.walter_stream.specs.Streams.{Appends};
 ghost use Rattle.walter_cli.specs.Ending.{EndsRun, EndsEarly, IsBuilt, IsWriteFault, fault_of};
-ghost use Rattle.walter_cli.specs.Racks.{GivesBack, racked};
+ghost use Rattle.walter_cli.specs.Racks.{racked};
 ghost use Rattle.walter_cli.specs.Statuses.{status_of};
 ghost use Rattle.walter_cli.specs.Texts.{text_of};
-ghost use Rattle.walter_base.specs.Vectors.{most_sites};
 
+use crate::disks::{give_all, take_all};
 use crate::ended::{Ended, Fault, JournalCause};
-use crate::play::play;
 use std::alloc::Global;
 use walter_base::Mem;
+use walter_cluster::{Bench, Closed, Unbuilt, build};
 use walter_disk::Rack;
 use walter_engine::Unbegun;
+use walter_play::{open_lines, play};
 use walter_report::{report, trace};
 use walter_scenario::Scenario;
-use walter_solo::{Cell, build};
-use walter_stream::{Sink, write_all};
+use walter_stream::{BytesSource, NullSink, Sink, write_all};
 use walter_trail::Trail;
 
-/// Runs a scenario over the rack's disk, gives the disk back, and writes the report, with the trace behind it where one is
+/// Runs a scenario over the rack's disks, gives these back, and writes the report, with the trace behind it where one is
 /// asked for.
 pub fn run<K: Sink, R: Rack>(
     alloc: Global,
@@ -31,14 +33,16 @@ pub fn run<K: Sink, R: Rack>(
     sink: &mut K,
     rack: &mut R,
 ) -> Ended
-    requires sites { scenario.now.catalog.sites ≡ 1 }
+    requires some { 0 < scenario.now.catalog.sites }
+    requires few { scenario.now.catalog.sites ≤ most_sites }
     requires fewer { scenario.now.catalog.tolerated < scenario.now.catalog.sites }
     requires whole { IsWhole scenario.now.catalog }
+    requires within { All (λ (client : Client). client.site.0 < scenario.now.catalog.sites) scenario.now.clients }
     requires capacity { IsCapacity scenario.now.capacity }
-    requires arms { All (IsArm 1) scenario.now.arms }
-    requires steps { All (IsStep 1 (length scenario.now.clients)) scenario.now.steps }
+    requires arms { All (IsArm scenario.now.catalog.sites) scenario.now.arms }
+    requires steps { All (IsStep scenario.now.catalog.sites (length scenario.now.clients)) scenario.now.steps }
     ensures status { result.status ≡ status_of result.fault }
-    ensures given_back { GivesBack (racked R.D.Disk
+    ensures given_back { (racked R.D.Disk
         (record {
           disks = R.disks rack.old;
           given = R.given rack.old;
@@ -52,8 +56,8 @@ pub fn run<K: Sink, R: Rack>(
           taken = R.taken rack.new;
           faults = R.faults rack.new;
           unfailing = R.unfailing rack.new;
-        })) }
-    ensures unfailing { 2 ≤ R.unfailing rack.old → ¬ (R.faults rack.old < R.faults rack.new) }
+        })).balanced }
+    ensures unfailing { 16 ≤ R.unfailing rack.old → ¬ (R.faults rack.old < R.faults rack.new) }
     ensures run { EndsRun (racked R.D.Disk
         (record {
           disks = R.disks rack.old;
@@ -69,24 +73,21 @@ pub fn run<K: Sink, R: Rack>(
           faults = R.faults rack.new;
           unfailing = R.unfailing rack.new;
         }))
-        traced scenario.now (K.holds sink.old) (K.holds sink.new) (K.faults sink.old) (K.faults sink.new) result.trails.items result.fault }
+        traced scenario.now (K.holds sink.old) (K.holds sink.new) (K.faults sink.old) (K.faults sink.new)
+        result.trails.items result.fault }
 {
-    let Ok(mut trails) = Vec::with_capacity(alloc, 1) else {
-        return Ended::early(alloc, Fault::Memory);
-    };
-    let mut cell = match build_over(alloc, scenario, rack) {
-        Ok(cell) => cell,
+    let mut bench = match build_over(alloc, scenario, rack) {
+        Ok(bench) => bench,
         Err(fault) => return Ended::early(alloc, fault),
     };
-    let played = play(alloc, &mut cell, scenario);
-    let (disk, trail) = cell.into_parts();
-    trails.push_reserved(trail);
-    let given = rack.give(0, disk);
+    let played = play(alloc, &mut bench, scenario);
+    let Closed { trails, disks, .. } = bench.close();
+    let given = give_all(rack, disks);
     if played.is_err() {
         return Ended::late(trails, Some(Fault::Memory));
     }
-    if given.is_err() {
-        return Ended::late(trails, Some(Fault::Rack { site: 0 }));
+    if let Err(site) = given {
+        return Ended::late(trails, Some(Fault::Rack { site }));
     }
     match write_report(alloc, scenario, traced, &trails, sink) {
         Ok(()) => Ended::late(trails, None),
@@ -94,14 +95,16 @@ pub fn run<K: Sink, R: Rack>(
     }
 }
 
-// The cell of the site over the rack's disk. Where none is built the disk is given back.
+// The sites over the rack's disks. Where none are built the disks are given back.
 fn build_over<R: Rack>(
     alloc: Global,
     scenario: &Scenario,
     rack: &mut R,
-) -> Result<Cell<R::D>, Fault>
-    requires sites { scenario.now.catalog.sites ≡ 1 }
+) -> Result<Bench<R::D, BytesSource, NullSink>, Fault>
+    requires some { 0 < scenario.now.catalog.sites }
+    requires few { scenario.now.catalog.sites ≤ most_sites }
     requires fewer { scenario.now.catalog.tolerated < scenario.now.catalog.sites }
+    requires within { All (λ (client : Client). client.site.0 < scenario.now.catalog.sites) scenario.now.clients }
     requires capacity { IsCapacity scenario.now.capacity }
     ensures built { IfOk result (IsBuilt
         (record {
@@ -135,24 +138,24 @@ fn build_over<R: Rack>(
           unfailing = R.unfailing rack.new;
         }))) }
 {
-    let Ok(disk) = rack.take(0, None) else {
-        return Err(Fault::Rack { site: 0 });
+    let Ok(lines) = open_lines(alloc, scenario.clients.as_slice()) else {
+        return Err(Fault::Memory);
     };
-    match build(alloc, scenario, disk) {
-        Ok(cell) => Ok(cell),
-        Err((disk, why)) => {
+    let disks = take_all(alloc, rack, scenario.catalog.sites)?;
+    match build(alloc, scenario, disks, lines) {
+        Ok(bench) => Ok(bench),
+        Err(Unbuilt { disks, site, why }) => {
             // The first cause decides the status.
-            let _ = rack.give(0, disk);
-            Err(unbegun(why))
+            let _ = give_all(rack, disks);
+            Err(unbegun(site.0, why))
         }
     }
 }
 
 // The fault of a run whose site did not begin. The records of a journal stand behind its first gate.
-fn unbegun(why: Unbegun) -> Fault
-    ensures { result ≡ fault_of why }
+fn unbegun(site: u8, why: Unbegun) -> Fault
+    ensures { result ≡ fault_of site why }
 {
-    let site = 0;
     match why {
         Unbegun::Failed => Fault::Rack { site },
         Unbegun::Foreign => Fault::Journal {

@@ -6,8 +6,7 @@ use std::alloc::Global;
 use walter_scenario::{Detail, LONGEST_TEXT, Place, ReadFault, Scenario, read};
 use walter_stream::{ReadError, Source, read_to_end};
 
-/// The scenario that the bytes of the source spell, read to their end. One of several sites is refused, since several don't
-/// run yet.
+/// The scenario that the bytes of the source spell, read to their end.
 pub fn take_scenario<S: Source>(alloc: Global, source: &mut S) -> Result<Scenario, Fault>
     ensures ok { IfOk result (IsTaken (S.left source.old) (S.left source.new)) }
     ensures fault { IfErr result (IsTakeFault (S.left source.old) (S.left source.new) (S.faults source.old) (S.faults source.new)) }
@@ -23,18 +22,9 @@ pub fn take_scenario<S: Source>(alloc: Global, source: &mut S) -> Result<Scenari
         Err(ReadError::Failed) => return Err(Fault::Read),
         Err(ReadError::NoMemory) => return Err(Fault::Memory),
     };
-    let scenario = match read(alloc, &bytes) {
-        Ok(scenario) => scenario,
-        Err(ReadFault::Refused { place, detail }) => {
-            return Err(Fault::Scenario { place, detail });
-        }
-        Err(ReadFault::NoMemory) => return Err(Fault::Memory),
-    };
-    if scenario.catalog.sites != 1 {
-        return Err(Fault::Scenario {
-            place: Place::Sites,
-            detail: Detail::None,
-        });
+    match read(alloc, &bytes) {
+        Ok(scenario) => Ok(scenario),
+        Err(ReadFault::Refused { place, detail }) => Err(Fault::Scenario { place, detail }),
+        Err(ReadFault::NoMemory) => Err(Fault::Memory),
     }
-    Ok(scenario)
 }

@@ -1,0 +1,27 @@
+-- The disks of all sites, taken from a rack and given back to it.
+use Rattle.std.specs.Prelude.{◌≡◌, ◌+◌, ◌<◌, ◌≤◌, ◌++◌, ℕ, List, length, slice_get, Option, None, Some, option_map, IfSome, All}
+use Rattle.walter_disk.specs.Racks.{IsFresh}
+use Rattle.walter_disk.specs.declared.disk.Disk.{Ghosts}
+use Rattle.walter_cli.specs.Racks.{RackAt, numbered}
+
+-- the disks of the first sites were taken, and no others
+pub record AreTaken {D : Type 0} (g : Ghosts D) (before after : RackAt D) (disks : List D) : Type 0 where
+  pub told : (i : ℕ) (disk : D) → slice_get disks i ≡ Some disk → IfSome before.disks (λ take. disk ≡ take None i)
+  pub fresh : (i : ℕ) (disk : D) → slice_get disks i ≡ Some disk → IsFresh (g.known disk) (g.may_leave disk)
+  pub same_disks : after.disks ≡ before.disks
+  pub given : after.given ≡ before.given
+  pub taken : after.taken ≡ before.taken + length disks
+  pub faults : after.faults ≡ before.faults
+  pub unfailing : length disks ≤ before.unfailing → before.unfailing ≤ after.unfailing + length disks
+
+-- these disks were given back, the first as this site's, and so on, but for one at most for each fault of the rack
+pub record AreGiven {D : Type 0} (before after : RackAt D) (first : ℕ) (disks : List D) : Type 0 where
+  pub more : List (ℕ × D)
+  pub given : after.given ≡ option_map (λ told. told ++ more) before.given
+  pub those : All (λ it. (i : ℕ) × (it.0 ≡ first + i) × (slice_get disks i ≡ Some it.1)) more
+  pub taken : after.taken ≡ before.taken
+  pub same_disks : after.disks ≡ before.disks
+  pub level : before.faults ≤ after.faults
+  pub lost : length disks + before.faults ≤ length more + after.faults
+  pub whole : after.faults ≡ before.faults → more ≡ numbered first disks
+  pub unfailing : length disks ≤ before.unfailing → after.faults ≡ before.faults

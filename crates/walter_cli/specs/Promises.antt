@@ -1,0 +1,38 @@
+-- What each entry of right trails promises: nothing is given up at a site that is up, but for want of memory, a fault of
+-- the disk, or want of place in the journal. Of one entry walter_alone says it.
+use Rattle.std.specs.Prelude.{◌<◌, ℕ, List, [], ◌∷◌, reverse}
+use Rattle.walter_alone.specs.Promises.{IsFree, IsAnswered, IsNext, IsReceived, IsDue, IsSeen, IsAsked, IsLocked}
+use Rattle.walter_base.specs.declared.catalog.Catalog.{Catalog}
+use Rattle.walter_base.specs.declared.names.ObjId.{ObjId}
+use Rattle.walter_base.specs.declared.names.SiteId.{SiteId}
+use Rattle.walter_base.specs.declared.names.Tid.{Tid}
+use Rattle.walter_base.specs.declared.transaction.Tx.{Tx}
+use Rattle.walter_rules.specs.declared.entry.Entry.{Entry}
+use Rattle.walter_rules.specs.Merges.{trail_of}
+use Rattle.walter_rules.specs.Sessions.{Session}
+use Rattle.walter_rules.specs.Trails.{standing}
+
+-- a commit that meets no conflict, all of whose objects are preferred here, is answered Committed or Unsure; a commit
+-- that a peer sends, and that is the next of that peer, is received; one that can be committed here is; and a slow
+-- commit of a peer that meets no conflict gets its locks, and is told YES
+pub record KeepsPromises (catalog : Catalog) (capacity : ℕ) (i : SiteId) (older : List Entry) (e : Entry) : Type 0 where
+  pub committed : (s : Session) → IsFree catalog i (standing catalog i older) e.event s
+      → IsAnswered capacity i (standing catalog i older) s e.came.outcome
+  pub received : (j : SiteId) (seq : ℕ) (tx : Tx) → IsNext catalog i (standing catalog i older) e.event j seq tx
+      → IsReceived capacity (standing catalog i older) j seq tx e.came
+  pub seen : (j : SiteId) → IsDue catalog i (standing catalog i older) e.event j
+      → IsSeen capacity (standing catalog i older) j e.came
+  pub locked : (j : SiteId) (n : ℕ) (tid : Tid) (objects : List ObjId)
+      → IsAsked catalog i (standing catalog i older) e.event j n tid objects
+      → IsLocked capacity (standing catalog i older) j n tid objects e.came
+
+-- so does each entry; the newest comes first
+abbrev pub AreKept : Catalog → ℕ → SiteId → List Entry → Type 0
+AreKept catalog capacity i [] = Unit {0}
+AreKept catalog capacity i (e ∷ older) =
+    AreKept catalog capacity i older × KeepsPromises catalog capacity i older e
+
+-- and each of each site
+abbrev pub KeepAllPromises : Catalog → ℕ → List (List Entry) → Type 0
+KeepAllPromises catalog capacity trails = (i : SiteId) → i.0 < catalog.sites
+    → AreKept catalog capacity i (reverse (trail_of trails i))

@@ -1,0 +1,94 @@
+ghost use Rattle.std.specs.Prelude.{◌≡◌, ◌<◌, ◌≤◌, ◌+◌, length, IfOk, IfErr, OnOk};
+ghost use Rattle.walter_base.specs.Vectors.{most_sites};
+ghost use Rattle.walter_cli.specs.Disks.{AreTaken, AreGiven};
+ghost use Rattle.walter_cli.specs.Ending.{EndsEarly};
+ghost use Rattle.walter_cli.specs.Racks.{racked};
+
+use crate::ended::Fault;
+use std::alloc::Global;
+use walter_disk::Rack;
+
+/// Takes the disks of so many sites, in order. Where one can't be taken, those that were are given back.
+pub fn take_all<R: Rack>(alloc: Global, rack: &mut R, sites: u8) -> Result<Vec<R::D>, Fault>
+    requires few { sites ≤ most_sites }
+    ensures taken { IfOk result (λ disks. (length disks.items ≡ sites) × AreTaken R.D.Disk
+        (record {
+          disks = R.disks rack.old;
+          given = R.given rack.old;
+          taken = R.taken rack.old;
+          faults = R.faults rack.old;
+          unfailing = R.unfailing rack.old;
+        })
+        (record {
+          disks = R.disks rack.new;
+          given = R.given rack.new;
+          taken = R.taken rack.new;
+          faults = R.faults rack.new;
+          unfailing = R.unfailing rack.new;
+        })
+        disks.items) }
+    ensures fault { IfErr result (EndsEarly (racked R.D.Disk
+        (record {
+          disks = R.disks rack.old;
+          given = R.given rack.old;
+          taken = R.taken rack.old;
+          faults = R.faults rack.old;
+          unfailing = R.unfailing rack.old;
+        })
+        (record {
+          disks = R.disks rack.new;
+          given = R.given rack.new;
+          taken = R.taken rack.new;
+          faults = R.faults rack.new;
+          unfailing = R.unfailing rack.new;
+        }))) }
+{
+    let Ok(mut disks) = Vec::with_capacity(alloc, usize::from(sites)) else {
+        return Err(Fault::Memory);
+    };
+    for site in 0..sites {
+        match rack.take(site, None) {
+            Ok(disk) => disks.push_reserved(disk),
+            Err(_) => {
+                // The first cause decides the status.
+                let _ = give_all(rack, disks);
+                return Err(Fault::Rack { site });
+            }
+        }
+    }
+    Ok(disks)
+}
+
+/// Gives the disks of the first sites back, in order, or answers the first site whose disk the rack lost.
+pub fn give_all<R: Rack>(rack: &mut R, disks: Vec<R::D>) -> Result<(), u8>
+    requires few { length disks.items ≤ most_sites }
+    ensures given { AreGiven
+        (record {
+          disks = R.disks rack.old;
+          given = R.given rack.old;
+          taken = R.taken rack.old;
+          faults = R.faults rack.old;
+          unfailing = R.unfailing rack.old;
+        })
+        (record {
+          disks = R.disks rack.new;
+          given = R.given rack.new;
+          taken = R.taken rack.new;
+          faults = R.faults rack.new;
+          unfailing = R.unfailing rack.new;
+        })
+        0 disks.items }
+    ensures ok { OnOk result (R.faults rack.new ≡ R.faults rack.old) }
+    ensures lost { IfErr result (λ site. R.faults rack.old < R.faults rack.new) }
+{
+    let mut lost = Ok(());
+    let mut site = 0;
+    for disk in disks {
+        let given = rack.give(site, disk);
+        if given.is_err() && lost.is_ok() {
+            lost = Err(site);
+        }
+        site += 1;
+    }
+    lost
+}
