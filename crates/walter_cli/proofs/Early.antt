@@ -1,114 +1,141 @@
--- What is left of a rack where no cell was built over its disk.
-use Rattle.std.proofs.Common.{◌≡◌, ℕ, ◌+◌, ◌<◌, ◌≤◌, List, [], ◌∷◌, ◌++◌, Option, None, option_map, ap, sym, ◌∙◌, refl, subst, arith, inl, inr, ◌⊎◌}
-use Rattle.std.specs.Prelude.{Result, Ok, Err, OnOk, OnErr, IsOk, IfSome}
-use Rattle.walter_disk.specs.Disks.{DiskState}
-use Rattle.walter_disk.specs.Racks.{IsFresh}
+-- What is left of a rack where no run began over its disks.
+use Rattle.std.proofs.Common.{◌≡◌, ℕ, ◌+◌, ◌<◌, ◌≤◌, List, [], ◌∷◌, ◌++◌, length, slice_get, Option, Some, None, option_map, ap, sym, ◌∙◌, refl, subst, arith, inl, inr, ◌⊎◌}
+use Rattle.std.specs.Prelude.{IfSome, Result, Err}
+use Rattle.std.proofs.lemmas.List.Elements.{All-nil}
+use Rattle.std.proofs.lemmas.List.{append-nil}
+use Rattle.std.proofs.lemmas.Option.{slice_get_within}
+use Rattle.walter_cluster.specs.Builds.{LeavesDisk}
 use Rattle.walter_disk.specs.declared.disk.Disk.{Ghosts}
-use Rattle.walter_engine.specs.Begins.{HasOnly, IsBegun, IsFaultOfBegin, MayHaveBegun}
+use Rattle.walter_engine.specs.Begins.{HasOnly, IsBegun, IsFaultOfBegin, MayHaveBegun, HasNoRecord}
 use Rattle.walter_engine.specs.declared.answers.Unbegun.{Unbegun}
 use Rattle.walter_engine.specs.declared.answers.Unbegun.TheVariants as unbegun
+use Rattle.walter_play.proofs.Steps.{there_is}
 use Rattle.walter_cli.specs.Ending.{EndsEarly, IsUnbuilt, fault_of}
+use Rattle.walter_cli.specs.Headline.{IsFirstUnfit}
+use Rattle.walter_cli.specs.Racks.{RackAt, Racked, OfADisk, IsGiven, AreSo, Holds, IsUntouched, IsUnarmed, HasFailed, HasCause, racked}
+use Rattle.walter_cli.specs.declared.ended.Fault.{Fault}
 use Rattle.walter_cli.specs.declared.ended.JournalCause.TheVariants.{Foreign, Damaged, Used}
-use Rattle.walter_cli.specs.Racks.{RackAt, Racked, IsUntouched, IsUnarmed, HasFailed, HasCause, racked}
-use Rattle.walter_cli.proofs.Giving.{GivesOne, GivesNone, gives_one, each_one, each_none, one_taken, holds_taken, of_reads}
+use Rattle.walter_cli.proofs.Giving.{IsReturned, each_back, one_or_failed, balances, holds_taken, of_reads, none_balances}
 
--- where one of two calls of a rack may still fail, the second doesn't
-pub still_unfailing : {T E : Type 0} (n m : ℕ) (r : Result T E) → (0 < n → n ≤ m + 1) → (0 < m → IsOk r) → 2 ≤ n → IsOk r
-still_unfailing n m r less sure two = let l = less (omega (arith, two)) in sure (omega (arith, l, two))
+-- where none was given back, each is
+each_none : {D : Type 0} (g : Ghosts D) (before after : RackAt D) (P : ℕ → OfADisk) → after.given ≡ before.given
+    → (racked g before after).each P
+each_none {D = D} g before after P same = by before.given same
+  where
+    by : (given : Option (List (ℕ × D))) → after.given ≡ given
+        → IfSome given (λ old. (more : List (ℕ × D)) × (after.given ≡ Some (old ++ more)) × AreSo g P more)
+    by None is = tt
+    by (Some old) is = (
+      [],
+      is ∙ ap (λ (xs : List (ℕ × D)). Some xs) (sym (append-nil old)),
+      All-nil (λ (it : ℕ × D). P it.0 (g.known it.1) (g.may_leave it.1)),
+    )
 
-never_err : {T E : Type 0} (r : Result T E) (P : Type 0) → IsOk r → OnOk r P → P
-never_err (Ok x) P is p = p
-never_err (Err e) P is p = absurd cc
+-- where no disk was taken, the rack is as no run has begun
+pub untouched_before : {D : Type 0} (g : Ghosts D) (before after : RackAt D) → after.given ≡ before.given
+    → IsUntouched (racked g before after)
+untouched_before g before after same = record {
+  unarmed = each_none g before after (λ i. IsUnarmed) same;
+  kept = each_none g before after
+      (λ i known images. Holds (racked g before after) i (λ bytes. (image : List ℕ) → images image → MayHaveBegun bytes image)) same;
+}
 
-module _ {D : Type 0} (g : Ghosts D) (before mid after : RackAt D) (first back : D) where
-  -- a disk that was taken
-  pub record IsTakenFrom : Type 0 where
-    pub disk : IfSome before.disks (λ told. first ≡ told None 0)
-    pub fresh : IsFresh (g.known first) (g.may_leave first)
-    pub given : mid.given ≡ before.given
-    pub taken : mid.taken ≡ before.taken + 1
-    pub faults : mid.faults ≡ before.faults
-    pub unfailing : 0 < before.unfailing → before.unfailing ≤ mid.unfailing + 1
+-- the end where no disk was taken
+pub ends_before : {D : Type 0} (g : Ghosts D) (before after : RackAt D) (fault : Fault) → after.given ≡ before.given
+    → after.taken ≡ before.taken → before.faults ≤ after.faults → (16 ≤ before.unfailing → after.faults ≡ before.faults)
+    → IsUnbuilt (racked g before after) fault → EndsEarly (racked g before after) fault
+ends_before g before after fault given taken level sure why = record {
+  why = why;
+  untouched = untouched_before g before after given;
+  given_back = none_balances g before after given taken level;
+  unfailing = λ many rose. let same = sure many in omega (arith, rose, same);
+}
 
-  -- and one that was given back, or lost
-  pub record IsGivenTo {T E : Type 0} (r : Result T E) : Type 0 where
-    pub given : OnOk r (after.given ≡ option_map (λ told. told ++ (0, back) ∷ []) mid.given)
-    pub lost : OnErr r (after.given ≡ mid.given)
-    pub taken : after.taken ≡ mid.taken
-    pub faults : OnOk r (after.faults ≡ mid.faults)
-    pub failed : OnErr r (mid.faults < after.faults)
-    pub unfailing : 0 < mid.unfailing → IsOk r
+module _ {D : Type 0} (g : Ghosts D) (before mid after : RackAt D) (taken back : List D)
+    (is : IsReturned g before mid after taken back) where
+  abbrev rack : Racked
+  rack = racked g before after
 
-  module _ (is : IsTakenFrom) {T E : Type 0} (r : Result T E) (to : IsGivenTo r) where
-    abbrev rack : Racked
-    rack = racked g before after
+  -- what was done to the disk of each site
+  abbrev pub AreLeft : Type 0
+  AreLeft = (i : ℕ) (disk : D) → slice_get taken i ≡ Some disk
+      → (now : D) × (slice_get back i ≡ Some now) × LeavesDisk {g = g} disk now
 
-    -- it was given back; or the rack failed, and was given nothing
-    pub given_or_lost : GivesOne back before after ⊎ (rack.failed × GivesNone before after)
-    given_or_lost = by r to.given to.lost to.failed
-      where
-        by : (it : Result T E) → OnOk it (after.given ≡ option_map (λ told. told ++ (0, back) ∷ []) mid.given) → OnErr it (after.given ≡ mid.given) → OnErr it (mid.faults < after.faults)
-            → GivesOne back before after ⊎ (rack.failed × GivesNone before after)
-        by (Ok x) given lost failed = inl (given ∙ ap (λ (o : Option (List (ℕ × D))). option_map (λ told. told ++ (0, back) ∷ []) o) is.given)
-        by (Err e) given lost failed = inr (subst (λ n. n < after.faults) is.faults failed, lost ∙ is.given)
+  -- the disk that was taken, by the one that is given back
+  left_of : AreLeft → (i : ℕ) (now : D) → slice_get back i ≡ Some now
+      → (disk : D) × (slice_get taken i ≡ Some disk) × LeavesDisk {g = g} disk now
+  left_of left i now at =
+      let within = slice_get_within back i now at in
+      let long = is.long in
+      let there = there_is taken i (omega (arith, within, long)) in
+      let found = left i there.0 there.1 in
+      let same : found.0 ≡ now = (let e : Some found.0 ≡ Some now = sym found.1 ∙ at in cc) in
+      (there.0, there.1, subst (λ (d : D). LeavesDisk {g = g} there.0 d) same found.2)
 
-    pub returned : rack.failed ⊎ rack.balanced
-    returned = elim given_or_lost [
-      | inl one ↦ inr (one_taken g before after back one (to.taken ∙ is.taken))
-      | inr lost ↦ inl lost.0
-    ]
+  pub untouched : AreLeft → IsUntouched rack
+  untouched left = record {
+    unarmed = each_back g before mid after taken back is (λ i. IsUnarmed) (λ i now at.
+        let was = left_of left i now at in
+        subst (λ (o : Option (List (ℕ × ℕ))). IfSome o (λ told. told ≡ [])) (sym was.2.arms) (is.fresh i was.0 was.1).unarmed);
+    kept = each_back g before mid after taken back is
+        (λ i known images. Holds rack i (λ bytes. (image : List ℕ) → images image → MayHaveBegun bytes image)) (λ i now at.
+        let was = left_of left i now at in
+        holds_taken g before.disks i was.0 (is.told i was.0 was.1)
+        (λ bytes. (image : List ℕ) → g.may_leave now image → MayHaveBegun bytes image)
+        (of_reads (g.known was.0).reads (g.may_leave was.0)
+        (λ bytes. (image : List ℕ) → g.may_leave now image → MayHaveBegun bytes image) (is.fresh i was.0 was.1).durable
+        (λ bytes told only. was.2.images bytes (record { told = told; only = only }))));
+  }
 
-    pub never_failed : rack.unfailing → rack.failed → ⊥
-    never_failed two failed =
-        let ok = still_unfailing before.unfailing mid.unfailing r is.unfailing to.unfailing two in
-        let level = never_err r (after.faults ≡ mid.faults) ok to.faults in
-        let mid_level = is.faults in
-        omega (arith, failed, level, mid_level)
+  -- what the disk of a site held
+  pub held : (i : ℕ) (disk : D) (P : List ℕ → Type 0) → slice_get taken i ≡ Some disk
+      → ((bytes : List ℕ) → HasOnly g bytes disk → P bytes) → Holds rack i P
+  held i disk P at so =
+      holds_taken g before.disks i disk (is.told i disk at) P
+      (of_reads (g.known disk).reads (g.may_leave disk) P (is.fresh i disk at).durable
+      (λ bytes told only. so bytes (record { told = told; only = only })))
 
-    -- what is so of the disk, is so of each that was given back
-    pub each_back : (P : DiskState → (List ℕ → Type 0) → Type 0) → P (g.known back) (g.may_leave back) → rack.each P
-    each_back P holds = elim given_or_lost [
-      | inl one ↦ each_one g before after back P one holds
-      | inr lost ↦ each_none g before after P lost.1
-    ]
+  -- the end where the disks were taken, and given back
+  pub ends_early : (fault : Fault) → AreLeft → (16 ≤ before.unfailing → after.faults ≡ before.faults)
+      → IsUnbuilt rack fault → EndsEarly rack fault
+  ends_early fault left sure why = record {
+    why = why;
+    untouched = untouched left;
+    given_back = balances g before mid after taken back is;
+    unfailing = λ many rose. let same = sure many in omega (arith, rose, same);
+  }
 
-    pub gives_back : (P : DiskState → (List ℕ → Type 0) → Type 0) → P (g.known back) (g.may_leave back) → rack.failed ⊎ rack.gives P
-    gives_back P holds = elim given_or_lost [
-      | inl one ↦ inr (gives_one g before after back P one holds)
-      | inr lost ↦ inl lost.0
-    ]
+  -- why it ended, where a site didn't begin with its disk
+  module _ (site : ℕ) (disk now : D) (at : slice_get taken site ≡ Some disk) (there : slice_get back site ≡ Some now)
+      (why : Unbegun) (begins : (bytes : List ℕ) → HasOnly g bytes disk → IsBegun bytes (Err why))
+      (rises : IsFaultOfBegin (Err why) (g.known disk).faults (g.known now).faults)
+      (others : (i : ℕ) (d : D) (bytes : List ℕ) → i < site → slice_get taken i ≡ Some d → HasOnly g bytes d
+      → HasNoRecord bytes) where
+    others_held : (i : ℕ) → i < site → Holds rack i HasNoRecord
+    others_held i before_ =
+        let within = slice_get_within taken site disk at in
+        let d = there_is taken i (omega (arith, within, before_)) in
+        held i d.0 HasNoRecord d.1 (λ bytes only. others i d.0 bytes before_ d.1 only)
 
-    module _ (why : Unbegun)
-        (begins : (bytes : List ℕ) → HasOnly g bytes first → IsBegun bytes (Err why))
-        (leaves : (bytes : List ℕ) → HasOnly g bytes first → (image : List ℕ) → g.may_leave back image → MayHaveBegun bytes image)
-        (faults : IsFaultOfBegin (Err why) (g.known first).faults (g.known back).faults)
-        (arms : (g.known back).arms ≡ (g.known first).arms) where
-      untouched : IsUntouched rack
-      untouched = record {
-        unarmed = each_back IsUnarmed (subst (λ (o : Option (List (ℕ × ℕ))). IfSome o (λ told. told ≡ [])) (sym arms) is.fresh.unarmed);
-        kept = holds_taken g before after first (λ bytes. rack.each (λ known images. (image : List ℕ) → images image → MayHaveBegun bytes image)) is.disk
-            (of_reads (g.known first).reads (g.may_leave first) (λ bytes. rack.each (λ known images. (image : List ℕ) → images image → MayHaveBegun bytes image)) is.fresh.durable
-            (λ bytes told only. each_back (λ known images. (image : List ℕ) → images image → MayHaveBegun bytes image)
-            (leaves bytes (record { told = told; only = only }))));
-      }
-
-      -- what the disk held
-      held : (P : List ℕ → Type 0) → ((bytes : List ℕ) → IsBegun bytes (Err why) → P bytes) → rack.holds P
-      held P so = holds_taken g before after first P is.disk
-          (of_reads (g.known first).reads (g.may_leave first) P is.fresh.durable (λ bytes told only. so bytes (begins bytes (record { told = told; only = only }))))
-
-      unbuilt : (w : Unbegun) → why ≡ w → IsUnbuilt rack (fault_of w)
-      unbuilt unbegun.Failed same = (
-        refl,
-        gives_back HasFailed
-            (let rose : (g.known first).faults < (g.known back).faults = subst (λ (x : Unbegun). IsFaultOfBegin (Err x) (g.known first).faults (g.known back).faults) same faults in
-            omega (arith, rose)),
-      )
-      unbuilt unbegun.Foreign same =
-          (refl, held (HasCause Foreign 0) (λ bytes begun. let is_so = subst (λ (x : Unbegun). IsBegun bytes (Err x)) same begun in (refl, is_so.0, is_so.1)))
-      unbuilt (unbegun.Damaged at length_) same = (refl, held (HasCause (Damaged length_) at) (λ bytes begun. subst (λ (x : Unbegun). IsBegun bytes (Err x)) same begun))
-      unbuilt unbegun.Used same = (refl, held (HasCause Used 8) (λ bytes begun. (refl, subst (λ (x : Unbegun). IsBegun bytes (Err x)) same begun)))
-      unbuilt unbegun.NoMemory same = tt
-
-      pub ends_early : EndsEarly rack (fault_of why)
-      ends_early = record { why = unbuilt why refl; untouched = untouched; given_back = returned; unfailing = never_failed }
+    pub unbuilt : (w : Unbegun) → why ≡ w → IsUnbuilt rack (fault_of site w)
+    unbuilt unbegun.Failed same =
+        one_or_failed g before mid after taken back is site now HasFailed there
+        (let rose : (g.known disk).faults < (g.known now).faults =
+        subst (λ (x : Unbegun). IsFaultOfBegin (Err x) (g.known disk).faults (g.known now).faults) same rises in
+        omega (arith, rose))
+    unbuilt unbegun.Foreign same = record {
+      unfit = held site disk (HasCause Foreign 0) at (λ bytes only.
+          let so = subst (λ (x : Unbegun). IsBegun bytes (Err x)) same (begins bytes only) in (refl, so.0, so.1));
+      others = others_held;
+    }
+    unbuilt (unbegun.Damaged place claimed) same = record {
+      unfit = held site disk (HasCause (Damaged claimed) place) at (λ bytes only.
+          subst (λ (x : Unbegun). IsBegun bytes (Err x)) same (begins bytes only));
+      others = others_held;
+    }
+    unbuilt unbegun.Used same = record {
+      unfit = held site disk (HasCause Used 8) at (λ bytes only.
+          (refl, subst (λ (x : Unbegun). IsBegun bytes (Err x)) same (begins bytes only)));
+      others = others_held;
+    }
+    unbuilt unbegun.NoMemory same = tt

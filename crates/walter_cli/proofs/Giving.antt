@@ -1,13 +1,16 @@
--- What of a rack's disk holds behind a call: it was taken, and given back or lost.
-use Rattle.std.proofs.Common.{◌≡◌, ℕ, ◌+◌, List, [], ◌∷◌, ◌++◌, length, Option, Some, None, option_map, ap, sym, ◌∙◌, refl, subst, arith, inl, inr, ◌⊎◌}
-use Rattle.std.specs.Prelude.{Result, Ok, Err, OnOk, OnErr, IfSome, IsSome, All, true, false}
+-- What of a rack's disks holds behind a call: they were taken, and given back or lost.
+use Rattle.std.proofs.Common.{◌≡◌, ℕ, ◌+◌, ◌<◌, ◌≤◌, zero, suc, List, [], ◌∷◌, ◌++◌, length, slice_get, Option, Some, None, option_map, ap, sym, ◌∙◌, refl, subst, arith, inl, inr, ◌⊎◌}
+use Rattle.std.specs.Prelude.{Result, Ok, Err, OnOk, OnErr, IfSome, IsSome, All, Contains, true, false}
 use Rattle.std.specs.Result.{is_err}
-use Rattle.std.proofs.lemmas.List.{length-append, append-nil}
-use Rattle.std.proofs.lemmas.List.Elements.{All-nil, All-push}
+use Rattle.std.proofs.lemmas.Bool.{cases_lt}
+use Rattle.std.proofs.lemmas.List.{length-append}
+use Rattle.std.proofs.lemmas.List.Elements.{All-weaker}
 use Rattle.walter_disk.specs.Images.{Only, IsDurable}
+use Rattle.walter_disk.specs.Racks.{IsFresh}
 use Rattle.walter_disk.specs.declared.disk.Disk.{Ghosts}
-use Rattle.walter_engine.specs.Begins.{MayHaveBegun}
-use Rattle.walter_cli.specs.Racks.{OfADisk, RackAt, Racked, IsToldBy, IsGiven, IsUntouched, IsUnarmed, racked}
+use Rattle.walter_psi.proofs.Lists.{contains_at}
+use Rattle.walter_cli.specs.Disks.{AreTaken, AreGiven}
+use Rattle.walter_cli.specs.Racks.{OfADisk, RackAt, Racked, IsGiven, AreSo, bytes_of, numbered, racked}
 
 -- what holds of a result that is Err, holds of one that is no Ok; and the other way round
 pub err_part : {T E : Type 0} (r : Result T E) (P : Type 0) → OnErr r P → is_err r ≡ true → P
@@ -18,135 +21,160 @@ pub ok_part : {T E : Type 0} (r : Result T E) (P : Type 0) → OnOk r P → is_e
 ok_part (Ok x) P p is = p
 ok_part (Err e) P p is = absurd cc
 
-pub one_part : {T E : Type 0} (r : Result T E) (P Q : Type 0) → OnOk r P → OnErr r Q → P ⊎ Q
-one_part (Ok x) P Q p q = inl p
-one_part (Err e) P Q p q = inr q
+-- ---- bytes that are told
 
--- a rack that was given nothing, or this disk, and by a call that failed nothing
-abbrev pub GivesOne : {D : Type 0} → D → (before after : RackAt D) → Type 0
-GivesOne disk before after = after.given ≡ option_map (λ told. told ++ (0, disk) ∷ []) before.given
+-- what two things come to that hold of bytes that are told
+pub of_both : (bytes : Option (List ℕ)) (P Q : List ℕ → Type 0) (R : Type 0) → ((b : List ℕ) → P b → Q b → R) → IsSome bytes
+    → IfSome bytes P → IfSome bytes Q → R
+of_both None P Q R so told p q = absurd cc
+of_both (Some b) P Q R so told p q = so b p q
 
-abbrev pub GivesNone : {D : Type 0} → (before after : RackAt D) → Type 0
-GivesNone before after = after.given ≡ before.given
+-- of bytes that are told, where a crash leaves nothing else
+pub of_reads : (reads : Option (List ℕ)) (images : List ℕ → Type 0) (P : List ℕ → Type 0) → IsDurable reads images
+    → ((bytes : List ℕ) → reads ≡ Some bytes → Only bytes images → P bytes) → IfSome reads P
+of_reads None images P durable so = tt
+of_reads (Some bytes) images P durable so = so bytes refl durable
 
-module _ {D : Type 0} (g : Ghosts D) (before after : RackAt D) where
+-- ---- disks with their numbers
+
+numbered_at : {D : Type 0} (first : ℕ) (disks : List D) (i : ℕ) (disk : D) → slice_get disks i ≡ Some disk
+    → slice_get (numbered first disks) i ≡ Some (first + i, disk)
+numbered_at first [] i disk at = absurd cc
+numbered_at first (d ∷ disks) zero disk at =
+    let e : d ≡ disk = cc in
+    ap (λ (x : _). Some (first, x)) e ∙ ap (λ (n : ℕ). Some (n, disk)) (let z : first ≡ first + 0 = omega arith in z)
+numbered_at first (d ∷ disks) (suc i) disk at =
+    numbered_at (first + 1) disks i disk at
+    ∙ ap (λ (n : ℕ). Some (n, disk)) (let z : first + 1 + i ≡ first + suc i = omega arith in z)
+
+pub numbered_has : {D : Type 0} (disks : List D) (i : ℕ) (disk : D) → slice_get disks i ≡ Some disk
+    → Contains (numbered 0 disks) (i, disk)
+numbered_has disks i disk at =
+    contains_at (numbered 0 disks) (i, disk) i
+    (numbered_at 0 disks i disk at ∙ ap (λ (n : ℕ). Some (n, disk)) (let z : 0 + i ≡ i = omega arith in z))
+
+module _ {D : Type 0} (g : Ghosts D) (before mid after : RackAt D) (taken back : List D) where
   abbrev rack : Racked
   rack = racked g before after
 
-  pub given_none : GivesNone before after → IsGiven before after (λ more. more ≡ [])
-  given_none same = by before.given refl
+  -- these disks were taken up to now, and these are given back
+  pub record IsReturned : Type 0 where
+    pub told : (i : ℕ) (disk : D) → slice_get taken i ≡ Some disk → IfSome before.disks (λ take. disk ≡ take None i)
+    pub fresh : (i : ℕ) (disk : D) → slice_get taken i ≡ Some disk → IsFresh (g.known disk) (g.may_leave disk)
+    pub same_given : mid.given ≡ before.given
+    pub many : mid.taken ≡ before.taken + length taken
+    pub level : before.faults ≤ mid.faults
+    pub long : length back ≡ length taken
+    pub gives : AreGiven mid after 0 back
+
+  -- a property of what was given
+  given_so : (more : List (ℕ × D)) → after.given ≡ option_map (λ told. told ++ more) before.given
+      → (P : List (ℕ × D) → Type 0) → P more → IsGiven before after P
+  given_so more is P holds = by before.given is
     where
-      by : (given : Option (List (ℕ × D))) → before.given ≡ given → IfSome before.given (λ old. (more : List (ℕ × D)) × (after.given ≡ Some (old ++ more)) × (more ≡ []))
-      by None is = subst (λ (o : Option (List (ℕ × D))). IfSome o (λ old. (more : List (ℕ × D)) × (after.given ≡ Some (old ++ more)) × (more ≡ []))) (sym is) tt
-      by (Some old) is =
-          subst (λ (o : Option (List (ℕ × D))). IfSome o (λ old. (more : List (ℕ × D)) × (after.given ≡ Some (old ++ more)) × (more ≡ []))) (sym is)
-          ([], same ∙ is ∙ ap (λ (xs : List (ℕ × D)). Some xs) (sym (append-nil old)), refl)
+      by : (given : Option (List (ℕ × D))) → after.given ≡ option_map (λ told. told ++ more) given
+          → IfSome given (λ old. (more' : List (ℕ × D)) × (after.given ≡ Some (old ++ more')) × P more')
+      by None is = tt
+      by (Some old) is = (more, is, holds)
 
-  pub given_one : (disk : D) → GivesOne disk before after → IsGiven before after (λ more. more ≡ (0, disk) ∷ [])
-  given_one disk one = by before.given refl
-    where
-      by : (given : Option (List (ℕ × D))) → before.given ≡ given → IfSome before.given (λ old. (more : List (ℕ × D)) × (after.given ≡ Some (old ++ more)) × (more ≡ (0, disk) ∷ []))
-      by None is = subst (λ (o : Option (List (ℕ × D))). IfSome o (λ old. (more : List (ℕ × D)) × (after.given ≡ Some (old ++ more)) × (more ≡ (0, disk) ∷ []))) (sym is) tt
-      by (Some old) is =
-          subst (λ (o : Option (List (ℕ × D))). IfSome o (λ old. (more : List (ℕ × D)) × (after.given ≡ Some (old ++ more)) × (more ≡ (0, disk) ∷ []))) (sym is)
-          ((0, disk) ∷ [], one ∙ ap (λ (o : Option (List (ℕ × D))). option_map (λ told. told ++ (0, disk) ∷ []) o) is, refl)
+  module _ (is : IsReturned) where
+    given : after.given ≡ option_map (λ told. told ++ is.gives.more) before.given
+    given = is.gives.given ∙ ap (λ (o : Option (List (ℕ × D))). option_map (λ told. told ++ is.gives.more) o) is.same_given
 
-  -- a property of what was given, by what that was
-  given_so : (P Q : List (ℕ × D) → Type 0) → ((more : List (ℕ × D)) → P more → Q more) → IsGiven before after P → IsGiven before after Q
-  given_so P Q so is = by before.given is
-    where
-      by : (given : Option (List (ℕ × D))) → IfSome given (λ old. (more : List (ℕ × D)) × (after.given ≡ Some (old ++ more)) × P more)
-          → IfSome given (λ old. (more : List (ℕ × D)) × (after.given ≡ Some (old ++ more)) × Q more)
-      by None it = tt
-      by (Some old) it = (it.0, it.1, so it.0 it.2)
+    -- what is so of each disk by its site, is so of each that was given back
+    pub so_of : (P : ℕ → OfADisk)
+        → ((i : ℕ) (disk : D) → slice_get back i ≡ Some disk → P i (g.known disk) (g.may_leave disk))
+        → AreSo g P is.gives.more
+    so_of P so =
+        All-weaker (λ (it : ℕ × D). (i : ℕ) × (it.0 ≡ 0 + i) × (slice_get back i ≡ Some it.1))
+        (λ (it : ℕ × D). P it.0 (g.known it.1) (g.may_leave it.1))
+        (λ it at.
+        let here : at.0 ≡ it.0 = (let e = at.1 in omega (arith, e)) in
+        subst (λ (n : ℕ). P n (g.known it.1) (g.may_leave it.1)) here (so at.0 it.1 at.2))
+        is.gives.more is.gives.those
 
-  -- the disk that was given back is so
-  pub gives_one : (disk : D) (P : OfADisk) → GivesOne disk before after → P (g.known disk) (g.may_leave disk) → rack.gives P
-  gives_one disk P one holds =
-      given_so (λ more. more ≡ (0, disk) ∷ []) (λ more. (d : D) × (more ≡ (0, d) ∷ []) × P (g.known d) (g.may_leave d)) (λ more is. (disk, is, holds)) (given_one disk one)
+    pub each_back : (P : ℕ → OfADisk)
+        → ((i : ℕ) (disk : D) → slice_get back i ≡ Some disk → P i (g.known disk) (g.may_leave disk)) → rack.each P
+    each_back P so = given_so is.gives.more given (AreSo g P) (so_of P so)
 
-  pub each_one : (disk : D) (P : OfADisk) → GivesOne disk before after → P (g.known disk) (g.may_leave disk) → rack.each P
-  each_one disk P one holds =
-      given_so (λ more. more ≡ (0, disk) ∷ []) (λ more. All (λ (it : ℕ × D). P (g.known it.1) (g.may_leave it.1)) more)
-      (λ more is. subst (λ (xs : List (ℕ × D)). All (λ (it : ℕ × D). P (g.known it.1) (g.may_leave it.1)) xs) (sym is)
-      (All-push (λ (it : ℕ × D). P (g.known it.1) (g.may_leave it.1)) [] (0, disk) (All-nil (λ (it : ℕ × D). P (g.known it.1) (g.may_leave it.1))) holds))
-      (given_one disk one)
+    -- all were given back where the rack didn't fail
+    pub all_back : (P : ℕ → OfADisk) → after.faults ≡ mid.faults
+        → ((i : ℕ) (disk : D) → slice_get back i ≡ Some disk → P i (g.known disk) (g.may_leave disk))
+        → rack.all (length taken) P
+    all_back P same so =
+        given_so is.gives.more given
+        (λ more. (disks : List D) × (length disks ≡ length taken) × (more ≡ numbered 0 disks) × AreSo g P more)
+        (back, is.long, is.gives.whole same, so_of P so)
 
-  -- where none was given, each is
-  pub each_none : (P : OfADisk) → GivesNone before after → rack.each P
-  each_none P none =
-      given_so (λ more. more ≡ []) (λ more. All (λ (it : ℕ × D). P (g.known it.1) (g.may_leave it.1)) more)
-      (λ more is. subst (λ (xs : List (ℕ × D)). All (λ (it : ℕ × D). P (g.known it.1) (g.may_leave it.1)) xs) (sym is) (All-nil (λ (it : ℕ × D). P (g.known it.1) (g.may_leave it.1))))
-      (given_none none)
+    failed_or : (after.faults ≡ mid.faults) ⊎ rack.failed
+    failed_or = elim (cases_lt mid.faults after.faults) [
+      | inl rose ↦ inr (let l = is.level in omega (arith, rose, l))
+      | inr most ↦ inl (let l = is.gives.level in omega (arith, most, l))
+    ]
 
-  -- where no call was made of it, it is as no run has begun
-  pub untouched_before : GivesNone before after → IsUntouched rack
-  untouched_before none = record {
-    unarmed = each_none IsUnarmed none;
-    kept = holds_any (λ bytes. rack.each (λ known images. (image : List ℕ) → images image → MayHaveBegun bytes image))
-        (λ bytes. each_none (λ known images. (image : List ℕ) → images image → MayHaveBegun bytes image) none);
-  }
-    where
-      of_any : (reads : Option (List ℕ)) (P : List ℕ → Type 0) → ((bytes : List ℕ) → P bytes) → IfSome reads P
-      of_any None P all = tt
-      of_any (Some bytes) P all = all bytes
+    pub all_or_failed : (P : ℕ → OfADisk)
+        → ((i : ℕ) (disk : D) → slice_get back i ≡ Some disk → P i (g.known disk) (g.may_leave disk))
+        → rack.failed ⊎ rack.all (length taken) P
+    all_or_failed P so = elim failed_or [ | inl same ↦ inr (all_back P same so) | inr failed ↦ inl failed ]
 
-      holds_any : (P : List ℕ → Type 0) → ((bytes : List ℕ) → P bytes) → rack.holds P
-      holds_any P all = by before.disks
-        where
-          by : (disks : Option (Option (List ℕ) → ℕ → D)) → IfSome disks (λ take. IfSome (g.known (take None 0)).reads P)
-          by None = tt
-          by (Some take) = of_any (g.known (take None 0)).reads P all
+    -- the one of this site was given back, or the rack failed
+    pub one_or_failed : (i : ℕ) (disk : D) (P : OfADisk) → slice_get back i ≡ Some disk
+        → P (g.known disk) (g.may_leave disk) → rack.failed ⊎ rack.one i P
+    one_or_failed i disk P at holds = elim failed_or [
+      | inr failed ↦ inl failed
+      | inl same ↦ inr (given_so is.gives.more given
+          (λ more. (d : D) × Contains more (i, d) × P (g.known d) (g.may_leave d))
+          (disk,
+            subst (λ (more : List (ℕ × D)). Contains more (i, disk)) (sym (is.gives.whole same)) (numbered_has back i disk at),
+            holds))
+    ]
 
-  -- where no disk was taken, none is to be given back
-  pub none_taken : GivesNone before after → after.taken ≡ before.taken → rack.balanced
-  none_taken none level = by before.given after.given none
-    where
-      by : (x y : Option (List (ℕ × D))) → y ≡ x → IfSome x (λ old. IfSome y (λ new. length new + before.taken ≡ length old + after.taken))
-      by None y is = tt
-      by (Some old) y is =
-          subst (λ (o : Option (List (ℕ × D))). IfSome o (λ new. length new + before.taken ≡ length old + after.taken)) (sym is) (omega (arith, level))
+    pub balances : rack.balanced
+    balances = by before.given after.given given
+      where
+        by : (x y : Option (List (ℕ × D))) → y ≡ option_map (λ told. told ++ is.gives.more) x
+            → IfSome x (λ old. IfSome y (λ new.
+            length old + after.taken + before.faults ≤ length new + before.taken + after.faults))
+        by None y e = tt
+        by (Some old) y e =
+            subst (λ (o : Option (List (ℕ × D))). IfSome o (λ new.
+            length old + after.taken + before.faults ≤ length new + before.taken + after.faults)) (sym e)
+            (let l = length-append old is.gives.more in
+            let a = is.many in
+            let b = is.gives.taken in
+            let c = is.level in
+            let d = is.gives.lost in
+            let f = is.long in
+            omega (arith, l, a, b, c, d, f))
 
-  -- the one that was taken was given
-  pub one_taken : (disk : D) → GivesOne disk before after → after.taken ≡ before.taken + 1 → rack.balanced
-  one_taken disk one level = by before.given after.given one
-    where
-      by : (x y : Option (List (ℕ × D))) → y ≡ option_map (λ told. told ++ (0, disk) ∷ []) x → IfSome x (λ old. IfSome y (λ new. length new + before.taken ≡ length old + after.taken))
-      by None y is = tt
-      by (Some old) y is =
-          subst (λ (o : Option (List (ℕ × D))). IfSome o (λ new. length new + before.taken ≡ length old + after.taken)) (sym is)
-          (let l = length-append old ((0, disk) ∷ []) in omega (arith, l, level))
+-- where no disk was taken, none is to be given back
+pub none_balances : {D : Type 0} (g : Ghosts D) (before after : RackAt D) → after.given ≡ before.given
+    → after.taken ≡ before.taken → before.faults ≤ after.faults → (racked g before after).balanced
+none_balances {D = D} g before after same level most = by before.given after.given same
+  where
+    by : (x y : Option (List (ℕ × D))) → y ≡ x → IfSome x (λ old. IfSome y (λ new.
+        length old + after.taken + before.faults ≤ length new + before.taken + after.faults))
+    by None y e = tt
+    by (Some old) y e =
+        subst (λ (o : Option (List (ℕ × D))). IfSome o (λ new.
+        length old + after.taken + before.faults ≤ length new + before.taken + after.faults)) (sym e)
+        (omega (arith, level, most))
 
+module _ {D : Type 0} (g : Ghosts D) (disks : Option (Option (List ℕ) → ℕ → D)) (i : ℕ) (disk : D)
+    (taken : IfSome disks (λ take. disk ≡ take None i)) where
   -- where a rack tells its disks, the one that was taken tells what it holds
-  pub told_reads : (first : D) → IfSome before.disks (λ told. first ≡ told None 0) → rack.told → IsSome (g.known first).reads
-  told_reads first taken told = by before.disks taken told
+  pub told_reads : IsSome (bytes_of g disks i) → IsSome (g.known disk).reads
+  told_reads told = by disks taken told
     where
-      by : (disks : Option (Option (List ℕ) → ℕ → D)) → IfSome disks (λ told. first ≡ told None 0) → IsToldBy g disks → IsSome (g.known first).reads
-      by None taken told = absurd told
-      by (Some take) taken told = subst (λ d. IsSome (g.known d).reads) (sym taken) told
+      by : (ds : Option (Option (List ℕ) → ℕ → D)) → IfSome ds (λ take. disk ≡ take None i) → IsSome (bytes_of g ds i)
+          → IsSome (g.known disk).reads
+      by None taken told = absurd cc
+      by (Some take) taken told = subst (λ (d : D). IsSome (g.known d).reads) (sym taken) told
 
   -- what the disk that was taken holds, that of the site does
-  pub holds_taken : (first : D) (P : List ℕ → Type 0) → IfSome before.disks (λ told. first ≡ told None 0) → IfSome (g.known first).reads P → rack.holds P
-  holds_taken first P taken holds = by before.disks taken
+  pub holds_taken : (P : List ℕ → Type 0) → IfSome (g.known disk).reads P → IfSome (bytes_of g disks i) P
+  holds_taken P holds = by disks taken
     where
-      by : (disks : Option (Option (List ℕ) → ℕ → D)) → IfSome disks (λ told. first ≡ told None 0) → IfSome disks (λ take. IfSome (g.known (take None 0)).reads P)
+      by : (ds : Option (Option (List ℕ) → ℕ → D)) → IfSome ds (λ take. disk ≡ take None i) → IfSome (bytes_of g ds i) P
       by None taken = tt
       by (Some take) taken = subst (λ (d : D). IfSome (g.known d).reads P) taken holds
-
-  -- what two things come to that hold of the bytes of one that is told
-  pub holds_both : (P Q : List ℕ → Type 0) (R : Type 0) → ((bytes : List ℕ) → P bytes → Q bytes → R) → rack.told → rack.holds P → rack.holds Q → R
-  holds_both P Q R so told p q = by before.disks told p q
-    where
-      in_reads : (reads : Option (List ℕ)) → IsSome reads → IfSome reads P → IfSome reads Q → R
-      in_reads None told p q = absurd cc
-      in_reads (Some bytes) told p q = so bytes p q
-
-      by : (disks : Option (Option (List ℕ) → ℕ → D)) → IsToldBy g disks → IfSome disks (λ take. IfSome (g.known (take None 0)).reads P)
-          → IfSome disks (λ take. IfSome (g.known (take None 0)).reads Q) → R
-      by None told p q = absurd told
-      by (Some take) told p q = in_reads (g.known (take None 0)).reads told p q
-
--- of bytes that are told, where a crash leaves nothing else
-pub of_reads : (reads : Option (List ℕ)) (images : List ℕ → Type 0) (P : List ℕ → Type 0) → IsDurable reads images → ((bytes : List ℕ) → reads ≡ Some bytes → Only bytes images → P bytes) → IfSome reads P
-of_reads None images P durable so = tt
-of_reads (Some bytes) images P durable so = so bytes refl durable

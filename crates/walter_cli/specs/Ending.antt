@@ -1,5 +1,5 @@
 -- What the parts of a call of the program come to.
-use Rattle.std.specs.Prelude.{◌≡◌, ◌<◌, ◌⊎◌, ℕ, Bool, List, [], Option, Some, None, IsSome, IfSome, slice_get}
+use Rattle.std.specs.Prelude.{◌≡◌, ◌<◌, ◌⊎◌, ℕ, Bool, List, [], Option, Some, None, IsSome, IfSome, length, slice_get}
 use Rattle.walter_cluster.specs.declared.bench.Bench.{Bench}
 use Rattle.walter_cluster.specs.Benches.{IsBench, IsKnownAt, AreAllConnected, AreMet, arms_at}
 use Rattle.walter_cluster.specs.Moments.{IsFirst, moment_of}
@@ -46,6 +46,7 @@ fault_of site unbegun.NoMemory = Memory
 pub record IsBuilt {D S K : Type 0} {g : Ghosts D} {s : SourceGhosts S} {k : SinkGhosts K}
     (before after : RackAt D) (t : Scenario) (bench : Bench D S K g s k) : Type 0 where
   pub disks : List D
+  pub many : length disks ≡ t.catalog.sites
   pub taken : AreTaken g before after disks
   pub no_records : (i : ℕ) (disk : D) → slice_get disks i ≡ Some disk → IfSome (g.known disk).reads HasNoRecord
   pub is : IsBench t bench

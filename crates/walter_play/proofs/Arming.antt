@@ -25,7 +25,7 @@ told_same (Some told) = ap (λ t. Some t) (append-nil told)
 armed_by : ℕ → Arm → Option (ℕ × ℕ)
 armed_by i arm = if nat_eq arm.site.0 i then Some (arm.nth, arm.choice) else None
 
-for_more : (i : ℕ) (xs ys : List Arm) → arms_for i (xs ++ ys) ≡ arms_for i xs ++ arms_for i ys
+pub for_more : (i : ℕ) (xs ys : List Arm) → arms_for i (xs ++ ys) ≡ arms_for i xs ++ arms_for i ys
 for_more i xs ys = filter_map-append (armed_by i) xs ys
 
 -- an arm is its site's, and no other's

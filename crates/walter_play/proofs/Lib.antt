@@ -1,3 +1,3 @@
-mod Arming
-mod Steps
+pub mod Arming
+pub mod Steps
 mod Lines

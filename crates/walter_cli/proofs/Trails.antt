@@ -1,0 +1,181 @@
+-- What the trails of a bench are, cell by cell.
+use Rattle.std.proofs.Common.{◌≡◌, ℕ, ◌<◌, zero, suc, List, [], ◌∷◌, length, map, slice_get, get_or, reverse, Option, Some, None, option_map, refl, ap, sym, ◌∙◌, subst, arith}
+use Rattle.std.specs.Prelude.{All}
+use Rattle.std.proofs.lemmas.List.{length-map}
+use Rattle.std.proofs.lemmas.List.Elements.{All-weaker, All-push}
+use Rattle.std.proofs.lemmas.Option.{slice_get-map, slice_get_within, slice_get-get_or, get_or_from_slice_get}
+use Rattle.walter_base.specs.declared.catalog.Catalog.{Catalog}
+use Rattle.walter_base.specs.declared.names.SiteId.{SiteId}
+use Rattle.walter_alone.proofs.Promised.{entry_answered, entry_received, entry_seen, entry_locked}
+use Rattle.walter_cell.specs.declared.cell.Cell.{Cell}
+use Rattle.walter_cell.specs.Entries.{HaveRisingStamps}
+use Rattle.walter_cell.specs.Handled.{IsSized}
+use Rattle.walter_cluster.specs.declared.bench.Bench.{Bench}
+use Rattle.walter_cluster.specs.Benches.{trails_of, IsOfSite, IsBench, IsCellOf, IsKnownAt, AreAllConnected}
+use Rattle.walter_conn.proofs.Standings.{calls_of as calls_told}
+use Rattle.walter_conn.specs.Connections.{incoming}
+use Rattle.walter_conn.specs.Sequences.{HasCalled}
+use Rattle.walter_disk.specs.declared.disk.Disk.{Ghosts}
+use Rattle.walter_engine.specs.Steps.{opening}
+use Rattle.walter_linked.specs.Catalogs.{IsWhole}
+use Rattle.walter_play.proofs.Steps.{there_is}
+use Rattle.walter_refinement.proofs.Trails.{trails_legal, trails_once, trails_named}
+use Rattle.walter_reply.specs.Replies.{FitsFrame}
+use Rattle.walter_reply.proofs.Lengths.{short_fits}
+use Rattle.walter_report.specs.Reports.{reply_in, HaveFrames}
+use Rattle.walter_report.specs.Traces.{HasSpellings, HaveSpellings}
+use Rattle.walter_rules.specs.declared.entry.Entry.{Entry}
+use Rattle.walter_rules.specs.declared.outcome.Outcome.{Outcome}
+use Rattle.walter_rules.specs.declared.outcome.Outcome.TheVariants.{Replied, Taken, Passed, Failed, Full, Memory as IsMemory, Down as IsDown, Refused as IsRefused}
+use Rattle.walter_rules.specs.Knowledge.{site_at}
+use Rattle.walter_rules.specs.Merges.{trail_of, AreLinked}
+use Rattle.walter_rules.specs.Trails.{AreRight, IsRightTrail}
+use Rattle.walter_runs.specs.Runs.{AreRightTrails}
+use Rattle.walter_scenario.specs.declared.scenario.Client.{Client}
+use Rattle.walter_scenario.specs.declared.scenario.Scenario.{Scenario}
+use Rattle.walter_site.specs.Members.{IsShortOutcome}
+use Rattle.walter_stream.specs.declared.sink.Sink.{Ghosts as SinkGhosts}
+use Rattle.walter_stream.specs.declared.source.Source.{Ghosts as SourceGhosts}
+use Rattle.walter_trail.specs.Calls.{calls_of}
+use Rattle.walter_cli.specs.Headline.{AreCallsOf, AreTold, trail_at}
+use Rattle.walter_cli.specs.Promises.{AreKept, KeepAllPromises}
+
+-- ---- lists
+
+-- what is so of each element that is there, is so of all
+pub all_there : {X : Type 0} (xs : List X) (P : X → Type 0) → ((i : ℕ) (x : X) → slice_get xs i ≡ Some x → P x) → All P xs
+all_there xs P so = λ i d within. so i (get_or xs i d) (slice_get-get_or xs i d within)
+
+-- an element of a list of fields is that of an element
+pub field_of : {X Y : Type 0} (f : X → Y) (xs : List X) (i : ℕ) (y : Y) → slice_get (map f xs) i ≡ Some y
+    → (x : X) × (slice_get xs i ≡ Some x) × (f x ≡ y)
+field_of f [] i y at = absurd cc
+field_of f (x ∷ xs) zero y at = (x, refl, cc)
+field_of f (x ∷ xs) (suc i) y at = field_of f xs i y at
+
+pub field_at : {X Y : Type 0} (f : X → Y) (xs : List X) (i : ℕ) (x : X) (none : Y) → slice_get xs i ≡ Some x
+    → get_or (map f xs) i none ≡ f x
+field_at f xs i x none at =
+    get_or_from_slice_get (map f xs) i (f x) none (slice_get-map f xs i ∙ ap (λ o. option_map f o) at)
+
+-- ---- promises
+
+kept_of : (catalog : Catalog) (capacity : ℕ) (i : SiteId) (newest_first : List Entry)
+    → AreRight catalog capacity i newest_first → AreKept catalog capacity i newest_first
+kept_of catalog capacity i [] right = tt
+kept_of catalog capacity i (e ∷ older) right = (
+  kept_of catalog capacity i older right.0,
+  record {
+    committed = λ s free. entry_answered catalog capacity i older e s right.1 free;
+    received = λ j seq tx next. entry_received catalog capacity i older e j seq tx right.1 next;
+    seen = λ j due. entry_seen catalog capacity i older e j right.1 due;
+    locked = λ j n tid objects asked. entry_locked catalog capacity i older e j n tid objects right.1 asked;
+  },
+)
+
+pub promises_kept : (catalog : Catalog) (capacity : ℕ) (trails : List (List Entry))
+    → AreRightTrails catalog capacity trails → KeepAllPromises catalog capacity trails
+promises_kept catalog capacity trails are i below =
+    kept_of catalog capacity i (reverse (trail_of trails i)) (are.right i below).right
+
+-- ---- frames
+
+outcome_frames : (outcome : Outcome) → IsShortOutcome outcome → All FitsFrame (reply_in outcome)
+outcome_frames (Replied reply) fits = All-push FitsFrame [] reply (λ k d within. absurd (omega (arith, within))) (short_fits reply fits)
+outcome_frames Taken fits = λ k d within. absurd (omega (arith, within))
+outcome_frames Passed fits = λ k d within. absurd (omega (arith, within))
+outcome_frames Failed fits = λ k d within. absurd (omega (arith, within))
+outcome_frames (Full need left) fits = λ k d within. absurd (omega (arith, within))
+outcome_frames IsMemory fits = λ k d within. absurd (omega (arith, within))
+outcome_frames IsDown fits = λ k d within. absurd (omega (arith, within))
+outcome_frames IsRefused fits = λ k d within. absurd (omega (arith, within))
+
+-- ---- benches
+
+module _ {D S K : Type 0} {g : Ghosts D} {s : SourceGhosts S} {k : SinkGhosts K} (t : Scenario) (bench : Bench D S K g s k)
+    (is : IsBench t bench) where
+  abbrev trails : List (List Entry)
+  trails = trails_of bench.cells.items
+
+  pub trail_is : (i : ℕ) (cell : Cell D S K g s k) → slice_get bench.cells.items i ≡ Some cell
+      → trail_at trails i ≡ cell.node.entries.items
+  trail_is i cell at = field_at (λ (c : Cell D S K g s k). c.node.entries.items) bench.cells.items i cell [] at
+
+  -- the cell of a site
+  pub cell_at : (i : ℕ) → i < t.catalog.sites → (cell : Cell D S K g s k) × (slice_get bench.cells.items i ≡ Some cell)
+  cell_at i below = there_is bench.cells.items i (let l = is.sites in omega (arith, below, l))
+
+  pub one_each : length trails ≡ t.catalog.sites
+  one_each = length-map bench.cells.items (λ (c : Cell D S K g s k). c.node.entries.items) ∙ is.sites
+
+  -- what is so of the trail of each cell, is so of that of each site
+  at_each : (P : ℕ → List Entry → Type 0)
+      → ((i : ℕ) (cell : Cell D S K g s k) → slice_get bench.cells.items i ≡ Some cell → P i cell.node.entries.items)
+      → (i : ℕ) → i < t.catalog.sites → P i (trail_at trails i)
+  at_each P so i below =
+      let there = cell_at i below in
+      subst (λ (es : List Entry). P i es) (sym (trail_is i there.0 there.1)) (so i there.0 there.1)
+
+  pub begins : (i : ℕ) → i < t.catalog.sites → slice_get (trail_at trails i) 0 ≡ Some opening
+  begins = at_each (λ i es. slice_get es 0 ≡ Some opening) (λ i cell at. (is.cells i cell at).cell.node.begins)
+
+  pub stamps_rise : (i : ℕ) → i < t.catalog.sites → HaveRisingStamps (reverse (trail_at trails i))
+  stamps_rise = at_each (λ i es. HaveRisingStamps (reverse es)) (λ i cell at. (is.cells i cell at).cell.node.rise)
+
+  pub calls_are : AreAllConnected t bench → AreCallsOf t.clients trails
+  calls_are connected = record {
+    within = λ i below.
+        at_each (λ i es. All (λ e. IsOfSite t.clients (site_at i) e.event) es) (λ i cell at. (is.cells i cell at).whose_calls)
+        i (let l = one_each in omega (arith, below, l));
+    front = λ number client at.
+        let below : client.site.0 < t.catalog.sites =
+        is_of_all number client at in
+        let there = cell_at client.site.0 below in
+        let line = connected client.site.0 there.0 there.1 number client at refl in
+        let stands = line.2.stands in
+        (stands.rest,
+          calls_told client.bytes (calls_of number (trail_of trails client.site)) _ stands.rest
+          (subst (λ (es : List Entry). HasCalled client.bytes (calls_of number es) (incoming line.0))
+          (sym (trail_is client.site.0 there.0 there.1)) stands) stands.unread);
+  }
+    where
+      is_of_all : (number : ℕ) (client : Client) → slice_get t.clients number ≡ Some client → client.site.0 < t.catalog.sites
+      is_of_all number client at =
+          let within = slice_get_within t.clients number client at in
+          subst (λ (c : Client). c.site.0 < t.catalog.sites) (get_or_from_slice_get t.clients number client client at)
+          (is.within number client within)
+
+  -- where all disks are told
+  pub told_trails : ((i : ℕ) → i < t.catalog.sites → IsKnownAt t i bench) → IsWhole t.catalog → AreLinked trails → AreTold t trails
+  told_trails known whole linked =
+      let are : AreRightTrails t.catalog t.capacity trails = record {
+        one_each = one_each;
+        right = λ i below.
+            let there = cell_at i.0 below in
+            subst (λ (es : List Entry). IsRightTrail t.catalog t.capacity i es) (sym (trail_is i.0 there.0 there.1))
+            (known i.0 below there.0 there.1).right;
+        linked = linked;
+      } in
+      record {
+        right_trails = are;
+        legal_history = trails_legal t.catalog t.capacity whole trails are;
+        commits_once = trails_once t.catalog t.capacity whole trails are;
+        aborts_named = trails_named t.catalog t.capacity whole trails are;
+        promises_kept = promises_kept t.catalog t.capacity trails are;
+      }
+
+  pub frames : HaveFrames trails
+  frames = all_there trails (λ trail. All (λ (e : Entry). All FitsFrame (reply_in e.came.outcome)) trail) (λ i trail at.
+      let there = field_of (λ (c : Cell D S K g s k). c.node.entries.items) bench.cells.items i trail at in
+      subst (λ (es : List Entry). All (λ (e : Entry). All FitsFrame (reply_in e.came.outcome)) es) there.2
+      (All-weaker (λ (e : Entry). IsSized t.catalog.sites e.came) (λ (e : Entry). All FitsFrame (reply_in e.came.outcome))
+      (λ e sized. outcome_frames e.came.outcome sized.outcome) there.0.node.entries.items
+      (is.cells i there.0 there.1).cell.node.sized))
+
+  pub spellings : HaveSpellings trails
+  spellings = all_there trails (λ trail. All HasSpellings trail) (λ i trail at.
+      let there = field_of (λ (c : Cell D S K g s k). c.node.entries.items) bench.cells.items i trail at in
+      subst (λ (es : List Entry). All HasSpellings es) there.2
+      (All-weaker (λ (e : Entry). IsSized t.catalog.sites e.came) HasSpellings
+      (λ e sized. record { kept = sized.kept; wrote = sized.wrote; flight = sized.flight }) there.0.node.entries.items
+      (is.cells i there.0 there.1).cell.node.sized))
