@@ -41,10 +41,10 @@ untouched_before g before after same = record {
 }
 
 -- the end where no disk was taken
-pub ends_before : {D : Type 0} (g : Ghosts D) (before after : RackAt D) (fault : Fault) → after.given ≡ before.given
+pub ends_before : {D : Type 0} (g : Ghosts D) (before after : RackAt D) (sites : ℕ) (fault : Fault) → after.given ≡ before.given
     → after.taken ≡ before.taken → before.faults ≤ after.faults → (16 ≤ before.unfailing → after.faults ≡ before.faults)
-    → IsUnbuilt (racked g before after) fault → EndsEarly (racked g before after) fault
-ends_before g before after fault given taken level sure why = record {
+    → IsUnbuilt (racked g before after) sites fault → EndsEarly (racked g before after) sites fault
+ends_before g before after sites fault given taken level sure why = record {
   why = why;
   untouched = untouched_before g before after given;
   given_back = none_balances g before after given taken level;
@@ -96,9 +96,9 @@ module _ {D : Type 0} (g : Ghosts D) (before mid after : RackAt D) (taken back :
       (λ bytes told only. so bytes (record { told = told; only = only })))
 
   -- the end where the disks were taken, and given back
-  pub ends_early : (fault : Fault) → AreLeft → (16 ≤ before.unfailing → after.faults ≡ before.faults)
-      → IsUnbuilt rack fault → EndsEarly rack fault
-  ends_early fault left sure why = record {
+  pub ends_early : (sites : ℕ) (fault : Fault) → AreLeft → (16 ≤ before.unfailing → after.faults ≡ before.faults)
+      → IsUnbuilt rack sites fault → EndsEarly rack sites fault
+  ends_early sites fault left sure why = record {
     why = why;
     untouched = untouched left;
     given_back = balances g before mid after taken back is;
@@ -117,25 +117,25 @@ module _ {D : Type 0} (g : Ghosts D) (before mid after : RackAt D) (taken back :
         let d = there_is taken i (omega (arith, within, before_)) in
         held i d.0 HasNoRecord d.1 (λ bytes only. others i d.0 bytes before_ d.1 only)
 
-    pub unbuilt : (w : Unbegun) → why ≡ w → IsUnbuilt rack (fault_of site w)
+    pub unbuilt : (w : Unbegun) → why ≡ w → IsUnbuilt rack (length taken) (fault_of site w)
     unbuilt unbegun.Failed same =
         one_or_failed g before mid after taken back is site now HasFailed there
         (let rose : (g.known disk).faults < (g.known now).faults =
         subst (λ (x : Unbegun). IsFaultOfBegin (Err x) (g.known disk).faults (g.known now).faults) same rises in
         omega (arith, rose))
-    unbuilt unbegun.Foreign same = record {
+    unbuilt unbegun.Foreign same = (slice_get_within taken site disk at, record {
       unfit = held site disk (HasCause Foreign 0) at (λ bytes only.
           let so = subst (λ (x : Unbegun). IsBegun bytes (Err x)) same (begins bytes only) in (refl, so.0, so.1));
       others = others_held;
-    }
-    unbuilt (unbegun.Damaged place claimed) same = record {
+    })
+    unbuilt (unbegun.Damaged place claimed) same = (slice_get_within taken site disk at, record {
       unfit = held site disk (HasCause (Damaged claimed) place) at (λ bytes only.
           subst (λ (x : Unbegun). IsBegun bytes (Err x)) same (begins bytes only));
       others = others_held;
-    }
-    unbuilt unbegun.Used same = record {
+    })
+    unbuilt unbegun.Used same = (slice_get_within taken site disk at, record {
       unfit = held site disk (HasCause Used 8) at (λ bytes only.
           (refl, subst (λ (x : Unbegun). IsBegun bytes (Err x)) same (begins bytes only)));
       others = others_held;
-    }
+    })
     unbuilt unbegun.NoMemory same = tt

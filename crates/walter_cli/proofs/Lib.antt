@@ -1,10 +1,9 @@
-pub mod WordLines
-pub mod Turns
 pub mod Giving
-pub mod Causes
 pub mod Early
-pub mod Wholes
-pub mod Alone
-pub mod Played
+pub mod Causes
+pub mod Trails
+pub mod Finished
 pub mod Runs
 pub mod Sure
+pub mod WordLines
+pub mod Wholes

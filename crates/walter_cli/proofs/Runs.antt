@@ -1,12 +1,14 @@
 -- What the parts of a call of the program promise together.
-use Rattle.std.proofs.Common.{◌≡◌, ◌≢◌, ℕ, ◌<◌, List, [], ◌++◌, length, Bool, Option, Some, None, option_map, ap, sym, ◌∙◌, subst, arith, inl, inr, ◌⊎◌}
+use Rattle.std.proofs.Common.{◌≡◌, ◌≢◌, ℕ, ◌<◌, List, [], ◌++◌, length, Option, Some, None, option_map, ap, sym, ◌∙◌, subst, arith, inl, inr, ◌⊎◌}
 use Rattle.std.specs.Prelude.{String}
 use Rattle.std.specs.Global.{Global}
+use Rattle.std.proofs.lemmas.Bool.{cases_lt}
 use Rattle.std.proofs.lemmas.List.{append-nil, length-append}
 use Rattle.walter_engine.specs.Begins.{HasNoRecord}
+use Rattle.walter_rules.specs.declared.entry.Entry.{Entry}
 use Rattle.walter_scenario.specs.declared.place.Detail.{Detail}
 use Rattle.walter_scenario.specs.declared.place.Place.{Place}
-use Rattle.walter_scenario.specs.declared.place.Place.TheVariants.{TooLong, Sites}
+use Rattle.walter_scenario.specs.declared.place.Place.TheVariants.{TooLong}
 use Rattle.walter_scenario.specs.declared.scenario.Scenario.{Scenario}
 use Rattle.walter_scenario.specs.Scenarios.{IsReading, IsRefusedAt}
 use Rattle.walter_scenario.proofs.Stages.{read_nowhere_refused, one_refused}
@@ -17,51 +19,38 @@ use Rattle.walter_cli.specs.declared.ended.Fault.{Fault}
 use Rattle.walter_cli.specs.declared.ended.Fault.TheVariants.{Usage, Scenario as ScenarioFault, Read, Write, Memory, Rack, Journal}
 use Rattle.walter_cli.specs.declared.ended.JournalCause.{JournalCause}
 use Rattle.walter_cli.specs.Ending.{IsTaken, IsTakeFault, MayHaveRun, EndsRun}
-use Rattle.walter_cli.specs.Headline.{Outside, TellsOfSeveral, HasNoReading, IsRun, IsWholeRun, Runs, RunsWhole, Promise}
-use Rattle.walter_cli.specs.Racks.{Racked, GivesBack, IsUntouched, HasFailed, HasCause}
+use Rattle.walter_cli.specs.Headline.{Outside, HasNoReading, IsRun, IsWholeRun, Runs, RunsWhole, IsFirstUnfit, FailsEarly, Promise}
+use Rattle.walter_cli.specs.Racks.{Racked, AreAllTold, Holds, IsUntouched, HasFailed, HasCause}
 use Rattle.walter_cli.specs.Statuses.{status_of}
 use Rattle.walter_cli.specs.Texts.{text_of}
 use Rattle.walter_cli.specs.Words.{IsPlayLine, IsLine}
 use Rattle.walter_cli.proofs.Causes.{cause_has_record, one_cause}
-
--- bytes are wrong at this place, or tell of several sites there
-abbrev IsWrong : List ℕ → Place → Type 0
-IsWrong bytes place = IsRefusedAt bytes place ⊎ ((place ≡ Sites) × TellsOfSeveral bytes)
-
--- a scenario of one site is not of several
-not_several : (bytes : List ℕ) (s : Scenario) → IsReading bytes s → s.catalog.sites ≡ 1 → TellsOfSeveral bytes → ⊥
-not_several bytes s reading one several =
-    several.2 (ap (λ (t : Scenario). t.catalog.sites) (one_scenario bytes several.0 s several.1 reading) ∙ one)
-
-nowhere_wrong : (bytes : List ℕ) (s : Scenario) (place : Place) → IsReading bytes s → s.catalog.sites ≡ 1 → IsWrong bytes place → ⊥
-nowhere_wrong bytes s place reading one (inl wrong) = read_nowhere_refused bytes s place reading wrong
-nowhere_wrong bytes s place reading one (inr several) = not_several bytes s reading one several.1
+use Rattle.walter_cli.proofs.Giving.{of_both}
 
 -- what a source that has no reading gave is wrong at the place that is named
-none_wrong : (before after : Option (List ℕ)) (bytes : List ℕ) (place : Place) → HasNoReading before after place → before ≡ Some bytes → IsWrong bytes place
+none_wrong : (before after : Option (List ℕ)) (bytes : List ℕ) (place : Place) → HasNoReading before after place
+    → before ≡ Some bytes → IsRefusedAt bytes place
 none_wrong before after bytes place none told = here after none.wrong (sym told ∙ none.taken)
   where
     whole : (rest : List ℕ) → bytes ≡ none.front ++ rest → rest ≡ [] → none.front ≡ bytes
     whole rest same end = sym (same ∙ ap (λ r. none.front ++ r) end ∙ append-nil none.front)
 
     here : (left : Option (List ℕ))
-        → (AtEnd left × IsRefusedAt none.front place) ⊎ ((place ≡ TooLong) × (16777216 < length none.front)) ⊎ (AtEnd left × (place ≡ Sites) × TellsOfSeveral none.front)
-        → Some bytes ≡ option_map (λ rest. none.front ++ rest) left → IsWrong bytes place
+        → (AtEnd left × IsRefusedAt none.front place) ⊎ ((place ≡ TooLong) × (16777216 < length none.front))
+        → Some bytes ≡ option_map (λ rest. none.front ++ rest) left → IsRefusedAt bytes place
     here None why e = absurd cc
     here (Some rest) why e =
         let same : bytes ≡ none.front ++ rest = cc in
         elim why [
-          | inl wrong ↦ inl (subst (λ (b : List ℕ). IsRefusedAt b place) (whole rest same wrong.0) wrong.1)
-          | inr other ↦ elim other [
-            | inl long ↦
-                inl (subst (λ (p : Place). IsRefusedAt bytes p) (sym long.0)
-                (let l = ap length same ∙ length-append none.front rest in let many = long.1 in omega (arith, l, many)))
-            | inr several ↦ inr (several.1, subst (λ (b : List ℕ). TellsOfSeveral b) (whole rest same several.0) several.2)
-          ]
+          | inl wrong ↦ subst (λ (b : List ℕ). IsRefusedAt b place) (whole rest same wrong.0) wrong.1
+          | inr long ↦
+              subst (λ (p : Place). IsRefusedAt bytes p) (sym long.0)
+              (let l = ap length same ∙ length-append none.front rest in let many = long.1 in omega (arith, l, many))
         ]
 
 -- a scenario that was taken is what the bytes that are told spell
-taken_reading : (before after : Option (List ℕ)) (bytes : List ℕ) (s : Scenario) → IsTaken before after s → before ≡ Some bytes → IsReading bytes s
+taken_reading : (before after : Option (List ℕ)) (bytes : List ℕ) (s : Scenario) → IsTaken before after s
+    → before ≡ Some bytes → IsReading bytes s
 taken_reading before after bytes s taken told = here after taken.source.end (sym told ∙ taken.source.taken)
   where
     here : (left : Option (List ℕ)) → AtEnd left → Some bytes ≡ option_map (λ rest. taken.bytes ++ rest) left → IsReading bytes s
@@ -70,24 +59,61 @@ taken_reading before after bytes s taken told = here after taken.source.end (sym
         let same : bytes ≡ taken.bytes ++ rest = cc in
         subst (λ (b : List ℕ). IsReading b s) (sym (same ∙ ap (λ r. taken.bytes ++ r) end ∙ append-nil taken.bytes)) taken.reading
 
--- what two things that hold of its bytes come to
-abbrev pub HoldsBoth : Racked → Type 1
-HoldsBoth rack = (P Q : List ℕ → Type 0) (R : Type 0) → ((bytes : List ℕ) → P bytes → Q bytes → R) → rack.told → rack.holds P → rack.holds Q → R
+-- the bytes of a run that are told spell its scenario
+runs_reading : (rack : Racked) (before after : Outside) (trails : List (List Entry)) (bytes : List ℕ) (s : Scenario)
+    → (runs : Runs rack before after trails) → before.left ≡ Some bytes → IsReading bytes s → runs.scenario ≡ s
+runs_reading rack before after trails bytes s runs told reading =
+    one_scenario bytes runs.scenario s
+    (taken_reading before.left after.left bytes runs.scenario
+    (record { bytes = runs.bytes; source = runs.source; reading = runs.reading }) told) reading
 
-module _ (words : List (String Global)) (rack : Racked) (before after : Outside) (ended : Ended) (status : ended.status ≡ status_of ended.fault) (back : GivesBack rack)
-    (unfailing : rack.unfailing → ¬ rack.failed) (both : HoldsBoth rack) where
+-- the first site whose disk is unfit is one, for one cause
+one_unfit : (rack : Racked) (sites a b : ℕ) (c d : JournalCause) (p q : ℕ) → AreAllTold rack sites → b < sites
+    → IsFirstUnfit rack a c p → IsFirstUnfit rack b d q → (a ≡ b) × (c ≡ d) × (p ≡ q)
+one_unfit rack sites a b c d p q told within x y = elim (cases_lt a b) [
+  | inl before ↦
+      absurd (of_both (rack.bytes a) (HasCause c p) HasNoRecord ⊥ (cause_has_record c p) (told a (omega (arith, before, within)))
+      x.unfit (y.others a before))
+  | inr most ↦ elim (cases_lt b a) [
+    | inl before ↦
+        absurd (of_both (rack.bytes b) (HasCause d q) HasNoRecord ⊥ (cause_has_record d q) (told b within) y.unfit
+        (x.others b before))
+    | inr least ↦
+        let same : a ≡ b = omega (arith, most, least) in
+        let both = of_both (rack.bytes b) (HasCause c p) (HasCause d q) ((c ≡ d) × (p ≡ q))
+        (λ bs u v. one_cause c d p q bs u v) (told b within)
+        (subst (λ (n : ℕ). Holds rack n (HasCause c p)) same x.unfit) y.unfit in
+        (same, both.0, both.1)
+  ]
+]
+
+module _ (words : List (String Global)) (rack : Racked) (before after : Outside) (ended : Ended)
+    (status : ended.status ≡ status_of ended.fault) (back : rack.balanced)
+    (unfailing : rack.unfailing 16 → ¬ rack.failed) where
   -- the end of a call that named no fault of words
   module _ (trace : Bool) (line : IsPlayLine trace words) where
     asked : IsLine words
     asked = (trace, line)
 
     -- what a run promises whatever came of its report
-    whole : (s : Scenario) (Written : List ℕ → Type 0) → IsTaken before.left after.left s → IsWholeRun rack s ended.trails.items → Written (text_of trace s ended.trails.items)
+    whole : (s : Scenario) (Written : List ℕ → Type 0) → IsTaken before.left after.left s
+        → IsWholeRun rack s ended.trails.items → Written (text_of trace s ended.trails.items)
         → RunsWhole rack words before after ended.trails.items Written
-    whole s Written taken run written = record { bytes = taken.bytes; source = taken.source; scenario = s; reading = taken.reading; run = run; trace = trace; asked = line; bytes_written = written }
+    whole s Written taken run written = record {
+      bytes = taken.bytes;
+      source = taken.source;
+      scenario = s;
+      reading = taken.reading;
+      run = run;
+      trace = trace;
+      asked = line;
+      bytes_written = written;
+    }
 
-    runs : (s : Scenario) → IsTaken before.left after.left s → IsRun rack s ended.trails.items → Runs rack before after ended.trails.items
-    runs s taken run = record { bytes = taken.bytes; source = taken.source; scenario = s; reading = taken.reading; run = run }
+    runs : (s : Scenario) → IsTaken before.left after.left s → IsRun rack s ended.trails.items
+        → Runs rack before after ended.trails.items
+    runs s taken run =
+        record { bytes = taken.bytes; source = taken.source; scenario = s; reading = taken.reading; run = run }
 
     abbrev MayRun : Type 0
     MayRun = ((ended.trails.items ≡ []) × IsUntouched rack) ⊎ Runs rack before after ended.trails.items
@@ -97,22 +123,24 @@ module _ (words : List (String Global)) (rack : Racked) (before after : Outside)
     runs_if s taken (inl none) = inl none
     runs_if s taken (inr run) = inr (runs s taken run)
 
-    abbrev DiskFailed : Type 0
-    DiskFailed = (ended.trails.items ≡ []) × rack.gives HasFailed
-
     -- what is so at the end with this fault, or with none
     abbrev Tells : Option Fault → Type 0
     Tells None = RunsWhole rack words before after ended.trails.items (Appends before.holds after.holds)
     Tells (Some Usage) = ⊥
-    Tells (Some (ScenarioFault place detail)) = HasNoReading before.left after.left place × (ended.trails.items ≡ [])
+    Tells (Some (ScenarioFault place detail)) =
+        HasNoReading before.left after.left place × (ended.trails.items ≡ [])
     Tells (Some Read) = (before.source_faults < after.source_faults) × (ended.trails.items ≡ [])
-    Tells (Some Write) = RunsWhole rack words before after ended.trails.items (AppendsFront before.holds after.holds) × (before.sink_faults < after.sink_faults)
+    Tells (Some Write) =
+        RunsWhole rack words before after ended.trails.items (AppendsFront before.holds after.holds)
+        × (before.sink_faults < after.sink_faults)
     Tells (Some Memory) = Unit {0}
-    Tells (Some (Rack site)) = (site ≡ 0) × (rack.failed ⊎ DiskFailed)
-    Tells (Some (Journal site cause place)) = (site ≡ 0) × rack.holds (HasCause cause place) × (ended.trails.items ≡ [])
+    Tells (Some (Rack site)) = rack.failed ⊎ ((ended.trails.items ≡ []) × rack.one site HasFailed)
+    Tells (Some (Journal site cause place)) = IsFirstUnfit rack site cause place × (ended.trails.items ≡ [])
+        × ((s : Scenario) × IsTaken before.left after.left s × (site < s.catalog.sites))
 
     -- so it is by the status
-    at_done : (fault : Option Fault) → Tells fault → status_of fault ≡ 0 → RunsWhole rack words before after ended.trails.items (Appends before.holds after.holds)
+    at_done : (fault : Option Fault) → Tells fault → status_of fault ≡ 0
+        → RunsWhole rack words before after ended.trails.items (Appends before.holds after.holds)
     at_done None told is = told
     at_done (Some Usage) told is = absurd told
     at_done _ told is = absurd (omega (arith, is))
@@ -126,13 +154,10 @@ module _ (words : List (String Global)) (rack : Racked) (before after : Outside)
     at_unread _ told is = absurd (omega (arith, is))
 
     at_cut : (fault : Option Fault) → Tells fault → status_of fault ≡ 4
-        → RunsWhole rack words before after ended.trails.items (AppendsFront before.holds after.holds) × (before.sink_faults < after.sink_faults)
+        → RunsWhole rack words before after ended.trails.items (AppendsFront before.holds after.holds)
+        × (before.sink_faults < after.sink_faults)
     at_cut (Some Write) told is = told
     at_cut _ told is = absurd (omega (arith, is))
-
-    at_unracked : (fault : Option Fault) → Tells fault → status_of fault ≡ 6 → rack.failed ⊎ DiskFailed
-    at_unracked (Some (Rack site)) told is = told.1
-    at_unracked _ told is = absurd (omega (arith, is))
 
     -- but for 0, 4, 5 and 6 there are no trails
     no_trails : (fault : Option Fault) → Tells fault → ended.status ≡ status_of fault
@@ -144,57 +169,91 @@ module _ (words : List (String Global)) (rack : Racked) (before after : Outside)
     no_trails (Some Write) told is = inr (inr (inl is))
     no_trails (Some Memory) told is = inr (inr (inr (inl is)))
     no_trails (Some (Rack site)) told is = inr (inr (inr (inr is)))
-    no_trails (Some (Journal site cause place)) told is = inl told.2
+    no_trails (Some (Journal site cause place)) told is = inl told.1
+
+    -- a fault of the rack that isn't the rack's own
+    early : (site : ℕ) → ¬ rack.failed → rack.failed ⊎ ((ended.trails.items ≡ []) × rack.one site HasFailed)
+        → FailsEarly rack ended.trails.items
+    early site ok (inl rose) = absurd (ok rose)
+    early site ok (inr disk) = (disk.0, (site, disk.1))
+
+    -- where nothing fails, a scenario that the bytes spell is run
+    completes : (fault : Option Fault) → ended.status ≡ status_of fault → Tells fault → (bytes : List ℕ) (s : Scenario)
+        → before.left ≡ Some bytes → IsReading bytes s → AreAllTold rack s.catalog.sites
+        → ((i : ℕ) → i < s.catalog.sites → Holds rack i HasNoRecord)
+        → after.source_faults ≡ before.source_faults → after.sink_faults ≡ before.sink_faults → ¬ rack.failed
+        → (ended.status ≡ 0) ⊎ (ended.status ≡ 5) ⊎ FailsEarly rack ended.trails.items
+    completes None is told bytes s left reading known new source sink ok = inl is
+    completes (Some Usage) is told bytes s left reading known new source sink ok = absurd told
+    completes (Some (ScenarioFault place detail)) is told bytes s left reading known new source sink ok =
+        absurd (read_nowhere_refused bytes s place reading (none_wrong before.left after.left bytes place told.0 left))
+    completes (Some Read) is told bytes s left reading known new source sink ok =
+        absurd (let rose = told.0 in omega (arith, rose, source))
+    completes (Some Write) is told bytes s left reading known new source sink ok =
+        absurd (let rose = told.1 in omega (arith, rose, sink))
+    completes (Some Memory) is told bytes s left reading known new source sink ok = inr (inl is)
+    completes (Some (Rack site)) is told bytes s left reading known new source sink ok = inr (inr (early site ok told))
+    completes (Some (Journal site cause place)) is told bytes s left reading known new source sink ok =
+        let same : told.2.0 ≡ s =
+        one_scenario bytes told.2.0 s (taken_reading before.left after.left bytes told.2.0 told.2.1 left) reading in
+        let within : site < s.catalog.sites = subst (λ (t : Scenario). site < t.catalog.sites) same told.2.2 in
+        absurd (of_both (rack.bytes site) (HasCause cause place) HasNoRecord ⊥ (cause_has_record cause place)
+        (known site within) told.0.unfit (new site within))
 
     -- what was run over holds no record, and so has no cause of a fault
-    run_has_none : (s : Scenario) (cause : JournalCause) (place : ℕ) → IsRun rack s ended.trails.items → rack.told → rack.holds (HasCause cause place) → ⊥
-    run_has_none s cause place run told why = both (HasCause cause place) HasNoRecord ⊥ (cause_has_record cause place) told why run.no_record_before
+    run_has_none : (bytes : List ℕ) (s : Scenario) (site : ℕ) (cause : JournalCause) (place : ℕ)
+        → Runs rack before after ended.trails.items → before.left ≡ Some bytes → IsReading bytes s → site < s.catalog.sites
+        → AreAllTold rack s.catalog.sites → IsFirstUnfit rack site cause place → ⊥
+    run_has_none bytes s site cause place run left reading within known why =
+        let same = runs_reading rack before after ended.trails.items bytes s run left reading in
+        of_both (rack.bytes site) (HasCause cause place) HasNoRecord ⊥ (cause_has_record cause place) (known site within) why.unfit
+        (run.run.no_record_before site (subst (λ (t : Scenario). site < t.catalog.sites) (sym same) within))
 
-    -- where nothing fails, a scenario of one site that the bytes spell is run
-    completes : (fault : Option Fault) → ended.status ≡ status_of fault → Tells fault → (bytes : List ℕ) (s : Scenario) → before.left ≡ Some bytes → IsReading bytes s → s.catalog.sites ≡ 1 → rack.told → rack.holds HasNoRecord
-        → after.source_faults ≡ before.source_faults → after.sink_faults ≡ before.sink_faults → ¬ rack.failed
-        → (ended.status ≡ 0) ⊎ (ended.status ≡ 5) ⊎ DiskFailed
-    completes None is told bytes s left reading one known new source sink ok = inl is
-    completes (Some Usage) is told bytes s left reading one known new source sink ok = absurd told
-    completes (Some (ScenarioFault place detail)) is told bytes s left reading one known new source sink ok =
-        absurd (nowhere_wrong bytes s place reading one (none_wrong before.left after.left bytes place told.0 left))
-    completes (Some Read) is told bytes s left reading one known new source sink ok = absurd (let rose = told.0 in omega (arith, rose, source))
-    completes (Some Write) is told bytes s left reading one known new source sink ok = absurd (let rose = told.1 in omega (arith, rose, sink))
-    completes (Some Memory) is told bytes s left reading one known new source sink ok = inr (inl is)
-    completes (Some (Rack site)) is told bytes s left reading one known new source sink ok = elim told.1 [ inl rose ↦ absurd (ok rose) | inr disk ↦ inr (inr disk) ]
-    completes (Some (Journal site cause place)) is told bytes s left reading one known new source sink ok =
-        absurd (both (HasCause cause place) HasNoRecord ⊥ (cause_has_record cause place) known told.1 new)
+    whole_runs : (Written : List ℕ → Type 0) → RunsWhole rack words before after ended.trails.items Written
+        → Runs rack before after ended.trails.items
+    whole_runs Written is = record {
+      bytes = is.bytes;
+      source = is.source;
+      scenario = is.scenario;
+      reading = is.reading;
+      run = is.run.run;
+    }
 
-    -- where the disk has what no site can begin with, just that is named
-    names : (fault : Option Fault) → ended.fault ≡ fault → ended.status ≡ status_of fault → Tells fault → (bytes : List ℕ) (s : Scenario) (cause : JournalCause) (place : ℕ)
-        → before.left ≡ Some bytes → IsReading bytes s → s.catalog.sites ≡ 1 → rack.told → rack.holds (HasCause cause place) → after.source_faults ≡ before.source_faults → ¬ rack.failed
-        → (ended.fault ≡ Some (Journal 0 cause place)) ⊎ (ended.status ≡ 5) ⊎ DiskFailed
-    names None named is told bytes s cause place left reading one known why source ok = absurd (run_has_none told.scenario cause place told.run.run known why)
-    names (Some Usage) named is told bytes s cause place left reading one known why source ok = absurd told
-    names (Some (ScenarioFault p detail)) named is told bytes s cause place left reading one known why source ok =
-        absurd (nowhere_wrong bytes s p reading one (none_wrong before.left after.left bytes p told.0 left))
-    names (Some Read) named is told bytes s cause place left reading one known why source ok = absurd (let rose = told.0 in omega (arith, rose, source))
-    names (Some Write) named is told bytes s cause place left reading one known why source ok = absurd (run_has_none told.0.scenario cause place told.0.run.run known why)
-    names (Some Memory) named is told bytes s cause place left reading one known why source ok = inr (inl is)
-    names (Some (Rack site)) named is told bytes s cause place left reading one known why source ok = elim told.1 [ inl rose ↦ absurd (ok rose) | inr disk ↦ inr (inr disk) ]
-    names (Some (Journal site c p)) named is told bytes s cause place left reading one known why source ok =
-        let same = both (HasCause c p) (HasCause cause place) ((c ≡ cause) × (p ≡ place)) (λ bs x y. one_cause c cause p place bs x y) known told.1 why in
-        inl (named ∙ (ap (λ n. Some (Journal n c p)) told.0 ∙ (ap (λ k. Some (Journal 0 k p)) same.0 ∙ ap (λ n. Some (Journal 0 cause n)) same.1)))
+    -- where the disk of a site is the first that no site can begin with, just that is named
+    names : (fault : Option Fault) → ended.fault ≡ fault → ended.status ≡ status_of fault → Tells fault
+        → (bytes : List ℕ) (s : Scenario) (site : ℕ) (cause : JournalCause) (place : ℕ)
+        → before.left ≡ Some bytes → IsReading bytes s → site < s.catalog.sites → AreAllTold rack s.catalog.sites
+        → IsFirstUnfit rack site cause place → after.source_faults ≡ before.source_faults → ¬ rack.failed
+        → (ended.fault ≡ Some (Journal site cause place)) ⊎ (ended.status ≡ 5) ⊎ FailsEarly rack ended.trails.items
+    names None named is told bytes s site cause place left reading within known why source ok =
+        absurd (run_has_none bytes s site cause place (whole_runs (Appends before.holds after.holds) told) left reading within known why)
+    names (Some Usage) named is told bytes s site cause place left reading within known why source ok = absurd told
+    names (Some (ScenarioFault p detail)) named is told bytes s site cause place left reading within known why source ok =
+        absurd (read_nowhere_refused bytes s p reading (none_wrong before.left after.left bytes p told.0 left))
+    names (Some Read) named is told bytes s site cause place left reading within known why source ok =
+        absurd (let rose = told.0 in omega (arith, rose, source))
+    names (Some Write) named is told bytes s site cause place left reading within known why source ok =
+        absurd (run_has_none bytes s site cause place (whole_runs (AppendsFront before.holds after.holds) told.0) left reading within known why)
+    names (Some Memory) named is told bytes s site cause place left reading within known why source ok = inr (inl is)
+    names (Some (Rack other)) named is told bytes s site cause place left reading within known why source ok =
+        inr (inr (early other ok told))
+    names (Some (Journal other c p)) named is told bytes s site cause place left reading within known why source ok =
+        let same = one_unfit rack s.catalog.sites other site c cause p place known within told.0 why in
+        inl (named
+        ∙ (ap (λ n. Some (Journal n c p)) same.0
+        ∙ (ap (λ k. Some (Journal site k p)) same.1 ∙ ap (λ n. Some (Journal site cause n)) same.2)))
 
     -- where the bytes are wrong at a place, it is named, or memory ran out
     abbrev Refuses : Type 0
-    Refuses = (bytes : List ℕ) (place : Place) → before.left ≡ Some bytes → IsRefusedAt bytes place → after.source_faults ≡ before.source_faults
+    Refuses = (bytes : List ℕ) (place : Place) → before.left ≡ Some bytes → IsRefusedAt bytes place
+        → after.source_faults ≡ before.source_faults
         → ((detail : Detail) × (ended.fault ≡ Some (ScenarioFault place detail))) ⊎ (ended.status ≡ 5)
 
-    -- where they tell of several sites, the number of sites is
-    abbrev RefusesSeveral : Type 0
-    RefusesSeveral = (bytes : List ℕ) → before.left ≡ Some bytes → TellsOfSeveral bytes → after.source_faults ≡ before.source_faults
-        → ((detail : Detail) × (ended.fault ≡ Some (ScenarioFault Sites detail))) ⊎ (ended.status ≡ 5)
-
     -- all that is promised, by what is so with the fault
-    promise : (fault : Option Fault) → ended.fault ≡ fault → Tells fault → (ended.status ≢ 0 → ended.status ≢ 4 → after.holds ≡ before.holds)
-        → MayRun → Refuses → RefusesSeveral → Promise words rack before after ended
-    promise fault named told silent legal refuses several =
+    promise : (fault : Option Fault) → ended.fault ≡ fault → Tells fault
+        → (ended.status ≢ 0 → ended.status ≢ 4 → after.holds ≡ before.holds) → MayRun → Refuses
+        → Promise words rack before after ended
+    promise fault named told silent legal refuses =
         let is : ended.status ≡ status_of fault = status ∙ ap status_of named in
         record {
           status = status;
@@ -204,10 +263,9 @@ module _ (words : List (String Global)) (rack : Racked) (before after : Outside)
           unread = λ h. at_unread fault told (sym is ∙ h);
           cut = λ h. (at_cut fault told (sym is ∙ h)).0;
           failed = λ h. (at_cut fault told (sym is ∙ h)).1;
-          unracked = λ h. at_unracked fault told (sym is ∙ h);
-          unracked_site = λ site h. (subst (λ (f : Option Fault). Tells f) (sym named ∙ h) told).0;
-          unfit = λ site cause place h. let why = subst (λ (f : Option Fault). Tells f) (sym named ∙ h) told in (why.0, why.1);
-          unfit_named = λ bytes s cause place play. names fault named is told bytes s cause place;
+          unracked = λ site h. subst (λ (f : Option Fault). Tells f) (sym named ∙ h) told;
+          unfit = λ site cause place h. (subst (λ (f : Option Fault). Tells f) (sym named ∙ h) told).0;
+          unfit_named = λ bytes s site cause place play. names fault named is told bytes s site cause place;
           given_back = back;
           unfailing = unfailing;
           silent = silent;
@@ -215,61 +273,60 @@ module _ (words : List (String Global)) (rack : Racked) (before after : Outside)
           no_trails = no_trails fault told is;
           complete = λ bytes s play. completes fault is told bytes s;
           refuses = λ bytes place play. refuses bytes place;
-          several = λ bytes play. several bytes;
         }
 
     -- the bytes of a scenario that was taken are refused nowhere
     never : (s : Scenario) → IsTaken before.left after.left s → Refuses
-    never s taken = λ bytes place left wrong source. absurd (read_nowhere_refused bytes s place (taken_reading before.left after.left bytes s taken left) wrong)
-
-    -- and tell of one site
-    never_several : (s : Scenario) → IsTaken before.left after.left s → RefusesSeveral
-    never_several s taken = λ bytes left tells source.
-        absurd (not_several bytes s (taken_reading before.left after.left bytes s taken left) taken.one_site tells)
+    never s taken = λ bytes place left wrong source.
+        absurd (read_nowhere_refused bytes s place (taken_reading before.left after.left bytes s taken left) wrong)
 
     -- a run over a scenario that was taken
     pub promise_run : (s : Scenario) (fault : Option Fault) → ended.fault ≡ fault → IsTaken before.left after.left s
-        → EndsRun rack trace s before.holds after.holds before.sink_faults after.sink_faults ended.trails.items fault → Promise words rack before after ended
+        → EndsRun rack trace s before.holds after.holds before.sink_faults after.sink_faults ended.trails.items fault
+        → Promise words rack before after ended
     promise_run s None named taken ends =
-        promise None named (whole s (Appends before.holds after.holds) taken ends.0 ends.1) (λ not_done not_cut. absurd (not_done (status ∙ ap status_of named)))
-        (inr (runs s taken ends.0.run)) (never s taken) (never_several s taken)
+        promise None named (whole s (Appends before.holds after.holds) taken ends.0 ends.1)
+        (λ not_done not_cut. absurd (not_done (status ∙ ap status_of named)))
+        (inr (runs s taken ends.0.run)) (never s taken)
     promise_run s (Some Write) named taken ends =
-        promise (Some Write) named (whole s (AppendsFront before.holds after.holds) taken ends.0 ends.1, ends.2) (λ not_done not_cut. absurd (not_cut (status ∙ ap status_of named)))
-        (inr (runs s taken ends.0.run)) (never s taken) (never_several s taken)
-    promise_run s (Some Memory) named taken ends = promise (Some Memory) named tt (λ not_done not_cut. ends.1) (runs_if s taken ends.0) (never s taken) (never_several s taken)
-    promise_run s (Some (Rack site)) named taken ends = promise (Some (Rack site)) named (ends.2, ends.3) (λ not_done not_cut. ends.1) (runs_if s taken ends.0) (never s taken) (never_several s taken)
+        promise (Some Write) named (whole s (AppendsFront before.holds after.holds) taken ends.0 ends.1, ends.2)
+        (λ not_done not_cut. absurd (not_cut (status ∙ ap status_of named)))
+        (inr (runs s taken ends.0.run)) (never s taken)
+    promise_run s (Some Memory) named taken ends =
+        promise (Some Memory) named tt (λ not_done not_cut. ends.1) (runs_if s taken ends.0) (never s taken)
+    promise_run s (Some (Rack site)) named taken ends =
+        promise (Some (Rack site)) named ends.2 (λ not_done not_cut. ends.1) (runs_if s taken ends.0) (never s taken)
     promise_run s (Some (Journal site cause place)) named taken ends =
-        promise (Some (Journal site cause place)) named (ends.2, ends.3, ends.0.0) (λ not_done not_cut. ends.1) (inl ends.0) (never s taken) (never_several s taken)
+        promise (Some (Journal site cause place)) named (ends.3, ends.0.0, (s, taken, ends.2)) (λ not_done not_cut. ends.1)
+        (inl ends.0) (never s taken)
     promise_run s (Some Usage) named taken ends = absurd ends
     promise_run s (Some (ScenarioFault place detail)) named taken ends = absurd ends
     promise_run s (Some Read) named taken ends = absurd ends
 
     -- no scenario was taken
-    pub promise_fault : (fault : Fault) → ended.fault ≡ Some fault → ended.trails.items ≡ [] → IsUntouched rack → after.holds ≡ before.holds
-        → IsTakeFault before.left after.left before.source_faults after.source_faults fault → Promise words rack before after ended
+    pub promise_fault : (fault : Fault) → ended.fault ≡ Some fault → ended.trails.items ≡ [] → IsUntouched rack
+        → after.holds ≡ before.holds
+        → IsTakeFault before.left after.left before.source_faults after.source_faults fault
+        → Promise words rack before after ended
     promise_fault (ScenarioFault place detail) named none untouched same why =
         promise (Some (ScenarioFault place detail)) named (why, none) (λ not_done not_cut. same) (inl (none, untouched))
-        (λ bytes other left wrong source. elim (none_wrong before.left after.left bytes place why left) [
-          | inl here ↦ inl (detail, named ∙ ap (λ (p : Place). Some (ScenarioFault p detail)) (one_refused bytes place other here wrong))
-          | inr several ↦ absurd (read_nowhere_refused bytes several.1.0 other several.1.1 wrong)
-        ])
-        (λ bytes left tells source. elim (none_wrong before.left after.left bytes place why left) [
-          | inl here ↦ absurd (read_nowhere_refused bytes tells.0 place tells.1 here)
-          | inr several ↦ inl (detail, named ∙ ap (λ (p : Place). Some (ScenarioFault p detail)) several.0)
-        ])
+        (λ bytes other left wrong source.
+        inl (detail, named ∙ ap (λ (p : Place). Some (ScenarioFault p detail))
+        (one_refused bytes place other (none_wrong before.left after.left bytes place why left) wrong)))
     promise_fault Read named none untouched same why =
-        promise (Some Read) named (why, none) (λ not_done not_cut. same) (inl (none, untouched)) (λ bytes place left wrong source. absurd (omega (arith, why, source)))
-        (λ bytes left tells source. absurd (omega (arith, why, source)))
+        promise (Some Read) named (why, none) (λ not_done not_cut. same) (inl (none, untouched))
+        (λ bytes place left wrong source. absurd (omega (arith, why, source)))
     promise_fault Memory named none untouched same why =
-        promise (Some Memory) named tt (λ not_done not_cut. same) (inl (none, untouched)) (λ bytes place left wrong source. inr (status ∙ ap status_of named))
-        (λ bytes left tells source. inr (status ∙ ap status_of named))
+        promise (Some Memory) named tt (λ not_done not_cut. same) (inl (none, untouched))
+        (λ bytes place left wrong source. inr (status ∙ ap status_of named))
     promise_fault Usage named none untouched same why = absurd why
     promise_fault Write named none untouched same why = absurd why
     promise_fault (Rack site) named none untouched same why = absurd why
     promise_fault (Journal site cause place) named none untouched same why = absurd why
 
   -- the words ask for nothing
-  pub promise_usage : ¬ IsLine words → ended.fault ≡ Some Usage → ended.trails.items ≡ [] → IsUntouched rack → after.holds ≡ before.holds → Promise words rack before after ended
+  pub promise_usage : ¬ IsLine words → ended.fault ≡ Some Usage → ended.trails.items ≡ [] → IsUntouched rack
+      → after.holds ≡ before.holds → Promise words rack before after ended
   promise_usage other named none untouched same =
       let is : ended.status ≡ 1 = status ∙ ap status_of named in
       record {
@@ -280,10 +337,9 @@ module _ (words : List (String Global)) (rack : Racked) (before after : Outside)
         unread = λ h. absurd (omega (arith, is, h));
         cut = λ h. absurd (omega (arith, is, h));
         failed = λ h. absurd (omega (arith, is, h));
-        unracked = λ h. absurd (omega (arith, is, h));
-        unracked_site = λ site h. absurd (let e = sym named ∙ h in cc);
+        unracked = λ site h. absurd (let e = sym named ∙ h in cc);
         unfit = λ site cause place h. absurd (let e = sym named ∙ h in cc);
-        unfit_named = λ bytes s cause place play. absurd (other play);
+        unfit_named = λ bytes s site cause place play. absurd (other play);
         given_back = back;
         unfailing = unfailing;
         silent = λ not_done not_cut. same;
@@ -291,5 +347,4 @@ module _ (words : List (String Global)) (rack : Racked) (before after : Outside)
         no_trails = inl none;
         complete = λ bytes s play. absurd (other play);
         refuses = λ bytes place play. absurd (other play);
-        several = λ bytes play. absurd (other play);
       }

@@ -57,17 +57,17 @@ pub record IsBuilt {D S K : Type 0} {g : Ghosts D} {s : SourceGhosts S} {k : Sin
   pub arms : (i : ℕ) (disk : D) → slice_get disks i ≡ Some disk
       → arms_at bench.cells.items i ≡ (g.known disk).arms
 
--- why no site was built over the disks of a rack: the rack failed, or a disk did, or it has what no site can begin
+-- why so many sites were not built over the disks of a rack: the rack failed, or a disk did, or it has what no site can begin
 -- with; or memory ran out
-abbrev pub IsUnbuilt : Racked → Fault → Type 0
-IsUnbuilt rack Memory = Unit {0}
-IsUnbuilt rack (Rack site) = rack.failed ⊎ rack.one site HasFailed
-IsUnbuilt rack (Journal site cause place) = IsFirstUnfit rack site cause place
-IsUnbuilt rack fault = ⊥
+abbrev pub IsUnbuilt : Racked → (sites : ℕ) → Fault → Type 0
+IsUnbuilt rack sites Memory = Unit {0}
+IsUnbuilt rack sites (Rack site) = rack.failed ⊎ rack.one site HasFailed
+IsUnbuilt rack sites (Journal site cause place) = (site < sites) × IsFirstUnfit rack site cause place
+IsUnbuilt rack sites fault = ⊥
 
 -- the rack is as no run has begun, and what it was taken of was given back, but for what it lost by a fault
-pub record EndsEarly (rack : Racked) (fault : Fault) : Type 0 where
-  pub why : IsUnbuilt rack fault
+pub record EndsEarly (rack : Racked) (sites : ℕ) (fault : Fault) : Type 0 where
+  pub why : IsUnbuilt rack sites fault
   pub untouched : IsUntouched rack
   pub given_back : rack.balanced
   pub unfailing : rack.unfailing 16 → ¬ rack.failed
@@ -88,7 +88,8 @@ EndsRun rack trace s holds holds' faults faults' trails (Some Memory) =
 EndsRun rack trace s holds holds' faults faults' trails (Some (Rack site)) =
     MayHaveRun rack s trails × (holds' ≡ holds) × (rack.failed ⊎ ((trails ≡ []) × rack.one site HasFailed))
 EndsRun rack trace s holds holds' faults faults' trails (Some (Journal site cause place)) =
-    ((trails ≡ []) × IsUntouched rack) × (holds' ≡ holds) × IsFirstUnfit rack site cause place
+    ((trails ≡ []) × IsUntouched rack) × (holds' ≡ holds) × (site < s.catalog.sites)
+    × IsFirstUnfit rack site cause place
 EndsRun rack trace s holds holds' faults faults' trails (Some Usage) = ⊥
 EndsRun rack trace s holds holds' faults faults' trails (Some (ScenarioFault place detail)) = ⊥
 EndsRun rack trace s holds holds' faults faults' trails (Some Read) = ⊥

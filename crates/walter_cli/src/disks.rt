@@ -41,7 +41,7 @@ pub fn take_all<R: Rack>(alloc: Global, rack: &mut R, sites: u8) -> Result<Vec<R
           taken = R.taken rack.new;
           faults = R.faults rack.new;
           unfailing = R.unfailing rack.new;
-        }))) }
+        })) sites) }
 {
     let Ok(mut disks) = Vec::with_capacity(alloc, usize::from(sites)) else {
         return Err(Fault::Memory);

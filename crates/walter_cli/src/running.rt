@@ -136,7 +136,7 @@ fn build_over<R: Rack>(
           taken = R.taken rack.new;
           faults = R.faults rack.new;
           unfailing = R.unfailing rack.new;
-        }))) }
+        })) scenario.now.catalog.sites) }
 {
     let Ok(lines) = open_lines(alloc, scenario.clients.as_slice()) else {
         return Err(Fault::Memory);
