@@ -1,5 +1,5 @@
 -- What the answers of a client's connection leave of what was read.
-use Rattle.std.proofs.Common.{◌≡◌, ◌≢◌, ◌<◌, ℕ, List, [], ◌∷◌, ◌++◌, length, refl, ap, sym, ◌∙◌, subst, arith, inl, inr, Option, Some, None, Result, get_or, slice_get, slice_set, nat_eq, if◌then◌else◌}
+use Rattle.std.proofs.Common.{◌≡◌, ◌≢◌, ◌⊎◌, ◌<◌, ℕ, List, [], ◌∷◌, ◌++◌, length, refl, ap, sym, ◌∙◌, subst, arith, inl, inr, Option, Some, None, Result, get_or, slice_get, slice_set, nat_eq, if◌then◌else◌}
 use Rattle.std.proofs.lemmas.Bool.{cases_lt, eq-eqb, ne_eqb}
 use Rattle.std.proofs.lemmas.List.{append-nil, length-set, get_or-set_same, get_or-set_other}
 use Rattle.std.proofs.lemmas.List.Concat.{flat_map-append}
@@ -7,14 +7,17 @@ use Rattle.std.proofs.lemmas.Option.{slice_get-get_or, slice_get_past, get_or_fr
 use Rattle.walter_base.specs.declared.message.BadFrame.{BadFrame}
 use Rattle.walter_base.specs.declared.message.Request.{Request}
 use Rattle.walter_conn.specs.Calls.{Incoming, Answers, TakesCall, before, fault, cut}
-use Rattle.walter_conn.specs.Connections.{incoming}
+use Rattle.walter_conn.specs.Connections.{incoming, source_of, sink_of}
 use Rattle.walter_conn.specs.Frames.{Call}
-use Rattle.walter_conn.specs.Sequences.{AreCalls, AreAllCalls}
+use Rattle.walter_conn.specs.Outputs.{IsLost}
+use Rattle.walter_conn.specs.Outputs as outputs
+use Rattle.walter_conn.specs.Sequences.{AreCalls, AreAllCalls, HasCalled}
 use Rattle.walter_conn.specs.declared.conn.Conn.{Conn}
 use Rattle.walter_conn.specs.declared.next.Next.{Next}
 use Rattle.walter_conn.specs.declared.next.Next.TheVariants.{Frame, Ended, Broken}
+use Rattle.walter_conn.specs.declared.state.State.{State}
 use Rattle.walter_conn.specs.declared.state.State.TheVariants as state
-use Rattle.walter_conn.proofs.Standings.{one_more_call, over_keeps, over_all, breaks_keeps, breaks_all, calls_of as calls_told}
+use Rattle.walter_conn.proofs.Standings.{one_more_call, over_keeps, over_all, breaks_keeps, breaks_all, lost_keeps, calls_of as calls_told}
 use Rattle.walter_stream.specs.declared.sink.Sink.{Ghosts as SinkGhosts}
 use Rattle.walter_stream.specs.declared.source.Source.{Ghosts as SourceGhosts}
 use Rattle.walter_rules.specs.declared.entry.Entry.{Entry}
@@ -22,7 +25,7 @@ use Rattle.walter_rules.specs.declared.event.Event.{Event}
 use Rattle.walter_rules.specs.declared.event.Event.TheVariants.{Given}
 use Rattle.walter_rules.specs.declared.event.Input.TheVariants.{Call as CallInput}
 use Rattle.walter_trail.specs.Calls.{call_by, calls_of}
-use Rattle.walter_cell.specs.Cells.{IsLine, IsLineAt, IsUnbroken, Leaves}
+use Rattle.walter_cell.specs.Cells.{HasFault, IsLine, IsLineAt, OfLine, IsUnbroken, Leaves}
 
 -- a connection from which a call was taken isn't broken
 not_broken : (old new : Incoming) (call : Call) → TakesCall old new call → new.state ≢ state.Broken
@@ -37,20 +40,63 @@ next_ready old new (Frame call) takes = not_broken old new call takes
 next_ready old new Ended over = tt
 next_ready old new Broken breaks = tt
 
-pub line_next : (bytes : List ℕ) (calls : List Call) (old new : Incoming) (next : Next) → IsLine bytes calls old → Answers old new next → new.faults ≡ old.faults
-    → Leaves bytes calls new next
-line_next bytes calls old new (Frame call) is takes faultless =
-    record { stands = one_more_call bytes calls old new call is.stands takes; broken = λ broken. absurd (not_broken old new call takes broken) }
-line_next bytes calls old new Ended is over faultless =
-    let all : AreAllCalls bytes calls = over_all bytes calls old new is.stands over in
-    (record { stands = over_keeps bytes calls old new is.stands over; broken = λ broken. all }, all)
-line_next bytes calls old new Broken is (before was same) faultless =
-    let all : AreAllCalls bytes calls = is.broken was in
-    (record { stands = breaks_keeps bytes calls old new is.stands (before was same); broken = λ broken. all }, all)
-line_next bytes calls old new Broken is (fault was rose same broken) faultless = absurd (omega (arith, rose, faultless))
-line_next bytes calls old new Broken is (cut was ends now) faultless =
-    let all : AreAllCalls bytes calls = breaks_all bytes calls old new is.stands (cut was ends now) (λ broken. absurd cc) faultless in
-    (record { stands = breaks_keeps bytes calls old new is.stands (cut was ends now); broken = λ broken. all }, all)
+module _ {S K : Type 0} {s : SourceGhosts S} {k : SinkGhosts K} (bytes : List ℕ) (calls : List Call) (old new : Conn S K s k)
+    (is : IsLine bytes calls old) where
+  fault_kept : s.faults (source_of new) ≡ s.faults (source_of old) → sink_of new ≡ sink_of old → HasFault old → HasFault new
+  fault_kept sources sinks (inl failed) = inl (subst (λ n. 0 < n) (sym sources) failed)
+  fault_kept sources sinks (inr failed) = inr (subst (λ (x : K). 0 < k.faults x) (sym sinks) failed)
+
+  pub line_next : (next : Next) → Answers (incoming old) (incoming new) next → sink_of new ≡ sink_of old → Leaves bytes calls new next
+  line_next (Frame call) takes sinks = record {
+    stands = one_more_call bytes calls (incoming old) (incoming new) call is.stands takes;
+    broken = λ broken. absurd (not_broken (incoming old) (incoming new) call takes broken);
+  }
+  line_next Ended over sinks =
+      let all : AreAllCalls bytes calls = over_all bytes calls (incoming old) (incoming new) is.stands over in
+      (record { stands = over_keeps bytes calls (incoming old) (incoming new) is.stands over; broken = λ broken. inr all }, all)
+  line_next Broken (before was same) sinks =
+      let why : HasFault new ⊎ AreAllCalls bytes calls = elim (is.broken was) [
+        | inl failed ↦ inl (fault_kept (ap (λ (x : Incoming). x.faults) same) sinks failed)
+        | inr all ↦ inr all
+      ] in
+      (record { stands = breaks_keeps bytes calls (incoming old) (incoming new) is.stands (before was same); broken = λ broken. why }, why)
+  line_next Broken (fault was rose same broken) sinks =
+      let why : HasFault new ⊎ AreAllCalls bytes calls = inl (inl (omega (arith, rose))) in
+      (record { stands = breaks_keeps bytes calls (incoming old) (incoming new) is.stands (fault was rose same broken); broken = λ broken. why }, why)
+  line_next Broken (cut was ends now) sinks =
+      let why : HasFault new ⊎ AreAllCalls bytes calls =
+      inr (breaks_all bytes calls (incoming old) (incoming new) is.stands (cut was ends now) (λ broken. absurd cc) (ap (λ (x : Incoming). x.faults) now)) in
+      (record { stands = breaks_keeps bytes calls (incoming old) (incoming new) is.stands (cut was ends now); broken = λ broken. why }, why)
+
+  -- what it has read is as before
+  pub line_kept : incoming new ≡ incoming old → sink_of new ≡ sink_of old → IsLine bytes calls new
+  line_kept same sinks = record {
+    stands = subst (λ (x : Incoming). HasCalled bytes calls x) (sym same) is.stands;
+    broken = λ broken. elim (is.broken (sym (ap (λ (x : Incoming). x.state) same) ∙ broken)) [
+      | inl failed ↦ inl (fault_kept (ap (λ (x : Incoming). x.faults) same) sinks failed)
+      | inr all ↦ inr all
+    ];
+  }
+
+  -- a reply was written to it
+  pub line_told : incoming new ≡ incoming old → (incoming old).state ≢ state.Broken → IsLine bytes calls new
+  line_told same unbroken = record {
+    stands = subst (λ (x : Incoming). HasCalled bytes calls x) (sym same) is.stands;
+    broken = λ broken. absurd (unbroken (sym (ap (λ (x : Incoming). x.state) same) ∙ broken));
+  }
+
+  -- or the reply was lost
+  pub line_lost : incoming new ≡ record (incoming old) { state = state.Broken } → HasFault new → IsLine bytes calls new
+  line_lost same failed = record {
+    stands = subst (λ (x : Incoming). HasCalled bytes calls x) (sym same) (lost_keeps bytes calls (incoming old) is.stands);
+    broken = λ broken. inl failed;
+  }
+
+-- where a reply is lost a sink has failed
+pub lost_fails : {K : Type 0} (holds : K → Option (List ℕ)) (faults : K → ℕ) (old new : K) (bytes : List ℕ) (was : State)
+    → was ≢ state.Broken → IsLost holds faults old new bytes was → 0 < faults new
+lost_fails holds faults old new bytes was unbroken (outputs.before broken same) = absurd (unbroken broken)
+lost_fails holds faults old new bytes was unbroken (outputs.fault open_ front rose) = omega (arith, rose)
 
 -- the one at a place of a list
 pub at_place : {L : Type 0} (lines : List L) (place : ℕ) (line found : L) → slice_get lines place ≡ Some line → found ≡ get_or lines place found → line ≡ found
@@ -99,16 +145,16 @@ module _ {S K : Type 0} {s : SourceGhosts S} {k : SinkGhosts K} where
   -- the connection at a place, where it is told
   pub line_at : (bytes : List ℕ) (calls : List Call) (lines : List (Option (Conn S K s k))) (place : ℕ)
       (found : Option (Conn S K s k)) (line : Conn S K s k) → IsLineAt bytes calls lines place
-      → found ≡ get_or lines place found → found ≡ Some line → IsLine bytes calls (incoming line)
+      → found ≡ get_or lines place found → found ≡ Some line → IsLine bytes calls line
   line_at bytes calls lines place found line is at some =
       let same : Some is.0 ≡ Some line = at_place lines place (Some is.0) found is.1 at ∙ some in
       let e : is.0 ≡ line = cc in
-      subst (λ (l : Conn S K s k). IsLine bytes calls (incoming l)) e is.2
+      subst (λ (l : Conn S K s k). IsLine bytes calls l) e is.2
 
   -- a connection that was set at a place
-  pub line_set : (bytes : List ℕ) (calls : List Call) (lines : List (Option (Conn S K s k))) (place : ℕ) (line : Conn S K s k)
-      → place < length lines → IsLine bytes calls (incoming line) → IsLineAt bytes calls (slice_set lines place (Some line)) place
-  line_set bytes calls lines place line within is = (line, set_here lines place (Some line) within, is)
+  pub line_set : (P : Conn S K s k → Type 0) (lines : List (Option (Conn S K s k))) (place : ℕ) (line : Conn S K s k)
+      → place < length lines → P line → OfLine (slice_set lines place (Some line)) place P
+  line_set P lines place line within is = (line, set_here lines place (Some line) within, is)
 
   -- the connection at a place, with a trail that is the same
   pub line_entries : (bytes : List ℕ) (number : ℕ) (old new : List Entry) (lines : List (Option (Conn S K s k))) → new ≡ old
@@ -116,7 +162,9 @@ module _ {S K : Type 0} {s : SourceGhosts S} {k : SinkGhosts K} where
   line_entries bytes number old new lines same is =
       subst (λ (entries : List Entry). IsLineAt {S = S} {K = K} {s = s} {k = k} bytes (calls_of number entries) lines number) (sym same) is
 
--- what was read of a client's calls, told of equal calls
-pub line_calls : (bytes : List ℕ) (calls others : List Call) (now : Incoming) → IsLine bytes calls now → others ≡ calls → (rest : List ℕ) × AreCalls bytes others rest
-line_calls bytes calls others now is same =
-    (is.stands.rest, subst (λ xs. AreCalls bytes xs is.stands.rest) (sym same) (calls_told bytes calls now is.stands.rest is.stands is.stands.unread))
+  -- what was read of a client's calls, told of equal calls
+  pub line_calls : (bytes : List ℕ) (calls others : List Call) (line : Conn S K s k) → IsLine bytes calls line → others ≡ calls
+      → (rest : List ℕ) × AreCalls bytes others rest
+  line_calls bytes calls others line is same =
+      let rest = is.stands.rest in
+      (rest, subst (λ xs. AreCalls bytes xs rest) (sym same) (calls_told bytes calls (incoming line) rest is.stands is.stands.unread))

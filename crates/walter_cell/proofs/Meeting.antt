@@ -1,6 +1,6 @@
 -- The ends of two sites' lanes where all that one has put for the other arrives.
 use Rattle.std.proofs.Common.{◌≡◌, ◌≢◌, ◌<◌, ℕ, List, [], length, reverse, get_or, slice_set, ap, sym, ◌∙◌, subst, arith, inl, inr}
-use Rattle.std.specs.Prelude.{zero, suc, ◌+◌, Result, Ok, Err, OnOk, Some, slice_get}
+use Rattle.std.specs.Prelude.{zero, suc, ◌+◌, Result, Ok, Err, OnOk, OnErr, Some, slice_get}
 use Rattle.std.proofs.lemmas.Bool.{cases_eq}
 use Rattle.std.proofs.lemmas.List.{append-nil, length-set, set-get_or}
 use mathlib.Core.List.{IsPrefix}
@@ -9,9 +9,11 @@ use Rattle.walter_base.specs.declared.names.SiteId.{SiteId}
 use Rattle.walter_disk.specs.declared.disk.Disk.{Ghosts}
 use Rattle.walter_lane.specs.Lanes.{Sending, Receiving}
 use Rattle.walter_lane.specs.declared.posted.Posted.{Posted}
-use Rattle.walter_outbox.specs.Lanes.{put_to, arrived_from, in_rings, out_rings, HavePut, AreNext}
+use Rattle.walter_outbox.specs.Lanes.{put_to, met_to, arrived_from, in_rings, out_rings, HavePut, AreNext}
 use Rattle.walter_outbox.proofs.Fields.{field_read, field_set_same, field_set_other, field_kept}
 use Rattle.walter_outbox.proofs.Linked.{next_more}
+use Rattle.walter_stream.specs.declared.sink.Sink.{Ghosts as SinkGhosts}
+use Rattle.walter_stream.specs.declared.source.Source.{Ghosts as SourceGhosts}
 use Rattle.walter_cell.specs.declared.cell.Cell.{Cell}
 use Rattle.walter_cell.specs.declared.node.Node.{Node}
 use Rattle.walter_cell.specs.Cells.{IsCell, arrival}
@@ -26,6 +28,10 @@ pub on_ok : {X E : Type 0} (r : Result X E) (P Q : Type 0) → (P → Q) → OnO
 on_ok (Ok x) P Q by holds = by holds
 on_ok (Err e) P Q by holds = tt
 
+pub on_err : {X E : Type 0} (r : Result X E) (P Q : Type 0) → (P → Q) → OnErr r P → OnErr r Q
+on_err (Ok x) P Q by holds = tt
+on_err (Err e) P Q by holds = by holds
+
 -- ---- the sender
 
 module _ (outs : List Sending) (to : ℕ) (out met : Sending) (at : out ≡ get_or outs to out) where
@@ -34,6 +40,13 @@ module _ (outs : List Sending) (to : ℕ) (out met : Sending) (at : out ≡ get_
 
   pub put_met : met.put ≡ out.put → (k : ℕ) → put_to (slice_set outs to met) k ≡ put_to outs k
   put_met same k = ap (λ (l : List (List Posted)). get_or l k []) (field_kept (λ (s : Sending). s.put) outs to out met at same)
+
+  -- how many had been put when its ends met
+  pub met_here : to < length outs → met_to (slice_set outs to met) to ≡ met.met
+  met_here within = field_set_same (λ (s : Sending). s.met) outs to met 0 within
+
+  pub met_elsewhere : (k : ℕ) → k ≢ to → met_to (slice_set outs to met) k ≡ met_to outs k
+  met_elsewhere k apart = field_set_other (λ (s : Sending). s.met) outs to met k 0 apart
 
   -- what was put for the other one
   pub put_here : to < length outs → put_to outs to ≡ out.put
@@ -79,7 +92,8 @@ module _ (ins : List Receiving) (from : ℕ) (inbound met : Receiving) (at : inb
     | inr apart ↦ ([], append-nil (arrived_from ins j) ∙ sym (others_met j apart))
   ]
 
-pub receiver_met : {D : Type 0} {g : Ghosts D} (catalog : Catalog) (capacity : ℕ) (i : SiteId) (old new : Cell D g)
+pub receiver_met : {D S K : Type 0} {g : Ghosts D} {s : SourceGhosts S} {k : SinkGhosts K} (catalog : Catalog) (capacity : ℕ)
+    (i : SiteId) (old new : Cell D S K g s k)
     (from : ℕ) (inbound met : Receiving) → inbound ≡ get_or old.ins.items from inbound → from < length old.ins.items
     → IsPrefix inbound.arrived met.arrived → new.node ≡ old.node → new.ins.items ≡ slice_set old.ins.items from met
     → IsCell catalog capacity i old → IsCell catalog capacity i new

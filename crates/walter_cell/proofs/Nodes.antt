@@ -1,5 +1,5 @@
 -- A site with its trail and its lanes, behind one more entry.
-use Rattle.std.proofs.Common.{◌≡◌, ◌<◌, ◌≤◌, ◌+◌, ◌^◌, ℕ, List, [], ◌∷◌, ◌++◌, length, take, drop, reverse, Bool, true, false, Option, Some, None, is_some, refl, ap, sym, ◌∙◌, subst, arith, slice_get, if◌then◌else◌}
+use Rattle.std.proofs.Common.{◌≡◌, ◌<◌, ◌≤◌, ◌+◌, ◌^◌, ℕ, List, [], ◌∷◌, ◌++◌, length, take, drop, reverse, Bool, true, false, Option, Some, None, is_some, refl, ap, sym, ◌∙◌, subst, arith, slice_get, if◌then◌else◌, inl, inr}
 use Rattle.std.specs.Prelude.{All, IfSome, count_by}
 use Rattle.std.proofs.lemmas.List.Sums.{fold-append}
 use Rattle.std.proofs.lemmas.List.{reverse-append, append-nil, take_all, drop_all}
@@ -13,9 +13,9 @@ use Rattle.walter_engine.specs.declared.engine.State.{State}
 use Rattle.walter_engine.specs.Engines.{disk_in, OfDisk, OfDisks, IsSameEngine, Stands}
 use Rattle.walter_engine.specs.States.{disk_under}
 use Rattle.walter_engine.specs.Steps.{opening}
-use Rattle.walter_outbox.specs.Lanes.{carried_by, HavePut, HavePutMore}
-use Rattle.walter_outbox.proofs.Carried.{carried_more}
-use Rattle.walter_outbox.proofs.Grown.{put_grown, carried_less, settled_carried, with_sends, comes_out, all_put}
+use Rattle.walter_outbox.specs.Lanes.{carried_by, met_to, HavePut, HavePutMore, IsPutWhereFree}
+use Rattle.walter_outbox.proofs.Carried.{carried_more, out_as_ruled, AgreeOnLanes, agree_out}
+use Rattle.walter_outbox.proofs.Grown.{put_grown, carried_less, carried_agrees, settled_carried, with_sends, comes_out, drops_where_full, all_put}
 use Rattle.walter_packet.specs.Spelling.{HasPacketSpelling}
 use Rattle.walter_rules.specs.declared.entry.Came.{Came}
 use Rattle.walter_rules.specs.declared.entry.Entry.{Entry}
@@ -28,7 +28,7 @@ use Rattle.walter_cell.specs.declared.node.Node.{Node}
 use Rattle.walter_cell.specs.Debts.{AreOwed, AreAfter}
 use Rattle.walter_cell.specs.Entries.{HaveRisingStamps}
 use Rattle.walter_cell.specs.Handled.{IsSized, is_faulty, RisesIf, IsFaulty, HasCome}
-use Rattle.walter_cell.specs.Nodes.{entry_by, IsNode, IsKnownNode}
+use Rattle.walter_cell.specs.Nodes.{entry_by, IsNode, IsKnownNode, MayDrop}
 use Rattle.walter_cell.proofs.Asked.{stands_owing}
 use Rattle.walter_cell.proofs.Owing.{debts_after}
 
@@ -72,7 +72,7 @@ module _ {D : Type 0} {g : Ghosts D} where
   module _ (catalog : Catalog) (capacity : ℕ) (i : SiteId) (old new : Node D g) (stamp : ℕ) (event : Event) (came : Came)
       (sends : List Send) (dropped : ℕ)
       (grown : new.entries.items ≡ old.entries.items ++ entry_by stamp event (with_sends sends dropped came) ∷ [])
-      (out : IsPutOut (carried_by old.outs.items) came.sends sends dropped)
+      (free : IsPutWhereFree (met_to old.outs.items) (carried_by old.outs.items) came.sends sends dropped)
       (node : IsNode catalog capacity i old) where
     abbrev trail : List Entry
     trail = old.entries.items
@@ -82,6 +82,9 @@ module _ {D : Type 0} {g : Ghosts D} where
 
     abbrev S : Standing
     S = standing catalog i (reverse trail)
+
+    out : IsPutOut (carried_by old.outs.items) came.sends sends dropped
+    out = out_as_ruled (met_to old.outs.items) (carried_by old.outs.items) came.sends sends dropped free
 
     back : reverse new.entries.items ≡ own ∷ reverse trail
     back = ap reverse grown ∙ turned trail own
@@ -147,6 +150,20 @@ module _ {D : Type 0} {g : Ghosts D} where
           owed = subst (λ (U : Standing). AreOwed U new.debts.items) (sym stands_)
               (debts_after catalog i S came.kept event came lost old.debts.items new.debts.items known.owed has.owes after);
         }
+
+    -- what it drops has found its lane full
+    pub drops_more : (lost : Option Table) → came.dropped ≡ 0 → HasCome catalog capacity i S event came lost new.engine
+        → MayDrop catalog i (met_to old.outs.items) trail new.entries.items
+    drops_more lost none has =
+        let T : Standing = settled catalog i came.kept S in
+        inr (own, grown, drops_where_full catalog capacity i T event came (met_to old.outs.items) sends dropped none
+        (agree_out (met_to old.outs.items) (carried_by old.outs.items) T.carried came.sends sends dropped agree free) has.comes)
+      where
+        agree : AgreeOnLanes (met_to old.outs.items) (carried_by old.outs.items) (settled catalog i came.kept S).carried
+        agree k = elim (carried_agrees catalog i catalog.sites trail old.outs.items node.put k) [
+          | inl same ↦ inl (same ∙ sym (settled_carried catalog i came.kept S k))
+          | inr less ↦ inr (less.0, (let l = less.1 in let same = settled_carried catalog i came.kept S k in omega (arith, l, same)))
+        ]
 
   -- the same but for its room
   pub known_same : (catalog : Catalog) (capacity : ℕ) (i : SiteId) (old new : Node D g) → new.engine ≡ old.engine

@@ -5,18 +5,20 @@ use Rattle.walter_base.specs.declared.catalog.Catalog.{Catalog}
 use Rattle.walter_base.specs.declared.names.SiteId.{SiteId}
 use Rattle.walter_disk.specs.declared.disk.Disk.{Ghosts}
 use Rattle.walter_engine.specs.declared.engine.Engine.{Engine}
-use Rattle.walter_lane.specs.Lanes.{Receiving}
-use Rattle.walter_outbox.specs.Lanes.{out_rings, in_rings, IsNext, AreNext}
+use Rattle.walter_lane.specs.Lanes.{Receiving, Sending}
+use Rattle.walter_outbox.specs.Lanes.{out_rings, in_rings, mets, met_to, IsNext, AreNext}
 use Rattle.walter_rules.specs.declared.entry.Entry.{Entry}
 use Rattle.walter_rules.specs.declared.event.Event.{Event}
 use Rattle.walter_rules.specs.declared.event.Event.TheVariants.{Given, Stop, Restart}
 use Rattle.walter_rules.specs.declared.event.Input.TheVariants.{Call, Deliver, Advance, Tick}
 use Rattle.walter_rules.specs.Trails.{IsNextStamp}
+use Rattle.walter_stream.specs.declared.sink.Sink.{Ghosts as SinkGhosts}
+use Rattle.walter_stream.specs.declared.source.Source.{Ghosts as SourceGhosts}
 use Rattle.walter_cell.specs.declared.cell.Cell.{Cell}
 use Rattle.walter_cell.specs.declared.node.Node.{Node}
 use Rattle.walter_cell.specs.Cells.{IsCell, IsSameCell}
 use Rattle.walter_cell.specs.Entries.{IsPlain, IsOfClients, IsSizedEvent, Grows}
-use Rattle.walter_cell.specs.Nodes.{entry_by, IsNode, IsSameNode, Takes}
+use Rattle.walter_cell.specs.Nodes.{entry_by, IsNode, IsSameNode, Takes, MayDrop}
 
 -- ---- events that bring nothing
 
@@ -69,7 +71,8 @@ later_next Restart last stamp is = omega (arith, is)
 turned : (trail : List Entry) (e : Entry) → reverse (trail ++ e ∷ []) ≡ e ∷ reverse trail
 turned trail e = reverse-append trail (e ∷ [])
 
-module _ {D : Type 0} {g : Ghosts D} (old : Cell D g) (mid : Node D g) (new : Cell D g) (stamp : ℕ) (event : Event)
+module _ {D S K : Type 0} {g : Ghosts D} {s : SourceGhosts S} {k : SinkGhosts K} (old : Cell D S K g s k) (mid : Node D g)
+    (new : Cell D S K g s k) (stamp : ℕ) (event : Event)
     (ready : IsSameNode old.node mid) (takes : Takes stamp event mid new.node) where
   abbrev own : Entry
   own = entry_by stamp event takes.came
@@ -94,6 +97,17 @@ module _ {D : Type 0} {g : Ghosts D} (old : Cell D g) (mid : Node D g) (new : Ce
     debts = takes.debts ∙ ap (λ ds. length ds.items) ready.debts;
   }
 
+  pub mets_taken : mets new.node.outs.items ≡ mets old.node.outs.items
+  mets_taken = takes.same_mets ∙ ap (λ os. mets os.items) ready.outs
+
+  -- what the entry puts out, told of the cell before it was made ready
+  pub drops_taken : (catalog : Catalog) (i : SiteId)
+      → MayDrop catalog i (met_to mid.outs.items) mid.entries.items new.node.entries.items
+      → MayDrop catalog i (met_to old.node.outs.items) old.node.entries.items new.node.entries.items
+  drops_taken catalog i drops =
+      subst (λ (es : List Entry). MayDrop catalog i (met_to old.node.outs.items) es new.node.entries.items) ready.entries
+      (subst (λ (os : List Sending). MayDrop catalog i (met_to os) mid.entries.items new.node.entries.items) (ap (λ os. os.items) ready.outs) drops)
+
   module _ (catalog : Catalog) (capacity : ℕ) (i : SiteId) (cell : IsCell catalog capacity i old) where
     pub cell_taken : IsNode catalog capacity i new.node → new.ins ≡ old.ins
         → IsNext i old.ins.items event old.node.clock stamp → IsCell catalog capacity i new
@@ -109,8 +123,8 @@ module _ {D : Type 0} {g : Ghosts D} (old : Cell D g) (mid : Node D g) (new : Ce
         }
 
 -- with the same entries
-pub cell_same : {D : Type 0} {g : Ghosts D} (catalog : Catalog) (capacity : ℕ) (i : SiteId) (old new : Cell D g)
-    → IsNode catalog capacity i new.node → new.node.entries.items ≡ old.node.entries.items → new.ins ≡ old.ins
+pub cell_same : {D S K : Type 0} {g : Ghosts D} {s : SourceGhosts S} {k : SinkGhosts K} (catalog : Catalog) (capacity : ℕ)
+    (i : SiteId) (old new : Cell D S K g s k) → IsNode catalog capacity i new.node → new.node.entries.items ≡ old.node.entries.items → new.ins ≡ old.ins
     → IsCell catalog capacity i old → IsCell catalog capacity i new
 cell_same catalog capacity i old new node entries ins cell = record {
   node = node;

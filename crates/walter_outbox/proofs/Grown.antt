@@ -1,9 +1,9 @@
 -- Lanes and what has arrived, behind one more entry.
-use Rattle.std.proofs.Common.{◌≡◌, ℕ, ◌+◌, ◌<◌, ◌≤◌, Bool, true, false, List, [], ◌∷◌, ◌++◌, length, map, reverse, refl, ap, sym, ◌∙◌, subst, arith, if◌then◌else◌, Some, None, Option, inl, inr}
-use Rattle.std.specs.Prelude.{count_by, All, IfSome, slice_get}
+use Rattle.std.proofs.Common.{◌≡◌, ◌⊎◌, ℕ, ◌+◌, ◌≤◌, Bool, true, false, List, [], ◌∷◌, ◌++◌, length, map, reverse, refl, ap, sym, ◌∙◌, subst, arith, if◌then◌else◌, Some, None, Option, inl, inr}
+use Rattle.std.specs.Prelude.{count_by, All}
 use Rattle.std.specs.List.{fold, cons_option}
 use Rattle.std.proofs.lemmas.Grind.{flat_map-append}
-use Rattle.std.proofs.lemmas.List.{append-nil, append_assoc, length-append, length-map, map-append, reverse-append, reverse-reverse}
+use Rattle.std.proofs.lemmas.List.{append-nil, length-append, length-map, map-append, reverse-append, reverse-reverse}
 use Rattle.std.proofs.lemmas.Bool.{cases_lt}
 use Rattle.std.proofs.lemmas.List.Elements.{All-cons, All-head, All-tail}
 use Rattle.walter_base.specs.declared.catalog.Catalog.{Catalog}
@@ -11,19 +11,17 @@ use Rattle.walter_base.specs.declared.message.Record.{Record}
 use Rattle.walter_base.specs.declared.names.SiteId.{SiteId}
 use Rattle.walter_base.specs.Names.{same_site}
 use Rattle.walter_lane.specs.Lanes.{Sending}
-use Rattle.walter_lane.specs.declared.posted.Posted.{Posted}
 use Rattle.walter_rules.specs.declared.entry.Came.{Came}
 use Rattle.walter_rules.specs.declared.entry.Entry.{Entry}
 use Rattle.walter_rules.specs.declared.event.Event.{Event}
 use Rattle.walter_rules.specs.Knowledge.{site_at}
-use Rattle.walter_rules.specs.Merges.{Stamped, sent_to, put_out_to}
+use Rattle.walter_rules.specs.Merges.{sent_to, put_out_to}
 use Rattle.walter_rules.specs.Rule.{rule}
-use Rattle.walter_rules.specs.Calls.{Expected}
 use Rattle.walter_rules.specs.Sending.{Send}
-use Rattle.walter_rules.specs.Standing.{Standing, settled, stands_after}
-use Rattle.walter_rules.specs.Trails.{standing, Comes, ruled, met_fault, unread, no_memory, full, IsPutOut, all_out, put_out, drops, IsAsRuled, IsOnly, carried_one}
-use Rattle.walter_outbox.specs.Lanes.{put_to, posted, stamped_to, carried_by, HavePut, HavePutMore}
-use Rattle.walter_outbox.proofs.Carried.{carried_more}
+use Rattle.walter_rules.specs.Standing.{Standing, settled}
+use Rattle.walter_rules.specs.Trails.{standing, Comes, ruled, met_fault, unread, no_memory, full, IsPutOut, all_out, put_out, drops, IsOnly, carried_one}
+use Rattle.walter_outbox.specs.Lanes.{put_to, mets, met_to, posted, stamped_to, carried_by, HavePut, HavePutMore, IsPutWhereFree}
+use Rattle.walter_outbox.proofs.Carried.{AgreeOnLanes, out_as_ruled}
 use Rattle.walter_outbox.proofs.Putting.{rings_long, none_beyond}
 
 -- what a trail puts out to a site, an entry later
@@ -87,10 +85,26 @@ carried_less catalog i sites trail outs have k =
           omega (arith, counts, same)
       | inr past ↦
           let none : put_to outs k.0 ≡ [] =
-          none_beyond (map (λ (s : Sending). s.put) outs) k.0
+          none_beyond (map (λ (s : Sending). s.put) outs) k.0 []
           (let m = length-map outs (λ (s : Sending). s.put) in let l = have.long in omega (arith, m, l, past)) in
           let z = ap length none in
           omega (arith, z)
+    ]
+
+-- what lanes have carried is what the standing counts, where a lane goes
+pub carried_agrees : (catalog : Catalog) (i : SiteId) (sites : ℕ) (trail : List Entry) (outs : List Sending) → HavePut sites trail outs
+    → AgreeOnLanes (met_to outs) (carried_by outs) (λ k. (standing catalog i (reverse trail)).carried k)
+carried_agrees catalog i sites trail outs have k =
+    elim (cases_lt k.0 sites) [
+      | inl below ↦
+          let counts = carried_put catalog i k (reverse trail) ∙ ap (λ l. length (put_out_to k l)) (reverse-reverse trail) in
+          let same = ap length (have.each k.0 below) ∙ length-map (put_out_to (site_at k.0) trail) (posted sites) in
+          inl (omega (arith, counts, same))
+      | inr past ↦
+          inr (
+            none_beyond (mets outs) k.0 0 (let m = length-map outs (λ (s : Sending). s.met) in let l = have.long in omega (arith, m, l, past)),
+            carried_less catalog i sites trail outs have k,
+          )
     ]
 
 -- ---- what an event came to, where some of its packets found their lanes full
@@ -146,6 +160,23 @@ comes_out catalog capacity i S event came sends dropped none out (no_memory take
     no_memory takes (only_out S.carried came _ _ sends dropped only out)
 comes_out catalog capacity i S event came sends dropped none out (full rec brings much only) =
     full rec brings much (only_out S.carried came _ _ sends dropped only out)
+
+-- what is put out of it wherever there is a place: of what the rule says, or of nothing
+pub drops_where_full : (catalog : Catalog) (capacity : ℕ) (i : SiteId) (S : Standing) (event : Event) (came : Came)
+    (met : ℕ → ℕ) (sends : List Send) (dropped : ℕ) → came.dropped ≡ 0
+    → IsPutWhereFree met S.carried came.sends sends dropped → Comes catalog capacity i S event came
+    → ((sends ≡ []) × (dropped ≡ 0)) ⊎ IsPutWhereFree met S.carried (rule catalog i S event).sends sends dropped
+drops_where_full catalog capacity i S event came met sends dropped none out (ruled fits is) =
+    let same = same_out S.carried (rule catalog i S event).sends came.sends came.dropped none is.sends in
+    inr (subst (λ (l : List Send). IsPutWhereFree met S.carried l sends dropped) same out)
+drops_where_full catalog capacity i S event came met sends dropped none out (met_fault rec brings fits only) =
+    inl (none_out S.carried came.sends sends dropped only.sends (out_as_ruled met S.carried came.sends sends dropped out))
+drops_where_full catalog capacity i S event came met sends dropped none out (unread restart down only) =
+    inl (none_out S.carried came.sends sends dropped only.sends (out_as_ruled met S.carried came.sends sends dropped out))
+drops_where_full catalog capacity i S event came met sends dropped none out (no_memory takes only) =
+    inl (none_out S.carried came.sends sends dropped only.sends (out_as_ruled met S.carried came.sends sends dropped out))
+drops_where_full catalog capacity i S event came met sends dropped none out (full rec brings much only) =
+    inl (none_out S.carried came.sends sends dropped only.sends (out_as_ruled met S.carried came.sends sends dropped out))
 
 -- what is so of each packet is so of each that is put out
 pub all_put : (P : Send → Type 0) (carried : SiteId → ℕ) (planned sends : List Send) (dropped : ℕ)

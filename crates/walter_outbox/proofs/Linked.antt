@@ -1,5 +1,5 @@
 -- Where what has arrived at each site is a beginning of what was put for it, the trails are linked.
-use Rattle.std.proofs.Common.{◌≡◌, ◌≢◌, ℕ, zero, suc, ◌+◌, ◌<◌, ◌≤◌, max, Bool, true, false, List, [], ◌∷◌, ◌++◌, length, map, reverse, take, drop, slice_get, get_or, refl, ap, sym, ◌∙◌, subst, arith, if◌then◌else◌, Some, None, Option, inl, inr}
+use Rattle.std.proofs.Common.{◌≡◌, ◌≢◌, ℕ, zero, suc, ◌+◌, ◌<◌, ◌≤◌, max, Bool, true, false, List, [], ◌∷◌, ◌++◌, length, map, reverse, take, slice_get, refl, ap, sym, ◌∙◌, subst, arith, if◌then◌else◌, Some, None, Option, inl, inr}
 use Rattle.std.specs.Prelude.{All, Contains, slice_index_or, option_map}
 use Rattle.std.proofs.lemmas.Bool.{cases_lt}
 use Rattle.std.proofs.lemmas.List.{append_assoc, length-map, reverse-append}

@@ -1,21 +1,18 @@
 -- The loop that puts packets on their lanes.
-use Rattle.std.proofs.Common.{◌≡◌, ◌≢◌, ◌⊎◌, inl, inr, ℕ, zero, suc, ◌+◌, ◌<◌, ◌≤◌, nat_eq, Bool, true, false, List, [], ◌∷◌, ◌++◌, length, map, take, drop, get_or, set, refl, ap, sym, ◌∙◌, subst, arith, if◌then◌else◌, Some, None, Option}
+use Rattle.std.proofs.Common.{◌≡◌, ◌⊎◌, inl, inr, ℕ, zero, suc, ◌+◌, ◌<◌, ◌≤◌, nat_eq, Bool, true, false, List, [], ◌∷◌, ◌++◌, length, map, take, drop, get_or, set, refl, ap, sym, ◌∙◌, subst, arith, if◌then◌else◌, Some, None, Option}
 use Rattle.std.specs.Prelude.{filter_map}
 use Rattle.std.specs.List.{remove}
 use Rattle.std.proofs.lemmas.Bool.{cases_eq, cases_lt, eq-eqb, ne_eqb}
-use Rattle.std.proofs.lemmas.List.{append-nil, append_assoc, length-append, length-set, length-map, map-append, take_more, take_all, drop_all, set-get_or, get_or-map, length-drop}
+use Rattle.std.proofs.lemmas.List.{append-nil, append_assoc, length-append, length-map, map-append, take_more, take_all, drop_all, set-get_or, get_or-map, length-drop}
 use Rattle.std.proofs.lemmas.List.Elements.{filter_map-append}
-use Rattle.walter_base.specs.declared.names.SiteId.{SiteId}
 use Rattle.walter_base.specs.Names.{same_site}
 use Rattle.walter_lane.specs.Lanes.{Sending}
-use Rattle.walter_lane.specs.Rings.{Ring}
 use Rattle.walter_lane.specs.declared.posted.Posted.{Posted}
 use Rattle.walter_packet.specs.Framed.{FramedBytes, frame_of}
 use Rattle.walter_rules.specs.Knowledge.{site_at}
 use Rattle.walter_rules.specs.Merges.{Stamped}
 use Rattle.walter_rules.specs.Sending.{Send}
-use Rattle.walter_rules.specs.Trails.{IsPutOut, all_out, carried_one, lane_places}
-use Rattle.walter_outbox.specs.Lanes.{put_to, out_rings, posted, stamped_to, carried_by, HavePutOne, IsPut, HavePutMore}
+use Rattle.walter_outbox.specs.Lanes.{put_to, out_rings, mets, met_to, posted, stamped_to, carried_by, HavePutOne, IsFull, IsPutWhereFree, none_left, HavePutMore}
 use Rattle.walter_outbox.proofs.Carried.{behind, behind_last, put_last, drop_last}
 use Rattle.walter_outbox.proofs.Fields.{field_read, field_set_same, field_set_other, field_kept}
 
@@ -27,6 +24,7 @@ pub put_here : (outs : List Sending) (to : ℕ) (old new : Sending) (post : Post
     → HavePutOne outs (set outs to new) to post
 put_here outs to old new post within is more = record {
   rings = field_kept (λ (s : Sending). s.ring) outs to old new is (ap (λ (s : Sending). s.ring) more);
+  same_mets = field_kept (λ (s : Sending). s.met) outs to old new is (ap (λ (s : Sending). s.met) more);
   each = λ k below. elim (cases_eq k to) [
     | inl here ↦
         subst (λ n. put_to (set outs to new) n ≡ put_to outs n ++ (if nat_eq to n then post ∷ [] else [])) (sym here)
@@ -45,6 +43,7 @@ put_here outs to old new post within is more = record {
 pub put_nowhere : (outs : List Sending) (to : ℕ) (post : Posted) → length outs ≤ to → HavePutOne outs outs to post
 put_nowhere outs to post past = record {
   rings = refl;
+  same_mets = refl;
   each = λ k below.
       sym (append-nil (put_to outs k))
       ∙ ap (λ (b : Bool). put_to outs k ++ (if b then post ∷ [] else []))
@@ -54,14 +53,12 @@ put_nowhere outs to post past = record {
 -- the lane at this place is full
 pub put_full : (outs : List Sending) (to : ℕ) (old new : Sending) → to < length outs → old ≡ get_or outs to old
     → new ≡ old → (old.met + 1024 ≤ length old.put) ⊎ (length old.put ≡ 4294967295)
-    → (set outs to new ≡ outs) × (lane_places ≤ length (put_to outs to))
+    → (set outs to new ≡ outs) × IsFull (met_to outs to) (length (put_to outs to))
 put_full outs to old new within is same full = (
   ap (λ (s : Sending). set outs to s) (same ∙ is) ∙ set-get_or outs to old,
-  subst (λ (l : List Posted). 1024 ≤ length l) (sym (field_read (λ (s : Sending). s.put) outs to old [] within is))
-      (elim full [
-        | inl many ↦ omega (arith, many)
-        | inr spent ↦ omega (arith, spent)
-      ]),
+  subst (λ m. IsFull m (length (put_to outs to))) (sym (field_read (λ (s : Sending). s.met) outs to old 0 within is))
+      (subst (λ (l : List Posted). IsFull old.met (length l)) (sym (field_read (λ (s : Sending). s.put) outs to old [] within is))
+      full),
 )
 
 -- ---- the loop
@@ -84,10 +81,10 @@ drop_split xs n d within =
     let more : suc n ≡ n + 1 = omega arith in
     subst (λ m. drop n xs ≡ get_or xs n d ∷ drop m xs) more (drop_next xs n d within)
 
-pub none_beyond : (lanes : List (List Posted)) (n : ℕ) → length lanes ≤ n → get_or lanes n [] ≡ []
-none_beyond [] n past = refl
-none_beyond (x ∷ lanes) zero past = absurd (omega (arith, past))
-none_beyond (x ∷ lanes) (suc n) past = none_beyond lanes n (omega (arith, past))
+pub none_beyond : {X : Type 0} (xs : List X) (n : ℕ) (d : X) → length xs ≤ n → get_or xs n d ≡ d
+none_beyond [] n d past = refl
+none_beyond (x ∷ xs) zero d past = absurd (omega (arith, past))
+none_beyond (x ∷ xs) (suc n) d past = none_beyond xs n d (omega (arith, past))
 
 frame_at : (yielded : List FramedBytes) (framed d : FramedBytes) (rest : List FramedBytes)
     → get_or (yielded ++ framed ∷ rest) (length yielded) d ≡ framed
@@ -104,12 +101,18 @@ done_within sites planned frames yielded rest framed are parts =
     let m = length-append yielded (framed ∷ rest) in
     omega (arith, a, b, l, m)
 
+-- where nothing was carried there is a place
+never_full : (met carried : ℕ) → carried ≡ 0 → IsFull met carried → ⊥
+never_full met carried none (inl many) = omega (arith, none, many)
+never_full met carried none (inr spent) = omega (arith, none, spent)
+
 -- so many packets were handled, and these of them put out
 pub record IsPutting (outs new : List Sending) (planned sends front : List Send) (count done dropped : ℕ) : Type 0 where
   pub are : sends ≡ front ++ drop done planned
   pub counted : count ≡ length front
-  pub out : IsPutOut (carried_by outs) (take done planned) front dropped
+  pub out : IsPutWhereFree (met_to outs) (carried_by outs) (take done planned) front dropped
   pub rings : out_rings new ≡ out_rings outs
+  pub same_mets : mets new ≡ mets outs
   pub carried : (k : ℕ) → k < length outs → length (put_to new k) ≡ behind front (carried_by outs) (site_at k)
 
 -- they were put with this stamp
@@ -151,9 +154,10 @@ module _ (outs mid new : List Sending) (planned sends front : List Send) (count 
     putting_put post put = record {
       are = parted ∙ sym (append_assoc front (s ∷ []) (drop (done + 1) planned));
       counted = ap (λ n. n + 1) at.counted ∙ sym (length-append front (s ∷ []));
-      out = subst (λ (l : List Send). IsPutOut (carried_by outs) l (front ++ s ∷ []) dropped) (sym longer)
-          (put_last (carried_by outs) (take done planned) front dropped s at.out);
+      out = subst (λ (l : List Send). IsPutWhereFree (met_to outs) (carried_by outs) l (front ++ s ∷ []) dropped) (sym longer)
+          (put_last (met_to outs) (carried_by outs) (take done planned) front dropped s at.out);
       rings = put.rings ∙ at.rings;
+      same_mets = put.same_mets ∙ at.same_mets;
       carried = λ k below.
           let there : k < length mid = (let l = rings_long outs mid at.rings in omega (arith, below, l)) in
           ap length (put.each k there)
@@ -162,7 +166,7 @@ module _ (outs mid new : List Sending) (planned sends front : List Send) (count 
     }
 
     -- it found its lane full
-    pub putting_dropped : lane_places ≤ length (put_to mid s.0.0)
+    pub putting_dropped : IsFull (met_to mid s.0.0) (length (put_to mid s.0.0))
         → IsPutting outs mid planned (remove sends count) front count (done + 1) (dropped + 1)
     putting_dropped full = record {
       are =
@@ -170,18 +174,20 @@ module _ (outs mid new : List Sending) (planned sends front : List Send) (count 
           ∙ (ap (λ n. remove (front ++ s ∷ drop (done + 1) planned) n) at.counted
           ∙ remove_here front s (drop (done + 1) planned));
       counted = at.counted;
-      out = subst (λ (l : List Send). IsPutOut (carried_by outs) l front (dropped + 1)) (sym longer)
-          (drop_last (carried_by outs) (take done planned) front dropped s
+      out = subst (λ (l : List Send). IsPutWhereFree (met_to outs) (carried_by outs) l front (dropped + 1)) (sym longer)
+          (drop_last (met_to outs) (carried_by outs) (take done planned) front dropped s
           (elim (cases_lt s.0.0 (length outs)) [
-            | inl below ↦ subst (λ n. lane_places ≤ n) (at.carried s.0.0 below) full
+            | inl below ↦
+                subst (λ m. IsFull m (behind front (carried_by outs) s.0)) (ap (λ (l : List ℕ). get_or l s.0.0 0) at.same_mets)
+                (subst (λ n. IsFull (met_to mid s.0.0) n) (at.carried s.0.0 below) full)
             | inr past ↦
                 let l = rings_long outs mid at.rings in
                 let none : put_to mid s.0.0 ≡ [] =
-                none_beyond (map (λ (x : Sending). x.put) mid) s.0.0 (let m = length-map mid (λ (x : Sending). x.put) in omega (arith, m, l, past)) in
-                let z = ap length none in
-                absurd (omega (arith, full, z))
+                none_beyond (map (λ (x : Sending). x.put) mid) s.0.0 [] (let m = length-map mid (λ (x : Sending). x.put) in omega (arith, m, l, past)) in
+                absurd (never_full (met_to mid s.0.0) (length (put_to mid s.0.0)) (ap length none) full)
           ]) at.out);
       rings = at.rings;
+      same_mets = at.same_mets;
       carried = at.carried;
     }
 
@@ -252,8 +258,9 @@ pub putting_none : (outs : List Sending) (planned sends : List Send) → sends �
 putting_none outs planned sends same = record {
   are = same;
   counted = refl;
-  out = all_out (carried_by outs);
+  out = none_left (carried_by outs);
   rings = refl;
+  same_mets = refl;
   carried = λ k below. refl;
 }
 
@@ -266,13 +273,14 @@ module _ (outs new : List Sending) (planned sends front : List Send) (count done
   pub all_handled : front ≡ sends
   all_handled = sym (at.are ∙ (ap (λ (l : List Send). front ++ l) (drop_all done planned all) ∙ append-nil front))
 
-  pub putting_all : IsPutOut (carried_by outs) planned sends dropped
+  pub putting_all : IsPutWhereFree (met_to outs) (carried_by outs) planned sends dropped
   putting_all =
-      subst (λ (l : List Send). IsPutOut (carried_by outs) l sends dropped) (take_all done planned all)
-      (subst (λ (l : List Send). IsPutOut (carried_by outs) (take done planned) l dropped) all_handled at.out)
+      subst (λ (l : List Send). IsPutWhereFree (met_to outs) (carried_by outs) l sends dropped) (take_all done planned all)
+      (subst (λ (l : List Send). IsPutWhereFree (met_to outs) (carried_by outs) (take done planned) l dropped) all_handled at.out)
 
   pub putting_more : (sites stamp : ℕ) → HavePutFront sites stamp outs new front → HavePutMore sites stamp outs new sends
   putting_more sites stamp were = record {
     rings = at.rings;
+    same_mets = at.same_mets;
     each = λ k below. subst (λ (l : List Send). put_to new k ≡ put_to outs k ++ map (posted sites) (stamped_to stamp (site_at k) l)) all_handled (were k below);
   }

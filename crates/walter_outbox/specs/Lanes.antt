@@ -1,5 +1,5 @@
 -- The lanes of a site: what it has put on those to the other sites, and what has arrived on those from them.
-use Rattle.std.specs.Prelude.{◌≡◌, ◌≢◌, ◌+◌, ◌<◌, ◌≤◌, ◌⊎◌, nat_eq, max, ℕ, Bool, true, false, List, [], ◌∷◌, ◌++◌, length, map, count_by, filter_map, slice_get, slice_index_or, Some, None, if◌then◌else◌}
+use Rattle.std.specs.Prelude.{◌≡◌, ◌≢◌, ◌+◌, ◌<◌, ◌≤◌, ◌⊎◌, nat_eq, max, ℕ, Bool, true, false, List, [], ◌∷◌, ◌++◌, length, map, filter_map, slice_get, slice_index_or, Some, None, if◌then◌else◌}
 use denote.RawPtr.{null_ptr}
 use Rattle.walter_base.specs.declared.names.SiteId.{SiteId}
 use Rattle.walter_base.specs.declared.packet.Packet.{Packet}

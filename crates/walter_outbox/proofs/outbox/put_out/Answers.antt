@@ -1,13 +1,11 @@
-use Rattle.std.proofs.Common.{◌≡◌, ◌<◌, ◌≤◌, ◌+◌, ◌++◌, ◌∷◌, [], ℕ, Bool, true, false, List, length, map, get_or, refl, ap, sym, ◌∙◌, subst, arith}
+use Rattle.std.proofs.Common.{◌≡◌, ◌+◌, ◌++◌, ◌∷◌, [], List, length, ap, sym, ◌∙◌, subst, arith}
 use Rattle.std.specs.List.{remove}
 use Rattle.std.specs.Vec.Iter.{into_iter_items}
 use Rattle.std.proofs.lemmas.List.{length-append, append_assoc}
 use Rattle.walter_lane.specs.Lanes.{Sending}
-use Rattle.walter_lane.specs.declared.posted.Posted.{Posted}
-use Rattle.walter_packet.specs.Framed.{FramedBytes, frame_of}
+use Rattle.walter_packet.specs.Framed.{FramedBytes}
 use Rattle.walter_rules.specs.Sending.{Send}
-use Rattle.walter_rules.specs.Trails.{IsPutOut}
-use Rattle.walter_outbox.specs.Lanes.{carried_by, HavePutMore}
+use Rattle.walter_outbox.specs.Lanes.{carried_by, met_to, IsPutWhereFree, HavePutMore}
 use Rattle.walter_outbox.proofs.Putting.{IsPutting, HavePutFront, putting_none, front_none, putting_put, putting_dropped, front_put, putting_all, putting_more, next_is, count_within, framed_is, yielded_more, more_within, all_yielded}
 use Rattle.walter_outbox.proofs.outbox.put_out.Goals as goal
 
@@ -100,7 +98,7 @@ returns-clause-out c =
     let none : length (into_iter_items c.loop-framed.framed-iterator) ≡ 0 =
     omega (arith, c.in-None.ensures.steps.0, c.loop-framed.framed-iterator.rest.ok) in
     let all = all_yielded c.args.sends c.args.frames.items c.loop-framed.yielded _ c.requires is.yielded none in
-    subst (λ (l : List Send). IsPutOut (carried_by c.args.outs.now) c.args.sends l c.loop-framed.dropped) (sym c.from.ensures)
+    subst (λ (l : List Send). IsPutWhereFree (met_to c.args.outs.now) (carried_by c.args.outs.now) c.args.sends l c.loop-framed.dropped) (sym c.from.ensures)
     (putting_all c.args.outs.now c.loop-framed.outs c.args.sends c.loop-framed.sends.items is.front c.loop-framed.count
     (length c.loop-framed.yielded) c.loop-framed.dropped is.at all)
 

@@ -2,7 +2,7 @@ use Rattle.std.proofs.Common.{◌≡◌, ◌<◌, ◌+◌, ◌^◌, length, refl
 use Rattle.walter_cell.specs.declared.cell.Cell.{Cell}
 use Rattle.walter_rules.specs.Trails.{IsNextStamp}
 use Rattle.walter_cell.proofs.Nodes.{node_same, known_same}
-use Rattle.walter_cell.proofs.Taken.{plain_sized, plain_clients, plain_next, stamp_next, later_next, grows_taken, same_taken, cell_taken, cell_same}
+use Rattle.walter_cell.proofs.Taken.{plain_sized, plain_clients, plain_next, stamp_next, later_next, grows_taken, same_taken, mets_taken, drops_taken, cell_taken, cell_same}
 use Rattle.walter_cell.proofs.cell.Cell.act.Goals as goal
 
 pub take-requires-clause-sized : goal.take-requires-clause-sized
@@ -41,9 +41,25 @@ pub returns-clause-acts : goal.returns-clause-acts
 returns-clause-acts g c =
     let some = c.in-Some.ensures.some in
     let small : c.args.self.now.node.clock + 1 < 2 ^ 62 = (let s = some.0 in let e = some.2 in omega (arith, s, e)) in
-    let old : Cell g.row.D.Denot g.D.Disk = c.args.self.now in
-    let new : Cell g.row.D.Denot g.D.Disk = record { node = c.take.new.self; ins = old.ins; lines = old.lines } in
+    let old : Cell g.row.D.Denot g.row.S.Denot g.row.K.Denot g.D.Disk g.S.Source g.K.Sink = c.args.self.now in
+    let new : Cell g.row.D.Denot g.row.S.Denot g.row.K.Denot g.D.Disk g.S.Source g.K.Sink = record { node = c.take.new.self; ins = old.ins; lines = old.lines } in
     ((some.1, small), grows_taken old c.make_ready.new.self new c.in-Some.stamp c.args.event c.in_ok-make_ready.ensures.same c.take.ensures.takes)
+
+pub returns-clause-drops : goal.returns-clause-drops
+returns-clause-drops g c = λ catalog capacity i cell known.
+    let old : Cell g.row.D.Denot g.row.S.Denot g.row.K.Denot g.D.Disk g.S.Source g.K.Sink = c.args.self.now in
+    let new : Cell g.row.D.Denot g.row.S.Denot g.row.K.Denot g.D.Disk g.S.Source g.K.Sink = record { node = c.take.new.self; ins = old.ins; lines = old.lines } in
+    let ready = c.in_ok-make_ready.ensures.same in
+    let mid = node_same catalog capacity i old.node c.make_ready.new.self ready.engine ready.entries ready.clock_is (ap (λ v. v.items) ready.outs) cell.node in
+    drops_taken old c.make_ready.new.self new c.in-Some.stamp c.args.event ready c.take.ensures.takes catalog i
+    (c.take.ensures.drops catalog capacity i mid (let f = c.in-Some.ensures.some.1 in let l = ap length ready.entries in omega (arith, f, l))
+    (known_same catalog capacity i old.node c.make_ready.new.self ready.engine ready.entries (ap (λ v. v.items) ready.debts) known))
+
+pub returns-clause-mets : goal.returns-clause-mets
+returns-clause-mets g c =
+    let old : Cell g.row.D.Denot g.row.S.Denot g.row.K.Denot g.D.Disk g.S.Source g.K.Sink = c.args.self.now in
+    let new : Cell g.row.D.Denot g.row.S.Denot g.row.K.Denot g.D.Disk g.S.Source g.K.Sink = record { node = c.take.new.self; ins = old.ins; lines = old.lines } in
+    mets_taken old c.make_ready.new.self new c.in-Some.stamp c.args.event c.in_ok-make_ready.ensures.same c.take.ensures.takes
 
 -- memory ran out
 pub returns-in_err-make_ready-clause-cell : goal.returns-in_err-make_ready-clause-cell

@@ -12,7 +12,7 @@ use Rattle.walter_cell.specs.declared.cell.Cell.{Cell}
 use Rattle.walter_cell.specs.Cells.{arrival, stamp_behind}
 use Rattle.walter_cell.proofs.Meeting.{was_here, arrival_at}
 use Rattle.walter_cell.proofs.Nodes.{node_same, known_same}
-use Rattle.walter_cell.proofs.Taken.{stamp_next, later_next, grows_taken, cell_taken}
+use Rattle.walter_cell.proofs.Taken.{stamp_next, later_next, grows_taken, mets_taken, drops_taken, cell_taken}
 use Rattle.walter_cell.proofs.cell.Cell.deliver.Given.{Over}
 use Rattle.walter_cell.proofs.cell.Cell.deliver.Goals as goal
 use Rattle.walter_cell.proofs.cell.Cell.deliver.Goals.{in-Some, in-None}
@@ -60,8 +60,8 @@ arrives g c i here = record {
 
 pub returns-clause-cell : goal.returns-clause-cell
 returns-clause-cell g c = λ catalog capacity i cell.
-    let old : Cell g.row.D.Denot g.D.Disk = c.args.self.now in
-    let new : Cell g.row.D.Denot g.D.Disk = record { node = c.take.new.self; ins = old.ins; lines = old.lines } in
+    let old : Cell g.row.D.Denot g.row.S.Denot g.row.K.Denot g.D.Disk g.S.Source g.K.Sink = c.args.self.now in
+    let new : Cell g.row.D.Denot g.row.S.Denot g.row.K.Denot g.D.Disk g.S.Source g.K.Sink = record { node = c.take.new.self; ins = old.ins; lines = old.lines } in
     let stamp : ℕ = c.in-Some-next_stamp.stamp in
     let ev : Event = event.Given (input.Deliver c.args.from c.args.number c.in_ok-packet.packet) in
     let ready = c.in_ok-make_ready.ensures.same in
@@ -73,7 +73,7 @@ returns-clause-cell g c = λ catalog capacity i cell.
 
 pub returns-clause-known : goal.returns-clause-known
 returns-clause-known g c = λ catalog capacity i cell known.
-    let old : Cell g.row.D.Denot g.D.Disk = c.args.self.now in
+    let old : Cell g.row.D.Denot g.row.S.Denot g.row.K.Denot g.D.Disk g.S.Source g.K.Sink = c.args.self.now in
     let stamp : ℕ = c.in-Some-next_stamp.stamp in
     let ev : Event = event.Given (input.Deliver c.args.from c.args.number c.in_ok-packet.packet) in
     let ready = c.in_ok-make_ready.ensures.same in
@@ -83,10 +83,28 @@ returns-clause-known g c = λ catalog capacity i cell known.
     (subst (λ n. IsNextStamp ev n stamp) (sym ready.clock_is) next)
     (known_same catalog capacity i old.node c.make_ready.new.self ready.engine ready.entries (ap (λ v. v.items) ready.debts) known)
 
+pub returns-clause-drops : goal.returns-clause-drops
+returns-clause-drops g c = λ catalog capacity i cell known.
+    let old : Cell g.row.D.Denot g.row.S.Denot g.row.K.Denot g.D.Disk g.S.Source g.K.Sink = c.args.self.now in
+    let new : Cell g.row.D.Denot g.row.S.Denot g.row.K.Denot g.D.Disk g.S.Source g.K.Sink = record { node = c.take.new.self; ins = old.ins; lines = old.lines } in
+    let ev : Event = event.Given (input.Deliver c.args.from c.args.number c.in_ok-packet.packet) in
+    let ready = c.in_ok-make_ready.ensures.same in
+    let mid = node_same catalog capacity i old.node c.make_ready.new.self ready.engine ready.entries ready.clock_is (ap (λ v. v.items) ready.outs) cell.node in
+    drops_taken old c.make_ready.new.self new c.in-Some-next_stamp.stamp ev ready c.take.ensures.takes catalog i
+    (c.take.ensures.drops catalog capacity i mid (let f = c.in-Some-next_stamp.ensures.some.1 in let l = ap length ready.entries in omega (arith, f, l))
+    (known_same catalog capacity i old.node c.make_ready.new.self ready.engine ready.entries (ap (λ v. v.items) ready.debts) known))
+
+pub returns-clause-mets : goal.returns-clause-mets
+returns-clause-mets g c =
+    let old : Cell g.row.D.Denot g.row.S.Denot g.row.K.Denot g.D.Disk g.S.Source g.K.Sink = c.args.self.now in
+    let new : Cell g.row.D.Denot g.row.S.Denot g.row.K.Denot g.D.Disk g.S.Source g.K.Sink = record { node = c.take.new.self; ins = old.ins; lines = old.lines } in
+    let ev : Event = event.Given (input.Deliver c.args.from c.args.number c.in_ok-packet.packet) in
+    mets_taken old c.make_ready.new.self new c.in-Some-next_stamp.stamp ev c.in_ok-make_ready.ensures.same c.take.ensures.takes
+
 pub returns-clause-moves : goal.returns-clause-moves
 returns-clause-moves g c =
-    let old : Cell g.row.D.Denot g.D.Disk = c.args.self.now in
-    let new : Cell g.row.D.Denot g.D.Disk = record { node = c.take.new.self; ins = old.ins; lines = old.lines } in
+    let old : Cell g.row.D.Denot g.row.S.Denot g.row.K.Denot g.D.Disk g.S.Source g.K.Sink = c.args.self.now in
+    let new : Cell g.row.D.Denot g.row.S.Denot g.row.K.Denot g.D.Disk g.S.Source g.K.Sink = record { node = c.take.new.self; ins = old.ins; lines = old.lines } in
     let post : Posted = c.in-Some-post.post.now in
     let ev : Event = event.Given (input.Deliver c.args.from c.args.number c.in_ok-packet.packet) in
     let some = c.in-Some-next_stamp.ensures.some in
