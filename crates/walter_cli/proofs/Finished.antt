@@ -144,7 +144,7 @@ module _ {D S K : Type 0} {g : Ghosts D} {s : SourceGhosts S} {k : SinkGhosts K}
       subst (λ (es : List Entry). IsDiskOf t i es (g.known disk) (g.may_leave disk)) (sym trail) (record {
         records = stands_images cell.0.node.engine (standing t.catalog (site_at i) (reverse cell.0.node.entries.items)) disk
             knows.stands cell.2;
-        faults = of_disk (disk_in cell.0.node.engine) disk _ cell.2 (is.cells i cell.0 cell.1).cell.node.faults;
+        faults = of_disk (disk_in cell.0.node.engine) disk _ cell.2 (is.cells i cell.0 cell.1).cell_is.node.faults;
       })
 
   -- the arms of the disk of a site are those that were armed

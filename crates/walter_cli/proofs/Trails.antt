@@ -117,10 +117,10 @@ module _ {D S K : Type 0} {g : Ghosts D} {s : SourceGhosts S} {k : SinkGhosts K}
       subst (λ (es : List Entry). P i es) (sym (trail_is i there.0 there.1)) (so i there.0 there.1)
 
   pub begins : (i : ℕ) → i < t.catalog.sites → slice_get (trail_at trails i) 0 ≡ Some opening
-  begins = at_each (λ i es. slice_get es 0 ≡ Some opening) (λ i cell at. (is.cells i cell at).cell.node.begins)
+  begins = at_each (λ i es. slice_get es 0 ≡ Some opening) (λ i cell at. (is.cells i cell at).cell_is.node.begins)
 
   pub stamps_rise : (i : ℕ) → i < t.catalog.sites → HaveRisingStamps (reverse (trail_at trails i))
-  stamps_rise = at_each (λ i es. HaveRisingStamps (reverse es)) (λ i cell at. (is.cells i cell at).cell.node.rise)
+  stamps_rise = at_each (λ i es. HaveRisingStamps (reverse es)) (λ i cell at. (is.cells i cell at).cell_is.node.rise)
 
   pub calls_are : AreAllConnected t bench → AreCallsOf t.clients trails
   calls_are connected = record {
@@ -170,7 +170,7 @@ module _ {D S K : Type 0} {g : Ghosts D} {s : SourceGhosts S} {k : SinkGhosts K}
       subst (λ (es : List Entry). All (λ (e : Entry). All FitsFrame (reply_in e.came.outcome)) es) there.2
       (All-weaker (λ (e : Entry). IsSized t.catalog.sites e.came) (λ (e : Entry). All FitsFrame (reply_in e.came.outcome))
       (λ e sized. outcome_frames e.came.outcome sized.outcome) there.0.node.entries.items
-      (is.cells i there.0 there.1).cell.node.sized))
+      (is.cells i there.0 there.1).cell_is.node.sized))
 
   pub spellings : HaveSpellings trails
   spellings = all_there trails (λ trail. All HasSpellings trail) (λ i trail at.
@@ -178,4 +178,4 @@ module _ {D S K : Type 0} {g : Ghosts D} {s : SourceGhosts S} {k : SinkGhosts K}
       subst (λ (es : List Entry). All HasSpellings es) there.2
       (All-weaker (λ (e : Entry). IsSized t.catalog.sites e.came) HasSpellings
       (λ e sized. record { kept = sized.kept; wrote = sized.wrote; flight = sized.flight }) there.0.node.entries.items
-      (is.cells i there.0 there.1).cell.node.sized))
+      (is.cells i there.0 there.1).cell_is.node.sized))
