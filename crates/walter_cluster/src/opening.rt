@@ -49,7 +49,7 @@ pub fn build<D: Disk + Drop, S: Source + Drop, K: Sink + Drop>(
     ensures met { IfOk result (λ bench. AreMet bench) }
     ensures first { IfOk result (λ bench. IsFirst scenario.now.catalog.sites (moment_of bench.cells.items)) }
     ensures leaves { LeavesDisks disks.items result }
-    ensures had_none { OnOk result (HadNoRecords disks.items) }
-    ensures why { IfErr result (λ unbuilt. IsWhyNone disks.items unbuilt) }
+    ensures had_none { OnOk result (HadNoRecords D.Disk disks.items) }
+    ensures why { IfErr result (λ unbuilt. IsWhyNone D.Disk disks.items unbuilt) }
 {
 }
