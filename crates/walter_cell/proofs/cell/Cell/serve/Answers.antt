@@ -1,8 +1,6 @@
 use Rattle.std.proofs.Common.{◌≡◌, ◌<◌, ◌+◌, ◌++◌, ◌∷◌, ◌^◌, [], ℕ, List, length, refl, ap, sym, ◌∙◌, subst, arith, Some, slice_set, inl, inr}
 use Rattle.std.specs.Vec.{with_item}
 use Rattle.std.proofs.lemmas.Option.{slice_get_within}
-use Rattle.walter_conn.specs.Calls.{Incoming}
-use Rattle.walter_conn.specs.Connections.{incoming}
 use Rattle.walter_conn.specs.Frames.{Call}
 use Rattle.walter_rules.specs.declared.event.Event.{Event}
 use Rattle.walter_rules.specs.declared.event.Event.TheVariants as event

@@ -1,4 +1,4 @@
-use Rattle.std.proofs.Common.{◌≡◌, ◌<◌, ◌++◌, ℕ, List, length, take, drop, map, reverse, refl, ap, sym, ◌∙◌, subst, Option}
+use Rattle.std.proofs.Common.{◌≡◌, ◌++◌, ℕ, List, length, take, drop, map, reverse, refl, ap, sym, ◌∙◌, subst, Option}
 use Rattle.std.proofs.lemmas.List.{length-map}
 use Rattle.walter_base.specs.declared.catalog.Catalog.{Catalog}
 use Rattle.walter_base.specs.declared.names.SiteId.{SiteId}
@@ -19,7 +19,7 @@ use Rattle.walter_session.specs.Sessions.{Table}
 use Rattle.walter_cell.specs.declared.node.Node.{Node}
 use Rattle.walter_cell.specs.Debts.{AreOwed, AreAfter}
 use Rattle.walter_cell.specs.Handled.{IsSized, IsYoung, HasCome}
-use Rattle.walter_cell.specs.Nodes.{IsNode, IsKnownNode}
+use Rattle.walter_cell.specs.Nodes.{IsNode}
 use Rattle.walter_cell.proofs.Ages.{young}
 use Rattle.walter_cell.proofs.Nodes.{all_back, node_more, known_more, drops_more}
 use Rattle.walter_cell.proofs.node.Node.take.Goals as goal
