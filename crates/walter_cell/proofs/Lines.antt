@@ -1,5 +1,7 @@
 -- What the answers of a client's connection leave of what was read.
-use Rattle.std.proofs.Common.{◌≡◌, ◌≢◌, ◌⊎◌, ◌<◌, ℕ, List, [], ◌∷◌, ◌++◌, length, refl, ap, sym, ◌∙◌, subst, arith, inl, inr, Option, Some, None, Result, get_or, slice_get, slice_set, nat_eq, if◌then◌else◌}
+use Rattle.std.proofs.Common.{◌≡◌, ◌≢◌, ◌⊎◌, ◌<◌, ℕ, List, [], ◌∷◌, ◌++◌, length, refl, ap, sym, ◌∙◌, subst, arith, inl, inr, Option, Some, None, Result, Ok, Err, true, get_or, slice_get, slice_set, nat_eq, if◌then◌else◌}
+use Rattle.std.specs.Prelude.{OnOk, OnErr}
+use Rattle.std.specs.Result.{is_err}
 use Rattle.std.proofs.lemmas.Bool.{cases_lt, eq-eqb, ne_eqb}
 use Rattle.std.proofs.lemmas.List.{append-nil, length-set, get_or-set_same, get_or-set_other}
 use Rattle.std.proofs.lemmas.List.Concat.{flat_map-append}
@@ -78,25 +80,38 @@ module _ {S K : Type 0} {s : SourceGhosts S} {k : SinkGhosts K} (bytes : List �
     ];
   }
 
-  -- a reply was written to it
-  pub line_told : incoming new ≡ incoming old → (incoming old).state ≢ state.Broken → IsLine bytes calls new
-  line_told same unbroken = record {
-    stands = subst (λ (x : Incoming). HasCalled bytes calls x) (sym same) is.stands;
-    broken = λ broken. absurd (unbroken (sym (ap (λ (x : Incoming). x.state) same) ∙ broken));
-  }
-
-  -- or the reply was lost
-  pub line_lost : incoming new ≡ record (incoming old) { state = state.Broken } → HasFault new → IsLine bytes calls new
-  line_lost same failed = record {
-    stands = subst (λ (x : Incoming). HasCalled bytes calls x) (sym same) (lost_keeps bytes calls (incoming old) is.stands);
-    broken = λ broken. inl failed;
-  }
-
 -- where a reply is lost a sink has failed
 pub lost_fails : {K : Type 0} (holds : K → Option (List ℕ)) (faults : K → ℕ) (old new : K) (bytes : List ℕ) (was : State)
     → was ≢ state.Broken → IsLost holds faults old new bytes was → 0 < faults new
 lost_fails holds faults old new bytes was unbroken (outputs.before broken same) = absurd (unbroken broken)
 lost_fails holds faults old new bytes was unbroken (outputs.fault open_ front rose) = omega (arith, rose)
+
+module _ {S K : Type 0} {s : SourceGhosts S} {k : SinkGhosts K} (old new : Conn S K s k) (unbroken : (incoming old).state ≢ state.Broken)
+    (reply : List ℕ) where
+  -- where a reply was lost the connection has failed
+  pub put_fails : {X E : Type 0} (r : Result X E)
+      → OnErr r (IsLost k.holds k.faults (sink_of old) (sink_of new) reply (incoming old).state) → OnErr r (HasFault new)
+  put_fails (Ok done) lost = tt
+  put_fails (Err e) lost = inr (lost_fails k.holds k.faults (sink_of old) (sink_of new) reply (incoming old).state unbroken lost)
+
+  -- what it has read stays, whether the reply was written or lost
+  pub put_keeps : {X E : Type 0} (r : Result X E) (bytes : List ℕ) (calls : List Call) → IsLine bytes calls old
+      → OnOk r (incoming new ≡ incoming old) → OnErr r (incoming new ≡ record (incoming old) { state = state.Broken })
+      → OnErr r (IsLost k.holds k.faults (sink_of old) (sink_of new) reply (incoming old).state) → IsLine bytes calls new
+  put_keeps (Ok done) bytes calls is same broken lost = record {
+    stands = subst (λ (x : Incoming). HasCalled bytes calls x) (sym same) is.stands;
+    broken = λ breaks. absurd (unbroken (sym (ap (λ (x : Incoming). x.state) same) ∙ breaks));
+  }
+  put_keeps (Err e) bytes calls is same broken lost = record {
+    stands = subst (λ (x : Incoming). HasCalled bytes calls x) (sym broken) (lost_keeps bytes calls (incoming old) is.stands);
+    broken = λ breaks.
+        inl (inr (lost_fails k.holds k.faults (sink_of old) (sink_of new) reply (incoming old).state unbroken lost));
+  }
+
+-- what holds where a call failed, of one that did
+pub of_failed : {X E : Type 0} (r : Result X E) (P : Type 0) → is_err r ≡ true → OnErr r P → P
+of_failed (Ok done) P failed holds = absurd cc
+of_failed (Err e) P failed holds = holds
 
 -- the one at a place of a list
 pub at_place : {L : Type 0} (lines : List L) (place : ℕ) (line found : L) → slice_get lines place ≡ Some line → found ≡ get_or lines place found → line ≡ found

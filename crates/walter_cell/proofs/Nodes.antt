@@ -156,8 +156,12 @@ module _ {D : Type 0} {g : Ghosts D} where
         → MayDrop catalog i (met_to old.outs.items) trail new.entries.items
     drops_more lost none has =
         let T : Standing = settled catalog i came.kept S in
-        inr (own, grown, drops_where_full catalog capacity i T event came (met_to old.outs.items) sends dropped none
-        (agree_out (met_to old.outs.items) (carried_by old.outs.items) T.carried came.sends sends dropped agree free) has.comes)
+        inr (
+          own,
+          grown,
+          drops_where_full catalog capacity i T event came (met_to old.outs.items) sends dropped none
+              (agree_out (met_to old.outs.items) (carried_by old.outs.items) T.carried came.sends sends dropped agree free) has.comes,
+        )
       where
         agree : AgreeOnLanes (met_to old.outs.items) (carried_by old.outs.items) (settled catalog i came.kept S).carried
         agree k = elim (carried_agrees catalog i catalog.sites trail old.outs.items node.put k) [

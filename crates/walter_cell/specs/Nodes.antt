@@ -16,7 +16,7 @@ use Rattle.walter_cell.specs.declared.node.Node.{Node}
 use Rattle.walter_cell.specs.Debts.{AreOwed}
 use Rattle.walter_cell.specs.Entries.{HaveRisingStamps}
 use Rattle.walter_cell.specs.Handled.{IsSized, is_faulty}
-use Rattle.walter_outbox.specs.Lanes.{HavePut, out_rings, mets, met_to, IsPutWhereFree}
+use Rattle.walter_outbox.specs.Lanes.{HavePut, out_rings, mets, IsPutWhereFree}
 
 -- the entry of an event that came to this
 abbrev pub entry_by : ℕ → Event → Came → Entry

@@ -5,7 +5,7 @@ pub enum Serve {
     Served,
     /// No call follows.
     Ended,
-    /// The client's bytes end inside a frame.
+    /// The client's bytes end inside a frame, or its connection has failed.
     Broken,
     /// The trail has no place for another entry.
     Spent,

@@ -1,7 +1,9 @@
-use Rattle.std.proofs.Common.{◌≡◌, ◌<◌, ◌++◌, ℕ, List, length, take, drop, map, reverse, refl, ap, sym, ◌∙◌, subst, Option}
+use Rattle.std.proofs.Common.{◌≡◌, ◌++◌, ℕ, List, length, take, drop, map, reverse, refl, ap, sym, ◌∙◌, subst, Option}
 use Rattle.std.proofs.lemmas.List.{length-map}
 use Rattle.walter_base.specs.declared.catalog.Catalog.{Catalog}
 use Rattle.walter_base.specs.declared.names.SiteId.{SiteId}
+use Rattle.walter_disk.specs.declared.disk.Disk.{Ghosts}
+use Rattle.walter_engine.specs.declared.engine.Engine.{Engine}
 use Rattle.walter_engine.specs.Engines.{catalog_in, site_in, capacity_in}
 use Rattle.walter_base.specs.declared.names.Tid.{Tid}
 use Rattle.walter_lane.specs.Lanes.{Sending}
@@ -9,15 +11,17 @@ use Rattle.walter_outbox.specs.Lanes.{carried_by, out_rings, mets, met_to, HaveP
 use Rattle.walter_outbox.proofs.Grown.{with_sends}
 use Rattle.walter_packet.specs.Framed.{frame_of}
 use Rattle.walter_rules.specs.declared.entry.Came.{Came}
+use Rattle.walter_rules.specs.declared.event.Event.{Event}
 use Rattle.walter_rules.specs.Sending.{Send}
 use Rattle.walter_rules.specs.Standing.{Standing}
 use Rattle.walter_rules.specs.Trails.{standing}
+use Rattle.walter_session.specs.Sessions.{Table}
+use Rattle.walter_cell.specs.declared.node.Node.{Node}
 use Rattle.walter_cell.specs.Debts.{AreOwed, AreAfter}
 use Rattle.walter_cell.specs.Handled.{IsSized, IsYoung, HasCome}
-use Rattle.walter_cell.specs.Nodes.{IsNode, IsKnownNode}
+use Rattle.walter_cell.specs.Nodes.{IsNode}
 use Rattle.walter_cell.proofs.Ages.{young}
 use Rattle.walter_cell.proofs.Nodes.{all_back, node_more, known_more, drops_more}
-use Rattle.walter_cell.proofs.node.Node.take.Given.{Over}
 use Rattle.walter_cell.proofs.node.Node.take.Goals as goal
 
 pub put_out-sends-requires : goal.put_out-sends-requires
@@ -56,29 +60,26 @@ returns-clause-takes g c =
           ∙ (c.settle.ensures.long ∙ ap length c.deref_mut-2.ensures.value);
     }
 
--- what was put out of what it came to
-put_free : (g : Over) (c : goal.After-push_reserved g)
-    → IsPutWhereFree (met_to c.args.self.now.outs.items) (carried_by c.args.self.now.outs.items) c.handle-came.result.came.sends
-    c.put_out-sends.result.0 c.put_out-sends.result.1
-put_free g c =
-    subst (λ (os : List Sending). IsPutWhereFree (met_to os) (carried_by os) c.handle-came.result.came.sends c.put_out-sends.result.0 c.put_out-sends.result.1)
-    c.deref_mut.ensures.value c.put_out-sends.ensures.out
+-- what was put out on the lanes as they were lent was put out on those that there were
+put_free : (lent old : List Sending) (planned sends : List Send) (dropped : ℕ) → lent ≡ old
+    → IsPutWhereFree (met_to lent) (carried_by lent) planned sends dropped
+    → IsPutWhereFree (met_to old) (carried_by old) planned sends dropped
+put_free lent old planned sends dropped same free =
+    subst (λ (os : List Sending). IsPutWhereFree (met_to os) (carried_by os) planned sends dropped) same free
 
--- what the event came to, where the disk tells what it holds
-has_come : (g : Over) (c : goal.After-push_reserved g) (catalog : Catalog) (capacity : ℕ) (i : SiteId)
-    → IsNode catalog capacity i c.args.self.now → length c.args.self.now.entries.items < 100000
-    → IsKnownNode catalog capacity i c.args.self.now
-    → HasCome catalog capacity i (standing catalog i (reverse c.args.self.now.entries.items)) c.args.event c.handle-came.result.came
-    c.handle-came.result.lost c.handle-came.new.engine
-has_come g c catalog capacity i node few known =
-    let came : Came = c.handle-came.result.came in
-    let S : Standing = standing catalog i (reverse c.args.self.now.entries.items) in
-    subst (λ (k : Catalog). HasCome k capacity i S c.args.event came c.handle-came.result.lost c.handle-came.new.engine) node.catalog_is
-    (subst (λ n. HasCome (catalog_in c.args.self.now.engine) n i S c.args.event came c.handle-came.result.lost c.handle-came.new.engine) node.capacity_is
-    (subst (λ (k : SiteId). HasCome (catalog_in c.args.self.now.engine) (capacity_in c.args.self.now.engine) k S c.args.event came c.handle-came.result.lost c.handle-came.new.engine) node.site
-    (c.handle-came.ensures.comes S known.stands (c.debt_of-debt.ensures S (subst (λ (ds : List (Option Tid)). AreOwed S ds) (sym c.deref.ensures.value) known.owed))
-    (subst (λ (k : Catalog). IsYoung g.D.Disk k (site_in c.args.self.now.engine) S) (sym node.catalog_is)
-    (subst (λ (k : SiteId). IsYoung g.D.Disk catalog k S) (sym node.site) (young g.D.Disk catalog i c.args.self.now.entries.items few))))))
+-- what the event came to at a node, by what it came to at the node's site
+has_come : {D : Type 0} {g : Ghosts D} (catalog : Catalog) (capacity : ℕ) (i : SiteId) (old : Node D g) (S : Standing) (event : Event)
+    (came : Came) (lost : Option Table) (new : Engine D g) → IsNode catalog capacity i old
+    → IsYoung g catalog i S
+    → (IsYoung g (catalog_in old.engine) (site_in old.engine) S
+    → HasCome (catalog_in old.engine) (capacity_in old.engine) (site_in old.engine) S event came lost new)
+    → HasCome catalog capacity i S event came lost new
+has_come {D = D} {g = g} catalog capacity i old S event came lost new node young comes =
+    subst (λ (k : Catalog). HasCome k capacity i S event came lost new) node.catalog_is
+    (subst (λ n. HasCome (catalog_in old.engine) n i S event came lost new) node.capacity_is
+    (subst (λ (k : SiteId). HasCome (catalog_in old.engine) (capacity_in old.engine) k S event came lost new) node.site
+    (comes (subst (λ (k : Catalog). IsYoung g k (site_in old.engine) S) (sym node.catalog_is)
+    (subst (λ (k : SiteId). IsYoung g catalog k S) (sym node.site) young)))))
 
 pub returns-clause-node : goal.returns-clause-node
 returns-clause-node g c = λ catalog capacity i node later early.
@@ -90,7 +91,9 @@ returns-clause-node g c = λ catalog capacity i node later early.
     let put : HavePutMore catalog.sites c.args.stamp c.deref_mut.result.now c.put_out-sends.new.outs sends =
     c.put_out-sends.ensures.lanes catalog.sites framed in
     node_more catalog capacity i c.args.self.now _ c.args.stamp c.args.event came sends c.put_out-sends.result.1
-    c.push_reserved.ensures.items (put_free g c) node refl c.handle-came.ensures.engine
+    c.push_reserved.ensures.items
+    (put_free c.deref_mut.result.now c.args.self.now.outs.items came.sends c.put_out-sends.result.0 c.put_out-sends.result.1
+    c.deref_mut.ensures.value c.put_out-sends.ensures.out) node refl c.handle-came.ensures.engine
     (subst (λ (k : Catalog). IsSized k.sites came) node.catalog_is c.handle-came.ensures.sized)
     (subst (λ (os : List Sending). HavePutMore catalog.sites c.args.stamp outs.items os sends)
     (sym (outs_back outs.len outs.items c.deref_mut.result.now c.put_out-sends.new.outs outs.ok.0 c.deref_mut.ensures.value put.rings))
@@ -100,11 +103,18 @@ returns-clause-node g c = λ catalog capacity i node later early.
 pub returns-clause-known : goal.returns-clause-known
 returns-clause-known g c = λ catalog capacity i node few next known.
     let came : Came = c.handle-came.result.came in
+    let S : Standing = standing catalog i (reverse c.args.self.now.entries.items) in
+    let has : HasCome catalog capacity i S c.args.event came c.handle-came.result.lost c.handle-came.new.engine =
+    has_come catalog capacity i c.args.self.now S c.args.event came c.handle-came.result.lost c.handle-came.new.engine node
+    (young g.D.Disk catalog i c.args.self.now.entries.items few)
+    (c.handle-came.ensures.comes S known.stands (c.debt_of-debt.ensures S (subst (λ (ds : List (Option Tid)). AreOwed S ds) (sym c.deref.ensures.value) known.owed))) in
     let debts = c.args.self.now.debts in
     let sends = c.put_out-sends.result.0 in
     let lost = c.handle-came.result.lost in
     known_more catalog capacity i c.args.self.now _ c.args.stamp c.args.event came sends c.put_out-sends.result.1
-    c.push_reserved.ensures.items (put_free g c) node lost c.handle-came.ensures.none_dropped (has_come g c catalog capacity i node few known)
+    c.push_reserved.ensures.items
+    (put_free c.deref_mut.result.now c.args.self.now.outs.items came.sends c.put_out-sends.result.0 c.put_out-sends.result.1
+    c.deref_mut.ensures.value c.put_out-sends.ensures.out) node lost c.handle-came.ensures.none_dropped has
     (subst (λ (ds : List (Option Tid)). AreAfter c.args.event came.outcome lost debts.items ds)
     (sym (debts_back debts.len debts.items c.deref_mut-2.result.now c.settle.new.debts debts.ok.0 c.deref_mut-2.ensures.value c.settle.ensures.long))
     (subst (λ (ds : List (Option Tid)). AreAfter c.args.event came.outcome lost ds c.settle.new.debts) c.deref_mut-2.ensures.value c.settle.ensures))
@@ -112,6 +122,18 @@ returns-clause-known g c = λ catalog capacity i node few next known.
 
 pub returns-clause-drops : goal.returns-clause-drops
 returns-clause-drops g c = λ catalog capacity i node few known.
-    drops_more catalog capacity i c.args.self.now _ c.args.stamp c.args.event c.handle-came.result.came c.put_out-sends.result.0
-    c.put_out-sends.result.1 c.push_reserved.ensures.items (put_free g c) node c.handle-came.result.lost
-    c.handle-came.ensures.none_dropped (has_come g c catalog capacity i node few known)
+    let came : Came = c.handle-came.result.came in
+    let S : Standing = standing catalog i (reverse c.args.self.now.entries.items) in
+    let has : HasCome catalog capacity i S c.args.event came c.handle-came.result.lost c.handle-came.new.engine =
+    has_come catalog capacity i c.args.self.now S c.args.event came c.handle-came.result.lost c.handle-came.new.engine node
+    (young g.D.Disk catalog i c.args.self.now.entries.items few)
+    (c.handle-came.ensures.comes S known.stands (c.debt_of-debt.ensures S (subst (λ (ds : List (Option Tid)). AreOwed S ds) (sym c.deref.ensures.value) known.owed))) in
+    let new : Node g.row.D.Denot g.D.Disk = record c.args.self.now {
+      engine = c.handle-came.new.engine;
+      entries = c.push_reserved.new.self;
+    } in
+    drops_more catalog capacity i c.args.self.now new c.args.stamp c.args.event came c.put_out-sends.result.0
+    c.put_out-sends.result.1 c.push_reserved.ensures.items
+    (put_free c.deref_mut.result.now c.args.self.now.outs.items came.sends c.put_out-sends.result.0 c.put_out-sends.result.1
+    c.deref_mut.ensures.value c.put_out-sends.ensures.out) node c.handle-came.result.lost
+    c.handle-came.ensures.none_dropped has
