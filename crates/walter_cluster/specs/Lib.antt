@@ -2,3 +2,4 @@ pub mod Benches
 pub mod Moments
 pub mod Lanes
 pub mod Builds
+pub mod Openings
