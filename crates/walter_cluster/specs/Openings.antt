@@ -1,7 +1,5 @@
 -- What a bench is made of beside its disks, and what holds while its sites begin one after another.
-use Rattle.std.specs.Prelude.{◌≡◌, ◌<◌, ◌≤◌, ℕ, List, [], ◌∷◌, ◌++◌, Vec, length, map, slice_get, slice_index_or, vec_capacity, Option, Some, None, IsSome}
-use Rattle.std.specs.declared.alloc.Global.{Global}
-use Rattle.walter_base.specs.declared.names.SiteId.{SiteId}
+use Rattle.std.specs.Prelude.{◌≡◌, ◌≤◌, ℕ, List, [], ◌∷◌, length, map, slice_get, vec_capacity, Option, Some, IsSome}
 use Rattle.walter_cell.specs.declared.cell.Cell.{Cell}
 use Rattle.walter_cell.specs.Cells.{IsCell, IsKnown}
 use Rattle.walter_conn.specs.declared.conn.Conn.{Conn}
@@ -19,25 +17,7 @@ use Rattle.walter_cluster.specs.declared.bench.Bench.{Bench}
 use Rattle.walter_cluster.specs.declared.opening.Parts.{Parts}
 use Rattle.walter_cluster.specs.Builds.{LeavesDisk}
 use Rattle.walter_cluster.specs.Lanes.{AreJoined, rows_in, columns_in, row_of, column_of}
-
--- ---- the connections, in lists by site
-
-abbrev pub lists_in : {X : Type 0} → List (Vec (Option X) Global) → List (List (Option X))
-lists_in {X = X} vs = map (λ (v : Vec (Option X) Global). v.items) vs
-
-abbrev pub list_of : {X : Type 0} → List (List (Option X)) → ℕ → List (Option X)
-list_of lists i = slice_index_or lists i []
-
--- so many lists, with a place for each of so many clients
-pub record HavePlaces {X : Type 0} (sites clients : ℕ) (lists : List (List (Option X))) : Type 0 where
-  pub lists_long : length lists ≡ sites
-  pub list_long : (i : ℕ) → i < sites → length (list_of lists i) ≡ clients
-
--- the first clients have their connections in the lists of their sites
-abbrev pub AreSeated : {X : Type 0} → ℕ → List Client → List X → List (List (Option X)) → Type 0
-AreSeated {X = X} count clients conns lists = (number : ℕ) (client : Client) (line : X) → number < count
-    → slice_get clients number ≡ Some client → slice_get conns number ≡ Some line
-    → slice_get (list_of lists client.site.0) number ≡ Some (Some line)
+use Rattle.walter_cluster.specs.Seats.{lists_in, list_of, HavePlaces, AreSeated}
 
 module _ {D S K : Type 0} {g : Ghosts D} {s : SourceGhosts S} {k : SinkGhosts K} where
   -- a bench without cells, with room for so many
@@ -99,8 +79,3 @@ module _ {D S K : Type 0} {g : Ghosts D} {s : SourceGhosts S} {k : SinkGhosts K}
     pub trails : bench.trails ≡ parts.bench.trails
     pub disks_are : bench.disks ≡ parts.bench.disks
     pub conns : bench.conns ≡ parts.bench.conns
-
--- each disk is back, as the building leaves it
-abbrev pub AreLeft : {D : Type 0} → Ghosts D → (disks back : List D) → Type 0
-AreLeft {D = D} g disks back = (i : ℕ) (disk : D) → slice_get disks i ≡ Some disk
-    → (now : D) × (slice_get back i ≡ Some now) × LeavesDisk g disk now
