@@ -63,7 +63,7 @@ module _ {D S K : Type 0} {g : Ghosts D} {s : SourceGhosts S} {k : SinkGhosts K}
       → (now : D) × (slice_get (disks_after result) i ≡ Some (Some now)) × LeavesDisk g disk now
 
   -- the disk, the trail and the connections of each cell, in order
-  pub record GivesBack (cells : List (Cell D S K g s k)) (closed : Closed D S K g s k) : Type 0 where
+  pub record GivesBack (cells : List (Cell D S K g s k)) (closed : Closed D S K s k) : Type 0 where
     pub trails : closed.trails.items ≡ map (λ (c : Cell D S K g s k). c.node.entries.items) cells
     pub disks : map (λ (d : D). Some d) closed.disks.items
         ≡ map (λ (c : Cell D S K g s k). disk_in c.node.engine) cells
