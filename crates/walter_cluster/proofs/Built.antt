@@ -1,19 +1,16 @@
 -- A bench whose sites have all begun.
 use Rattle.std.proofs.Common.{◌≡◌, ℕ, ◌<◌, ◌≤◌, ◌∷◌, List, [], Option, Some, Result, Ok, Err, length, get_or, map, replicate, slice_get, vec_capacity, refl, ap, sym, ◌∙◌, subst, arith}
-use Rattle.std.specs.Prelude.{IsSome, All, option_map}
+use Rattle.std.specs.Prelude.{IsSome, IfOk, OnOk, All}
 use Rattle.std.proofs.lemmas.List.{get_or-replicate, length-replicate}
 use Rattle.std.proofs.lemmas.List.Elements.{All-push, All-nil}
-use Rattle.std.proofs.lemmas.Option.{same_Some, slice_get-map, slice_get_within}
+use Rattle.std.proofs.lemmas.Option.{slice_get_within}
 use Rattle.walter_base.specs.declared.names.SiteId.{SiteId}
 use Rattle.walter_base.specs.Vectors.{most_sites}
 use Rattle.walter_cell.specs.declared.cell.Cell.{Cell}
 use Rattle.walter_cell.specs.Cells.{IsLine, OfLine}
 use Rattle.walter_conn.specs.declared.conn.Conn.{Conn}
 use Rattle.walter_disk.specs.declared.disk.Disk.{Ghosts}
-use Rattle.walter_engine.specs.Begins.{HasOnly, IsBegun, IsFaultOfBegin}
 use Rattle.walter_engine.specs.Steps.{opening}
-use Rattle.walter_engine.specs.declared.answers.Unbegun.{Unbegun}
-use Rattle.walter_engine.specs.declared.answers.Unbegun.TheVariants.{NoMemory}
 use Rattle.walter_lane.specs.Lanes.{Sending, Receiving}
 use Rattle.walter_outbox.specs.Lanes.{met_to, arrived_from, ring_to, ring_from}
 use Rattle.walter_rules.specs.declared.entry.Entry.{Entry}
@@ -25,14 +22,13 @@ use Rattle.walter_stream.specs.declared.source.Source.{Ghosts as SourceGhosts}
 use Rattle.walter_trail.specs.Calls.{calls_of}
 use Rattle.walter_cluster.specs.declared.bench.Bench.{Bench}
 use Rattle.walter_cluster.specs.declared.opening.Parts.{Parts}
-use Rattle.walter_cluster.specs.declared.opening.Unbuilt.{Unbuilt}
 use Rattle.walter_cluster.specs.Benches.{trails_of, outs_at, ins_at, IsOfSite, IsCellOf, IsBench, IsKnownAt, AreAllConnected, AreMet, HasRoom}
-use Rattle.walter_cluster.specs.Builds.{AreUnread, LeavesDisks, HadNoRecords, IsWhyNone}
+use Rattle.walter_cluster.specs.Builds.{AreUnread, HadNoRecords}
 use Rattle.walter_cluster.specs.Lanes.{AreJoined, rows_in, columns_in, row_of, column_of}
 use Rattle.walter_cluster.specs.Moments.{IsFirst, moment_of}
 use Rattle.walter_cluster.specs.Openings.{HasPlaces, HasBegun, ArePrepared, IsBegunBench}
 use Rattle.walter_cluster.specs.Seats.{lists_in, list_of, HavePlaces, AreSeated}
-use Rattle.walter_cluster.proofs.Opened.{untouched, none_had}
+use Rattle.walter_cluster.proofs.Opened.{none_had}
 use Rattle.walter_cluster.proofs.Places.{at_place, all_same}
 
 -- what was made for so many sites and these clients is what a scenario asks for
@@ -84,12 +80,11 @@ module _ {D S K : Type 0} {g : Ghosts D} {s : SourceGhosts S} {k : SinkGhosts K}
       → (line : Conn S K s k) × (slice_get conns number ≡ Some line) × (slice_get cell.lines.items number ≡ Some (Some line))
   line_at i cell at number client there home =
       let lt = slice_get_within t.clients number client there in
-      let conn = at_place conns number (omega (arith, lt, conns_long)) in
-      (
+      let conn = at_place conns number (omega (arith, lt, conns_long)) in (
         conn.0,
         conn.1,
         ap (λ list. slice_get list number) ((begun_at i cell at).2.lines ∙ ap (list_of (lists_in parts.lists.items)) (sym (ap (λ (site : SiteId). site.0) home)))
-        ∙ prepared.seated number client conn.0 lt there conn.1,
+            ∙ prepared.seated number client conn.0 lt there conn.1,
       )
 
   opening_of_site : (i : SiteId) → All (λ (e : Entry). IsOfSite t.clients i e.event) (opening ∷ [])
@@ -156,21 +151,12 @@ module _ {D S K : Type 0} {g : Ghosts D} {s : SourceGhosts S} {k : SinkGhosts K}
   pub none_had_built : HadNoRecords g disks
   none_had_built = none_had t disks (rows_in parts.rows.items) (columns_in parts.columns.items) (lists_in parts.lists.items) t.catalog.sites bench.cells.items h.begun (sym disks_long)
 
--- no disk was touched
-module _ {D : Type 0} (g : Ghosts D) (disks : List D) (unbuilt : Unbuilt D) (same : unbuilt.disks.items ≡ disks) where
-  pub all_untouched : {S K : Type 0} (s : SourceGhosts S) (k : SinkGhosts K) → LeavesDisks {S = S} {K = K} {g = g} {s = s} {k = k} disks (Err unbuilt)
-  all_untouched s k i disk at = (disk, ap (λ ds. slice_get (map (λ (d : D). Some d) ds) i) same ∙ slice_get-map (λ (d : D). Some d) disks i ∙ ap (option_map (λ (d : D). Some d)) at, untouched g disk)
+-- what follows where there is a bench
+module _ {T E : Type 0} (P : T → Type 0) where
+  pub if_ok : (Q : T → Type 0) (result : Result T E) → IfOk result P → ((x : T) → P x → Q x) → IfOk result Q
+  if_ok Q (Ok x) holds then = then x holds
+  if_ok Q (Err e) holds then = tt
 
-  -- for want of memory
-  pub why_memory : unbuilt.site.0 ≡ 0 → unbuilt.why ≡ NoMemory → 0 < length disks → IsWhyNone g disks unbuilt
-  why_memory site why some = record {
-    there = omega (arith, some, site);
-    why = λ disk bytes at has. let P : Unbegun → Type 0 = λ w. IsBegun bytes (Err w) in subst P (sym why) tt;
-    fault = λ disk now at back.
-        let its : disk ≡ now = same_Some disk now (sym at ∙ ap (λ ds. slice_get ds unbuilt.site.0) (sym same) ∙ back) in
-        let grown : (g.known disk).faults ≤ (g.known now).faults = let Over : D → Type 0 = λ d. (g.known disk).faults ≤ (g.known d).faults in subst Over its (omega arith) in
-        let P : Unbegun → Type 0 = λ w. IsFaultOfBegin (Err w) (g.known disk).faults (g.known now).faults in
-        subst P (sym why) grown;
-    before = λ i disk bytes early. absurd (omega (arith, early, site));
-    all_back = ap length same;
-  }
+  pub on_ok : (Q : Type 0) (result : Result T E) → IfOk result P → ((x : T) → P x → Q) → OnOk result Q
+  on_ok Q (Ok x) holds then = then x holds
+  on_ok Q (Err e) holds then = tt

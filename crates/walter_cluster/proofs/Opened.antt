@@ -125,8 +125,7 @@ module _ {D S K : Type 0} {g : Ghosts D} {s : SourceGhosts S} {k : SinkGhosts K}
       pub left_of : (i : ℕ) (disk : D) → i < n → slice_get disks i ≡ Some disk → (now : D) × (slice_get (disks_of cells) i ≡ Some (Some now)) × LeavesDisk g disk now
       left_of i disk lt at =
           let there = at_place cells i (omega (arith, lt, h.long)) in
-          let begun = h.each i disk there.0 at there.1 in
-          (
+          let begun = h.each i disk there.0 at there.1 in (
             begun.now,
             slice_get-map (λ (c : Cell D S K g s k). disk_in c.node.engine) cells i ∙ ap (option_map (λ (c : Cell D S K g s k). disk_in c.node.engine)) there.1 ∙ ap (λ o. Some o) begun.now_is,
             begun.leaves,

@@ -160,7 +160,16 @@ fn begin_all<D: Disk + Drop, S: Source + Drop, K: Sink + Drop>(
         let ins = columns.remove(0);
         let lines = lists.remove(0);
         let site = SiteId(number);
-        match Cell::begin(alloc, disk, &scenario.catalog, site, scenario.capacity, outs, ins, lines) {
+        match Cell::begin(
+            alloc,
+            disk,
+            &scenario.catalog,
+            site,
+            scenario.capacity,
+            outs,
+            ins,
+            lines,
+        ) {
             Ok(cell) => cells.push_reserved(cell),
             Err((disk, why)) => {
                 return Err(Unbuilt {

@@ -30,11 +30,7 @@ pub fn seat_all<C: Drop>(
 }
 
 // A list for each site, with a place for each client.
-fn make_lists<C: Drop>(
-    alloc: Global,
-    sites: usize,
-    clients: usize,
-) -> Mem<Vec<Vec<Option<C>>>>
+fn make_lists<C: Drop>(alloc: Global, sites: usize, clients: usize) -> Mem<Vec<Vec<Option<C>>>>
     ensures { IfOk result (λ lists. HavePlaces sites clients (lists_in lists.items)) }
 {
     let mut lists = Vec::new(alloc);

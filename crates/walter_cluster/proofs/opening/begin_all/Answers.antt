@@ -104,11 +104,11 @@ loop-number-preserved g c =
     let column = field_read (λ (v : Vec Receiving Global). v.items) columns n c.remove-ins.result [] in_columns (left_first columns c.loop-number.columns.items n is.columns c.remove-ins.result c.remove-ins.ensures.value) in
     let list = field_read (λ (v : Vec (Option (Conn g.row.S.Denot g.row.K.Denot g.S.Source g.K.Sink)) Global). v.items) lists n c.remove-lines.result [] in_lists (left_first lists c.loop-number.lists.items n is.lists c.remove-lines.result c.remove-lines.ensures.value) in
     let one = cell_begins t n disk (row_of (rows_in rows) n) (column_of (columns_in columns) n) (list_of (lists_in lists) n) cell made.cell made.known made.opening
-          (made.parts.0 ∙ sym row)
-          (ap (λ (v : Vec Receiving Global). v.items) made.parts.1 ∙ sym column)
-          (ap (λ (v : Vec (Option (Conn g.row.S.Denot g.row.K.Denot g.S.Source g.K.Sink)) Global). v.items) made.parts.2 ∙ sym list)
-          (made.parts.3 ∙ ap length (sym list))
-          (λ bytes has. made.begins bytes has) (λ bytes has. made.leaves bytes has) made.faults made.arms in
+    (made.parts.0 ∙ sym row)
+    (ap (λ (v : Vec Receiving Global). v.items) made.parts.1 ∙ sym column)
+    (ap (λ (v : Vec (Option (Conn g.row.S.Denot g.row.K.Denot g.S.Source g.K.Sink)) Global). v.items) made.parts.2 ∙ sym list)
+    (made.parts.3 ∙ ap length (sym list))
+    (λ bytes has. made.begins bytes has) (λ bytes has. made.leaves bytes has) made.faults made.arms in
     record {
       disks = c.remove-disk.ensures.items ∙ left_next disks c.loop-number.disks.items n is.disks;
       rows = c.remove-outs.ensures.items ∙ left_next rows c.loop-number.rows.items n is.rows;

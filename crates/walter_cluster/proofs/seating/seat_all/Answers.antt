@@ -22,8 +22,8 @@ index_mut-requires-in-loop-conn g c =
     let home_in : home < c.args.sites = omega (arith, at_home, c.from-home.ensures) in
     let within : home < length vs = omega (arith, home_in, is.places.lists_long, length-map vs (λ (u : Vec (Option g.row.C.Denot) Global). u.items)) in
     let long : length v.items ≡ length c.args.clients.now =
-        sym (ap length (get_or-map (λ (u : Vec (Option g.row.C.Denot) Global). u.items) vs home v [] within ∙ ap (λ (u : Vec (Option g.row.C.Denot) Global). u.items) (sym c.index_mut.ensures.value)))
-        ∙ is.places.list_long home home_in in
+    sym (ap length (get_or-map (λ (u : Vec (Option g.row.C.Denot) Global). u.items) vs home v [] within ∙ ap (λ (u : Vec (Option g.row.C.Denot) Global). u.items) (sym c.index_mut.ensures.value)))
+    ∙ is.places.list_long home home_in in
     omega (arith, there, long, v.ok.0)
 
 pub loop-conn-preserved : goal.loop-conn-preserved
