@@ -1,5 +1,5 @@
 -- A bench whose sites have all begun.
-use Rattle.std.proofs.Common.{◌≡◌, ℕ, ◌<◌, ◌≤◌, ◌∷◌, List, [], Option, Some, Result, Ok, Err, length, get_or, map, replicate, slice_get, vec_capacity, refl, ap, sym, ◌∙◌, subst, arith}
+use Rattle.std.proofs.Common.{◌≡◌, ℕ, ◌<◌, ◌≤◌, ◌∷◌, List, [], Some, Result, Ok, Err, length, get_or, map, replicate, slice_get, vec_capacity, ap, sym, ◌∙◌, subst, arith}
 use Rattle.std.specs.Prelude.{IsSome, IfOk, OnOk, All}
 use Rattle.std.proofs.lemmas.List.{get_or-replicate, length-replicate}
 use Rattle.std.proofs.lemmas.List.Elements.{All-push, All-nil}
@@ -7,11 +7,10 @@ use Rattle.std.proofs.lemmas.Option.{slice_get_within}
 use Rattle.walter_base.specs.declared.names.SiteId.{SiteId}
 use Rattle.walter_base.specs.Vectors.{most_sites}
 use Rattle.walter_cell.specs.declared.cell.Cell.{Cell}
-use Rattle.walter_cell.specs.Cells.{IsLine, OfLine}
+use Rattle.walter_cell.specs.Cells.{IsLine}
 use Rattle.walter_conn.specs.declared.conn.Conn.{Conn}
 use Rattle.walter_disk.specs.declared.disk.Disk.{Ghosts}
 use Rattle.walter_engine.specs.Steps.{opening}
-use Rattle.walter_lane.specs.Lanes.{Sending, Receiving}
 use Rattle.walter_outbox.specs.Lanes.{met_to, arrived_from, ring_to, ring_from}
 use Rattle.walter_rules.specs.declared.entry.Entry.{Entry}
 use Rattle.walter_rules.specs.Knowledge.{site_at}
@@ -22,7 +21,7 @@ use Rattle.walter_stream.specs.declared.source.Source.{Ghosts as SourceGhosts}
 use Rattle.walter_trail.specs.Calls.{calls_of}
 use Rattle.walter_cluster.specs.declared.bench.Bench.{Bench}
 use Rattle.walter_cluster.specs.declared.opening.Parts.{Parts}
-use Rattle.walter_cluster.specs.Benches.{trails_of, outs_at, ins_at, IsOfSite, IsCellOf, IsBench, IsKnownAt, AreAllConnected, AreMet, HasRoom}
+use Rattle.walter_cluster.specs.Benches.{outs_at, ins_at, IsOfSite, IsCellOf, IsBench, IsKnownAt, AreAllConnected, AreMet, HasRoom}
 use Rattle.walter_cluster.specs.Builds.{AreUnread, HadNoRecords}
 use Rattle.walter_cluster.specs.Lanes.{AreJoined, rows_in, columns_in, row_of, column_of}
 use Rattle.walter_cluster.specs.Moments.{IsFirst, moment_of}

@@ -2,10 +2,8 @@
 use Rattle.std.proofs.Common.{◌≡◌, ℕ, zero, suc, ◌<◌, ◌≤◌, ◌+◌, ◌++◌, ◌∷◌, ◌⊎◌, List, [], Vec, length, get_or, set, map, ap, sym, ◌∙◌, subst, inl, inr, arith, refl, length-append}
 use Rattle.std.specs.declared.alloc.Global.{Global}
 use Rattle.std.proofs.lemmas.Bool.{cases_lt, cases_eq}
-use Rattle.std.proofs.lemmas.List.{get_or_append_left, get_or_at, get_or-map, get_or-set_same, get_or-set_other, length-set, length-map, map-append, map-set, map_push, get_or_past}
-use Rattle.walter_lane.specs.Rings.{Ring}
+use Rattle.std.proofs.lemmas.List.{get_or_append_left, get_or_at, get_or-map, get_or-set_same, get_or-set_other, length-set, length-map, map-append, map-set}
 use Rattle.walter_lane.specs.Lanes.{Sending, Receiving}
-use Rattle.walter_lane.specs.declared.posted.Posted.{Posted}
 use Rattle.walter_outbox.specs.Lanes.{no_ring, put_to, met_to, arrived_from, ring_to, ring_from}
 use Rattle.walter_cluster.specs.Lanes.{row_of, column_of, columns_in, AddsRow, AreJoined}
 

@@ -1,5 +1,5 @@
 -- Elements of lists by their places, and lists whose first elements were taken.
-use Rattle.std.proofs.Common.{◌≡◌, ℕ, zero, suc, ◌<◌, ◌+◌, ◌-◌, ◌++◌, ◌∷◌, List, [], Some, length, get_or, drop, map, slice_get, refl, ap, sym, ◌∙◌, arith, length-append}
+use Rattle.std.proofs.Common.{◌≡◌, ℕ, zero, suc, ◌<◌, ◌+◌, ◌-◌, ◌++◌, ◌∷◌, List, [], Some, length, get_or, drop, map, slice_get, refl, ap, ◌∙◌, arith, length-append}
 use Rattle.std.specs.Prelude.{option_map}
 use Rattle.std.specs.List.{remove}
 use Rattle.std.proofs.lemmas.List.{ext_get_or, get_or-drop, drop-drop, length-map, length-drop}

@@ -1,4 +1,4 @@
-use Rattle.std.proofs.Common.{◌≡◌, ◌∷◌, [], length, ap, arith, length-append}
+use Rattle.std.proofs.Common.{◌∷◌, [], length, ap, arith, length-append}
 use Rattle.walter_cluster.proofs.Places.{map_lengths}
 use Rattle.walter_cluster.proofs.opening.give_back.Goals as goal
 

@@ -1,7 +1,7 @@
-use Rattle.std.proofs.Common.{◌≡◌, ◌++◌, Some, length, map, ap, ◌∙◌, sym, arith, rules, length-append}
+use Rattle.std.proofs.Common.{◌++◌, Some, map, ap, ◌∙◌, sym, arith, rules}
 use Rattle.std.proofs.lemmas.Iterator.Adapters.{YieldsList-from_vec}
 use Rattle.std.proofs.lemmas.Iterator.Consumers.{YieldsList-turn, YieldsList-end}
-use Rattle.std.proofs.lemmas.List.{length-map, map-id}
+use Rattle.std.proofs.lemmas.List.{map-id}
 use Rattle.walter_cluster.specs.Openings.{disks_of}
 use Rattle.walter_cluster.proofs.Places.{map_lengths}
 use Rattle.walter_cluster.proofs.opening.take_disks.Goals as goal

@@ -1,4 +1,4 @@
-use Rattle.std.proofs.Common.{◌≡◌, ◌++◌, Some, length, map, vec_capacity}
+use Rattle.std.proofs.Common.{◌≡◌, ◌++◌, Some, map, vec_capacity}
 use Rattle.walter_cluster.specs.Openings.{disks_of}
 use Rattle.walter_cluster.proofs.opening.take_disks.Given as goal
 

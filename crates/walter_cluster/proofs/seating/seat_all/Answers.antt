@@ -1,11 +1,11 @@
-use Rattle.std.proofs.Common.{◌≡◌, ◌+◌, ◌<◌, ◌++◌, ◌∷◌, [], Option, Some, Vec, Global, length, get_or, slice_get, set, sym, ap, ◌∙◌, subst, refl, arith, rules}
-use Rattle.std.specs.Vec.{with_item, vec_len}
+use Rattle.std.proofs.Common.{◌≡◌, ◌+◌, ◌<◌, [], Option, Some, Vec, Global, length, get_or, slice_get, sym, ap, ◌∙◌, subst, refl, arith, rules}
+use Rattle.std.specs.Vec.{with_item}
 use Rattle.std.proofs.lemmas.Iterator.Adapters.{YieldsList-from_vec}
 use Rattle.std.proofs.lemmas.Iterator.Consumers.{YieldsList-turn}
 use Rattle.std.proofs.lemmas.List.{get_or-map, length-map, length_push}
 use Rattle.std.proofs.lemmas.Option.{slice_get_read}
 use Rattle.walter_scenario.specs.declared.scenario.Client.{Client}
-use Rattle.walter_cluster.specs.Seats.{lists_in, list_of, HavePlaces, AreSeated}
+use Rattle.walter_cluster.specs.Seats.{lists_in, HavePlaces, AreSeated}
 use Rattle.walter_cluster.proofs.Seated.{places_kept, seated_more, lists_set}
 use Rattle.walter_cluster.proofs.seating.seat_all.Goals as goal
 
