@@ -1,6 +1,6 @@
 -- A bench whose sites have all begun.
-use Rattle.std.proofs.Common.{◌≡◌, ℕ, ◌<◌, ◌≤◌, ◌∷◌, List, [], Some, Result, Ok, Err, length, get_or, map, replicate, slice_get, vec_capacity, ap, sym, ◌∙◌, subst, arith}
-use Rattle.std.specs.Prelude.{IsSome, IfOk, OnOk, All}
+use Rattle.std.proofs.Common.{◌≡◌, ℕ, ◌<◌, ◌≤◌, ◌∷◌, List, [], Some, length, get_or, map, replicate, slice_get, vec_capacity, ap, sym, ◌∙◌, subst, arith}
+use Rattle.std.specs.Prelude.{IsSome, All}
 use Rattle.std.proofs.lemmas.List.{get_or-replicate, length-replicate}
 use Rattle.std.proofs.lemmas.List.Elements.{All-push, All-nil}
 use Rattle.std.proofs.lemmas.Option.{slice_get_within}
@@ -149,13 +149,3 @@ module _ {D S K : Type 0} {g : Ghosts D} {s : SourceGhosts S} {k : SinkGhosts K}
 
   pub none_had_built : HadNoRecords g disks
   none_had_built = none_had t disks (rows_in parts.rows.items) (columns_in parts.columns.items) (lists_in parts.lists.items) t.catalog.sites bench.cells.items h.begun (sym disks_long)
-
--- what follows where there is a bench
-module _ {T E : Type 0} (P : T → Type 0) where
-  pub if_ok : (Q : T → Type 0) (result : Result T E) → IfOk result P → ((x : T) → P x → Q x) → IfOk result Q
-  if_ok Q (Ok x) holds then = then x holds
-  if_ok Q (Err e) holds then = tt
-
-  pub on_ok : (Q : Type 0) (result : Result T E) → IfOk result P → ((x : T) → P x → Q) → OnOk result Q
-  on_ok Q (Ok x) holds then = then x holds
-  on_ok Q (Err e) holds then = tt
