@@ -1,6 +1,5 @@
 -- What the building of a bench comes to, and what closing it gives.
-use Rattle.std.specs.Prelude.{◌≡◌, ◌≢◌, ◌<◌, ◌≤◌, ℕ, List, [], ◌∷◌, length, map, replicate, slice_get, Option, Some, None, IfSome, IsSome, Result, Ok, Err}
-use Rattle.walter_base.specs.declared.names.SiteId.{SiteId}
+use Rattle.std.specs.Prelude.{◌≡◌, ◌<◌, ◌≤◌, ℕ, List, [], length, map, slice_get, Option, Some, Result, Ok, Err}
 use Rattle.walter_cell.specs.declared.cell.Cell.{Cell}
 use Rattle.walter_cell.specs.Cells.{IsLine}
 use Rattle.walter_conn.specs.declared.conn.Conn.{Conn}
@@ -8,17 +7,16 @@ use Rattle.walter_disk.specs.declared.disk.Disk.{Ghosts}
 use Rattle.walter_engine.specs.Begins.{HasOnly, IsBegun, IsFaultOfBegin, MayHaveBegun, HasNoRecord}
 use Rattle.walter_engine.specs.Engines.{disk_in}
 use Rattle.walter_engine.specs.declared.answers.Unbegun.{Unbegun}
-use Rattle.walter_rules.specs.declared.entry.Entry.{Entry}
 use Rattle.walter_scenario.specs.declared.scenario.Client.{Client}
 use Rattle.walter_stream.specs.declared.sink.Sink.{Ghosts as SinkGhosts}
 use Rattle.walter_stream.specs.declared.source.Source.{Ghosts as SourceGhosts}
-use Rattle.walter_trail.specs.declared.trail.Trail.{Trail}
 use Rattle.walter_cluster.specs.declared.bench.Bench.{Bench}
 use Rattle.walter_cluster.specs.declared.closing.Closed.{Closed}
 use Rattle.walter_cluster.specs.declared.opening.Unbuilt.{Unbuilt}
 
 -- each client's connection has read nothing of its bytes
-abbrev pub AreUnread : {S K : Type 0} {s : SourceGhosts S} {k : SinkGhosts K} → List Client → List (Conn S K s k) → Type 0
+abbrev pub AreUnread : {S K : Type 0} {s : SourceGhosts S} {k : SinkGhosts K} → List Client → List (Conn S K s k)
+    → Type 0
 AreUnread {S = S} {K = K} {s = s} {k = k} clients conns = (number : ℕ) (client : Client) (line : Conn S K s k)
     → slice_get clients number ≡ Some client → slice_get conns number ≡ Some line → IsLine client.bytes [] line
 

@@ -1,5 +1,5 @@
 -- The ends of all lanes of a new bench, in rows by sender and in columns by receiver.
-use Rattle.std.specs.Prelude.{◌≡◌, ◌<◌, ℕ, List, [], Vec, length, map, slice_index_or}
+use Rattle.std.specs.Prelude.{◌≡◌, ◌<◌, ◌≤◌, ◌++◌, ◌∷◌, ℕ, List, [], Vec, length, map, slice_index_or}
 use Rattle.std.specs.declared.alloc.Global.{Global}
 use Rattle.walter_lane.specs.Lanes.{Sending, Receiving}
 use Rattle.walter_outbox.specs.Lanes.{put_to, arrived_from, met_to, ring_to, ring_from}
@@ -27,3 +27,13 @@ pub record AreJoined (rows_made sites : ℕ) (rows : List (List Sending)) (colum
   pub none_put : (from to : ℕ) → put_to (row_of rows from) to ≡ []
   pub none_met : (from to : ℕ) → met_to (row_of rows from) to ≡ 0
   pub none_arrived : (to from : ℕ) → arrived_from (column_of columns to) from ≡ []
+
+-- a row of so many ends, whose other ends came to the first columns; nothing was put
+pub record AddsRow (before after : List (List Receiving)) (row : List Sending) (made : ℕ) : Type 0 where
+  pub columns_long : length after ≡ length before
+  pub row_long : length row ≡ made
+  pub added : (to : ℕ) → to < made → (end : Receiving) × (column_of after to ≡ column_of before to ++ end ∷ [])
+      × (ring_to row to ≡ end.ring) × (end.arrived ≡ [])
+  pub none_put : (to : ℕ) → put_to row to ≡ []
+  pub none_met : (to : ℕ) → met_to row to ≡ 0
+  pub left : (to : ℕ) → made ≤ to → column_of after to ≡ column_of before to

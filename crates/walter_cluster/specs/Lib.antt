@@ -2,3 +2,5 @@ pub mod Benches
 pub mod Moments
 pub mod Lanes
 pub mod Builds
+pub mod Seats
+pub mod Openings

@@ -6,6 +6,7 @@ mod closing;
 mod connecting;
 mod meeting;
 mod opening;
+mod seating;
 
 pub use bench::Bench;
 pub use closing::Closed;

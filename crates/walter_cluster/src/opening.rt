@@ -1,19 +1,21 @@
-ghost use Rattle.std.specs.Prelude.{◌≡◌, ◌<◌, ◌≤◌, ℕ, length, slice_get, Some, IsSome, IfOk, IfErr, OnOk, All};
+ghost use Rattle.std.specs.Prelude.{◌≡◌, ◌<◌, ◌≤◌, ◌+◌, ◌∷◌, ◌++◌, ℕ, [], length, map, slice_get, vec_capacity, Option, Some, IsSome, IfOk, IfErr, OnOk, All};
 ghost use Rattle.walter_base.specs.Vectors.{most_sites};
 ghost use Rattle.walter_scenario.specs.declared.scenario.Client.{Client};
 ghost use Rattle.walter_cluster.specs.Benches.{IsBench, IsKnownAt, AreAllConnected, AreMet};
-ghost use Rattle.walter_cluster.specs.Moments.{IsFirst, moment_of};
 ghost use Rattle.walter_cluster.specs.Builds.{AreUnread, LeavesDisks, HadNoRecords, IsWhyNone};
+ghost use Rattle.walter_cluster.specs.Moments.{IsFirst, moment_of};
+ghost use Rattle.walter_cluster.specs.Openings.{HasPlaces, AreReady, ArePrepared, IsBegunBench, disks_of};
 
 use crate::bench::Bench;
 use crate::connecting::connect;
+use crate::seating::seat_all;
 use std::alloc::Global;
-use std::mem;
 use walter_base::{Mem, SiteId};
 use walter_cell::Cell;
 use walter_conn::Conn;
 use walter_disk::Disk;
 use walter_engine::Unbegun;
+use walter_lane::{Inbound, Outbound};
 use walter_scenario::{Client, Scenario};
 use walter_stream::{Sink, Source};
 
@@ -24,6 +26,15 @@ pub struct Unbuilt<D> {
     pub disks: Vec<D>,
     pub site: SiteId,
     pub why: Unbegun,
+}
+
+// What the cells are made of beside their disks, by the sites' numbers, and the bench that takes them.
+#[derive(Drop)]
+pub(crate) struct Parts<D: Disk, S: Source + Drop, K: Sink + Drop> {
+    pub(crate) rows: Vec<Vec<Outbound>>,
+    pub(crate) columns: Vec<Vec<Inbound>>,
+    pub(crate) lists: Vec<Vec<Option<Conn<S, K>>>>,
+    pub(crate) bench: Bench<D, S, K>,
 }
 
 /// The sites of a scenario over these disks, in order, each up in its first epoch, with a lane from each to each, and
@@ -52,4 +63,171 @@ pub fn build<D: Disk + Drop, S: Source + Drop, K: Sink + Drop>(
     ensures had_none { OnOk result (HadNoRecords D.Disk disks.items) }
     ensures why { IfErr result (λ unbuilt. IsWhyNone D.Disk disks.items unbuilt) }
 {
+    let Ok(parts) = prepare(alloc, scenario, conns) else {
+        return Err(Unbuilt {
+            disks,
+            site: SiteId(0),
+            why: Unbegun::NoMemory,
+        });
+    };
+    begin_all(alloc, scenario, disks, parts)
+}
+
+// All that takes memory but the sites' own.
+fn prepare<D: Disk + Drop, S: Source + Drop, K: Sink + Drop>(
+    alloc: Global,
+    scenario: &Scenario,
+    conns: Vec<Conn<S, K>>,
+) -> Mem<Parts<D, S, K>>
+    requires within { All (λ (client : Client). client.site.0 < scenario.now.catalog.sites) scenario.now.clients }
+    requires conns { length conns.items ≡ length scenario.now.clients }
+    ensures { IfOk result (λ parts. ArePrepared scenario.now conns.items parts) }
+{
+    let sites = usize::from(scenario.catalog.sites);
+    let clients = scenario.clients.as_slice();
+    let (rows, columns) = connect(alloc, sites)?;
+    let lists = seat_all(alloc, clients, conns, sites)?;
+    let bench = make_bench(alloc, clients, sites)?;
+    Ok(Parts {
+        rows,
+        columns,
+        lists,
+        bench,
+    })
+}
+
+// A bench without cells, with room for those of so many sites.
+fn make_bench<D: Disk + Drop, S: Source + Drop, K: Sink + Drop>(
+    alloc: Global,
+    clients: &[Client],
+    sites: usize,
+) -> Mem<Bench<D, S, K>>
+    ensures homes { IfOk result (λ bench. bench.homes.items ≡ map (λ (client : Client). client.site) clients.now) }
+    ensures room { IfOk result (λ bench. HasPlaces sites bench) }
+{
+    Ok(Bench {
+        cells: Vec::with_capacity(alloc, sites)?,
+        homes: find_homes(alloc, clients)?,
+        trails: Vec::with_capacity(alloc, sites)?,
+        disks: Vec::with_capacity(alloc, sites)?,
+        conns: Vec::with_capacity(alloc, sites)?,
+    })
+}
+
+// The site of each client.
+fn find_homes(alloc: Global, clients: &[Client]) -> Mem<Vec<SiteId>>
+    ensures { IfOk result (λ homes. homes.items ≡ map (λ (client : Client). client.site) clients.now) }
+{
+    let mut homes = Vec::new(alloc);
+    for client in clients {
+        homes.push(client.site)?;
+    }
+    Ok(homes)
+}
+
+// Begins the sites, one after another, until one doesn't.
+fn begin_all<D: Disk + Drop, S: Source + Drop, K: Sink + Drop>(
+    alloc: Global,
+    scenario: &Scenario,
+    mut disks: Vec<D>,
+    parts: Parts<D, S, K>,
+) -> Result<Bench<D, S, K>, Unbuilt<D>>
+    requires few { scenario.now.catalog.sites ≤ most_sites }
+    requires fewer { scenario.now.catalog.tolerated < scenario.now.catalog.sites }
+    requires place { 19 ≤ scenario.now.capacity }
+    requires disks { length disks.items ≡ scenario.now.catalog.sites }
+    requires ready { AreReady scenario.now parts }
+    ensures begun { IfOk result (λ bench. IsBegunBench scenario.now disks.items parts bench) }
+    ensures leaves { LeavesDisks disks.items result }
+    ensures why { IfErr result (λ unbuilt. IsWhyNone D.Disk disks.items unbuilt) }
+{
+    let Parts {
+        mut rows,
+        mut columns,
+        mut lists,
+        bench,
+    } = parts;
+    let Bench {
+        mut cells,
+        homes,
+        trails,
+        disks: back,
+        conns,
+    } = bench;
+    for number in 0..scenario.catalog.sites {
+        let disk = disks.remove(0);
+        let outs = rows.remove(0);
+        let ins = columns.remove(0);
+        let lines = lists.remove(0);
+        let site = SiteId(number);
+        match Cell::begin(
+            alloc,
+            disk,
+            &scenario.catalog,
+            site,
+            scenario.capacity,
+            outs,
+            ins,
+            lines,
+        ) {
+            Ok(cell) => cells.push_reserved(cell),
+            Err((disk, why)) => {
+                return Err(Unbuilt {
+                    disks: give_back(cells, back, disk, disks),
+                    site,
+                    why,
+                });
+            }
+        }
+    }
+    Ok(Bench {
+        cells,
+        homes,
+        trails,
+        disks: back,
+        conns,
+    })
+}
+
+// The disks of the cells, the one of the site that didn't begin, and those behind it. There is room for them.
+fn give_back<D: Disk + Drop, S: Source + Drop, K: Sink + Drop>(
+    cells: Vec<Cell<D, S, K>>,
+    mut back: Vec<D>,
+    disk: D,
+    rest: Vec<D>,
+) -> Vec<D>
+    requires none { back.items ≡ [] }
+    requires room { length cells.items + 1 + length rest.items ≤ vec_capacity back }
+    ensures { map (λ (d : D). Some d) result.items
+        ≡ disks_of cells.items ++ map (λ (d : D). Some d) (disk ∷ rest.items) }
+{
+    take_disks(&mut back, cells);
+    back.push_reserved(disk);
+    push_all(&mut back, rest);
+    back
+}
+
+// The disks of the cells come behind those that are there.
+fn take_disks<D: Disk + Drop, S: Source + Drop, K: Sink + Drop>(
+    back: &mut Vec<D>,
+    cells: Vec<Cell<D, S, K>>,
+)
+    requires { length back.old.items + length cells.items ≤ vec_capacity back.old }
+    ensures disks { map (λ (d : D). Some d) back.new.items
+        ≡ map (λ (d : D). Some d) back.old.items ++ disks_of cells.items }
+    ensures room { vec_capacity back.new ≡ vec_capacity back.old }
+{
+    for cell in cells {
+        let (disk, _, _) = cell.into_parts();
+        back.push_reserved(disk);
+    }
+}
+
+fn push_all<D: Drop>(disks: &mut Vec<D>, rest: Vec<D>)
+    requires { length disks.old.items + length rest.items ≤ vec_capacity disks.old }
+    ensures { disks.new.items ≡ disks.old.items ++ rest.items }
+{
+    for disk in rest {
+        disks.push_reserved(disk);
+    }
 }

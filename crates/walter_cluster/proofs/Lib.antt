@@ -1,0 +1,5 @@
+pub mod Joining
+pub mod Seated
+pub mod Places
+pub mod Opened
+pub mod Built

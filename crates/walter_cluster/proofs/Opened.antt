@@ -1,0 +1,200 @@
+-- Sites that begin one after another, each with what is first of what is left.
+use Rattle.std.proofs.Common.{◌≡◌, ℕ, suc, ◌<◌, ◌≤◌, ◌+◌, ◌-◌, ◌++◌, ◌∷◌, ◌⊎◌, List, [], Option, Some, None, Err, length, drop, map, slice_get, refl, ap, sym, ◌∙◌, subst, inl, inr, arith, length-append}
+use Rattle.std.specs.Prelude.{IsSome, IfSome, option_map, is_some, true}
+use Rattle.std.proofs.lemmas.Bool.{cases_lt, cases_eq}
+use Rattle.std.proofs.lemmas.List.{length-map, length-drop}
+use Rattle.std.proofs.lemmas.Option.{same_Some, slice_get-map, slice_get_within}
+use Rattle.walter_cell.specs.declared.cell.Cell.{Cell}
+use Rattle.walter_cell.specs.Cells.{IsCell, IsKnown}
+use Rattle.walter_conn.specs.declared.conn.Conn.{Conn}
+use Rattle.walter_disk.specs.declared.disk.Disk.{Ghosts}
+use Rattle.walter_engine.specs.Begins.{HasOnly, HasNoRecord, MayHaveBegun, IsBegun, IsFaultOfBegin}
+use Rattle.walter_engine.specs.Engines.{disk_in, OfDisk}
+use Rattle.walter_engine.specs.States.{disk_under}
+use Rattle.walter_engine.specs.Steps.{opening}
+use Rattle.walter_engine.specs.declared.engine.Engine.{Engine}
+use Rattle.walter_engine.specs.declared.engine.State.{State}
+use Rattle.walter_engine.specs.declared.answers.Unbegun.{Unbegun}
+use Rattle.walter_engine.specs.declared.answers.Unbegun.TheVariants.{Failed, Foreign, Damaged, Used, NoMemory}
+use Rattle.walter_lane.specs.Lanes.{Sending, Receiving}
+use Rattle.walter_psi.proofs.Lists.{slice_get-push_cases, slice_get-append_left}
+use Rattle.walter_rules.specs.Knowledge.{site_at}
+use Rattle.walter_scenario.specs.declared.scenario.Scenario.{Scenario}
+use Rattle.walter_stream.specs.declared.sink.Sink.{Ghosts as SinkGhosts}
+use Rattle.walter_stream.specs.declared.source.Source.{Ghosts as SourceGhosts}
+use Rattle.walter_cluster.specs.declared.opening.Unbuilt.{Unbuilt}
+use Rattle.walter_cluster.specs.Builds.{LeavesDisk, LeavesDisks, HadNoRecords, IsWhyNone}
+use Rattle.walter_cluster.specs.Lanes.{row_of, column_of}
+use Rattle.walter_cluster.specs.Openings.{HasBegun, HaveBegun, disks_of}
+use Rattle.walter_cluster.specs.Seats.{list_of}
+use Rattle.walter_cluster.proofs.Places.{at_place, slice_get_behind, slice_get-drop}
+
+-- ---- disks
+
+module _ {D : Type 0} (g : Ghosts D) where
+  -- a disk that wasn't touched
+  pub untouched : (disk : D) → LeavesDisk g disk disk
+  untouched disk = record {
+    images = λ bytes has image may. inl (has.only image may);
+    faults = omega arith;
+    arms = refl;
+  }
+
+  pub faults_grow : (why : Unbegun) (old new : ℕ) → IsFaultOfBegin (Err why) old new → old ≤ new
+  faults_grow Failed old new h = omega (arith, h)
+  faults_grow Foreign old new h = h
+  faults_grow (Damaged at length) old new h = h
+  faults_grow Used old new h = h
+  faults_grow NoMemory old new h = h
+
+-- an engine has a disk
+module _ {D : Type 0} {g : Ghosts D} where
+  under_state : (state : Option (State D g)) → is_some state ≡ true → (now : D) × (disk_under state ≡ Some now)
+  under_state None there = absurd cc
+  under_state (Some state) there = (_, refl)
+
+  pub disk_there : (engine : Engine D g) → (now : D) × (disk_in engine ≡ Some now)
+  disk_there engine = under_state engine.state engine.there
+
+  pub of_disk : (engine : Engine D g) (now : D) (P : D → Type 0) → disk_in engine ≡ Some now → OfDisk engine P → P now
+  of_disk engine now P is holds = let Q : Option D → Type 0 = λ o. IfSome o P in subst Q is holds
+
+-- ---- cells
+
+module _ {D S K : Type 0} {g : Ghosts D} {s : SourceGhosts S} {k : SinkGhosts K} (t : Scenario) where
+  -- a cell that began
+  pub cell_begins : (i : ℕ) (disk : D) (row : List Sending) (column : List Receiving) (list : List (Option (Conn S K s k))) (cell : Cell D S K g s k)
+      → IsCell t.catalog t.capacity (site_at i) cell
+      → (IsSome (g.known disk).reads → IsKnown t.catalog t.capacity (site_at i) cell)
+      → cell.node.entries.items ≡ opening ∷ []
+      → cell.node.outs.items ≡ row → cell.ins.items ≡ column → cell.lines.items ≡ list
+      → length cell.node.debts.items ≡ length list
+      → ((bytes : List ℕ) → HasOnly g bytes disk → HasNoRecord bytes)
+      → ((bytes : List ℕ) → HasOnly g bytes disk → OfDisk cell.node.engine (λ now. (image : List ℕ) → g.may_leave now image → MayHaveBegun bytes image))
+      → OfDisk cell.node.engine (λ now. (g.known disk).faults ≤ (g.known now).faults)
+      → OfDisk cell.node.engine (λ now. (g.known now).arms ≡ (g.known disk).arms)
+      → HasBegun t i disk row column list cell
+  cell_begins i disk row column list cell is known opens outs ins lines debts had_none images faults arms =
+      let there = disk_there cell.node.engine in
+      record {
+        cell_is = is;
+        known = known;
+        opens = opens;
+        outs = outs;
+        ins = ins;
+        lines = lines;
+        debts = debts;
+        had_none = had_none;
+        now = there.0;
+        now_is = there.1;
+        leaves = record {
+          images = λ bytes has. of_disk cell.node.engine there.0 (λ now. (image : List ℕ) → g.may_leave now image → MayHaveBegun bytes image) there.1 (images bytes has);
+          faults = of_disk cell.node.engine there.0 (λ now. (g.known disk).faults ≤ (g.known now).faults) there.1 faults;
+          arms = of_disk cell.node.engine there.0 (λ now. (g.known now).arms ≡ (g.known disk).arms) there.1 arms;
+        };
+      }
+
+  module _ (disks : List D) (rows : List (List Sending)) (columns : List (List Receiving)) (lists : List (List (Option (Conn S K s k)))) where
+    pub begun_none : (cells : List (Cell D S K g s k)) → cells ≡ [] → HaveBegun t disks rows columns lists 0 cells
+    begun_none cells none = record {
+      long = ap length none;
+      each = λ i disk cell at here. absurd (cc (sym here ∙ ap (λ cs. slice_get cs i) none));
+    }
+
+    pub begun_more : (n : ℕ) (cells : List (Cell D S K g s k)) (disk : D) (cell : Cell D S K g s k) → HaveBegun t disks rows columns lists n cells
+        → slice_get disks n ≡ Some disk → HasBegun t n disk (row_of rows n) (column_of columns n) (list_of lists n) cell → HaveBegun t disks rows columns lists (n + 1) (cells ++ cell ∷ [])
+    begun_more n cells disk cell h at one = record {
+      long = length-append cells (cell ∷ []) ∙ omega (arith, h.long);
+      each = λ i d c there here. step i d c there (slice_get-push_cases cells cell c i here);
+    }
+      where
+        step : (i : ℕ) (d : D) (c : Cell D S K g s k) → slice_get disks i ≡ Some d → ((i < length cells) × (slice_get cells i ≡ Some c)) ⊎ ((i ≡ length cells) × (cell ≡ c))
+            → HasBegun t i d (row_of rows i) (column_of columns i) (list_of lists i) c
+        step i d c there (inl before) = h.each i d c there before.1
+        step i d c there (inr last) =
+            let is : i ≡ n = last.0 ∙ h.long in
+            let same : disk ≡ d = same_Some disk d (sym at ∙ ap (slice_get disks) (sym is) ∙ there) in
+            let Here : ℕ → Type 0 = λ j. HasBegun t j disk (row_of rows j) (column_of columns j) (list_of lists j) cell in
+            let Over : D → Type 0 = λ e. HasBegun t i e (row_of rows i) (column_of columns i) (list_of lists i) cell in
+            let By : Cell D S K g s k → Type 0 = λ e. HasBegun t i d (row_of rows i) (column_of columns i) (list_of lists i) e in
+            subst By last.1 (subst Over same (subst Here (sym is) one))
+
+    module _ (n : ℕ) (cells : List (Cell D S K g s k)) (h : HaveBegun t disks rows columns lists n cells) where
+      -- what a site that began left of its disk
+      pub left_of : (i : ℕ) (disk : D) → i < n → slice_get disks i ≡ Some disk → (now : D) × (slice_get (disks_of cells) i ≡ Some (Some now)) × LeavesDisk g disk now
+      left_of i disk lt at =
+          let there = at_place cells i (omega (arith, lt, h.long)) in
+          let begun = h.each i disk there.0 at there.1 in (
+            begun.now,
+            slice_get-map (λ (c : Cell D S K g s k). disk_in c.node.engine) cells i ∙ ap (option_map (λ (c : Cell D S K g s k). disk_in c.node.engine)) there.1 ∙ ap (λ o. Some o) begun.now_is,
+            begun.leaves,
+          )
+
+      pub had_none_before : (i : ℕ) (disk : D) (bytes : List ℕ) → i < n → slice_get disks i ≡ Some disk → HasOnly g bytes disk → HasNoRecord bytes
+      had_none_before i disk bytes lt at has =
+          let there = at_place cells i (omega (arith, lt, h.long)) in
+          (h.each i disk there.0 at there.1).had_none bytes has
+
+      -- all began
+      pub none_had : n ≡ length disks → HadNoRecords g disks
+      none_had all i disk bytes at has = let lt = slice_get_within disks i disk at in had_none_before i disk bytes (omega (arith, lt, all)) at has
+
+      -- the next did not begin, and all disks come back
+      module _ (disk failed : D) (rest : List D) (unbuilt : Unbuilt D) (next : slice_get disks n ≡ Some disk) (rest_is : rest ≡ drop (n + 1) disks)
+          (is : map (λ (d : D). Some d) unbuilt.disks.items ≡ disks_of cells ++ map (λ (d : D). Some d) (failed ∷ rest)) where
+        count : length (disks_of cells) ≡ n
+        count = length-map cells (λ (c : Cell D S K g s k). disk_in c.node.engine) ∙ h.long
+
+        failed_at : slice_get (disks_of cells ++ map (λ (d : D). Some d) (failed ∷ rest)) n ≡ Some (Some failed)
+        failed_at = slice_get_behind (disks_of cells) (map (λ (d : D). Some d) (failed ∷ rest)) n 0 (omega (arith, count))
+
+        rest_at : (i : ℕ) (d : D) → n < i → slice_get disks i ≡ Some d → slice_get (disks_of cells ++ map (λ (d : D). Some d) (failed ∷ rest)) i ≡ Some (Some d)
+        rest_at i d past at =
+            slice_get_behind (disks_of cells) (map (λ (d : D). Some d) (failed ∷ rest)) i (suc (i - (n + 1))) (omega (arith, past, count))
+            ∙ slice_get-map (λ (d : D). Some d) rest (i - (n + 1))
+            ∙ ap (option_map (λ (d : D). Some d)) (ap (λ ds. slice_get ds (i - (n + 1))) rest_is ∙ slice_get-drop disks (n + 1) i (i - (n + 1)) (omega (arith, past)) ∙ at)
+
+        back_at : LeavesDisk g disk failed → (i : ℕ) (d : D) → slice_get disks i ≡ Some d → (i < n) ⊎ (n ≤ i) → (i ≡ n) ⊎ (i ≡ n → ⊥)
+            → (now : D) × (slice_get (disks_of cells ++ map (λ (d : D). Some d) (failed ∷ rest)) i ≡ Some (Some now)) × LeavesDisk g d now
+        back_at leaves i d at (inl before) _ =
+            let left = left_of i d before at in
+            (left.0, slice_get-append_left (disks_of cells) (map (λ (d : D). Some d) (failed ∷ rest)) (Some left.0) i left.1, left.2)
+        back_at leaves i d at (inr past) (inl here) =
+            let same : disk ≡ d = same_Some disk d (sym next ∙ ap (slice_get disks) (sym here) ∙ at) in
+            (failed, ap (slice_get (disks_of cells ++ map (λ (d : D). Some d) (failed ∷ rest))) here ∙ failed_at, subst (λ e. LeavesDisk g e failed) same leaves)
+        back_at leaves i d at (inr past) (inr apart) = (d, rest_at i d (omega (arith, past, apart)) at, untouched g d)
+
+        pub all_back : LeavesDisk g disk failed → LeavesDisks {S = S} {K = K} {g = g} {s = s} {k = k} disks (Err unbuilt)
+        all_back leaves i d at =
+            let left = back_at leaves i d at (cases_lt i n) (cases_eq i n) in
+            (left.0, ap (λ ds. slice_get ds i) is ∙ left.1, left.2)
+
+        pub why_none : unbuilt.site.0 ≡ n → ((bytes : List ℕ) → HasOnly g bytes disk → IsBegun bytes (Err unbuilt.why))
+            → IsFaultOfBegin (Err unbuilt.why) (g.known disk).faults (g.known failed).faults → IsWhyNone g disks unbuilt
+        why_none site why faults =
+            let lt = slice_get_within disks n disk next in
+            let who : (d : D) → slice_get disks unbuilt.site.0 ≡ Some d → disk ≡ d = λ d at. same_Some disk d (sym next ∙ ap (slice_get disks) (sym site) ∙ at) in
+            record {
+              there = omega (arith, lt, site);
+              why = λ d bytes at has. why bytes (subst (HasOnly g bytes) (sym (who d at)) has);
+              fault = λ d now at back.
+                  let its : Some failed ≡ Some now = same_Some (Some failed) (Some now) (
+                  sym failed_at ∙ sym (ap (λ ds. slice_get ds n) is) ∙ slice_get-map (λ (d : D). Some d) unbuilt.disks.items n
+                  ∙ ap (option_map (λ (d : D). Some d)) (ap (slice_get unbuilt.disks.items) (sym site) ∙ back)
+                  ) in
+                  let Old : D → Type 0 = λ e. IsFaultOfBegin (Err unbuilt.why) (g.known e).faults (g.known now).faults in
+                  let New : D → Type 0 = λ e. IsFaultOfBegin (Err unbuilt.why) (g.known disk).faults (g.known e).faults in
+                  subst Old (who d at) (subst New (same_Some failed now its) faults);
+              before = λ i d bytes early at has. had_none_before i d bytes (omega (arith, early, site)) at has;
+              all_back = omega (
+                arith,
+                lt,
+                count,
+                ap length is,
+                length-map unbuilt.disks.items (λ (d : D). Some d),
+                length-append (disks_of cells) (map (λ (d : D). Some d) (failed ∷ rest)),
+                length-map (failed ∷ rest) (λ (d : D). Some d),
+                ap length rest_is,
+                length-drop (n + 1) disks,
+              );
+            }
