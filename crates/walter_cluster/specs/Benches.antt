@@ -69,7 +69,7 @@ module _ {D S K : Type 0} {g : Ghosts D} {s : SourceGhosts S} {k : SinkGhosts K}
   -- whatever its disk tells: it is the cell of its site, with a connection for each client of the site, and each call
   -- in its trail is of one of these
   pub record IsCellOf (t : Scenario) (i : SiteId) (cell : Cell D S K g s k) : Type 0 where
-    pub cell : IsCell t.catalog t.capacity i cell
+    pub cell_is : IsCell t.catalog t.capacity i cell
     pub lines : length cell.lines.items ≡ length t.clients
     pub debts : length cell.node.debts.items ≡ length t.clients
     pub there : (number : ℕ) (client : Client) → slice_get t.clients number ≡ Some client → client.site ≡ i

@@ -1,5 +1,5 @@
 -- What the building of a bench comes to, and what closing it gives.
-use Rattle.std.specs.Prelude.{◌≡◌, ◌≢◌, ◌<◌, ◌≤◌, ℕ, List, [], ◌∷◌, length, map, replicate, slice_get, Option, Some, None, IfSome, IsSome, Result, Ok, Err, Unit, tt}
+use Rattle.std.specs.Prelude.{◌≡◌, ◌≢◌, ◌<◌, ◌≤◌, ℕ, List, [], ◌∷◌, length, map, replicate, slice_get, Option, Some, None, IfSome, IsSome, Result, Ok, Err}
 use Rattle.walter_base.specs.declared.names.SiteId.{SiteId}
 use Rattle.walter_cell.specs.declared.cell.Cell.{Cell}
 use Rattle.walter_cell.specs.Cells.{IsLine}
@@ -17,32 +17,18 @@ use Rattle.walter_cluster.specs.declared.bench.Bench.{Bench}
 use Rattle.walter_cluster.specs.declared.closing.Closed.{Closed}
 use Rattle.walter_cluster.specs.declared.opening.Unbuilt.{Unbuilt}
 
-module _ {D S K : Type 0} {g : Ghosts D} {s : SourceGhosts S} {k : SinkGhosts K} where
-  -- each client's connection has read nothing of its bytes
-  abbrev pub AreUnread : List Client → List (Conn S K s k) → Type 0
-  AreUnread clients conns = (number : ℕ) (client : Client) (line : Conn S K s k) → slice_get clients number ≡ Some client
-      → slice_get conns number ≡ Some line → IsLine client.bytes [] line
+-- each client's connection has read nothing of its bytes
+abbrev pub AreUnread : {S K : Type 0} {s : SourceGhosts S} {k : SinkGhosts K} → List Client → List (Conn S K s k) → Type 0
+AreUnread {S = S} {K = K} {s = s} {k = k} clients conns = (number : ℕ) (client : Client) (line : Conn S K s k)
+    → slice_get clients number ≡ Some client → slice_get conns number ≡ Some line → IsLine client.bytes [] line
 
-  -- the disks of all sites, in the cells or given back
-  abbrev pub disks_after : Result (Bench D S K g s k) (Unbuilt D) → List (Option D)
-  disks_after (Ok bench) = map (λ (c : Cell D S K g s k). disk_in c.node.engine) bench.cells.items
-  disks_after (Err unbuilt) = map (λ (d : D). Some d) unbuilt.disks.items
-
-  -- why no site begins with its disk, if the first that doesn't is this one
-  abbrev pub answer_at : Result (Bench D S K g s k) (Unbuilt D) → Result (Unit {0}) Unbegun
-  answer_at (Ok bench) = Ok tt
-  answer_at (Err unbuilt) = Err unbuilt.why
-
+module _ {D : Type 0} (g : Ghosts D) where
   -- what the building leaves of the disk of a site, which it was given so
   pub record LeavesDisk (disk now : D) : Type 0 where
     pub images : (bytes : List ℕ) → HasOnly g bytes disk
         → (image : List ℕ) → g.may_leave now image → MayHaveBegun bytes image
     pub faults : (g.known disk).faults ≤ (g.known now).faults
     pub arms : (g.known now).arms ≡ (g.known disk).arms
-
-  abbrev pub LeavesDisks : List D → Result (Bench D S K g s k) (Unbuilt D) → Type 0
-  LeavesDisks disks result = (i : ℕ) (disk : D) → slice_get disks i ≡ Some disk
-      → (now : D) × (slice_get (disks_after result) i ≡ Some (Some now)) × LeavesDisk disk now
 
   -- where all sites begin, no record stood on the disk of any
   abbrev pub HadNoRecords : List D → Type 0
@@ -61,8 +47,23 @@ module _ {D S K : Type 0} {g : Ghosts D} {s : SourceGhosts S} {k : SinkGhosts K}
         → HasOnly g bytes disk → HasNoRecord bytes
     pub all_back : length unbuilt.disks.items ≡ length disks
 
+module _ {D S K : Type 0} {g : Ghosts D} {s : SourceGhosts S} {k : SinkGhosts K} where
+  -- the disks of all sites, in the cells or given back
+  abbrev pub disks_after : Result (Bench D S K g s k) (Unbuilt D) → List (Option D)
+  disks_after (Ok bench) = map (λ (c : Cell D S K g s k). disk_in c.node.engine) bench.cells.items
+  disks_after (Err unbuilt) = map (λ (d : D). Some d) unbuilt.disks.items
+
+  -- why no site begins with its disk, if the first that doesn't is this one
+  abbrev pub answer_at : Result (Bench D S K g s k) (Unbuilt D) → Result (Unit {0}) Unbegun
+  answer_at (Ok bench) = Ok tt
+  answer_at (Err unbuilt) = Err unbuilt.why
+
+  abbrev pub LeavesDisks : List D → Result (Bench D S K g s k) (Unbuilt D) → Type 0
+  LeavesDisks disks result = (i : ℕ) (disk : D) → slice_get disks i ≡ Some disk
+      → (now : D) × (slice_get (disks_after result) i ≡ Some (Some now)) × LeavesDisk g disk now
+
   -- the disk, the trail and the connections of each cell, in order
-  pub record GivesBack (cells : List (Cell D S K g s k)) (closed : Closed D S K g s k) : Type 0 where
+  pub record GivesBack (cells : List (Cell D S K g s k)) (closed : Closed D S K s k) : Type 0 where
     pub trails : closed.trails.items ≡ map (λ (c : Cell D S K g s k). c.node.entries.items) cells
     pub disks : map (λ (d : D). Some d) closed.disks.items
         ≡ map (λ (c : Cell D S K g s k). disk_in c.node.engine) cells

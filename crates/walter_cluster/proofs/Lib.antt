@@ -1,0 +1,5 @@
+pub mod Changes
+pub mod Meetings
+pub mod Benches
+pub mod Arrivals
+pub mod Closings
