@@ -2,7 +2,7 @@
 use Rattle.std.proofs.Common.{◌≡◌, ◌≢◌, ℕ, zero, suc, ◌<◌, ◌≤◌, List, [], ◌∷◌, ◌++◌, length, map, get_or, set, slice_get, refl, ap, sym, ◌∙◌, subst, arith, Option, Some, None, option_map, inl, inr}
 use Rattle.std.specs.Prelude.{slice_index_or, unwrap_or}
 use Rattle.std.proofs.lemmas.Bool.{cases_lt, cases_eq}
-use Rattle.std.proofs.lemmas.List.{length-map, length-set, length-append, get_or-set_same, get_or-set_other, get_or_past, set-append_left, set_at, set_comm, get_or_append_left, get_or_at}
+use Rattle.std.proofs.lemmas.List.{length-map, length-set, length-append, get_or-set_same, get_or-set_other, get_or_past, set-append_left, set_at, set_comm, get_or_append_left, get_or_at, get_or_default}
 use Rattle.std.proofs.lemmas.Option.{slice_get-map, slice_get-get_or, slice_get_past, slice_get_within, unwrap_or-slice_get, slice_get_read}
 
 module _ {X : Type 0} where
@@ -172,3 +172,24 @@ module _ {X : Type 0} (low high : List X) (i j : ℕ) (a b x y : X) (before : i 
   halves_down is at =
       subst (λ l. ChangesTwo (low ++ high) l j i b a y x) (sym (written ∙ set_comm (low ++ high) i j x y halves_apart))
       (two_set (low ++ high) j i b a y x (λ e. halves_apart (sym e)) (in_high at) (in_low is))
+
+-- a list in two halves, of each of which one element was replaced
+module _ {X : Type 0} (xs low high : List X) (i j : ℕ) (d e x y : X) (is : xs ≡ low ++ high) (before : i < j) (len : length low ≡ j)
+    (within : j < length xs) where
+  some_high : 0 < length high
+  some_high = let l = length-append low high in let m = ap length is in omega (arith, l, m, len, within)
+
+  low_place : i < length low
+  low_place = omega (arith, before, len)
+
+  pub both_up : ChangesTwo xs (set low i x ++ set high 0 y) i j (get_or low i d) (get_or high 0 e) x y
+  both_up =
+      subst (λ l. ChangesTwo l (set low i x ++ set high 0 y) i j (get_or low i d) (get_or high 0 e) x y) (sym is)
+      (halves_up low high i j (get_or low i d) (get_or high 0 e) x y low_place len some_high
+      (get_or_default low i d (get_or low i d) low_place) (get_or_default high 0 e (get_or high 0 e) some_high))
+
+  pub both_down : ChangesTwo xs (set low i x ++ set high 0 y) j i (get_or high 0 e) (get_or low i d) y x
+  both_down =
+      subst (λ l. ChangesTwo l (set low i x ++ set high 0 y) j i (get_or high 0 e) (get_or low i d) y x) (sym is)
+      (halves_down low high i j (get_or low i d) (get_or high 0 e) x y low_place len some_high
+      (get_or_default low i d (get_or low i d) low_place) (get_or_default high 0 e (get_or high 0 e) some_high))

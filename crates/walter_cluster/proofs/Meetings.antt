@@ -1,5 +1,5 @@
 -- Cells that have stayed as they were, and two of them whose lane's ends have met.
-use Rattle.std.proofs.Common.{◌≡◌, ◌≢◌, ◌⊎◌, ℕ, ◌<◌, ◌≤◌, List, [], length, map, slice_get, refl, ap, sym, ◌∙◌, subst, arith, Option, Some, None, option_map, Result, Ok, Err, true, inl, inr}
+use Rattle.std.proofs.Common.{◌≡◌, ◌≢◌, ◌⊎◌, ℕ, ◌+◌, ◌<◌, ◌≤◌, List, [], length, map, slice_get, refl, ap, sym, ◌∙◌, subst, arith, Option, Some, None, option_map, Result, Ok, Err, true, inl, inr}
 use Rattle.std.specs.Prelude.{slice_index_or, OnOk, OnErr, is_some}
 use Rattle.std.proofs.lemmas.Bool.{cases_lt, cases_eq}
 use Rattle.std.proofs.lemmas.List.{length-map}
@@ -305,3 +305,45 @@ module _ {D S K : Type 0} {g : Ghosts D} {s : SourceGhosts S} {k : SinkGhosts K}
       ]
       | inr apart ↦ other_mets j i apart ∙ (all i j ∙ ap length (sym (meet_elsewhere i j (inl apart))))
     ]
+
+  -- ---- one sender after another
+
+  pub lane_there : (cells : List (Cell D S K g s k)) (to from : ℕ) (a b : Cell D S K g s k) → slice_get cells to ≡ Some a
+      → slice_get cells from ≡ Some b → HaveLanes cells
+      → (from < length a.ins.items) × (to < length b.node.outs.items) × (ring_to b.node.outs.items to ≡ ring_from a.ins.items from)
+  lane_there cells to from a b at there lanes =
+      let below = slice_get_within cells to a at in
+      let within = slice_get_within cells from b there in
+      let ins = field_at (λ (c : Cell D S K g s k). c.ins.items) cells to a [] at in
+      let outs = field_at (λ (c : Cell D S K g s k). c.node.outs.items) cells from b [] there in (
+        subst (λ (is : List Receiving). from < length is) ins (lanes.ins to from below within),
+        subst (λ (os : List Sending). to < length os) outs (lanes.outs from to within below),
+        sym (ap (λ (os : List Sending). ring_to os to) outs) ∙ (lanes.rings to from below within ∙ ap (λ (is : List Receiving). ring_from is from) ins),
+      )
+
+  module _ (init mid new : List (Cell D S K g s k)) (stay : HaveStayed init mid) (to n : ℕ)
+      (elsewhere : (i j : ℕ) → (i ≢ to) ⊎ ((j ≢ n) ⊎ (j ≡ to)) → IsAsBefore mid new i j) where
+    pub arrived_more : ((j : ℕ) → j < n → j ≢ to → HasArrived init mid to j) → (n ≢ to → HasArrived mid new to n)
+        → (j : ℕ) → j < n + 1 → j ≢ to → HasArrived init new to j
+    arrived_more all last j below apart = elim (cases_eq j n) [
+      | inl is ↦
+          subst (λ (m : ℕ). HasArrived init new to m) (sym is)
+          (last (λ e. apart (is ∙ e)) ∙ put_stays init mid stay n to)
+      | inr other ↦ elsewhere to j (inr (inl other)) ∙ all j (omega (arith, below, other)) apart
+    ]
+
+    pub before_more : ((i j : ℕ) → (i ≢ to) ⊎ ((j ≡ to) ⊎ (n ≤ j)) → IsAsBefore init mid i j)
+        → (i j : ℕ) → (i ≢ to) ⊎ ((j ≡ to) ⊎ (n + 1 ≤ j)) → IsAsBefore init new i j
+    before_more all i j (inl apart) = elsewhere i j (inl apart) ∙ all i j (inl apart)
+    before_more all i j (inr (inl own)) = elsewhere i j (inr (inr own)) ∙ all i j (inr (inl own))
+    before_more all i j (inr (inr later)) = elsewhere i j (inr (inl (λ e. absurd (omega (arith, e, later))))) ∙ all i j (inr (inr (omega (arith, later))))
+
+    pub before_kept : ((i j : ℕ) → (i ≢ to) ⊎ ((j ≡ to) ⊎ (n ≤ j)) → IsAsBefore init mid i j)
+        → (i j : ℕ) → (i ≢ to) ⊎ (j ≡ to) → IsAsBefore init new i j
+    before_kept all i j (inl apart) = elsewhere i j (inl apart) ∙ all i j (inl apart)
+    before_kept all i j (inr own) = elsewhere i j (inr (inr own)) ∙ all i j (inr (inl own))
+
+  pub before_all : (init mid : List (Cell D S K g s k)) (to n : ℕ) → ((i j : ℕ) → (i ≢ to) ⊎ ((j ≡ to) ⊎ (n ≤ j)) → IsAsBefore init mid i j)
+      → (i j : ℕ) → (i ≢ to) ⊎ (j ≡ to) → IsAsBefore init mid i j
+  before_all init mid to n all i j (inl apart) = all i j (inl apart)
+  before_all init mid to n all i j (inr own) = all i j (inr (inl own))
