@@ -46,7 +46,7 @@ use Rattle.walter_trail.specs.Calls.{call_by, calls_of}
 use Rattle.walter_cluster.specs.declared.bench.Bench.{Bench}
 use Rattle.walter_cluster.specs.Benches.{IsOfSite, arms_under, trails_of, outs_at, ins_at, lines_at, arms_at, AtEach, IsCellOf, AreConnected, HasRoom, IsBench}
 use Rattle.walter_cluster.specs.Meetings.{HaveAllMet, HaveLanes}
-use Rattle.walter_cluster.specs.Moments.{moment_of, clock_at, ChangesAt, NoneArrive, Drops, TurnsAt, ActsAt}
+use Rattle.walter_cluster.specs.Moments.{Moment, moment_of, clock_at, ChangesAt, NoneArrive, Drops, TurnsAt, ActsAt}
 use Rattle.walter_cluster.proofs.Changes.{one_there, there_is, field_at, ChangesOne, one_set, reads_same, others_same, field_kept}
 
 -- ---- what an event that is no call leaves of a trail
@@ -143,6 +143,14 @@ whose_called clients i number old new client at here (inl same) all = subst (λ 
 whose_called clients i number old new client at here (inr more) all =
     whose_grown clients i old new (Given (CallInput number more.0)) (client, at, here) more.1 all
 
+-- ---- moments
+
+abbrev moment_by : List (List Entry) → List (List Receiving) → Moment
+moment_by trails ins = record { trails = trails; arrived = λ to from. length (arrived_from (slice_index_or ins to []) from) }
+
+abbrev with_trails : Moment → List (List Entry) → Moment
+with_trails m trails = record { trails = trails; arrived = m.arrived }
+
 -- ---- arms
 
 state_has : {D : Type 0} {g : Ghosts D} (state : Option (State D g)) → is_some state ≡ true → (disk : D) × (disk_under state ≡ Some disk)
@@ -165,6 +173,22 @@ arms_same {g = g} a x same =
     let was = engine_disk a in
     let now = engine_disk x in
     arms_of_both g (disk_in a) (disk_in x) was.0 now.0 was.1 now.1 same
+
+told_of_both : {D : Type 0} (g : Ghosts D) (R : D → D → Type 0) (F : Option (List (ℕ × ℕ)) → Option (List (ℕ × ℕ))) (x y : Option D) (m n : D)
+    → x ≡ Some m → y ≡ Some n → ((old new : D) → R old new → (g.known new).arms ≡ F (g.known old).arms)
+    → IfSome x (λ a. IfSome y (λ b. R a b)) → arms_under g y ≡ F (arms_under g x)
+told_of_both g R F None y m n at there so same = absurd cc
+told_of_both g R F (Some a) None m n at there so same = absurd cc
+told_of_both g R F (Some a) (Some b) m n at there so same = so a b same
+
+-- what becomes of the arms that an engine's disk tells
+pub arms_told : {D : Type 0} {g : Ghosts D} (a x : Engine D g) (R : D → D → Type 0) (F : Option (List (ℕ × ℕ)) → Option (List (ℕ × ℕ)))
+    → ((old new : D) → R old new → (g.known new).arms ≡ F (g.known old).arms) → OfDisks a x R
+    → arms_under g (disk_in x) ≡ F (arms_under g (disk_in a))
+arms_told {g = g} a x R F so same =
+    let was = engine_disk a in
+    let now = engine_disk x in
+    told_of_both g R F (disk_in a) (disk_in x) was.0 now.0 was.1 now.1 so same
 
 module _ {D S K : Type 0} {g : Ghosts D} {s : SourceGhosts S} {k : SinkGhosts K} where
   -- the cells of a scenario's sites, in order, with one lane between each two
@@ -249,6 +273,16 @@ module _ {D S K : Type 0} {g : Ghosts D} {s : SourceGhosts S} {k : SinkGhosts K}
     arms_kept same j =
         reads_same (λ (c : Cell D S K g s k). arms_under g (disk_in c.node.engine)) old new i.0 a x one (λ arms. arms) None
         (arms_same a.node.engine x.node.engine same) j
+
+    pub arms_kept_by : arms_under g (disk_in x.node.engine) ≡ arms_under g (disk_in a.node.engine) → (j : ℕ) → arms_at new j ≡ arms_at old j
+    arms_kept_by same j =
+        reads_same (λ (c : Cell D S K g s k). arms_under g (disk_in c.node.engine)) old new i.0 a x one (λ arms. arms) None same j
+
+    pub same_moment : x.node.entries.items ≡ a.node.entries.items → x.ins ≡ a.ins → moment_of new ≡ moment_of old
+    same_moment entries ins =
+        ap (λ (ts : List (List Entry)). with_trails (moment_of new) ts) (trails_kept entries)
+        ∙ ap (λ (is : List (List Receiving)). moment_by (trails_of old) is)
+        (field_kept (λ (c : Cell D S K g s k). c.ins.items) old new i.0 a x one (ap (λ v. v.items) ins))
 
     pub arms_of_others : (j : ℕ) → j ≢ i.0 → arms_at new j ≡ arms_at old j
     arms_of_others j apart = others_same (λ (c : Cell D S K g s k). arms_under g (disk_in c.node.engine)) old new i.0 a x one None j apart
