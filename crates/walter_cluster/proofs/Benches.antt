@@ -453,3 +453,8 @@ pub one_at : {X : Type 0} (xs : List X) (place i : ℕ) (a x : X) → place ≡ 
 one_at xs place i a x is within at =
     subst (λ (n : ℕ). ChangesOne xs (set xs place x) n a x) is
     (one_set xs place a x (slice_get_read xs (length xs) place a refl (omega (arith, is, within)) at))
+
+-- what holds holds at an error
+pub on_err_so : {T E : Type 0} (r : Result T E) (P : Type 0) → P → OnErr r P
+on_err_so (Ok v) P so = tt
+on_err_so (Err e) P so = so

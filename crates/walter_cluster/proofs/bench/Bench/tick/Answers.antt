@@ -13,9 +13,6 @@ pub index_mut-requires : goal.index_mut-requires
 index_mut-requires g c =
     let l = c.args.self.now.cells.ok.0 in let w = c.requires.there in let e = c.from.ensures in omega (arith, l, w, e)
 
-pub tick-requires : goal.tick-requires
-tick-requires g c = ?
-
 pub returns-clause-bench : goal.returns-clause-bench
 returns-clause-bench g c t is =
     let cells = c.args.self.now.cells.items in
