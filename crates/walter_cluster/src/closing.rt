@@ -30,9 +30,19 @@ impl<D: Disk + Drop, S: Source + Drop, K: Sink + Drop> Bench<D, S, K> {
         ensures gives { GivesBack self.cells.items result }
         ensures linked { AreLinked result.trails.items }
     {
-        let Bench { mut cells, trails, disks, conns, .. } = self;
+        let Bench {
+            mut cells,
+            trails,
+            disks,
+            conns,
+            ..
+        } = self;
         compare_all(&mut cells);
-        let mut closed = Closed { trails, disks, conns };
+        let mut closed = Closed {
+            trails,
+            disks,
+            conns,
+        };
         for cell in cells {
             let (disk, trail, lines) = cell.into_parts();
             closed.trails.push_reserved(trail);
