@@ -1,4 +1,4 @@
-ghost use Rattle.std.specs.Prelude.{◌≡◌, ◌≢◌, ◌<◌, ◌≤◌, ◌++◌, ◌∷◌, ◌+◌, [], ℕ, List, Option, slice_get, length, option_map, Some, IsSome, OnErr, OnOk, IfOk, IsTrue, ◌↔◌};
+ghost use Rattle.std.specs.Prelude.{◌⊎◌, ◌≡◌, ◌≢◌, ◌<◌, ◌≤◌, ◌++◌, ◌∷◌, ◌+◌, [], ℕ, List, Option, slice_get, length, option_map, Some, IsSome, OnErr, OnOk, IfOk, IsTrue, ◌↔◌};
 ghost use mathlib.Core.List.{IsPrefix};
 ghost use Rattle.walter_base.specs.Vectors.{most_sites};
 ghost use Rattle.walter_base.specs.declared.catalog.Catalog.{Catalog};
@@ -11,7 +11,8 @@ ghost use Rattle.walter_rules.specs.declared.event.Input.TheVariants as input;
 ghost use Rattle.walter_trail.specs.Calls.{calls_of};
 ghost use Rattle.walter_cell.specs.Cells.{IsCell, IsKnown};
 ghost use Rattle.walter_cell.specs.Builds.{OfCell, begun_by};
-ghost use Rattle.walter_cell.specs.Entries.{IsPlain, IsSpent};
+ghost use Rattle.walter_cell.specs.Entries.{IsPlain, IsSpent, Grows};
+ghost use Rattle.walter_conn.specs.Frames.{Call};
 ghost use Rattle.walter_outbox.specs.Lanes.{put_to, arrived_from, mets, met_to, ring_to, ring_from};
 ghost use Rattle.walter_cell.specs.Nodes.{IsSameButLanes, MayDrop};
 
@@ -133,6 +134,10 @@ impl<D: Disk + Drop, S: Source + Drop, K: Sink + Drop> Cell<D, S, K> {
             → IsLineAt bytes (calls_of number self.old.node.entries.items) self.old.lines.items number
             → IfOk result (TurnsTo number bytes self.old.node.clock (HasFaultAt self.new.lines.items number)
             self.old.node.entries.items self.new.node.entries.items) }
+        ensures comes { HasSameTrail self.old self.new
+            ⊎ ((call : Call) × Grows (event.Given (input.Call number call)) self.old.node.entries.items
+            self.new.node.entries.items) }
+        ensures stays { OfLine self.new.lines.items number (λ line. Unit {0}) }
         ensures line { (bytes : List ℕ)
             → IsLineAt bytes (calls_of number self.old.node.entries.items) self.old.lines.items number
             → IsLineAt bytes (calls_of number self.new.node.entries.items) self.new.lines.items number }

@@ -3,3 +3,8 @@ pub mod Seated
 pub mod Places
 pub mod Opened
 pub mod Built
+pub mod Changes
+pub mod Meetings
+pub mod Benches
+pub mod Arrivals
+pub mod Closings

@@ -1,4 +1,5 @@
 pub mod Benches
+pub mod Meetings
 pub mod Moments
 pub mod Lanes
 pub mod Builds

@@ -1,8 +1,10 @@
-ghost use Rattle.std.specs.Prelude.{◌≡◌, length};
+ghost use Rattle.std.specs.Prelude.{◌≡◌, ◌≢◌, ◌<◌, ◌≤◌, ℕ, length};
+ghost use Rattle.walter_base.specs.Vectors.{most_sites};
 ghost use Rattle.walter_rules.specs.Merges.{AreLinked};
 ghost use Rattle.walter_scenario.specs.declared.scenario.Scenario.{Scenario};
 ghost use Rattle.walter_cluster.specs.Benches.{IsBench};
 ghost use Rattle.walter_cluster.specs.Builds.{GivesBack};
+ghost use Rattle.walter_cluster.specs.Meetings.{HaveLanes, AreUnchanged, Begins};
 
 use crate::bench::Bench;
 use walter_base::SiteId;
@@ -28,9 +30,19 @@ impl<D: Disk + Drop, S: Source + Drop, K: Sink + Drop> Bench<D, S, K> {
         ensures gives { GivesBack self.cells.items result }
         ensures linked { AreLinked result.trails.items }
     {
-        let Bench { mut cells, trails, disks, conns, .. } = self;
+        let Bench {
+            mut cells,
+            trails,
+            disks,
+            conns,
+            ..
+        } = self;
         compare_all(&mut cells);
-        let mut closed = Closed { trails, disks, conns };
+        let mut closed = Closed {
+            trails,
+            disks,
+            conns,
+        };
         for cell in cells {
             let (disk, trail, lines) = cell.into_parts();
             closed.trails.push_reserved(trail);
@@ -42,26 +54,47 @@ impl<D: Disk + Drop, S: Source + Drop, K: Sink + Drop> Bench<D, S, K> {
 }
 
 // What has arrived at each site is a beginning of what was put for it. Nothing changes.
-fn compare_all<D: Disk + Drop, S: Source + Drop, K: Sink + Drop>(cells: &mut [Cell<D, S, K>]) {
+fn compare_all<D: Disk + Drop, S: Source + Drop, K: Sink + Drop>(cells: &mut [Cell<D, S, K>])
+    requires few { length cells.old ≤ most_sites }
+    requires lanes { HaveLanes cells.old }
+    ensures same { AreUnchanged cells.old cells.new }
+    ensures begins { (to from : ℕ) → to < length cells.old → from < length cells.old → to ≢ from
+        → Begins cells.old to from }
+{
     for to in 0..cells.len() {
         compare_with_all(cells, to);
     }
 }
 
+// What has arrived at one site.
 fn compare_with_all<D: Disk + Drop, S: Source + Drop, K: Sink + Drop>(
     cells: &mut [Cell<D, S, K>],
     to: usize,
-) {
+)
+    requires few { length cells.old ≤ most_sites }
+    requires lanes { HaveLanes cells.old }
+    requires to { to < length cells.old }
+    ensures same { AreUnchanged cells.old cells.new }
+    ensures begins { (from : ℕ) → from < length cells.old → to ≢ from → Begins cells.old to from }
+{
     for from in 0..cells.len() {
         compare_one(cells, to, from);
     }
 }
 
+// What has arrived at one site from another.
 fn compare_one<D: Disk + Drop, S: Source + Drop, K: Sink + Drop>(
     cells: &mut [Cell<D, S, K>],
     to: usize,
     from: usize,
-) {
+)
+    requires few { length cells.old ≤ most_sites }
+    requires lanes { HaveLanes cells.old }
+    requires to { to < length cells.old }
+    requires from { from < length cells.old }
+    ensures same { AreUnchanged cells.old cells.new }
+    ensures begins { to ≢ from → Begins cells.old to from }
+{
     let (receiver, sender) = (SiteId(to as u8), SiteId(from as u8));
     if from < to {
         let (low, high) = cells.split_at_mut(to);

@@ -4,6 +4,7 @@ use Rattle.std.proofs.lemmas.Bool.{cases_eq, eq-eqb, ne_eqb}
 use Rattle.std.proofs.lemmas.List.{append-nil, append_assoc, take_more, take-append-drop}
 use Rattle.std.proofs.lemmas.List.Concat.{flat_map-append}
 use Rattle.std.proofs.lemmas.List.Elements.{filter_map-append}
+use Rattle.std.specs.List.{cons_option}
 use Rattle.walter_disk.specs.declared.disk.Disk.{Ghosts}
 use Rattle.walter_scenario.specs.declared.scenario.Arm.{Arm}
 use Rattle.walter_scenario.specs.declared.scenario.Step.{Step}
@@ -22,7 +23,7 @@ told_same : (before : Option (List (ℕ × ℕ))) → option_map (λ (told : Lis
 told_same None = refl
 told_same (Some told) = ap (λ t. Some t) (append-nil told)
 
-armed_by : ℕ → Arm → Option (ℕ × ℕ)
+abbrev armed_by : ℕ → Arm → Option (ℕ × ℕ)
 armed_by i arm = if nat_eq arm.site.0 i then Some (arm.nth, arm.choice) else None
 
 pub for_more : (i : ℕ) (xs ys : List Arm) → arms_for i (xs ++ ys) ≡ arms_for i xs ++ arms_for i ys
@@ -31,19 +32,11 @@ for_more i xs ys = filter_map-append (armed_by i) xs ys
 -- an arm is its site's, and no other's
 for_here : (arm : Arm) (i : ℕ) → arm.site.0 ≡ i → arms_for i (arm ∷ []) ≡ (arm.nth, arm.choice) ∷ []
 for_here arm i here =
-    ap (λ b. listed (if b then Some (arm.nth, arm.choice) else None)) (eq-eqb arm.site.0 i here)
-  where
-    listed : Option (ℕ × ℕ) → List (ℕ × ℕ)
-    listed None = []
-    listed (Some x) = x ∷ []
+    ap (λ b. cons_option (if b then Some (arm.nth, arm.choice) else None) []) (eq-eqb arm.site.0 i here)
 
 for_other : (arm : Arm) (i : ℕ) → i ≢ arm.site.0 → arms_for i (arm ∷ []) ≡ []
 for_other arm i apart =
-    ap (λ b. listed (if b then Some (arm.nth, arm.choice) else None)) (ne_eqb arm.site.0 i (λ e. apart (sym e)))
-  where
-    listed : Option (ℕ × ℕ) → List (ℕ × ℕ)
-    listed None = []
-    listed (Some x) = x ∷ []
+    ap (λ b. cons_option (if b then Some (arm.nth, arm.choice) else None) []) (ne_eqb arm.site.0 i (λ e. apart (sym e)))
 
 module _ {D S K : Type 0} {g : Ghosts D} {s : SourceGhosts S} {k : SinkGhosts K} where
   pub armed_on : (old mid new : Bench D S K g s k) (xs ys : List Arm) → AreArmed old mid xs → AreArmed mid new ys

@@ -1,3 +1,3 @@
 pub mod Arming
 pub mod Steps
-mod Lines
+mod Unread

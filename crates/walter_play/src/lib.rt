@@ -2,7 +2,7 @@
 #![tactic(auto)]
 
 mod lines;
-mod play;
+mod playing;
 
 pub use lines::{Line, open_lines};
-pub use play::play;
+pub use playing::play;

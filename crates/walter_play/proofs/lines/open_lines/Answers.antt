@@ -1,7 +1,7 @@
 use Rattle.std.proofs.Common.{◌+◌, [], length, take, ap, arith}
 use Rattle.std.proofs.lemmas.List.{length-take, length_push}
 use Rattle.walter_psi.proofs.CheckerLists.{take_one}
-use Rattle.walter_play.proofs.Lines.{unread_more}
+use Rattle.walter_play.proofs.Unread.{unread_more}
 use Rattle.walter_play.proofs.lines.open_lines.Goals as goal
 
 pub loop-client-preserved : goal.loop-client-preserved

@@ -7,7 +7,7 @@ use Rattle.walter_scenario.specs.declared.scenario.Step.{Step}
 use Rattle.walter_play.specs.Scripts.{Plays, Takes, AreArmed, ArmsMore, arms_of}
 use Rattle.walter_play.proofs.Arming.{armed_on, armed_one, armed_none, armed_next, arms_before, next_arms, arms_split, more_all, more_on}
 use Rattle.walter_play.proofs.Steps.{plays_more, takes_told}
-use Rattle.walter_play.proofs.play.play.Goals as goal
+use Rattle.walter_play.proofs.playing.play.Goals as goal
 
 pub returns-in_err-arm-clause-arms : goal.returns-in_err-arm-clause-arms
 returns-in_err-arm-clause-arms g c =

@@ -2,7 +2,7 @@ use Rattle.std.proofs.Common.{◌≡◌, ◌++◌, ℕ, take}
 use Rattle.walter_cluster.specs.Benches.{IsBench, IsKnownAt, AreAllConnected, AreMet}
 use Rattle.walter_cluster.specs.Moments.{moment_of}
 use Rattle.walter_play.specs.Scripts.{Plays, AreArmed, arms_of}
-use Rattle.walter_play.proofs.play.play.Given as goal
+use Rattle.walter_play.proofs.playing.play.Given as goal
 
 abbrev pub invariant-loop-arm : goal.invariant-loop-arm
 invariant-loop-arm g l = record {

@@ -1,0 +1,106 @@
+use Rattle.std.proofs.Common.{◌≡◌, ◌<◌, length, set, refl, arith}
+use Rattle.std.proofs.lemmas.Result.{IfOk-weaker, on_err_weaker}
+use Rattle.walter_cell.specs.declared.answers.Acted.{Acted}
+use Rattle.walter_cell.specs.Cells.{Acts}
+use Rattle.walter_rules.specs.declared.event.Event.TheVariants as event
+use Rattle.walter_rules.specs.declared.event.Input.TheVariants as input
+use Rattle.walter_cluster.specs.Benches.{AreConnected}
+use Rattle.walter_cluster.specs.Moments.{ActsAt, moment_of}
+use Rattle.walter_cluster.proofs.Benches.{cells_of, bench_of, cells_kept, cell_quiet, known_kept, each_kept, connected_quiet, all_met_kept, acts_at, drops_at, trails_kept, arms_kept, acted_quiet, one_at}
+use Rattle.walter_cluster.proofs.bench.Bench.restart.Goals as goal
+
+pub index_mut-requires : goal.index_mut-requires
+index_mut-requires g c =
+    let l = c.args.self.now.cells.ok.0 in let w = c.requires.there in let e = c.from.ensures in omega (arith, l, w, e)
+
+pub returns-clause-bench : goal.returns-clause-bench
+returns-clause-bench g c t is =
+    let cells = c.args.self.now.cells.items in
+    let site = c.args.site in
+    let a = c.index_mut.result.now in
+    let x = c.restart.new.self in
+    let new = set cells c.from.result x in
+    let one = one_at cells c.from.result site.0 a x c.from.ensures c.requires.there c.index_mut.ensures.value in
+    let grows = acted_quiet (event.Restart) a.node.clock a.node.entries.items x.node.entries.items c.restart.result tt c.restart.ensures.acts c.restart.ensures.kept in
+    let are = cells_of t c.args.self.now is in
+    let here = are.each site.0 a one.was in
+    bench_of t c.args.self.now _ is
+    (cells_kept cells new site a x one t c.restart.ensures.same
+    (cell_quiet t site a x c.restart.ensures.same c.restart.ensures.lines grows (c.restart.ensures.cell t.catalog t.capacity site) here) are)
+    refl refl refl refl
+
+pub returns-clause-known : goal.returns-clause-known
+returns-clause-known g c t i is known =
+    let cells = c.args.self.now.cells.items in
+    let site = c.args.site in
+    let a = c.index_mut.result.now in
+    let x = c.restart.new.self in
+    let new = set cells c.from.result x in
+    let one = one_at cells c.from.result site.0 a x c.from.ensures c.requires.there c.index_mut.ensures.value in
+    known_kept cells new site a x one t i
+    (λ k. c.restart.ensures.known t.catalog t.capacity site (is.cells site.0 a one.was).cell_is k) known
+
+pub returns-clause-connected : goal.returns-clause-connected
+returns-clause-connected g c t is all =
+    let cells = c.args.self.now.cells.items in
+    let site = c.args.site in
+    let a = c.index_mut.result.now in
+    let x = c.restart.new.self in
+    let new = set cells c.from.result x in
+    let one = one_at cells c.from.result site.0 a x c.from.ensures c.requires.there c.index_mut.ensures.value in
+    let grows = acted_quiet (event.Restart) a.node.clock a.node.entries.items x.node.entries.items c.restart.result tt c.restart.ensures.acts c.restart.ensures.kept in
+    each_kept cells new site a x one (λ j cell. AreConnected t j cell) all
+    (connected_quiet t site a x c.restart.ensures.same c.restart.ensures.lines grows (all site.0 a one.was))
+
+pub returns-clause-met : goal.returns-clause-met
+returns-clause-met g c all =
+    let cells = c.args.self.now.cells.items in
+    let site = c.args.site in
+    let a = c.index_mut.result.now in
+    let x = c.restart.new.self in
+    let new = set cells c.from.result x in
+    let one = one_at cells c.from.result site.0 a x c.from.ensures c.requires.there c.index_mut.ensures.value in
+    all_met_kept cells new site a x one c.restart.ensures.mets c.restart.ensures.ins all
+
+pub returns-clause-acts : goal.returns-clause-acts
+returns-clause-acts g c t is =
+    let cells = c.args.self.now.cells.items in
+    let site = c.args.site in
+    let a = c.index_mut.result.now in
+    let x = c.restart.new.self in
+    let new = set cells c.from.result x in
+    let one = one_at cells c.from.result site.0 a x c.from.ensures c.requires.there c.index_mut.ensures.value in
+    IfOk-weaker c.restart.result (λ (z : Acted). Acts (event.Restart) a.node.clock a.node.entries.items x.node.entries.items z)
+    (λ (z : Acted). ActsAt site (event.Restart) (moment_of cells) (moment_of new) z)
+    (λ z acts. acts_at cells new site a x one t (event.Restart) z (is.cells site.0 a one.was) c.restart.ensures.ins acts) c.restart.ensures.acts
+
+pub returns-clause-drops : goal.returns-clause-drops
+returns-clause-drops g c t is met known =
+    let cells = c.args.self.now.cells.items in
+    let site = c.args.site in
+    let a = c.index_mut.result.now in
+    let x = c.restart.new.self in
+    let new = set cells c.from.result x in
+    let one = one_at cells c.from.result site.0 a x c.from.ensures c.requires.there c.index_mut.ensures.value in
+    drops_at cells new site a x one t.catalog met
+    (c.restart.ensures.drops t.catalog t.capacity site (is.cells site.0 a one.was).cell_is (known a one.was))
+
+pub returns-clause-kept : goal.returns-clause-kept
+returns-clause-kept g c =
+    let cells = c.args.self.now.cells.items in
+    let site = c.args.site in
+    let a = c.index_mut.result.now in
+    let x = c.restart.new.self in
+    let new = set cells c.from.result x in
+    let one = one_at cells c.from.result site.0 a x c.from.ensures c.requires.there c.index_mut.ensures.value in
+    on_err_weaker c.restart.result (λ same. trails_kept cells new site a x one same) c.restart.ensures.kept
+
+pub returns-clause-arms : goal.returns-clause-arms
+returns-clause-arms g c i =
+    let cells = c.args.self.now.cells.items in
+    let site = c.args.site in
+    let a = c.index_mut.result.now in
+    let x = c.restart.new.self in
+    let new = set cells c.from.result x in
+    let one = one_at cells c.from.result site.0 a x c.from.ensures c.requires.there c.index_mut.ensures.value in
+    arms_kept cells new site a x one c.restart.ensures.arms i
