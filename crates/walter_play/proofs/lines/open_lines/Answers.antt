@@ -1,6 +1,8 @@
-use Rattle.std.proofs.Common.{◌+◌, [], length, take, ap, arith}
-use Rattle.std.proofs.lemmas.List.{length-take, length_push}
+use Rattle.std.proofs.Common.{◌+◌, List, [], length, take, ap, arith, subst}
+use Rattle.std.proofs.lemmas.List.{length-take, length_push, take_all}
+use Rattle.walter_cluster.specs.Builds.{AreUnread}
 use Rattle.walter_psi.proofs.CheckerLists.{take_one}
+use Rattle.walter_scenario.specs.declared.scenario.Client.{Client}
 use Rattle.walter_play.proofs.Unread.{unread_more}
 use Rattle.walter_play.proofs.lines.open_lines.Goals as goal
 
@@ -21,3 +23,9 @@ loop-client-preserved c =
           (take_one clients i client within c.client-item.is) longer
           (let a = is.long in omega (arith, a, front, within)) is.unread c.in_ok-open_line.ensures;
     }
+
+pub returns-clause-unread : goal.returns-clause-unread
+returns-clause-unread c =
+    let clients = c.args.clients.now in
+    subst (λ (all : List Client). AreUnread all c.loop-client.lines.items)
+    (take_all c.loop-client.client-index clients c.loop-client-test.false) c.loop-client.invariant.unread

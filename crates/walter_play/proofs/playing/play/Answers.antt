@@ -9,6 +9,19 @@ use Rattle.walter_play.proofs.Arming.{armed_on, armed_one, armed_none, armed_nex
 use Rattle.walter_play.proofs.Steps.{plays_more, takes_told}
 use Rattle.walter_play.proofs.playing.play.Goals as goal
 
+pub returns-in_err-arm-clause-known : goal.returns-in_err-arm-clause-known
+returns-in_err-arm-clause-known g c = λ i known.
+    let inv = c.loop-arm.invariant in
+    c.arm.ensures.known c.args.scenario.now i inv.bench (inv.known i known)
+
+pub returns-in_err-arm-clause-connected : goal.returns-in_err-arm-clause-connected
+returns-in_err-arm-clause-connected g c =
+    let inv = c.loop-arm.invariant in
+    c.arm.ensures.connected c.args.scenario.now inv.bench inv.connected
+
+pub returns-in_err-take_step-clause-known : goal.returns-in_err-take_step-clause-known
+returns-in_err-take_step-clause-known g c = λ i known. c.take_step.ensures.known i (c.loop-step.invariant.known i known)
+
 pub returns-in_err-arm-clause-arms : goal.returns-in_err-arm-clause-arms
 returns-in_err-arm-clause-arms g c =
     let t = c.args.scenario.now in
