@@ -1,10 +1,11 @@
 -- What is left of a rack where no run began over its disks.
-use Rattle.std.proofs.Common.{◌≡◌, ℕ, ◌+◌, ◌<◌, ◌≤◌, List, [], ◌∷◌, ◌++◌, length, slice_get, Option, Some, None, option_map, ap, sym, ◌∙◌, refl, subst, arith, inl, inr, ◌⊎◌}
+use Rattle.std.proofs.Common.{◌≡◌, ℕ, ◌+◌, ◌<◌, ◌≤◌, List, [], ◌∷◌, ◌++◌, length, map, slice_get, Option, Some, None, option_map, ap, sym, ◌∙◌, refl, subst, arith, inl, inr, ◌⊎◌}
 use Rattle.std.specs.Prelude.{IfSome, Result, Err}
 use Rattle.std.proofs.lemmas.List.Elements.{All-nil}
 use Rattle.std.proofs.lemmas.List.{append-nil}
 use Rattle.std.proofs.lemmas.Option.{slice_get_within}
-use Rattle.walter_cluster.specs.Builds.{LeavesDisk}
+use Rattle.walter_cluster.specs.Builds.{LeavesDisk, IsWhyNone}
+use Rattle.walter_cluster.specs.declared.opening.Unbuilt.{Unbuilt}
 use Rattle.walter_disk.specs.declared.disk.Disk.{Ghosts}
 use Rattle.walter_engine.specs.Begins.{HasOnly, IsBegun, IsFaultOfBegin, MayHaveBegun, HasNoRecord}
 use Rattle.walter_engine.specs.declared.answers.Unbegun.{Unbegun}
@@ -15,6 +16,7 @@ use Rattle.walter_cli.specs.Headline.{IsFirstUnfit}
 use Rattle.walter_cli.specs.Racks.{RackAt, Racked, OfADisk, IsGiven, AreSo, Holds, IsUntouched, IsUnarmed, HasFailed, HasCause, racked}
 use Rattle.walter_cli.specs.declared.ended.Fault.{Fault}
 use Rattle.walter_cli.specs.declared.ended.JournalCause.TheVariants.{Foreign, Damaged, Used}
+use Rattle.walter_cli.proofs.Trails.{field_of}
 use Rattle.walter_cli.proofs.Giving.{IsReturned, each_back, one_or_failed, balances, holds_taken, of_reads, none_balances}
 
 -- where none was given back, each is
@@ -59,18 +61,18 @@ module _ {D : Type 0} (g : Ghosts D) (before mid after : RackAt D) (taken back :
   -- what was done to the disk of each site
   abbrev pub AreLeft : Type 0
   AreLeft = (i : ℕ) (disk : D) → slice_get taken i ≡ Some disk
-      → (now : D) × (slice_get back i ≡ Some now) × LeavesDisk {g = g} disk now
+      → (now : D) × (slice_get back i ≡ Some now) × LeavesDisk g disk now
 
   -- the disk that was taken, by the one that is given back
   left_of : AreLeft → (i : ℕ) (now : D) → slice_get back i ≡ Some now
-      → (disk : D) × (slice_get taken i ≡ Some disk) × LeavesDisk {g = g} disk now
+      → (disk : D) × (slice_get taken i ≡ Some disk) × LeavesDisk g disk now
   left_of left i now at =
       let within = slice_get_within back i now at in
       let long = is.long in
       let there = there_is taken i (omega (arith, within, long)) in
       let found = left i there.0 there.1 in
       let same : found.0 ≡ now = (let e : Some found.0 ≡ Some now = sym found.1 ∙ at in cc) in
-      (there.0, there.1, subst (λ (d : D). LeavesDisk {g = g} there.0 d) same found.2)
+      (there.0, there.1, subst (λ (d : D). LeavesDisk g there.0 d) same found.2)
 
   pub untouched : AreLeft → IsUntouched rack
   untouched left = record {
@@ -139,3 +141,29 @@ module _ {D : Type 0} (g : Ghosts D) (before mid after : RackAt D) (taken back :
       others = others_held;
     })
     unbuilt unbegun.NoMemory same = tt
+
+-- the end where a site didn't begin with its disk
+module _ {D : Type 0} (g : Ghosts D) (before mid after : RackAt D) (taken : List D) (u : Unbuilt D)
+    (is : IsReturned g before mid after taken u.disks.items) where
+  left_by : ((i : ℕ) (disk : D) → slice_get taken i ≡ Some disk
+      → (now : D) × (slice_get (map (λ (d : D). Some d) u.disks.items) i ≡ Some (Some now)) × LeavesDisk g disk now)
+      → AreLeft g before mid after taken u.disks.items is
+  left_by left i disk at =
+      let found = left i disk at in
+      let there = field_of (λ (d : D). Some d) u.disks.items i (Some found.0) found.1 in
+      let same : there.0 ≡ found.0 = (let e = there.2 in cc) in
+      (found.0, there.1 ∙ ap (λ (d : D). Some d) same, found.2)
+
+  pub ends_unbuilt : (sites : ℕ) → length taken ≡ sites → IsWhyNone g taken u
+      → ((i : ℕ) (disk : D) → slice_get taken i ≡ Some disk
+      → (now : D) × (slice_get (map (λ (d : D). Some d) u.disks.items) i ≡ Some (Some now)) × LeavesDisk g disk now)
+      → (16 ≤ before.unfailing → after.faults ≡ before.faults)
+      → EndsEarly (racked g before after) sites (fault_of u.site.0 u.why)
+  ends_unbuilt sites many why left sure =
+      let disk = there_is taken u.site.0 why.there in
+      let now = there_is u.disks.items u.site.0 (let t = why.there in let l = why.all_back in omega (arith, t, l)) in
+      ends_early g before mid after taken u.disks.items is sites (fault_of u.site.0 u.why) (left_by left) sure
+      (subst (λ (n : ℕ). IsUnbuilt (racked g before after) n (fault_of u.site.0 u.why)) many
+      (unbuilt g before mid after taken u.disks.items is u.site.0 disk.0 now.0 disk.1 now.1 u.why
+      (λ bytes only. why.why disk.0 bytes disk.1 only) (why.fault disk.0 now.0 disk.1 now.1)
+      (λ i d bytes before_ at only. why.before i d bytes before_ at only) u.why refl))

@@ -7,6 +7,7 @@ use Rattle.walter_cell.specs.declared.cell.Cell.{Cell}
 use Rattle.walter_cell.specs.Entries.{HaveRisingStamps}
 use Rattle.walter_cluster.specs.declared.bench.Bench.{Bench}
 use Rattle.walter_cluster.specs.Benches.{arms_at, arms_under, trails_of, IsBench, IsKnownAt, AreAllConnected}
+use Rattle.walter_cluster.specs.Builds.{LeavesDisk}
 use Rattle.walter_cluster.specs.Moments.{moment_of}
 use Rattle.walter_disk.specs.declared.disk.Disk.{Ghosts}
 use Rattle.walter_engine.specs.Begins.{HasNoRecord}
@@ -74,6 +75,16 @@ arms_front None t i some more all is = tt
 arms_front (Some told) t i some more all is =
     (arms_for i more,
       ap (λ a. arms_for i a) all ∙ (for_more i some more ∙ ap (λ l. l ++ arms_for i more) (sym is)))
+
+-- the arms of the disks of a bench that was built are those of the disks that it was built over
+pub arms_built : {D S K : Type 0} {g : Ghosts D} {s : SourceGhosts S} {k : SinkGhosts K} (bench : Bench D S K g s k)
+    (i : ℕ) (disk now : D)
+    → slice_get (map (λ (c : Cell D S K g s k). disk_in c.node.engine) bench.cells.items) i ≡ Some (Some now)
+    → LeavesDisk g disk now → arms_at bench.cells.items i ≡ (g.known disk).arms
+arms_built {D = D} {S = S} {K = K} {g = g} {s = s} {k = k} bench i disk now at left =
+    let cell = field_of (λ (c : Cell D S K g s k). disk_in c.node.engine) bench.cells.items i (Some now) at in
+    field_at (λ (c : Cell D S K g s k). arms_under g (disk_in c.node.engine)) bench.cells.items i cell.0 None cell.1
+    ∙ (ap (λ (o : Option D). arms_under g o) cell.2 ∙ left.arms)
 
 -- ---- runs
 

@@ -1,3 +1,4 @@
+pub mod Racking
 pub mod Giving
 pub mod Early
 pub mod Causes

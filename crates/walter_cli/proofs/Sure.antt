@@ -119,6 +119,7 @@ module _ (words : List (String Global)) {D : Type 0} (g : Ghosts D) (first last 
 
   report : (Written : List ℕ → Type 0) → RunsWhole rack words before after ended.trails.items Written
       → IsSureReport words before after ended.trails.items Written
+  unfolding sure
   report Written is = record {
     run = sure (record {
       bytes = is.bytes;

@@ -24,4 +24,5 @@ pub record AreGiven {D : Type 0} (before after : RackAt D) (first : ℕ) (disks 
   pub level : before.faults ≤ after.faults
   pub lost : length disks + before.faults ≤ length more + after.faults
   pub whole : after.faults ≡ before.faults → more ≡ numbered first disks
-  pub unfailing : length disks ≤ before.unfailing → after.faults ≡ before.faults
+  pub unfailing : length disks ≤ before.unfailing
+      → (after.faults ≡ before.faults) × (before.unfailing ≤ after.unfailing + length disks)

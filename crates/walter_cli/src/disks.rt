@@ -82,13 +82,22 @@ pub fn give_all<R: Rack>(rack: &mut R, disks: Vec<R::D>) -> Result<(), u8>
     ensures lost { IfErr result (λ site. R.faults rack.old < R.faults rack.new) }
 {
     let mut lost = Ok(());
-    let mut site = 0;
+    let mut next = 0;
     for disk in disks {
+        let site = next;
         let given = rack.give(site, disk);
-        if given.is_err() && lost.is_ok() {
-            lost = Err(site);
+        next += 1;
+        if given.is_err() {
+            lost = Err(first_lost(lost, site));
         }
-        site += 1;
     }
     lost
+}
+
+// The first site whose disk the rack lost, where it loses that of one more.
+fn first_lost(lost: Result<(), u8>, site: u8) -> u8 {
+    match lost {
+        Ok(()) => site,
+        Err(first) => first,
+    }
 }

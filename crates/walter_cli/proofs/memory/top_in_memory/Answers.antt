@@ -5,7 +5,7 @@ use Rattle.walter_disk_memory.specs.MemoryRacks.{RackState, unfailing_of}
 use Rattle.walter_disk_memory.specs.contracts.memory_disk.MemoryDiskDisk.TheImpl.{ghosts as disk_ghosts}
 use Rattle.walter_disk_memory.specs.contracts.memory_rack.MemoryRackRack.TheImpl.{ghosts as rack_ghosts}
 use Rattle.walter_engine.specs.Begins.{HasNoRecord}
-use Rattle.walter_cli.specs.Racks.{RackAt, racked}
+use Rattle.walter_cli.specs.Racks.{RackAt, Holds, racked}
 use Rattle.walter_cli.proofs.Sure.{assured, assured_early, assured_usage}
 use Rattle.walter_cli.proofs.memory.top_in_memory.Goals as goal
 
@@ -31,8 +31,9 @@ returns-in_default-with_room g c =
 pub returns : goal.returns
 returns g c =
     let is = c.in-Ok.ensures.rack in
-    assured c.args.words.now disk_ghosts (at c.in-Ok.rack) (at c.top-ended.new.rack) _ _ c.top-ended.result c.top-ended.ensures refl
-    (subst (λ (r : RackState). (racked disk_ghosts (at r) (at c.top-ended.new.rack)).holds HasNoRecord) (sym is) (inl refl))
-    (subst (λ (r : RackState). 2 ≤ unfailing_of r) (sym is) (omega arith))
+    let last = at c.top-ended.new.rack in
+    assured c.args.words.now disk_ghosts (at c.in-Ok.rack) last _ _ c.top-ended.result c.top-ended.ensures (λ i. refl)
+    (λ i. subst (λ (r : RackState). Holds (racked disk_ghosts (at r) last) i HasNoRecord) (sym is) (inl refl))
+    (subst (λ (r : RackState). 16 ≤ unfailing_of r) (sym is) (omega arith))
     (ap (λ (r : RackState). Some r.given) is)
     (λ more same. sound c.top-ended.new.rack.given more c.given_unarmed_never_failed.ensures same)

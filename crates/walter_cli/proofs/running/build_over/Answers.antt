@@ -1,43 +1,86 @@
-use Rattle.std.proofs.Common.{sym, subst}
+use Rattle.std.proofs.Common.{◌≡◌, ◌≤◌, ℕ, List, length, slice_get, Some, sym, subst, arith, refl}
+use Rattle.walter_cluster.specs.Builds.{AreUnread}
+use Rattle.walter_engine.specs.Begins.{HasNoRecord}
+use Rattle.walter_scenario.specs.declared.scenario.Client.{Client}
 use Rattle.walter_cli.specs.Ending.{EndsEarly}
 use Rattle.walter_cli.specs.Racks.{RackAt, racked}
 use Rattle.walter_cli.specs.declared.ended.Fault.{Fault}
-use Rattle.walter_engine.specs.Begins.{HasNoRecord}
-use Rattle.walter_cli.proofs.Early.{ends_early}
+use Rattle.walter_cli.specs.declared.ended.Fault.TheVariants.{Memory}
+use Rattle.walter_cli.proofs.Early.{ends_before, ends_unbuilt}
+use Rattle.walter_cli.proofs.Finished.{arms_built}
 use Rattle.walter_cli.proofs.Giving.{of_reads}
+use Rattle.walter_cli.proofs.Racking.{sure_back}
 use Rattle.walter_cli.proofs.running.build_over.Goals as goal
 
-pub returns-in-Err-clause-unbuilt : goal.returns-in-Err-clause-unbuilt
-returns-in-Err-clause-unbuilt g c =
-    let D = g.row.R-D.Denot in
-    let R = g.R.Rack in
-    let taken = c.in-Ok.ensures in
-    let before : RackAt D = record { disks = R.disks c.args.rack.now; given = R.given c.args.rack.now; taken = R.taken c.args.rack.now; faults = R.faults c.args.rack.now; unfailing = R.unfailing c.args.rack.now } in
-    let mid : RackAt D = record { disks = R.disks c.take.new.self; given = R.given c.take.new.self; taken = R.taken c.take.new.self; faults = R.faults c.take.new.self; unfailing = R.unfailing c.take.new.self } in
-    let after : RackAt D = record { disks = R.disks c.give.new.self; given = R.given c.give.new.self; taken = R.taken c.give.new.self; faults = R.faults c.give.new.self; unfailing = R.unfailing c.give.new.self } in
-    subst (λ (f : Fault). EndsEarly (racked g.R.D.Disk before after) f) (sym c.unbegun.ensures)
-    (ends_early g.R.D.Disk before mid after c.in-Ok.disk c.in-Err.disk
-    (record { disk = taken.disk; fresh = taken.fresh; given = taken.same_given; taken = taken.taken; faults = taken.faultless; unfailing = λ some. (taken.sure some).1 })
-    c.give.result
-    (record { given = c.give.ensures.given; lost = c.give.ensures.same_given; taken = c.give.ensures.same_taken; faults = c.give.ensures.faultless; failed = c.give.ensures.cause; unfailing = λ some. (c.give.ensures.sure some).0 })
-    c.in-Err.why c.in-Err.ensures.begins c.in-Err.ensures.leaves c.in-Err.ensures.faults c.in-Err.ensures.arms)
+pub returns-in_default-clause-unbuilt : goal.returns-in_default-clause-unbuilt
+returns-in_default-clause-unbuilt g c =
+    let a : RackAt g.row.R-D.Denot = record {
+      disks = g.R.Rack.disks c.args.rack.now;
+      given = g.R.Rack.given c.args.rack.now;
+      taken = g.R.Rack.taken c.args.rack.now;
+      faults = g.R.Rack.faults c.args.rack.now;
+      unfailing = g.R.Rack.unfailing c.args.rack.now;
+    } in
+    ends_before g.R.D.Disk a a c.args.scenario.now.catalog.sites Memory refl refl (omega arith) (λ many. refl) tt
 
 pub returns-in-Ok-build-clause-built : goal.returns-in-Ok-build-clause-built
 returns-in-Ok-build-clause-built g c =
-    let taken = c.in-Ok.ensures in
+    let was = c.in_ok-disks.ensures.taken in
     let built = c.in-Ok-build.ensures in
     record {
-      disk = c.in-Ok.disk;
-      taken = taken.disk;
-      fresh = taken.fresh;
-      no_record = of_reads (g.R.D.Disk.known c.in-Ok.disk).reads (g.R.D.Disk.may_leave c.in-Ok.disk) HasNoRecord taken.fresh.durable
-          (λ bytes told only. built.begins bytes (record { told = told; only = only }));
-      is = built.cell;
+      disks = c.in_ok-disks.disks.items;
+      many = was.0;
+      taken = was.1;
+      no_records = λ i disk at.
+          of_reads (g.R.D.Disk.known disk).reads (g.R.D.Disk.may_leave disk) HasNoRecord (was.1.fresh i disk at).durable
+          (λ bytes told only. built.had_none i disk bytes at (record { told = told; only = only }));
+      is = built.bench;
       known = built.known;
-      opening = built.opening;
-      arms = built.arms;
-      one_taken = taken.taken;
-      same_given = taken.same_given;
-      same_faults = taken.faultless;
-      unfailing = λ some. (taken.sure some).1;
+      connected = built.connected (subst (λ (clients : List Client). AreUnread clients c.in-Ok.lines.items) c.as_slice.ensures
+          c.in-Ok.ensures.unread);
+      met = built.met;
+      first = built.first;
+      arms = λ i disk at. let left = built.leaves i disk at in arms_built c.in-Ok-build.bench i disk left.0 left.1 left.2;
     }
+
+pub returns-in-Err-clause-unbuilt : goal.returns-in-Err-clause-unbuilt
+returns-in-Err-clause-unbuilt g c =
+    let a : RackAt g.row.R-D.Denot = record {
+      disks = g.R.Rack.disks c.args.rack.now;
+      given = g.R.Rack.given c.args.rack.now;
+      taken = g.R.Rack.taken c.args.rack.now;
+      faults = g.R.Rack.faults c.args.rack.now;
+      unfailing = g.R.Rack.unfailing c.args.rack.now;
+    } in
+    let b : RackAt g.row.R-D.Denot = record {
+      disks = g.R.Rack.disks c.take_all.new.rack;
+      given = g.R.Rack.given c.take_all.new.rack;
+      taken = g.R.Rack.taken c.take_all.new.rack;
+      faults = g.R.Rack.faults c.take_all.new.rack;
+      unfailing = g.R.Rack.unfailing c.take_all.new.rack;
+    } in
+    let d : RackAt g.row.R-D.Denot = record {
+      disks = g.R.Rack.disks c.give_all.new.rack;
+      given = g.R.Rack.given c.give_all.new.rack;
+      taken = g.R.Rack.taken c.give_all.new.rack;
+      faults = g.R.Rack.faults c.give_all.new.rack;
+      unfailing = g.R.Rack.unfailing c.give_all.new.rack;
+    } in
+    let was = c.in_ok-disks.ensures.taken in
+    let disks = c.in_ok-disks.disks.items in
+    let why = c.in-Err.ensures.why in
+    let gives = c.give_all.ensures.given in
+    let few = c.requires.few in
+    let many = was.0 in
+    subst (λ (f : Fault). EndsEarly (racked g.R.D.Disk a d) c.args.scenario.now.catalog.sites f) (sym c.unbegun.ensures)
+    (ends_unbuilt g.R.D.Disk a b d disks (record { disks = c.in-Err.disks; site = c.in-Err.site; why = c.in-Err.why })
+    (record {
+      told = was.1.told;
+      fresh = was.1.fresh;
+      same_given = was.1.given;
+      many = was.1.taken;
+      level = (let e = was.1.faults in omega (arith, e));
+      long = why.all_back;
+      gives = gives;
+    }) c.args.scenario.now.catalog.sites many why c.in-Err.ensures.leaves
+    (λ enough. sure_back g.R.D.Disk a b d disks c.in-Err.disks.items was.1 gives why.all_back (omega (arith, many, few)) enough))

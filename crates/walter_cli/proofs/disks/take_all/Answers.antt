@@ -1,0 +1,111 @@
+use Rattle.std.proofs.Common.{◌≡◌, ◌+◌, ◌<◌, ◌≤◌, ◌++◌, ◌∷◌, [], ℕ, List, length, Some, None, refl, ap, sym, ◌∙◌, subst, arith, inl}
+use Rattle.std.specs.Prelude.{IfSome}
+use Rattle.std.proofs.lemmas.List.{length-append}
+use Rattle.walter_cli.specs.Disks.{AreTaken}
+use Rattle.walter_cli.specs.Racks.{RackAt}
+use Rattle.walter_cli.specs.declared.ended.Fault.TheVariants.{Memory, Rack}
+use Rattle.walter_cli.proofs.Early.{ends_before, ends_early}
+use Rattle.walter_cli.proofs.Racking.{taken_none, taken_more, left_alone, err_never}
+use Rattle.walter_cli.proofs.disks.take_all.Goals as goal
+
+pub returns-in_default-clause-fault : goal.returns-in_default-clause-fault
+returns-in_default-clause-fault g c =
+    let a : RackAt g.row.R-D.Denot = record {
+      disks = g.R.Rack.disks c.args.rack.now;
+      given = g.R.Rack.given c.args.rack.now;
+      taken = g.R.Rack.taken c.args.rack.now;
+      faults = g.R.Rack.faults c.args.rack.now;
+      unfailing = g.R.Rack.unfailing c.args.rack.now;
+    } in
+    ends_before g.R.D.Disk a a c.args.sites Memory refl refl (omega arith) (λ many. refl) tt
+
+pub returns-in-Err-clause-fault : goal.returns-in-Err-clause-fault
+returns-in-Err-clause-fault g c =
+    let a : RackAt g.row.R-D.Denot = record {
+      disks = g.R.Rack.disks c.args.rack.now;
+      given = g.R.Rack.given c.args.rack.now;
+      taken = g.R.Rack.taken c.args.rack.now;
+      faults = g.R.Rack.faults c.args.rack.now;
+      unfailing = g.R.Rack.unfailing c.args.rack.now;
+    } in
+    let b : RackAt g.row.R-D.Denot = record {
+      disks = g.R.Rack.disks c.loop-site.rack;
+      given = g.R.Rack.given c.loop-site.rack;
+      taken = g.R.Rack.taken c.loop-site.rack;
+      faults = g.R.Rack.faults c.loop-site.rack;
+      unfailing = g.R.Rack.unfailing c.loop-site.rack;
+    } in
+    let d : RackAt g.row.R-D.Denot = record {
+      disks = g.R.Rack.disks c.take.new.self;
+      given = g.R.Rack.given c.take.new.self;
+      taken = g.R.Rack.taken c.take.new.self;
+      faults = g.R.Rack.faults c.take.new.self;
+      unfailing = g.R.Rack.unfailing c.take.new.self;
+    } in
+    let e : RackAt g.row.R-D.Denot = record {
+      disks = g.R.Rack.disks c.give_all.new.rack;
+      given = g.R.Rack.given c.give_all.new.rack;
+      taken = g.R.Rack.taken c.give_all.new.rack;
+      faults = g.R.Rack.faults c.give_all.new.rack;
+      unfailing = g.R.Rack.unfailing c.give_all.new.rack;
+    } in
+    let is = c.loop-site.invariant in
+    let taken = is.taken in
+    let rose : b.faults < d.faults = c.in-Err.ensures.cause in
+    let gives = c.give_all.ensures.given in
+    let disks = c.loop-site.disks.items in
+    let level = taken.faults in
+    ends_early g.R.D.Disk a d e disks disks (record {
+      told = taken.told;
+      fresh = taken.fresh;
+      same_given = c.in-Err.ensures.same_given ∙ taken.given;
+      many = c.in-Err.ensures.same_taken ∙ taken.taken;
+      level = omega (arith, level, rose);
+      long = refl;
+      gives = gives;
+    }) c.args.sites (Rack c.loop-site.site) (λ i disk at. (disk, at, left_alone g.R.D.Disk disk))
+    (λ many.
+    let long = is.long in
+    let within = c.loop-site-test.true in
+    let few = c.requires.few in
+    let left = taken.unfailing (omega (arith, many, long, within, few)) in
+    let some : 0 < b.unfailing = omega (arith, many, long, within, few, left) in
+    absurd (err_never c.take.result _ c.in-Err.is (c.take.ensures.sure some).0))
+    (inl (let l = gives.level in omega (arith, level, rose, l)))
+
+pub loop-site-preserved : goal.loop-site-preserved
+loop-site-preserved g c =
+    let a : RackAt g.row.R-D.Denot = record {
+      disks = g.R.Rack.disks c.args.rack.now;
+      given = g.R.Rack.given c.args.rack.now;
+      taken = g.R.Rack.taken c.args.rack.now;
+      faults = g.R.Rack.faults c.args.rack.now;
+      unfailing = g.R.Rack.unfailing c.args.rack.now;
+    } in
+    let b : RackAt g.row.R-D.Denot = record {
+      disks = g.R.Rack.disks c.loop-site.rack;
+      given = g.R.Rack.given c.loop-site.rack;
+      taken = g.R.Rack.taken c.loop-site.rack;
+      faults = g.R.Rack.faults c.loop-site.rack;
+      unfailing = g.R.Rack.unfailing c.loop-site.rack;
+    } in
+    let d : RackAt g.row.R-D.Denot = record {
+      disks = g.R.Rack.disks c.take.new.self;
+      given = g.R.Rack.given c.take.new.self;
+      taken = g.R.Rack.taken c.take.new.self;
+      faults = g.R.Rack.faults c.take.new.self;
+      unfailing = g.R.Rack.unfailing c.take.new.self;
+    } in
+    let is = c.loop-site.invariant in
+    let e = c.in-Ok-take.ensures in
+    let disks = c.loop-site.disks.items in
+    let disk = c.in-Ok-take.disk in
+    let longer = c.push_reserved.ensures.items in
+    record {
+      taken = subst (λ (ds : List g.row.R-D.Denot). AreTaken g.R.D.Disk a d ds) (sym longer)
+          (taken_more g.R.D.Disk a b d disks disk is.taken
+          (subst (λ (n : ℕ). IfSome b.disks (λ take. disk ≡ take None n)) (sym is.long) e.disk) e.fresh e.same_disks e.same_given
+          e.taken e.faultless (λ some. (c.take.ensures.sure some).1));
+      long = (let l = ap length longer in let m = length-append disks (disk ∷ []) in let n = is.long in omega (arith, l, m, n));
+      room = (let r = is.room in let same = c.push_reserved.ensures.capacity in omega (arith, r, same));
+    }
