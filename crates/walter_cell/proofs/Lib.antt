@@ -8,5 +8,6 @@ pub mod Stopping
 pub mod Openings
 pub mod Lines
 pub mod Taken
+pub mod Turns
 pub mod Coming
 pub mod Meeting

@@ -1,5 +1,6 @@
 -- What holds of a cell between two events, and what its calls come to.
-use Rattle.std.specs.Prelude.{◌≡◌, ◌≢◌, ◌<◌, ◌+◌, ◌⊎◌, ◌^◌, max, ℕ, zero, suc, List, [], ◌∷◌, ◌++◌, length, reverse, slice_get, Option, Some, None}
+use Rattle.std.specs.Prelude.{◌≡◌, ◌≢◌, ◌<◌, ◌+◌, ◌⊎◌, ◌^◌, max, ℕ, zero, suc, Option, Some, None}
+use Rattle.std.specs.Prelude.{List, [], ◌∷◌, ◌++◌, length, reverse, slice_get}
 use Rattle.walter_base.specs.declared.catalog.Catalog.{Catalog}
 use Rattle.walter_base.specs.declared.names.SiteId.{SiteId}
 use Rattle.walter_base.specs.declared.packet.Packet.{Packet}
@@ -40,7 +41,7 @@ use Rattle.walter_cell.specs.Nodes.{IsNode, IsKnownNode, IsSameButLanes}
 abbrev pub HasFault : {S K : Type 0} {s : SourceGhosts S} {k : SinkGhosts K} → Conn S K s k → Type 0
 HasFault {s = s} {k = k} line = (0 < s.faults (source_of line)) ⊎ (0 < k.faults (sink_of line))
 
--- of the bytes of a client these calls were read; a connection that is broken has failed, or has read all that there are
+-- of the bytes of a client these calls were read; a connection that is broken has failed, or has read all there are
 pub record IsLine {S K : Type 0} {s : SourceGhosts S} {k : SinkGhosts K} (bytes : List ℕ) (calls : List Call)
     (line : Conn S K s k) : Type 0 where
   pub stands : HasCalled bytes calls (incoming line)

@@ -1,5 +1,6 @@
 -- What holds of a site with its trail and its lanes between two events.
-use Rattle.std.specs.Prelude.{◌≡◌, ◌<◌, ◌≤◌, ◌⊎◌, ◌^◌, ℕ, List, [], ◌∷◌, ◌++◌, length, reverse, slice_get, count_by, vec_len, vec_capacity, Some, All}
+use Rattle.std.specs.Prelude.{◌≡◌, ◌<◌, ◌≤◌, ◌⊎◌, ◌^◌, ℕ, List, [], ◌∷◌, ◌++◌, Some, All}
+use Rattle.std.specs.Prelude.{length, reverse, slice_get, count_by, vec_len, vec_capacity}
 use Rattle.walter_base.specs.declared.catalog.Catalog.{Catalog}
 use Rattle.walter_base.specs.declared.names.SiteId.{SiteId}
 use Rattle.walter_disk.specs.declared.disk.Disk.{Ghosts}
@@ -83,7 +84,8 @@ abbrev pub DropsWhereFull : Catalog → SiteId → (ℕ → ℕ) → List Entry 
 DropsWhereFull catalog i met older e =
     ((e.came.sends ≡ []) × (e.came.dropped ≡ 0))
     ⊎ IsPutWhereFree met (settled catalog i e.came.kept (standing catalog i older)).carried
-    (rule catalog i (settled catalog i e.came.kept (standing catalog i older)) e.event).sends e.came.sends e.came.dropped
+    (rule catalog i (settled catalog i e.came.kept (standing catalog i older)) e.event).sends e.came.sends
+    e.came.dropped
 
 -- so does the entry that comes to a trail, if one does
 abbrev pub MayDrop : Catalog → SiteId → (ℕ → ℕ) → List Entry → List Entry → Type 0

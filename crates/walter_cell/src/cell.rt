@@ -1,4 +1,5 @@
-ghost use Rattle.std.specs.Prelude.{◌⊎◌, ◌≡◌, ◌≢◌, ◌<◌, ◌≤◌, ◌++◌, ◌∷◌, ◌+◌, [], ℕ, List, Option, slice_get, length, option_map, Some, IsSome, OnErr, OnOk, IfOk, IsTrue, ◌↔◌};
+ghost use Rattle.std.specs.Prelude.{◌⊎◌, ◌≡◌, ◌≢◌, ◌<◌, ◌≤◌, ◌++◌, ◌∷◌, ◌+◌, ◌↔◌, [], ℕ, List, Option};
+ghost use Rattle.std.specs.Prelude.{slice_get, length, option_map, Some, IsSome, OnErr, OnOk, IfOk, IsTrue};
 ghost use mathlib.Core.List.{IsPrefix};
 ghost use Rattle.walter_base.specs.Vectors.{most_sites};
 ghost use Rattle.walter_base.specs.declared.catalog.Catalog.{Catalog};
@@ -40,7 +41,8 @@ pub struct Cell<D: Disk, S: Source + Drop, K: Sink + Drop> {
 
 impl<D: Disk + Drop, S: Source + Drop, K: Sink + Drop> Cell<D, S, K> {
     ghost use Rattle.walter_engine.specs.Engines.{disk_in};
-    ghost use Rattle.walter_cell.specs.Cells.{IsSameCell, IsUnchanged, HasSameTrail, OfLine, IsLineAt, HasFaultAt, TurnsTo, Acts, MovesTo, arrival};
+    ghost use Rattle.walter_cell.specs.Cells.{IsSameCell, IsUnchanged, HasSameTrail, OfLine, IsLineAt, HasFaultAt};
+    ghost use Rattle.walter_cell.specs.Cells.{TurnsTo, Acts, MovesTo, arrival};
 
     /// A site over its disk, up in its first epoch. Where it doesn't begin the disk comes back.
     pub fn begin(

@@ -1,4 +1,5 @@
-ghost use Rattle.std.specs.Prelude.{◌≡◌, ◌<◌, ◌≤◌, ◌⊎◌, ◌^◌, ◌++◌, ◌+◌, ◌∷◌, [], ℕ, List, max, slice_get, length, vec_len, vec_capacity, option_map, Some, IsSome, OnErr, OnOk, IfOk, IfSome, IfNone};
+ghost use Rattle.std.specs.Prelude.{◌≡◌, ◌<◌, ◌≤◌, ◌⊎◌, ◌^◌, ◌++◌, ◌+◌, ◌∷◌, [], ℕ, List, max, slice_get, length};
+ghost use Rattle.std.specs.Prelude.{vec_len, vec_capacity, option_map, Some, IsSome, OnErr, OnOk, IfOk, IfSome, IfNone};
 ghost use Rattle.walter_base.specs.Vectors.{most_sites};
 ghost use Rattle.walter_base.specs.declared.catalog.Catalog.{Catalog};
 ghost use Rattle.walter_base.specs.declared.names.SiteId.{SiteId};
