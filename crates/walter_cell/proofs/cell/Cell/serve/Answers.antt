@@ -31,6 +31,9 @@ returns-in_err-make_ready-clause-known g c = λ catalog capacity i cell known.
     let ready = c.in_err-make_ready.ensures.same in
     known_same catalog capacity i c.args.self.now.node c.make_ready.new.self ready.engine ready.entries (ap (λ v. v.items) ready.debts) known
 
+pub returns-in_err-make_ready-clause-comes : goal.returns-in_err-make_ready-clause-comes
+returns-in_err-make_ready-clause-comes g c = inl c.in_err-make_ready.ensures.same.entries
+
 pub returns-in_err-make_ready-clause-line : goal.returns-in_err-make_ready-clause-line
 returns-in_err-make_ready-clause-line g c = λ bytes is.
     line_entries bytes c.args.number c.args.self.now.node.entries.items c.make_ready.new.self.entries.items c.args.self.now.lines.items
@@ -40,6 +43,14 @@ pub returns-in_err-next_call-clause-known : goal.returns-in_err-next_call-clause
 returns-in_err-next_call-clause-known g c = λ catalog capacity i cell known.
     let ready = c.in_ok-make_ready.ensures.same in
     known_same catalog capacity i c.args.self.now.node c.make_ready.new.self ready.engine ready.entries (ap (λ v. v.items) ready.debts) known
+
+pub returns-in_err-next_call-clause-comes : goal.returns-in_err-next_call-clause-comes
+returns-in_err-next_call-clause-comes g c = inl c.in_ok-make_ready.ensures.same.entries
+
+pub returns-in_err-next_call-clause-stays : goal.returns-in_err-next_call-clause-stays
+returns-in_err-next_call-clause-stays g c =
+    line_set (λ line. Unit {0}) c.args.self.now.lines.items c.args.number c.next_call.new.line
+    (slice_get_within c.args.self.now.lines.items c.args.number _ c.requires.there.1) tt
 
 pub returns-in_err-next_call-clause-line : goal.returns-in_err-next_call-clause-line
 returns-in_err-next_call-clause-line g c = λ bytes is.
@@ -72,6 +83,14 @@ returns-in-Ended-clause-turn g c = λ bytes is.
     let some = c.in-Some.ensures.some in
     let small : c.args.self.now.node.clock + 1 < 2 ^ 62 = (let s = some.0 in let e = some.2 in omega (arith, s, e)) in
     ((some.1, small), left.1, c.in_ok-make_ready.ensures.same.entries)
+
+pub returns-in-Ended-clause-comes : goal.returns-in-Ended-clause-comes
+returns-in-Ended-clause-comes g c = inl c.in_ok-make_ready.ensures.same.entries
+
+pub returns-in-Ended-clause-stays : goal.returns-in-Ended-clause-stays
+returns-in-Ended-clause-stays g c =
+    line_set (λ line. Unit {0}) c.args.self.now.lines.items c.args.number c.next_call.new.line
+    (slice_get_within c.args.self.now.lines.items c.args.number _ c.requires.there.1) tt
 
 pub returns-in-Ended-clause-line : goal.returns-in-Ended-clause-line
 returns-in-Ended-clause-line g c = λ bytes is.
@@ -113,6 +132,14 @@ returns-in-Broken-clause-turn g c = λ bytes is.
         | inr all ↦ inl (all, entries)
       ],
     )
+
+pub returns-in-Broken-clause-comes : goal.returns-in-Broken-clause-comes
+returns-in-Broken-clause-comes g c = inl c.in_ok-make_ready.ensures.same.entries
+
+pub returns-in-Broken-clause-stays : goal.returns-in-Broken-clause-stays
+returns-in-Broken-clause-stays g c =
+    line_set (λ line. Unit {0}) c.args.self.now.lines.items c.args.number c.next_call.new.line
+    (slice_get_within c.args.self.now.lines.items c.args.number _ c.requires.there.1) tt
 
 pub returns-in-Broken-clause-line : goal.returns-in-Broken-clause-line
 returns-in-Broken-clause-line g c = λ bytes is.
@@ -197,6 +224,19 @@ returns-in_default-last-clause-turn g c = λ bytes is.
     let some = c.in-Some.ensures.some in
     let small : old.node.clock + 1 < 2 ^ 62 = (let s = some.0 in let e = some.2 in omega (arith, s, e)) in
     ((some.1, small), (call, told.0, grows, told.1))
+
+pub returns-in_default-last-clause-comes : goal.returns-in_default-last-clause-comes
+returns-in_default-last-clause-comes g c =
+    let old : Cell g.row.D.Denot g.row.S.Denot g.row.K.Denot g.D.Disk g.S.Source g.K.Sink = c.args.self.now in
+    let new : Cell g.row.D.Denot g.row.S.Denot g.row.K.Denot g.D.Disk g.S.Source g.K.Sink =
+    record { node = c.take.new.self; ins = old.ins; lines = with_item old.lines c.args.number (Some c.put_reply.new.line) } in
+    let ev : Event = event.Given (input.Call c.args.number c.in-Frame.call) in
+    inr (c.in-Frame.call, grows_taken old c.make_ready.new.self new c.in-Some.stamp ev c.in_ok-make_ready.ensures.same c.take.ensures.takes)
+
+pub returns-in_default-last-clause-stays : goal.returns-in_default-last-clause-stays
+returns-in_default-last-clause-stays g c =
+    line_set (λ line. Unit {0}) c.args.self.now.lines.items c.args.number c.put_reply.new.line
+    (slice_get_within c.args.self.now.lines.items c.args.number _ c.requires.there.1) tt
 
 pub returns-in_default-last-clause-line : goal.returns-in_default-last-clause-line
 returns-in_default-last-clause-line g c = λ bytes is.
@@ -287,6 +327,19 @@ returns-in-Some-last-clause-turn g c = λ bytes is.
     (slice_get_within old.lines.items number _ c.requires.there.1)
     (of_failed c.put_reply.result (HasFault c.put_reply.new.line) (sym c.is_err.ensures.value ∙ c.if-is_err.true) c.put_reply.ensures.lost) in
     ((some.1, small), inr (failed, inr (call, told.0, grows, told.1)))
+
+pub returns-in-Some-last-clause-comes : goal.returns-in-Some-last-clause-comes
+returns-in-Some-last-clause-comes g c =
+    let old : Cell g.row.D.Denot g.row.S.Denot g.row.K.Denot g.D.Disk g.S.Source g.K.Sink = c.args.self.now in
+    let new : Cell g.row.D.Denot g.row.S.Denot g.row.K.Denot g.D.Disk g.S.Source g.K.Sink =
+    record { node = c.take.new.self; ins = old.ins; lines = with_item old.lines c.args.number (Some c.put_reply.new.line) } in
+    let ev : Event = event.Given (input.Call c.args.number c.in-Frame.call) in
+    inr (c.in-Frame.call, grows_taken old c.make_ready.new.self new c.in-Some.stamp ev c.in_ok-make_ready.ensures.same c.take.ensures.takes)
+
+pub returns-in-Some-last-clause-stays : goal.returns-in-Some-last-clause-stays
+returns-in-Some-last-clause-stays g c =
+    line_set (λ line. Unit {0}) c.args.self.now.lines.items c.args.number c.put_reply.new.line
+    (slice_get_within c.args.self.now.lines.items c.args.number _ c.requires.there.1) tt
 
 pub returns-in-Some-last-clause-line : goal.returns-in-Some-last-clause-line
 returns-in-Some-last-clause-line g c = λ bytes is.
