@@ -1,6 +1,7 @@
 -- Cells of which nothing has changed, and what has arrived at each of them where it is a beginning of what was put.
-use Rattle.std.proofs.Common.{◌≡◌, ◌≢◌, ℕ, ◌+◌, ◌<◌, ◌≤◌, List, [], ◌∷◌, ◌++◌, length, map, reverse, slice_get, refl, ap, sym, ◌∙◌, subst, arith, Option, Some, None, below_more}
+use Rattle.std.proofs.Common.{◌≡◌, ◌≢◌, ℕ, ◌+◌, ◌<◌, ◌≤◌, List, [], ◌∷◌, ◌++◌, length, map, reverse, slice_get, take, refl, ap, sym, ◌∙◌, subst, arith, Option, Some, None, below_more}
 use Rattle.std.specs.Prelude.{All, slice_index_or}
+use Rattle.std.proofs.Math.Seq.{take-append_seam}
 use Rattle.std.proofs.lemmas.List.{length-map, map-append}
 use Rattle.std.proofs.lemmas.List.Elements.{All-weaker}
 use mathlib.Core.List.{IsPrefix}
@@ -23,10 +24,32 @@ use Rattle.walter_rules.specs.Sending.{Send}
 use Rattle.walter_scenario.specs.declared.scenario.Scenario.{Scenario}
 use Rattle.walter_stream.specs.declared.sink.Sink.{Ghosts as SinkGhosts}
 use Rattle.walter_stream.specs.declared.source.Source.{Ghosts as SourceGhosts}
-use Rattle.walter_cluster.specs.Benches.{trails_of, outs_at, ins_at}
+use Rattle.walter_cluster.specs.declared.bench.Bench.{Bench}
+use Rattle.walter_cluster.specs.declared.closing.Closed.{Closed}
+use Rattle.walter_cluster.specs.Benches.{trails_of, outs_at, ins_at, IsBench}
+use Rattle.walter_cluster.specs.Builds.{GivesBack}
 use Rattle.walter_cluster.specs.Meetings.{put_at, arrived_at, HaveLanes, Begins, AreUnchanged}
 use Rattle.walter_cluster.proofs.Changes.{there_is, field_at, ChangesOne, ChangesTwo, field_kept, second_was}
-use Rattle.walter_cluster.proofs.Benches.{AreCells}
+use Rattle.walter_cluster.proofs.Benches.{AreCells, cells_of, lanes_of}
+
+-- what is taken of a list is its front
+pub taken_whole : {X : Type 0} (n : ℕ) (front rest xs : List X) → xs ≡ take n (front ++ rest) → length front ≡ n → xs ≡ front
+taken_whole n front rest xs is long = is ∙ (ap (λ m. take m (front ++ rest)) (sym long) ∙ take-append_seam front rest)
+
+-- two lists that map to the same, each with one element more
+pub maps_pushed : {X Y Z : Type 0} (f : X → Y) (h : Z → Y) (old new : List X) (x : X) (zs : List Z) (z : Z) → new ≡ old ++ x ∷ [] → map f old ≡ map h zs → f x ≡ h z
+    → map f new ≡ map h (zs ++ z ∷ [])
+maps_pushed f h old new x zs z pushed same one =
+    ap (λ l. map f l) pushed
+    ∙ (map-append f old (x ∷ [])
+    ∙ (ap (λ l. l ++ f x ∷ []) same
+    ∙ (ap (λ y. map h zs ++ y ∷ []) one
+    ∙ sym (map-append h zs (z ∷ [])))))
+
+pub map_pushed : {Y Z : Type 0} (h : Z → Y) (old new : List Y) (y : Y) (zs : List Z) (z : Z) → new ≡ old ++ y ∷ [] → old ≡ map h zs → y ≡ h z
+    → new ≡ map h (zs ++ z ∷ [])
+map_pushed h old new y zs z pushed same one =
+    pushed ∙ (ap (λ l. l ++ y ∷ []) same ∙ (ap (λ v. map h zs ++ v ∷ []) one ∙ sym (map-append h zs (z ∷ []))))
 
 module _ {D S K : Type 0} {g : Ghosts D} {s : SourceGhosts S} {k : SinkGhosts K} where
   pub unchanged_self : (cells : List (Cell D S K g s k)) → AreUnchanged cells cells
@@ -140,3 +163,34 @@ module _ {D S K : Type 0} {g : Ghosts D} {s : SourceGhosts S} {k : SinkGhosts K}
         (length-map cells (λ (c : Cell D S K g s k). c.node.entries.items) ∙ n)
         few next put spelled
         (λ to from below within apart. begins to from (omega (arith, below, n)) (omega (arith, within, n)) apart)
+
+  -- ---- a bench is closed
+
+  module _ (t : Scenario) (bench : Bench D S K g s k) (is : IsBench t bench) (now : List (Cell D S K g s k)) (now_is : now ≡ bench.cells.items) where
+    pub lanes_now : HaveLanes now
+    lanes_now = subst (λ (cs : List (Cell D S K g s k)). HaveLanes cs) (sym now_is) (lanes_of t bench.cells.items (cells_of t bench is))
+
+    pub few_now : length now ≡ t.catalog.sites
+    few_now = ap length now_is ∙ is.sites
+
+    module _ (new : List (Cell D S K g s k)) (same : AreUnchanged now new) where
+      closed_same : AreUnchanged bench.cells.items new
+      closed_same = subst (λ (cs : List (Cell D S K g s k)). AreUnchanged cs new) now_is same
+
+      pub closed_long : length new ≡ length bench.cells.items
+      closed_long = unchanged_long bench.cells.items new closed_same
+
+      module _ (closed : Closed D S K s k) (trails : closed.trails.items ≡ trails_of new) where
+        pub gives_back : map (λ (d : D). Some d) closed.disks.items ≡ map (λ (c : Cell D S K g s k). disk_in c.node.engine) new
+            → map (λ v. v.items) closed.conns.items ≡ map (λ (c : Cell D S K g s k). c.lines.items) new → GivesBack bench.cells.items closed
+        gives_back disks conns = record {
+          trails = trails ∙ closed_same.trails;
+          disks = disks ∙ closed_same.disks;
+          conns = conns ∙ closed_same.lines;
+        }
+
+        pub closed_linked : ((to from : ℕ) → to < length now → from < length now → to ≢ from → Begins now to from) → AreLinked closed.trails.items
+        closed_linked begins =
+            subst AreLinked (sym (trails ∙ closed_same.trails))
+            (cells_linked t bench.cells.items (cells_of t bench is)
+            (subst (λ (cs : List (Cell D S K g s k)). (to from : ℕ) → to < length cs → from < length cs → to ≢ from → Begins cs to from) now_is begins))

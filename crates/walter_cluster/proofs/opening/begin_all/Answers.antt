@@ -22,9 +22,6 @@ loop-number-init g c = record {
   room = refl;
 }
 
-pub begin-requires-clause-stand_in : goal.begin-requires-clause-stand_in
-begin-requires-clause-stand_in g c = ?
-
 pub begin-requires-clause-outs : goal.begin-requires-clause-outs
 begin-requires-clause-outs g c =
     let rows = c.args.parts.rows.items in

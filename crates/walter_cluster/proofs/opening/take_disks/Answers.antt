@@ -6,9 +6,6 @@ use Rattle.walter_cluster.specs.Openings.{disks_of}
 use Rattle.walter_cluster.proofs.Places.{map_lengths}
 use Rattle.walter_cluster.proofs.opening.take_disks.Goals as goal
 
-pub into_parts-disk-requires : goal.into_parts-disk-requires
-into_parts-disk-requires g c = ?
-
 pub push_reserved-requires : goal.push_reserved-requires
 push_reserved-requires g c =
     let cells = c.args.cells.items in

@@ -27,6 +27,9 @@ returns-in_err-make_ready-clause-known g c = λ catalog capacity i cell known.
 pub returns-in_err-make_ready-clause-comes : goal.returns-in_err-make_ready-clause-comes
 returns-in_err-make_ready-clause-comes g c = inl c.in_err-make_ready.ensures.same.entries
 
+pub returns-in_err-make_ready-clause-comes : goal.returns-in_err-make_ready-clause-comes
+returns-in_err-make_ready-clause-comes g c = inl c.in_err-make_ready.ensures.same.entries
+
 pub returns-in_err-make_ready-clause-line : goal.returns-in_err-make_ready-clause-line
 returns-in_err-make_ready-clause-line g c = λ bytes is.
     line_entries bytes c.args.number c.args.self.now.node.entries.items c.make_ready.new.self.entries.items
@@ -35,6 +38,14 @@ returns-in_err-make_ready-clause-line g c = λ bytes is.
 pub returns-in_err-next_call-clause-known : goal.returns-in_err-next_call-clause-known
 returns-in_err-next_call-clause-known g c = λ catalog capacity i cell known.
     known_ready catalog capacity i c.args.self.now.node c.make_ready.new.self c.in_ok-make_ready.ensures.same known
+
+pub returns-in_err-next_call-clause-comes : goal.returns-in_err-next_call-clause-comes
+returns-in_err-next_call-clause-comes g c = inl c.in_ok-make_ready.ensures.same.entries
+
+pub returns-in_err-next_call-clause-stays : goal.returns-in_err-next_call-clause-stays
+returns-in_err-next_call-clause-stays g c =
+    line_set (λ line. Unit {0}) c.args.self.now.lines.items c.args.number c.next_call.new.line
+    (slice_get_within c.args.self.now.lines.items c.args.number _ c.requires.there.1) tt
 
 pub returns-in_err-next_call-clause-comes : goal.returns-in_err-next_call-clause-comes
 returns-in_err-next_call-clause-comes g c = inl c.in_ok-make_ready.ensures.same.entries
@@ -75,6 +86,14 @@ returns-in-Ended-clause-turn g c = λ bytes is.
     let left = (rw c.in-Ended.is at c.in_ok-next_call.ensures.next) bytes (calls_of number old) before in
     let place = place_found c.args.self.now.node.clock c.in-Some.stamp old c.in-Some.ensures.some in
     (place, left.1, c.in_ok-make_ready.ensures.same.entries)
+
+pub returns-in-Ended-clause-comes : goal.returns-in-Ended-clause-comes
+returns-in-Ended-clause-comes g c = inl c.in_ok-make_ready.ensures.same.entries
+
+pub returns-in-Ended-clause-stays : goal.returns-in-Ended-clause-stays
+returns-in-Ended-clause-stays g c =
+    line_set (λ line. Unit {0}) c.args.self.now.lines.items c.args.number c.next_call.new.line
+    (slice_get_within c.args.self.now.lines.items c.args.number _ c.requires.there.1) tt
 
 pub returns-in-Ended-clause-comes : goal.returns-in-Ended-clause-comes
 returns-in-Ended-clause-comes g c = inl c.in_ok-make_ready.ensures.same.entries
@@ -196,6 +215,19 @@ returns-in_default-last-clause-stays g c =
     line_set (λ line. Unit {0}) c.args.self.now.lines.items c.args.number c.put_reply.new.line
     (slice_get_within c.args.self.now.lines.items c.args.number _ c.requires.there.1) tt
 
+pub returns-in_default-last-clause-comes : goal.returns-in_default-last-clause-comes
+returns-in_default-last-clause-comes g c =
+    let old : Cell g.row.D.Denot g.row.S.Denot g.row.K.Denot g.D.Disk g.S.Source g.K.Sink = c.args.self.now in
+    let new : Cell g.row.D.Denot g.row.S.Denot g.row.K.Denot g.D.Disk g.S.Source g.K.Sink =
+    record { node = c.take.new.self; ins = old.ins; lines = with_item old.lines c.args.number (Some c.put_reply.new.line) } in
+    let ev : Event = event.Given (input.Call c.args.number c.in-Frame.call) in
+    inr (c.in-Frame.call, grows_taken old c.make_ready.new.self new c.in-Some.stamp ev c.in_ok-make_ready.ensures.same c.take.ensures.takes)
+
+pub returns-in_default-last-clause-stays : goal.returns-in_default-last-clause-stays
+returns-in_default-last-clause-stays g c =
+    line_set (λ line. Unit {0}) c.args.self.now.lines.items c.args.number c.put_reply.new.line
+    (slice_get_within c.args.self.now.lines.items c.args.number _ c.requires.there.1) tt
+
 pub returns-in_default-last-clause-line : goal.returns-in_default-last-clause-line
 returns-in_default-last-clause-line g c = λ bytes is.
     let lines = c.args.self.now.lines.items in
@@ -257,6 +289,19 @@ returns-in-Some-last-clause-comes g c =
       served_grows c.args.self.now c.make_ready.new.self c.take.new.self c.put_reply.new.line c.args.number
           c.in-Frame.call c.in-Some.stamp c.in-Some.ensures.some c.in_ok-make_ready.ensures.same c.take.ensures.takes,
     )
+
+pub returns-in-Some-last-clause-stays : goal.returns-in-Some-last-clause-stays
+returns-in-Some-last-clause-stays g c =
+    line_set (λ line. Unit {0}) c.args.self.now.lines.items c.args.number c.put_reply.new.line
+    (slice_get_within c.args.self.now.lines.items c.args.number _ c.requires.there.1) tt
+
+pub returns-in-Some-last-clause-comes : goal.returns-in-Some-last-clause-comes
+returns-in-Some-last-clause-comes g c =
+    let old : Cell g.row.D.Denot g.row.S.Denot g.row.K.Denot g.D.Disk g.S.Source g.K.Sink = c.args.self.now in
+    let new : Cell g.row.D.Denot g.row.S.Denot g.row.K.Denot g.D.Disk g.S.Source g.K.Sink =
+    record { node = c.take.new.self; ins = old.ins; lines = with_item old.lines c.args.number (Some c.put_reply.new.line) } in
+    let ev : Event = event.Given (input.Call c.args.number c.in-Frame.call) in
+    inr (c.in-Frame.call, grows_taken old c.make_ready.new.self new c.in-Some.stamp ev c.in_ok-make_ready.ensures.same c.take.ensures.takes)
 
 pub returns-in-Some-last-clause-stays : goal.returns-in-Some-last-clause-stays
 returns-in-Some-last-clause-stays g c =
