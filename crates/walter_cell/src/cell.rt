@@ -42,8 +42,8 @@ pub struct Cell<D: Disk, S: Source + Drop, K: Sink + Drop> {
 impl<D: Disk + Drop, S: Source + Drop, K: Sink + Drop> Cell<D, S, K> {
     ghost use Rattle.walter_engine.specs.Engines.{disk_in};
     ghost use Rattle.walter_cell.specs.Cells.{IsSameCell, IsUnchanged, HasSameTrail, OfLine, IsLineAt, HasFaultAt};
-    ghost use Rattle.walter_cell.specs.Written.{AreWrittenAt};
     ghost use Rattle.walter_cell.specs.Cells.{TurnsTo, Acts, MovesTo, arrival};
+    ghost use Rattle.walter_cell.specs.Written.{AreWrittenAt};
 
     /// A site over its disk, up in its first epoch. Where it doesn't begin the disk comes back.
     pub fn begin(
