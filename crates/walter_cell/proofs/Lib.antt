@@ -9,5 +9,6 @@ pub mod Openings
 pub mod Lines
 pub mod Taken
 pub mod Turns
+pub mod Written
 pub mod Coming
 pub mod Meeting

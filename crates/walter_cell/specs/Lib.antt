@@ -4,3 +4,4 @@ pub mod Handled
 pub mod Nodes
 pub mod Cells
 pub mod Builds
+pub mod Written

@@ -43,6 +43,7 @@ impl<D: Disk + Drop, S: Source + Drop, K: Sink + Drop> Cell<D, S, K> {
     ghost use Rattle.walter_engine.specs.Engines.{disk_in};
     ghost use Rattle.walter_cell.specs.Cells.{IsSameCell, IsUnchanged, HasSameTrail, OfLine, IsLineAt, HasFaultAt};
     ghost use Rattle.walter_cell.specs.Cells.{TurnsTo, Acts, MovesTo, arrival};
+    ghost use Rattle.walter_cell.specs.Written.{AreWrittenAt};
 
     /// A site over its disk, up in its first epoch. Where it doesn't begin the disk comes back.
     pub fn begin(
@@ -143,6 +144,9 @@ impl<D: Disk + Drop, S: Source + Drop, K: Sink + Drop> Cell<D, S, K> {
         ensures line { (bytes : List ℕ)
             → IsLineAt bytes (calls_of number self.old.node.entries.items) self.old.lines.items number
             → IsLineAt bytes (calls_of number self.new.node.entries.items) self.new.lines.items number }
+        // What a client is sent are the replies to its calls in the trail, in order.
+        ensures written { (first : List ℕ) → AreWrittenAt first number self.old.node.entries.items self.old.lines.items
+            → AreWrittenAt first number self.new.node.entries.items self.new.lines.items }
         ensures others { (other : ℕ) → other ≢ number
             → slice_get self.new.lines.items other ≡ slice_get self.old.lines.items other }
         ensures ins { self.new.ins ≡ self.old.ins }

@@ -232,23 +232,23 @@ module _ {D S K : Type 0} {g : Ghosts D} {s : SourceGhosts S} {k : SinkGhosts K}
 -- ---- how a run ends
 
 -- the end of a run, told by equal trails and an equal fault
-pub ends_with : (rack : Racked) (trace : Bool) (s : Scenario) (holds holds' : Option (List ℕ)) (faults faults' : ℕ)
+pub ends_with : (r : Racked) (trace : Bool) (s : Scenario) (holds holds' : Option (List ℕ)) (faults faults' : ℕ)
     (trails told : List (List Entry)) (fault named : Option Fault)
-    → EndsRun rack trace s holds holds' faults faults' trails fault → told ≡ trails → named ≡ fault
-    → EndsRun rack trace s holds holds' faults faults' told named
-ends_with rack trace s holds holds' faults faults' trails told fault named ends same_trails same_fault =
-    subst (λ (f : Option Fault). EndsRun rack trace s holds holds' faults faults' told f) (sym same_fault)
-    (subst (λ ts. EndsRun rack trace s holds holds' faults faults' ts fault) (sym same_trails) ends)
+    → EndsRun r trace s holds holds' faults faults' trails fault → told ≡ trails → named ≡ fault
+    → EndsRun r trace s holds holds' faults faults' told named
+ends_with r trace s holds holds' faults faults' trails told fault named ends same_trails same_fault =
+    subst (λ (f : Option Fault). EndsRun r trace s holds holds' faults faults' told f) (sym same_fault)
+    (subst (λ ts. EndsRun r trace s holds holds' faults faults' ts fault) (sym same_trails) ends)
 
 -- the end of a whole run whose report was not written whole
-pub ends_cut : (rack : Racked) (trace : Bool) (s : Scenario) (holds holds' : Option (List ℕ)) (faults faults' : ℕ)
+pub ends_cut : (r : Racked) (trace : Bool) (s : Scenario) (holds holds' : Option (List ℕ)) (faults faults' : ℕ)
     (trails : List (List Entry)) (fault : Fault)
-    → IsWholeRun rack s trails → IsWriteFault (text_of trace s trails) holds holds' faults faults' fault
-    → EndsRun rack trace s holds holds' faults faults' trails (Some fault)
-ends_cut rack trace s holds holds' faults faults' trails Write run why = (run, why.0, why.1)
-ends_cut rack trace s holds holds' faults faults' trails Memory run why = (inr run.run, why)
-ends_cut rack trace s holds holds' faults faults' trails Usage run why = absurd why
-ends_cut rack trace s holds holds' faults faults' trails (ScenarioFault place detail) run why = absurd why
-ends_cut rack trace s holds holds' faults faults' trails Read run why = absurd why
-ends_cut rack trace s holds holds' faults faults' trails (Rack site) run why = absurd why
-ends_cut rack trace s holds holds' faults faults' trails (Journal site cause place) run why = absurd why
+    → IsWholeRun r s trails → IsWriteFault (text_of trace s trails) holds holds' faults faults' fault
+    → EndsRun r trace s holds holds' faults faults' trails (Some fault)
+ends_cut r trace s holds holds' faults faults' trails Write run why = (run, why.0, why.1)
+ends_cut r trace s holds holds' faults faults' trails Memory run why = (inr run.run, why)
+ends_cut r trace s holds holds' faults faults' trails Usage run why = absurd why
+ends_cut r trace s holds holds' faults faults' trails (ScenarioFault place detail) run why = absurd why
+ends_cut r trace s holds holds' faults faults' trails Read run why = absurd why
+ends_cut r trace s holds holds' faults faults' trails (Rack site) run why = absurd why
+ends_cut r trace s holds holds' faults faults' trails (Journal site cause place) run why = absurd why

@@ -73,7 +73,7 @@ returns-in-Err-clause-unbuilt g c =
     let few = c.requires.few in
     let many = was.0 in
     subst (λ (f : Fault). EndsEarly (racked g.R.D.Disk a d) c.args.scenario.now.catalog.sites f) (sym c.unbegun.ensures)
-    (ends_unbuilt g.R.D.Disk a b d disks (record { disks = c.in-Err.disks; site = c.in-Err.site; why = c.in-Err.why })
+    (ends_unbuilt g.R.D.Disk a b d disks c.in-Err.field-0
     (record {
       told = was.1.told;
       fresh = was.1.fresh;
@@ -83,4 +83,4 @@ returns-in-Err-clause-unbuilt g c =
       long = why.all_back;
       gives = gives;
     }) c.args.scenario.now.catalog.sites many why c.in-Err.ensures.leaves
-    (λ enough. sure_back g.R.D.Disk a b d disks c.in-Err.disks.items was.1 gives why.all_back (omega (arith, many, few)) enough))
+    (λ enough. sure_back g.R.D.Disk a b d disks c.in-Err.field-0.disks.items was.1 gives why.all_back (omega (arith, many, few)) enough))

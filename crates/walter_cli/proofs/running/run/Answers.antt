@@ -53,14 +53,14 @@ module _ (g : Over) (c : After-give_all-given g) where
   abbrev trails : List (List Entry)
   trails = c.close-trails.result.trails.items
 
-  built : IsBuilt before mid c.args.scenario.now c.in-Ok-build_over.bench
-  built = c.in-Ok-build_over.ensures.built
+  built : IsBuilt before mid c.args.scenario.now c.in-Ok.bench
+  built = c.in-Ok.ensures.built
 
   run : IsRun rack c.args.scenario.now trails
   run =
       let played = c.play-played.ensures in
       let closed = c.close-trails.ensures in
-      run_is c.args.scenario.now before mid after c.in-Ok-build_over.bench c.play-played.new.bench
+      run_is c.args.scenario.now before mid after c.in-Ok.bench c.play-played.new.bench
       c.close-trails.result.disks.items trails built played.bench played.known played.connected played.arms
       closed.gives.trails closed.gives.disks closed.linked c.give_all-given.ensures.given c.requires.whole
 
@@ -70,7 +70,7 @@ module _ (g : Over) (c : After-give_all-given g) where
   whole to_end same =
       let played = c.play-played.ensures in
       let closed = c.close-trails.ensures in
-      whole_is c.args.scenario.now before mid after c.in-Ok-build_over.bench c.play-played.new.bench
+      whole_is c.args.scenario.now before mid after c.in-Ok.bench c.play-played.new.bench
       c.close-trails.result.disks.items trails built played.bench played.known played.connected played.arms
       closed.gives.trails closed.gives.disks closed.linked c.give_all-given.ensures.given c.requires.whole
       (ok_part c.play-played.result _ played.played to_end) (ok_part c.play-played.result _ played.armed to_end) same
@@ -79,7 +79,7 @@ module _ (g : Over) (c : After-give_all-given g) where
   came_back =
       let played = c.play-played.ensures in
       let closed = c.close-trails.ensures in
-      returned c.args.scenario.now before mid after c.in-Ok-build_over.bench c.play-played.new.bench
+      returned c.args.scenario.now before mid after c.in-Ok.bench c.play-played.new.bench
       c.close-trails.result.disks.items trails built played.bench played.known played.connected played.arms
       closed.gives.trails closed.gives.disks closed.linked c.give_all-given.ensures.given
 
@@ -146,3 +146,23 @@ pub write_report-requires-clause-records : goal.write_report-requires-clause-rec
 write_report-requires-clause-records g c =
     subst HaveSpellings (sym c.deref.ensures.value) (spelled g (goal.at.write_report-requires-clause-records g c).After-give_all-given)
 
+-- the report was written whole
+pub returns-in-Ok-write_report-clause-run : goal.returns-in-Ok-write_report-clause-run
+returns-in-Ok-write_report-clause-run g c =
+    let at = (goal.at.returns-in-Ok-write_report-clause-run g c).After-give_all-given in
+    let is_whole = whole g at (sym c.is_err.ensures.value ∙ c.if-is_err.false) c.in_default.ensures.ok in
+    let written = subst (λ (ts : List (List Entry)). Appends (g.K.Sink.holds c.args.sink.now) (g.K.Sink.holds c.write_report.new.sink) (text_of c.args.traced c.args.scenario.now ts))
+    c.deref.ensures.value c.in-Ok-write_report.ensures.ok in
+    ends_with _ c.args.traced c.args.scenario.now _ _ _ _ (trails g at) _ None _ (is_whole, written)
+    (ap (λ (v : Vec Trail Global). v.items) c.late-in-Ok-write_report.ensures.trails) c.late-in-Ok-write_report.ensures.fault
+
+-- it was not
+pub returns-in-Err-write_report-clause-run : goal.returns-in-Err-write_report-clause-run
+returns-in-Err-write_report-clause-run g c =
+    let at = (goal.at.returns-in-Err-write_report-clause-run g c).After-give_all-given in
+    let is_whole = whole g at (sym c.is_err.ensures.value ∙ c.if-is_err.false) c.in_default.ensures.ok in
+    let why = subst (λ (ts : List (List Entry)). IsWriteFault (text_of c.args.traced c.args.scenario.now ts) (g.K.Sink.holds c.args.sink.now) (g.K.Sink.holds c.write_report.new.sink)
+    (g.K.Sink.faults c.args.sink.now) (g.K.Sink.faults c.write_report.new.sink) c.in-Err-write_report.fault) c.deref.ensures.value c.in-Err-write_report.ensures.fault in
+    ends_with _ c.args.traced c.args.scenario.now _ _ _ _ (trails g at) _ (Some c.in-Err-write_report.fault) _
+    (ends_cut _ c.args.traced c.args.scenario.now _ _ _ _ (trails g at) c.in-Err-write_report.fault is_whole why)
+    (ap (λ (v : Vec Trail Global). v.items) c.late-in-Err-write_report.ensures.trails) c.late-in-Err-write_report.ensures.fault

@@ -121,7 +121,7 @@ returns-in_ok-turn-in-Call-clause-took g c =
       there = client.1;
       answer = c.in_ok-turn-in-Call.field-0;
       turns = turn_is client.0.site c.in-Call.client client.0.bytes _ _ _ c.in_ok-turn-in-Call.field-0
-          (λ failed. elim failed.2 [ | inl rose ↦ omega (arith, rose) | inr rose ↦ omega (arith, rose) ])
+          (λ failed. elim failed.2 [ inl rose ↦ omega (arith, rose) | inr rose ↦ omega (arith, rose) ])
           (c.in_ok-turn-in-Call.ensures.turns t client.0 c.requires.bench c.requires.connected client.1);
       drops = λ known. c.turn.ensures.drops t client.0 c.requires.bench c.requires.met client.1 known;
     })
@@ -218,4 +218,3 @@ returns-in_ok-restart-in-Restart-clause-armed g c =
 pub returns-in_ok-restart-in-Restart-clause-arms : goal.returns-in_ok-restart-in-Restart-clause-arms
 returns-in_ok-restart-in-Restart-clause-arms g c =
     more_none c.args.bench.now c.restart.new.self _ (armed_none c.args.bench.now c.restart.new.self c.restart.ensures.arms)
-

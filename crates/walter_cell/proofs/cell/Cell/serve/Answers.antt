@@ -1,11 +1,15 @@
-use Rattle.std.proofs.Common.{◌++◌, ◌∷◌, [], ◌∙◌, sym, arith, Some, inl, inr}
+use Rattle.std.proofs.Common.{◌++◌, ◌∷◌, [], ◌∙◌, sym, ap, arith, Some, inl, inr}
 use Rattle.std.proofs.lemmas.Option.{slice_get_within}
+use Rattle.walter_conn.specs.Calls.{Incoming}
+use Rattle.walter_conn.specs.declared.next.Next.TheVariants.{Ended, Broken}
+use Rattle.walter_rules.specs.declared.entry.Entry.{Entry}
 use Rattle.walter_trail.specs.Calls.{calls_of}
 use Rattle.walter_cell.specs.Cells.{HasFault}
 use Rattle.walter_cell.proofs.Lines.{none_there, of_failed, line_at, line_set, line_kept, line_entries, set_there}
 use Rattle.walter_cell.proofs.Turns.{known_ready, place_found, line_used}
 use Rattle.walter_cell.proofs.Turns.{served_grows, served_mets, served_cell, served_known, served_drops}
 use Rattle.walter_cell.proofs.Turns.{served_call, served_line}
+use Rattle.walter_cell.proofs.Written.{last_came, written_entries, written_same, written_left, written_call}
 use Rattle.walter_cell.proofs.cell.Cell.serve.Goals as goal
 
 pub index_mut-requires : goal.index_mut-requires
@@ -27,8 +31,10 @@ returns-in_err-make_ready-clause-known g c = λ catalog capacity i cell known.
 pub returns-in_err-make_ready-clause-comes : goal.returns-in_err-make_ready-clause-comes
 returns-in_err-make_ready-clause-comes g c = inl c.in_err-make_ready.ensures.same.entries
 
-pub returns-in_err-make_ready-clause-comes : goal.returns-in_err-make_ready-clause-comes
-returns-in_err-make_ready-clause-comes g c = inl c.in_err-make_ready.ensures.same.entries
+pub returns-in_err-make_ready-clause-written : goal.returns-in_err-make_ready-clause-written
+returns-in_err-make_ready-clause-written g c = λ first are.
+    written_entries first c.args.number c.args.self.now.node.entries.items c.make_ready.new.self.entries.items
+    c.args.self.now.lines.items c.in_err-make_ready.ensures.same.entries are
 
 pub returns-in_err-make_ready-clause-line : goal.returns-in_err-make_ready-clause-line
 returns-in_err-make_ready-clause-line g c = λ bytes is.
@@ -38,14 +44,6 @@ returns-in_err-make_ready-clause-line g c = λ bytes is.
 pub returns-in_err-next_call-clause-known : goal.returns-in_err-next_call-clause-known
 returns-in_err-next_call-clause-known g c = λ catalog capacity i cell known.
     known_ready catalog capacity i c.args.self.now.node c.make_ready.new.self c.in_ok-make_ready.ensures.same known
-
-pub returns-in_err-next_call-clause-comes : goal.returns-in_err-next_call-clause-comes
-returns-in_err-next_call-clause-comes g c = inl c.in_ok-make_ready.ensures.same.entries
-
-pub returns-in_err-next_call-clause-stays : goal.returns-in_err-next_call-clause-stays
-returns-in_err-next_call-clause-stays g c =
-    line_set (λ line. Unit {0}) c.args.self.now.lines.items c.args.number c.next_call.new.line
-    (slice_get_within c.args.self.now.lines.items c.args.number _ c.requires.there.1) tt
 
 pub returns-in_err-next_call-clause-comes : goal.returns-in_err-next_call-clause-comes
 returns-in_err-next_call-clause-comes g c = inl c.in_ok-make_ready.ensures.same.entries
@@ -66,6 +64,13 @@ returns-in_err-next_call-clause-line g c = λ bytes is.
     c.in_ok-make_ready.ensures.same.entries (slice_get_within lines number _ c.requires.there.1)
     (line_kept bytes (calls_of number old) c.in-Some-index_mut.line c.next_call.new.line before
     c.in_err-next_call.ensures.same c.in_err-next_call.ensures.sink)
+
+pub returns-in_err-next_call-clause-written : goal.returns-in_err-next_call-clause-written
+returns-in_err-next_call-clause-written g c = λ first are.
+    written_same first c.args.number c.args.self.now.node.entries.items c.make_ready.new.self.entries.items
+    c.args.self.now.lines.items c.index_mut.result.now c.in-Some-index_mut.line are c.index_mut.ensures.value
+    c.in-Some-index_mut.is c.next_call.new.line c.in_ok-make_ready.ensures.same.entries
+    (λ broken. ap (λ (x : Incoming). x.state) c.in_err-next_call.ensures.same ∙ broken) c.in_err-next_call.ensures.sink
 
 pub returns-in_err-next_call-clause-others : goal.returns-in_err-next_call-clause-others
 returns-in_err-next_call-clause-others g c = λ other apart.
@@ -95,14 +100,6 @@ returns-in-Ended-clause-stays g c =
     line_set (λ line. Unit {0}) c.args.self.now.lines.items c.args.number c.next_call.new.line
     (slice_get_within c.args.self.now.lines.items c.args.number _ c.requires.there.1) tt
 
-pub returns-in-Ended-clause-comes : goal.returns-in-Ended-clause-comes
-returns-in-Ended-clause-comes g c = inl c.in_ok-make_ready.ensures.same.entries
-
-pub returns-in-Ended-clause-stays : goal.returns-in-Ended-clause-stays
-returns-in-Ended-clause-stays g c =
-    line_set (λ line. Unit {0}) c.args.self.now.lines.items c.args.number c.next_call.new.line
-    (slice_get_within c.args.self.now.lines.items c.args.number _ c.requires.there.1) tt
-
 pub returns-in-Ended-clause-line : goal.returns-in-Ended-clause-line
 returns-in-Ended-clause-line g c = λ bytes is.
     let lines = c.args.self.now.lines.items in
@@ -113,6 +110,13 @@ returns-in-Ended-clause-line g c = λ bytes is.
     let left = (rw c.in-Ended.is at c.in_ok-next_call.ensures.next) bytes (calls_of number old) before in
     line_used bytes number old c.make_ready.new.self.entries.items lines c.next_call.new.line
     c.in_ok-make_ready.ensures.same.entries (slice_get_within lines number _ c.requires.there.1) left.0
+
+pub returns-in-Ended-clause-written : goal.returns-in-Ended-clause-written
+returns-in-Ended-clause-written g c = λ first are.
+    written_left first c.args.number c.args.self.now.node.entries.items c.make_ready.new.self.entries.items
+    c.args.self.now.lines.items c.index_mut.result.now c.in-Some-index_mut.line are c.index_mut.ensures.value
+    c.in-Some-index_mut.is c.next_call.new.line c.in_ok-make_ready.ensures.same.entries
+    Ended (rw c.in-Ended.is at c.in_ok-next_call.ensures.answer) c.in_ok-next_call.ensures.sink
 
 pub returns-in-Ended-clause-others : goal.returns-in-Ended-clause-others
 returns-in-Ended-clause-others g c = λ other apart.
@@ -160,6 +164,13 @@ returns-in-Broken-clause-line g c = λ bytes is.
     let left = (rw c.in-Broken.is at c.in_ok-next_call.ensures.next) bytes (calls_of number old) before in
     line_used bytes number old c.make_ready.new.self.entries.items lines c.next_call.new.line
     c.in_ok-make_ready.ensures.same.entries (slice_get_within lines number _ c.requires.there.1) left.0
+
+pub returns-in-Broken-clause-written : goal.returns-in-Broken-clause-written
+returns-in-Broken-clause-written g c = λ first are.
+    written_left first c.args.number c.args.self.now.node.entries.items c.make_ready.new.self.entries.items
+    c.args.self.now.lines.items c.index_mut.result.now c.in-Some-index_mut.line are c.index_mut.ensures.value
+    c.in-Some-index_mut.is c.next_call.new.line c.in_ok-make_ready.ensures.same.entries
+    Broken (rw c.in-Broken.is at c.in_ok-next_call.ensures.answer) c.in_ok-next_call.ensures.sink
 
 pub returns-in-Broken-clause-others : goal.returns-in-Broken-clause-others
 returns-in-Broken-clause-others g c = λ other apart.
@@ -215,19 +226,6 @@ returns-in_default-last-clause-stays g c =
     line_set (λ line. Unit {0}) c.args.self.now.lines.items c.args.number c.put_reply.new.line
     (slice_get_within c.args.self.now.lines.items c.args.number _ c.requires.there.1) tt
 
-pub returns-in_default-last-clause-comes : goal.returns-in_default-last-clause-comes
-returns-in_default-last-clause-comes g c =
-    let old : Cell g.row.D.Denot g.row.S.Denot g.row.K.Denot g.D.Disk g.S.Source g.K.Sink = c.args.self.now in
-    let new : Cell g.row.D.Denot g.row.S.Denot g.row.K.Denot g.D.Disk g.S.Source g.K.Sink =
-    record { node = c.take.new.self; ins = old.ins; lines = with_item old.lines c.args.number (Some c.put_reply.new.line) } in
-    let ev : Event = event.Given (input.Call c.args.number c.in-Frame.call) in
-    inr (c.in-Frame.call, grows_taken old c.make_ready.new.self new c.in-Some.stamp ev c.in_ok-make_ready.ensures.same c.take.ensures.takes)
-
-pub returns-in_default-last-clause-stays : goal.returns-in_default-last-clause-stays
-returns-in_default-last-clause-stays g c =
-    line_set (λ line. Unit {0}) c.args.self.now.lines.items c.args.number c.put_reply.new.line
-    (slice_get_within c.args.self.now.lines.items c.args.number _ c.requires.there.1) tt
-
 pub returns-in_default-last-clause-line : goal.returns-in_default-last-clause-line
 returns-in_default-last-clause-line g c = λ bytes is.
     let lines = c.args.self.now.lines.items in
@@ -240,6 +238,21 @@ returns-in_default-last-clause-line g c = λ bytes is.
     c.in-Frame.call c.in-Some.stamp c.in-Some.ensures.some c.in_ok-make_ready.ensures.same c.take.ensures.takes
     bytes (slice_get_within lines number _ c.requires.there.1)
     (c.put_reply.ensures.kept bytes (calls_of number old ++ c.in-Frame.call ∷ []) left)
+
+pub returns-in_default-last-clause-written : goal.returns-in_default-last-clause-written
+returns-in_default-last-clause-written g c = λ first are.
+    let old = c.args.self.now.node.entries.items in
+    let new = c.take.new.self.entries.items in
+    let grows = served_grows c.args.self.now c.make_ready.new.self c.take.new.self c.put_reply.new.line c.args.number
+    c.in-Frame.call c.in-Some.stamp c.in-Some.ensures.some c.in_ok-make_ready.ensures.same c.take.ensures.takes in
+    let last = last_came old c.deref.result.now grows.0 c.in-Some-last.entry.now
+    (c.deref.ensures.value ∙ grows.1) (sym (rw c.in-Some-last.is at c.last.ensures.value)) in
+    written_call first c.args.number old new c.args.self.now.lines.items c.index_mut.result.now
+    c.in-Some-index_mut.line are c.index_mut.ensures.value c.in-Some-index_mut.is c.next_call.new.line
+    c.put_reply.new.line c.in-Frame.call grows.0 c.in-Some-last.entry.now.came.outcome grows.1 grows.2
+    (ap (λ (e : Entry). e.came.outcome) last) (rw c.in-Frame.is at c.in_ok-next_call.ensures.answer)
+    c.in_ok-next_call.ensures.sink (rw c.in-Frame.is at c.in_ok-next_call.ensures.ready) c.put_reply.result
+    c.put_reply.ensures.written c.put_reply.ensures.cut
 
 pub returns-in_default-last-clause-others : goal.returns-in_default-last-clause-others
 returns-in_default-last-clause-others g c = λ other apart.
@@ -295,19 +308,6 @@ returns-in-Some-last-clause-stays g c =
     line_set (λ line. Unit {0}) c.args.self.now.lines.items c.args.number c.put_reply.new.line
     (slice_get_within c.args.self.now.lines.items c.args.number _ c.requires.there.1) tt
 
-pub returns-in-Some-last-clause-comes : goal.returns-in-Some-last-clause-comes
-returns-in-Some-last-clause-comes g c =
-    let old : Cell g.row.D.Denot g.row.S.Denot g.row.K.Denot g.D.Disk g.S.Source g.K.Sink = c.args.self.now in
-    let new : Cell g.row.D.Denot g.row.S.Denot g.row.K.Denot g.D.Disk g.S.Source g.K.Sink =
-    record { node = c.take.new.self; ins = old.ins; lines = with_item old.lines c.args.number (Some c.put_reply.new.line) } in
-    let ev : Event = event.Given (input.Call c.args.number c.in-Frame.call) in
-    inr (c.in-Frame.call, grows_taken old c.make_ready.new.self new c.in-Some.stamp ev c.in_ok-make_ready.ensures.same c.take.ensures.takes)
-
-pub returns-in-Some-last-clause-stays : goal.returns-in-Some-last-clause-stays
-returns-in-Some-last-clause-stays g c =
-    line_set (λ line. Unit {0}) c.args.self.now.lines.items c.args.number c.put_reply.new.line
-    (slice_get_within c.args.self.now.lines.items c.args.number _ c.requires.there.1) tt
-
 pub returns-in-Some-last-clause-line : goal.returns-in-Some-last-clause-line
 returns-in-Some-last-clause-line g c = λ bytes is.
     let lines = c.args.self.now.lines.items in
@@ -320,6 +320,21 @@ returns-in-Some-last-clause-line g c = λ bytes is.
     c.in-Frame.call c.in-Some.stamp c.in-Some.ensures.some c.in_ok-make_ready.ensures.same c.take.ensures.takes
     bytes (slice_get_within lines number _ c.requires.there.1)
     (c.put_reply.ensures.kept bytes (calls_of number old ++ c.in-Frame.call ∷ []) left)
+
+pub returns-in-Some-last-clause-written : goal.returns-in-Some-last-clause-written
+returns-in-Some-last-clause-written g c = λ first are.
+    let old = c.args.self.now.node.entries.items in
+    let new = c.take.new.self.entries.items in
+    let grows = served_grows c.args.self.now c.make_ready.new.self c.take.new.self c.put_reply.new.line c.args.number
+    c.in-Frame.call c.in-Some.stamp c.in-Some.ensures.some c.in_ok-make_ready.ensures.same c.take.ensures.takes in
+    let last = last_came old c.deref.result.now grows.0 c.in-Some-last.entry.now
+    (c.deref.ensures.value ∙ grows.1) (sym (rw c.in-Some-last.is at c.last.ensures.value)) in
+    written_call first c.args.number old new c.args.self.now.lines.items c.index_mut.result.now
+    c.in-Some-index_mut.line are c.index_mut.ensures.value c.in-Some-index_mut.is c.next_call.new.line
+    c.put_reply.new.line c.in-Frame.call grows.0 c.in-Some-last.entry.now.came.outcome grows.1 grows.2
+    (ap (λ (e : Entry). e.came.outcome) last) (rw c.in-Frame.is at c.in_ok-next_call.ensures.answer)
+    c.in_ok-next_call.ensures.sink (rw c.in-Frame.is at c.in_ok-next_call.ensures.ready) c.put_reply.result
+    c.put_reply.ensures.written c.put_reply.ensures.cut
 
 pub returns-in-Some-last-clause-others : goal.returns-in-Some-last-clause-others
 returns-in-Some-last-clause-others g c = λ other apart.

@@ -1,0 +1,234 @@
+-- What is written to a client's connection.
+use Rattle.std.proofs.Common.{◌≡◌, ◌≢◌, ◌<◌, ◌+◌, ◌-◌, ◌++◌, ◌∷◌, ◌∙◌, [], ℕ, List, Option, Some, None, Result, Ok, Err}
+use Rattle.std.proofs.Common.{take, slice_get, slice_set, get_or, if◌then◌else◌}
+use Rattle.std.proofs.Common.{refl, ap, sym, subst, arith, inl, inr}
+use Rattle.std.specs.List.{concat}
+use Rattle.std.specs.Prelude.{IfSome, OnOk, OnErr, length}
+use Rattle.std.proofs.lemmas.Bool.{eq-eqb}
+use Rattle.std.proofs.lemmas.List.{append-nil, append_assoc, length-append}
+use Rattle.std.proofs.lemmas.List.Concat.{flat_map-append}
+use Rattle.std.proofs.lemmas.Option.{slice_get_within}
+use Rattle.walter_conn.specs.Calls.{Incoming, Answers, before, fault, cut}
+use Rattle.walter_conn.specs.Connections.{incoming, sink_of}
+use Rattle.walter_conn.specs.Frames.{Call, frame}
+use Rattle.walter_conn.specs.Outputs.{IsLost}
+use Rattle.walter_conn.specs.Outputs as outputs
+use Rattle.walter_reply.specs.Replies.{reply_spelled}
+use Rattle.walter_base.specs.declared.message.Reply.{Reply}
+use Rattle.walter_conn.specs.declared.conn.Conn.{Conn}
+use Rattle.walter_conn.specs.declared.next.Next.{Next}
+use Rattle.walter_conn.specs.declared.next.Next.TheVariants.{Frame, Ended, Broken}
+use Rattle.walter_conn.specs.declared.state.State.TheVariants as state
+use Rattle.walter_rules.specs.declared.entry.Entry.{Entry}
+use Rattle.walter_rules.specs.declared.event.Event.{Event}
+use Rattle.walter_rules.specs.declared.event.Event.TheVariants.{Given}
+use Rattle.walter_rules.specs.declared.event.Input.TheVariants.{Call as CallInput}
+use Rattle.walter_rules.specs.declared.outcome.Outcome.{Outcome}
+use Rattle.walter_rules.specs.declared.outcome.Outcome.TheVariants.{Replied}
+use Rattle.walter_stream.specs.Streams.{Appends}
+use Rattle.walter_stream.specs.declared.sink.Sink.{Ghosts as SinkGhosts}
+use Rattle.walter_stream.specs.declared.source.Source.{Ghosts as SourceGhosts}
+use Rattle.walter_cell.specs.Written.{framed_reply, framed_for, replies_to, IsHeld, AreWritten, AreWrittenAt}
+use Rattle.walter_cell.specs.Written.{IsCutOff}
+use Rattle.walter_psi.proofs.Lists.{slice_get-push}
+use Rattle.walter_cell.proofs.Lines.{at_place, line_set}
+
+if_some : {X : Type 0} (o : Option X) (P Q : X → Type 0) → ((x : X) → P x → Q x) → IfSome o P → IfSome o Q
+if_some None P Q by holds = tt
+if_some (Some x) P Q by holds = by x holds
+
+-- what is so of what a sink held is so behind bytes that it appends
+behind_bytes : (old new : Option (List ℕ)) (bytes : List ℕ) (P Q : List ℕ → Type 0) → Appends old new bytes
+    → ((held : List ℕ) → P held → Q (held ++ bytes)) → IfSome old P → IfSome new Q
+behind_bytes None new bytes P Q is by holds = subst (λ (o : Option (List ℕ)). IfSome o Q) (sym is) tt
+behind_bytes (Some held) new bytes P Q is by holds = subst (λ (o : Option (List ℕ)). IfSome o Q) (sym is) (by held holds)
+
+-- nothing is put behind what a sink held
+pub appends_none : (held : Option (List ℕ)) → Appends held held []
+appends_none None = refl
+appends_none (Some held) = ap (λ (l : List ℕ). Some l) (sym (append-nil held))
+
+-- the entry that came stands last
+pub last_came : (entries more : List Entry) (e x : Entry) → more ≡ entries ++ e ∷ []
+    → slice_get more (length more - 1) ≡ Some x → x ≡ e
+last_came entries more e x grown found =
+    let long : length more ≡ length entries + 1 = ap length grown ∙ length-append entries (e ∷ []) in
+    let at : length more - 1 ≡ length entries = omega (arith, long) in
+    let same : Some x ≡ Some e = sym found ∙ (ap (λ n. slice_get more n) at
+    ∙ (ap (λ (es : List Entry). slice_get es (length entries)) grown ∙ slice_get-push entries e)) in
+    cc
+
+-- a reply that a connection was given: all of it was written, or it was cut off
+module _ {S K : Type 0} {s : SourceGhosts S} {k : SinkGhosts K} (old new : Conn S K s k)
+    (unbroken : (incoming old).state ≢ state.Broken) (outcome : Outcome) (reply : Reply) (is : outcome ≡ Replied reply) where
+  framed : framed_reply outcome ≡ frame (reply_spelled reply) ∷ []
+  framed = ap (λ (o : Outcome). framed_reply o) is
+
+  pub put_whole : {X E : Type 0} (r : Result X E)
+      → OnOk r (Appends (k.holds (sink_of old)) (k.holds (sink_of new)) (frame (reply_spelled reply)))
+      → OnOk r (incoming new ≡ incoming old)
+      → OnOk r (Appends (k.holds (sink_of old)) (k.holds (sink_of new)) (concat (framed_reply outcome)) × (incoming new ≡ incoming old))
+  put_whole (Ok done) whole same =
+      let all : concat (framed_reply outcome) ≡ frame (reply_spelled reply) =
+      ap (λ (l : List (List ℕ)). concat l) framed ∙ append-nil (frame (reply_spelled reply)) in
+      (subst (λ (l : List ℕ). Appends (k.holds (sink_of old)) (k.holds (sink_of new)) l) (sym all) whole, same)
+  put_whole (Err e) whole same = tt
+
+  cut_off : IsLost k.holds k.faults (sink_of old) (sink_of new) (frame (reply_spelled reply)) (incoming old).state
+      → (incoming new).state ≡ state.Broken → IsCutOff k outcome (incoming new).state (sink_of old) (sink_of new)
+  cut_off (outputs.before broken same) now = absurd (unbroken broken)
+  cut_off (outputs.fault open_ front rose) now = record {
+    reply = frame (reply_spelled reply);
+    is = framed;
+    front = front;
+    broken = now;
+    failed = omega (arith, rose);
+  }
+
+  pub put_cut : {X E : Type 0} (r : Result X E)
+      → OnErr r (IsLost k.holds k.faults (sink_of old) (sink_of new) (frame (reply_spelled reply)) (incoming old).state)
+      → OnErr r (incoming new ≡ record (incoming old) { state = state.Broken })
+      → OnErr r (IsCutOff k outcome (incoming new).state (sink_of old) (sink_of new))
+  put_cut (Ok done) lost broken = tt
+  put_cut (Err e) lost broken = cut_off lost (ap (λ (x : Incoming). x.state) broken)
+
+concat-append : (xs ys : List (List ℕ)) → concat (xs ++ ys) ≡ concat xs ++ concat ys
+concat-append [] ys = refl
+concat-append (x ∷ xs) ys = ap (λ (l : List ℕ). x ++ l) (concat-append xs ys) ∙ sym (append_assoc x (concat xs) (concat ys))
+
+-- the replies to a client with one more call of it
+pub replies_more : (client : ℕ) (entries : List Entry) (e : Entry) (call : Call) → e.event ≡ Given (CallInput client call)
+    → replies_to client (entries ++ e ∷ []) ≡ replies_to client entries ++ framed_reply e.came.outcome
+replies_more client entries e call is =
+    flat_map-append (λ (z : Entry). framed_for client z.event z.came.outcome) entries (e ∷ [])
+    ∙ ap (λ xs. replies_to client entries ++ xs)
+    (append-nil (framed_for client e.event e.came.outcome)
+    ∙ (ap (λ (v : Event). framed_for client v e.came.outcome) is
+    ∙ ap (λ b. if b then framed_reply e.came.outcome else []) (eq-eqb client client refl)))
+
+-- a connection that is broken stays so
+pub stays_broken : (old new : Incoming) (next : Next) → Answers old new next → old.state ≡ state.Broken → new.state ≡ state.Broken
+stays_broken old new (Frame call) takes broken = let was = takes.was_open in absurd cc
+stays_broken old new Ended over broken = ap (λ (x : Incoming). x.state) over.same ∙ broken
+stays_broken old new Broken (before was same) broken = ap (λ (x : Incoming). x.state) same ∙ broken
+stays_broken old new Broken (fault was rose same now) broken = now
+stays_broken old new Broken (cut was ends now) broken = ap (λ (x : Incoming). x.state) now
+
+module _ {S K : Type 0} {s : SourceGhosts S} {k : SinkGhosts K} (first : List ℕ) (replies : List (List ℕ)) (old new : Conn S K s k)
+    (are : AreWritten k first replies (incoming old).state (sink_of old)) where
+  -- nothing was written to it
+  pub written_kept : ((incoming old).state ≡ state.Broken → (incoming new).state ≡ state.Broken) → sink_of new ≡ sink_of old
+      → AreWritten k first replies (incoming new).state (sink_of new)
+  written_kept stays sinks =
+      subst (λ (x : K). AreWritten k first replies (incoming new).state x) (sym sinks)
+      (if_some (k.holds (sink_of old)) _ _ by are)
+    where
+      by : (held : List ℕ)
+          → IsHeld k first replies (incoming old).state (sink_of old) held
+          → IsHeld k first replies (incoming new).state (sink_of old) held
+      by held (inl whole) = inl whole
+      by held (inr short) = inr (stays short.0, short.1, short.2)
+
+  pub written_next : (next : Next) → Answers (incoming old) (incoming new) next → sink_of new ≡ sink_of old
+      → AreWritten k first replies (incoming new).state (sink_of new)
+  written_next next answers sinks = written_kept (stays_broken (incoming old) (incoming new) next answers) sinks
+
+  module _ (unbroken : (incoming old).state ≢ state.Broken) (outcome : Outcome) where
+    -- a reply was written to it, where an outcome is one
+    pub written_more : Appends (k.holds (sink_of old)) (k.holds (sink_of new)) (concat (framed_reply outcome))
+        → AreWritten k first (replies ++ framed_reply outcome) (incoming new).state (sink_of new)
+    written_more appends = behind_bytes (k.holds (sink_of old)) (k.holds (sink_of new)) (concat (framed_reply outcome)) _ _ appends by are
+      where
+        by : (held : List ℕ)
+            → IsHeld k first replies (incoming old).state (sink_of old) held
+            → IsHeld k first (replies ++ framed_reply outcome) (incoming new).state (sink_of new)
+            (held ++ concat (framed_reply outcome))
+        by held (inl whole) =
+            inl (ap (λ (l : List ℕ). l ++ concat (framed_reply outcome)) whole
+            ∙ (append_assoc first (concat replies) (concat (framed_reply outcome))
+            ∙ ap (λ (l : List ℕ). first ++ l) (sym (concat-append replies (framed_reply outcome)))))
+        by held (inr short) = absurd (unbroken short.0)
+
+    -- or it was cut off
+    pub written_short : IsCutOff k outcome (incoming new).state (sink_of old) (sink_of new)
+        → AreWritten k first (replies ++ framed_reply outcome) (incoming new).state (sink_of new)
+    written_short off =
+        behind_bytes (k.holds (sink_of old)) (k.holds (sink_of new)) (take off.front.0 off.reply) _ _ off.front.2 by are
+      where
+        by : (held : List ℕ)
+            → IsHeld k first replies (incoming old).state (sink_of old) held
+            → IsHeld k first (replies ++ framed_reply outcome) (incoming new).state (sink_of new)
+            (held ++ take off.front.0 off.reply)
+        by held (inl whole) = inr (
+          off.broken,
+          off.failed,
+          record {
+            whole = replies;
+            last = off.reply;
+            count = off.front.0;
+            replies_are = ap (λ (l : List (List ℕ)). replies ++ l) off.is;
+            held_is = ap (λ (l : List ℕ). l ++ take off.front.0 off.reply) whole
+                ∙ append_assoc first (concat replies) (take off.front.0 off.reply);
+          },
+        )
+        by held (inr short) = absurd (unbroken short.0)
+
+    -- the one or the other
+    pub written_put : {X E : Type 0} (r : Result X E)
+        → OnOk r (Appends (k.holds (sink_of old)) (k.holds (sink_of new)) (concat (framed_reply outcome)) × (incoming new ≡ incoming old))
+        → OnErr r (IsCutOff k outcome (incoming new).state (sink_of old) (sink_of new))
+        → AreWritten k first (replies ++ framed_reply outcome) (incoming new).state (sink_of new)
+    written_put (Ok done) whole off = written_more whole.0
+    written_put (Err e) whole off = written_short off
+
+-- with a trail that is the same
+pub written_entries : {S K : Type 0} {s : SourceGhosts S} {k : SinkGhosts K} (first : List ℕ) (number : ℕ)
+    (entries more : List Entry) (lines : List (Option (Conn S K s k))) → more ≡ entries
+    → AreWrittenAt first number entries lines → AreWrittenAt first number more lines
+written_entries {S = S} {K = K} {s = s} {k = k} first number entries more lines same are =
+    subst (λ (es : List Entry). AreWrittenAt {S = S} {K = K} {s = s} {k = k} first number es lines) (sym same) are
+
+-- a client's turn
+module _ {S K : Type 0} {s : SourceGhosts S} {k : SinkGhosts K} (first : List ℕ) (number : ℕ) (entries more : List Entry)
+    (lines : List (Option (Conn S K s k))) (found : Option (Conn S K s k)) (line : Conn S K s k)
+    (are : AreWrittenAt first number entries lines) (at : found ≡ get_or lines number found) (some : found ≡ Some line) where
+  within : number < length lines
+  within = slice_get_within lines number _ are.1
+
+  -- the replies that were written to its connection
+  here : AreWritten k first (replies_to number entries) (incoming line).state (sink_of line)
+  here =
+      let same : Some are.0 ≡ Some line = at_place lines number (Some are.0) found are.1 at ∙ some in
+      let e : are.0 ≡ line = cc in
+      subst (λ (l : Conn S K s k). AreWritten k first (replies_to number entries) (incoming l).state (sink_of l)) e are.2
+
+  -- it was not answered
+  pub written_same : (new : Conn S K s k) → more ≡ entries
+      → ((incoming line).state ≡ state.Broken → (incoming new).state ≡ state.Broken) → sink_of new ≡ sink_of line
+      → AreWrittenAt first number more (slice_set lines number (Some new))
+  written_same new same stays sinks =
+      subst (λ (es : List Entry). AreWrittenAt {S = S} {K = K} {s = s} {k = k} first number es (slice_set lines number (Some new))) (sym same)
+      (line_set (λ l. AreWritten k first (replies_to number entries) (incoming l).state (sink_of l)) lines number new within
+      (written_kept first (replies_to number entries) line new here stays sinks))
+
+  -- no call followed
+  pub written_left : (new : Conn S K s k) → more ≡ entries → (next : Next) → Answers (incoming line) (incoming new) next
+      → sink_of new ≡ sink_of line → AreWrittenAt first number more (slice_set lines number (Some new))
+  written_left new same next answers sinks =
+      written_same new same (stays_broken (incoming line) (incoming new) next answers) sinks
+
+  -- its call was answered
+  pub written_call : (mid new : Conn S K s k) (call : Call) (e : Entry) (outcome : Outcome) → more ≡ entries ++ e ∷ []
+      → e.event ≡ Given (CallInput number call) → outcome ≡ e.came.outcome → Answers (incoming line) (incoming mid) (Frame call)
+      → sink_of mid ≡ sink_of line → (incoming mid).state ≢ state.Broken → {X E : Type 0} (r : Result X E)
+      → OnOk r (Appends (k.holds (sink_of mid)) (k.holds (sink_of new)) (concat (framed_reply outcome)) × (incoming new ≡ incoming mid))
+      → OnErr r (IsCutOff k outcome (incoming new).state (sink_of mid) (sink_of new))
+      → AreWrittenAt first number more (slice_set lines number (Some new))
+  written_call mid new call e outcome grown is came answers sinks unbroken r whole off =
+      let replies : replies_to number more ≡ replies_to number entries ++ framed_reply outcome =
+      ap (λ es. replies_to number es) grown ∙ (replies_more number entries e call is
+      ∙ ap (λ (o : Outcome). replies_to number entries ++ framed_reply o) (sym came)) in
+      line_set (λ l. AreWritten k first (replies_to number more) (incoming l).state (sink_of l)) lines number new within
+      (subst (λ (rs : List (List ℕ)). AreWritten k first rs (incoming new).state (sink_of new)) (sym replies)
+      (written_put first (replies_to number entries) mid new
+      (written_next first (replies_to number entries) line mid here (Frame call) answers sinks) unbroken outcome r whole off))

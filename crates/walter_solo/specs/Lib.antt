@@ -1,5 +1,0 @@
-pub mod Entries
-pub mod Debts
-pub mod Handled
-pub mod Cells
-pub mod Builds
