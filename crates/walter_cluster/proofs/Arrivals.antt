@@ -1,10 +1,10 @@
 -- The cells of all sites where all has arrived at one of them, and what the delivery of a packet comes to there.
-use Rattle.std.proofs.Common.{◌≡◌, ◌≢◌, ◌⊎◌, ℕ, zero, suc, ◌+◌, ◌<◌, ◌≤◌, ◌^◌, max, Bool, true, false, List, [], ◌∷◌, length, map, reverse, slice_get, refl, ap, sym, ◌∙◌, subst, arith, Option, Some, None, option_map, inl, inr, if◌then◌else◌}
+use Rattle.std.proofs.Common.{◌≡◌, ◌≢◌, ◌⊎◌, ℕ, zero, suc, ◌+◌, ◌<◌, ◌≤◌, ◌^◌, Bool, true, false, List, [], length, map, reverse, slice_get, refl, ap, sym, ◌∙◌, subst, arith, Option, Some, None, option_map, inl, inr, if◌then◌else◌}
 use Rattle.std.specs.Prelude.{All, Contains}
 use Rattle.std.proofs.Math.Path.{fun_ext}
 use Rattle.std.proofs.lemmas.Bool.{cases_lt}
 use Rattle.std.proofs.lemmas.List.{length-map}
-use Rattle.std.proofs.lemmas.List.Elements.{All-contains, All-weaker}
+use Rattle.std.proofs.lemmas.List.Elements.{All-contains}
 use Rattle.std.proofs.lemmas.Option.{slice_get-map, slice_get_within}
 use Rattle.walter_base.specs.declared.catalog.Catalog.{Catalog}
 use Rattle.walter_base.specs.declared.names.SiteId.{SiteId}
@@ -13,15 +13,14 @@ use Rattle.walter_base.specs.Names.{same_site}
 use Rattle.walter_cell.specs.declared.answers.Moved.{Moved}
 use Rattle.walter_cell.specs.declared.answers.Moved.TheVariants as moved
 use Rattle.walter_cell.specs.declared.cell.Cell.{Cell}
-use Rattle.walter_cell.specs.Cells.{IsCell, IsKnown, IsLineAt, HasPlace, MovesTo, arrival}
+use Rattle.walter_cell.specs.Cells.{IsKnown, IsLineAt, HasPlace, MovesTo, arrival}
 use Rattle.walter_cell.specs.Entries.{Grows, IsSpent}
 use Rattle.walter_cell.specs.Handled.{IsSized}
 use Rattle.walter_cell.specs.Nodes.{MayDrop}
-use Rattle.walter_conn.specs.declared.conn.Conn.{Conn}
 use Rattle.walter_disk.specs.declared.disk.Disk.{Ghosts}
 use Rattle.walter_lane.specs.Lanes.{Sending, Receiving}
 use Rattle.walter_lane.specs.declared.posted.Posted.{Posted}
-use Rattle.walter_outbox.specs.Lanes.{put_to, arrived_from, met_to, posted, ring_to, ring_from}
+use Rattle.walter_outbox.specs.Lanes.{put_to, arrived_from, met_to, posted}
 use Rattle.walter_packet.specs.Spelling.{HasPacketSpelling}
 use Rattle.walter_packet.proofs.Packets.{same_packet}
 use Rattle.walter_psi.proofs.Lists.{contains_at, Contains-flat_map_from}
@@ -33,14 +32,13 @@ use Rattle.walter_rules.specs.Merges.{Stamped, sent_to, put_out_to, trail_of}
 use Rattle.walter_rules.specs.Sending.{Send}
 use Rattle.walter_rules.specs.Trails.{clock}
 use Rattle.walter_rules.proofs.Membership.{given_from}
-use Rattle.walter_scenario.specs.declared.scenario.Client.{Client}
 use Rattle.walter_scenario.specs.declared.scenario.Scenario.{Scenario}
 use Rattle.walter_stream.specs.declared.sink.Sink.{Ghosts as SinkGhosts}
 use Rattle.walter_stream.specs.declared.source.Source.{Ghosts as SourceGhosts}
 use Rattle.walter_trail.specs.Calls.{calls_of}
-use Rattle.walter_cluster.specs.Benches.{IsOfSite, trails_of, outs_at, ins_at, AtEach, IsCellOf, AreConnected}
-use Rattle.walter_cluster.specs.Meetings.{put_at, arrived_at, HaveAllMet, HaveStayed, HasStayed, HasArrived, IsAsBefore}
-use Rattle.walter_cluster.specs.Moments.{moment_of, clock_at, ChangesAt, AllArrive, put_out_as, stamp_for, HandsOver, MovesAt, Drops, arrives as moves_after}
+use Rattle.walter_cluster.specs.Benches.{IsOfSite, trails_of, AtEach, IsCellOf, AreConnected}
+use Rattle.walter_cluster.specs.Meetings.{arrived_at, HaveAllMet, HaveStayed, HasStayed, HasArrived, IsAsBefore}
+use Rattle.walter_cluster.specs.Moments.{moment_of, clock_at, ChangesAt, AllArrive, put_out_as, HandsOver, MovesAt, Drops, arrives as moves_after}
 use Rattle.walter_cluster.proofs.Changes.{there_is, field_at, field_past, ChangesOne}
 use Rattle.walter_cluster.proofs.Meetings.{trails_stay, outs_ring, ins_ring}
 use Rattle.walter_cluster.proofs.Benches.{AreCells, changes_at, none_arrive, clock_was, trail_was, trail_now, drops_at}

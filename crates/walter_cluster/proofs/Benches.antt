@@ -1,16 +1,14 @@
 -- The cells of all sites, of which one is another.
-use Rattle.std.proofs.Common.{◌≡◌, ◌≢◌, ◌⊎◌, ℕ, ◌<◌, ◌≤◌, List, [], ◌∷◌, ◌++◌, length, map, reverse, get_or, set, slice_get, refl, ap, sym, ◌∙◌, subst, arith, Option, Some, None, option_map, Result, Ok, Err, true, inl, inr}
+use Rattle.std.proofs.Common.{◌≡◌, ◌≢◌, ◌⊎◌, ℕ, ◌<◌, List, [], ◌∷◌, ◌++◌, length, reverse, get_or, set, slice_get, refl, ap, sym, ◌∙◌, subst, arith, Option, Some, None, option_map, Result, Ok, Err, true, inl, inr}
 use Rattle.std.specs.Prelude.{slice_index_or, All, IfOk, IfSome, OnErr, is_some, vec_capacity}
 use Rattle.std.proofs.Math.Path.{fun_ext}
 use Rattle.std.proofs.lemmas.Bool.{cases_eq, ne_eqb}
 use Rattle.std.proofs.lemmas.List.{length-map, append-nil}
 use Rattle.std.proofs.lemmas.List.Concat.{flat_map-append}
 use Rattle.std.proofs.lemmas.List.Elements.{All-push, All-get_or}
-use Rattle.std.proofs.lemmas.Option.{slice_get_read, slice_get-map, slice_get_within, get_or_from_slice_get}
+use Rattle.std.proofs.lemmas.Option.{slice_get_read, slice_get-map, get_or_from_slice_get}
 use Rattle.walter_base.specs.declared.catalog.Catalog.{Catalog}
 use Rattle.walter_base.specs.declared.names.SiteId.{SiteId}
-use Rattle.walter_base.specs.declared.message.BadFrame.{BadFrame}
-use Rattle.walter_base.specs.declared.message.Request.{Request}
 use Rattle.walter_cell.specs.declared.answers.Acted.{Acted}
 use Rattle.walter_cell.specs.declared.answers.Acted.TheVariants as acted
 use Rattle.walter_cell.specs.declared.answers.Moved.{Moved}
@@ -30,7 +28,7 @@ use Rattle.walter_engine.specs.States.{disk_under, disk_of_state}
 use Rattle.walter_lane.specs.Lanes.{Sending, Receiving}
 use Rattle.walter_lane.specs.Rings.{Ring}
 use Rattle.walter_lane.specs.declared.posted.Posted.{Posted}
-use Rattle.walter_outbox.specs.Lanes.{arrived_from, mets, met_to, ring_to, ring_from, no_ring, out_rings, in_rings}
+use Rattle.walter_outbox.specs.Lanes.{arrived_from, mets, met_to, ring_to, ring_from, no_ring}
 use Rattle.walter_rules.specs.declared.entry.Entry.{Entry}
 use Rattle.walter_rules.specs.declared.event.Event.{Event}
 use Rattle.walter_rules.specs.declared.event.Event.TheVariants.{Given, Stop, Restart}
@@ -44,7 +42,7 @@ use Rattle.walter_stream.specs.declared.sink.Sink.{Ghosts as SinkGhosts}
 use Rattle.walter_stream.specs.declared.source.Source.{Ghosts as SourceGhosts}
 use Rattle.walter_trail.specs.Calls.{call_by, calls_of}
 use Rattle.walter_cluster.specs.declared.bench.Bench.{Bench}
-use Rattle.walter_cluster.specs.Benches.{IsOfSite, arms_under, trails_of, outs_at, ins_at, lines_at, arms_at, AtEach, IsCellOf, AreConnected, HasRoom, IsBench}
+use Rattle.walter_cluster.specs.Benches.{IsOfSite, arms_under, trails_of, outs_at, ins_at, lines_at, arms_at, AtEach, IsCellOf, AreConnected, IsBench}
 use Rattle.walter_cluster.specs.Meetings.{HaveAllMet, HaveLanes}
 use Rattle.walter_cluster.specs.Moments.{Moment, moment_of, clock_at, ChangesAt, NoneArrive, Drops, TurnsAt, ActsAt}
 use Rattle.walter_cluster.proofs.Changes.{one_there, there_is, field_at, ChangesOne, one_set, reads_same, others_same, field_kept}

@@ -1,14 +1,12 @@
 -- Cells of which nothing has changed, and what has arrived at each of them where it is a beginning of what was put.
-use Rattle.std.proofs.Common.{◌≡◌, ◌≢◌, ℕ, ◌+◌, ◌<◌, ◌≤◌, List, [], ◌∷◌, ◌++◌, length, map, reverse, slice_get, take, refl, ap, sym, ◌∙◌, subst, arith, Option, Some, None, below_more}
+use Rattle.std.proofs.Common.{◌≡◌, ◌≢◌, ℕ, ◌<◌, List, [], ◌∷◌, ◌++◌, length, map, reverse, slice_get, take, refl, ap, sym, ◌∙◌, subst, arith, Some}
 use Rattle.std.specs.Prelude.{All, slice_index_or}
-use Rattle.std.proofs.Math.Seq.{take-append_seam}
-use Rattle.std.proofs.lemmas.List.{length-map, map-append}
+use Rattle.std.proofs.lemmas.List.{length-map, map-append, take_at}
 use Rattle.std.proofs.lemmas.List.Elements.{All-weaker}
 use mathlib.Core.List.{IsPrefix}
 use Rattle.walter_cell.specs.declared.cell.Cell.{Cell}
 use Rattle.walter_cell.specs.Cells.{IsUnchanged}
 use Rattle.walter_cell.specs.Handled.{IsSized}
-use Rattle.walter_conn.specs.declared.conn.Conn.{Conn}
 use Rattle.walter_disk.specs.declared.disk.Disk.{Ghosts}
 use Rattle.walter_engine.specs.declared.engine.Engine.{Engine}
 use Rattle.walter_engine.specs.Engines.{disk_in}
@@ -29,12 +27,12 @@ use Rattle.walter_cluster.specs.declared.closing.Closed.{Closed}
 use Rattle.walter_cluster.specs.Benches.{trails_of, outs_at, ins_at, IsBench}
 use Rattle.walter_cluster.specs.Builds.{GivesBack}
 use Rattle.walter_cluster.specs.Meetings.{put_at, arrived_at, HaveLanes, Begins, AreUnchanged}
-use Rattle.walter_cluster.proofs.Changes.{there_is, field_at, ChangesOne, ChangesTwo, field_kept, second_was}
+use Rattle.walter_cluster.proofs.Changes.{there_is, field_at, ChangesOne, ChangesTwo, field_kept}
 use Rattle.walter_cluster.proofs.Benches.{AreCells, cells_of, lanes_of}
 
 -- what is taken of a list is its front
 pub taken_whole : {X : Type 0} (n : ℕ) (front rest xs : List X) → xs ≡ take n (front ++ rest) → length front ≡ n → xs ≡ front
-taken_whole n front rest xs is long = is ∙ (ap (λ m. take m (front ++ rest)) (sym long) ∙ take-append_seam front rest)
+taken_whole n front rest xs is long = is ∙ take_at front rest n long
 
 -- two lists that map to the same, each with one element more
 pub maps_pushed : {X Y Z : Type 0} (f : X → Y) (h : Z → Y) (old new : List X) (x : X) (zs : List Z) (z : Z) → new ≡ old ++ x ∷ [] → map f old ≡ map h zs → f x ≡ h z

@@ -1,6 +1,6 @@
 -- Cells that have stayed as they were, and two of them whose lane's ends have met.
-use Rattle.std.proofs.Common.{◌≡◌, ◌≢◌, ◌⊎◌, ℕ, ◌+◌, ◌<◌, ◌≤◌, List, [], length, map, slice_get, refl, ap, sym, ◌∙◌, subst, arith, Option, Some, None, option_map, Result, Ok, Err, true, inl, inr}
-use Rattle.std.specs.Prelude.{slice_index_or, OnOk, OnErr, is_some}
+use Rattle.std.proofs.Common.{◌≡◌, ◌≢◌, ◌⊎◌, ℕ, ◌+◌, ◌<◌, ◌≤◌, List, [], length, map, slice_get, refl, ap, sym, ◌∙◌, subst, arith, Some, None, option_map, Result, Ok, Err, inl, inr}
+use Rattle.std.specs.Prelude.{slice_index_or, OnOk, OnErr}
 use Rattle.std.proofs.lemmas.Bool.{cases_lt, cases_eq}
 use Rattle.std.proofs.lemmas.List.{length-map}
 use Rattle.std.proofs.lemmas.Option.{slice_get-map, slice_get_past, slice_get_within}
@@ -21,7 +21,7 @@ use Rattle.walter_stream.specs.declared.sink.Sink.{Ghosts as SinkGhosts}
 use Rattle.walter_stream.specs.declared.source.Source.{Ghosts as SourceGhosts}
 use Rattle.walter_cluster.specs.Benches.{trails_of, outs_at, ins_at, arms_under, arms_at}
 use Rattle.walter_cluster.specs.Meetings.{put_at, arrived_at, met_at, HaveLanes, HaveAllMet, HasStayed, HaveStayed, HasArrived, IsAsBefore}
-use Rattle.walter_cluster.proofs.Changes.{same_places, there_is, one_there, field_at, field_past, ChangesOne, reads_same, others_same, ChangesTwo, first_now, second_was, rest_same}
+use Rattle.walter_cluster.proofs.Changes.{same_places, there_is, one_there, field_at, field_past, reads_same, others_same, ChangesTwo, first_now, second_was, rest_same}
 
 -- as many ends, by their rings
 pub outs_long : (a b : List Sending) → out_rings a ≡ out_rings b → length a ≡ length b

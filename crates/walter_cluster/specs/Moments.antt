@@ -1,8 +1,7 @@
 -- What the trails of all sites are at a moment and how many packets have arrived, and what an event makes of it.
-use Rattle.std.specs.Prelude.{◌≡◌, ◌≢◌, ◌<◌, ◌≤◌, ◌⊎◌, ◌+◌, ◌∷◌, ◌++◌, max, ℕ, zero, suc, List, [], length, replicate, reverse, slice_get, Option, Some, None}
+use Rattle.std.specs.Prelude.{◌≡◌, ◌≢◌, ◌⊎◌, ◌+◌, ◌∷◌, max, ℕ, zero, suc, List, [], length, replicate, reverse, slice_get, Option, Some, None}
 use Rattle.walter_base.specs.declared.catalog.Catalog.{Catalog}
 use Rattle.walter_base.specs.declared.names.SiteId.{SiteId}
-use Rattle.walter_base.specs.declared.packet.Packet.{Packet}
 use Rattle.walter_cell.specs.declared.answers.Acted.{Acted}
 use Rattle.walter_cell.specs.declared.answers.Moved.{Moved}
 use Rattle.walter_cell.specs.declared.answers.Moved.TheVariants as moved

@@ -1,4 +1,4 @@
-use Rattle.std.proofs.Common.{◌≡◌, ◌≢◌, ◌<◌, ℕ, length, arith, below_more}
+use Rattle.std.proofs.Common.{◌≢◌, ◌<◌, ℕ, length, arith, below_more}
 use Rattle.walter_cluster.specs.Meetings.{Begins}
 use Rattle.walter_cluster.proofs.Closings.{unchanged_on, unchanged_long, lanes_unchanged, begins_before}
 use Rattle.walter_cluster.proofs.closing.compare_all.Goals as goal

@@ -1,4 +1,4 @@
-use Rattle.std.proofs.Common.{◌≡◌, ◌≢◌, ◌<◌, ◌++◌, length, set, get_or, sym, ap, ◌∙◌, subst, arith}
+use Rattle.std.proofs.Common.{◌++◌, set, get_or}
 use Rattle.walter_cluster.proofs.Changes.{both_up, both_down, second_was}
 use Rattle.walter_cluster.proofs.Meetings.{lane_there}
 use Rattle.walter_cluster.proofs.Closings.{two_unchanged, begins_at}

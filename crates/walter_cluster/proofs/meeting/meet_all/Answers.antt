@@ -1,4 +1,4 @@
-use Rattle.std.proofs.Common.{◌≡◌, ◌≢◌, ◌<◌, ◌+◌, length, arith}
+use Rattle.std.proofs.Common.{arith}
 use Rattle.walter_cluster.proofs.Meetings.{have_stayed_on, lanes_stay, arrived_more, before_more, before_kept, before_all}
 use Rattle.walter_cluster.proofs.meeting.meet_all.Goals as goal
 

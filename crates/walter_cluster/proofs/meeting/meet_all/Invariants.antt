@@ -1,4 +1,4 @@
-use Rattle.std.proofs.Common.{◌≡◌, ◌≢◌, ◌⊎◌, ◌<◌, ◌≤◌, ℕ, length}
+use Rattle.std.proofs.Common.{◌≡◌, ◌≢◌, ◌⊎◌, ◌<◌, ◌≤◌, ℕ}
 use Rattle.walter_cluster.specs.Meetings.{HaveAllMet, HaveStayed, HasArrived, IsAsBefore}
 use Rattle.walter_cluster.proofs.meeting.meet_all.Given as goal
 

@@ -1,7 +1,7 @@
-use Rattle.std.proofs.Common.{◌≡◌, ◌≢◌, ◌<◌, ◌++◌, length, set, get_or, sym, ap, ◌∙◌, subst, arith}
+use Rattle.std.proofs.Common.{◌++◌, set, get_or}
 use Rattle.std.proofs.lemmas.Result.{on_ok_weaker}
 use Rattle.walter_cluster.proofs.Changes.{both_up, both_down, second_was}
-use Rattle.walter_cluster.proofs.Meetings.{Meets, lane_there, receiver_stays, sender_stays, meet_stays, meet_arrives, meet_elsewhere, meet_met, have_stayed_self}
+use Rattle.walter_cluster.proofs.Meetings.{Meets, lane_there, receiver_stays, sender_stays, meet_stays, meet_arrives, meet_elsewhere, meet_met}
 use Rattle.walter_cluster.proofs.meeting.meet_one.Goals as goal
 
 pub meet-requires-clause-from : goal.meet-requires-clause-from

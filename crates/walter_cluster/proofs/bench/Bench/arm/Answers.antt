@@ -1,4 +1,4 @@
-use Rattle.std.proofs.Common.{◌≡◌, ◌<◌, ◌++◌, ◌∷◌, [], ℕ, List, length, set, refl, ap, sym, ◌∙◌, inl, arith, option_map}
+use Rattle.std.proofs.Common.{◌++◌, ◌∷◌, [], ℕ, List, set, refl, ap, sym, ◌∙◌, inl, arith, option_map}
 use Rattle.std.proofs.lemmas.Result.{on_ok_weaker, on_err_weaker}
 use Rattle.walter_outbox.specs.Lanes.{mets}
 use Rattle.walter_cluster.specs.Benches.{AreConnected}

@@ -1,4 +1,4 @@
-use Rattle.std.proofs.Common.{◌≡◌, ◌<◌, ◌+◌, ◌++◌, ◌≢◌, ◌⊎◌, ℕ, List, length, set, take, drop, refl, ap, sym, ◌∙◌, subst, arith, inl}
+use Rattle.std.proofs.Common.{◌≡◌, ◌<◌, ◌+◌, ◌++◌, ◌≢◌, ◌⊎◌, ℕ, length, set, take, drop, refl, ap, sym, ◌∙◌, subst, arith, inl}
 use Rattle.std.proofs.lemmas.List.{take_at}
 use Rattle.std.proofs.lemmas.Result.{IfOk-weaker, on_err_weaker}
 use Rattle.walter_cell.specs.declared.answers.Moved.{Moved}
@@ -10,7 +10,7 @@ use Rattle.walter_cluster.specs.Benches.{AreConnected, trails_of}
 use Rattle.walter_cluster.specs.Meetings.{HaveStayed, HaveAllMet, HaveLanes, HasArrived, IsAsBefore}
 use Rattle.walter_cluster.specs.Moments.{MovesAt, moment_of, at_once}
 use Rattle.walter_cluster.proofs.Meetings.{trails_stay, arms_stay}
-use Rattle.walter_cluster.proofs.Benches.{cells_of, lanes_of, bench_of, cells_kept, cell_quiet, known_kept, each_kept, connected_quiet, all_met_kept, drops_at, trails_kept, arms_kept, moved_quiet, one_at, on_err_so, clock_was, trail_was}
+use Rattle.walter_cluster.proofs.Benches.{cells_of, lanes_of, bench_of, cells_kept, cell_quiet, known_kept, each_kept, connected_quiet, all_met_kept, trails_kept, arms_kept, moved_quiet, one_at, on_err_so, clock_was, trail_was}
 use Rattle.walter_cluster.proofs.Arrivals.{cells_stay, connected_stays, known_stays, moves_at, drops_on, place_left}
 use Rattle.walter_cluster.proofs.bench.Bench.deliver.Goals as goal
 

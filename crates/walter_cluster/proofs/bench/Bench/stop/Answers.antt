@@ -1,9 +1,8 @@
-use Rattle.std.proofs.Common.{◌≡◌, ◌<◌, length, set, refl, arith}
+use Rattle.std.proofs.Common.{set, refl, arith}
 use Rattle.std.proofs.lemmas.Result.{IfOk-weaker, on_err_weaker}
 use Rattle.walter_cell.specs.declared.answers.Acted.{Acted}
 use Rattle.walter_cell.specs.Cells.{Acts}
 use Rattle.walter_rules.specs.declared.event.Event.TheVariants as event
-use Rattle.walter_rules.specs.declared.event.Input.TheVariants as input
 use Rattle.walter_cluster.specs.Benches.{AreConnected}
 use Rattle.walter_cluster.specs.Moments.{ActsAt, moment_of}
 use Rattle.walter_cluster.proofs.Benches.{cells_of, bench_of, cells_kept, cell_quiet, known_kept, each_kept, connected_quiet, all_met_kept, acts_at, drops_at, trails_kept, arms_kept, acted_quiet, one_at}
