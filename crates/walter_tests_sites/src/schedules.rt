@@ -163,7 +163,8 @@ impl Schedule {
         Ok(())
     }
 
-    // The next packet of the lane, where none was lost; or one of the last few; and sometimes an Advance.
+    // The next packet of the lane, or the one behind it where that is lost; or one of the last few, mostly again. Behind
+    // half of them comes an Advance.
     fn deliver(&mut self, to: u32, from: u32) -> Mem<()> {
         let place = place_of(to, from);
         let (put, mut heard) = (self.put[place], self.heard[place]);
@@ -231,8 +232,10 @@ impl Schedule {
 
     fn count_all(&mut self, trails: &[Trail]) {
         self.put = [0; 16];
-        for (site, trail) in trails.iter().enumerate() {
-            self.count(site as u32, trail);
+        let mut site = 0;
+        for trail in trails {
+            self.count(site, trail);
+            site = site.wrapping_add(1);
         }
     }
 }
