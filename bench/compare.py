@@ -132,10 +132,9 @@ def compare_unproved(folder, count):
     """Plays each scenario of the folder by one call of `rt try`, which compares what is written with the file of that name
     with `.stdout`."""
     tried = subprocess.run(["rt", "try", "--cases", folder, "--", "play", "--trace"], cwd=os.path.join(TOP, "crates", "walter"),
-                           capture_output=True, text=True)
+                           stdout=subprocess.PIPE, stderr=subprocess.STDOUT, text=True)
     if f"cases={count} ended={count} fault=0 differs=0 " not in tried.stdout:
-        other = [line for line in tried.stdout.splitlines() if "output=expected" not in line]
-        sys.exit("\n".join(other) + tried.stderr)
+        sys.exit("\n".join(line for line in tried.stdout.splitlines() if "output=expected" not in line))
 
 
 def main():
