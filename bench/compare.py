@@ -4,7 +4,8 @@
 They are those of generator.py: of one site and of several, one of ten made to come to a limit. Says how often each reply,
 reason of a refusal, outcome, record and packet was met, and each limit, with a number at it and with one above it; and which
 of these were not met. Ends with status 1 where a scenario differs, and prints its seed and the first line that does. With
---model the model plays alone, and nothing is compared; with --one-site the scenarios of several sites are left out.
+--unproved the program is run without any proof, by `rt try`, on all scenarios together, and what this says of each that
+differs is printed; with --model the model plays alone, and nothing is compared.
 """
 
 import argparse
@@ -12,6 +13,7 @@ import json
 import os
 import subprocess
 import sys
+import tempfile
 from collections import Counter
 
 import model
@@ -121,30 +123,48 @@ def compare(program, seed, made, expected):
         sys.exit(f"seed {seed}, status {played.returncode}\nplayed: {line[:300]}\nmodel:  {wanted[:300]}")
 
 
+def write_file(path, text):
+    with open(path, "w", encoding="utf-8") as file:
+        file.write(text)
+
+
+def compare_unproved(folder, count):
+    """Plays each scenario of the folder by one call of `rt try`, which compares what is written with the file of that name
+    with `.stdout`."""
+    tried = subprocess.run(["rt", "try", "--cases", folder, "--", "play", "--trace"], cwd=os.path.join(TOP, "crates", "walter"),
+                           stdout=subprocess.PIPE, stderr=subprocess.STDOUT, text=True)
+    if f"cases={count} ended={count} fault=0 differs=0 " not in tried.stdout:
+        sys.exit("\n".join(line for line in tried.stdout.splitlines() if "output=expected" not in line))
+
+
 def main():
     parser = argparse.ArgumentParser(description=__doc__, formatter_class=argparse.RawDescriptionHelpFormatter)
     parser.add_argument("--scenarios", type=int, default=1000, metavar="N", help="how many are played; 1000 without it")
     parser.add_argument("--seed", type=int, default=0, metavar="N", help="the seed of the first; 0 without it")
     parser.add_argument("--program", metavar="PATH", help="the program; without it that of this repository, which "
                         "./walter proves and builds first where that isn't done yet")
+    parser.add_argument("--unproved", action="store_true", help="run the program without a proof, which takes a second "
+                        "for each scenario, and a minute before")
     parser.add_argument("--model", action="store_true", help="play the model alone")
-    parser.add_argument("--one-site", action="store_true", help="leave out the seeds whose scenarios have several sites, "
-                        "which the program doesn't run yet")
     words = parser.parse_args()
-    program, met = None if words.model else words.program or built(), Counter()
-    played = 0
-    for seed in range(words.seed, words.seed + words.scenarios):
-        made = scenario(seed)
-        if words.one_site and made["sites"] > 1:
-            continue
-        played += 1
-        run = model.played(made, met)
-        if program:
-            compare(program, seed, made, run.text())
-        count_met(run, made["steps"], met)
+    program = None if words.model or words.unproved else words.program or built()
+    met = Counter()
+    with tempfile.TemporaryDirectory() as folder:
+        for seed in range(words.seed, words.seed + words.scenarios):
+            made = scenario(seed)
+            run = model.played(made, met)
+            if program:
+                compare(program, seed, made, run.text())
+            elif words.unproved:
+                write_file(os.path.join(folder, f"seed_{seed}"), json.dumps(made))
+                write_file(os.path.join(folder, f"seed_{seed}.stdout"), run.text())
+            count_met(run, made["steps"], met)
+        if words.unproved:
+            compare_unproved(folder, words.scenarios)
     print("met: " + "; ".join(f"{kind}: {met[kind]:,}" for kind in ALL if met[kind]))
     print("not met: " + ("; ".join(kind for kind in ALL if not met[kind]) or "none"))
-    print(f"{played:,} scenarios from seed {words.seed}: " + ("the same" if program else "played by the model"))
+    how = "played by the model" if words.model else "the same"
+    print(f"{words.scenarios:,} scenarios from seed {words.seed}: {how}")
 
 
 if __name__ == "__main__":

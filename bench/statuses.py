@@ -26,23 +26,22 @@ def scenario(sites="1", clients="", more=""):
     return f'{{"sites":{sites},"f":0,"containers":[],"clients":[{clients}],"steps":[]{more}}}'
 
 
-FIRST_RUN = file_of("examples", "first_run.json")
+# The stored run of the program.
+RUN = file_of("crates", "walter", "stdin")
 REPORT = file_of("crates", "walter", "stdout")
 
 # What is tried, the words, standard input, the file that standard output goes to if it is one, and what is wanted: the
 # status, the line on standard error, and the report.
 CASES = [
-    ("no words", [], FIRST_RUN, None, 1, USAGE, ""),
-    ("play --fast", ["play", "--fast"], FIRST_RUN, None, 1, USAGE, ""),
+    ("no words", [], RUN, None, 1, USAGE, ""),
+    ("play --fast", ["play", "--fast"], RUN, None, 1, USAGE, ""),
     ("an open bracket", ["play"], "[", None, 2, NO_READING + "the text is no JSON: line 1, column 1", ""),
     ("nine sites", ["play"], scenario(sites="9"), None, 2, NO_READING + SITES, ""),
-    # Several sites don't run yet.
-    ("three sites", ["play"], scenario(sites="3"), None, 2, NO_READING + SITES, ""),
     ("another key", ["play"], scenario(more=',"speed":1'), None, 2, NO_READING + 'key "speed": a scenario has none', ""),
     ("odd hex", ["play"], scenario(clients='[0,"0"]'), None, 2, NO_READING + CLIENT, ""),
     ("a closed standard input", ["play"], CLOSED, None, 3, "the scenario could not be read to its end", ""),
-    ("a full standard output", ["play"], FIRST_RUN, "/dev/full", 4, "the report could not be written to its end", ""),
-    ("the first run", ["play"], FIRST_RUN, None, 0, "", REPORT),
+    ("a full standard output", ["play"], RUN, "/dev/full", 4, "the report could not be written to its end", ""),
+    ("the stored run", ["play"], RUN, None, 0, "", REPORT),
 ]
 
 

@@ -9,25 +9,29 @@ use walter_disk_memory::MemoryRack;
 use walter_scenario::{Detail, Place};
 use walter_stream::MemorySource;
 
+const TWO_SITES: &str =
+    r#"{"sites":2,"f":1,"containers":[],"clients":[[1,""]],"steps":[["call",0],["deliver",0,1,1],["advance",1,0],["tick",1]]}"#;
+
 // What is given to the program.
 #[derive(Clone, Copy)]
 struct Given<'a> {
     line: &'a str,
     scenario: &'a str,
-    disk: &'a [u8],
-    // The numbers of the reads, the writes and the calls of the rack that fail. The disk is taken by the first of
-    // these, and given back by the second.
+    // What the disks hold, from that of site 0 on.
+    disks: &'a [&'a [u8]],
+    // The numbers of the reads, the writes and the calls of the rack that fail. By the first of these the disks are
+    // taken, and by the others given back.
     reads: &'a [u64],
     writes: &'a [u64],
     racks: &'a [u64],
 }
 
-// A scenario, and an empty disk.
+// A scenario, and empty disks.
 fn playing(scenario: &str) -> Given<'_> {
     Given {
         line: "play",
         scenario,
-        disk: b"",
+        disks: &[],
         reads: &[],
         writes: &[],
         racks: &[],
@@ -35,7 +39,10 @@ fn playing(scenario: &str) -> Given<'_> {
 }
 
 fn rack_of(alloc: Global, given: Given) -> Mem<MemoryRack> {
-    let contents = vec![in alloc; given.disk.to_vec(alloc)?]?;
+    let mut contents = Vec::new(alloc);
+    for disk in given.disks {
+        contents.push(disk.to_vec(alloc)?)?;
+    }
     let mut rack = MemoryRack::holding(alloc, contents);
     rack.set_failing(given.racks.to_vec(alloc)?);
     Ok(rack)
@@ -84,11 +91,6 @@ fn bytes_that_spell_no_scenario_are_refused_at_their_first_wrong_place(
         ),
         (
             r#"{"sites":9,"f":0,"containers":[],"clients":[],"steps":[]}"#,
-            Place::Sites,
-        ),
-        // Several sites don't run yet, but what they are to do is read before.
-        (
-            r#"{"sites":2,"f":1,"containers":[],"clients":[[1,""]],"steps":[["call",0],["deliver",0,1,1],["advance",1,0],["tick",1]]}"#,
             Place::Sites,
         ),
         (
@@ -154,20 +156,24 @@ fn ends(
     Ok(())
 }
 
-// No site begins with these bytes.
+// No site begins with these bytes, alone or as the second.
 fn begins_not(
     rt: &(impl Abort + AllocGlobal),
     disk: &[u8],
     cause: JournalCause,
     place: u64,
 ) -> Result<(), Fail> {
-    let given = Given {
-        disk,
-        ..playing(EMPTY_SITE)
-    };
-    let site = 0;
-    let fault = Fault::Journal { site, cause, place };
-    ends(rt, given, 7, fault, (0, 1))
+    let alone: &[&[u8]] = &[disk];
+    let second: &[&[u8]] = &[b"", disk];
+    for (scenario, disks, site) in [(EMPTY_SITE, alone, 0), (TWO_SITES, second, 1)] {
+        let given = Given {
+            disks,
+            ..playing(scenario)
+        };
+        let fault = Fault::Journal { site, cause, place };
+        ends(rt, given, 7, fault, (0, disks.len()))?;
+    }
+    Ok(())
 }
 
 #[test]
@@ -190,6 +196,11 @@ fn what_fails_is_told(rt: HostRuntime) -> Result<(), Fail> {
         let fault = Fault::Rack { site: 0 };
         ends(&rt, Given { racks, ..first }, 6, fault, (trails, 0))?;
     }
+    let second = playing(TWO_SITES);
+    for (racks, site, counts) in [(&[2], 1, (0, 1)), (&[3], 0, (2, 1)), (&[4], 1, (2, 1))] {
+        let fault = Fault::Rack { site };
+        ends(&rt, Given { racks, ..second }, 6, fault, counts)?;
+    }
     let length = 4_294_967_295;
     begins_not(&rt, b"NOTWALTER", JournalCause::Foreign, 0)?;
     begins_not(
@@ -210,7 +221,7 @@ fn begins(
 ) -> Result<(), Fail> {
     let given = Given {
         line,
-        disk,
+        disks: &[disk],
         ..playing(EMPTY_SITE)
     };
     let (Run { ended, text }, rack) = run(rt, given)?;
@@ -238,6 +249,20 @@ fn a_site_begins_with_a_disk_without_records(rt: HostRuntime) -> Result<(), Fail
     for (line, disk, written) in table {
         begins(&rt, line, disk, written)?;
     }
+    Ok(())
+}
+
+#[test]
+fn several_sites_are_played(rt: HostRuntime) -> Result<(), Fail> {
+    let (Run { ended, text }, rack) = run(&rt, playing(TWO_SITES))?;
+    assert_eq!(rt; (ended.status, ended.trails.len()), (0, 2));
+    assert_eq!(rt;
+        text.as_str(),
+        "sites 2 f 1 clients 1\nclient 0 site 1 replies 0 -\nsite 0 up epoch 1 events 1 records 1 got 0,0 committed 0,0 log -\nsite 1 up epoch 1 events 3 records 1 got 0,0 committed 0,0 log -\n"
+    );
+    let [(0, _), (1, _)] = rack.given() else {
+        return Err(Fail::from("other disks"));
+    };
     Ok(())
 }
 

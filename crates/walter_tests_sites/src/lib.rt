@@ -1,0 +1,11 @@
+//! Tests of the program over several sites, and nothing else.
+#![tactic(auto)]
+
+#[cfg(test)]
+mod playing;
+#[cfg(test)]
+mod schedules;
+#[cfg(test)]
+mod spelling;
+#[cfg(test)]
+mod worked;
