@@ -125,21 +125,30 @@ module _ {D : Type 0} (g : Ghosts D) (before mid after : RackAt D) (taken back :
         (let rose : (g.known disk).faults < (g.known now).faults =
         subst (λ (x : Unbegun). IsFaultOfBegin (Err x) (g.known disk).faults (g.known now).faults) same rises in
         omega (arith, rose))
-    unbuilt unbegun.Foreign same = (slice_get_within taken site disk at, record {
-      unfit = held site disk (HasCause Foreign 0) at (λ bytes only.
-          let so = subst (λ (x : Unbegun). IsBegun bytes (Err x)) same (begins bytes only) in (refl, so.0, so.1));
-      others = others_held;
-    })
-    unbuilt (unbegun.Damaged place claimed) same = (slice_get_within taken site disk at, record {
-      unfit = held site disk (HasCause (Damaged claimed) place) at (λ bytes only.
-          subst (λ (x : Unbegun). IsBegun bytes (Err x)) same (begins bytes only));
-      others = others_held;
-    })
-    unbuilt unbegun.Used same = (slice_get_within taken site disk at, record {
-      unfit = held site disk (HasCause Used 8) at (λ bytes only.
-          (refl, subst (λ (x : Unbegun). IsBegun bytes (Err x)) same (begins bytes only)));
-      others = others_held;
-    })
+    unbuilt unbegun.Foreign same = (
+      slice_get_within taken site disk at,
+      record {
+        unfit = held site disk (HasCause Foreign 0) at (λ bytes only.
+            let so = subst (λ (x : Unbegun). IsBegun bytes (Err x)) same (begins bytes only) in (refl, so.0, so.1));
+        others = others_held;
+      },
+    )
+    unbuilt (unbegun.Damaged place claimed) same = (
+      slice_get_within taken site disk at,
+      record {
+        unfit = held site disk (HasCause (Damaged claimed) place) at (λ bytes only.
+            subst (λ (x : Unbegun). IsBegun bytes (Err x)) same (begins bytes only));
+        others = others_held;
+      },
+    )
+    unbuilt unbegun.Used same = (
+      slice_get_within taken site disk at,
+      record {
+        unfit = held site disk (HasCause Used 8) at (λ bytes only.
+            (refl, subst (λ (x : Unbegun). IsBegun bytes (Err x)) same (begins bytes only)));
+        others = others_held;
+      },
+    )
     unbuilt unbegun.NoMemory same = tt
 
 -- the end where a site didn't begin with its disk

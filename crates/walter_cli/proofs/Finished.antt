@@ -72,9 +72,10 @@ arms_front : (after : Option (List (ℕ × ℕ))) (t : Scenario) (i : ℕ) (some
     → t.arms ++ arms_of t.steps ≡ some ++ more → IfSome after (λ told. told ≡ arms_for i some)
     → IfSome after (λ arms. (rest : List (ℕ × ℕ)) × (all_arms t i ≡ arms ++ rest))
 arms_front None t i some more all is = tt
-arms_front (Some told) t i some more all is =
-    (arms_for i more,
-      ap (λ a. arms_for i a) all ∙ (for_more i some more ∙ ap (λ l. l ++ arms_for i more) (sym is)))
+arms_front (Some told) t i some more all is = (
+  arms_for i more,
+  ap (λ a. arms_for i a) all ∙ (for_more i some more ∙ ap (λ l. l ++ arms_for i more) (sym is)),
+)
 
 -- the arms of the disks of a bench that was built are those of the disks that it was built over
 pub arms_built : {D S K : Type 0} {g : Ghosts D} {s : SourceGhosts S} {k : SinkGhosts K} (bench : Bench D S K g s k)

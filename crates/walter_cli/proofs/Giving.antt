@@ -115,7 +115,7 @@ module _ {D : Type 0} (g : Ghosts D) (before mid after : RackAt D) (taken back :
     pub all_or_failed : (P : ℕ → OfADisk)
         → ((i : ℕ) (disk : D) → slice_get back i ≡ Some disk → P i (g.known disk) (g.may_leave disk))
         → rack.failed ⊎ rack.all (length taken) P
-    all_or_failed P so = elim failed_or [ | inl same ↦ inr (all_back P same so) | inr failed ↦ inl failed ]
+    all_or_failed P so = elim failed_or [ inl same ↦ inr (all_back P same so) | inr failed ↦ inl failed ]
 
     -- the one of this site was given back, or the rack failed
     pub one_or_failed : (i : ℕ) (disk : D) (P : OfADisk) → slice_get back i ≡ Some disk
@@ -123,10 +123,11 @@ module _ {D : Type 0} (g : Ghosts D) (before mid after : RackAt D) (taken back :
     one_or_failed i disk P at holds = elim failed_or [
       | inr failed ↦ inl failed
       | inl same ↦ inr (given_so is.gives.more given
-          (λ more. (d : D) × Contains more (i, d) × P (g.known d) (g.may_leave d))
-          (disk,
+          (λ more. (d : D) × Contains more (i, d) × P (g.known d) (g.may_leave d)) (
+            disk,
             subst (λ (more : List (ℕ × D)). Contains more (i, disk)) (sym (is.gives.whole same)) (numbered_has back i disk at),
-            holds))
+            holds,
+          ))
     ]
 
     pub balances : rack.balanced

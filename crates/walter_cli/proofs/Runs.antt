@@ -311,8 +311,11 @@ module _ (words : List (String Global)) (rack : Racked) (before after : Outside)
     promise_fault (ScenarioFault place detail) named none untouched same why =
         promise (Some (ScenarioFault place detail)) named (why, none) (λ not_done not_cut. same) (inl (none, untouched))
         (λ bytes other left wrong source.
-        inl (detail, named ∙ ap (λ (p : Place). Some (ScenarioFault p detail))
-        (one_refused bytes place other (none_wrong before.left after.left bytes place why left) wrong)))
+        inl (
+          detail,
+          named ∙ ap (λ (p : Place). Some (ScenarioFault p detail))
+              (one_refused bytes place other (none_wrong before.left after.left bytes place why left) wrong),
+        ))
     promise_fault Read named none untouched same why =
         promise (Some Read) named (why, none) (λ not_done not_cut. same) (inl (none, untouched))
         (λ bytes place left wrong source. absurd (omega (arith, why, source)))

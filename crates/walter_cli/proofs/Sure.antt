@@ -160,12 +160,12 @@ module _ (words : List (String Global)) {D : Type 0} (g : Ghosts D) (first last 
         let why = promised.unfit named.0 named.1 named.2 named.3 in
         of_both (rack.bytes named.0) (HasCause named.1 named.2) HasNoRecord ⊥ (cause_has_record named.1 named.2) (told named.0)
         why.unfit (empty named.0);
-    legal_trails = elim promised.legal_trails [ | inl none ↦ inl none.0 | inr runs ↦ inr (sure runs) ];
+    legal_trails = elim promised.legal_trails [ inl none ↦ inl none.0 | inr runs ↦ inr (sure runs) ];
     silent = promised.silent;
     complete = λ bytes s play left reading source sink.
         elim (promised.complete bytes s play left reading (λ i below. told i) (λ i below. empty i) source sink ok) [
           | inl done ↦ inl done
-          | inr other ↦ elim other [ | inl memory ↦ inr memory | inr early ↦ absurd (never early) ]
+          | inr other ↦ elim other [ inl memory ↦ inr memory | inr early ↦ absurd (never early) ]
         ];
     refuses = promised.refuses;
   }

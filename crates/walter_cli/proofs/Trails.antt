@@ -132,11 +132,12 @@ module _ {D S K : Type 0} {g : Ghosts D} {s : SourceGhosts S} {k : SinkGhosts K}
         is_of_all number client at in
         let there = cell_at client.site.0 below in
         let line = connected client.site.0 there.0 there.1 number client at refl in
-        let stands = line.2.stands in
-        (stands.rest,
+        let stands = line.2.stands in (
+          stands.rest,
           calls_told client.bytes (calls_of number (trail_of trails client.site)) _ stands.rest
-          (subst (λ (es : List Entry). HasCalled client.bytes (calls_of number es) (incoming line.0))
-          (sym (trail_is client.site.0 there.0 there.1)) stands) stands.unread);
+              (subst (λ (es : List Entry). HasCalled client.bytes (calls_of number es) (incoming line.0))
+              (sym (trail_is client.site.0 there.0 there.1)) stands) stands.unread,
+        );
   }
     where
       is_of_all : (number : ℕ) (client : Client) → slice_get t.clients number ≡ Some client → client.site.0 < t.catalog.sites

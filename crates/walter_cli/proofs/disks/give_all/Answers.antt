@@ -97,4 +97,3 @@ loop-disk-preserved g c =
       err = (let same = ok_part c.give-given.result _ e.faultless (sym c.is_err.ensures.value ∙ c.if-is_err.false) in
           on_err c.loop-disk.lost _ _ (λ rose. omega (arith, rose, same)) is.err);
     }
-

@@ -22,30 +22,30 @@ use Rattle.walter_cli.proofs.running.run.Goals as goal
 module _ (g : Over) (c : After-give_all-given g) where
   abbrev before : RackAt g.row.R-D.Denot
   before = record {
-      disks = g.R.Rack.disks c.args.rack.now;
-      given = g.R.Rack.given c.args.rack.now;
-      taken = g.R.Rack.taken c.args.rack.now;
-      faults = g.R.Rack.faults c.args.rack.now;
-      unfailing = g.R.Rack.unfailing c.args.rack.now;
-    }
+    disks = g.R.Rack.disks c.args.rack.now;
+    given = g.R.Rack.given c.args.rack.now;
+    taken = g.R.Rack.taken c.args.rack.now;
+    faults = g.R.Rack.faults c.args.rack.now;
+    unfailing = g.R.Rack.unfailing c.args.rack.now;
+  }
 
   abbrev mid : RackAt g.row.R-D.Denot
   mid = record {
-      disks = g.R.Rack.disks c.build_over.new.rack;
-      given = g.R.Rack.given c.build_over.new.rack;
-      taken = g.R.Rack.taken c.build_over.new.rack;
-      faults = g.R.Rack.faults c.build_over.new.rack;
-      unfailing = g.R.Rack.unfailing c.build_over.new.rack;
-    }
+    disks = g.R.Rack.disks c.build_over.new.rack;
+    given = g.R.Rack.given c.build_over.new.rack;
+    taken = g.R.Rack.taken c.build_over.new.rack;
+    faults = g.R.Rack.faults c.build_over.new.rack;
+    unfailing = g.R.Rack.unfailing c.build_over.new.rack;
+  }
 
   abbrev after : RackAt g.row.R-D.Denot
   after = record {
-      disks = g.R.Rack.disks c.give_all-given.new.rack;
-      given = g.R.Rack.given c.give_all-given.new.rack;
-      taken = g.R.Rack.taken c.give_all-given.new.rack;
-      faults = g.R.Rack.faults c.give_all-given.new.rack;
-      unfailing = g.R.Rack.unfailing c.give_all-given.new.rack;
-    }
+    disks = g.R.Rack.disks c.give_all-given.new.rack;
+    given = g.R.Rack.given c.give_all-given.new.rack;
+    taken = g.R.Rack.taken c.give_all-given.new.rack;
+    faults = g.R.Rack.faults c.give_all-given.new.rack;
+    unfailing = g.R.Rack.unfailing c.give_all-given.new.rack;
+  }
 
   abbrev rack : Racked
   rack = racked g.R.D.Disk before after
