@@ -6,7 +6,6 @@ use Rattle.walter_conn.specs.declared.conn.Conn.{Conn}
 use Rattle.walter_disk.specs.declared.disk.Disk.{Ghosts}
 use Rattle.walter_engine.specs.Begins.{HasOnly, IsBegun, IsFaultOfBegin, MayHaveBegun, HasNoRecord}
 use Rattle.walter_engine.specs.Engines.{disk_in}
-use Rattle.walter_engine.specs.declared.answers.Unbegun.{Unbegun}
 use Rattle.walter_scenario.specs.declared.scenario.Client.{Client}
 use Rattle.walter_stream.specs.declared.sink.Sink.{Ghosts as SinkGhosts}
 use Rattle.walter_stream.specs.declared.source.Source.{Ghosts as SourceGhosts}
@@ -50,11 +49,6 @@ module _ {D S K : Type 0} {g : Ghosts D} {s : SourceGhosts S} {k : SinkGhosts K}
   abbrev pub disks_after : Result (Bench D S K g s k) (Unbuilt D) → List (Option D)
   disks_after (Ok bench) = map (λ (c : Cell D S K g s k). disk_in c.node.engine) bench.cells.items
   disks_after (Err unbuilt) = map (λ (d : D). Some d) unbuilt.disks.items
-
-  -- why no site begins with its disk, if the first that doesn't is this one
-  abbrev pub answer_at : Result (Bench D S K g s k) (Unbuilt D) → Result (Unit {0}) Unbegun
-  answer_at (Ok bench) = Ok tt
-  answer_at (Err unbuilt) = Err unbuilt.why
 
   abbrev pub LeavesDisks : List D → Result (Bench D S K g s k) (Unbuilt D) → Type 0
   LeavesDisks disks result = (i : ℕ) (disk : D) → slice_get disks i ≡ Some disk

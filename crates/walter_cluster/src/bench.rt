@@ -17,8 +17,8 @@ use walter_disk::Disk;
 use walter_stream::{Sink, Source};
 use walter_trail::Trail;
 
-/// The cells of all sites, by the numbers of these, without locks. What a site has put out to another arrives there only
-/// at a delivery to that one.
+/// The cells of all sites, by the numbers of these, without locks. What a site has put out to another arrives there
+/// only at a delivery to that one.
 #[derive(Drop)]
 pub struct Bench<D: Disk, S: Source + Drop, K: Sink + Drop> {
     pub cells: Vec<Cell<D, S, K>>,
