@@ -191,11 +191,11 @@ module _ (catalog : Catalog) (older : List Named) (i : SiteId) (e : Entry) (was 
       sessions : (k : SiteId) → sessions_at k now.sessions.items ≡ named (stands catalog ((i, e) ∷ older) k).knows.sessions
       sessions k = elim (same_site k i) as (λ b. same_site k i ≡ b → sessions_at k now.sessions.items
           ≡ named (standing catalog k (if b then e ∷ entries_of k older else entries_of k older)).knows.sessions) [
-        | true ↦ λ is.
-            subst (λ (j : SiteId). sessions_at j now.sessions.items ≡ named (standing catalog j (e ∷ entries_of j older)).knows.sessions)
-            (sym (same_site-true k i is)) (here ∙ ap named (sym (sessions_stand catalog i S e)))
-        | false ↦ λ is. others k (turned k.0 i.0 is) ∙ told.sessions k
-      ] refl
+            | true ↦ λ is.
+                subst (λ (j : SiteId). sessions_at j now.sessions.items ≡ named (standing catalog j (e ∷ entries_of j older)).knows.sessions)
+                (sym (same_site-true k i is)) (here ∙ ap named (sym (sessions_stand catalog i S e)))
+            | false ↦ λ is. others k (turned k.0 i.0 is) ∙ told.sessions k
+          ] refl
 
       parts : (k : SiteId) → commits_of k now.commits.items
           ≡ (commits_of k was.commits.items ++ commits_of k (own_commit i e.came.kept)) ++ commits_of k (own_commit i e.came.wrote)
@@ -222,11 +222,11 @@ module _ (catalog : Catalog) (older : List Named) (i : SiteId) (e : Entry) (was 
       owns : (k : SiteId) → commits_of k now.commits.items ≡ own_of k (stands catalog ((i, e) ∷ older) k).knows.log
       owns k = elim (same_site k i) as (λ b. same_site k i ≡ b → commits_of k now.commits.items
           ≡ own_of k (standing catalog k (if b then e ∷ entries_of k older else entries_of k older)).knows.log) [
-        | true ↦ λ is.
-            subst (λ (j : SiteId). commits_of j now.commits.items ≡ own_of j (standing catalog j (e ∷ entries_of j older)).knows.log)
-            (sym (same_site-true k i is)) owns_here
-        | false ↦ λ is. owns_there k (turned k.0 i.0 is)
-      ] refl
+            | true ↦ λ is.
+                subst (λ (j : SiteId). commits_of j now.commits.items ≡ own_of j (standing catalog j (e ∷ entries_of j older)).knows.log)
+                (sym (same_site-true k i is)) owns_here
+            | false ↦ λ is. owns_there k (turned k.0 i.0 is)
+          ] refl
 
   -- by which its site goes down
   pub told_lost : goes_down e.event e.came.outcome ≡ true

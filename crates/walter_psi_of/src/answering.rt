@@ -45,12 +45,7 @@ fn call_step(
 }
 
 /// The step of a reply of a site to a call, by the transaction that its client has open.
-fn reply_step(
-    site: SiteId,
-    reply: &Reply,
-    call: &Call,
-    session: Option<Tid>,
-) -> Mem<Option<Step>>
+fn reply_step(site: SiteId, reply: &Reply, call: &Call, session: Option<Tid>) -> Mem<Option<Step>>
     ensures { IfOk result (λ step. option_to_list step
         ≡ replied site (Replied reply.now) call.now (option_map session_named session)) }
 {

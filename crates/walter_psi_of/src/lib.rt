@@ -3,9 +3,7 @@
 
 mod answering;
 mod recording;
-mod spelling;
 mod steps;
 mod told;
 
-pub use spelling::psi_of;
-pub use steps::Steps;
+pub use steps::{Steps, psi_of};

@@ -1,10 +1,25 @@
+ghost use Rattle.std.specs.Prelude.{◌≡◌, ◌++◌, IfOk, OnOk};
+ghost use Rattle.std.specs.Option.{option_to_list};
+ghost use Rattle.walter_base.specs.declared.catalog.Catalog.{Catalog};
+ghost use Rattle.walter_base.specs.declared.names.SiteId.{SiteId};
+ghost use Rattle.walter_refinement.specs.Spelled.{steps_of, psi_of};
+ghost use Rattle.walter_rules.specs.Standing.{Standing};
+ghost use Rattle.walter_psi_of.specs.Told.{IsToldOf};
+
+use crate::answering::answer_step;
+use crate::recording::record_step;
+use crate::told::Told;
+use std::alloc::Global;
 use std::marker::Model;
+use walter_base::{Mem, SiteId};
 use walter_psi::Step;
+use walter_rules::Entry;
+use walter_trail::Merged;
 
 /// The steps of a history, in order. Contracts see the list of them.
 #[derive(Debug, Drop)]
 pub struct Steps {
-    pub(crate) items: Vec<Step>,
+    steps: Vec<Step>,
 }
 
 impl Model for Steps {
@@ -13,7 +28,7 @@ impl Model for Steps {
 
     ghost Value = { List Step };
 
-    ghost view = { λ s. s.items.items };
+    ghost view = { λ s. s.steps.items };
 }
 
 impl Steps {
@@ -22,6 +37,40 @@ impl Steps {
     pub fn as_slice(&self) -> &[Step]
         ensures { result.now ≡ self.now }
     {
-        &self.items
+        &self.steps
     }
+}
+
+/// The history that the merge spells (docs/MODEL.md): of each entry the steps of its records first, then that of its
+/// reply. The trails needn't be right, and it is one history by every catalog.
+pub fn psi_of(alloc: Global, merged: &Merged) -> Mem<Steps>
+    ensures { (catalog : Catalog) → IfOk result (λ steps. steps ≡ psi_of catalog merged.now) }
+{
+    let mut told = Told::new(alloc);
+    let mut steps = Vec::new(alloc);
+    for (site, entry) in merged.as_slice() {
+        add_steps(&mut steps, &told, *site, entry)?;
+        told.learn(*site, entry)?;
+    }
+    Ok(Steps { steps })
+}
+
+/// Adds the steps of an entry of a site, by what was told before it.
+fn add_steps(steps: &mut Vec<Step>, told: &Told, site: SiteId, entry: &Entry) -> Mem<()>
+    ensures { (W : SiteId → Standing) → IsToldOf told.now W
+        → OnOk result (steps.new.items ≡ steps.old.items ++ steps_of W site entry.now) }
+{
+    add_step(steps, record_step(told, site, &entry.came.kept)?)?;
+    add_step(steps, record_step(told, site, &entry.came.wrote)?)?;
+    let answer = answer_step(told, site, &entry.event, &entry.came.outcome)?;
+    add_step(steps, answer)
+}
+
+fn add_step(steps: &mut Vec<Step>, step: Option<Step>) -> Mem<()>
+    ensures { OnOk result (steps.new.items ≡ steps.old.items ++ option_to_list step) }
+{
+    if let Some(step) = step {
+        steps.push(step)?;
+    }
+    Ok(())
 }

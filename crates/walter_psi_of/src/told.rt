@@ -20,7 +20,7 @@ use std::alloc::Global;
 use walter_base::{MaybeRecord, Mem, Record, Reply, SiteId, Tid};
 use walter_rules::{Entry, Event, Input, Outcome};
 
-/// The transaction that a client has at a site.
+/// A session, by what steps tell of it: the transaction that a client has at a site.
 #[derive(Clone, Copy, Debug)]
 pub(crate) struct Session {
     site: SiteId,
@@ -36,17 +36,16 @@ impl Session {
     }
 }
 
-/// What the steps to come need of how the sites stand.
+/// What the entries so far tell of the sites that the steps to come need.
 #[derive(Drop)]
 pub(crate) struct Told {
     /// In the order of their starts.
     sessions: Vec<Session>,
-    /// The commits of the sites, each by its own site, in order.
+    /// Each is told by its own site alone, and those of one site are in order.
     commits: Vec<Tid>,
 }
 
 impl Told {
-    /// Before the first entry.
     pub(crate) fn new(alloc: Global) -> Told
         ensures sessions { result.sessions.items ≡ [] }
         ensures commits { result.commits.items ≡ [] }
@@ -57,7 +56,7 @@ impl Told {
         }
     }
 
-    /// The transaction of a client at a site: the first, where it has several.
+    /// The transaction of a client at a site, the first where it has several.
     pub(crate) fn session_of(&self, site: SiteId, client: u32) -> Option<Tid>
         ensures { result ≡ of_client client (sessions_at site self.now.sessions.items) }
     {
@@ -94,7 +93,8 @@ impl Told {
         self.answer(site, &entry.event, &entry.came.outcome)
     }
 
-    /// A site commits by a record, or hears of a commit.
+    /// Goes on with a record of a site. One that a site got counts too where it is the site's own, though no right
+    /// trail has it.
     fn commit(&mut self, site: SiteId, rec: &MaybeRecord) -> Mem<()>
         ensures commits { OnOk result (self.new.commits.items ≡ self.old.commits.items ++ own_commit site rec.now) }
         ensures sessions { self.new.sessions.items ≡ self.old.sessions.items }
@@ -107,7 +107,7 @@ impl Told {
         Ok(())
     }
 
-    /// A site answers a client, if the event is a call.
+    /// Goes on with the answer of a site, where the event is a call.
     fn answer(&mut self, site: SiteId, event: &Event, outcome: &Outcome) -> Mem<()>
         ensures here { (wrote : Option Record) (snapshot : List ℕ) (sessions : Sessions)
             → sessions_at site self.old.sessions.items ≡ named sessions
@@ -125,7 +125,7 @@ impl Told {
         }
     }
 
-    /// A site replies to a client.
+    /// Goes on with a reply of a site to a client.
     fn reply(&mut self, site: SiteId, client: u32, reply: &Reply) -> Mem<()>
         ensures here { (call : Result Request BadFrame) (wrote : Option Record) (snapshot : List ℕ) (sessions : Sessions)
             → sessions_at site self.old.sessions.items ≡ named sessions
@@ -180,7 +180,7 @@ impl Told {
     }
 }
 
-/// Whether the site loses its memory.
+/// Whether the site of the event goes down.
 fn does_go_down(event: &Event, outcome: &Outcome) -> bool
     ensures { result ≡ goes_down event.now outcome.now }
 {

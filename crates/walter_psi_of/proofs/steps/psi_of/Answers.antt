@@ -5,7 +5,7 @@ use Rattle.walter_rules.specs.Merges.{Named}
 use Rattle.walter_runs.specs.Runs.{stands}
 use Rattle.walter_psi_of.specs.Told.{IsToldOf}
 use Rattle.walter_psi_of.proofs.Replies.{newest}
-use Rattle.walter_psi_of.proofs.spelling.psi_of.Goals as goal
+use Rattle.walter_psi_of.proofs.steps.psi_of.Goals as goal
 
 pub loop-site-preserved : goal.loop-site-preserved
 loop-site-preserved c catalog =
@@ -14,11 +14,10 @@ loop-site-preserved c catalog =
     let before = c.loop-site.invariant catalog in
     let k = c.loop-site.site-index in
     let next = subst (λ (m : List Named). reverse (take (k + 1) m) ≡ n ∷ reverse (take k m)) c.as_slice-site-items.ensures
-    (newest c.as_slice-site-items.result.now k n c.loop-site-test.true c.loop-site-item.is) in
-    (
+    (newest c.as_slice-site-items.result.now k n c.loop-site-test.true c.loop-site-item.is) in (
       subst (λ (run : List Named). IsToldOf c.learn.new.self (stands catalog run)) (sym next)
-      (c.in_ok-learn.ensures catalog older before.0),
+          (c.in_ok-learn.ensures catalog older before.0),
       c.in_ok-add_steps.ensures (stands catalog older) before.0
-      ∙ (ap (λ (steps : List Step). steps ++ steps_of (stands catalog older) n.0 n.1) before.1
-      ∙ ap (history catalog) (sym next)),
+          ∙ (ap (λ (steps : List Step). steps ++ steps_of (stands catalog older) n.0 n.1) before.1
+          ∙ ap (history catalog) (sym next)),
     )
