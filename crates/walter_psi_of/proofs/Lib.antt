@@ -1,3 +1,5 @@
 pub mod Kept
+pub mod ReplyNames
+pub mod OwnCommits
 pub mod Stood
 pub mod Replies

@@ -14,7 +14,7 @@ ghost use Rattle.walter_rules.specs.Merges.{Named};
 ghost use Rattle.walter_rules.specs.Sessions.{Sessions};
 ghost use Rattle.walter_rules.specs.Standing.{goes_down};
 ghost use Rattle.walter_runs.specs.Runs.{stands};
-ghost use Rattle.walter_psi_of.specs.Told.{sessions_at, commits_of, named, own_commit, is_of, IsToldOf};
+ghost use Rattle.walter_psi_of.specs.Told.{sessions_at, commits_of, named, own_commit, is_at, is_of, IsToldOf};
 
 use std::alloc::Global;
 use walter_base::{MaybeRecord, Mem, Record, Reply, SiteId, Tid};
@@ -127,8 +127,8 @@ impl Told {
 
     /// Goes on with a reply of a site to a client.
     fn reply(&mut self, site: SiteId, client: u32, reply: &Reply) -> Mem<()>
-        ensures here { (call : Result Request BadFrame) (wrote : Option Record) (snapshot : List ℕ) (sessions : Sessions)
-            → sessions_at site self.old.sessions.items ≡ named sessions
+        ensures here { (call : Result Request BadFrame) (wrote : Option Record)
+            (snapshot : List ℕ) (sessions : Sessions) → sessions_at site self.old.sessions.items ≡ named sessions
             → OnOk result (sessions_at site self.new.sessions.items
             ≡ named (sessions_after (Given (Call client call)) (Replied reply.now) wrote snapshot sessions)) }
         ensures others { (other : SiteId) → same_site site other ≡ false
@@ -169,12 +169,12 @@ impl Told {
 
     /// A site loses its memory.
     fn lose(&mut self, site: SiteId)
-        ensures lost { self.new.sessions.items ≡ filter (λ s. not (same_site s.site site)) self.old.sessions.items }
+        ensures lost { self.new.sessions.items ≡ filter (λ s. not (is_at site s)) self.old.sessions.items }
         ensures commits { self.new.commits.items ≡ self.old.commits.items }
     {
         self.sessions.retain(
             |session: &Session| -> bool
-                ensures { result ≡ not (same_site session.now.site site) }
+                ensures { result ≡ not (is_at site session.now) }
             { session.site != site },
         );
     }

@@ -16,8 +16,11 @@ returns c W told =
     let client = c.args.client in
     let call = c.args.call.now in
     let said = Replied c.args.reply.now in
-    let found = c.session_of.ensures ∙ session_by_name client (W i).knows.sessions (sessions_at i c.args.told.now.sessions.items) (told.sessions i) in
-    let same = ap (λ tid. replied i said call (option_map session_named tid)) found ∙ replied_named i said call (session_of (W i).knows client) in
+    let names = sessions_at i c.args.told.now.sessions.items in
+    let found = c.session_of.ensures ∙ session_by_name client (W i).knows.sessions names (told.sessions i) in
+    let same =
+    ap (λ tid. replied i said call (option_map session_named tid)) found
+    ∙ replied_named i said call (session_of (W i).knows client) in
     elim c.reply_step.result as (λ (r : Result (Option Step) NoMemory).
     IfOk r (λ step. option_to_list step ≡ replied i said call (option_map session_named c.session_of.result))
     → IfOk r (λ step. option_to_list step ≡ replied i said call (session_of (W i).knows client))) [

@@ -5,4 +5,5 @@ use Rattle.walter_psi_of.proofs.told.Told.end.Goals as goal
 
 pub returns-clause-ended : goal.returns-clause-ended
 returns-clause-ended c =
-    filter_same _ (λ s. not (is_of c.args.site c.args.client s)) _ (λ s b f' called. search rules) _ _ c.retain.ensures.filtered
+    filter_same _ (λ s. not (is_of c.args.site c.args.client s)) _ (λ s b f' called. search rules) _ _
+    c.retain.ensures.filtered

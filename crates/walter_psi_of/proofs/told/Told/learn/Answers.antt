@@ -1,4 +1,4 @@
-use Rattle.std.proofs.Common.{◌≡◌, ◌++◌, ◌∷◌, List, ℕ, false, Option, Result, Ok, Err, ap, sym, ◌∙◌}
+use Rattle.std.proofs.Common.{◌≡◌, ◌++◌, ◌∷◌, ℕ, false, List, Option, Result, Ok, Err, ap, sym, ◌∙◌}
 use Rattle.std.specs.Prelude.{OnOk}
 use Rattle.walter_base.specs.declared.memory.NoMemory.{NoMemory}
 use Rattle.walter_base.specs.declared.message.Record.{Record}
@@ -16,14 +16,16 @@ pub returns-then-does_go_down : goal.returns-then-does_go_down
 returns-then-does_go_down c catalog older told =
     let i = c.args.site in
     let e = c.args.entry.now in
+    let was = c.args.self.now in
     let sessions = c.commit-2.new.self.sessions.items in
-    let same : sessions ≡ c.args.self.now.sessions.items = c.commit-2.ensures.sessions ∙ c.commit.ensures.sessions in
-    told_lost catalog older i e c.args.self.now c.lose.new.self told (sym c.does_go_down.ensures ∙ c.if-does_go_down.true)
+    let same : sessions ≡ was.sessions.items = c.commit-2.ensures.sessions ∙ c.commit.ensures.sessions in
+    told_lost catalog older i e was c.lose.new.self told
     (c.lose.ensures.commits ∙ (c.in_ok-commit-2.ensures.commits
     ∙ ap (λ tids. tids ++ own_commit i e.came.wrote) c.in_ok-commit.ensures.commits))
-    (ap (sessions_at i) c.lose.ensures.lost ∙ lost_here i sessions)
     (λ other apart. ap (sessions_at other) c.lose.ensures.lost
     ∙ (lost_there i other sessions apart ∙ ap (sessions_at other) same))
+    (sym c.does_go_down.ensures ∙ c.if-does_go_down.true)
+    (ap (sessions_at i) c.lose.ensures.lost ∙ lost_here i sessions)
 
 pub returns : goal.returns
 returns c catalog older told =
@@ -31,18 +33,20 @@ returns c catalog older told =
     let e = c.args.entry.now in
     let was = c.args.self.now in
     let now = c.answer.new.self in
-    let same : c.commit-2.new.self.sessions.items ≡ was.sessions.items = c.commit-2.ensures.sessions ∙ c.commit.ensures.sessions in
+    let sessions = c.commit-2.new.self.sessions.items in
+    let same : sessions ≡ was.sessions.items = c.commit-2.ensures.sessions ∙ c.commit.ensures.sessions in
     elim c.answer.result as (λ (r : Result (Unit {0}) NoMemory).
-    ((wrote : Option Record) (snapshot : List ℕ) (ss : Sessions) → sessions_at i c.commit-2.new.self.sessions.items ≡ named ss
+    ((wrote : Option Record) (snapshot : List ℕ) (ss : Sessions) → sessions_at i sessions ≡ named ss
     → OnOk r (sessions_at i now.sessions.items ≡ named (sessions_after e.event e.came.outcome wrote snapshot ss)))
     → ((other : SiteId) → same_site i other ≡ false
-    → OnOk r (sessions_at other now.sessions.items ≡ sessions_at other c.commit-2.new.self.sessions.items))
+    → OnOk r (sessions_at other now.sessions.items ≡ sessions_at other sessions))
     → OnOk r (IsToldOf now (stands catalog ((i, e) ∷ older)))) [
       | Ok done ↦ λ here others.
-          told_answered catalog older i e was now told (sym c.does_go_down.ensures ∙ c.if-does_go_down.false)
+          told_answered catalog older i e was now told
           (c.answer.ensures.commits ∙ (c.in_ok-commit-2.ensures.commits
           ∙ ap (λ tids. tids ++ own_commit i e.came.wrote) c.in_ok-commit.ensures.commits))
-          (λ wrote snapshot ss is. here wrote snapshot ss (ap (sessions_at i) same ∙ is))
           (λ other apart. others other apart ∙ ap (sessions_at other) same)
+          (sym c.does_go_down.ensures ∙ c.if-does_go_down.false)
+          (λ wrote snapshot ss is. here wrote snapshot ss (ap (sessions_at i) same ∙ is))
       | Err none ↦ λ here others. tt
     ] c.answer.ensures.here c.answer.ensures.others

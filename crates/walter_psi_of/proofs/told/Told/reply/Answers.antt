@@ -2,14 +2,15 @@ use Rattle.std.proofs.Common.{refl, ap, sym, ◌∙◌}
 use Rattle.walter_base.specs.ByClient.{without}
 use Rattle.walter_psi_of.specs.Told.{sessions_at}
 use Rattle.walter_psi_of.proofs.Kept.{ended_here, ended_there}
-use Rattle.walter_psi_of.proofs.Stood.{ended_names, kept_names}
+use Rattle.walter_psi_of.proofs.ReplyNames.{ended_names, kept_names}
 use Rattle.walter_psi_of.proofs.told.Told.reply.Goals as goal
 
 pub returns-in_default : goal.returns-in_default
 returns-in_default c = record {
   here = λ call wrote snapshot sessions told.
-      told ∙ sym (kept_names c.args.client call c.args.reply.now wrote snapshot sessions
-      c.in_default.not-Started c.in_default.not-Committed c.in_default.not-Aborted c.in_default.not-Ended c.in_default.not-Unsure);
+      let other = c.in_default in
+      told ∙ sym (kept_names c.args.client call wrote snapshot sessions c.args.reply.now
+      other.not-Started other.not-Committed other.not-Aborted other.not-Ended other.not-Unsure);
   others = λ other apart. refl;
   commits = refl;
 }
@@ -19,7 +20,7 @@ returns-in-Committed-clause-here c call wrote snapshot sessions told =
     ap (sessions_at c.args.site) c.end.ensures.ended
     ∙ (ended_here c.args.site c.args.client c.args.self.now.sessions.items
     ∙ (ap (without c.args.client) told
-    ∙ sym (ended_names c.args.client call c.args.reply.now wrote snapshot sessions c.in-Committed.is)))
+    ∙ sym (ended_names c.args.client call wrote snapshot sessions c.args.reply.now c.in-Committed.is)))
 
 pub returns-in-Committed-clause-others : goal.returns-in-Committed-clause-others
 returns-in-Committed-clause-others c other apart =

@@ -8,7 +8,9 @@ use Rattle.walter_psi_of.proofs.told.Told.session_of.Goals as goal
 
 pub returns-in_err-session : goal.returns-in_err-session
 returns-in_err-session c =
-    let found = find_from_yields_List (is_of c.args.site c.args.client) _ _ c.find.result c.find.ensures.ran (YieldsList-from_slice c.args.self.now.sessions.items cc) (λ x b q k. search (rules, tests)) in
+    let found = find_from_yields_List (is_of c.args.site c.args.client) _ _ c.find.result c.find.ensures.ran
+    (YieldsList-from_slice c.args.self.now.sessions.items cc)
+    (λ x b q k. search (rules, tests)) in
     let none : c.find.result ≡ None = c.in_err-session.was in
     c.from_residual.ensures
     ∙ (ap (option_map (λ (s : Session). s.tid)) (rw none at found)
@@ -16,7 +18,9 @@ returns-in_err-session c =
 
 pub returns : goal.returns
 returns c =
-    let found = find_from_yields_List (is_of c.args.site c.args.client) _ _ c.find.result c.find.ensures.ran (YieldsList-from_slice c.args.self.now.sessions.items cc) (λ x b q k. search (rules, tests)) in
+    let found = find_from_yields_List (is_of c.args.site c.args.client) _ _ c.find.result c.find.ensures.ran
+    (YieldsList-from_slice c.args.self.now.sessions.items cc)
+    (λ x b q k. search (rules, tests)) in
     let some : c.find.result ≡ Some c.in_ok-session.session = c.in_ok-session.was in
     ap (option_map (λ (s : Session). s.tid)) (rw some at found)
     ∙ session_found c.args.site c.args.client c.args.self.now.sessions.items
