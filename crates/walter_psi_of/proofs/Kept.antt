@@ -1,13 +1,11 @@
 -- What stays of sessions where one comes, where those of a client go, and where a site loses all of its own.
-use Rattle.std.proofs.Common.{◌≡◌, ℕ, Bool, true, false, cond, not, nat_eq, ◌&&◌, List, [], ◌∷◌, ◌++◌, map, filter, append-nil, Option, Some, None, refl, ap, sym, ◌∙◌, option_map, if◌then◌else◌}
+use Rattle.std.proofs.Common.{◌≡◌, ℕ, Bool, true, false, cond, not, nat_eq, ◌&&◌, List, [], ◌∷◌, map, filter, Some, refl, ap, sym, ◌∙◌, option_map}
 use Rattle.std.specs.List.{find}
-use Rattle.std.proofs.lemmas.List.{map-append}
-use Rattle.std.proofs.lemmas.List.Elements.{filter-append}
 use Rattle.walter_base.specs.declared.names.SiteId.{SiteId}
 use Rattle.walter_base.specs.declared.names.Tid.{Tid}
 use Rattle.walter_base.specs.ByClient.{of_client, without}
 use Rattle.walter_base.specs.Names.{same_site}
-use Rattle.walter_base.proofs.NameTests.{same_site-true, same_site_refl}
+use Rattle.walter_base.proofs.NameTests.{same_site-true}
 use Rattle.walter_psi_of.specs.declared.told.Session.{Session as SessionAt}
 use Rattle.walter_psi_of.specs.Told.{is_at, is_of, by_client, sessions_at}
 

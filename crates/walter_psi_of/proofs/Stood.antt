@@ -11,7 +11,7 @@ use Rattle.walter_rules.specs.Knowledge.{Knowledge, vector_of}
 use Rattle.walter_rules.specs.Learning.{log_after, recorded, after, lost, sessions_after}
 use Rattle.walter_rules.specs.Merges.{Named, entries_of}
 use Rattle.walter_rules.specs.Sessions.{Sessions}
-use Rattle.walter_rules.specs.Standing.{Standing, settled, stands_after, goes_down, knows_after}
+use Rattle.walter_rules.specs.Standing.{Standing, settled, goes_down, knows_after}
 use Rattle.walter_rules.specs.Trails.{standing}
 use Rattle.walter_runs.specs.Runs.{stands}
 use Rattle.walter_psi_of.specs.declared.told.Told.{Told}
