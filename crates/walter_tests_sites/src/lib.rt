@@ -6,6 +6,4 @@ mod playing;
 #[cfg(test)]
 mod schedules;
 #[cfg(test)]
-mod spelling;
-#[cfg(test)]
 mod worked;

@@ -1,10 +1,10 @@
 //! Scenarios, played by the program over empty disks in memory.
-use crate::spelling::spelled;
 use std::process::Abort;
 use std::test::Fail;
 use walter_cli::{Ended, top};
 use walter_disk_memory::MemoryRack;
-use walter_psi::{Step, first_illegal};
+use walter_psi::first_illegal;
+use walter_psi_of::{Steps, psi_of};
 use walter_stream::{BytesSource, MemorySink};
 use walter_trail::{Trail, merge};
 
@@ -32,13 +32,13 @@ pub(crate) fn play(rt: &(impl Abort + AllocGlobal), scenario: &str) -> Result<Ru
 pub(crate) fn legal_history(
     rt: &(impl Abort + AllocGlobal),
     trails: &[Trail],
-) -> Result<Vec<Step>, Fail> {
+) -> Result<Steps, Fail> {
     if trails.len() > 8 {
         return Err(Fail::from("more than eight sites"));
     }
     let merged = merge(rt.alloc(), trails)?;
-    let history = spelled(rt.alloc(), merged.as_slice())?;
-    let found = first_illegal(rt.alloc(), &history)?;
+    let history = psi_of(rt.alloc(), &merged)?;
+    let found = first_illegal(rt.alloc(), history.as_slice())?;
     assert!(rt; found.is_none(), "{found:?}");
     Ok(history)
 }

@@ -261,7 +261,8 @@ fn runs_at_random_are_legal(rt: HostRuntime) -> Result<(), Fail> {
     let (mut arrivals, mut locked): (usize, usize) = (0, 0);
     for seed in 0..200 {
         let trails = trails_of(&rt, seed)?;
-        for step in &legal_history(&rt, &trails)? {
+        let history = legal_history(&rt, &trails)?;
+        for step in history.as_slice() {
             match step {
                 Step::Arrive(_, _) => arrivals = arrivals.saturating_add(1),
                 Step::Abort(_, Cause::Locked { .. }) => locked = locked.saturating_add(1),
