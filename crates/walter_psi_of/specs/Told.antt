@@ -19,13 +19,14 @@ session_named tid = record { tid = tid; snapshot = []; updates = []; slow = 0 }
 abbrev pub named : Sessions → List (ℕ × Tid)
 named sessions = map (λ s. (s.0, s.1.tid)) sessions
 
--- the same of the sessions that are told of a site
+-- of a session that is told: whether it is at the site, and its client with the name of its transaction
 abbrev pub is_at : SiteId → SessionAt → Bool
 is_at i s = same_site s.site i
 
 abbrev pub by_client : SessionAt → ℕ × Tid
 by_client s = (s.client, s.tid)
 
+-- those at a site, in order
 abbrev pub sessions_at : SiteId → List SessionAt → List (ℕ × Tid)
 sessions_at i sessions = map by_client (filter (is_at i) sessions)
 

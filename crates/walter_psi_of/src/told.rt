@@ -1,4 +1,4 @@
-ghost use Rattle.std.specs.Prelude.{◌≡◌, ◌-◌, ◌++◌, ◌∷◌, ◌&&◌, [], ℕ, nat_eq, not, filter, slice_get, List, Option, Result, false, OnOk};
+ghost use Rattle.std.specs.Prelude.{◌≡◌, ◌-◌, ◌++◌, ◌∷◌, [], ℕ, not, filter, slice_get, List, Option, Result, false, OnOk};
 ghost use Rattle.walter_base.specs.declared.catalog.Catalog.{Catalog};
 ghost use Rattle.walter_base.specs.declared.message.BadFrame.{BadFrame};
 ghost use Rattle.walter_base.specs.declared.message.Record.{Record};

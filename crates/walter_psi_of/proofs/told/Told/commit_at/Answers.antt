@@ -10,7 +10,8 @@ use Rattle.walter_psi_of.proofs.told.Told.commit_at.Goals as goal
 pub returns : goal.returns
 returns c =
     let found = nth_from_yields_List c.nth.result c.nth.new.self _ c.nth.ensures.ran
-    (YieldsList-from_filter _ (λ (tid : Tid). same_site tid.site c.args.site) (YieldsList-from_slice c.args.self.now.commits.items cc)
-    c.filter.ensures.closure (λ x r q k. search (rules, tests))) in
+    (YieldsList-from_filter _ (λ (tid : Tid). same_site tid.site c.args.site)
+    (YieldsList-from_slice c.args.self.now.commits.items cc) c.filter.ensures.closure
+    (λ x r q k. search (rules, tests))) in
     c.copied.ensures
     ∙ (found ∙ ap (slice_get (commits_of c.args.site c.args.self.now.commits.items)) c.saturating_sub-place.ensures)
