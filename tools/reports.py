@@ -65,11 +65,11 @@ class Cursor:
         self.data, self.at = data, 0
 
     def take(self, packed):
-        fields = struct.unpack_from(">" + packed, self.data, self.at) if self.left() >= struct.calcsize(">" + packed) else None
-        if fields is None:
+        packed, begins = ">" + packed, self.at
+        self.at += struct.calcsize(packed)
+        if self.at > len(self.data):
             raise ValueError("bytes are wanting")
-        self.at += struct.calcsize(">" + packed)
-        return fields
+        return struct.unpack_from(packed, self.data, begins)
 
     def left(self):
         return len(self.data) - self.at

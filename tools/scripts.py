@@ -24,6 +24,7 @@ OPERATIONS = {
 WORDS = {number: word for word, (number, _) in OPERATIONS.items()}
 MOST_BODY = 65536
 
+DIGITS = re.compile("[0-9]{1,20}")
 NAME = r"[A-Za-z_][A-Za-z0-9_-]*"
 TEXT = r'"(?:[^"\\]|\\.)*"'
 CODE = re.compile(rf'((?:[^"#]|{TEXT})*)(?:#.*)?$')
@@ -49,7 +50,7 @@ class Wrong(Exception):
 
 
 def number(text, least, below, what):
-    if not re.fullmatch(r"[0-9]{1,20}", text) or not least <= int(text) < below:
+    if not DIGITS.fullmatch(text) or not least <= int(text) < below:
         raise Wrong(what)
     return int(text)
 
@@ -136,12 +137,13 @@ def value_in(frame):
     return frame[21:]
 
 
-def front(sent):
-    """The first frame of a client's bytes, or all of them where none is whole."""
-    if len(sent) < 4:
-        return sent
-    length = struct.unpack(">I", sent[:4])[0]
-    return sent[: 4 + length] if length <= MOST_BODY and len(sent) >= 4 + length else sent
+def front(sent, at):
+    """The first frame of a client's bytes from a place on, or all of them where none is whole."""
+    if len(sent) < at + 4:
+        return sent[at:]
+    length = struct.unpack_from(">I", sent, at)[0]
+    is_whole = length <= MOST_BODY and len(sent) >= at + 4 + length
+    return sent[at : at + 4 + length] if is_whole else sent[at:]
 
 
 # ---- scripts
@@ -201,7 +203,7 @@ class Script:
         if not re.fullmatch(NAME, name) or name in self.numbers:
             raise Wrong("a client's name that is new: letters, digits, _ and -, no digit first")
         self.numbers[name] = len(self.clients)
-        self.clients.append([self.site(site), b""])
+        self.clients.append([self.site(site), bytearray()])
 
     def take_armed(self, *fault):
         self.arms.append(self.fault(*fault))
@@ -231,8 +233,8 @@ class Script:
         """Takes a line without a colon."""
         if self.sites is None and words[0] != "sites":
             raise Wrong("sites N tolerated F first")
-        for form, take in FORMS.items():
-            given = fit(form.split(), words)
+        for form, take in FORMS_OF.get(words[0], ()):
+            given = fit(form, words)
             if given is not None:
                 return take(self, *given)
         raise Wrong("one of " + "; ".join([*FORMS, "NAME: OPERATION .."]))
@@ -275,7 +277,7 @@ class Script:
         return made
 
 
-# What a line without a colon may be: capitals stand for what is given there.
+# What a line without a colon may be: capitals stand for what is given there. `FORMS_OF` has them in parts, by the first.
 FORMS = {
     "sites N tolerated F": Script.take_sites,
     "capacity N": Script.take_capacity,
@@ -290,6 +292,8 @@ FORMS = {
     "advance SITE from SITE": Script.take_advance,
     "tick SITE": Script.take_tick,
 }
+PARTS = [(form.split(), take) for form, take in FORMS.items()]
+FORMS_OF = {parts[0]: [one for one in PARTS if one[0][0] == parts[0]] for parts, _ in PARTS}
 
 
 def fit(form, words):
@@ -319,26 +323,26 @@ def read(text):
     return read_script(text).scenario()
 
 
-def turn_lines(name, sent):
-    """The lines of one turn, and the bytes that are left behind it."""
-    frame = front(sent)
+def turn_lines(name, frame):
+    """The lines of one turn, that of a frame, or of no bytes."""
     if not frame:
-        return [f"{name}: again"], sent
+        return [f"{name}: again"]
     words = words_of(frame)
-    lines = [f"{name}: {words}"] if words else [f"{name}: bytes {frame.hex()}", f"{name}: again"]
-    return lines, sent[len(frame) :]
+    return [f"{name}: {words}"] if words else [f"{name}: bytes {frame.hex()}", f"{name}: again"]
 
 
 def words_of_step(word, *numbers):
     """The line of a step that isn't a client's turn."""
-    form = next(form for form in FORMS if form.split()[0] == word)
+    form, _ = FORMS_OF[word][0]
     given = iter(numbers)
-    return " ".join(str(next(given)) if part.isupper() else part for part in form.split())
+    return " ".join(str(next(given)) if part.isupper() else part for part in form)
 
 
 def write(made):
     """A script of a scenario. Clients are named by their numbers, client0 and so on."""
     sent = [bytes.fromhex(sent) for _, sent in made["clients"]]
+    # How many of each client's bytes its turns have sent so far.
+    ends = [0] * len(sent)
     lines = [f"sites {made['sites']} tolerated {made['f']}"]
     if "capacity" in made:
         lines.append(f"capacity {made['capacity']}")
@@ -348,13 +352,15 @@ def write(made):
     lines += [words_of_step("armed", *arm) for arm in made.get("arms", [])]
     for word, where, *more in made["steps"]:
         if word == "call":
-            turns, sent[where] = turn_lines(f"client{where}", sent[where])
-            lines += turns
+            frame = front(sent[where], ends[where])
+            ends[where] += len(frame)
+            lines += turn_lines(f"client{where}", frame)
         elif word in STEPS:
             lines.append(words_of_step(word, where, *more))
         else:
             raise ValueError(word)
-    lines += [f"client{place}: bytes {rest.hex()}" for place, rest in enumerate(sent) if rest]
+    rests = [client[end:] for client, end in zip(sent, ends)]
+    lines += [f"client{place}: bytes {rest.hex()}" for place, rest in enumerate(rests) if rest]
     return "\n".join(lines) + "\n"
 
 

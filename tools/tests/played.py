@@ -33,6 +33,11 @@ def source_of(example):
 
 
 @functools.lru_cache(maxsize=None)
+def random_scenario(seed):
+    return compare.scenario(seed)
+
+
+@functools.lru_cache(maxsize=None)
 def by_model(text):
     return model.played(json.loads(text), Counter())
 
@@ -40,7 +45,7 @@ def by_model(text):
 @functools.lru_cache(maxsize=None)
 def random_run(seed):
     """The model's run of a random scenario, and what the tools read of it."""
-    text = json.dumps(compare.scenario(seed))
+    text = json.dumps(random_scenario(seed))
     return by_model(text), runs.Run(runs.Scenario(text), reports.read(by_model(text).text()))
 
 
