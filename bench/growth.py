@@ -30,7 +30,7 @@ CLIENTS = 10
 SITES = 3
 MOST_BYTES, MOST_ENTRIES = 16_777_216, 100_000
 START, COMMIT = "0000000101", "0000000108"
-# A program of its own, as the memory of what a process runs is never told to be less than its own.
+# In a small process of its own: what a child took is never told as less than its parent had.
 MEMORY_OF = """
 import resource, subprocess, sys
 subprocess.run(sys.argv[1:], stdout=subprocess.DEVNULL, check=True)
