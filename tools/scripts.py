@@ -7,6 +7,7 @@ import functools
 import json
 import re
 import struct
+from collections import namedtuple
 
 # What each operation has behind its number, by docs/FORMATS.md, "Frames of a client".
 OPERATIONS = {
@@ -87,8 +88,10 @@ def field_of(kind, tokens):
     return struct.pack(packed, *(number(part, 0, limit, wants) for part, limit in zip(parts, limits)))
 
 
-def frame_of(tokens):
+@functools.lru_cache(maxsize=16384)
+def frame_of(words):
     """The frame of a request, by its words."""
+    tokens = TOKEN.findall(words)
     word = tokens.pop(0) if tokens else ""
     if word not in OPERATIONS:
         raise Wrong(f"bytes, again, or one of {', '.join(OPERATIONS)}")
@@ -127,7 +130,7 @@ def words_of(frame):
             text, rest = words_of_field(kind, rest)
             words.append(text)
         line = " ".join(words)
-        return line if frame_of(TOKEN.findall(line)) == frame else None
+        return line if frame_of(line) == frame else None
     except (struct.error, Wrong):
         return None
 
@@ -231,26 +234,27 @@ class Script:
 
     def declare(self, words):
         """Takes a line without a colon."""
-        if self.sites is None and words[0] != "sites":
+        first = words.split(maxsplit=1)[0]
+        if self.sites is None and first != "sites":
             raise Wrong("sites N tolerated F first")
-        for form, take in FORMS_OF.get(words[0], ()):
-            given = fit(form, words)
-            if given is not None:
-                return take(self, *given)
+        for form in FORMS_OF.get(first, ()):
+            given = form.pattern.fullmatch(words)
+            if given:
+                return form.take(self, *given.groups())
         raise Wrong("one of " + "; ".join([*FORMS, "NAME: OPERATION .."]))
 
-    def turn(self, name, tokens):
+    def turn(self, name, words):
         """Takes a line of a client: a request and its turn, bytes without a turn, or a turn without bytes."""
         if name not in self.numbers:
             raise Wrong(f"a client that was declared by client {name} at SITE")
-        client = self.numbers[name]
+        client, tokens = self.numbers[name], TOKEN.findall(words)
         if tokens[:1] == ["bytes"] and len(tokens) == 2:
             if not re.fullmatch(r"([0-9a-fA-F]{2})+", tokens[1]):
                 raise Wrong("an even number of hex digits behind bytes")
             self.clients[client][1] += bytes.fromhex(tokens[1])
             return
         if tokens != ["again"]:
-            self.clients[client][1] += frame_of(tokens)
+            self.clients[client][1] += frame_of(words)
         self.step("call", client)
 
     def take(self, line):
@@ -262,9 +266,9 @@ class Script:
             return
         turn = LINE.fullmatch(words)
         if turn is not None:
-            self.turn(turn[1], TOKEN.findall(turn[2]))
+            self.turn(turn[1], turn[2])
         else:
-            self.declare(words.split())
+            self.declare(words)
 
     def scenario(self):
         made = {"sites": self.sites, "f": self.tolerated, "containers": self.containers}
@@ -277,7 +281,7 @@ class Script:
         return made
 
 
-# What a line without a colon may be: capitals stand for what is given there. `FORMS_OF` has them in parts, by the first.
+# What a line without a colon may be: capitals stand for what is given there.
 FORMS = {
     "sites N tolerated F": Script.take_sites,
     "capacity N": Script.take_capacity,
@@ -292,16 +296,20 @@ FORMS = {
     "advance SITE from SITE": Script.take_advance,
     "tick SITE": Script.take_tick,
 }
-PARTS = [(form.split(), take) for form, take in FORMS.items()]
-FORMS_OF = {parts[0]: [one for one in PARTS if one[0][0] == parts[0]] for parts, _ in PARTS}
+Form = namedtuple("Form", "parts pattern take")
 
 
-def fit(form, words):
-    """What is given for the capitals of a form, or None where the words have another form."""
-    pairs = list(zip(form, words))
-    if len(form) != len(words) or any(part != word for part, word in pairs if not part.isupper()):
-        return None
-    return [word for part, word in pairs if part.isupper()]
+def by_word(forms):
+    """The forms by their first words, each with its parts and its pattern."""
+    by = {}
+    for form, take in forms.items():
+        parts = form.split()
+        pattern = re.compile(r"\s+".join(r"(\S+)" if part.isupper() else part for part in parts))
+        by.setdefault(parts[0], []).append(Form(parts, pattern, take))
+    return by
+
+
+FORMS_OF = by_word(FORMS)
 
 
 def read_script(text):
@@ -333,9 +341,8 @@ def turn_lines(name, frame):
 
 def words_of_step(word, *numbers):
     """The line of a step that isn't a client's turn."""
-    form, _ = FORMS_OF[word][0]
     given = iter(numbers)
-    return " ".join(str(next(given)) if part.isupper() else part for part in form)
+    return " ".join(str(next(given)) if part.isupper() else part for part in FORMS_OF[word][0].parts)
 
 
 def write(made):
