@@ -1,6 +1,7 @@
 """Runs for the tests: the examples, and random scenarios of bench/, all played by the plain model of bench/."""
 
 import functools
+import gc
 import glob
 import json
 import os
@@ -15,6 +16,8 @@ import reports
 import runs
 
 RANDOM = range(200)
+# All runs are kept to the end, and a collector would walk through them again and again.
+gc.disable()
 
 
 def file_text(path):
