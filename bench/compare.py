@@ -1,14 +1,16 @@
 #!/usr/bin/env python3
 """Plays random scenarios, and compares each report and trace with those of the plain model in model.py.
 
-They are those of generator.py: of one site and of several, one of ten made to come to a limit. Says how often each reply,
-reason of a refusal, outcome, record and packet was met, and each limit, with a number at it and with one above it; and which
-of these were not met. Ends with status 1 where a scenario differs, and prints its seed and the first line that does. With
---unproved the program is run without any proof, by `rt try`, on all scenarios together, and what this says of each that
-differs is printed; with --model the model plays alone, and nothing is compared.
+They are those of generator.py: of one site and of several, one of ten made to come to a limit; with --several those of two
+to eight sites alone, as many as are asked for. Says how often each reply, reason of a refusal, outcome, record and packet
+was met, and each limit, with a number at it and with one above it; and which of these were not met. Ends with status 1 where
+a scenario differs, and prints its seed and the first line that does. With --unproved the program is run without any proof,
+by `rt try`, on all scenarios together, and what this says of each that differs is printed; with --model the model plays
+alone, and nothing is compared.
 """
 
 import argparse
+import itertools
 import json
 import os
 import subprocess
@@ -80,14 +82,14 @@ def packets_met(run):
     """How the packets of each lane came, and the votes among them."""
     for site in run.sites:
         for peer in site.peers:
-            put_out = run.sites[peer].put_out[site.me]
-            events = (entry.event.split(":") for entry in site.entries)
-            came = [int(event[2]) for event in events if event[:2] == ["deliver", str(peer)]]
+            put_out, came, last = run.sites[peer].put_out[site.me], set(), 0
             yield from (vote_met(packet) for _, packet in put_out if packet[0] == VOTE)
-            yield from ["packet never"] * (len(put_out) - len(set(came)))
-            for place, number in enumerate(came):
-                before = came[:place]
-                yield "packet " + ("again" if number in before else "late" if number < max(before, default=0) else "in order")
+            events = (entry.event.split(":") for entry in site.entries)
+            for number in (int(event[2]) for event in events if event[:2] == ["deliver", str(peer)]):
+                yield "packet " + ("again" if number in came else "late" if number < last else "in order")
+                came.add(number)
+                last = max(last, number)
+            yield from ["packet never"] * (len(put_out) - len(came))
 
 
 def count_met(run, steps, met):
@@ -137,9 +139,16 @@ def compare_unproved(folder, count):
         sys.exit("\n".join(line for line in tried.stdout.splitlines() if "output=expected" not in line))
 
 
+def made_from(first, count, several):
+    """So many seeds from the first on, each with its scenario; of several sites alone, where these are asked for."""
+    all_made = ((seed, scenario(seed)) for seed in itertools.count(first))
+    return itertools.islice((one for one in all_made if one[1]["sites"] > 1 or not several), count)
+
+
 def main():
     parser = argparse.ArgumentParser(description=__doc__, formatter_class=argparse.RawDescriptionHelpFormatter)
     parser.add_argument("--scenarios", type=int, default=1000, metavar="N", help="how many are played; 1000 without it")
+    parser.add_argument("--several", action="store_true", help="play those of two to eight sites alone, and count only these")
     parser.add_argument("--seed", type=int, default=0, metavar="N", help="the seed of the first; 0 without it")
     parser.add_argument("--program", metavar="PATH", help="the program; without it that of this repository, which "
                         "./walter proves and builds first where that isn't done yet")
@@ -150,8 +159,7 @@ def main():
     program = None if words.model or words.unproved else words.program or built()
     met = Counter()
     with tempfile.TemporaryDirectory() as folder:
-        for seed in range(words.seed, words.seed + words.scenarios):
-            made = scenario(seed)
+        for seed, made in made_from(words.seed, words.scenarios, words.several):
             run = model.played(made, met)
             if program:
                 compare(program, seed, made, run.text())
@@ -164,7 +172,8 @@ def main():
     print("met: " + "; ".join(f"{kind}: {met[kind]:,}" for kind in ALL if met[kind]))
     print("not met: " + ("; ".join(kind for kind in ALL if not met[kind]) or "none"))
     how = "played by the model" if words.model else "the same"
-    print(f"{words.scenarios:,} scenarios from seed {words.seed}: {how}")
+    which = "scenarios of several sites" if words.several else "scenarios"
+    print(f"{words.scenarios:,} {which} from seed {words.seed}: {how}")
 
 
 if __name__ == "__main__":

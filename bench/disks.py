@@ -41,7 +41,10 @@ class Disk:
     def sync(self):
         if self.is_failing():
             raise Failed
-        self.safe, self.pending = bytearray(self.reads), []
+        # No call has failed since the disk settled, so with what is pending it is what reads give.
+        for at, data in self.pending:
+            overwrite(self.safe, at, data)
+        self.pending = []
 
     def read(self):
         if self.is_failing():

@@ -4,10 +4,17 @@
 Plays a scenario of 10,000 calls and one of 20,000, spread over as many objects as they have transactions, and prints
 the least time of five runs of each, and their ratio: about 2 where a call costs what it touches and not what the store
 holds. Then the same of 2,500 and of 5,000 transactions at three sites, each of which reaches every site and is durable and
-visible in the end; these runs' reports are looked at too. Takes one argument at most, the program; without it `./walter`
-beside this folder is run, which proves and builds the program where that isn't done yet.
+visible in the end; these runs' reports are looked at too, and the memory is printed that the 5,000 take.
+
+With --example it plays nothing, and writes one of the two big examples. Both are made so, and the scripts beside them:
+
+    for run in ten_thousand_calls five_thousand_transactions; do
+        python3 bench/growth.py --example $run > examples/$run.json
+        tools/scenario --back examples/$run.json > examples/$run.script
+    done
 """
 
+import argparse
 import json
 import os
 import re
@@ -16,22 +23,35 @@ import sys
 import tempfile
 import time
 from collections import Counter
+from string import ascii_lowercase
 
 HERE = os.path.dirname(os.path.abspath(__file__))
 CLIENTS = 10
 SITES = 3
 MOST_BYTES, MOST_ENTRIES = 16_777_216, 100_000
 START, COMMIT = "0000000101", "0000000108"
+# In a small process of its own: what a child took is never told as less than its parent had.
+MEMORY_OF = """
+import resource, subprocess, sys
+subprocess.run(sys.argv[1:], stdout=subprocess.DEVNULL, check=True)
+print(resource.getrusage(resource.RUSAGE_CHILDREN).ru_maxrss)
+"""
 
 
-def write(container, local):
+def write(container, local, value="a"):
     """The frame of a write of one byte to an object."""
-    return f"0000001203{container:08x}{local:016x}0000000161"
+    return f"0000001203{container:08x}{local:016x}00000001{ord(value):02x}"
 
 
-def transaction(local):
+def transaction(local, value="a"):
     """The frames of a start, a write of one byte to the object 1:local, a read of it, and a commit."""
-    return START + write(1, local) + f"0000000d0200000001{local:016x}" + COMMIT
+    return START + write(1, local, value) + f"0000000d0200000001{local:016x}" + COMMIT
+
+
+def at_one_site(sent, turns):
+    clients = ",".join(f'[0,"{frames}"]' for frames in sent)
+    steps = ",".join(f'["call",{client}]' for client in turns)
+    return f'{{"sites":1,"f":0,"containers":[[1,"regular",0]],"clients":[{clients}],"steps":[{steps}]}}'
 
 
 def scenario(calls):
@@ -39,10 +59,15 @@ def scenario(calls):
     sent = [""] * CLIENTS
     for number in range(transactions):
         sent[number % CLIENTS] += transaction(number)
-    clients = ",".join(f'[0,"{frames}"]' for frames in sent)
     # A client's four calls come one after another, so no two transactions are open at once.
-    steps = ",".join(f'["call",{number % CLIENTS}]' for number in range(transactions) for _ in range(4))
-    return f'{{"sites":1,"f":0,"containers":[[1,"regular",0]],"clients":[{clients}],"steps":[{steps}]}}'
+    return at_one_site(sent, [number % CLIENTS for number in range(transactions) for _ in range(4)])
+
+
+def ten_thousand_calls():
+    """Ten clients take turns, each over an object of its own, in which its transactions write one letter after another."""
+    letters = [ascii_lowercase[number % 26] for number in range(10_000 // 4 // CLIENTS)]
+    sent = ["".join(transaction(client + 1, letter) for letter in letters) for client in range(CLIENTS)]
+    return at_one_site(sent, [number % CLIENTS for number in range(10_000)])
 
 
 class Spread:
@@ -84,6 +109,9 @@ def spread(transactions):
     return json.dumps(Spread(transactions).made(), separators=(",", ":"))
 
 
+EXAMPLES = {"ten_thousand_calls": ten_thousand_calls, "five_thousand_transactions": lambda: spread(5_000)}
+
+
 def strays(report, transactions):
     """The sites whose line doesn't say that each transaction was committed there, or that has too many entries."""
     lines = re.findall(r"^site (\d) up epoch 1 events (\d+) records \d+ got (\S+) committed (\S+) log (\S+)$", report, re.M)
@@ -118,12 +146,31 @@ def time_of_spread(program, transactions):
     return least_time(program, text)
 
 
+def memory(program, text):
+    """The most memory that a run takes, in MB."""
+    with tempfile.TemporaryFile("w+") as source:
+        source.write(text)
+        source.seek(0)
+        measured = subprocess.run([sys.executable, "-c", MEMORY_OF, program, "play"], stdin=source, stdout=subprocess.PIPE,
+                                  check=True)
+    return int(measured.stdout) * 1024 / 1_000_000
+
+
 def main():
-    program = sys.argv[1] if len(sys.argv) > 1 else os.path.join(HERE, "..", "walter")
+    parser = argparse.ArgumentParser(description=__doc__, formatter_class=argparse.RawDescriptionHelpFormatter)
+    parser.add_argument("program", nargs="?", default=os.path.join(HERE, "..", "walter"), help="the program; without it "
+                        "./walter of this repository, which proves and builds it where that isn't done yet")
+    parser.add_argument("--example", choices=EXAMPLES, help="write this example, and play nothing")
+    words = parser.parse_args()
+    if words.example:
+        print(EXAMPLES[words.example]())
+        return
+    program = words.program
     fewer, more = (least_time(program, scenario(calls)) for calls in (10_000, 20_000))
     print(f"10,000 calls: {fewer:.3f} s; 20,000 calls: {more:.3f} s; ratio {more / fewer:.2f}")
     fewer, more = (time_of_spread(program, transactions) for transactions in (2_500, 5_000))
-    print(f"at three sites, 2,500 transactions: {fewer:.3f} s; 5,000 transactions: {more:.3f} s; ratio {more / fewer:.2f}")
+    print(f"at three sites, 2,500 transactions: {fewer:.3f} s; 5,000 transactions: {more:.3f} s; ratio {more / fewer:.2f}; "
+          f"memory {memory(program, spread(5_000)):.0f} MB")
 
 
 if __name__ == "__main__":

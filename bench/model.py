@@ -1,13 +1,13 @@
 """A plain model of Walter: what `walter play --trace` writes of a scenario, of any number of sites.
 
 It says again what docs/SITE.md and docs/FORMATS.md say, and docs/DECISIONS.md of the disk, and shares nothing with the
-program: a site keeps the list of the transactions that it has, and computes each answer anew from it; after a stop it learns
-all its records again. It takes scenarios that are right, and is no checker of them. Nor does it know want of memory, the end
-of a trail at 100,000 entries, or the step that pumps.
+program: a site keeps the transactions that it has, by version, and what they did, by object; it computes each answer anew
+from these, and after a stop it learns all its records again. It takes scenarios that are right, and is no checker of them.
+Nor does it know want of memory, the end of a trail at 100,000 entries, or the step that pumps.
 """
 
 import struct
-from collections import Counter, namedtuple
+from collections import Counter, defaultdict, namedtuple
 
 from disks import Disk, Failed, Full, Journal
 from spelled import *
@@ -30,16 +30,17 @@ def meet(met, what, number, limit):
 
 def calls_of(sent, met):
     """The calls of a client's bytes: requests, or None with a place."""
-    while len(sent) >= 4:
-        (length,) = struct.unpack_from(">I", sent)
+    body = 4
+    while len(sent) >= body:
+        (length,) = struct.unpack_from(">I", sent, body - 4)
         meet(met, "bytes of a frame", length, 65536)
         if length > 65536:
             yield None, 0
             return
-        if len(sent) < 4 + length:
+        if len(sent) < body + length:
             return
-        yield request_of(sent[4 : 4 + length])
-        sent = sent[4 + length :]
+        yield request_of(sent[body : body + length])
+        body += length + 4
 
 
 def sees(vector, site, number):
@@ -76,6 +77,10 @@ class SlowCommit:
         if self.stands == "undecided":
             self.stands = "dropped"
 
+    def is_settled(self):
+        """Whether a Tick has nothing to say of it any more."""
+        return self.stands == "decided" or self.stands == "dropped" and self.confirmed == set(self.asked)
+
 
 class Site:
     """What the rules say of one site. `put_out` has what it sent to each other site; `waiting`, how much has not arrived."""
@@ -97,13 +102,21 @@ class Site:
 
     def forget(self):
         """Nothing is known; then what the records tell."""
-        self.epoch, self.log, self.slows, self.last = 0, [], {}, 0
+        # The transactions by version, in the order in which they came, and the numbers of the own ones by their names.
+        self.log, self.numbers = {}, {}
+        # Of each object what the log has of it, in its order: (site, number, update).
+        self.rows = defaultdict(list)
+        # The slow commits by number and by the names of their transactions, and those of which a Tick may speak.
+        self.slows, self.slow_of, self.unsettled = {}, {}, {}
+        self.epoch, self.last = 0, 0
         self.got, self.committed = [0] * self.count, [0] * self.count
         self.locks, self.over, self.floors = {}, {k: set() for k in self.peers}, (0, 0)
         for record in self.records:
             self.learn(record)
         self.starts, self.sessions = 0, {}
         self.acked, self.seen_by, self.durable_at = ({k: 0 for k in self.peers} for _ in range(3))
+        # How many own commits are durable by what was acknowledged.
+        self.counted = 0
 
     def learn(self, record):
         kind, *fields = record
@@ -113,18 +126,20 @@ class Site:
                 slow.end()
                 slow.confirmed = set()
                 self.locks.pop((self.me, number), None)
+            self.unsettled = {number: slow for number, slow in self.slows.items() if not slow.is_settled()}
         elif kind == OWN:
-            self.log.append((self.me, *fields))
-            self.got[self.me] = self.committed[self.me] = fields[0]
-            if fields[1].slow:
-                self.slows[fields[1].slow].stands = "decided"
-                self.locks.pop((self.me, fields[1].slow), None)
+            number, tx = fields
+            self.keep(self.me, number, tx)
+            self.committed[self.me] = self.numbers[tx.tid] = number
+            if tx.slow:
+                self.slows[tx.slow].stands = "decided"
+                del self.unsettled[tx.slow]
+                self.locks.pop((self.me, tx.slow), None)
         elif kind == GOT:
-            self.log.append(tuple(fields))
-            self.got[fields[0]] = fields[1]
+            self.keep(*fields)
         elif kind == SEEN:
             self.committed[fields[0]] = fields[1]
-            slow = self.held(*fields).slow
+            slow = self.log[tuple(fields)].slow
             if slow:
                 self.let_go(fields[0], slow)
         elif kind == PREPARED:
@@ -134,7 +149,8 @@ class Site:
         elif kind == SLOW_BEGIN:
             self.last, tx = fields
             asked = sorted({self.home(oid) for oid in writes_of(tx.updates)} - {self.me})
-            self.slows[self.last] = SlowCommit(tx, asked)
+            slow = SlowCommit(tx, asked)
+            self.slows[self.last] = self.slow_of[tx.tid] = self.unsettled[self.last] = slow
             self.locks[self.me, self.last] = tx.tid, self.here(tx.updates)
         elif kind == SLOW_END:
             self.slows[fields[0]].end()
@@ -142,15 +158,18 @@ class Site:
         elif kind == MARKS:
             self.floors = tuple(fields)
 
+    def keep(self, site, number, tx):
+        self.log[site, number] = tx
+        for update in tx.updates:
+            self.rows[update[1]].append((site, number, update))
+        self.got[site] = number
+
     def let_go(self, coordinator, slow):
         self.locks.pop((coordinator, slow), None)
         self.over[coordinator].add(slow)
 
     def own(self):
         return self.committed[self.me]
-
-    def held(self, site, number):
-        return next(tx for other, seq, tx in self.log if (other, seq) == (site, number))
 
     def home(self, oid):
         return self.containers[oid[0]][1]
@@ -166,28 +185,32 @@ class Site:
         return all(self.is_declared(oid, "regular" if what == WRITE else "cset") for what, oid, _ in updates)
 
     def conflict(self, objects, start):
+        """What stands in the way of a commit of these regular objects, whose rows have writes alone."""
         for oid in objects:
-            for site, seq, tx in self.log:
-                if not sees(start, site, seq) and oid in writes_of(tx.updates):
+            for site, seq, _ in self.rows[oid]:
+                if not sees(start, site, seq):
                     return MODIFIED, oid, (site, seq)
             for owner, locked in self.locks.values():
                 if oid in locked:
                     return LOCKED, oid, owner
         return None
 
-    def holders(self, acked, number):
-        return {self.me, *(k for k in self.peers if acked[k] >= number)}
+    def is_durable(self, number, acked):
+        holders = {self.me, *(k for k in self.peers if acked[k] >= number)}
+        homes = {self.home(oid) for _, oid, _ in self.log[self.me, number].updates}
+        return len(holders) > self.tolerated and homes <= holders
 
     def marks(self, acked=None, seen_by=None):
-        """The durable and the visible mark, by what peers have said."""
-        acked, seen_by, durable = acked or self.acked, seen_by or self.seen_by, 0
-        for number in range(1, self.own() + 1):
-            holders = self.holders(acked, number)
-            homes = {self.home(oid) for _, oid, _ in self.held(self.me, number).updates}
-            if len(holders) <= self.tolerated or not homes <= holders:
-                break
-            durable = number
-        visible = min([self.own(), *(seen_by[k] for k in self.peers)])
+        """The durable and the visible mark, by what peers have said, or would have said.
+
+        What they have acknowledged only grows until the site goes down, so the durable commits are counted on from where they
+        were counted last."""
+        durable = self.counted
+        while durable < self.own() and self.is_durable(durable + 1, acked or self.acked):
+            durable += 1
+        if not acked:
+            self.counted = durable
+        visible = min([self.own(), *(seen_by or self.seen_by).values()])
         return max(self.floors[0], durable), max(self.floors[1], visible)
 
     # What comes of an event
@@ -227,8 +250,7 @@ class Site:
                 return outcome
             self.records.append(plan.record)
         commits = plan.record is not None and plan.record[0] == OWN
-        # The marks cost the most of all; where there is no peer nobody is told of them.
-        before = self.marks()[0] if commits and self.peers else 0
+        before = self.marks()[0] if commits else 0
         if plan.record:
             self.learn(plan.record)
         plan.change()
@@ -237,14 +259,12 @@ class Site:
         return plan.outcome
 
     def own_sends(self, before):
-        if not self.peers:
-            return []
         number, durable = self.own(), self.marks()[0]
         sends = [(k, self.propagate(number)) for k in self.peers if number <= self.acked[k] + WINDOW]
         return sends + ([(k, (DSMARK, durable)) for k in self.peers] if durable > before else [])
 
     def propagate(self, number):
-        return PROPAGATE, number, self.held(self.me, number)
+        return PROPAGATE, number, self.log[self.me, number]
 
     def stop(self):
         was = self.up
@@ -284,7 +304,7 @@ class Site:
         if not self.up:
             return self.enter(stamp, event, "down")
         number = self.committed[j] + 1
-        enabled = number <= min(self.got[j], self.durable_at[j]) and covers(self.committed, self.held(j, number).start)
+        enabled = number <= min(self.got[j], self.durable_at[j]) and covers(self.committed, self.log[j, number].start)
         plan = Plan("taken", (SEEN, j, number), sends=lambda: [(j, (VISIBLE, number))]) if enabled else Plan("passed")
         return self.carry_out(plan, stamp, event)
 
@@ -299,7 +319,7 @@ class Site:
         said = [self.propagate(number) for number in range(self.acked[k] + 1, last + 1)]
         said += [(kind, number) for kind, number in
                  ((ACK, self.got[k]), (DSMARK, self.marks()[0]), (VISIBLE, self.committed[k])) if number > 0]
-        for number, slow in self.slows.items():
+        for number, slow in self.unsettled.items():
             if slow.stands == "undecided" and k in slow.asked and k not in slow.yes:
                 said.append(self.prepare(number, k))
             if slow.stands == "dropped" and k in slow.asked and k not in slow.confirmed:
@@ -391,7 +411,13 @@ class Site:
         slow = self.slows.get(number)
         if not slow or slow.stands != "dropped" or j not in slow.asked or j in slow.confirmed:
             return Plan("passed")
-        return Plan("taken", change=lambda: slow.confirmed.add(j))
+
+        def confirmed():
+            slow.confirmed.add(j)
+            if slow.is_settled():
+                del self.unsettled[number]
+
+        return Plan("taken", change=confirmed)
 
     # Calls
 
@@ -436,11 +462,11 @@ class Site:
             return refusal(14)
         if not (0 < epoch <= self.epoch and 0 < number and (epoch < self.epoch or number <= self.starts)):
             return refusal(15)
-        durable, visible = self.marks()
-        for other, seq, tx in self.log:
-            if other == self.me and tx.tid == tid:
-                return bytes([LEVEL_IS, 5 if seq <= visible else 4 if seq <= durable else 3])
-        if any(slow.tx.tid == tid and slow.stands == "undecided" for slow in self.slows.values()):
+        if tid in self.numbers:
+            durable, visible = self.marks()
+            number = self.numbers[tid]
+            return bytes([LEVEL_IS, 5 if number <= visible else 4 if number <= durable else 3])
+        if tid in self.slow_of and self.slow_of[tid].stands == "undecided":
             return bytes([LEVEL_IS, 2])
         return bytes([LEVEL_IS, any(one.tid == tid and not one.slow for one in self.sessions.values())])
 
@@ -468,8 +494,7 @@ class Site:
                 return Plan(bytes([DECIDING]) + name_of(session.tid))
             if slow.stands == "dropped":
                 return Plan(bytes([ABORTED]) + conflict_of(slow.cause), change=end)
-            seq = next(seq for site, seq, tx in self.log if (site, tx.tid) == (self.me, session.tid))
-            return Plan(struct.pack(">BBQ", COMMITTED, self.me, seq), change=end)
+            return Plan(struct.pack(">BBQ", COMMITTED, self.me, self.numbers[session.tid]), change=end)
         if not session.updates:
             return Plan(bytes([ENDED]), change=end)
         conflict = self.conflict(self.here(session.updates), session.start)
@@ -493,8 +518,8 @@ class Site:
             return refusal(2)
         if operation in (WRITE, SET_ADD, SET_DEL):
             return self.update(session, (operation, oid, what))
-        seen = [update for site, seq, tx in self.log if sees(session.start, site, seq) for update in tx.updates]
-        return self.read(operation, oid, what, seen + session.updates)
+        seen = [update for site, seq, update in self.rows[oid] if sees(session.start, site, seq)]
+        return self.read(operation, what, seen + [update for update in session.updates if update[1] == oid])
 
     def update(self, session, update):
         if update[0] == WRITE:
@@ -510,14 +535,12 @@ class Site:
         session.size = size
         return bytes([DONE])
 
-    def read(self, operation, oid, what, updates):
-        of_object = [update for update in updates if update[1] == oid]
+    def read(self, operation, what, updates):
+        """What a read of an object answers that had these updates."""
         if operation == READ:
-            if not of_object:
-                return bytes([VALUE, 0])
-            return struct.pack(">BBI", VALUE, 1, len(of_object[-1][2])) + of_object[-1][2]
+            return bytes([VALUE, 1]) + frame(updates[-1][2]) if updates else bytes([VALUE, 0])
         counts = Counter()
-        for kind, _, number in of_object:
+        for kind, _, number in updates:
             counts[number] += 1 if kind == SET_ADD else -1
         if operation == SET_READ_ID:
             return struct.pack(">Bq", COUNT, counts[what])

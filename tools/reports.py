@@ -33,17 +33,18 @@ CLIENT_LINE = re.compile(f"client {NUMBER} site {NUMBER} replies {NUMBER} {HEX}"
 SITE_LINE = re.compile(f"site {NUMBER} (up|down) epoch {NUMBER} events {NUMBER} records {NUMBER} "
                        f"got {LIST} committed {LIST} log {VERSIONS}")
 ENTRY_LINE = re.compile(rf"e {NUMBER} {NUMBER} (\S+) (\S+) {HEX} {HEX} {HEX} (\S+) {NUMBER}")
-EVENTS = [
-    re.compile(f"(call):{NUMBER}:({'|'.join(CALLS)})"),
-    re.compile(f"(deliver):{NUMBER}:{NUMBER}:({'|'.join(PACKETS)})"),
-    re.compile(f"(advance):{NUMBER}"),
-    re.compile("(tick|stop|restart)"),
-]
-OUTCOMES = [
-    re.compile("(reply):((?:[0-9a-f]{2})+)"),
-    re.compile(f"(full):{NUMBER}:{NUMBER}"),
-    re.compile("(taken|passed|failed|memory|down)"),
-]
+# Events and outcomes, by their words.
+EVENTS = {
+    "call": re.compile(f"(call):{NUMBER}:({'|'.join(CALLS)})"),
+    "deliver": re.compile(f"(deliver):{NUMBER}:{NUMBER}:({'|'.join(PACKETS)})"),
+    "advance": re.compile(f"(advance):{NUMBER}"),
+    **{word: re.compile(f"({word})") for word in ("tick", "stop", "restart")},
+}
+OUTCOMES = {
+    "reply": re.compile("(reply):((?:[0-9a-f]{2})+)"),
+    "full": re.compile(f"(full):{NUMBER}:{NUMBER}"),
+    **{word: re.compile(f"({word})") for word in ("taken", "passed", "failed", "memory", "down")},
+}
 SEND = re.compile(f"{NUMBER}:({'|'.join(PACKETS)})")
 
 
@@ -65,11 +66,11 @@ class Cursor:
         self.data, self.at = data, 0
 
     def take(self, packed):
-        fields = struct.unpack_from(">" + packed, self.data, self.at) if self.left() >= struct.calcsize(">" + packed) else None
-        if fields is None:
+        packed, begins = ">" + packed, self.at
+        self.at += struct.calcsize(packed)
+        if self.at > len(self.data):
             raise ValueError("bytes are wanting")
-        self.at += struct.calcsize(">" + packed)
-        return fields
+        return struct.unpack_from(packed, self.data, begins)
 
     def left(self):
         return len(self.data) - self.at
@@ -222,8 +223,9 @@ def numbers_of(text):
     return tuple(map(int, text.split(",")))
 
 
-def first_match(patterns, text):
-    return next((match for match in (pattern.fullmatch(text) for pattern in patterns) if match), None)
+def match_of(patterns, text):
+    pattern = patterns.get(text.split(":", 1)[0])
+    return pattern and pattern.fullmatch(text)
 
 
 def parts_of(match):
@@ -300,7 +302,7 @@ class Reading:
         return Entry(self.at, match[0], stamp, site, event, outcome, *records, sends, int(match[9]))
 
     def event(self, text, site, clients):
-        match = first_match(EVENTS, text)
+        match = match_of(EVENTS, text)
         self.check(match, "an event")
         event = parts_of(match)
         if event[0] == "call":
@@ -311,7 +313,7 @@ class Reading:
         return event
 
     def outcome(self, text, event):
-        match = first_match(OUTCOMES, text)
+        match = match_of(OUTCOMES, text)
         self.check(match and (match[1] == "reply") == (event[0] == "call"), "an outcome, a reply of calls and of them alone")
         if match[1] != "reply":
             return parts_of(match)

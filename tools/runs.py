@@ -38,16 +38,16 @@ def script_of(text):
 
 def calls_of(sent):
     """The frames of a client's bytes that are calls, and the bytes that are none."""
-    calls = []
-    while sent:
-        if len(sent) >= 4 and struct.unpack(">I", sent[:4])[0] > scripts.MOST_BODY:
-            return calls + [sent[:4]], sent[4:]
-        frame = scripts.front(sent)
-        if len(frame) < 4 or len(frame) != 4 + struct.unpack(">I", frame[:4])[0]:
-            return calls, sent
+    calls, at = [], 0
+    while at < len(sent):
+        if len(sent) >= at + 4 and struct.unpack_from(">I", sent, at)[0] > scripts.MOST_BODY:
+            return calls + [sent[at : at + 4]], sent[at + 4 :]
+        frame = scripts.front(sent, at)
+        if len(frame) < 4 or len(frame) != 4 + struct.unpack_from(">I", frame)[0]:
+            break
         calls.append(frame)
-        sent = sent[len(frame) :]
-    return calls, sent
+        at += len(frame)
+    return calls, sent[at:]
 
 
 class Scenario:
@@ -59,7 +59,7 @@ class Scenario:
         self.containers = {number: (kind, site) for number, kind, site in script.containers}
         self.names = list(script.numbers)
         self.homes = [site for site, _ in script.clients]
-        self.calls, self.rests = zip(*(calls_of(sent) for _, sent in script.clients)) if script.clients else ((), ())
+        self.calls, self.rests = zip(*(calls_of(bytes(sent)) for _, sent in script.clients)) if script.clients else ((), ())
         self.arms, self.steps = script.arms, script.steps
         self.places = [None] * len(self.steps) if is_json else script.places
 

@@ -7,6 +7,7 @@ import functools
 import json
 import re
 import struct
+from collections import namedtuple
 
 # What each operation has behind its number, by docs/FORMATS.md, "Frames of a client".
 OPERATIONS = {
@@ -24,6 +25,7 @@ OPERATIONS = {
 WORDS = {number: word for word, (number, _) in OPERATIONS.items()}
 MOST_BODY = 65536
 
+DIGITS = re.compile("[0-9]{1,20}")
 NAME = r"[A-Za-z_][A-Za-z0-9_-]*"
 TEXT = r'"(?:[^"\\]|\\.)*"'
 CODE = re.compile(rf'((?:[^"#]|{TEXT})*)(?:#.*)?$')
@@ -49,7 +51,7 @@ class Wrong(Exception):
 
 
 def number(text, least, below, what):
-    if not re.fullmatch(r"[0-9]{1,20}", text) or not least <= int(text) < below:
+    if not DIGITS.fullmatch(text) or not least <= int(text) < below:
         raise Wrong(what)
     return int(text)
 
@@ -86,8 +88,10 @@ def field_of(kind, tokens):
     return struct.pack(packed, *(number(part, 0, limit, wants) for part, limit in zip(parts, limits)))
 
 
-def frame_of(tokens):
+@functools.lru_cache(maxsize=16384)
+def frame_of(words):
     """The frame of a request, by its words."""
+    tokens = TOKEN.findall(words)
     word = tokens.pop(0) if tokens else ""
     if word not in OPERATIONS:
         raise Wrong(f"bytes, again, or one of {', '.join(OPERATIONS)}")
@@ -126,7 +130,7 @@ def words_of(frame):
             text, rest = words_of_field(kind, rest)
             words.append(text)
         line = " ".join(words)
-        return line if frame_of(TOKEN.findall(line)) == frame else None
+        return line if frame_of(line) == frame else None
     except (struct.error, Wrong):
         return None
 
@@ -136,12 +140,13 @@ def value_in(frame):
     return frame[21:]
 
 
-def front(sent):
-    """The first frame of a client's bytes, or all of them where none is whole."""
-    if len(sent) < 4:
-        return sent
-    length = struct.unpack(">I", sent[:4])[0]
-    return sent[: 4 + length] if length <= MOST_BODY and len(sent) >= 4 + length else sent
+def front(sent, at):
+    """The first frame of a client's bytes from a place on, or all of them where none is whole."""
+    if len(sent) < at + 4:
+        return sent[at:]
+    length = struct.unpack_from(">I", sent, at)[0]
+    is_whole = length <= MOST_BODY and len(sent) >= at + 4 + length
+    return sent[at : at + 4 + length] if is_whole else sent[at:]
 
 
 # ---- scripts
@@ -201,7 +206,7 @@ class Script:
         if not re.fullmatch(NAME, name) or name in self.numbers:
             raise Wrong("a client's name that is new: letters, digits, _ and -, no digit first")
         self.numbers[name] = len(self.clients)
-        self.clients.append([self.site(site), b""])
+        self.clients.append([self.site(site), bytearray()])
 
     def take_armed(self, *fault):
         self.arms.append(self.fault(*fault))
@@ -229,26 +234,27 @@ class Script:
 
     def declare(self, words):
         """Takes a line without a colon."""
-        if self.sites is None and words[0] != "sites":
+        first = words.split(maxsplit=1)[0]
+        if self.sites is None and first != "sites":
             raise Wrong("sites N tolerated F first")
-        for form, take in FORMS.items():
-            given = fit(form.split(), words)
-            if given is not None:
-                return take(self, *given)
+        for form in FORMS_OF.get(first, ()):
+            given = form.pattern.fullmatch(words)
+            if given:
+                return form.take(self, *given.groups())
         raise Wrong("one of " + "; ".join([*FORMS, "NAME: OPERATION .."]))
 
-    def turn(self, name, tokens):
+    def turn(self, name, words):
         """Takes a line of a client: a request and its turn, bytes without a turn, or a turn without bytes."""
         if name not in self.numbers:
             raise Wrong(f"a client that was declared by client {name} at SITE")
-        client = self.numbers[name]
+        client, tokens = self.numbers[name], TOKEN.findall(words)
         if tokens[:1] == ["bytes"] and len(tokens) == 2:
             if not re.fullmatch(r"([0-9a-fA-F]{2})+", tokens[1]):
                 raise Wrong("an even number of hex digits behind bytes")
             self.clients[client][1] += bytes.fromhex(tokens[1])
             return
         if tokens != ["again"]:
-            self.clients[client][1] += frame_of(tokens)
+            self.clients[client][1] += frame_of(words)
         self.step("call", client)
 
     def take(self, line):
@@ -260,9 +266,9 @@ class Script:
             return
         turn = LINE.fullmatch(words)
         if turn is not None:
-            self.turn(turn[1], TOKEN.findall(turn[2]))
+            self.turn(turn[1], turn[2])
         else:
-            self.declare(words.split())
+            self.declare(words)
 
     def scenario(self):
         made = {"sites": self.sites, "f": self.tolerated, "containers": self.containers}
@@ -290,14 +296,20 @@ FORMS = {
     "advance SITE from SITE": Script.take_advance,
     "tick SITE": Script.take_tick,
 }
+Form = namedtuple("Form", "parts pattern take")
 
 
-def fit(form, words):
-    """What is given for the capitals of a form, or None where the words have another form."""
-    pairs = list(zip(form, words))
-    if len(form) != len(words) or any(part != word for part, word in pairs if not part.isupper()):
-        return None
-    return [word for part, word in pairs if part.isupper()]
+def by_word(forms):
+    """The forms by their first words, each with its parts and its pattern."""
+    by = {}
+    for form, take in forms.items():
+        parts = form.split()
+        pattern = re.compile(r"\s+".join(r"(\S+)" if part.isupper() else part for part in parts))
+        by.setdefault(parts[0], []).append(Form(parts, pattern, take))
+    return by
+
+
+FORMS_OF = by_word(FORMS)
 
 
 def read_script(text):
@@ -319,26 +331,25 @@ def read(text):
     return read_script(text).scenario()
 
 
-def turn_lines(name, sent):
-    """The lines of one turn, and the bytes that are left behind it."""
-    frame = front(sent)
+def turn_lines(name, frame):
+    """The lines of one turn, that of a frame, or of no bytes."""
     if not frame:
-        return [f"{name}: again"], sent
+        return [f"{name}: again"]
     words = words_of(frame)
-    lines = [f"{name}: {words}"] if words else [f"{name}: bytes {frame.hex()}", f"{name}: again"]
-    return lines, sent[len(frame) :]
+    return [f"{name}: {words}"] if words else [f"{name}: bytes {frame.hex()}", f"{name}: again"]
 
 
 def words_of_step(word, *numbers):
     """The line of a step that isn't a client's turn."""
-    form = next(form for form in FORMS if form.split()[0] == word)
     given = iter(numbers)
-    return " ".join(str(next(given)) if part.isupper() else part for part in form.split())
+    return " ".join(str(next(given)) if part.isupper() else part for part in FORMS_OF[word][0].parts)
 
 
 def write(made):
     """A script of a scenario. Clients are named by their numbers, client0 and so on."""
     sent = [bytes.fromhex(sent) for _, sent in made["clients"]]
+    # How many of each client's bytes its turns have sent so far.
+    ends = [0] * len(sent)
     lines = [f"sites {made['sites']} tolerated {made['f']}"]
     if "capacity" in made:
         lines.append(f"capacity {made['capacity']}")
@@ -348,13 +359,15 @@ def write(made):
     lines += [words_of_step("armed", *arm) for arm in made.get("arms", [])]
     for word, where, *more in made["steps"]:
         if word == "call":
-            turns, sent[where] = turn_lines(f"client{where}", sent[where])
-            lines += turns
+            frame = front(sent[where], ends[where])
+            ends[where] += len(frame)
+            lines += turn_lines(f"client{where}", frame)
         elif word in STEPS:
             lines.append(words_of_step(word, where, *more))
         else:
             raise ValueError(word)
-    lines += [f"client{place}: bytes {rest.hex()}" for place, rest in enumerate(sent) if rest]
+    rests = [client[end:] for client, end in zip(sent, ends)]
+    lines += [f"client{place}: bytes {rest.hex()}" for place, rest in enumerate(rests) if rest]
     return "\n".join(lines) + "\n"
 
 

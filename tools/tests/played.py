@@ -1,6 +1,7 @@
 """Runs for the tests: the examples, and random scenarios of bench/, all played by the plain model of bench/."""
 
 import functools
+import gc
 import glob
 import json
 import os
@@ -15,6 +16,8 @@ import reports
 import runs
 
 RANDOM = range(200)
+# All runs are kept to the end, and a collector would walk through them again and again.
+gc.disable()
 
 
 def file_text(path):
@@ -33,6 +36,11 @@ def source_of(example):
 
 
 @functools.lru_cache(maxsize=None)
+def random_scenario(seed):
+    return compare.scenario(seed)
+
+
+@functools.lru_cache(maxsize=None)
 def by_model(text):
     return model.played(json.loads(text), Counter())
 
@@ -40,7 +48,7 @@ def by_model(text):
 @functools.lru_cache(maxsize=None)
 def random_run(seed):
     """The model's run of a random scenario, and what the tools read of it."""
-    text = json.dumps(compare.scenario(seed))
+    text = json.dumps(random_scenario(seed))
     return by_model(text), runs.Run(runs.Scenario(text), reports.read(by_model(text).text()))
 
 
