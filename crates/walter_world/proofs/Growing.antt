@@ -120,7 +120,7 @@ module _ (catalog : Catalog) (trails : List (List Entry)) (i : SiteId) (trail : 
   e = entry_of catalog i trail event put (keeps what) fate
 
   -- where a journal has place for it
-  pub enough_for : ℕ
+  abbrev pub enough_for : ℕ
   enough_for = place_for T (rule catalog i T event).wrote
 
   pub right_entry : (capacity : ℕ) → enough_for ≤ capacity → IsRightEntry catalog capacity i (reverse trail) e

@@ -4,11 +4,13 @@
 
 mod debts;
 mod events;
+mod laws;
 mod posted;
 mod replaying;
 mod seat;
 mod taking;
 mod world;
 
+pub use laws::steps_keep_promises;
 pub use events::{Fate, What, WorldEvent};
 pub use world::World;
