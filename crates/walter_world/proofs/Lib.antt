@@ -4,3 +4,4 @@ pub mod Clocks
 pub mod Restarting
 pub mod Growing
 pub mod Seated
+pub mod RecordsReplayed
