@@ -1,0 +1,93 @@
+-- What a world is, what a step of it comes to, and what its trails promise.
+use Rattle.std.specs.Prelude.{◌≡◌, ◌≢◌, ◌⊎◌, ◌+◌, ◌<◌, ◌≤◌, ℕ, List, [], ◌∷◌, ◌++◌, length, map, reverse, slice_get, Some}
+use Rattle.walter_base.specs.declared.catalog.Catalog.{Catalog}
+use Rattle.walter_base.specs.declared.names.SiteId.{SiteId}
+use Rattle.walter_base.specs.Vectors.{most_sites}
+use Rattle.walter_linked.specs.Catalogs.{IsWhole}
+use Rattle.walter_linked.specs.Marks.{AreGotRight, AreMarksTrue}
+use Rattle.walter_psi.specs.Legal.{IsLegal}
+use Rattle.walter_refinement.specs.Named.{AreNamed}
+use Rattle.walter_refinement.specs.Once.{StandsOnce}
+use Rattle.walter_refinement.specs.Spelled.{psi_of}
+use Rattle.walter_rules.specs.declared.entry.Entry.{Entry}
+use Rattle.walter_rules.specs.declared.event.Event.{Event}
+use Rattle.walter_rules.specs.Knowledge.{site_at}
+use Rattle.walter_rules.specs.Merges.{Named, merge, trail_of}
+use Rattle.walter_rules.specs.Trails.{clock}
+use Rattle.walter_runs.specs.Runs.{AreRightTrails}
+use Rattle.walter_world.specs.declared.events.WorldEvent.{WorldEvent}
+use Rattle.walter_world.specs.declared.seat.Seat.{Seat}
+use Rattle.walter_world.specs.Comings.{entry_of}
+use Rattle.walter_world.specs.Events.{Brings, IsMissing, IsWithin, keeps}
+use Rattle.walter_world.specs.Plans.{opening}
+use Rattle.walter_world.specs.Seats.{IsSeat}
+
+-- what contracts see of a world: its catalog, and the trails of its sites
+pub record WorldValue : Type 0 where
+  pub catalog : Catalog
+  pub trails : List (List Entry)
+
+-- ---- a step
+
+-- an event came to the site, whose trail has its entry; the others are as before
+pub record HasHappened (catalog : Catalog) (old : List (List Entry)) (e : WorldEvent)
+    (new : List (List Entry)) : Type 0 where
+  pub event : Event
+  pub put : ℕ
+  pub brings : Brings old e.site e.what event put
+  pub here : trail_of new e.site
+      ≡ trail_of old e.site ++ entry_of catalog e.site (trail_of old e.site) event put (keeps e.what) e.fate ∷ []
+  pub one_each : length new ≡ length old
+  pub others : (j : SiteId) → j ≢ e.site → trail_of new j ≡ trail_of old j
+
+-- what is said to happen happens, or the packet that is to be delivered was never put out
+abbrev pub StepsTo : Catalog → List (List Entry) → WorldEvent → List (List Entry) → Type 0
+StepsTo catalog old e new = (IsMissing old e.site e.what × (new ≡ old)) ⊎ HasHappened catalog old e new
+
+-- there is a trail for each of so many sites, which has its opening
+pub record AreOpenings (sites : ℕ) (trails : List (List Entry)) : Type 0 where
+  pub one_each : length trails ≡ sites
+  pub opens : (i : ℕ) → i < sites → trail_of trails (site_at i) ≡ opening ∷ []
+
+-- no trail has had so many stamps
+abbrev pub AreEarly : ℕ → List (List Entry) → Type 0
+AreEarly bound trails = (i : SiteId) → clock (reverse (trail_of trails i)) < bound
+
+-- the event can come: its sites are of the catalog, a body fits its frame, and no stamp is greater than a caller has who
+-- made fewer than 4,294,967,295 steps
+pub record CanCome (world : WorldValue) (e : WorldEvent) : Type 0 where
+  pub here : e.site.0 < world.catalog.sites
+  pub within : IsWithin world.catalog.sites e.what
+  pub early : AreEarly 4294967295 world.trails
+
+-- ---- what the trails promise
+
+-- where journals have place enough, they are right and linked
+pub record AreRightWithPlace (catalog : Catalog) (trails : List (List Entry)) : Type 0 where
+  pub enough : ℕ
+  pub right : (capacity : ℕ) → enough ≤ capacity → AreRightTrails catalog capacity trails
+
+-- So they spell a legal history, in which each commit stands once, under its number wherever it has come; each abort
+-- has its cause; and what is said to be durable or visible is.
+pub record KeepPromises (catalog : Catalog) (trails : List (List Entry)) : Type 0 where
+  pub right_trails : AreRightWithPlace catalog trails
+  pub legal_history : IsLegal (psi_of catalog (merge trails))
+  pub commits_once : StandsOnce catalog (reverse (merge trails))
+  pub got_right : AreGotRight catalog (reverse (merge trails))
+  pub aborts_named : AreNamed catalog (reverse (merge trails))
+  pub marks_true : (newer older : List Named) (n : Named) → reverse (merge trails) ≡ newer ++ n ∷ older
+      → AreMarksTrue catalog older n
+
+-- ---- the invariant
+
+abbrev pub trails_of : List Seat → List (List Entry)
+trails_of seats = map (λ (seat : Seat). seat.entries.items) seats
+
+-- each site of a whole catalog stands as its trail says, and the trails are right and linked
+pub record IsWorld (catalog : Catalog) (seats : List Seat) : Type 0 where
+  pub whole : IsWhole catalog
+  pub few : catalog.sites ≤ most_sites
+  pub fewer : catalog.tolerated < catalog.sites
+  pub one_each : length seats ≡ catalog.sites
+  pub seats_are : (i : ℕ) (seat : Seat) → slice_get seats i ≡ Some seat → IsSeat catalog (site_at i) seat
+  pub right : AreRightWithPlace catalog (trails_of seats)

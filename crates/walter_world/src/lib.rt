@@ -1,0 +1,16 @@
+//! The sites of a catalog without disks: what happens to each, and whether its record meets a fault, is said from
+//! outside; their trails are right and linked, whatever happens.
+#![tactic(auto)]
+
+mod debts;
+mod events;
+mod laws;
+mod posted;
+mod replaying;
+mod seat;
+mod taking;
+mod world;
+
+pub use laws::steps_keep_promises;
+pub use events::{Fate, What, WorldEvent};
+pub use world::World;

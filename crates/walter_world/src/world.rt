@@ -1,0 +1,231 @@
+ghost use Rattle.std.specs.Prelude.{◌≡◌, ◌<◌, ◌≤◌, ◌+◌, ◌↔◌, ◌∷◌, [], IsTrue, ℕ, length, max, map, IfOk, OnErr, OnOk};
+ghost use Rattle.walter_base.specs.Vectors.{most_sites};
+ghost use Rattle.walter_conn.specs.Frames.{CallsFor};
+ghost use Rattle.walter_linked.specs.Catalogs.{IsWhole};
+ghost use Rattle.walter_world.specs.Events.{IsWithin};
+ghost use Rattle.walter_world.specs.Happenings.{IsHappening, IsPost};
+ghost use Rattle.walter_world.specs.Plans.{opening};
+ghost use Rattle.walter_world.specs.Seats.{IsSeat};
+ghost use Rattle.walter_world.specs.Worlds.{AreEarly, trails_of};
+
+use crate::events::{Fate, What, WorldEvent};
+use crate::posted::packet_to;
+use crate::seat::Seat;
+use std::alloc::Global;
+use std::marker::Model;
+use walter_base::{BadFrame, Call, Catalog, Mem, NoMemory, SiteId};
+use walter_request::{RequestFault, decode};
+use walter_rules::{Event, Input};
+use walter_trail::Trail;
+
+/// The longest body of a frame, in bytes.
+const LONGEST_BODY: usize = 65_536;
+
+/// The least stamp behind which there is no step. A site's epoch is at most its last stamp, and has four bytes.
+const END_OF_STAMPS: u64 = 4_294_967_295;
+
+/// The sites of a catalog without disks. Contracts see the catalog, and the trail of each site.
+#[derive(Drop)]
+pub struct World {
+    alloc: Global,
+    catalog: Catalog,
+    seats: Vec<Seat>,
+    // Without trails: its room is for all of them.
+    trails: Vec<Trail>,
+}
+
+impl Model for World {
+    ghost use Rattle.std.specs.Prelude.{◌≡◌, ◌≤◌, [], length, vec_capacity};
+    ghost use Rattle.walter_world.specs.Worlds.{WorldValue, IsWorld, trails_of};
+
+    ghost Value = { WorldValue };
+
+    ghost view = { λ w. record { catalog = w.catalog; trails = trails_of w.seats.items } };
+
+    ghost invariant = { λ w. IsWorld w.catalog w.seats.items × (w.trails.items ≡ [])
+        × (length w.seats.items ≤ vec_capacity w.trails) };
+}
+
+impl World {
+    ghost use Rattle.walter_world.specs.Worlds.{CanCome, StepsTo, AreEarly, AreOpenings, KeepPromises};
+
+    /// Each site of the catalog is up, in its first epoch.
+    pub fn new(alloc: Global, catalog: Catalog) -> Mem<World>
+        requires whole { IsWhole catalog }
+        requires most { catalog.sites ≤ most_sites }
+        requires fewer { catalog.tolerated < catalog.sites }
+        ensures catalog { IfOk result (λ world. world.catalog ≡ catalog) }
+        ensures openings { IfOk result (λ world. AreOpenings catalog.sites world.trails) }
+        ensures promises { IfOk result (λ world. KeepPromises world.catalog world.trails) }
+    {
+        let sites = usize::from(catalog.sites);
+        let trails = Vec::with_capacity(alloc, sites)?;
+        let mut seats = Vec::with_capacity(alloc, sites)?;
+        for site in 0..catalog.sites {
+            seats.push_reserved(seat_of(alloc, &catalog, SiteId(site))?);
+        }
+        Ok(World {
+            alloc,
+            catalog,
+            seats,
+            trails,
+        })
+    }
+
+    /// What is said to happen happens, or nothing, where it is the delivery of a packet that was never put out. For want
+    /// of memory nothing has happened.
+    pub fn step(&mut self, event: WorldEvent) -> Mem<()>
+        requires { CanCome self.old event }
+        ensures steps { OnOk result (StepsTo self.old.catalog self.old.trails event self.new.trails) }
+        ensures same { OnErr result (self.new ≡ self.old) }
+        ensures catalog { self.new.catalog ≡ self.old.catalog }
+        // No stamp is greater than the number of steps and one.
+        ensures later { (bound : ℕ) → AreEarly bound self.old.trails → AreEarly (bound + 1) self.new.trails }
+        ensures promises { KeepPromises self.new.catalog self.new.trails }
+    {
+        let WorldEvent { site, what, fate } = event;
+        let Some(Happening { event, put, keeps }) =
+            happening_of(self.alloc, &self.seats, site, what)?
+        else {
+            return Ok(());
+        };
+        let seat = &mut self.seats[usize::from(site.0)];
+        let stamp = seat.clock().max(put) + 1;
+        seat.take(self.alloc, &self.catalog, site, stamp, event, keeps, fate)
+    }
+
+    /// Whether the event can come: its sites are of the catalog, the body of a call fits its frame, and there are stamps
+    /// left.
+    pub fn takes(&self, event: &WorldEvent) -> bool
+        ensures { IsTrue result ↔ CanCome self.now event.now }
+    {
+        event.site.0 < self.catalog.sites
+            && is_within(self.catalog.sites, &event.what)
+            && are_early(&self.seats)
+    }
+
+    /// The trails of the sites, in order. It takes no memory.
+    pub fn into_trails(self) -> Vec<Trail>
+        ensures { result.items ≡ self.trails }
+    {
+        let World { seats, mut trails, .. } = self;
+        for seat in seats {
+            trails.push_reserved(Trail::from(seat.entries));
+        }
+        trails
+    }
+}
+
+// Whether a body fits its frame, and another site is one of so many.
+fn is_within(sites: u8, what: &What) -> bool
+    ensures { IsTrue result ↔ IsWithin sites what.now }
+{
+    match what {
+        What::Call { body, .. } => body.len() <= LONGEST_BODY,
+        What::Deliver { from, .. } | What::Advance { from } => from.0 < sites,
+        What::Tick | What::Stop | What::Restart { .. } => true,
+    }
+}
+
+// Whether each trail has stamps left.
+fn are_early(seats: &[Seat]) -> bool
+    ensures { IsTrue result ↔ AreEarly 4294967295 (trails_of seats.now) }
+{
+    for seat in seats {
+        if seat.clock() >= END_OF_STAMPS {
+            return false;
+        }
+    }
+    true
+}
+
+// A site that is up, in its first epoch.
+fn seat_of(alloc: Global, catalog: &Catalog, id: SiteId) -> Mem<Seat>
+    requires here { id.0 < catalog.now.sites }
+    requires most { catalog.now.sites ≤ most_sites }
+    requires fewer { catalog.now.tolerated < catalog.now.sites }
+    ensures seat { IfOk result (IsSeat catalog.now id) }
+    ensures opening { IfOk result (λ seat. seat.entries.items ≡ opening ∷ []) }
+{
+    let mut seat = Seat {
+        site: None,
+        entries: Vec::new(alloc),
+        debts: Vec::new(alloc),
+    };
+    seat.take(alloc, catalog, id, 1, Event::Restart, false, Fate::Fine)?;
+    Ok(seat)
+}
+
+/// An event that comes to a site, the stamp of the packet that it brings, and whether the record in flight is found.
+#[derive(Drop)]
+struct Happening {
+    event: Event,
+    put: u64,
+    keeps: bool,
+}
+
+impl From<Event> for Happening {
+    ghost from_gives = { λ e h. h ≡ record { event = e; put = 0; keeps = Bool.false } };
+
+    fn from(event: Event) -> Happening {
+        Happening {
+            event,
+            put: 0,
+            keeps: false,
+        }
+    }
+}
+
+// What comes to a site, unless it is a packet that was never put out.
+fn happening_of(alloc: Global, seats: &[Seat], site: SiteId, what: What) -> Mem<Option<Happening>>
+    requires { IsWithin (length seats.now) what }
+    ensures { IfOk result (IsHappening (trails_of seats.now) site what) }
+{
+    match what {
+        What::Call { client, body } => {
+            let call = call_of(alloc, body.as_slice())?;
+            Ok(Some(Happening::from(Event::Given(Input::Call { client, call }))))
+        }
+        What::Deliver { from, number } => delivery(seats, site, from, number),
+        What::Advance { from } => Ok(Some(Happening::from(Event::Given(Input::Advance { from })))),
+        What::Tick => Ok(Some(Happening::from(Event::Given(Input::Tick)))),
+        What::Stop => Ok(Some(Happening::from(Event::Stop))),
+        What::Restart { kept } => Ok(Some(Happening {
+            event: Event::Restart,
+            put: 0,
+            keeps: kept,
+        })),
+    }
+}
+
+// The packet of a number that a site has put out to another.
+fn delivery(seats: &[Seat], to: SiteId, from: SiteId, number: u32) -> Mem<Option<Happening>>
+    requires { from.0 < length seats.now }
+    ensures { IfOk result (IsPost (trails_of seats.now) to from number) }
+{
+    let Some((put, packet)) = packet_to(&seats[usize::from(from.0)].entries, to, number)? else {
+        return Ok(None);
+    };
+    let input = Input::Deliver {
+        from,
+        number,
+        packet,
+    };
+    Ok(Some(Happening {
+        event: Event::Given(input),
+        put,
+        keeps: false,
+    }))
+}
+
+// What the body of a frame calls for.
+fn call_of(alloc: Global, body: &[u8]) -> Mem<Call>
+    requires { length body.now ≤ 65536 }
+    ensures { IfOk result (CallsFor body.now) }
+{
+    match decode(alloc, body) {
+        Ok(request) => Ok(Ok(request)),
+        Err(RequestFault::BadFrame { at }) => Ok(Err(BadFrame { at })),
+        Err(RequestFault::NoMemory) => Err(NoMemory),
+    }
+}
