@@ -1,17 +1,17 @@
 -- Trails with one more entry: they stay right and linked, and so keep their promises.
-use Rattle.std.proofs.Common.{◌≡◌, ◌≢◌, ℕ, zero, suc, ◌+◌, ◌-◌, ◌<◌, ◌≤◌, ◌⊎◌, max, Bool, true, false, not, ◌&&◌, List, [], ◌∷◌, ◌++◌, length, reverse, take, slice_get, Option, Some, None, refl, ap, sym, ◌∙◌, subst, arith, if◌then◌else◌, inl, inr}
+use Rattle.std.proofs.Common.{◌≡◌, ◌≢◌, ℕ, zero, suc, ◌+◌, ◌<◌, ◌≤◌, ◌⊎◌, max, Bool, true, false, not, ◌&&◌, List, [], ◌∷◌, ◌++◌, length, reverse, take, slice_get, Option, Some, None, refl, ap, sym, ◌∙◌, subst, arith, if◌then◌else◌, inl, inr}
 use Rattle.std.specs.Prelude.{IfSome, sum_by}
-use Rattle.std.proofs.lemmas.Bool.{cases_eq}
-use Rattle.std.proofs.lemmas.List.{take_all, take-append-le, append-nil}
+use Rattle.std.proofs.lemmas.Bool.{cases_eq, cases_lt}
+use Rattle.std.proofs.lemmas.List.{get_or_past, reverse-append, take_all, take-append-le}
 use Rattle.walter_base.specs.declared.catalog.Catalog.{Catalog}
 use Rattle.walter_base.specs.declared.message.Record.{Record}
+use Rattle.walter_base.specs.declared.message.Record.TheVariants.{Boot}
 use Rattle.walter_base.specs.declared.names.SiteId.{SiteId}
 use Rattle.walter_base.specs.declared.packet.Packet.{Packet}
 use Rattle.walter_linked.specs.Catalogs.{IsWhole}
 use Rattle.walter_linked.proofs.Whole.{trails_marks, trails_got}
 use Rattle.walter_psi.proofs.Lists.{slice_get-append_left, slice_get-push_cases, flat_map-push}
 use Rattle.walter_refinement.proofs.Trails.{trails_legal, trails_once, trails_named}
-use Rattle.walter_rules.specs.declared.entry.Came.{Came}
 use Rattle.walter_rules.specs.declared.entry.Entry.{Entry}
 use Rattle.walter_rules.specs.declared.event.Event.{Event}
 use Rattle.walter_rules.specs.declared.event.Event.TheVariants.{Given, Restart}
@@ -20,20 +20,27 @@ use Rattle.walter_rules.specs.Calls.{Expected}
 use Rattle.walter_rules.specs.Knowledge.{site_at}
 use Rattle.walter_rules.specs.Merges.{Stamped, sent_to, put_out_to, trail_of, IsLinked, AreLinked}
 use Rattle.walter_rules.specs.Rule.{rule}
+use Rattle.walter_rules.specs.Sending.{Send}
 use Rattle.walter_rules.specs.Standing.{Standing, settled}
-use Rattle.walter_rules.specs.Trails.{standing, clock, need_of, FitsIn, IsAsRuled, IsOnly, Comes, ruled, met_fault, IsFound, IsNextStamp, IsRightEntry, AreRight, IsRightTrail}
+use Rattle.walter_rules.specs.Trails.{standing, clock, need_of, FitsIn, IsPutOut, all_out, put_out, carried_one, Comes, ruled, met_fault, IsFound, IsNextStamp, IsRightEntry, AreRight, IsRightTrail}
 use Rattle.walter_runs.specs.Runs.{AreRightTrails}
 use Rattle.walter_world.specs.declared.events.Fate.{Fate}
 use Rattle.walter_world.specs.declared.events.Fate.TheVariants.{Fine, Broken}
 use Rattle.walter_world.specs.declared.events.What.{What}
 use Rattle.walter_world.specs.declared.events.WorldEvent.{WorldEvent}
-use Rattle.walter_world.specs.Comings.{found_by, came_by, came_broken, comes_to, entry_of}
-use Rattle.walter_world.specs.Events.{packet_at, put_by, Brings, a_call, a_packet, an_advance, a_tick, a_stop, a_restart, keeps}
-use Rattle.walter_world.specs.Worlds.{AreRightWithPlace, KeepPromises, HasHappened}
-use Rattle.walter_world.proofs.Restarting.{turned}
-use Rattle.walter_world.proofs.Staying.{put_all}
+use Rattle.walter_world.specs.Comings.{found_by, came_by, came_broken, entry_of}
+use Rattle.walter_world.specs.Events.{packet_at, Brings, a_call, a_packet, an_advance, a_tick, a_stop, a_restart, keeps}
+use Rattle.walter_world.specs.Worlds.{opening, AreOpenings, AreRightWithPlace, KeepPromises, HasHappened, StepsTo, HaveHappened, nothing, one_more}
 
 -- ---- one entry
+
+turned : (trail : List Entry) (e : Entry) → reverse (trail ++ e ∷ []) ≡ e ∷ reverse trail
+turned trail e = reverse-append trail (e ∷ [])
+
+-- all is put out
+put_all : (carried : SiteId → ℕ) (sends : List Send) → IsPutOut carried sends sends 0
+put_all carried [] = all_out carried
+put_all carried (send ∷ sends) = put_out carried send sends sends 0 (put_all (carried_one send.0 carried) sends)
 
 -- how many bytes of a journal are enough, with a record more
 abbrev need_any : Option Record → ℕ
@@ -68,7 +75,7 @@ module _ (catalog : Catalog) (capacity : ℕ) (i : SiteId) (T : Standing) (event
   comes_by Fine = comes_fine
   comes_by Broken = comes_broken x.wrote refl
 
-pub came_kept : (fate : Fate) (event : Event) (kept : Option Record) (x : Expected) → (came_by fate event kept x).kept ≡ kept
+came_kept : (fate : Fate) (event : Event) (kept : Option Record) (x : Expected) → (came_by fate event kept x).kept ≡ kept
 came_kept Fine event kept x = refl
 came_kept Broken event kept x = by x.wrote
   where
@@ -293,3 +300,66 @@ promises catalog trails whole right =
       aborts_named = trails_named catalog capacity whole trails are;
       marks_true = trails_marks catalog capacity whole trails are;
     }
+
+-- ---- from the openings on
+
+opening_right : (catalog : Catalog) (capacity : ℕ) (i : SiteId) → 9 + need_of (Boot 1) ≤ capacity
+    → IsRightTrail catalog capacity i (opening ∷ [])
+opening_right catalog capacity i enough = record {
+  opening = opening;
+  begins = refl;
+  opens = record { stamp = refl; event = refl; wrote = refl };
+  right = (
+    tt,
+    record {
+      stamp = refl;
+      kept = tt;
+      comes = ruled (omega (arith, enough))
+          (record { outcome = refl; wrote = refl; flight = refl; sends = all_out (λ k. 0) });
+    },
+  );
+}
+
+none_delivered : (place : ℕ) (e : Entry) (j : SiteId) (number : ℕ) (packet : Packet)
+    → slice_get (opening ∷ []) place ≡ Some e → e.event ≡ Given (Deliver j number packet) → ⊥
+none_delivered zero e j number packet at is =
+    let first : opening ≡ e = cc in
+    let event : Restart ≡ Given (Deliver j number packet) = ap (λ (x : Entry). x.event) first ∙ is in
+    absurd cc
+none_delivered (suc place) e j number packet at is = absurd cc
+
+pub openings_right : (catalog : Catalog) (trails : List (List Entry)) → AreOpenings catalog.sites trails
+    → AreRightWithPlace catalog trails
+openings_right catalog trails are = record {
+  enough = 9 + need_of (Boot 1);
+  right = λ capacity enough. record {
+    one_each = are.one_each;
+    right = λ i below. subst (λ (t : List Entry). IsRightTrail catalog capacity i t) (sym (are.opens i.0 below))
+        (opening_right catalog capacity i enough);
+    linked = λ i place e j number packet at is. elim (cases_lt i.0 catalog.sites) [
+      | inl below ↦ absurd (none_delivered place e j number packet
+          (ap (λ (t : List Entry). slice_get t place) (sym (are.opens i.0 below)) ∙ at) is)
+      | inr past ↦
+          let none : trail_of trails i ≡ [] =
+          get_or_past trails i.0 [] (let n = are.one_each in omega (arith, past, n)) in
+          let empty : slice_get [] place ≡ Some e = ap (λ (t : List Entry). slice_get t place) (sym none) ∙ at in
+          absurd cc
+    ];
+  };
+}
+
+pub step_right : (catalog : Catalog) (old new : List (List Entry)) (e : WorldEvent) → e.site.0 < catalog.sites
+    → AreRightWithPlace catalog old → StepsTo catalog old e new → AreRightWithPlace catalog new
+step_right catalog old new e below right (inl same) = subst (AreRightWithPlace catalog) (sym same.1) right
+step_right catalog old new e below right (inr happened) = right_more catalog old new e happened below right
+
+events_right : (catalog : Catalog) (first : List (List Entry)) (events : List WorldEvent) (last : List (List Entry))
+    → AreOpenings catalog.sites first → HaveHappened catalog first events last → AreRightWithPlace catalog last
+events_right catalog first events last are nothing = openings_right catalog first are
+events_right catalog first events last are (one_more before e old new happened below steps) =
+    step_right catalog old new e below (events_right catalog first before old are happened) steps
+
+pub events_promise : (catalog : Catalog) (first last : List (List Entry)) (events : List WorldEvent) → IsWhole catalog
+    → AreOpenings catalog.sites first → HaveHappened catalog first events last → KeepPromises catalog last
+events_promise catalog first last events whole are happened =
+    promises catalog last whole (events_right catalog first events last are happened)

@@ -1,23 +1,17 @@
 -- What comes to a site of what is said to happen, by what the trails of all sites have put out.
-use Rattle.std.specs.Prelude.{◌≡◌, ◌<◌, ◌≤◌, ℕ, zero, suc, Bool, false, List, slice_get, length, filter_map, if◌then◌else◌, Option, Some, None, Result}
+use Rattle.std.specs.Prelude.{◌≡◌, ℕ, zero, suc, Bool, false, List, slice_get, Option, Some, None, Result}
 use Rattle.walter_base.specs.declared.message.BadFrame.{BadFrame}
 use Rattle.walter_base.specs.declared.message.Request.{Request}
 use Rattle.walter_base.specs.declared.names.SiteId.{SiteId}
 use Rattle.walter_base.specs.declared.packet.Packet.{Packet}
-use Rattle.walter_base.specs.Names.{same_site}
 use Rattle.walter_conn.specs.Frames.{CallsFor}
 use Rattle.walter_rules.specs.declared.entry.Entry.{Entry}
 use Rattle.walter_rules.specs.declared.event.Event.{Event}
 use Rattle.walter_rules.specs.declared.event.Event.TheVariants as event
 use Rattle.walter_rules.specs.declared.event.Input.TheVariants as input
 use Rattle.walter_rules.specs.Merges.{Stamped, put_out_to, trail_of}
-use Rattle.walter_rules.specs.Sending.{Send}
 use Rattle.walter_world.specs.declared.events.What.{What}
 use Rattle.walter_world.specs.declared.events.What.TheVariants.{Call, Deliver, Advance, Tick, Stop, Restart}
-
--- the packets to a site among those that an entry of this stamp puts out
-abbrev pub sent_among : SiteId → ℕ → List Send → List Stamped
-sent_among i stamp sends = filter_map (λ (s : Send). if same_site s.0 i then Some (stamp, s.1) else None) sends
 
 -- the packet of a number, counted from 1
 abbrev pub packet_at : ℕ → List Stamped → Option Stamped
@@ -49,10 +43,3 @@ IsMissing trails i what = ⊥
 abbrev pub keeps : What → Bool
 keeps (Restart kept) = kept
 keeps what = false
-
--- a body fits its frame, and another site is one of so many
-abbrev pub IsWithin : ℕ → What → Type 0
-IsWithin sites (Call client body) = length body ≤ 65536
-IsWithin sites (Deliver from number) = from.0 < sites
-IsWithin sites (Advance from) = from.0 < sites
-IsWithin sites what = Unit {0}

@@ -1,9 +1,8 @@
--- What a world is, what a step of it comes to, and what its trails promise.
-use Rattle.std.specs.Prelude.{◌≡◌, ◌≢◌, ◌⊎◌, ◌+◌, ◌<◌, ◌≤◌, ℕ, List, [], ◌∷◌, ◌++◌, length, map, reverse, slice_get, Some}
+-- What an event leaves of the trails of all sites, and what these promise.
+use Rattle.std.specs.Prelude.{◌≡◌, ◌≢◌, ◌⊎◌, ◌<◌, ◌≤◌, ℕ, List, [], ◌∷◌, ◌++◌, length, reverse, Some, None}
 use Rattle.walter_base.specs.declared.catalog.Catalog.{Catalog}
+use Rattle.walter_base.specs.declared.message.Record.TheVariants.{Boot}
 use Rattle.walter_base.specs.declared.names.SiteId.{SiteId}
-use Rattle.walter_base.specs.Vectors.{most_sites}
-use Rattle.walter_linked.specs.Catalogs.{IsWhole}
 use Rattle.walter_linked.specs.Marks.{AreGotRight, AreMarksTrue}
 use Rattle.walter_psi.specs.Legal.{IsLegal}
 use Rattle.walter_refinement.specs.Named.{AreNamed}
@@ -11,21 +10,14 @@ use Rattle.walter_refinement.specs.Once.{StandsOnce}
 use Rattle.walter_refinement.specs.Spelled.{psi_of}
 use Rattle.walter_rules.specs.declared.entry.Entry.{Entry}
 use Rattle.walter_rules.specs.declared.event.Event.{Event}
+use Rattle.walter_rules.specs.declared.event.Event.TheVariants.{Restart}
+use Rattle.walter_rules.specs.declared.outcome.Outcome.TheVariants.{Taken}
 use Rattle.walter_rules.specs.Knowledge.{site_at}
 use Rattle.walter_rules.specs.Merges.{Named, merge, trail_of}
-use Rattle.walter_rules.specs.Trails.{clock}
 use Rattle.walter_runs.specs.Runs.{AreRightTrails}
 use Rattle.walter_world.specs.declared.events.WorldEvent.{WorldEvent}
-use Rattle.walter_world.specs.declared.seat.Seat.{Seat}
 use Rattle.walter_world.specs.Comings.{entry_of}
-use Rattle.walter_world.specs.Events.{Brings, IsMissing, IsWithin, keeps}
-use Rattle.walter_world.specs.Plans.{opening}
-use Rattle.walter_world.specs.Seats.{IsSeat}
-
--- what contracts see of a world: its catalog, and the trails of its sites
-pub record WorldValue : Type 0 where
-  pub catalog : Catalog
-  pub trails : List (List Entry)
+use Rattle.walter_world.specs.Events.{Brings, IsMissing, keeps}
 
 -- ---- a step
 
@@ -44,21 +36,32 @@ pub record HasHappened (catalog : Catalog) (old : List (List Entry)) (e : WorldE
 abbrev pub StepsTo : Catalog → List (List Entry) → WorldEvent → List (List Entry) → Type 0
 StepsTo catalog old e new = (IsMissing old e.site e.what × (new ≡ old)) ⊎ HasHappened catalog old e new
 
+-- the first entry of each trail: the site comes up, in its first epoch
+abbrev pub opening : Entry
+opening = record {
+  stamp = 1;
+  event = Restart;
+  came = record {
+    outcome = Taken;
+    kept = None;
+    wrote = Some (Boot 1);
+    flight = None;
+    sends = [];
+    dropped = 0;
+  };
+}
+
 -- there is a trail for each of so many sites, which has its opening
 pub record AreOpenings (sites : ℕ) (trails : List (List Entry)) : Type 0 where
   pub one_each : length trails ≡ sites
   pub opens : (i : ℕ) → i < sites → trail_of trails (site_at i) ≡ opening ∷ []
 
--- no trail has had so many stamps
-abbrev pub AreEarly : ℕ → List (List Entry) → Type 0
-AreEarly bound trails = (i : SiteId) → clock (reverse (trail_of trails i)) < bound
-
--- the event can come: its sites are of the catalog, a body fits its frame, and no stamp is greater than a caller has who
--- made fewer than 4,294,967,295 steps
-pub record CanCome (world : WorldValue) (e : WorldEvent) : Type 0 where
-  pub here : e.site.0 < world.catalog.sites
-  pub within : IsWithin world.catalog.sites e.what
-  pub early : AreEarly 4294967295 world.trails
+-- what a list of events leaves of the trails, one after another, each at one of the sites
+pub data HaveHappened (catalog : Catalog) (first : List (List Entry)) : List WorldEvent → List (List Entry) → Type 0 where
+  nothing : HaveHappened catalog first [] first
+  one_more : (events : List WorldEvent) (e : WorldEvent) (old new : List (List Entry))
+      → HaveHappened catalog first events old → e.site.0 < catalog.sites → StepsTo catalog old e new
+      → HaveHappened catalog first (events ++ e ∷ []) new
 
 -- ---- what the trails promise
 
@@ -77,17 +80,3 @@ pub record KeepPromises (catalog : Catalog) (trails : List (List Entry)) : Type 
   pub aborts_named : AreNamed catalog (reverse (merge trails))
   pub marks_true : (newer older : List Named) (n : Named) → reverse (merge trails) ≡ newer ++ n ∷ older
       → AreMarksTrue catalog older n
-
--- ---- the invariant
-
-abbrev pub trails_of : List Seat → List (List Entry)
-trails_of seats = map (λ (seat : Seat). seat.entries.items) seats
-
--- each site of a whole catalog stands as its trail says, and the trails are right and linked
-pub record IsWorld (catalog : Catalog) (seats : List Seat) : Type 0 where
-  pub whole : IsWhole catalog
-  pub few : catalog.sites ≤ most_sites
-  pub fewer : catalog.tolerated < catalog.sites
-  pub one_each : length seats ≡ catalog.sites
-  pub seats_are : (i : ℕ) (seat : Seat) → slice_get seats i ≡ Some seat → IsSeat catalog (site_at i) seat
-  pub right : AreRightWithPlace catalog (trails_of seats)

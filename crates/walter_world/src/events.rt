@@ -13,27 +13,17 @@ pub enum Fate {
 #[derive(Debug, Drop)]
 pub enum What {
     /// A client, by its number, sends a frame with this body.
-    Call {
-        client: u32,
-        body: Bytes,
-    },
+    Call { client: u32, body: Bytes },
     /// The packet of this number, from 1, among those that another site has put out to this one comes.
-    Deliver {
-        from: SiteId,
-        number: u32,
-    },
+    Deliver { from: SiteId, number: u32 },
     /// The next commit of another site is to be committed here.
-    Advance {
-        from: SiteId,
-    },
+    Advance { from: SiteId },
     /// The site is to say again what its peers may have missed.
     Tick,
     /// It loses its memory.
     Stop,
     /// It is to come up, and finds the record in flight, if there is one, or doesn't.
-    Restart {
-        kept: bool,
-    },
+    Restart { kept: bool },
 }
 
 /// What happens, where, and with which fate.

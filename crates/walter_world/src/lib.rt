@@ -1,16 +1,9 @@
-//! The sites of a catalog without disks: what happens to each, and whether its record meets a fault, is said from
-//! outside; their trails are right and linked, whatever happens.
+//! What comes of events at the sites of a catalog, where what happens, and whether its record meets a fault, is said from
+//! outside: definitions, and the law that whatever happens the trails stay right and linked.
 #![tactic(auto)]
 
-mod debts;
 mod events;
 mod laws;
-mod posted;
-mod replaying;
-mod seat;
-mod taking;
-mod world;
 
-pub use laws::steps_keep_promises;
 pub use events::{Fate, What, WorldEvent};
-pub use world::World;
+pub use laws::{events_keep_promises, steps_keep_promises};
