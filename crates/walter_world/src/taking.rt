@@ -269,24 +269,62 @@ pub(crate) fn restart(
     requires right { (capacity : ℕ) × AreRight catalog.now capacity id (reverse entries.now) }
     requires sized { All (λ e. IsSizedCame catalog.now.sites e.came) entries.now }
     requires young { clock (reverse entries.now) < 4294967295 }
-    ensures comes { IsState catalog.now id (standing catalog.now id (reverse entries.now)) state.old
-        → IfOk result (λ effect. HasCome catalog.now id (standing catalog.now id (reverse entries.now)) Event.Restart
-        (found_by keeps (standing catalog.now id (reverse entries.now))) fate effect state.new) }
+    requires state { IsState catalog.now id (standing catalog.now id (reverse entries.now)) state.old }
+    ensures comes { IfOk result (λ effect. HasCome catalog.now id (standing catalog.now id (reverse entries.now))
+        Event.Restart (found_by keeps (standing catalog.now id (reverse entries.now))) fate effect state.new) }
     ensures same { OnErr result (state.new ≡ state.old) }
 {
     if state.is_some() {
         return Ok(alone(alloc, Outcome::Passed));
     }
+    let Raised { site, effect } = raise(alloc, catalog, id, entries, keeps, fate)?;
+    *state = site;
+    Ok(effect)
+}
+
+/// The site where it came up, and what that came to.
+#[derive(Drop)]
+struct Raised {
+    site: Option<Site>,
+    effect: Effect,
+}
+
+// The site is made anew from the records of its trail.
+fn raise(
+    alloc: Global,
+    catalog: &Catalog,
+    id: SiteId,
+    entries: &[Entry],
+    keeps: bool,
+    fate: Fate,
+) -> Mem<Raised>
+    requires here { id.0 < catalog.now.sites }
+    requires most { catalog.now.sites ≤ most_sites }
+    requires fewer { catalog.now.tolerated < catalog.now.sites }
+    requires right { (capacity : ℕ) × AreRight catalog.now capacity id (reverse entries.now) }
+    requires sized { All (λ e. IsSizedCame catalog.now.sites e.came) entries.now }
+    requires young { clock (reverse entries.now) < 4294967295 }
+    requires down { (standing catalog.now id (reverse entries.now)).up ≡ false }
+    ensures { IfOk result (λ raised. HasCome catalog.now id (standing catalog.now id (reverse entries.now)) Event.Restart
+        (found_by keeps (standing catalog.now id (reverse entries.now))) fate raised.effect raised.site) }
+{
     let kept = kept_by(entries, keeps)?;
     let mut tables = tables_of(alloc, catalog, id, entries)?;
     replay_any(&mut tables, &kept)?;
     let boot = RecordPlace::new(alloc)?.fill(Record::Boot(next_epoch(&tables)));
-    if fate == Fate::Broken {
-        return Ok(rise(alloc, Outcome::Failed, kept, MaybeRecord::none(), boot));
+    match fate {
+        Fate::Broken => Ok(Raised {
+            site: None,
+            effect: rise(alloc, Outcome::Failed, kept, MaybeRecord::none(), boot),
+        }),
+        Fate::Fine => {
+            replay_any(&mut tables, &boot)?;
+            Ok(Raised {
+                site: Some(Site::new(tables)),
+                effect: rise(alloc, Outcome::Taken, kept, boot, MaybeRecord::none()),
+            })
+        }
     }
-    replay_any(&mut tables, &boot)?;
-    *state = Some(Site::new(tables));
-    Ok(rise(alloc, Outcome::Taken, kept, boot, MaybeRecord::none()))
 }
 
 // The record that a restart of a site that is down finds.
