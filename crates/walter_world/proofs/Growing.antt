@@ -27,10 +27,11 @@ use Rattle.walter_runs.specs.Runs.{AreRightTrails}
 use Rattle.walter_world.specs.declared.events.Fate.{Fate}
 use Rattle.walter_world.specs.declared.events.Fate.TheVariants.{Fine, Broken}
 use Rattle.walter_world.specs.declared.events.What.{What}
+use Rattle.walter_world.specs.declared.events.What.TheVariants as what
 use Rattle.walter_world.specs.declared.events.WorldEvent.{WorldEvent}
 use Rattle.walter_world.specs.Comings.{found_by, came_by, came_broken, entry_of}
 use Rattle.walter_world.specs.Events.{packet_at, Brings, a_call, a_packet, an_advance, a_tick, a_stop, a_restart, keeps}
-use Rattle.walter_world.specs.Worlds.{opening, AreOpenings, AreRightWithPlace, KeepPromises, HasHappened, StepsTo, HaveHappened, nothing, one_more}
+use Rattle.walter_world.specs.Worlds.{AreOpenings, AreRightWithPlace, KeepPromises, HasHappened, StepsTo, HaveHappened, nothing, one_more}
 
 -- ---- one entry
 
@@ -303,50 +304,45 @@ promises catalog trails whole right =
 
 -- ---- from the openings on
 
-opening_right : (catalog : Catalog) (capacity : ℕ) (i : SiteId) → 9 + need_of (Boot 1) ≤ capacity
-    → IsRightTrail catalog capacity i (opening ∷ [])
-opening_right catalog capacity i enough = record {
-  opening = opening;
-  begins = refl;
-  opens = record { stamp = refl; event = refl; wrote = refl };
-  right = (
-    tt,
-    record {
-      stamp = refl;
-      kept = tt;
-      comes = ruled (omega (arith, enough))
-          (record { outcome = refl; wrote = refl; flight = refl; sends = all_out (λ k. 0) });
-    },
-  );
-}
+module _ (catalog : Catalog) where
+  abbrev first : SiteId → Entry
+  first i = entry_of catalog i [] Restart 0 false Fine
 
-none_delivered : (place : ℕ) (e : Entry) (j : SiteId) (number : ℕ) (packet : Packet)
-    → slice_get (opening ∷ []) place ≡ Some e → e.event ≡ Given (Deliver j number packet) → ⊥
-none_delivered zero e j number packet at is =
-    let first : opening ≡ e = cc in
-    let event : Restart ≡ Given (Deliver j number packet) = ap (λ (x : Entry). x.event) first ∙ is in
-    absurd cc
-none_delivered (suc place) e j number packet at is = absurd cc
+  opening_right : (capacity : ℕ) (i : SiteId) → 9 + need_of (Boot 1) ≤ capacity
+      → IsRightTrail catalog capacity i (first i ∷ [])
+  opening_right capacity i enough = record {
+    opening = first i;
+    begins = refl;
+    opens = record { stamp = refl; event = refl; wrote = refl };
+    right = (tt, right_entry catalog [] i [] (what.Restart false) Restart 0 Fine (a_restart false) capacity enough);
+  }
 
-pub openings_right : (catalog : Catalog) (trails : List (List Entry)) → AreOpenings catalog.sites trails
-    → AreRightWithPlace catalog trails
-openings_right catalog trails are = record {
-  enough = 9 + need_of (Boot 1);
-  right = λ capacity enough. record {
-    one_each = are.one_each;
-    right = λ i below. subst (λ (t : List Entry). IsRightTrail catalog capacity i t) (sym (are.opens i.0 below))
-        (opening_right catalog capacity i enough);
-    linked = λ i place e j number packet at is. elim (cases_lt i.0 catalog.sites) [
-      | inl below ↦ absurd (none_delivered place e j number packet
-          (ap (λ (t : List Entry). slice_get t place) (sym (are.opens i.0 below)) ∙ at) is)
-      | inr past ↦
-          let none : trail_of trails i ≡ [] =
-          get_or_past trails i.0 [] (let n = are.one_each in omega (arith, past, n)) in
-          let empty : slice_get [] place ≡ Some e = ap (λ (t : List Entry). slice_get t place) (sym none) ∙ at in
-          absurd cc
-    ];
-  };
-}
+  none_delivered : (i : SiteId) (place : ℕ) (e : Entry) (j : SiteId) (number : ℕ) (packet : Packet)
+      → slice_get (first i ∷ []) place ≡ Some e → e.event ≡ Given (Deliver j number packet) → ⊥
+  none_delivered i zero e j number packet at is =
+      let opening : first i ≡ e = cc in
+      let event : Restart ≡ Given (Deliver j number packet) = ap (λ (x : Entry). x.event) opening ∙ is in
+      absurd cc
+  none_delivered i (suc place) e j number packet at is = absurd cc
+
+  pub openings_right : (trails : List (List Entry)) → AreOpenings catalog trails → AreRightWithPlace catalog trails
+  openings_right trails are = record {
+    enough = 9 + need_of (Boot 1);
+    right = λ capacity enough. record {
+      one_each = are.one_each;
+      right = λ i below. subst (λ (t : List Entry). IsRightTrail catalog capacity i t) (sym (are.opens i below))
+          (opening_right capacity i enough);
+      linked = λ i place e j number packet at is. elim (cases_lt i.0 catalog.sites) [
+        | inl below ↦ absurd (none_delivered i place e j number packet
+            (ap (λ (t : List Entry). slice_get t place) (sym (are.opens i below)) ∙ at) is)
+        | inr past ↦
+            let none : trail_of trails i ≡ [] =
+            get_or_past trails i.0 [] (let n = are.one_each in omega (arith, past, n)) in
+            let empty : slice_get [] place ≡ Some e = ap (λ (t : List Entry). slice_get t place) (sym none) ∙ at in
+            absurd cc
+      ];
+    };
+  }
 
 pub step_right : (catalog : Catalog) (old new : List (List Entry)) (e : WorldEvent) → e.site.0 < catalog.sites
     → AreRightWithPlace catalog old → StepsTo catalog old e new → AreRightWithPlace catalog new
@@ -354,12 +350,12 @@ step_right catalog old new e below right (inl same) = subst (AreRightWithPlace c
 step_right catalog old new e below right (inr happened) = right_more catalog old new e happened below right
 
 events_right : (catalog : Catalog) (first : List (List Entry)) (events : List WorldEvent) (last : List (List Entry))
-    → AreOpenings catalog.sites first → HaveHappened catalog first events last → AreRightWithPlace catalog last
+    → AreOpenings catalog first → HaveHappened catalog first events last → AreRightWithPlace catalog last
 events_right catalog first events last are nothing = openings_right catalog first are
 events_right catalog first events last are (one_more before e old new happened below steps) =
     step_right catalog old new e below (events_right catalog first before old are happened) steps
 
 pub events_promise : (catalog : Catalog) (first last : List (List Entry)) (events : List WorldEvent) → IsWhole catalog
-    → AreOpenings catalog.sites first → HaveHappened catalog first events last → KeepPromises catalog last
+    → AreOpenings catalog first → HaveHappened catalog first events last → KeepPromises catalog last
 events_promise catalog first last events whole are happened =
     promises catalog last whole (events_right catalog first events last are happened)

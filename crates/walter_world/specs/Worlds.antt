@@ -1,7 +1,6 @@
 -- What an event leaves of the trails of all sites, and what these promise.
-use Rattle.std.specs.Prelude.{◌≡◌, ◌≢◌, ◌⊎◌, ◌<◌, ◌≤◌, ℕ, List, [], ◌∷◌, ◌++◌, length, reverse, Some, None}
+use Rattle.std.specs.Prelude.{◌≡◌, ◌≢◌, ◌⊎◌, ◌<◌, ◌≤◌, ℕ, List, [], ◌∷◌, ◌++◌, length, reverse, false}
 use Rattle.walter_base.specs.declared.catalog.Catalog.{Catalog}
-use Rattle.walter_base.specs.declared.message.Record.TheVariants.{Boot}
 use Rattle.walter_base.specs.declared.names.SiteId.{SiteId}
 use Rattle.walter_linked.specs.Marks.{AreGotRight, AreMarksTrue}
 use Rattle.walter_psi.specs.Legal.{IsLegal}
@@ -11,10 +10,9 @@ use Rattle.walter_refinement.specs.Spelled.{psi_of}
 use Rattle.walter_rules.specs.declared.entry.Entry.{Entry}
 use Rattle.walter_rules.specs.declared.event.Event.{Event}
 use Rattle.walter_rules.specs.declared.event.Event.TheVariants.{Restart}
-use Rattle.walter_rules.specs.declared.outcome.Outcome.TheVariants.{Taken}
-use Rattle.walter_rules.specs.Knowledge.{site_at}
 use Rattle.walter_rules.specs.Merges.{Named, merge, trail_of}
 use Rattle.walter_runs.specs.Runs.{AreRightTrails}
+use Rattle.walter_world.specs.declared.events.Fate.TheVariants.{Fine}
 use Rattle.walter_world.specs.declared.events.WorldEvent.{WorldEvent}
 use Rattle.walter_world.specs.Comings.{entry_of}
 use Rattle.walter_world.specs.Events.{Brings, IsMissing, keeps}
@@ -36,25 +34,11 @@ pub record HasHappened (catalog : Catalog) (old : List (List Entry)) (e : WorldE
 abbrev pub StepsTo : Catalog → List (List Entry) → WorldEvent → List (List Entry) → Type 0
 StepsTo catalog old e new = (IsMissing old e.site e.what × (new ≡ old)) ⊎ HasHappened catalog old e new
 
--- the first entry of each trail: the site comes up, in its first epoch
-abbrev pub opening : Entry
-opening = record {
-  stamp = 1;
-  event = Restart;
-  came = record {
-    outcome = Taken;
-    kept = None;
-    wrote = Some (Boot 1);
-    flight = None;
-    sends = [];
-    dropped = 0;
-  };
-}
-
--- there is a trail for each of so many sites, which has its opening
-pub record AreOpenings (sites : ℕ) (trails : List (List Entry)) : Type 0 where
-  pub one_each : length trails ≡ sites
-  pub opens : (i : ℕ) → i < sites → trail_of trails (site_at i) ≡ opening ∷ []
+-- each site has come up in its first epoch, and nothing else has happened
+pub record AreOpenings (catalog : Catalog) (trails : List (List Entry)) : Type 0 where
+  pub one_each : length trails ≡ catalog.sites
+  pub opens : (i : SiteId) → i.0 < catalog.sites
+      → trail_of trails i ≡ entry_of catalog i [] Restart 0 false Fine ∷ []
 
 -- what a list of events leaves of the trails, one after another, each at one of the sites
 pub data HaveHappened (catalog : Catalog) (first : List (List Entry)) : List WorldEvent → List (List Entry) → Type 0 where

@@ -18,5 +18,5 @@ pub fn steps_keep_promises()
 /// trails are right and linked and spell a legal history, and so on.
 pub fn events_keep_promises()
     ensures { (catalog : Catalog) (first last : List (List Entry)) (events : List WorldEvent) → IsWhole catalog
-        → AreOpenings catalog.sites first → HaveHappened catalog first events last → KeepPromises catalog last }
+        → AreOpenings catalog first → HaveHappened catalog first events last → KeepPromises catalog last }
 {}
