@@ -43,6 +43,7 @@ use Rattle.walter_rules.specs.Trails.{standing, IsOnly, failure, want, fullness,
 use Rattle.walter_alone.proofs.Alone.{issued_by, IsAlone}
 use Rattle.walter_alone.proofs.Followed.{kind_follows}
 use Rattle.walter_alone.proofs.Kept.{IsKept, kept_at_first, IsPlain, CanBegin, unflown, falls, settles, quiet, closes, changes, starts_one, begins_slow, boots_up, none_flying}
+use Rattle.walter_rules.proofs.Staying.{fault_falls}
 use Rattle.walter_runs.proofs.Steps.{IsStep, stable, flies, unread_step, wants, finds_full, step_of}
 
 -- without a record in flight none is left
@@ -109,16 +110,6 @@ failed_falls : (event : Event) → goes_down event Failed ≡ true
 failed_falls (Given input) = refl
 failed_falls Stop = refl
 failed_falls Restart = refl
-
-fault_falls : (event : Event) (rec : Record) → goes_down event (failure event rec) ≡ true
-fault_falls (Given (Call client call)) (Own seq tx) = refl
-fault_falls (Given (Call client call)) (SlowBegin n tx) = refl
-fault_falls (Given (Call client call)) rec = refl
-fault_falls (Given (Deliver from number packet)) rec = refl
-fault_falls (Given (Advance from)) rec = refl
-fault_falls (Given Tick) rec = refl
-fault_falls Stop rec = refl
-fault_falls Restart rec = refl
 
 -- one update more
 more_declared : (catalog : Catalog) (updates : List Update) (update : Update) → is_declared catalog update ≡ true

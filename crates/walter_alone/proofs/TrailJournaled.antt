@@ -22,13 +22,13 @@ use Rattle.walter_alone.proofs.KeptSteps.{settled_kept, right_kept}
 use Rattle.walter_runs.proofs.Steps.{IsStep, stable, flies, unread_step, wants, finds_full, step_of}
 
 -- one record more
-replayed-push : (catalog : Catalog) (i : SiteId) (K : Knowledge) (records : List Record) (rec : Record)
+pub replayed-push : (catalog : Catalog) (i : SiteId) (K : Knowledge) (records : List Record) (rec : Record)
     → replayed catalog i K (records ++ rec ∷ []) ≡ recorded catalog i (Some rec) (replayed catalog i K records)
 replayed-push catalog i K [] rec = refl
 replayed-push catalog i K (first ∷ records) rec = replayed-push catalog i
     (recorded catalog i (Some first) K) records rec
 
-follow-push : (catalog : Catalog) (i : SiteId) (K : Knowledge) (records : List Record) (rec : Record)
+pub follow-push : (catalog : Catalog) (i : SiteId) (K : Knowledge) (records : List Record) (rec : Record)
     → CanAllFollow catalog i K records
     → CanFollow catalog i (replayed catalog i K records) rec → CanAllFollow catalog i K (records ++ rec ∷ [])
 follow-push catalog i K [] rec all one = (one, tt)

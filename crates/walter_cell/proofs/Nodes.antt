@@ -32,9 +32,6 @@ use Rattle.walter_cell.specs.Nodes.{entry_by, IsNode, IsKnownNode, MayDrop}
 use Rattle.walter_cell.proofs.Asked.{stands_owing}
 use Rattle.walter_cell.proofs.Owing.{debts_after}
 
-turned : (trail : List Entry) (e : Entry) → reverse (trail ++ e ∷ []) ≡ e ∷ reverse trail
-turned trail e = reverse-append trail (e ∷ [])
-
 first_stays : (trail : List Entry) (e x : Entry) → slice_get trail 0 ≡ Some x → slice_get (trail ++ e ∷ []) 0 ≡ Some x
 first_stays [] e x h = absurd cc
 first_stays (y ∷ trail) e x h = h
@@ -87,7 +84,7 @@ module _ {D : Type 0} {g : Ghosts D} where
     out = out_as_ruled (met_to old.outs.items) (carried_by old.outs.items) came.sends sends dropped free
 
     back : reverse new.entries.items ≡ own ∷ reverse trail
-    back = ap reverse grown ∙ turned trail own
+    back = ap reverse grown ∙ reverse-append trail (own ∷ [])
 
     pub node_more : new.clock ≡ stamp → IsSameEngine old.engine new.engine → IsSized catalog.sites came
         → HavePutMore catalog.sites stamp old.outs.items new.outs.items sends

@@ -15,7 +15,7 @@ use Rattle.walter_engine.specs.declared.answers.Stepped.TheVariants.{Done, Faile
 use Rattle.walter_engine.specs.declared.engine.Engine.{Engine}
 use Rattle.walter_engine.specs.Engines.{is_up, Stands}
 use Rattle.walter_engine.specs.Steps.{only, came_of_step, IsSizedStep, IsFaultOfStep, IsUntold, DoesLose}
-use Rattle.walter_engine.proofs.Staying.{fault_falls}
+use Rattle.walter_rules.proofs.Staying.{fault_falls}
 use Rattle.walter_packet.specs.Framed.{frame_of}
 use Rattle.walter_packet.specs.Spelling.{HasPacketSpelling}
 use Rattle.walter_rules.specs.Sending.{Send}
@@ -180,7 +180,7 @@ step_loses sites input (Done outcome wrote sends frames) sessions sized loses =
     no_loss (goes_down (Given input) outcome) sessions
     (stays_up input outcome (not_faulty outcome (sized.sure, sized.unfailed)))
 step_loses sites input (Failed rec lost) sessions sized loses =
-    subst (λ b. IsLoss b sessions (Some lost)) (sym (fault_falls input rec)) loses
+    subst (λ b. IsLoss b sessions (Some lost)) (sym (fault_falls (Given input) rec)) loses
 step_loses sites input (Full need left) sessions sized loses =
     no_loss (goes_down (Given input) (fullness (Given input) need left)) sessions
     (stays_up input (fullness (Given input) need left) (full_faultless input need left))

@@ -57,19 +57,7 @@ stamp_next i ins (Given Tick) last stamp is = is
 stamp_next i ins Stop last stamp is = is
 stamp_next i ins Restart last stamp is = is
 
--- and it is later than the last
-pub later_next : (event : Event) (last stamp : ℕ) → IsNextStamp event last stamp → last < stamp
-later_next (Given (Call client call)) last stamp is = omega (arith, is)
-later_next (Given (Deliver from number packet)) last stamp is = is
-later_next (Given (Advance from)) last stamp is = omega (arith, is)
-later_next (Given Tick) last stamp is = omega (arith, is)
-later_next Stop last stamp is = omega (arith, is)
-later_next Restart last stamp is = omega (arith, is)
-
 -- ---- cells
-
-turned : (trail : List Entry) (e : Entry) → reverse (trail ++ e ∷ []) ≡ e ∷ reverse trail
-turned trail e = reverse-append trail (e ∷ [])
 
 module _ {D S K : Type 0} {g : Ghosts D} {s : SourceGhosts S} {k : SinkGhosts K} (old : Cell D S K g s k) (mid : Node D g)
     (new : Cell D S K g s k) (stamp : ℕ) (event : Event)
@@ -113,7 +101,7 @@ module _ {D S K : Type 0} {g : Ghosts D} {s : SourceGhosts S} {k : SinkGhosts K}
         → IsNext i old.ins.items event old.node.clock stamp → IsCell catalog capacity i new
     cell_taken node ins next =
         let back : reverse new.node.entries.items ≡ own ∷ reverse old.node.entries.items =
-        ap reverse grown ∙ turned old.node.entries.items own in
+        ap reverse grown ∙ reverse-append old.node.entries.items (own ∷ []) in
         record {
           node = node;
           ins = ap (λ is. length is.items) ins ∙ cell.ins;

@@ -28,7 +28,7 @@ use Rattle.walter_engine.specs.Contents.{CanBeJournaled, AreJournaled}
 use Rattle.walter_engine.specs.Steps.{only, IsUntold}
 use Rattle.walter_engine.proofs.Replayed.{lost_after}
 use Rattle.walter_engine.proofs.Standings.{rule_here, journaled_more, journaled_same}
-use Rattle.walter_engine.proofs.Staying.{rule_stays, fault_falls, put_all}
+use Rattle.walter_rules.proofs.Staying.{rule_stays, fault_falls, put_all}
 
 -- what has sizes and ranges of a record among so many sites has a spelling among them
 pub spells : (sites : ℕ) (rec : Record) → CanBeRecorded rec → AreInRange rec → IsRecordAmong sites rec
@@ -107,7 +107,7 @@ module _ (catalog : Catalog) (i : SiteId) (S : Standing) (input : Input) (came :
 -- where its record met a fault, it is down
 pub flew_up_by : (catalog : Catalog) (i : SiteId) (S : Standing) (input : Input) (rec : Record)
     → (stands_after catalog i S (Given input) (record (only (failure (Given input) rec)) { flight = Some rec })).up ≡ false
-flew_up_by catalog i S input rec = ap (λ (b : Bool). if b then false else S.up) (fault_falls input rec)
+flew_up_by catalog i S input rec = ap (λ (b : Bool). if b then false else S.up) (fault_falls (Given input) rec)
 
 -- it wanted memory, or place
 module _ (catalog : Catalog) (i : SiteId) (S : Standing) (input : Input) (outcome : Outcome) (up : S.up ≡ true)
@@ -244,7 +244,7 @@ module _ (catalog : Catalog) (capacity : ℕ) (i : SiteId) (S : Standing) (input
   flew_knows : (stands_after catalog i S ev flew).knows ≡ lost S.knows
   flew_knows =
       let K = after catalog i S.knows ev (failure ev rec) None in
-      ap (λ (b : Bool). if b then lost K else K) (fault_falls input rec)
+      ap (λ (b : Bool). if b then lost K else K) (fault_falls (Given input) rec)
       ∙ lost_after catalog i S.knows ev (failure ev rec) None
 
   pub flew_rests : lost (stands_after catalog i S ev flew).knows ≡ (stands_after catalog i S ev flew).knows

@@ -23,7 +23,8 @@ use Rattle.walter_tables.specs.Planning.{expected_of}
 use Rattle.walter_tables.specs.Sites.{site_of, catalog_of}
 use Rattle.walter_engine.specs.Prepares.{IsPrepared}
 use Rattle.walter_engine.specs.Steps.{IsSizedDone}
-use Rattle.walter_engine.proofs.Staying.{rule_stays, stays_sure, stays_unfailed}
+use Rattle.walter_engine.proofs.Staying.{stays_sure, stays_unfailed}
+use Rattle.walter_rules.proofs.Staying.{rule_stays}
 
 -- a site that has made ready is the same site
 module _ (old mid : Tables) (input : Input) (plan : Plan) (prepared : IsPrepared old input mid plan)

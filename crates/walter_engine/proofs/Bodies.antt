@@ -5,6 +5,7 @@ use Rattle.std.specs.List.{AllByRecursion}
 use Rattle.std.proofs.lemmas.List.{length-append, length-map, map-append, take-map, map_more, get_or_push}
 use Rattle.std.proofs.lemmas.List.Elements.{All-nil, All-push, recursion_from_All}
 use Rattle.std.proofs.lemmas.Option.{get_or_from_slice_get, slice_get-map, slice_get-get_or}
+use Rattle.walter_alone.proofs.TrailJournaled.{follow-push, replayed-push}
 use Rattle.walter_base.specs.declared.catalog.Catalog.{Catalog}
 use Rattle.walter_base.specs.declared.message.Record.{Record}
 use Rattle.walter_base.specs.declared.names.SiteId.{SiteId}
@@ -15,7 +16,7 @@ use Rattle.walter_rules.specs.Learning.{recorded}
 use Rattle.walter_rules.specs.Records.{CanFollow, CanAllFollow, replayed}
 use Rattle.walter_engine.specs.Replays.{Takes, SpellsNone, IsUnfit, Tells}
 use Rattle.walter_engine.specs.Steps.{Tell, IsUnreadable}
-use Rattle.walter_engine.proofs.Replayed.{all_follow-push, replayed-push, sized_among}
+use Rattle.walter_engine.proofs.Replayed.{sized_among}
 use Rattle.walter_tables.specs.declared.replay.ReplayFault.{ReplayFault}
 use Rattle.walter_tables.specs.declared.replay.ReplayFault.TheVariants.{Unfit, NoMemory}
 use Rattle.walter_tables.specs.declared.tables.Tables.{Tables}
@@ -106,7 +107,7 @@ tells_more catalog i old new front body same_catalog same_site tells takes =
             ∙ ap (λ b. map record_spelled tells.records ++ b ∷ []) takes.is
             ∙ sym (map-append record_spelled tells.records (rec ∷ []));
         spelled = All-push (HasRecordSpelling catalog.sites) tells.records rec tells.tell.spelled spelled;
-        follow = all_follow-push catalog i fresh tells.records rec tells.tell.follow follows;
+        follow = follow-push catalog i fresh tells.records rec tells.tell.follow follows;
       };
       stands = subst (λ (k : Knowledge). Stands new k) (sym (replayed-push catalog i fresh tells.records rec)) leaves;
     }

@@ -17,8 +17,7 @@ use Rattle.walter_journal.specs.Layout.{IsBeforeOrBehind}
 use Rattle.walter_disk.specs.Disks.{DiskState, Fails}
 use Rattle.walter_record.specs.Spelling.{record_spelled}
 use Rattle.walter_record.proofs.Records.{length-record_spelled}
-use Rattle.walter_base.specs.declared.transaction.Tx.{Tx}
-use Rattle.walter_site.specs.Members.{Knows, IsStarted}
+use Rattle.walter_site.proofs.Booted.{knows_booted}
 use Rattle.walter_rules.specs.declared.entry.Came.{Came}
 use Rattle.walter_rules.specs.declared.outcome.Outcome.TheVariants.{Taken, Full}
 use Rattle.walter_rules.specs.declared.event.Event.TheVariants.{Restart}
@@ -27,11 +26,10 @@ use Rattle.walter_rules.specs.Knowledge.{Knowledge}
 use Rattle.walter_rules.specs.Learning.{recorded}
 use Rattle.walter_rules.specs.Rule.{rule, restart_rule}
 use Rattle.walter_rules.specs.Sending.{Send}
-use Rattle.walter_rules.specs.Slow.{Slow, Unused, Undecided, Dropped, Decided, ended}
 use Rattle.walter_rules.specs.Standing.{Standing, stands_after}
 use Rattle.walter_rules.specs.Trails.{Comes, FitsIn, TakesMemory, IsPutOut, need_of, left_behind}
 use Rattle.walter_tables.specs.declared.tables.Tables.{Tables}
-use Rattle.walter_tables.specs.Sites.{site_of, Stands}
+use Rattle.walter_tables.specs.Sites.{Stands}
 use Rattle.walter_engine.specs.declared.answers.RefusedRestart.TheVariants.{LastEpoch}
 use Rattle.walter_engine.specs.declared.answers.Restarted.{Restarted}
 use Rattle.walter_engine.specs.declared.answers.Restarted.TheVariants as restarted
@@ -48,7 +46,7 @@ use Rattle.walter_engine.proofs.Replayed.{lost_after}
 use Rattle.walter_engine.proofs.Resting.{SizeIs, CountsNow, rests_under, rests_failed}
 use Rattle.walter_engine.proofs.Room.{need_is, left_is, fits, much}
 use Rattle.walter_engine.proofs.Standings.{journaled_more, journaled_same, still_can, tallied}
-use Rattle.walter_engine.proofs.Staying.{put_all}
+use Rattle.walter_rules.proofs.Staying.{put_all}
 
 module _ (result : Result (Unit {0}) AppendFault) (need left : ℕ) (Same Rest End : Type 0) (full : left < need → (result ≡ Err (append.Full need left)) × Same)
     (failed : need ≤ left → OnErr result ((result ≡ Err append.Failed) × Rest × End)) where
@@ -89,28 +87,6 @@ boot_needs old mid same body epoch is less =
 rule_down : (catalog : Catalog) (i : SiteId) (S : Standing) → S.up ≡ false
     → rule catalog i S Restart ≡ restart_rule false S.knows
 rule_down catalog i S down = ap (λ (up : Bool). restart_rule up S.knows) down
-
--- a boot ends what was being decided, so the site is one that is up
-not_ended : (slow : Slow) (tx : Tx) (asked : List SiteId) → ended slow ≡ Undecided tx asked → ⊥
-not_ended Unused tx asked is = absurd cc
-not_ended (Undecided t a) tx asked is = absurd cc
-not_ended (Dropped t a) tx asked is = absurd cc
-not_ended (Decided t) tx asked is = absurd cc
-
-pub started : (catalog : Catalog) (i j : SiteId) (K : Knowledge) (epoch : ℕ) → 0 < epoch
-    → IsStarted j (recorded catalog i (Some (Boot epoch)) K)
-started catalog i j K epoch some = record {
-  booted = some;
-  own = λ n tx asked undecided. absurd (not_ended (K.slow n) tx asked undecided);
-}
-
-pub knows_booted : (catalog : Catalog) (i : SiteId) (tables : Tables) (K : Knowledge) (epoch : ℕ)
-    → epoch ≡ K.epoch + 1 → Stands tables (recorded catalog i (Some (Boot epoch)) K)
-    → Knows tables (recorded catalog i (Some (Boot epoch)) K)
-knows_booted catalog i tables K epoch next stands = record {
-  stands = stands;
-  started = started catalog i (site_of tables) K epoch (omega (arith, next));
-}
 
 raised_is : {D : Type 0} {g : Ghosts D} (result : AfterRestart D g) (state : State D g) (answer : Restarted) (tally : Tally) → result.state ≡ state → result.answer ≡ answer → result.tally ≡ tally
     → record { state = state; answer = answer; tally = tally } ≡ result

@@ -36,8 +36,8 @@ use Rattle.walter_engine.specs.Steps.{Tell, IsUnreadable, IsRefusedOver, IfRefus
 use Rattle.walter_engine.proofs.Bodies.{one_list, readable, some_is}
 use Rattle.walter_engine.proofs.Boots.{boots_no_memory}
 use Rattle.walter_engine.proofs.Crashes.{found_may_have, boot_may_have, unmoved}
-use Rattle.walter_engine.proofs.Replayed.{all_follow-push, replayed-push}
 use Rattle.walter_alone.proofs.Followed.{follow_lost, lost_recorded}
+use Rattle.walter_alone.proofs.TrailJournaled.{follow-push, replayed-push}
 use Rattle.walter_tables.specs.declared.tables.Tables.{Tables}
 use Rattle.walter_tables.specs.Sites.{values_of, Stands}
 use Rattle.walter_engine.proofs.Resting.{SizeIs, OnlyNow, rests_by, leaves_bodies}
@@ -57,7 +57,7 @@ module _ (catalog : Catalog) (i : SiteId) (S : Standing) (all : AreJournaled cat
       record {
         spell = refl;
         spelled = All-push (HasRecordSpelling catalog.sites) S.records rec all.spelled can.spelled;
-        follow = all_follow-push catalog i fresh S.records rec all.follow (subst (λ K. CanFollow catalog i K rec) all.tell (follow_lost catalog i S.knows rec can.follows));
+        follow = follow-push catalog i fresh S.records rec all.follow (subst (λ K. CanFollow catalog i K rec) all.tell (follow_lost catalog i S.knows rec can.follows));
       }
 
   -- what is found can be read

@@ -13,20 +13,6 @@ use Rattle.walter_rules.specs.Knowledge.{Knowledge}
 use Rattle.walter_rules.specs.Learning.{recorded, after, lost}
 use Rattle.walter_rules.specs.Records.{CanFollow, CanAllFollow, IsRecordAmong, replayed}
 
--- one record more
-pub all_follow-push : (catalog : Catalog) (i : SiteId) (K : Knowledge) (records : List Record) (rec : Record)
-    → CanAllFollow catalog i K records → CanFollow catalog i (replayed catalog i K records) rec
-    → CanAllFollow catalog i K (records ++ rec ∷ [])
-all_follow-push catalog i K [] rec follow next = (next, tt)
-all_follow-push catalog i K (first ∷ records) rec follow next =
-    (follow.0, all_follow-push catalog i (recorded catalog i (Some first) K) records rec follow.1 next)
-
-pub replayed-push : (catalog : Catalog) (i : SiteId) (K : Knowledge) (records : List Record) (rec : Record)
-    → replayed catalog i K (records ++ rec ∷ []) ≡ recorded catalog i (Some rec) (replayed catalog i K records)
-replayed-push catalog i K [] rec = refl
-replayed-push catalog i K (first ∷ records) rec =
-    replayed-push catalog i (recorded catalog i (Some first) K) records rec
-
 -- what is left behind an event goes by its record alone
 pub lost_after : (catalog : Catalog) (i : SiteId) (K : Knowledge) (event : Event) (outcome : Outcome)
     (wrote : Option Record) → lost (after catalog i K event outcome wrote) ≡ recorded catalog i wrote (lost K)

@@ -22,8 +22,8 @@ use Rattle.walter_engine.specs.Contents.{CanBeJournaled, AreJournaled}
 use Rattle.walter_engine.specs.Engines.{IsTallied}
 use Rattle.walter_engine.specs.Raises.{IsCounted, IsFoundIn}
 use Rattle.walter_engine.specs.Steps.{IsUntold}
-use Rattle.walter_engine.proofs.Replayed.{all_follow-push, replayed-push}
 use Rattle.walter_alone.proofs.Followed.{follow_lost}
+use Rattle.walter_alone.proofs.TrailJournaled.{follow-push, replayed-push}
 
 -- at a site that is up, where the client is owed nothing, it goes by what the site knows
 told_here : (catalog : Catalog) (i : SiteId) (S : Standing) (input : Input) → IsUntold S input
@@ -46,7 +46,7 @@ pub journaled_more : (catalog : Catalog) (i : SiteId) (S T : Standing) (rec : Re
 journaled_more catalog i S T rec all can records knows flight booted = record {
   spelled = subst (λ rs. All (HasRecordSpelling catalog.sites) rs) (sym records) (All-push (HasRecordSpelling catalog.sites) S.records rec all.spelled can.spelled);
   follow = subst (λ rs. CanAllFollow catalog i fresh rs) (sym records)
-      (all_follow-push catalog i fresh S.records rec all.follow
+      (follow-push catalog i fresh S.records rec all.follow
       (subst (λ K. CanFollow catalog i K rec) all.tell (follow_lost catalog i S.knows rec can.follows)));
   tell = knows ∙ (ap (λ K. recorded catalog i (Some rec) K) all.tell
       ∙ (sym (replayed-push catalog i fresh S.records rec) ∙ ap (λ rs. replayed catalog i fresh rs) (sym records)));

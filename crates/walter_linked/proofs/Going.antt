@@ -38,42 +38,42 @@ if_some {X} P (Some y) x h e = subst P (same_Some y x e) h
 pub if_none : {X : Type 0} (P : X → Type 0) (o : Option X) → o ≡ None → IfSome o P
 if_none {X} P o e = subst (λ z. IfSome z P) (sym e) tt
 
-module _ (catalog : Catalog) (W W2 : Stands) (put put2 : Put) (A : AreAgreed catalog W put) (i : SiteId)
+module _ (catalog : Catalog) (W Then : Stands) (put then_put : Put) (A : AreAgreed catalog W put) (i : SiteId)
     (alone : IsAlone catalog i (W i)) (rec : Option Record)
-    (R : IsRecorded catalog i rec W W2) (due : IfSome rec (IsDue catalog W put i)) where
+    (R : IsRecorded catalog i rec W Then) (due : IfSome rec (IsDue catalog W put i)) where
   -- a slow commit that begins is new
   is_new : (n : ℕ) (x : Tx) → rec ≡ Some (SlowBegin n x) → slows W i n ≡ Unused
   is_new n x e = let h = if_some (IsDue catalog W put i) rec (SlowBegin n x) due e in alone.tidy.number n
       (let l = h.next in omega (arith, l))
 
-  pub grown : HasGrown W W2
-  grown = has_grown catalog i rec W W2 R is_new
+  pub grown : HasGrown W Then
+  grown = has_grown catalog i rec W Then R is_new
 
-  pub core : IsCore catalog W2
-  core = recorded_core catalog W W2 put A i alone rec R due
+  pub core : IsCore catalog Then
+  core = recorded_core catalog W Then put A i alone rec R due
 
   -- all of it, where what is new of the site and what it puts out is right
-  pub agreed_on : ((j k : SiteId) (packet : Packet) → put j k packet → put2 j k packet)
-      → ((j k : SiteId) (packet : Packet) → j ≢ k → put2 j k packet → put j k packet ⊎ IsSo catalog W2 j k packet)
-      → IsHeardRight W2 put2 i → ((r : Record) → (W2 i).flight ≡ Some r → IsDue catalog W2 put2 i r)
-      → AreAgreed catalog W2 put2
+  pub agreed_on : ((j k : SiteId) (packet : Packet) → put j k packet → then_put j k packet)
+      → ((j k : SiteId) (packet : Packet) → j ≢ k → then_put j k packet → put j k packet ⊎ IsSo catalog Then j k packet)
+      → IsHeardRight Then then_put i → ((r : Record) → (Then i).flight ≡ Some r → IsDue catalog Then then_put i r)
+      → AreAgreed catalog Then then_put
   agreed_on puts new heard flight = record {
     numbered = core.numbered;
     counted = core.counted;
     causal = core.causal;
     locked = core.locked;
     said = λ j k packet apart p. elim (new j k packet apart p) [
-      | inl old ↦ so_later catalog W W2 grown j k packet apart (A.said j k packet apart old)
+      | inl old ↦ so_later catalog W Then grown j k packet apart (A.said j k packet apart old)
       | inr so ↦ so
     ];
-    heard = holds_all (λ k. IsHeardRight W2 put2 k) i heard (λ k apart.
+    heard = holds_all (λ k. IsHeardRight Then then_put k) i heard (λ k apart.
         let same = R.away k apart in
-        heard_later catalog W W2 put put2 A grown puts k
+        heard_later catalog W Then put then_put A grown puts k
         (λ j. ap (λ (S : Standing). S.knows.acknowledged j) same) (λ j. ap (λ (S : Standing). S.knows.visible j) same)
         (λ n. ap (λ (S : Standing). S.knows.said_yes n) same) (λ n. ap (λ (S : Standing). S.knows.said_no n) same));
-    ready = holds_all (λ k. (r : Record) → (W2 k).flight ≡ Some r → IsDue catalog W2 put2 k r) i flight (λ k apart r e.
+    ready = holds_all (λ k. (r : Record) → (Then k).flight ≡ Some r → IsDue catalog Then then_put k r) i flight (λ k apart r e.
         let same = R.away k apart in
-        due_later catalog W W2 put put2 grown k (ap (λ (S : Standing). lost S.knows) same) puts r
+        due_later catalog W Then put then_put grown k (ap (λ (S : Standing). lost S.knows) same) puts r
         (A.ready k r (sym (ap (λ (S : Standing). S.flight) same) ∙ e)));
   }
 
@@ -183,47 +183,47 @@ module _ (catalog : Catalog) (homes : (oid : ObjId) → (home catalog oid).0 < c
   pub step_flight : (r : Record) → came.flight ≡ Some r → IsDue catalog W put i r
   step_flight r e = if_some (IsDue catalog W put i) came.flight r (flight_by came step).0 e
 
-  module _ (W2 : Stands) (here : W2 i ≡ stands_after catalog i (W i) event came)
-      (away : (k : SiteId) → k ≢ i → W2 k ≡ W k) (put2 : Put)
-      (puts : (j k : SiteId) (packet : Packet) → put j k packet → put2 j k packet)
-      (new : (j k : SiteId) (packet : Packet) → put2 j k packet → put j k packet ⊎
+  module _ (Then : Stands) (here : Then i ≡ stands_after catalog i (W i) event came)
+      (away : (k : SiteId) → k ≢ i → Then k ≡ W k) (then_put : Put)
+      (puts : (j k : SiteId) (packet : Packet) → put j k packet → then_put j k packet)
+      (new : (j k : SiteId) (packet : Packet) → then_put j k packet → put j k packet ⊎
       ((j ≡ i) × Contains came.sends (k, packet))) where
-    pub step_recorded : IsRecorded catalog i came.wrote W W2
+    pub step_recorded : IsRecorded catalog i came.wrote W Then
     step_recorded = record {
       here = ap (λ (S : Standing). lost S.knows) here ∙ lost_stands catalog i
           (W i) event came;
       away = away;
     }
 
-    pub step_grown : HasGrown W W2
-    step_grown = grown catalog W W2 put put2 A i (alone i) came.wrote step_recorded (wrote_by came step)
+    pub step_grown : HasGrown W Then
+    step_grown = grown catalog W Then put then_put A i (alone i) came.wrote step_recorded (wrote_by came step)
 
-    still : came.wrote ≡ None → lost (W2 i).knows ≡ lost (W i).knows
+    still : came.wrote ≡ None → lost (Then i).knows ≡ lost (W i).knows
     still none = step_recorded.here ∙ ap (λ o. recorded catalog i o (lost (W i).knows)) none
 
-    pub agreed_after : AreAgreed catalog W2 put2
+    pub agreed_after : AreAgreed catalog Then then_put
     agreed_after =
         let R = step_recorded in
         let due = wrote_by came step in
         let G = step_grown in
         let K = after catalog i (W i).knows event came.outcome came.wrote in
-        let same : lost (W2 i).knows ≡ lost K = R.here
+        let same : lost (Then i).knows ≡ lost K = R.here
         ∙ sym (lost_after catalog i (W i).knows event came.outcome came.wrote) in
-        agreed_on catalog W W2 put put2 A i (alone i) came.wrote R due puts
+        agreed_on catalog W Then put then_put A i (alone i) came.wrote R due puts
         (λ j k packet apart p. elim (new j k packet p) [
           | inl old ↦ inl old
           | inr sent ↦ inr (
-              subst (λ z. IsSo catalog W2 z k packet) (sym sent.0)
-              (so_new catalog W put A alone i W2 G (core catalog W W2 put put2 A i
+              subst (λ z. IsSo catalog Then z k packet) (sym sent.0)
+              (so_new catalog W put A alone i Then G (core catalog W Then put then_put A i
               (alone i) came.wrote R due) event K k packet (λ e. apart (sent.0 ∙ sym e)) same delivered
               (sent_by came step k packet sent.1))
               )
         ])
-        (heard_right catalog W W2 put put2 A G puts i event came.outcome came.wrote
+        (heard_right catalog W Then put then_put A G puts i event came.outcome came.wrote
         (step_taken catalog i (W i) event came step) delivered (ap (λ (S : Standing). S.knows) here))
         (λ r e. elim (flight_cases came.flight came.wrote came.outcome (W i).flight r
         (sym (ap (λ (S : Standing). S.flight) here) ∙ e)) [
-          | inl flying ↦ due_later catalog W W2 put put2 G i (still ((flight_by came step).1 r flying)) puts r
+          | inl flying ↦ due_later catalog W Then put then_put G i (still ((flight_by came step).1 r flying)) puts r
               (step_flight r flying)
-          | inr old ↦ due_later catalog W W2 put put2 G i (still old.0) puts r (A.ready i r old.1)
+          | inr old ↦ due_later catalog W Then put then_put G i (still old.0) puts r (A.ready i r old.1)
         ])

@@ -6,3 +6,4 @@ pub mod SendsInOrder
 pub mod CallsAllowed
 pub mod DeliveriesAllowed
 pub mod RulesAllowed
+pub mod Staying

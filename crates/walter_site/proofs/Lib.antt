@@ -9,3 +9,4 @@ pub mod Outcomes
 pub mod Left
 pub mod Readied
 pub mod Plannings
+pub mod Booted

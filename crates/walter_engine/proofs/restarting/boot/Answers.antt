@@ -5,12 +5,13 @@ use Rattle.walter_journal.specs.Journals.{disk_of, left_of, need_of, StandsFor}
 use Rattle.walter_journal.specs.Layout.{IsBeforeOrBehind}
 use Rattle.walter_record.specs.Spelling.{record_spelled}
 use Rattle.walter_rules.specs.Learning.{recorded}
+use Rattle.walter_site.proofs.Booted.{knows_booted}
 use Rattle.walter_tables.specs.declared.tables.Tables.{Tables}
 use Rattle.walter_tables.specs.Sites.{values_of, site_of, catalog_of, Stands}
 use Rattle.walter_engine.specs.declared.answers.Restarted.{Restarted}
 use Rattle.walter_engine.specs.States.{disk_of_state}
 use Rattle.walter_engine.specs.Steps.{IfFull}
-use Rattle.walter_engine.proofs.Boots.{boots_no_memory, boots_refused, knows_booted, boots_up, boots_failed, boots_full, disk_failed, disk_full, boot_needs, full_is, failed_is}
+use Rattle.walter_engine.proofs.Boots.{boots_no_memory, boots_refused, boots_up, boots_failed, boots_full, disk_failed, disk_full, boot_needs, full_is, failed_is}
 use Rattle.walter_engine.proofs.Crashes.{unmoved, made_room, room_and_append}
 use Rattle.walter_engine.proofs.Resting.{rests_under}
 use Rattle.walter_engine.proofs.Room.{short_enough}

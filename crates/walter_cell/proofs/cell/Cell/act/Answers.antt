@@ -2,7 +2,8 @@ use Rattle.std.proofs.Common.{◌≡◌, ◌<◌, ◌+◌, ◌^◌, length, refl
 use Rattle.walter_cell.specs.declared.cell.Cell.{Cell}
 use Rattle.walter_rules.specs.Trails.{IsNextStamp}
 use Rattle.walter_cell.proofs.Nodes.{node_same, known_same}
-use Rattle.walter_cell.proofs.Taken.{plain_sized, plain_clients, plain_next, stamp_next, later_next, grows_taken, same_taken, mets_taken, drops_taken, cell_taken, cell_same}
+use Rattle.walter_rules.proofs.Staying.{later_next}
+use Rattle.walter_cell.proofs.Taken.{plain_sized, plain_clients, plain_next, stamp_next, grows_taken, same_taken, mets_taken, drops_taken, cell_taken, cell_same}
 use Rattle.walter_cell.proofs.cell.Cell.act.Goals as goal
 
 pub take-requires-clause-sized : goal.take-requires-clause-sized

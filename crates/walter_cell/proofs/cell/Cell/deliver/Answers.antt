@@ -12,7 +12,8 @@ use Rattle.walter_cell.specs.declared.cell.Cell.{Cell}
 use Rattle.walter_cell.specs.Cells.{arrival, stamp_behind}
 use Rattle.walter_cell.proofs.Meeting.{was_here, arrival_at}
 use Rattle.walter_cell.proofs.Nodes.{node_same, known_same}
-use Rattle.walter_cell.proofs.Taken.{stamp_next, later_next, grows_taken, mets_taken, drops_taken, cell_taken}
+use Rattle.walter_rules.proofs.Staying.{later_next}
+use Rattle.walter_cell.proofs.Taken.{stamp_next, grows_taken, mets_taken, drops_taken, cell_taken}
 use Rattle.walter_cell.proofs.cell.Cell.deliver.Given.{Over}
 use Rattle.walter_cell.proofs.cell.Cell.deliver.Goals as goal
 use Rattle.walter_cell.proofs.cell.Cell.deliver.Goals.{in-Some, in-None}
