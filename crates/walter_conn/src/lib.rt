@@ -12,3 +12,4 @@ mod state;
 pub use conn::Conn;
 pub use laws::{calls_in_order, what_was_called};
 pub use next::{BrokenConn, Next};
+pub use reading::read_call;

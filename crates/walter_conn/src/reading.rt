@@ -8,7 +8,7 @@ use walter_fields::{Mem, NoMemory};
 use walter_request::{RequestFault, decode};
 
 /// What the body of a frame calls for. Only the bytes of a Write take memory.
-pub(crate) fn read_call(alloc: Global, body: &[u8]) -> Mem<Call>
+pub fn read_call(alloc: Global, body: &[u8]) -> Mem<Call>
     requires { length body.now ≤ 65536 }
     ensures call { IfOk result (λ call. CallsFor body.now call) }
     ensures write { OnErr result (SpellsWrite body.now) }

@@ -3,10 +3,8 @@ mod faults;
 mod limits;
 mod replies;
 mod reports;
-mod spelling;
 mod stops;
 
-use spelling::spelled;
 use std::alloc::Global;
 use std::process::Abort;
 use std::test::Fail;
@@ -15,7 +13,9 @@ use walter_cli::{Ended, top};
 use walter_disk::Rack;
 use walter_disk_memory::MemoryRack;
 use walter_psi::first_illegal;
+use walter_psi_of::psi_of;
 use walter_stream::{BytesSource, MemorySink, Source};
+use walter_trail::merge;
 
 const FIRST_RUN: &str =
     r#"{"sites":1,"f":0,"containers":[[1,"regular",0]],"clients":[[0,"000000010100000016030000000100000000000000050000000568656c6c6f0000000d020000000100000000000000050000000108"]],"steps":[["call",0],["call",0],["call",0],["call",0]]}"#;
@@ -97,13 +97,15 @@ fn run_on<R: Rack>(rt: &impl AllocGlobal, scenario: &str, rack: &mut R) -> Resul
 
 // The call ended well, and the checker finds nothing in the history that its trail spells.
 fn is_legal(rt: &(impl Abort + AllocGlobal), ended: &Ended) -> Result<(), Fail> {
-    assert_eq!(rt; (ended.status, ended.trails.len()), (0, 1));
+    assert_eq!(rt; ended.status, 0);
     assert!(rt; ended.fault.is_none());
-    for trail in &ended.trails {
-        let history = spelled(rt.alloc(), trail.as_slice())?;
-        let found = first_illegal(rt.alloc(), &history)?;
-        assert!(rt; found.is_none(), "{found:?}");
+    if ended.trails.len() != 1 {
+        return Err(Fail::from("more or fewer than one site"));
     }
+    let merged = merge(rt.alloc(), &ended.trails)?;
+    let history = psi_of(rt.alloc(), &merged)?;
+    let found = first_illegal(rt.alloc(), history.as_slice())?;
+    assert!(rt; found.is_none(), "{found:?}");
     Ok(())
 }
 
