@@ -7,3 +7,5 @@ mod playing;
 mod schedules;
 #[cfg(test)]
 mod worked;
+#[cfg(test)]
+mod worlds;

@@ -3,6 +3,7 @@
 ghost use Rattle.std.specs.Prelude.{◌≡◌, ◌<◌, ◌≤◌};
 
 use crate::playing::{Run, legal_history, play};
+use crate::worlds::is_same_in_a_world;
 use rand_core::Rng;
 use rand_pcg::Pcg32;
 use std::alloc::Global;
@@ -240,27 +241,41 @@ impl Schedule {
     }
 }
 
-// The trails of a schedule.
-fn trails_of(rt: &(impl Abort + AllocGlobal), seed: u64) -> Result<Vec<Trail>, Fail> {
+// A scenario, and the trails that it comes to.
+#[derive(Drop)]
+struct Played {
+    scenario: String,
+    trails: Vec<Trail>,
+}
+
+// What a schedule comes to.
+fn played(rt: &(impl Abort + AllocGlobal), seed: u64) -> Result<Played, Fail> {
     let alloc = rt.alloc();
     let mut schedule = Schedule::new(alloc, seed)?;
-    let mut played = Vec::new(alloc);
+    let mut last = Played {
+        scenario: String::new(alloc),
+        trails: Vec::new(alloc),
+    };
     for _ in 0..BLOCKS {
         schedule.block()?;
         let scenario = format!(in alloc; "{}]}}", schedule.text)?;
         let Run { trails, .. } = play(rt, &scenario)?;
         schedule.count_all(&trails);
-        played = trails;
+        last = Played { scenario, trails };
     }
-    Ok(played)
+    Ok(last)
 }
 
 #[test]
 fn runs_at_random_are_legal(rt: HostRuntime) -> Result<(), Fail> {
-    // How many commits came to another site, and how many were aborted over a lock.
-    let (mut arrivals, mut locked): (usize, usize) = (0, 0);
+    // How many commits came to another site, how many were aborted over a lock, and how many runs came to the same at
+    // sites without disks.
+    let (mut arrivals, mut locked, mut same): (usize, usize, usize) = (0, 0, 0);
     for seed in 0..200 {
-        let trails = trails_of(&rt, seed)?;
+        let Played { scenario, trails } = played(&rt, seed)?;
+        if is_same_in_a_world(&rt, &scenario, &trails)? {
+            same = same.saturating_add(1);
+        }
         let history = legal_history(&rt, &trails)?;
         for step in history.as_slice() {
             match step {
@@ -270,6 +285,9 @@ fn runs_at_random_are_legal(rt: HostRuntime) -> Result<(), Fail> {
             }
         }
     }
-    assert!(rt; arrivals > 100 && locked > 20, "{arrivals}, {locked}");
+    assert!(rt;
+        arrivals > 100 && locked > 20 && same > 100,
+        "{arrivals}, {locked}, {same}"
+    );
     Ok(())
 }

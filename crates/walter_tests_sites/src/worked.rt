@@ -1,5 +1,6 @@
 //! Worked runs of several sites, and their reports.
 use crate::playing::{Run, legal_history, play};
+use crate::worlds::is_same_in_a_world;
 use std::process::Abort;
 use std::test::Fail;
 
@@ -79,7 +80,8 @@ static RUNS: [(&str, &str, &str); 12] = [
     ),
 ];
 
-// The run of this name has its report, and a legal history.
+// The run of this name has its report, and a legal history; and where each of its events can come to sites without disks,
+// they have its trails.
 fn reports(rt: &(impl Abort + AllocGlobal), name: &str) -> Result<(), Fail> {
     let Some((_, scenario, wanted)) = RUNS.iter().find(|(run, _, _)| *run == name) else {
         return Err(Fail::from("no run of this name"));
@@ -87,6 +89,7 @@ fn reports(rt: &(impl Abort + AllocGlobal), name: &str) -> Result<(), Fail> {
     let Run { trails, report } = play(rt, scenario)?;
     assert_eq!(rt; report.as_str(), *wanted);
     legal_history(rt, &trails)?;
+    assert!(rt; is_same_in_a_world(rt, scenario, &trails)?);
     Ok(())
 }
 

@@ -20,9 +20,9 @@ use Rattle.walter_rules.specs.Calls.{Expected}
 use Rattle.walter_rules.specs.Knowledge.{site_at}
 use Rattle.walter_rules.specs.Merges.{Stamped, sent_to, put_out_to, trail_of, IsLinked, AreLinked}
 use Rattle.walter_rules.specs.Rule.{rule}
-use Rattle.walter_rules.specs.Sending.{Send}
 use Rattle.walter_rules.specs.Standing.{Standing, settled}
-use Rattle.walter_rules.specs.Trails.{standing, clock, need_of, FitsIn, IsPutOut, all_out, put_out, carried_one, Comes, ruled, met_fault, IsFound, IsNextStamp, IsRightEntry, AreRight, IsRightTrail}
+use Rattle.walter_rules.specs.Trails.{standing, clock, need_of, FitsIn, Comes, ruled, met_fault, IsFound, IsNextStamp, IsRightEntry, AreRight, IsRightTrail}
+use Rattle.walter_rules.proofs.Staying.{put_all}
 use Rattle.walter_runs.specs.Runs.{AreRightTrails}
 use Rattle.walter_world.specs.declared.events.Fate.{Fate}
 use Rattle.walter_world.specs.declared.events.Fate.TheVariants.{Fine, Broken}
@@ -34,14 +34,6 @@ use Rattle.walter_world.specs.Events.{packet_at, Brings, a_call, a_packet, an_ad
 use Rattle.walter_world.specs.Worlds.{AreOpenings, AreRightWithPlace, KeepPromises, HasHappened, StepsTo, HaveHappened, nothing, one_more}
 
 -- ---- one entry
-
-turned : (trail : List Entry) (e : Entry) → reverse (trail ++ e ∷ []) ≡ e ∷ reverse trail
-turned trail e = reverse-append trail (e ∷ [])
-
--- all is put out
-put_all : (carried : SiteId → ℕ) (sends : List Send) → IsPutOut carried sends sends 0
-put_all carried [] = all_out carried
-put_all carried (send ∷ sends) = put_out carried send sends sends 0 (put_all (carried_one send.0 carried) sends)
 
 -- how many bytes of a journal are enough, with a record more
 abbrev need_any : Option Record → ℕ
@@ -76,7 +68,7 @@ module _ (catalog : Catalog) (capacity : ℕ) (i : SiteId) (T : Standing) (event
   comes_by Fine = comes_fine
   comes_by Broken = comes_broken x.wrote refl
 
-came_kept : (fate : Fate) (event : Event) (kept : Option Record) (x : Expected) → (came_by fate event kept x).kept ≡ kept
+pub came_kept : (fate : Fate) (event : Event) (kept : Option Record) (x : Expected) → (came_by fate event kept x).kept ≡ kept
 came_kept Fine event kept x = refl
 came_kept Broken event kept x = by x.wrote
   where
@@ -148,7 +140,7 @@ module _ (catalog : Catalog) (trails : List (List Entry)) (i : SiteId) (trail : 
     opening = right.opening;
     begins = slice_get-append_left trail (e ∷ []) right.opening 0 right.begins;
     opens = right.opens;
-    right = subst (λ (es : List Entry). AreRight catalog capacity i es) (sym (turned trail e))
+    right = subst (λ (es : List Entry). AreRight catalog capacity i es) (sym (reverse-append trail (e ∷ [])))
         (right.right, right_entry capacity enough);
   }
 

@@ -1,1 +1,12 @@
+pub mod Clocks
+pub mod Giving
+pub mod Restarting
+pub mod RecordsReplayed
 pub mod Growing
+pub mod Numbering
+pub mod SeatTrails
+pub mod Bringing
+pub mod Opened
+pub mod Seated
+pub mod Stepping
+pub mod Stepped

@@ -1,5 +1,5 @@
 -- What an event comes to at a site without a disk: what the rule says; or its record meets a fault.
-use Rattle.std.specs.Prelude.{ℕ, ◌+◌, max, Bool, not, ◌&&◌, List, [], reverse, Option, Some, None, if◌then◌else◌}
+use Rattle.std.specs.Prelude.{ℕ, ◌+◌, max, Bool, true, false, not, ◌&&◌, List, [], reverse, Option, Some, None, if◌then◌else◌}
 use Rattle.walter_base.specs.declared.catalog.Catalog.{Catalog}
 use Rattle.walter_base.specs.declared.message.Record.{Record}
 use Rattle.walter_base.specs.declared.names.SiteId.{SiteId}
@@ -43,6 +43,11 @@ came_broken event kept x (Some rec) = record {
 abbrev pub came_by : Fate → Event → Option Record → Expected → Came
 came_by Fine event kept x = came_stable kept x
 came_by Broken event kept x = came_broken event kept x x.wrote
+
+-- whether there is a record that meets a fault
+abbrev pub breaks : Fate → Option Record → Bool
+breaks Broken (Some rec) = true
+breaks fate wrote = false
 
 -- what an event comes to at a site that stood so, where this record is found
 abbrev pub comes_to : Catalog → SiteId → Standing → Event → Option Record → Fate → Came

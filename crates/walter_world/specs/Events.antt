@@ -1,5 +1,5 @@
 -- What comes to a site of what is said to happen, by what the trails of all sites have put out.
-use Rattle.std.specs.Prelude.{◌≡◌, ℕ, zero, suc, Bool, false, List, slice_get, Option, Some, None, Result}
+use Rattle.std.specs.Prelude.{◌≡◌, ◌<◌, ◌≤◌, ℕ, zero, suc, Bool, false, List, slice_get, length, Option, Some, None, Result}
 use Rattle.walter_base.specs.declared.message.BadFrame.{BadFrame}
 use Rattle.walter_base.specs.declared.message.Request.{Request}
 use Rattle.walter_base.specs.declared.names.SiteId.{SiteId}
@@ -43,3 +43,10 @@ IsMissing trails i what = ⊥
 abbrev pub keeps : What → Bool
 keeps (Restart kept) = kept
 keeps what = false
+
+-- a body fits its frame, and another site is one of so many
+abbrev pub IsWithin : ℕ → What → Type 0
+IsWithin sites (Call client body) = length body ≤ 65536
+IsWithin sites (Deliver from number) = from.0 < sites
+IsWithin sites (Advance from) = from.0 < sites
+IsWithin sites what = Unit {0}

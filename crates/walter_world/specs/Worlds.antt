@@ -1,7 +1,9 @@
--- What an event leaves of the trails of all sites, and what these promise.
-use Rattle.std.specs.Prelude.{◌≡◌, ◌≢◌, ◌⊎◌, ◌<◌, ◌≤◌, ℕ, List, [], ◌∷◌, ◌++◌, length, reverse, false}
+-- What an event leaves of the trails of all sites, what these promise, and what a world is.
+use Rattle.std.specs.Prelude.{◌≡◌, ◌≢◌, ◌⊎◌, ◌<◌, ◌≤◌, ℕ, List, [], ◌∷◌, ◌++◌, length, map, reverse, slice_get, false, Some}
 use Rattle.walter_base.specs.declared.catalog.Catalog.{Catalog}
 use Rattle.walter_base.specs.declared.names.SiteId.{SiteId}
+use Rattle.walter_base.specs.Vectors.{most_sites}
+use Rattle.walter_linked.specs.Catalogs.{IsWhole}
 use Rattle.walter_linked.specs.Marks.{AreGotRight, AreMarksTrue}
 use Rattle.walter_psi.specs.Legal.{IsLegal}
 use Rattle.walter_refinement.specs.Named.{AreNamed}
@@ -10,12 +12,16 @@ use Rattle.walter_refinement.specs.Spelled.{psi_of}
 use Rattle.walter_rules.specs.declared.entry.Entry.{Entry}
 use Rattle.walter_rules.specs.declared.event.Event.{Event}
 use Rattle.walter_rules.specs.declared.event.Event.TheVariants.{Restart}
+use Rattle.walter_rules.specs.Knowledge.{site_at}
 use Rattle.walter_rules.specs.Merges.{Named, merge, trail_of}
+use Rattle.walter_rules.specs.Trails.{clock}
 use Rattle.walter_runs.specs.Runs.{AreRightTrails}
 use Rattle.walter_world.specs.declared.events.Fate.TheVariants.{Fine}
 use Rattle.walter_world.specs.declared.events.WorldEvent.{WorldEvent}
+use Rattle.walter_world.specs.declared.seat.Seat.{Seat}
 use Rattle.walter_world.specs.Comings.{entry_of}
-use Rattle.walter_world.specs.Events.{Brings, IsMissing, keeps}
+use Rattle.walter_world.specs.Events.{Brings, IsMissing, IsWithin, keeps}
+use Rattle.walter_world.specs.Seats.{IsSeat}
 
 -- ---- a step
 
@@ -64,3 +70,42 @@ pub record KeepPromises (catalog : Catalog) (trails : List (List Entry)) : Type 
   pub aborts_named : AreNamed catalog (reverse (merge trails))
   pub marks_true : (newer older : List Named) (n : Named) → reverse (merge trails) ≡ newer ++ n ∷ older
       → AreMarksTrue catalog older n
+
+-- ---- a world
+
+-- what contracts see of it: its catalog, and the trails of its sites
+pub record WorldValue : Type 0 where
+  pub catalog : Catalog
+  pub trails : List (List Entry)
+
+-- no trail has had so many stamps
+abbrev pub AreEarly : ℕ → List (List Entry) → Type 0
+AreEarly bound trails = (i : SiteId) → clock (reverse (trail_of trails i)) < bound
+
+-- the event can come: its sites are of the catalog, a body fits its frame, and no stamp is greater than a caller has who
+-- made fewer than 4,294,967,295 steps
+pub record CanCome (world : WorldValue) (e : WorldEvent) : Type 0 where
+  pub here : e.site.0 < world.catalog.sites
+  pub within : IsWithin world.catalog.sites e.what
+  pub early : AreEarly 4294967295 world.trails
+
+abbrev pub trails_of : List Seat → List (List Entry)
+trails_of seats = map (λ (seat : Seat). seat.entries.items) seats
+
+-- the first sites have come up in their first epoch
+pub record HasOpened (catalog : Catalog) (i : SiteId) (seat : Seat) : Type 0 where
+  pub seat_is : IsSeat catalog i seat
+  pub opens : seat.entries.items ≡ entry_of catalog i [] Restart 0 false Fine ∷ []
+
+pub record HaveOpened (catalog : Catalog) (sites : ℕ) (seats : List Seat) : Type 0 where
+  pub one_each : length seats ≡ sites
+  pub each : (i : ℕ) (seat : Seat) → slice_get seats i ≡ Some seat → HasOpened catalog (site_at i) seat
+
+-- each site of a whole catalog stands as its trail says, and the trails are right and linked
+pub record IsWorld (catalog : Catalog) (seats : List Seat) : Type 0 where
+  pub whole : IsWhole catalog
+  pub few : catalog.sites ≤ most_sites
+  pub fewer : catalog.tolerated < catalog.sites
+  pub one_each : length seats ≡ catalog.sites
+  pub seats_are : (i : ℕ) (seat : Seat) → slice_get seats i ≡ Some seat → IsSeat catalog (site_at i) seat
+  pub right : AreRightWithPlace catalog (trails_of seats)

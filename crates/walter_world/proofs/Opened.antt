@@ -1,0 +1,73 @@
+-- The sites of a new world, one after another: each has come up, and nothing else has happened.
+use Rattle.std.proofs.Common.{◌≡◌, ℕ, ◌+◌, ◌<◌, ◌≤◌, List, [], ◌∷◌, ◌++◌, length, slice_get, Some, None, reverse, ap, sym, ◌∙◌, subst, arith, inl, inr}
+use Rattle.std.specs.Prelude.{All}
+use Rattle.std.proofs.lemmas.List.{length-append, length-map}
+use Rattle.std.proofs.lemmas.List.Elements.{All-nil}
+use Rattle.std.proofs.lemmas.Option.{slice_get_cases}
+use Rattle.walter_base.specs.declared.catalog.Catalog.{Catalog}
+use Rattle.walter_base.specs.declared.names.SiteId.{SiteId}
+use Rattle.walter_base.specs.Vectors.{most_sites}
+use Rattle.walter_linked.specs.Catalogs.{IsWhole}
+use Rattle.walter_psi.proofs.Lists.{slice_get-push_cases}
+use Rattle.walter_rules.specs.declared.entry.Entry.{Entry}
+use Rattle.walter_rules.specs.Knowledge.{site_at}
+use Rattle.walter_rules.specs.Trails.{standing}
+use Rattle.walter_world.specs.declared.debts.DebtChange.{DebtChange}
+use Rattle.walter_world.specs.declared.seat.Seat.{Seat}
+use Rattle.walter_world.specs.Debts.{owed_by}
+use Rattle.walter_world.specs.Seats.{IsState, IsSizedCame, IsSeat}
+use Rattle.walter_world.specs.Worlds.{AreOpenings, HasOpened, HaveOpened, IsWorld, trails_of}
+use Rattle.walter_world.proofs.Growing.{openings_right}
+use Rattle.walter_world.proofs.SeatTrails.{trail_here}
+
+-- nothing has happened yet
+pub none_yet : (catalog : Catalog) (i : SiteId) (seat : Seat) → seat.site ≡ None → seat.entries.items ≡ []
+    → seat.debts.items ≡ [] → IsSeat catalog i seat
+none_yet catalog i seat none trail debts = record {
+  state = subst (λ s. IsState catalog i (standing catalog i (reverse seat.entries.items)) s) (sym none)
+      (ap (λ (es : List Entry). (standing catalog i (reverse es)).up) trail);
+  owed = λ client.
+      ap (λ (es : List Entry). (standing catalog i (reverse es)).gone client) trail
+      ∙ ap (λ (ds : List DebtChange). owed_by client ds) (sym debts);
+  sized = subst (λ (es : List Entry). All (λ (e : Entry). IsSizedCame catalog.sites e.came) es) (sym trail)
+      (All-nil (λ (e : Entry). IsSizedCame catalog.sites e.came));
+}
+
+pub none_opened : (catalog : Catalog) (seats : List Seat) → seats ≡ [] → HaveOpened catalog 0 seats
+none_opened catalog seats none = record {
+  one_each = ap length none;
+  each = λ i seat at. let past : slice_get [] i ≡ Some seat = ap (λ (s : List Seat). slice_get s i) (sym none) ∙ at in absurd cc;
+}
+
+pub open_more : (catalog : Catalog) (n : ℕ) (seats : List Seat) (seat : Seat) → HaveOpened catalog n seats
+    → HasOpened catalog (site_at n) seat → HaveOpened catalog (n + 1) (seats ++ seat ∷ [])
+open_more catalog n seats seat are opened = record {
+  one_each = length-append seats (seat ∷ []) ∙ ap (λ (k : ℕ). k + 1) are.one_each;
+  each = λ i other at. elim (slice_get-push_cases seats seat other i at) [
+    | inl before ↦ are.each i other before.1
+    | inr last ↦ subst (λ (s : Seat). HasOpened catalog (site_at i) s) last.1
+        (subst (λ (k : ℕ). HasOpened catalog (site_at k) seat) (sym (last.0 ∙ are.one_each)) opened)
+  ];
+}
+
+-- their trails are openings
+pub are_openings : (catalog : Catalog) (seats : List Seat) → HaveOpened catalog catalog.sites seats
+    → AreOpenings catalog (trails_of seats)
+are_openings catalog seats are = record {
+  one_each = length-map seats (λ (s : Seat). s.entries.items) ∙ are.one_each;
+  opens = λ i below. elim (slice_get_cases seats i.0).1 [
+    | inl there ↦ trail_here seats i.0 there.0 there.2 ∙ (are.each i.0 there.0 there.2).opens
+    | inr past ↦ let long = past.0 in let all = are.one_each in absurd (omega (arith, below, long, all))
+  ];
+}
+
+pub new_world : (catalog : Catalog) (seats : List Seat) → IsWhole catalog → catalog.sites ≤ most_sites
+    → catalog.tolerated < catalog.sites → HaveOpened catalog catalog.sites seats → IsWorld catalog seats
+new_world catalog seats whole few fewer are = record {
+  whole = whole;
+  few = few;
+  fewer = fewer;
+  one_each = are.one_each;
+  seats_are = λ i seat at. (are.each i seat at).seat_is;
+  right = openings_right catalog (trails_of seats) (are_openings catalog seats are);
+}
