@@ -78,7 +78,8 @@ pub(crate) fn tables_with(
     requires fewer { catalog.now.tolerated < catalog.now.sites }
     requires follow { CanAllFollow catalog.now id fresh (records_of entries.now) }
     requires sized { All (λ e. IsSizedCame catalog.now.sites e.came) entries.now }
-    requires found { IfSome found.now (CanFollow catalog.now id (replayed catalog.now id fresh (records_of entries.now))) }
+    requires found { IfSome found.now
+        (CanFollow catalog.now id (replayed catalog.now id fresh (records_of entries.now))) }
     requires found_sized { IfSome found.now (IsRecordAmong catalog.now.sites) }
     ensures stands { IfOk result (λ tables. Stands tables
         (recorded catalog.now id found.now (replayed catalog.now id fresh (records_of entries.now)))) }

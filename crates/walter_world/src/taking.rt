@@ -308,7 +308,8 @@ fn raise(
     requires sized { All (λ e. IsSizedCame catalog.now.sites e.came) entries.now }
     requires young { clock (reverse entries.now) < 4294967295 }
     requires down { (standing catalog.now id (reverse entries.now)).up ≡ false }
-    ensures { IfOk result (λ raised. HasCome catalog.now id (standing catalog.now id (reverse entries.now)) Event.Restart
+    ensures { IfOk result (λ raised.
+        HasCome catalog.now id (standing catalog.now id (reverse entries.now)) Event.Restart
         (found_by keeps (standing catalog.now id (reverse entries.now))) fate raised.effect raised.site) }
 {
     let found = kept_by(entries, keeps)?;
