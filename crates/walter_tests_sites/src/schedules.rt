@@ -249,7 +249,7 @@ struct Played {
 }
 
 // What a schedule comes to.
-fn played(rt: &(impl Abort + AllocGlobal), seed: u64) -> Result<Played, Fail> {
+fn play_schedule(rt: &(impl Abort + AllocGlobal), seed: u64) -> Result<Played, Fail> {
     let alloc = rt.alloc();
     let mut schedule = Schedule::new(alloc, seed)?;
     let mut last = Played {
@@ -272,7 +272,7 @@ fn runs_at_random_are_legal(rt: HostRuntime) -> Result<(), Fail> {
     // sites without disks.
     let (mut arrivals, mut locked, mut same): (usize, usize, usize) = (0, 0, 0);
     for seed in 0..200 {
-        let Played { scenario, trails } = played(&rt, seed)?;
+        let Played { scenario, trails } = play_schedule(&rt, seed)?;
         if is_same_in_a_world(&rt, &scenario, &trails)? {
             same = same.saturating_add(1);
         }
