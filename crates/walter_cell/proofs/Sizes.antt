@@ -135,7 +135,7 @@ want_faultless (Deliver from number packet) = refl
 want_faultless (Advance from) = refl
 want_faultless Tick = refl
 
-rises_by : (faulty : Bool) (old new : ℕ) → faulty ≡ false → old ≤ new → RisesIf faulty old new
+rises_by : (faulty : Bool) (old new : ℕ) → faulty ≡ false → new ≡ old → RisesIf faulty old new
 rises_by faulty old new none rises = subst (λ b. RisesIf b old new) (sym none) rises
 
 fault_rises : (input : Input) (rec : Record) (old new : ℕ) → old < new → RisesIf (is_faulty (failure (Given input) rec)) old new

@@ -64,7 +64,7 @@ module _ {D : Type 0} {g : Ghosts D} (catalog : Catalog) (capacity : ℕ) (i : S
 
 -- a stop meets no fault
 pub stop_faults : {D : Type 0} {g : Ghosts D} → (lost : Option Table) (old new : Engine D g)
-    → OfDisks old new (λ x y. (g.known x).faults ≤ (g.known y).faults)
+    → OfDisks old new (λ x y. (g.known y).faults ≡ (g.known x).faults)
     → OfDisks old new (λ x y. IsFaulty (came_of_stop lost) (g.known x).faults (g.known y).faults)
 stop_faults None old new rises = rises
 stop_faults (Some lost) old new rises = rises

@@ -1,5 +1,5 @@
 -- What an event came to, as a cell's entry says it.
-use Rattle.std.specs.Prelude.{◌<◌, ◌≤◌, ℕ, Bool, true, false, List, [], Option, Some, None, Ok, Err, IfSome, All}
+use Rattle.std.specs.Prelude.{◌≡◌, ◌<◌, ℕ, Bool, true, false, List, [], Option, Some, None, Ok, Err, IfSome, All}
 use Rattle.walter_base.specs.declared.catalog.Catalog.{Catalog}
 use Rattle.walter_base.specs.declared.message.Record.{Record}
 use Rattle.walter_base.specs.declared.message.Refusal.{Refusal}
@@ -75,10 +75,10 @@ is_faulty (Replied (Unsure tid)) = true
 is_faulty Failed = true
 is_faulty outcome = false
 
--- the disk's faults never fall, and rose where one was met
+-- the disk's faults rise exactly where one was met
 abbrev pub RisesIf : Bool → ℕ → ℕ → Type 0
 RisesIf true old new = old < new
-RisesIf false old new = old ≤ new
+RisesIf false old new = new ≡ old
 
 abbrev pub IsFaulty : Came → ℕ → ℕ → Type 0
 IsFaulty came old new = RisesIf (is_faulty came.outcome) old new

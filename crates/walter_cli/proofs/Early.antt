@@ -13,11 +13,11 @@ use Rattle.walter_engine.specs.declared.answers.Unbegun.TheVariants as unbegun
 use Rattle.walter_play.proofs.Steps.{there_is}
 use Rattle.walter_cli.specs.Ending.{EndsEarly, IsUnbuilt, fault_of}
 use Rattle.walter_cli.specs.Headline.{IsFirstUnfit}
-use Rattle.walter_cli.specs.Racks.{RackAt, Racked, OfADisk, IsGiven, AreSo, Holds, IsUntouched, IsUnarmed, HasFailed, HasCause, racked}
+use Rattle.walter_cli.specs.Racks.{RackAt, Racked, OfADisk, IsGiven, AreSo, Holds, IsUntouched, IsUnarmed, HasFailed, IsFaultlessBefore, FailsToLoad, HasCause, racked}
 use Rattle.walter_cli.specs.declared.ended.Fault.{Fault}
 use Rattle.walter_cli.specs.declared.ended.JournalCause.TheVariants.{Foreign, Damaged, Used}
 use Rattle.walter_cli.proofs.Trails.{field_of}
-use Rattle.walter_cli.proofs.Giving.{IsReturned, each_back, one_or_failed, balances, holds_taken, of_reads, none_balances}
+use Rattle.walter_cli.proofs.Giving.{IsReturned, each_back, one_or_lost, took_all, balances, holds_taken, of_reads, none_balances}
 
 -- where none was given back, each is
 each_none : {D : Type 0} (g : Ghosts D) (before after : RackAt D) (P : ℕ → OfADisk) → after.given ≡ before.given
@@ -112,19 +112,34 @@ module _ {D : Type 0} (g : Ghosts D) (before mid after : RackAt D) (taken back :
       (why : Unbegun) (begins : (bytes : List ℕ) → HasOnly g bytes disk → IsBegun bytes (Err why))
       (rises : IsFaultOfBegin (Err why) (g.known disk).faults (g.known now).faults)
       (others : (i : ℕ) (d : D) (bytes : List ℕ) → i < site → slice_get taken i ≡ Some d → HasOnly g bytes d
-      → HasNoRecord bytes) where
+      → HasNoRecord bytes)
+      (faultless : (i : ℕ) (d e : D) → i < site → slice_get taken i ≡ Some d → slice_get back i ≡ Some e
+      → (g.known e).faults ≡ (g.known d).faults) where
     others_held : (i : ℕ) → i < site → Holds rack i HasNoRecord
     others_held i before_ =
         let within = slice_get_within taken site disk at in
         let d = there_is taken i (omega (arith, within, before_)) in
         held i d.0 HasNoRecord d.1 (λ bytes only. others i d.0 bytes before_ d.1 only)
 
+    faultless_before : (i : ℕ) (e : D) → slice_get back i ≡ Some e → i < site → (g.known e).faults ≡ 0
+    faultless_before i e at_ early =
+        let within = slice_get_within back i e at_ in
+        let long = is.long in
+        let d = there_is taken i (omega (arith, within, long)) in
+        faultless i d.0 e early d.1 at_ ∙ (is.fresh i d.0 d.1).faultless
+
     pub unbuilt : (w : Unbegun) → why ≡ w → IsUnbuilt rack (length taken) (fault_of site w)
-    unbuilt unbegun.Failed same =
-        one_or_failed g before mid after taken back is site now HasFailed there
-        (let rose : (g.known disk).faults < (g.known now).faults =
-        subst (λ (x : Unbegun). IsFaultOfBegin (Err x) (g.known disk).faults (g.known now).faults) same rises in
-        omega (arith, rose))
+    unbuilt unbegun.Failed same = (
+      slice_get_within taken site disk at,
+      inr (record {
+        all = took_all g before mid after taken back is;
+        failed = one_or_lost g before mid after taken back is site now HasFailed there
+            (let rose : (g.known disk).faults < (g.known now).faults =
+            subst (λ (x : Unbegun). IsFaultOfBegin (Err x) (g.known disk).faults (g.known now).faults) same rises in
+            omega (arith, rose));
+        before = each_back g before mid after taken back is (IsFaultlessBefore site) faultless_before;
+      }),
+    )
     unbuilt unbegun.Foreign same = (
       slice_get_within taken site disk at,
       record {
@@ -175,4 +190,5 @@ module _ {D : Type 0} (g : Ghosts D) (before mid after : RackAt D) (taken : List
       (subst (λ (n : ℕ). IsUnbuilt (racked g before after) n (fault_of u.site.0 u.why)) many
       (unbuilt g before mid after taken u.disks.items is u.site.0 disk.0 now.0 disk.1 now.1 u.why
       (λ bytes only. why.why disk.0 bytes disk.1 only) (why.fault disk.0 now.0 disk.1 now.1)
-      (λ i d bytes before_ at only. why.before i d bytes before_ at only) u.why refl))
+      (λ i d bytes before_ at only. why.before i d bytes before_ at only)
+      (λ i d e before_ at there. why.faultless i d e before_ at there) u.why refl))

@@ -2,15 +2,16 @@
 use Rattle.std.proofs.Common.{◌≡◌, ℕ, ◌+◌, ◌<◌, ◌≤◌, zero, suc, List, [], ◌∷◌, ◌++◌, length, slice_get, Option, Some, None, option_map, ap, sym, ◌∙◌, refl, subst, arith, inl, inr, ◌⊎◌}
 use Rattle.std.specs.Prelude.{Result, Ok, Err, OnOk, OnErr, IfSome, IsSome, All, Contains, true, false}
 use Rattle.std.specs.Result.{is_err}
-use Rattle.std.proofs.lemmas.Bool.{cases_lt}
+use Rattle.std.proofs.lemmas.Bool.{cases_lt, cases_eq}
 use Rattle.std.proofs.lemmas.List.{length-append}
-use Rattle.std.proofs.lemmas.List.Elements.{All-weaker}
+use Rattle.std.proofs.lemmas.List.Elements.{All-weaker, All-contains, Contains-push, Contains-push_cases, Contains-append_left, Contains-append_right, Contains-append_cases}
+use Rattle.std.proofs.lemmas.Option.{slice_get_within}
 use Rattle.walter_disk.specs.Images.{Only, IsDurable}
 use Rattle.walter_disk.specs.Racks.{IsFresh}
 use Rattle.walter_disk.specs.declared.disk.Disk.{Ghosts}
-use Rattle.walter_psi.proofs.Lists.{contains_at}
-use Rattle.walter_cli.specs.Disks.{AreTaken, AreGiven}
-use Rattle.walter_cli.specs.Racks.{OfADisk, RackAt, Racked, IsGiven, AreSo, bytes_of, numbered, racked}
+use Rattle.walter_psi.proofs.Lists.{contains_at, Contains-nil}
+use Rattle.walter_cli.specs.Disks.{AreTaken, AreGiven, IsFirstLost}
+use Rattle.walter_cli.specs.Racks.{OfADisk, RackAt, Racked, IsGiven, AreSo, bytes_of, numbered, racked, FailsToGive}
 
 -- what holds of a result that is Err, holds of one that is no Ok; and the other way round
 pub err_part : {T E : Type 0} (r : Result T E) (P : Type 0) → OnErr r P → is_err r ≡ true → P
@@ -52,6 +53,29 @@ pub numbered_has : {D : Type 0} (disks : List D) (i : ℕ) (disk : D) → slice_
 numbered_has disks i disk at =
     contains_at (numbered 0 disks) (i, disk) i
     (numbered_at 0 disks i disk at ∙ ap (λ (n : ℕ). Some (n, disk)) (let z : 0 + i ≡ i = omega arith in z))
+
+-- a list has a disk of this number, or none
+has_or_lacks : {D : Type 0} (disks : List (ℕ × D)) (i : ℕ)
+    → ((disk : D) × Contains disks (i, disk)) ⊎ ((disk : D) → Contains disks (i, disk) → ⊥)
+has_or_lacks [] i = inr (λ disk there. Contains-nil (i, disk) there)
+has_or_lacks {D = D} (first ∷ disks) i = elim (cases_eq first.0 i) [
+  | inl same ↦
+      let is : first ≡ (i, first.1) = ap (λ (n : ℕ). (n, first.1)) same in
+      inl (
+        first.1,
+        subst (λ (it : ℕ × D). Contains (first ∷ disks) it) is (Contains-append_left (first ∷ []) disks first (Contains-push [] first)),
+      )
+  | inr other ↦ elim (has_or_lacks disks i) [
+    | inl there ↦ inl (there.0, Contains-append_right (first ∷ []) disks (i, there.0) there.1)
+    | inr lacks ↦ inr (λ disk there. elim (Contains-append_cases (first ∷ []) disks (i, disk) there) [
+      | inr behind ↦ lacks disk behind
+      | inl here ↦ elim (Contains-push_cases [] first (i, disk) here) [
+        | inl none ↦ Contains-nil (i, disk) none
+        | inr same ↦ other (ap (λ (it : ℕ × D). it.0) same)
+      ]
+    ])
+  ]
+]
 
 module _ {D : Type 0} (g : Ghosts D) (before mid after : RackAt D) (taken back : List D) where
   abbrev rack : Racked
@@ -117,18 +141,52 @@ module _ {D : Type 0} (g : Ghosts D) (before mid after : RackAt D) (taken back :
         → rack.failed ⊎ rack.all (length taken) P
     all_or_failed P so = elim failed_or [ inl same ↦ inr (all_back P same so) | inr failed ↦ inl failed ]
 
+    -- what was given back as a site's is its disk
+    own : (i : ℕ) (disk : D) → Contains is.gives.more (i, disk) → slice_get back i ≡ Some disk
+    own i disk there =
+        let at = All-contains (λ (it : ℕ × D). (j : ℕ) × (it.0 ≡ 0 + j) × (slice_get back j ≡ Some it.1)) is.gives.more
+        (i, disk) is.gives.those there in
+        ap (λ (n : ℕ). slice_get back n) (let e = at.1 in let z : i ≡ at.0 = omega (arith, e) in z) ∙ at.2
+
     -- the one of this site was given back, or the rack failed
-    pub one_or_failed : (i : ℕ) (disk : D) (P : OfADisk) → slice_get back i ≡ Some disk
-        → P (g.known disk) (g.may_leave disk) → rack.failed ⊎ rack.one i P
-    one_or_failed i disk P at holds = elim failed_or [
-      | inr failed ↦ inl failed
-      | inl same ↦ inr (given_so is.gives.more given
-          (λ more. (d : D) × Contains more (i, d) × P (g.known d) (g.may_leave d)) (
-            disk,
-            subst (λ (more : List (ℕ × D)). Contains more (i, disk)) (sym (is.gives.whole same)) (numbered_has back i disk at),
-            holds,
-          ))
+    pub one_or_lost : (i : ℕ) (disk : D) (P : OfADisk) → slice_get back i ≡ Some disk
+        → P (g.known disk) (g.may_leave disk) → (rack.failed × rack.lacks i) ⊎ rack.one i P
+    one_or_lost i disk P at holds = elim (has_or_lacks is.gives.more i) [
+      | inl there ↦
+          let same : disk ≡ there.0 = (let e : Some disk ≡ Some there.0 = sym at ∙ own i there.0 there.1 in cc) in
+          inr (given_so is.gives.more given (λ more. (d : D) × Contains more (i, d) × P (g.known d) (g.may_leave d))
+          (there.0, there.1, subst (λ (d : D). P (g.known d) (g.may_leave d)) same holds))
+      | inr lacks ↦ elim failed_or [
+        | inr failed ↦
+            inl (failed, given_so is.gives.more given (λ more. (d : D) → Contains more (i, d) → ⊥) lacks)
+        | inl same ↦
+            absurd (lacks disk
+            (subst (λ (more : List (ℕ × D)). Contains more (i, disk)) (sym (is.gives.whole same)) (numbered_has back i disk at)))
+      ]
     ]
+
+    -- none was given back as that of a site behind these
+    pub lacks_behind : (i : ℕ) → length back ≤ i → rack.lacks i
+    lacks_behind i most =
+        given_so is.gives.more given (λ more. (d : D) → Contains more (i, d) → ⊥) (λ disk there.
+        let within = slice_get_within back i disk (own i disk there) in omega (arith, within, most))
+
+    -- how many were taken
+    pub took_all : rack.took (length taken)
+    took_all = is.gives.taken ∙ is.many
+
+    -- the first that was lost is that of the site at which the rack failed
+    pub fails_to_give : (site : ℕ) → IsFirstLost mid after back site → FailsToGive rack site
+    fails_to_give site lost =
+        let told : after.given ≡ option_map (λ told. told ++ lost.more) before.given =
+        lost.given ∙ ap (λ (o : Option (List (ℕ × D))). option_map (λ told. told ++ lost.more) o) is.same_given in
+        record {
+          failed = (let l = is.level in let rose = lost.rose in omega (arith, l, rose));
+          lacks = given_so lost.more told (λ more. (d : D) → Contains more (site, d) → ⊥) lost.lacks;
+          before = λ i below.
+              let one = lost.others i below in
+              given_so lost.more told (λ more. (d : D) × Contains more (i, d) × Unit {0}) (one.0, one.1, tt);
+        }
 
     pub balances : rack.balanced
     balances = by before.given after.given given

@@ -1,14 +1,18 @@
 -- How the disks of one more site are taken from a rack, and given back to it.
 use Rattle.std.proofs.Common.{◌≡◌, ℕ, zero, suc, ◌+◌, ◌<◌, ◌≤◌, List, [], ◌∷◌, ◌++◌, length, slice_get, Option, Some, None, option_map, ap, sym, ◌∙◌, refl, subst, arith, inl, inr}
-use Rattle.std.specs.Prelude.{Result, Ok, Err, OnOk, OnErr, IsOk, IfSome, All}
+use Rattle.std.specs.Prelude.{Result, Ok, Err, OnOk, OnErr, IsOk, IfErr, IfSome, All, Contains}
+use Rattle.std.specs.Result.{is_err}
 use Rattle.std.proofs.lemmas.List.{append-nil, append_assoc, length-append}
-use Rattle.std.proofs.lemmas.List.Elements.{All-nil, All-push, All-weaker}
+use Rattle.std.proofs.lemmas.List.Elements.{All-nil, All-push, All-weaker, All-contains, Contains-append_left, Contains-append_cases}
+use Rattle.std.proofs.lemmas.Option.{slice_get_within}
 use Rattle.walter_cluster.specs.Builds.{LeavesDisk}
 use Rattle.walter_disk.specs.Racks.{IsFresh}
 use Rattle.walter_disk.specs.declared.disk.Disk.{Ghosts}
 use Rattle.walter_psi.proofs.Lists.{slice_get-push_cases, slice_get-append_left, slice_get-push}
-use Rattle.walter_cli.specs.Disks.{AreTaken, AreGiven}
+use Rattle.walter_play.proofs.Steps.{there_is}
+use Rattle.walter_cli.specs.Disks.{AreTaken, AreGiven, IsFirstLost, lost_after}
 use Rattle.walter_cli.specs.Racks.{RackAt, numbered}
+use Rattle.walter_cli.proofs.Giving.{numbered_has}
 
 numbered_more : {D : Type 0} (first : ℕ) (disks : List D) (disk : D)
     → numbered first (disks ++ disk ∷ []) ≡ numbered first disks ++ (first + length disks, disk) ∷ []
@@ -114,6 +118,68 @@ module _ {D : Type 0} (a b c : RackAt D) where
             let left = before.1 in
             let ok = (sure (omega (arith, m, enough, left))).0 in
             absurd cc)
+
+    -- that of the next site is the first that was lost
+    next_lost : b.faults ≡ a.faults → c.given ≡ b.given → b.faults < c.faults
+        → IsFirstLost a c (disks ++ disk ∷ []) (length disks)
+    next_lost even is_given rose = record {
+      within = (let m = length-append disks (disk ∷ []) in omega (arith, m));
+      rose = omega (arith, rose, even);
+      more = is.more;
+      given = is_given ∙ is.given;
+      lacks = λ d there.
+          (let at = All-contains (λ (it : ℕ × D). (i : ℕ) × (it.0 ≡ 0 + i) × (slice_get disks i ≡ Some it.1)) is.more
+          (length disks, d) is.those there in
+          let within = slice_get_within disks at.0 d at.2 in
+          let e = at.1 in
+          omega (arith, e, within));
+      others = λ i below.
+          let d = there_is disks i below in
+          (d.0, subst (λ (xs : List (ℕ × D)). Contains xs (i, d.0)) (sym (is.whole even)) (numbered_has disks i d.0 d.1));
+    }
+
+    -- the first that was lost still is
+    still_lost : (site : ℕ) → IsFirstLost a b disks site → b.faults ≤ c.faults → (more : List (ℕ × D))
+        → c.given ≡ option_map (λ told. told ++ more) b.given → All (λ (it : ℕ × D). it.0 ≡ length disks) more
+        → IsFirstLost a c (disks ++ disk ∷ []) site
+    still_lost site first most more is_given those = record {
+      within = (let w = first.within in let m = length-append disks (disk ∷ []) in omega (arith, w, m));
+      rose = (let rose = first.rose in omega (arith, rose, most));
+      more = first.more ++ more;
+      given = is_given ∙ (ap (λ (o : Option (List (ℕ × D))). option_map (λ told. told ++ more) o) first.given
+          ∙ told_more a.given first.more more);
+      lacks = λ d there. elim (Contains-append_cases first.more more (site, d) there) [
+        | inl before ↦ first.lacks d before
+        | inr behind ↦
+            let e = All-contains (λ (it : ℕ × D). it.0 ≡ length disks) more (site, d) those behind in
+            let w = first.within in
+            omega (arith, e, w)
+      ];
+      others = λ i below. let d = first.others i below in (d.0, Contains-append_left first.more more (i, d.0) d.1);
+    }
+
+    abbrev pub lost_now : Result (Unit {0}) ℕ → Result (Unit {0}) ℕ
+    lost_now first = lost_after first (is_err r) (length disks)
+
+    -- which one was lost first, with that of the next site
+    pub lost_more : (first : Result (Unit {0}) ℕ) → OnOk first (b.faults ≡ a.faults) → IfErr first (IsFirstLost a b disks)
+        → OnOk (lost_now first) (c.faults ≡ a.faults) × IfErr (lost_now first) (IsFirstLost a c (disks ++ disk ∷ []))
+    lost_more first even lost_first = by r given lost level rises first even lost_first
+      where
+        by : (it : Result T E) → OnOk it (c.given ≡ option_map (λ told. told ++ (length disks, disk) ∷ []) b.given)
+            → OnErr it (c.given ≡ b.given) → OnOk it (c.faults ≡ b.faults) → OnErr it (b.faults < c.faults)
+            → (first : Result (Unit {0}) ℕ) → OnOk first (b.faults ≡ a.faults) → IfErr first (IsFirstLost a b disks)
+            → OnOk (lost_after first (is_err it) (length disks)) (c.faults ≡ a.faults)
+            × IfErr (lost_after first (is_err it) (length disks)) (IsFirstLost a c (disks ++ disk ∷ []))
+        by (Ok x) given lost level rose (Ok done) even none = (level ∙ even, tt)
+        by (Ok x) given lost level rose (Err site) none first = (
+          tt,
+          still_lost site first (omega (arith, level)) ((length disks, disk) ∷ []) given
+              (All-push (λ (it : ℕ × D). it.0 ≡ length disks) [] (length disks, disk) (All-nil _) refl),
+        )
+        by (Err e) given lost level rose (Ok done) even none = (tt, next_lost even lost rose)
+        by (Err e) given lost level rose (Err site) none first =
+            (tt, still_lost site first (omega (arith, rose)) [] (lost ∙ told_same b.given) (All-nil _))
 
 module _ {D : Type 0} (g : Ghosts D) (a b c : RackAt D) where
   -- none was taken yet

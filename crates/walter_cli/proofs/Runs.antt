@@ -19,8 +19,8 @@ use Rattle.walter_cli.specs.declared.ended.Fault.{Fault}
 use Rattle.walter_cli.specs.declared.ended.Fault.TheVariants.{Usage, Scenario as ScenarioFault, Read, Write, Memory, Rack, Journal}
 use Rattle.walter_cli.specs.declared.ended.JournalCause.{JournalCause}
 use Rattle.walter_cli.specs.Ending.{IsTaken, IsTakeFault, MayHaveRun, EndsRun}
-use Rattle.walter_cli.specs.Headline.{Outside, HasNoReading, IsRun, IsWholeRun, Runs, RunsWhole, IsFirstUnfit, FailsEarly, Promise}
-use Rattle.walter_cli.specs.Racks.{Racked, AreAllTold, Holds, IsUntouched, HasFailed, HasCause}
+use Rattle.walter_cli.specs.Headline.{Outside, HasNoReading, IsRun, IsWholeRun, Runs, RunsWhole, OfScenario, IsRackFault, IsFirstUnfit, FailsEarly, Promise}
+use Rattle.walter_cli.specs.Racks.{Racked, AreAllTold, Holds, IsUntouched, HasCause}
 use Rattle.walter_cli.specs.Statuses.{status_of}
 use Rattle.walter_cli.specs.Texts.{text_of}
 use Rattle.walter_cli.specs.Words.{IsPlayLine, IsLine}
@@ -115,6 +115,11 @@ module _ (words : List (String Global)) (rack : Racked) (before after : Outside)
     runs s taken run =
         record { bytes = taken.bytes; source = taken.source; scenario = s; reading = taken.reading; run = run }
 
+    -- what holds of a scenario that was taken
+    spelled : (s : Scenario) (P : Scenario → Type 0) → IsTaken before.left after.left s → P s → OfScenario before after P
+    spelled s P taken holds =
+        record { bytes = taken.bytes; source = taken.source; scenario = s; reading = taken.reading; holds = holds }
+
     abbrev MayRun : Type 0
     MayRun = ((ended.trails.items ≡ []) × IsUntouched rack) ⊎ Runs rack before after ended.trails.items
 
@@ -122,6 +127,10 @@ module _ (words : List (String Global)) (rack : Racked) (before after : Outside)
     runs_if : (s : Scenario) → IsTaken before.left after.left s → MayHaveRun rack s ended.trails.items → MayRun
     runs_if s taken (inl none) = inl none
     runs_if s taken (inr run) = inr (runs s taken run)
+
+    may_have_run : (s : Scenario) (site : ℕ) → IsRackFault rack s ended.trails.items site → MayHaveRun rack s ended.trails.items
+    may_have_run s site (inl none) = inl (none.0, none.1)
+    may_have_run s site (inr run) = inr run.0
 
     -- what is so at the end with this fault, or with none
     abbrev Tells : Option Fault → Type 0
@@ -134,7 +143,8 @@ module _ (words : List (String Global)) (rack : Racked) (before after : Outside)
         RunsWhole rack words before after ended.trails.items (AppendsFront before.holds after.holds)
         × (before.sink_faults < after.sink_faults)
     Tells (Some Memory) = Unit {0}
-    Tells (Some (Rack site)) = rack.failed ⊎ ((ended.trails.items ≡ []) × rack.one site HasFailed)
+    Tells (Some (Rack site)) =
+        OfScenario before after (λ s. (site < s.catalog.sites) × IsRackFault rack s ended.trails.items site)
     Tells (Some (Journal site cause place)) = IsFirstUnfit rack site cause place × (ended.trails.items ≡ [])
         × ((s : Scenario) × IsTaken before.left after.left s × (site < s.catalog.sites))
 
@@ -172,10 +182,14 @@ module _ (words : List (String Global)) (rack : Racked) (before after : Outside)
     no_trails (Some (Journal site cause place)) told is = inl told.1
 
     -- a fault of the rack that isn't the rack's own
-    early : (site : ℕ) → ¬ rack.failed → rack.failed ⊎ ((ended.trails.items ≡ []) × rack.one site HasFailed)
+    early : (site : ℕ) (s : Scenario) → ¬ rack.failed → IsRackFault rack s ended.trails.items site
         → FailsEarly rack ended.trails.items
-    early site ok (inl rose) = absurd (ok rose)
-    early site ok (inr disk) = (disk.0, (site, disk.1))
+    early site s ok (inl (none, untouched, inl take)) = absurd (ok take.failed)
+    early site s ok (inl (none, untouched, inr load)) = elim load.failed [
+      | inl lost ↦ absurd (ok lost.0)
+      | inr one ↦ (none, (site, one))
+    ]
+    early site s ok (inr (run, give)) = absurd (ok give.failed)
 
     -- where nothing fails, a scenario that the bytes spell is run
     completes : (fault : Option Fault) → ended.status ≡ status_of fault → Tells fault → (bytes : List ℕ) (s : Scenario)
@@ -192,7 +206,8 @@ module _ (words : List (String Global)) (rack : Racked) (before after : Outside)
     completes (Some Write) is told bytes s left reading known new source sink ok =
         absurd (let rose = told.1 in omega (arith, rose, sink))
     completes (Some Memory) is told bytes s left reading known new source sink ok = inr (inl is)
-    completes (Some (Rack site)) is told bytes s left reading known new source sink ok = inr (inr (early site ok told))
+    completes (Some (Rack site)) is told bytes s left reading known new source sink ok =
+        inr (inr (early site told.scenario ok told.holds.1))
     completes (Some (Journal site cause place)) is told bytes s left reading known new source sink ok =
         let same : told.2.0 ≡ s =
         one_scenario bytes told.2.0 s (taken_reading before.left after.left bytes told.2.0 told.2.1 left) reading in
@@ -236,7 +251,7 @@ module _ (words : List (String Global)) (rack : Racked) (before after : Outside)
         absurd (run_has_none bytes s site cause place (whole_runs (AppendsFront before.holds after.holds) told.0) left reading within known why)
     names (Some Memory) named is told bytes s site cause place left reading within known why source ok = inr (inl is)
     names (Some (Rack other)) named is told bytes s site cause place left reading within known why source ok =
-        inr (inr (early other ok told))
+        inr (inr (early other told.scenario ok told.holds.1))
     names (Some (Journal other c p)) named is told bytes s site cause place left reading within known why source ok =
         let same = one_unfit rack s.catalog.sites other site c cause p place known within told.0 why in
         inl (named
@@ -264,7 +279,9 @@ module _ (words : List (String Global)) (rack : Racked) (before after : Outside)
           cut = λ h. (at_cut fault told (sym is ∙ h)).0;
           failed = λ h. (at_cut fault told (sym is ∙ h)).1;
           unracked = λ site h. subst (λ (f : Option Fault). Tells f) (sym named ∙ h) told;
-          unfit = λ site cause place h. (subst (λ (f : Option Fault). Tells f) (sym named ∙ h) told).0;
+          unfit = λ site cause place h.
+              let why : Tells (Some (Journal site cause place)) = subst (λ (f : Option Fault). Tells f) (sym named ∙ h) told in
+              spelled why.2.0 (λ s. (site < s.catalog.sites) × IsFirstUnfit rack site cause place) why.2.1 (why.2.2, why.0);
           unfit_named = λ bytes s site cause place play. names fault named is told bytes s site cause place;
           given_back = back;
           unfailing = unfailing;
@@ -295,7 +312,9 @@ module _ (words : List (String Global)) (rack : Racked) (before after : Outside)
     promise_run s (Some Memory) named taken ends =
         promise (Some Memory) named tt (λ not_done not_cut. ends.1) (runs_if s taken ends.0) (never s taken)
     promise_run s (Some (Rack site)) named taken ends =
-        promise (Some (Rack site)) named ends.2 (λ not_done not_cut. ends.1) (runs_if s taken ends.0) (never s taken)
+        promise (Some (Rack site)) named
+        (spelled s (λ t. (site < t.catalog.sites) × IsRackFault rack t ended.trails.items site) taken (ends.0, ends.1))
+        (λ not_done not_cut. ends.2) (runs_if s taken (may_have_run s site ends.1)) (never s taken)
     promise_run s (Some (Journal site cause place)) named taken ends =
         promise (Some (Journal site cause place)) named (ends.3, ends.0.0, (s, taken, ends.2)) (λ not_done not_cut. ends.1)
         (inl ends.0) (never s taken)

@@ -9,13 +9,14 @@ use Rattle.walter_engine.specs.Begins.{HasNoRecord}
 use Rattle.walter_play.proofs.Steps.{there_is, plays_told}
 use Rattle.walter_play.specs.Scripts.{all_arms}
 use Rattle.walter_rules.specs.declared.entry.Entry.{Entry}
+use Rattle.walter_scenario.specs.declared.scenario.Scenario.{Scenario}
 use Rattle.walter_stream.specs.Streams.{Appends, AppendsFront}
 use Rattle.walter_cli.specs.declared.ended.Ended.{Ended}
 use Rattle.walter_cli.specs.declared.ended.Fault.{Fault}
 use Rattle.walter_cli.specs.declared.ended.Fault.TheVariants.{Usage, Memory, Rack, Journal}
 use Rattle.walter_cli.specs.declared.ended.JournalCause.{JournalCause}
 use Rattle.walter_cli.specs.Assurance.{Assures, IsSureRun, IsSureReport}
-use Rattle.walter_cli.specs.Headline.{Outside, IsDiskOfRun, Runs, RunsWhole, FailsEarly, Promise}
+use Rattle.walter_cli.specs.Headline.{Outside, IsDiskOfRun, Runs, RunsWhole, IsRackFault, FailsEarly, Promise}
 use Rattle.walter_cli.specs.Racks.{RackAt, Racked, OfADisk, IsTold, Holds, AreSo, IsGiven, IsUnarmed, HasFailed, HasCause, numbered, racked}
 use Rattle.walter_cli.specs.Statuses.{status_of}
 use Rattle.walter_cli.specs.Words.{IsLine}
@@ -91,6 +92,15 @@ module _ (words : List (String Global)) {D : Type 0} (g : Ghosts D) (first last 
             omega (arith, l, one, some)
       ]
 
+  -- so no disk is named
+  racked_never : (site : ℕ) (s : Scenario) → IsRackFault rack s ended.trails.items site → ⊥
+  racked_never site s (inl (none, untouched, inl take)) = ok take.failed
+  racked_never site s (inl (none, untouched, inr load)) = elim load.failed [
+    | inl lost ↦ ok lost.0
+    | inr one ↦ never (none, (site, one))
+  ]
+  racked_never site s (inr (run, give)) = ok give.failed
+
   sure : Runs rack before after ended.trails.items → IsSureRun before after ended.trails.items
   sure runs = record {
     bytes = runs.bytes;
@@ -151,13 +161,11 @@ module _ (words : List (String Global)) {D : Type 0} (g : Ghosts D) (first last 
     cut = λ h. (report (AppendsFront before.holds after.holds) (promised.cut h), promised.failed h);
     never_unracked = λ h.
         let named = rack_of ended.fault (sym promised.status ∙ h) in
-        elim (promised.unracked named.0 named.1) [
-          | inl failed ↦ ok failed
-          | inr disk ↦ never (disk.0, (named.0, disk.1))
-        ];
+        let why = promised.unracked named.0 named.1 in
+        racked_never named.0 why.scenario why.holds.1;
     never_unfit = λ h.
         let named = journal_of ended.fault (sym promised.status ∙ h) in
-        let why = promised.unfit named.0 named.1 named.2 named.3 in
+        let why = (promised.unfit named.0 named.1 named.2 named.3).holds.1 in
         of_both (rack.bytes named.0) (HasCause named.1 named.2) HasNoRecord ⊥ (cause_has_record named.1 named.2) (told named.0)
         why.unfit (empty named.0);
     legal_trails = elim promised.legal_trails [ inl none ↦ inl none.0 | inr runs ↦ inr (sure runs) ];

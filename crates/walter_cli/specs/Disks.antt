@@ -1,8 +1,14 @@
 -- The disks of all sites, taken from a rack and given back to it.
-use Rattle.std.specs.Prelude.{◌≡◌, ◌+◌, ◌<◌, ◌≤◌, ◌++◌, ℕ, List, length, slice_get, Option, None, Some, option_map, IfSome, All}
+use Rattle.std.specs.Prelude.{◌≡◌, ◌+◌, ◌<◌, ◌≤◌, ◌++◌, ℕ, Bool, true, false, List, length, slice_get, Option, None, Some, Result, Ok, Err, option_map, IfSome, All, Contains}
 use Rattle.walter_disk.specs.Racks.{IsFresh}
 use Rattle.walter_disk.specs.declared.disk.Disk.{Ghosts}
 use Rattle.walter_cli.specs.Racks.{RackAt, numbered}
+
+-- the first site whose disk is lost, where that of one more is or isn't
+abbrev pub lost_after : Result (Unit {0}) ℕ → Bool → ℕ → Result (Unit {0}) ℕ
+lost_after lost false site = lost
+lost_after (Ok done) true site = Err site
+lost_after (Err first) true site = Err first
 
 -- the disks of the first sites were taken, and no others
 pub record AreTaken {D : Type 0} (g : Ghosts D) (before after : RackAt D) (disks : List D) : Type 0 where
@@ -13,6 +19,15 @@ pub record AreTaken {D : Type 0} (g : Ghosts D) (before after : RackAt D) (disks
   pub taken : after.taken ≡ before.taken + length disks
   pub faults : after.faults ≡ before.faults
   pub unfailing : length disks ≤ before.unfailing → before.unfailing ≤ after.unfailing + length disks
+
+-- the disk of this site, one of these, is the first that was not given back
+pub record IsFirstLost {D : Type 0} (before after : RackAt D) (disks : List D) (site : ℕ) : Type 0 where
+  pub within : site < length disks
+  pub rose : before.faults < after.faults
+  pub more : List (ℕ × D)
+  pub given : after.given ≡ option_map (λ told. told ++ more) before.given
+  pub lacks : (disk : D) → Contains more (site, disk) → ⊥
+  pub others : (i : ℕ) → i < site → (disk : D) × Contains more (i, disk)
 
 -- these disks were given back, the first as this site's, and so on, but for one at most for each fault of the rack
 pub record AreGiven {D : Type 0} (before after : RackAt D) (first : ℕ) (disks : List D) : Type 0 where

@@ -17,8 +17,8 @@ use Rattle.walter_cli.specs.declared.ended.Fault.{Fault}
 use Rattle.walter_cli.specs.declared.ended.Fault.TheVariants.{Usage, Scenario as ScenarioFault, Read, Write, Memory, Rack, Journal}
 use Rattle.walter_cli.specs.declared.ended.JournalCause.TheVariants.{Foreign, Damaged, Used}
 use Rattle.walter_cli.specs.Disks.{AreTaken}
-use Rattle.walter_cli.specs.Headline.{IsSource, HasNoReading, IsRun, IsWholeRun, IsFirstUnfit}
-use Rattle.walter_cli.specs.Racks.{RackAt, Racked, IsUntouched, HasFailed}
+use Rattle.walter_cli.specs.Headline.{IsSource, HasNoReading, IsRun, IsWholeRun, IsRackFault, IsFirstUnfit}
+use Rattle.walter_cli.specs.Racks.{RackAt, Racked, IsUntouched, FailsToTake, FailsToLoad}
 use Rattle.walter_cli.specs.Texts.{text_of}
 
 -- the scenario is a reading of the bytes of the source
@@ -57,11 +57,11 @@ pub record IsBuilt {D S K : Type 0} {g : Ghosts D} {s : SourceGhosts S} {k : Sin
   pub arms : (i : ℕ) (disk : D) → slice_get disks i ≡ Some disk
       → arms_at bench.cells.items i ≡ (g.known disk).arms
 
--- why so many sites were not built over the disks of a rack: the rack failed, or a disk did, or it has what no site can begin
--- with; or memory ran out
+-- why so many sites were not built over the disks of a rack: one could not be taken, or failed, or it has what no site can
+-- begin with; or memory ran out
 abbrev pub IsUnbuilt : Racked → (sites : ℕ) → Fault → Type 0
 IsUnbuilt rack sites Memory = Unit {0}
-IsUnbuilt rack sites (Rack site) = rack.failed ⊎ rack.one site HasFailed
+IsUnbuilt rack sites (Rack site) = (site < sites) × (FailsToTake rack site ⊎ FailsToLoad rack sites site)
 IsUnbuilt rack sites (Journal site cause place) = (site < sites) × IsFirstUnfit rack site cause place
 IsUnbuilt rack sites fault = ⊥
 
@@ -86,7 +86,7 @@ EndsRun rack trace s holds holds' faults faults' trails (Some Write) =
 EndsRun rack trace s holds holds' faults faults' trails (Some Memory) =
     MayHaveRun rack s trails × (holds' ≡ holds)
 EndsRun rack trace s holds holds' faults faults' trails (Some (Rack site)) =
-    MayHaveRun rack s trails × (holds' ≡ holds) × (rack.failed ⊎ ((trails ≡ []) × rack.one site HasFailed))
+    (site < s.catalog.sites) × IsRackFault rack s trails site × (holds' ≡ holds)
 EndsRun rack trace s holds holds' faults faults' trails (Some (Journal site cause place)) =
     ((trails ≡ []) × IsUntouched rack) × (holds' ≡ holds) × (site < s.catalog.sites)
     × IsFirstUnfit rack site cause place

@@ -31,7 +31,7 @@ use Rattle.walter_cli.specs.declared.ended.Ended.{Ended}
 use Rattle.walter_cli.specs.declared.ended.Fault.TheVariants as fault
 use Rattle.walter_cli.specs.declared.ended.JournalCause.{JournalCause}
 use Rattle.walter_cli.specs.Promises.{KeepAllPromises}
-use Rattle.walter_cli.specs.Racks.{Racked, IsTold, AreAllTold, Holds, IsUntouched, HasFailed, HasCause}
+use Rattle.walter_cli.specs.Racks.{Racked, IsTold, AreAllTold, Holds, IsUntouched, HasFailed, HasCause, FailsToTake, FailsToLoad, FailsToGive}
 use Rattle.walter_cli.specs.Statuses.{status_of}
 use Rattle.walter_cli.specs.Texts.{text_of}
 use Rattle.walter_cli.specs.Words.{IsPlayLine, IsLine}
@@ -141,6 +141,21 @@ pub record RunsWhole (rack : Racked) (words : List (String Global)) (before afte
   pub asked : IsPlayLine trace words
   pub bytes_written : Written (text_of trace scenario trails)
 
+-- the source's bytes are a reading of a scenario of which it is so
+pub record OfScenario (before after : Outside) (P : Scenario → Type 0) : Type 0 where
+  pub bytes : List ℕ
+  pub source : IsSource before.left after.left bytes
+  pub scenario : Scenario
+  pub reading : IsReading bytes scenario
+  pub holds : P scenario
+
+-- Why a site's disk ended a call: no run began, since it could not be taken, or failed in its first loading, as that of no
+-- site before it did; or a run did, and it is the first disk that could not be given back.
+abbrev pub IsRackFault : Racked → Scenario → List (List Entry) → ℕ → Type 0
+IsRackFault rack s trails site =
+    ((trails ≡ []) × IsUntouched rack × (FailsToTake rack site ⊎ FailsToLoad rack s.catalog.sites site))
+    ⊎ (IsRun rack s trails × FailsToGive rack site)
+
 -- the first of the sites whose disk has bytes with which no new site can begin, and why
 pub record IsFirstUnfit (rack : Racked) (site : ℕ) (cause : JournalCause) (place : ℕ) : Type 0 where
   pub unfit : Holds rack site (HasCause cause place)
@@ -169,13 +184,14 @@ pub record Promise (words : List (String Global)) (rack : Racked) (before after 
   pub cut : ended.status ≡ 4
       → RunsWhole rack words before after ended.trails.items (AppendsFront before.holds after.holds)
   pub failed : ended.status ≡ 4 → before.sink_faults < after.sink_faults
-  -- 6: the rack failed; or the disk of the site that is named did, before all sites were up
+  -- 6: the disk of the site that is named, one of the scenario's, could not be taken, or failed before all sites were
+  -- up, or could not be given back; it is the first of these
   pub unracked : (site : ℕ) → ended.fault ≡ Some (fault.Rack site)
-      → rack.failed ⊎ ((ended.trails.items ≡ []) × rack.one site HasFailed)
-  -- 7: the disk of the site that is named has what no new site can begin with, where it tells what it has; those of the
-  -- sites before it have no record
+      → OfScenario before after (λ s. (site < s.catalog.sites) × IsRackFault rack s ended.trails.items site)
+  -- 7: the disk of the site that is named, one of the scenario's, has what no new site can begin with, where it tells what
+  -- it has; those of the sites before it have no record
   pub unfit : (site : ℕ) (cause : JournalCause) (place : ℕ) → ended.fault ≡ Some (fault.Journal site cause place)
-      → IsFirstUnfit rack site cause place
+      → OfScenario before after (λ s. (site < s.catalog.sites) × IsFirstUnfit rack site cause place)
   -- and exactly then, where all disks are told, the source and the rack don't fail, and no disk does before all sites
   -- are up
   pub unfit_named : (bytes : List ℕ) (s : Scenario) (site : ℕ) (cause : JournalCause) (place : ℕ) → IsLine words

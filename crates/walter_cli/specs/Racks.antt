@@ -32,8 +32,12 @@ pub record Racked : Type 1 where
   pub each : (ℕ → OfADisk) → Type 0
   -- a disk was given back as this site's, and is so
   pub one : ℕ → OfADisk → Type 0
+  -- none was given back as this site's
+  pub lacks : ℕ → Type 0
   -- so many disks were given back, those of the first sites, in order; each is so
   pub all : ℕ → (ℕ → OfADisk) → Type 0
+  -- so many disks were taken
+  pub took : ℕ → Type 0
   -- each disk that was taken was given back, but for one at most for each time that the rack failed
   pub balanced : Type 0
   -- the rack failed
@@ -67,8 +71,10 @@ racked {D = D} g before after = record {
   each = λ P. IsGiven before after (AreSo g P);
   one = λ i P. IsGiven before after (λ more.
       (disk : D) × Contains more (i, disk) × P (g.known disk) (g.may_leave disk));
+  lacks = λ i. IsGiven before after (λ more. (disk : D) → Contains more (i, disk) → ⊥);
   all = λ n P. IsGiven before after (λ more.
       (disks : List D) × (length disks ≡ n) × (more ≡ numbered 0 disks) × AreSo g P more);
+  took = λ n. after.taken ≡ before.taken + n;
   balanced = IfSome before.given (λ old. IfSome after.given (λ new.
       length old + after.taken + before.faults ≤ length new + before.taken + after.faults));
   failed = before.faults < after.faults;
@@ -94,6 +100,29 @@ IsUnarmed known images = IfSome known.arms (λ arms. arms ≡ [])
 -- a call has failed on it
 abbrev pub HasFailed : OfADisk
 HasFailed known images = 0 < known.faults
+
+-- no call has failed on it, where it is the disk of a site before this one
+abbrev pub IsFaultlessBefore : ℕ → ℕ → OfADisk
+IsFaultlessBefore site i known images = i < site → known.faults ≡ 0
+
+-- the disk of this site was to be taken, behind those of the sites before it, and the rack failed
+pub record FailsToTake (rack : Racked) (site : ℕ) : Type 0 where
+  pub failed : rack.failed
+  pub before : rack.took site
+  pub lacks : rack.lacks site
+
+-- The disks of all sites were taken, so many, and that of this site failed in its first loading, which that of no site
+-- before it did. It was given back so, or lost.
+pub record FailsToLoad (rack : Racked) (sites site : ℕ) : Type 0 where
+  pub all : rack.took sites
+  pub failed : (rack.failed × rack.lacks site) ⊎ rack.one site HasFailed
+  pub before : rack.each (IsFaultlessBefore site)
+
+-- the disk of this site is the first that was not given back, since the rack failed
+pub record FailsToGive (rack : Racked) (site : ℕ) : Type 0 where
+  pub failed : rack.failed
+  pub lacks : rack.lacks site
+  pub before : (i : ℕ) → i < site → rack.one i (λ known images. Unit {0})
 
 -- where no run began, each disk that was given back has no arm, and a crash leaves on it what it held; where it held no
 -- record, at most the first bytes of a journal, or the first epoch

@@ -1,6 +1,6 @@
 ghost use Rattle.std.specs.Prelude.{◌≡◌, ◌<◌, ◌≤◌, ◌+◌, length, IfOk, IfErr, OnOk};
 ghost use Rattle.walter_base.specs.Vectors.{most_sites};
-ghost use Rattle.walter_cli.specs.Disks.{AreTaken, AreGiven};
+ghost use Rattle.walter_cli.specs.Disks.{AreTaken, AreGiven, IsFirstLost, lost_after};
 ghost use Rattle.walter_cli.specs.Ending.{EndsEarly};
 ghost use Rattle.walter_cli.specs.Racks.{racked};
 
@@ -79,7 +79,22 @@ pub fn give_all<R: Rack>(rack: &mut R, disks: Vec<R::D>) -> Result<(), u8>
         })
         0 disks.items }
     ensures ok { OnOk result (R.faults rack.new ≡ R.faults rack.old) }
-    ensures lost { IfErr result (λ site. R.faults rack.old < R.faults rack.new) }
+    ensures lost { IfErr result (IsFirstLost
+        (record {
+          disks = R.disks rack.old;
+          given = R.given rack.old;
+          taken = R.taken rack.old;
+          faults = R.faults rack.old;
+          unfailing = R.unfailing rack.old;
+        })
+        (record {
+          disks = R.disks rack.new;
+          given = R.given rack.new;
+          taken = R.taken rack.new;
+          faults = R.faults rack.new;
+          unfailing = R.unfailing rack.new;
+        })
+        disks.items) }
 {
     let mut lost = Ok(());
     let mut next = 0;
@@ -87,17 +102,18 @@ pub fn give_all<R: Rack>(rack: &mut R, disks: Vec<R::D>) -> Result<(), u8>
         let site = next;
         let given = rack.give(site, disk);
         next += 1;
-        if given.is_err() {
-            lost = Err(first_lost(lost, site));
-        }
+        lost = first_lost(lost, given.is_err(), site);
     }
     lost
 }
 
-// The first site whose disk the rack lost, where it loses that of one more.
-fn first_lost(lost: Result<(), u8>, site: u8) -> u8 {
-    match lost {
-        Ok(()) => site,
-        Err(first) => first,
+// The first site whose disk the rack lost, where it may have lost that of one more.
+fn first_lost(lost: Result<(), u8>, loses: bool, site: u8) -> Result<(), u8>
+    ensures { result ≡ lost_after lost loses site }
+{
+    if loses && lost.is_ok() {
+        Err(site)
+    } else {
+        lost
     }
 }

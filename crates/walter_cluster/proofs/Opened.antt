@@ -42,10 +42,10 @@ module _ {D : Type 0} (g : Ghosts D) where
 
   pub faults_grow : (why : Unbegun) (old new : ℕ) → IsFaultOfBegin (Err why) old new → old ≤ new
   faults_grow Failed old new h = omega (arith, h)
-  faults_grow Foreign old new h = h
-  faults_grow (Damaged at length) old new h = h
-  faults_grow Used old new h = h
-  faults_grow NoMemory old new h = h
+  faults_grow Foreign old new h = omega (arith, h)
+  faults_grow (Damaged at length) old new h = omega (arith, h)
+  faults_grow Used old new h = omega (arith, h)
+  faults_grow NoMemory old new h = omega (arith, h)
 
 -- an engine has a disk
 module _ {D : Type 0} {g : Ghosts D} where
@@ -71,11 +71,12 @@ module _ {D S K : Type 0} {g : Ghosts D} {s : SourceGhosts S} {k : SinkGhosts K}
       → length cell.node.debts.items ≡ length list
       → ((bytes : List ℕ) → HasOnly g bytes disk → HasNoRecord bytes)
       → ((bytes : List ℕ) → HasOnly g bytes disk → OfDisk cell.node.engine (λ now. (image : List ℕ) → g.may_leave now image → MayHaveBegun bytes image))
-      → OfDisk cell.node.engine (λ now. (g.known disk).faults ≤ (g.known now).faults)
+      → OfDisk cell.node.engine (λ now. (g.known now).faults ≡ (g.known disk).faults)
       → OfDisk cell.node.engine (λ now. (g.known now).arms ≡ (g.known disk).arms)
       → HasBegun t i disk row column list cell
   cell_begins i disk row column list cell is known opens outs ins lines debts had_none images faults arms =
       let there = disk_there cell.node.engine in
+      let same = of_disk cell.node.engine there.0 (λ now. (g.known now).faults ≡ (g.known disk).faults) there.1 faults in
       record {
         cell_is = is;
         known = known;
@@ -89,9 +90,10 @@ module _ {D S K : Type 0} {g : Ghosts D} {s : SourceGhosts S} {k : SinkGhosts K}
         now_is = there.1;
         leaves = record {
           images = λ bytes has. of_disk cell.node.engine there.0 (λ now. (image : List ℕ) → g.may_leave now image → MayHaveBegun bytes image) there.1 (images bytes has);
-          faults = of_disk cell.node.engine there.0 (λ now. (g.known disk).faults ≤ (g.known now).faults) there.1 faults;
+          faults = omega (arith, same);
           arms = of_disk cell.node.engine there.0 (λ now. (g.known now).arms ≡ (g.known disk).arms) there.1 arms;
         };
+        faultless = same;
       }
 
   module _ (disks : List D) (rows : List (List Sending)) (columns : List (List Receiving)) (lists : List (List (Option (Conn S K s k)))) where
@@ -120,15 +122,21 @@ module _ {D S K : Type 0} {g : Ghosts D} {s : SourceGhosts S} {k : SinkGhosts K}
             subst By last.1 (subst Over same (subst Here (sym is) one))
 
     module _ (n : ℕ) (cells : List (Cell D S K g s k)) (h : HaveBegun t disks rows columns lists n cells) where
-      -- what a site that began left of its disk
-      pub left_of : (i : ℕ) (disk : D) → i < n → slice_get disks i ≡ Some disk → (now : D) × (slice_get (disks_of cells) i ≡ Some (Some now)) × LeavesDisk g disk now
-      left_of i disk lt at =
+      -- the disk of a site that began
+      begun_of : (i : ℕ) (disk : D) → i < n → slice_get disks i ≡ Some disk
+          → (now : D) × (slice_get (disks_of cells) i ≡ Some (Some now)) × LeavesDisk g disk now × ((g.known now).faults ≡ (g.known disk).faults)
+      begun_of i disk lt at =
           let there = at_place cells i (omega (arith, lt, h.long)) in
           let begun = h.each i disk there.0 at there.1 in (
             begun.now,
             slice_get-map (λ (c : Cell D S K g s k). disk_in c.node.engine) cells i ∙ ap (option_map (λ (c : Cell D S K g s k). disk_in c.node.engine)) there.1 ∙ ap (λ o. Some o) begun.now_is,
             begun.leaves,
+            begun.faultless,
           )
+
+      -- what a site that began left of its disk
+      pub left_of : (i : ℕ) (disk : D) → i < n → slice_get disks i ≡ Some disk → (now : D) × (slice_get (disks_of cells) i ≡ Some (Some now)) × LeavesDisk g disk now
+      left_of i disk lt at = let begun = begun_of i disk lt at in (begun.0, begun.1, begun.2)
 
       pub had_none_before : (i : ℕ) (disk : D) (bytes : List ℕ) → i < n → slice_get disks i ≡ Some disk → HasOnly g bytes disk → HasNoRecord bytes
       had_none_before i disk bytes lt at has =
@@ -169,6 +177,18 @@ module _ {D S K : Type 0} {g : Ghosts D} {s : SourceGhosts S} {k : SinkGhosts K}
             let left = back_at leaves i d at (cases_lt i n) (cases_eq i n) in
             (left.0, ap (λ ds. slice_get ds i) is ∙ left.1, left.2)
 
+        faultless_before : (i : ℕ) (d now : D) → i < n → slice_get disks i ≡ Some d → slice_get unbuilt.disks.items i ≡ Some now
+            → (g.known now).faults ≡ (g.known d).faults
+        faultless_before i d now early at back =
+            let begun = begun_of i d early at in
+            let its : Some begun.0 ≡ Some now = same_Some (Some begun.0) (Some now) (
+            sym (slice_get-append_left (disks_of cells) (map (λ (d : D). Some d) (failed ∷ rest)) (Some begun.0) i begun.1)
+            ∙ sym (ap (λ ds. slice_get ds i) is) ∙ slice_get-map (λ (d : D). Some d) unbuilt.disks.items i
+            ∙ ap (option_map (λ (d : D). Some d)) back
+            ) in
+            let Now : D → Type 0 = λ e. (g.known e).faults ≡ (g.known d).faults in
+            subst Now (same_Some begun.0 now its) begun.3
+
         pub why_none : unbuilt.site.0 ≡ n → ((bytes : List ℕ) → HasOnly g bytes disk → IsBegun bytes (Err unbuilt.why))
             → IsFaultOfBegin (Err unbuilt.why) (g.known disk).faults (g.known failed).faults → IsWhyNone g disks unbuilt
         why_none site why faults =
@@ -186,6 +206,7 @@ module _ {D S K : Type 0} {g : Ghosts D} {s : SourceGhosts S} {k : SinkGhosts K}
                   let New : D → Type 0 = λ e. IsFaultOfBegin (Err unbuilt.why) (g.known disk).faults (g.known e).faults in
                   subst Old (who d at) (subst New (same_Some failed now its) faults);
               before = λ i d bytes early at has. had_none_before i d bytes (omega (arith, early, site)) at has;
+              faultless = λ i d now early at back. faultless_before i d now (omega (arith, early, site)) at back;
               all_back = omega (
                 arith,
                 lt,

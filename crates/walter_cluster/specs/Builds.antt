@@ -32,7 +32,8 @@ module _ {D : Type 0} (g : Ghosts D) where
   HadNoRecords disks = (i : ℕ) (disk : D) (bytes : List ℕ) → slice_get disks i ≡ Some disk → HasOnly g bytes disk
       → HasNoRecord bytes
 
-  -- where one doesn't, it is one of the sites, and its disk is why; or memory ran out. The sites before it began
+  -- where one doesn't, it is one of the sites, and its disk is why; or memory ran out. The sites before it began, and no
+  -- call of their disks failed
   pub record IsWhyNone (disks : List D) (unbuilt : Unbuilt D) : Type 0 where
     pub there : unbuilt.site.0 < length disks
     pub why : (disk : D) (bytes : List ℕ) → slice_get disks unbuilt.site.0 ≡ Some disk → HasOnly g bytes disk
@@ -42,6 +43,8 @@ module _ {D : Type 0} (g : Ghosts D) where
         → IsFaultOfBegin (Err unbuilt.why) (g.known disk).faults (g.known now).faults
     pub before : (i : ℕ) (disk : D) (bytes : List ℕ) → i < unbuilt.site.0 → slice_get disks i ≡ Some disk
         → HasOnly g bytes disk → HasNoRecord bytes
+    pub faultless : (i : ℕ) (disk now : D) → i < unbuilt.site.0 → slice_get disks i ≡ Some disk
+        → slice_get unbuilt.disks.items i ≡ Some now → (g.known now).faults ≡ (g.known disk).faults
     pub all_back : length unbuilt.disks.items ≡ length disks
 
 module _ {D S K : Type 0} {g : Ghosts D} {s : SourceGhosts S} {k : SinkGhosts K} where

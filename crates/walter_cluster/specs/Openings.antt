@@ -61,6 +61,7 @@ module _ {D S K : Type 0} {g : Ghosts D} {s : SourceGhosts S} {k : SinkGhosts K}
     pub now : D
     pub now_is : disk_in cell.node.engine ≡ Some now
     pub leaves : LeavesDisk g disk now
+    pub faultless : (g.known now).faults ≡ (g.known disk).faults
 
   -- so did the first of them, in order
   pub record HaveBegun (t : Scenario) (disks : List D) (rows : List (List Sending)) (columns : List (List Receiving))

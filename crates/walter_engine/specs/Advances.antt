@@ -64,7 +64,7 @@ abbrev pub IsSizedAdvance : ℕ → Advanced → Type 0
 IsSizedAdvance sites (Ok answer) = IsSizedStep sites answer
 IsSizedAdvance sites (Err rec) = CanBeRecorded rec
 
--- the disk's faults never fall, and where it failed it met one
+-- the disk's faults rise exactly where it failed
 abbrev pub IsFaultOfAdvance : Advanced → ℕ → ℕ → Type 0
 IsFaultOfAdvance (Ok answer) old new = IsFaultOfStep answer old new
 IsFaultOfAdvance (Err rec) old new = old < new

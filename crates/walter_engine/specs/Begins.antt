@@ -32,11 +32,11 @@ IsBegun bytes (Err (Damaged at length)) = IsDamaged bytes at length
 IsBegun bytes (Err Used) = (bodies : List (List ℕ)) × HasContent bytes bodies × (bodies ≢ [])
 IsBegun bytes (Err NoMemory) = Unit {0}
 
--- the disk's faults never fall, and a first restart that failed met one
+-- the disk's faults rise exactly where a first restart failed
 abbrev pub IsFaultOfBegin : Result (Unit {0}) Unbegun → ℕ → ℕ → Type 0
-IsFaultOfBegin (Ok done) old new = old ≤ new
+IsFaultOfBegin (Ok done) old new = new ≡ old
 IsFaultOfBegin (Err Failed) old new = old < new
-IsFaultOfBegin (Err Foreign) old new = old ≤ new
-IsFaultOfBegin (Err (Damaged at length)) old new = old ≤ new
-IsFaultOfBegin (Err Used) old new = old ≤ new
-IsFaultOfBegin (Err NoMemory) old new = old ≤ new
+IsFaultOfBegin (Err Foreign) old new = new ≡ old
+IsFaultOfBegin (Err (Damaged at length)) old new = new ≡ old
+IsFaultOfBegin (Err Used) old new = new ≡ old
+IsFaultOfBegin (Err NoMemory) old new = new ≡ old

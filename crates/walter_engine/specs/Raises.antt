@@ -68,8 +68,8 @@ pub record IsStagedBoot {D : Type 0} {g : Ghosts D} (journal : Journal D g) (cou
   pub count_is : s.count ≡ count + 1
   pub room : HasRoom journal (length s.body)
 
--- What is told of the disk is told, its arms are as before, and its faults never fall. A site that comes up made four calls
--- of it, and another no more.
+-- What is told of the disk is told, its arms are as before, and its faults rise exactly where the restart failed. A site
+-- that comes up made four calls of it, and another no more.
 pub record FromDisk {D : Type 0} {g : Ghosts D} (old : D) (result : AfterRestart D g) : Type 0 where
   pub arms : (g.known (disk_of_state result.state)).arms ≡ (g.known old).arms
   pub tells : is_some (g.known (disk_of_state result.state)).reads ≡ is_some (g.known old).reads

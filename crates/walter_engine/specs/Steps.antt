@@ -150,13 +150,13 @@ TakesNoEpoch (restarted.Full kept need left) = ⊥
 TakesNoEpoch (restarted.Refused kept why) = why ≡ LastEpoch
 TakesNoEpoch (restarted.NoMemory kept) = Unit {0}
 
--- the disk's faults never fall, and a step that failed met one
+-- the disk's faults rise exactly where a step failed
 abbrev pub IsFaultOfStep : Stepped → ℕ → ℕ → Type 0
 IsFaultOfStep (Failed rec lost) old new = old < new
-IsFaultOfStep (Done outcome wrote sends frames) old new = old ≤ new
-IsFaultOfStep (Full need left) old new = old ≤ new
-IsFaultOfStep Down old new = old ≤ new
-IsFaultOfStep NoMemory old new = old ≤ new
+IsFaultOfStep (Done outcome wrote sends frames) old new = new ≡ old
+IsFaultOfStep (Full need left) old new = new ≡ old
+IsFaultOfStep Down old new = new ≡ old
+IsFaultOfStep NoMemory old new = new ≡ old
 
 -- how many calls a step made of the disk that an arm counts: four where a record was written, and at most four where that
 -- failed
@@ -171,10 +171,10 @@ AreCallsOfStep NoMemory old new = new ≡ old
 -- so it is with the faults of a restart
 abbrev pub IsFaultOfRestart : Restarted → ℕ → ℕ → Type 0
 IsFaultOfRestart (restarted.Failed kept flight) old new = old < new
-IsFaultOfRestart (restarted.Up kept wrote) old new = old ≤ new
-IsFaultOfRestart (restarted.Full kept need left) old new = old ≤ new
-IsFaultOfRestart (restarted.Refused kept why) old new = old ≤ new
-IsFaultOfRestart (restarted.NoMemory kept) old new = old ≤ new
+IsFaultOfRestart (restarted.Up kept wrote) old new = new ≡ old
+IsFaultOfRestart (restarted.Full kept need left) old new = new ≡ old
+IsFaultOfRestart (restarted.Refused kept why) old new = new ≡ old
+IsFaultOfRestart (restarted.NoMemory kept) old new = new ≡ old
 
 -- the client that calls isn't owed the news that its transaction is gone
 abbrev pub IsUntold : Standing → Input → Type 0

@@ -2,8 +2,12 @@
 #![tactic(auto)]
 
 #[cfg(test)]
+mod fast_commits;
+#[cfg(test)]
 mod hosts;
 #[cfg(test)]
-mod rows;
-#[cfg(test)]
 mod schedules;
+#[cfg(test)]
+mod slow_commits;
+#[cfg(test)]
+mod steps;

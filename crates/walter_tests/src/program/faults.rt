@@ -200,7 +200,15 @@ fn what_fails_is_told(rt: HostRuntime) -> Result<(), Fail> {
         ends(&rt, Given { racks, ..first }, 6, fault, (trails, 0))?;
     }
     let second = playing(TWO_SITES);
-    for (racks, site, counts) in [(&[2], 1, (0, 1)), (&[3], 0, (2, 1)), (&[4], 1, (2, 1))] {
+    // The first site is told whose disk isn't given, or isn't taken back.
+    let table: [(&[u64], u8, (usize, usize)); 5] = [
+        (&[2], 1, (0, 1)),
+        (&[2, 3], 1, (0, 0)),
+        (&[3], 0, (2, 1)),
+        (&[4], 1, (2, 1)),
+        (&[3, 4], 0, (2, 0)),
+    ];
+    for (racks, site, counts) in table {
         let fault = Fault::Rack { site };
         ends(&rt, Given { racks, ..second }, 6, fault, counts)?;
     }

@@ -5,6 +5,7 @@ use Rattle.walter_cli.specs.Disks.{AreTaken}
 use Rattle.walter_cli.specs.Racks.{RackAt}
 use Rattle.walter_cli.specs.declared.ended.Fault.TheVariants.{Memory, Rack}
 use Rattle.walter_cli.proofs.Early.{ends_before, ends_early}
+use Rattle.walter_cli.proofs.Giving.{IsReturned, took_all, lacks_behind}
 use Rattle.walter_cli.proofs.Racking.{taken_none, taken_more, left_alone, err_never}
 use Rattle.walter_cli.proofs.disks.take_all.Goals as goal
 
@@ -55,7 +56,7 @@ returns-in-Err-clause-fault g c =
     let gives = c.give_all.ensures.given in
     let disks = c.loop-site.disks.items in
     let level = taken.faults in
-    ends_early g.R.D.Disk a d e disks disks (record {
+    let is_back : IsReturned g.R.D.Disk a d e disks disks = record {
       told = taken.told;
       fresh = taken.fresh;
       same_given = c.in-Err.ensures.same_given ∙ taken.given;
@@ -63,15 +64,22 @@ returns-in-Err-clause-fault g c =
       level = omega (arith, level, rose);
       long = refl;
       gives = gives;
-    }) c.args.sites (Rack c.loop-site.site) (λ i disk at. (disk, at, left_alone g.R.D.Disk disk))
+    } in
+    ends_early g.R.D.Disk a d e disks disks is_back c.args.sites (Rack c.loop-site.site) (λ i disk at. (disk, at, left_alone g.R.D.Disk disk))
     (λ many.
     let long = is.long in
     let within = c.loop-site-test.true in
     let few = c.requires.few in
     let left = taken.unfailing (omega (arith, many, long, within, few)) in
     let some : 0 < b.unfailing = omega (arith, many, long, within, few, left) in
-    absurd (err_never c.take.result _ c.in-Err.is (c.take.ensures.sure some).0))
-    (inl (let l = gives.level in omega (arith, level, rose, l)))
+    absurd (err_never c.take.result _ c.in-Err.is (c.take.ensures.sure some).0)) (
+      c.loop-site-test.true,
+      inl (record {
+        failed = (let l = gives.level in omega (arith, level, rose, l));
+        before = took_all g.R.D.Disk a d e disks disks is_back ∙ ap (λ (n : ℕ). a.taken + n) is.long;
+        lacks = lacks_behind g.R.D.Disk a d e disks disks is_back c.loop-site.site (let l = is.long in omega (arith, l));
+      }),
+    )
 
 pub loop-site-preserved : goal.loop-site-preserved
 loop-site-preserved g c =

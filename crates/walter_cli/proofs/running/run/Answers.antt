@@ -11,7 +11,7 @@ use Rattle.walter_cli.specs.Headline.{IsRun, IsWholeRun}
 use Rattle.walter_cli.specs.Racks.{RackAt, Racked, racked}
 use Rattle.walter_cli.specs.Texts.{text_of}
 use Rattle.walter_cli.proofs.Finished.{returned, run_is, whole_is, ends_with, ends_cut}
-use Rattle.walter_cli.proofs.Giving.{IsReturned, ok_part, balances}
+use Rattle.walter_cli.proofs.Giving.{IsReturned, ok_part, balances, fails_to_give}
 use Rattle.walter_cli.proofs.Racking.{sure_back}
 use Rattle.walter_cli.proofs.Trails.{frames, spellings}
 use Rattle.walter_cli.proofs.running.run.Given.{Over}
@@ -132,10 +132,20 @@ returns-then-is_err-clause-run g c =
 pub returns-in-Err-given-clause-run : goal.returns-in-Err-given-clause-run
 returns-in-Err-given-clause-run g c =
     let at = (goal.at.returns-in-Err-given-clause-run g c).After-give_all-given in
-    let level = (built g at).taken.faults in
-    let rose = c.in-Err-given.ensures.lost in
-    ends_with _ c.args.traced c.args.scenario.now _ _ _ _ (trails g at) _ (Some (Rack c.in-Err-given.site)) _
-    (inr (run g at), refl, inl (omega (arith, level, rose)))
+    let lost = c.in-Err-given.ensures.lost in
+    let back = came_back g at in
+    let within = lost.within in
+    let long = back.long in
+    let many = (built g at).many in
+    ends_with _ c.args.traced c.args.scenario.now _ _ _ _ (trails g at) _ (Some (Rack c.in-Err-given.site)) _ (
+      omega (arith, within, long, many),
+      inr (
+        run g at,
+        fails_to_give g.R.D.Disk (before g at) (mid g at) (after g at) (built g at).disks c.close-trails.result.disks.items back
+            c.in-Err-given.site lost,
+      ),
+      refl,
+    )
     (ap (λ (v : Vec Trail Global). v.items) c.late-in-Err-given.ensures.trails) c.late-in-Err-given.ensures.fault
 
 pub write_report-requires-clause-frames : goal.write_report-requires-clause-frames
