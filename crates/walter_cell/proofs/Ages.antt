@@ -3,26 +3,15 @@ use Rattle.std.proofs.Common.{◌≡◌, ◌<◌, ◌≤◌, ◌+◌, ◌*◌, L
 use Rattle.std.proofs.lemmas.List.{length-append, length-reverse}
 use Rattle.walter_base.specs.declared.catalog.Catalog.{Catalog}
 use Rattle.walter_base.specs.declared.message.Record.{Record}
-use Rattle.walter_base.specs.declared.message.Record.TheVariants.{Boot}
 use Rattle.walter_base.specs.declared.names.SiteId.{SiteId}
 use Rattle.walter_disk.specs.declared.disk.Disk.{Ghosts}
 use Rattle.walter_rules.specs.declared.entry.Entry.{Entry}
 use Rattle.walter_rules.specs.Knowledge.{Knowledge, fresh}
-use Rattle.walter_rules.specs.Learning.{recorded}
-use Rattle.walter_rules.specs.Records.{CanAllFollow, replayed}
+use Rattle.walter_rules.specs.Records.{replayed}
 use Rattle.walter_rules.specs.Standing.{Standing, records_after, settled}
 use Rattle.walter_rules.specs.Trails.{standing}
+use Rattle.walter_rules.proofs.Staying.{epoch_few}
 use Rattle.walter_cell.specs.Handled.{IsYoung}
-
--- each Boot raises the epoch by one
-epoch_few : (catalog : Catalog) (i : SiteId) (K : Knowledge) (records : List Record) → CanAllFollow catalog i K records
-    → (replayed catalog i K records).epoch ≤ K.epoch + length records
-epoch_few catalog i K [] follow = omega arith
-epoch_few catalog i K (Boot epoch ∷ records) follow =
-    let rest = epoch_few catalog i (recorded catalog i (Some (Boot epoch)) K) records follow.1 in
-    let next = follow.0 in omega (arith, rest, next)
-epoch_few catalog i K (rec ∷ records) follow =
-    let rest = epoch_few catalog i (recorded catalog i (Some rec) K) records follow.1 in omega (arith, rest)
 
 records_one : (catalog : Catalog) (i : SiteId) (kept : Option Record) (S : Standing) → length (settled catalog i kept S).records ≤ length S.records + 1
 records_one catalog i None S = omega arith

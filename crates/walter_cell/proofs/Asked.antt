@@ -20,7 +20,7 @@ use Rattle.walter_engine.specs.declared.engine.State.TheVariants as state
 use Rattle.walter_engine.specs.Contents.{CanBeJournaled}
 use Rattle.walter_engine.specs.Engines.{disk_in, is_up, OfDisks, Stands, IsInState}
 use Rattle.walter_engine.specs.States.{is_up_in}
-use Rattle.walter_engine.specs.Steps.{only, came_of_step, IsUntold}
+use Rattle.walter_engine.specs.Steps.{came_of_step, IsUntold}
 use Rattle.walter_rules.specs.declared.entry.Came.{Came}
 use Rattle.walter_rules.specs.declared.event.Event.{Event}
 use Rattle.walter_rules.specs.declared.event.Event.TheVariants.{Given}
@@ -32,7 +32,7 @@ use Rattle.walter_rules.specs.Calls.{Expected, call_rule, if_told, refuses}
 use Rattle.walter_rules.specs.Knowledge.{session_of}
 use Rattle.walter_rules.specs.Rule.{rule, rule_where, given_down, is_down}
 use Rattle.walter_rules.specs.Standing.{Standing, stands_after}
-use Rattle.walter_rules.specs.Trails.{Comes, ruled, met_fault, unread, no_memory, full, FitsIn, all_out, IsAsRuled}
+use Rattle.walter_rules.specs.Trails.{Comes, ruled, met_fault, unread, no_memory, full, FitsIn, all_out, IsAsRuled, only}
 use Rattle.walter_cell.specs.Debts.{IsDebt}
 use Rattle.walter_cell.specs.Handled.{refused_first}
 

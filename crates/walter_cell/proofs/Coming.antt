@@ -7,14 +7,13 @@ use Rattle.walter_base.specs.declared.names.SiteId.{SiteId}
 use Rattle.walter_disk.specs.declared.disk.Disk.{Ghosts}
 use Rattle.walter_engine.specs.declared.engine.Engine.{Engine}
 use Rattle.walter_engine.specs.Engines.{Stands}
-use Rattle.walter_engine.specs.Steps.{only}
 use Rattle.walter_rules.specs.declared.entry.Came.{Came}
 use Rattle.walter_rules.specs.declared.event.Event.TheVariants.{Given, Restart}
 use Rattle.walter_rules.specs.declared.event.Input.{Input}
 use Rattle.walter_rules.specs.declared.outcome.Outcome.TheVariants.{Passed}
 use Rattle.walter_rules.specs.Learning.{after}
 use Rattle.walter_rules.specs.Standing.{Standing, settled, stands_after, goes_down}
-use Rattle.walter_rules.specs.Trails.{Comes, IsFound}
+use Rattle.walter_rules.specs.Trails.{Comes, IsFound, only}
 use Rattle.walter_session.specs.Sessions.{Table}
 use Rattle.walter_cell.specs.Debts.{IsLoss, OwesAfter}
 use Rattle.walter_cell.specs.Handled.{HasCome}

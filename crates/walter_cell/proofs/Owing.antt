@@ -18,6 +18,7 @@ use Rattle.walter_rules.specs.declared.outcome.Outcome.TheVariants.{Replied}
 use Rattle.walter_rules.specs.Learning.{after}
 use Rattle.walter_rules.specs.Sessions.{Sessions, session_in}
 use Rattle.walter_rules.specs.Standing.{Standing, settled, stands_after, goes_down, told, owed}
+use Rattle.walter_rules.proofs.Staying.{settled_gone}
 use Rattle.walter_session.specs.Sessions.{Table, sessions_of}
 use Rattle.walter_cell.specs.Debts.{AreOwed, AreAfter, IsLoss, OwesAfter, debt_after}
 
@@ -40,11 +41,6 @@ pub owes_by_loss : (catalog : Catalog) (i : SiteId) (S : Standing) (event : Even
 owes_by_loss catalog i S event c lost is client =
     gone_by (goes_down event c.outcome) event c.outcome (after catalog i S.knows event c.outcome c.wrote).sessions S.gone lost client is
 
--- a restart that finds the record in flight changes no debt
-gone_settled : (catalog : Catalog) (i : SiteId) (kept : Option Record) (S : Standing) (client : ℕ) → (settled catalog i kept S).gone client ≡ S.gone client
-gone_settled catalog i None S client = refl
-gone_settled catalog i (Some rec) S client = refl
-
 pub debts_after : (catalog : Catalog) (i : SiteId) (S : Standing) (kept : Option Record) (event : Event) (c : Came) (lost : Option Table) (old new : List (Option Tid))
     → AreOwed S old → OwesAfter catalog i (settled catalog i kept S) event c lost → AreAfter event c.outcome lost old new
     → AreOwed (stands_after catalog i (settled catalog i kept S) event c) new
@@ -57,7 +53,7 @@ debts_after catalog i S kept event c lost old new owing owes after_ client debt 
     let same : debt_after event c.outcome lost client before ≡ debt =
     (let e : Some (debt_after event c.outcome lost client before) ≡ Some debt = sym now ∙ at in cc) in
     owes client
-    ∙ (ap (debt_after event c.outcome lost client) (gone_settled catalog i kept S client ∙ owing client before small was) ∙ same)
+    ∙ (ap (debt_after event c.outcome lost client) (settled_gone catalog i kept S client ∙ owing client before small was) ∙ same)
 
 -- ---- the loop over all debts
 

@@ -1,5 +1,5 @@
 -- What an input comes to can be spelled, tells of the faults that the disk met, and of the sessions that were lost.
-use Rattle.std.proofs.Common.{◌≡◌, ◌≢◌, ◌<◌, ◌≤◌, ◌⊎◌, ℕ, Bool, true, false, [], map, Option, Some, None, refl, ap, sym, ◌∙◌, subst, inl, inr}
+use Rattle.std.proofs.Common.{◌≡◌, ◌≢◌, ◌<◌, ◌⊎◌, ℕ, Bool, true, false, [], map, Option, Some, None, refl, ap, sym, ◌∙◌, subst, inl, inr}
 use Rattle.std.specs.Prelude.{All}
 use Rattle.std.proofs.lemmas.List.Elements.{All-nil}
 use Rattle.walter_base.specs.declared.catalog.Catalog.{Catalog}
@@ -14,7 +14,7 @@ use Rattle.walter_engine.specs.declared.answers.Stepped.{Stepped}
 use Rattle.walter_engine.specs.declared.answers.Stepped.TheVariants.{Done, Failed, Full, Down, NoMemory}
 use Rattle.walter_engine.specs.declared.engine.Engine.{Engine}
 use Rattle.walter_engine.specs.Engines.{is_up, Stands}
-use Rattle.walter_engine.specs.Steps.{only, came_of_step, IsSizedStep, IsFaultOfStep, IsUntold, DoesLose}
+use Rattle.walter_engine.specs.Steps.{came_of_step, IsSizedStep, IsFaultOfStep, IsUntold, DoesLose}
 use Rattle.walter_rules.proofs.Staying.{fault_falls}
 use Rattle.walter_packet.specs.Framed.{frame_of}
 use Rattle.walter_packet.specs.Spelling.{HasPacketSpelling}
@@ -27,7 +27,7 @@ use Rattle.walter_rules.specs.declared.outcome.Outcome.TheVariants.{Replied, Tak
 use Rattle.walter_rules.specs.Learning.{after}
 use Rattle.walter_rules.specs.Sessions.{Sessions}
 use Rattle.walter_rules.specs.Standing.{Standing, goes_down}
-use Rattle.walter_rules.specs.Trails.{failure, fullness, want}
+use Rattle.walter_rules.specs.Trails.{failure, fullness, want, only}
 use Rattle.walter_site.specs.Members.{IsShortOutcome}
 use Rattle.walter_cell.specs.Debts.{IsDebt, IsLoss}
 use Rattle.walter_cell.specs.Handled.{refused_first, lost_in, frames_in, IsSized, is_faulty, RisesIf}

@@ -1,18 +1,17 @@
 -- What a stop comes to in a cell.
-use Rattle.std.proofs.Common.{Bool, ap, ◌≡◌, ◌≤◌, ℕ, true, false, Option, Some, None, sym, ◌∙◌, if◌then◌else◌}
+use Rattle.std.proofs.Common.{Bool, ap, ◌≡◌, ℕ, true, false, Option, Some, None, sym, ◌∙◌, if◌then◌else◌}
 use Rattle.std.specs.Prelude.{IfSome, is_some}
 use Rattle.walter_base.specs.declared.catalog.Catalog.{Catalog}
 use Rattle.walter_base.specs.declared.names.SiteId.{SiteId}
 use Rattle.walter_disk.specs.declared.disk.Disk.{Ghosts}
 use Rattle.walter_engine.specs.declared.engine.Engine.{Engine}
 use Rattle.walter_engine.specs.Engines.{is_up, OfDisks, Stands}
-use Rattle.walter_engine.specs.Steps.{only}
 use Rattle.walter_rules.specs.declared.entry.Came.{Came}
 use Rattle.walter_rules.specs.declared.event.Event.TheVariants.{Stop, Restart}
 use Rattle.walter_rules.specs.declared.outcome.Outcome.TheVariants.{Taken, Passed, Down}
 use Rattle.walter_rules.specs.Rule.{stop_rule, restart_rule}
 use Rattle.walter_rules.specs.Standing.{Standing, stands_after}
-use Rattle.walter_rules.specs.Trails.{Comes}
+use Rattle.walter_rules.specs.Trails.{Comes, only}
 use Rattle.walter_session.specs.Sessions.{Table, sessions_of}
 use Rattle.walter_cell.specs.Debts.{OwesAfter}
 use Rattle.walter_cell.specs.Handled.{IsSized, IsFaulty, HasCome}

@@ -1,11 +1,11 @@
 ghost use Rattle.std.specs.Prelude.{◌≡◌, ◌+◌, ◌≤◌, [], None, vec_len, map, is_some, if◌then◌else◌};
 ghost use Rattle.walter_engine.specs.Engines.{catalog_in, site_in, capacity_in, is_up, OfDisks, IsSameEngine, Stands};
-ghost use Rattle.walter_engine.specs.Steps.{only, came_of_step, came_of_restart, IsSizedStep};
+ghost use Rattle.walter_engine.specs.Steps.{came_of_step, came_of_restart, IsSizedStep};
 ghost use Rattle.walter_packet.specs.Framed.{frame_of};
 ghost use Rattle.walter_rules.specs.declared.event.Event.{Event};
 ghost use Rattle.walter_rules.specs.Learning.{after};
 ghost use Rattle.walter_rules.specs.Standing.{Standing, stands_after, goes_down};
-ghost use Rattle.walter_rules.specs.Trails.{Comes, failure, fullness, want};
+ghost use Rattle.walter_rules.specs.Trails.{Comes, failure, fullness, want, only};
 ghost use Rattle.walter_site.specs.Members.{IsSizedInput};
 ghost use Rattle.walter_cell.specs.Debts.{IsDebt, IsDebtOf, IsLoss};
 ghost use Rattle.walter_cell.specs.Entries.{IsSizedEvent};
@@ -13,9 +13,7 @@ ghost use Rattle.walter_cell.specs.Handled.{refused_first, lost_in, frames_in, I
 
 use crate::places::place_any;
 use std::alloc::Global;
-use walter_base::{
-    BadFrame, MaybeRecord, Record, RecordPlace, Refusal, Reply, Request, Sends, Tid,
-};
+use walter_base::{BadFrame, Record, RecordPlace, Refusal, Reply, Request, Tid};
 use walter_disk::Disk;
 use walter_engine::{Engine, Restarted, Stepped};
 use walter_packet::Framed;
@@ -29,20 +27,6 @@ pub struct Handled {
     pub came: Came,
     pub frames: Vec<Framed>,
     pub lost: Option<Sessions>,
-}
-
-/// An outcome alone: no record, and nothing put out.
-pub fn only(alloc: Global, outcome: Outcome) -> Came
-    ensures { result ≡ only outcome }
-{
-    Came {
-        outcome,
-        kept: MaybeRecord::none(),
-        wrote: MaybeRecord::none(),
-        flight: MaybeRecord::none(),
-        sends: Sends::from(Vec::new(alloc)),
-        dropped: 0,
-    }
 }
 
 /// Lets an event come to the site. Its records get two of the places.
@@ -146,7 +130,7 @@ fn stepped(alloc: Global, places: &mut Vec<RecordPlace>, input: &Input, stepped:
             came: Came {
                 wrote: place_any(places, wrote),
                 sends,
-                ..only(alloc, outcome)
+                ..Came::only(alloc, outcome)
             },
             frames,
             lost: None,
@@ -156,7 +140,7 @@ fn stepped(alloc: Global, places: &mut Vec<RecordPlace>, input: &Input, stepped:
             Handled {
                 came: Came {
                     flight: place_any(places, Some(flight)),
-                    ..only(alloc, outcome)
+                    ..Came::only(alloc, outcome)
                 },
                 frames: Vec::new(alloc),
                 lost: Some(lost),
@@ -174,7 +158,7 @@ fn alone(alloc: Global, outcome: Outcome) -> Handled
     ensures lost { result.lost ≡ None }
 {
     Handled {
-        came: only(alloc, outcome),
+        came: Came::only(alloc, outcome),
         frames: Vec::new(alloc),
         lost: None,
     }
@@ -251,24 +235,24 @@ fn came_of(alloc: Global, places: &mut Vec<RecordPlace>, restarted: Restarted) -
         Restarted::Up { kept, wrote } => Came {
             kept: place_any(places, kept),
             wrote: place_any(places, Some(wrote)),
-            ..only(alloc, Outcome::Taken)
+            ..Came::only(alloc, Outcome::Taken)
         },
         Restarted::Failed { kept, flight } => Came {
             kept: place_any(places, kept),
             flight: place_any(places, flight),
-            ..only(alloc, Outcome::Failed)
+            ..Came::only(alloc, Outcome::Failed)
         },
         Restarted::Full { kept, need, left } => Came {
             kept: place_any(places, kept),
-            ..only(alloc, Outcome::Full { need, left })
+            ..Came::only(alloc, Outcome::Full { need, left })
         },
         Restarted::Refused { kept, .. } => Came {
             kept: place_any(places, kept),
-            ..only(alloc, Outcome::Refused)
+            ..Came::only(alloc, Outcome::Refused)
         },
         Restarted::NoMemory { kept } => Came {
             kept: place_any(places, kept),
-            ..only(alloc, Outcome::Memory)
+            ..Came::only(alloc, Outcome::Memory)
         },
     }
 }

@@ -11,7 +11,7 @@ ghost use Rattle.walter_outbox.specs.Lanes.{put_to, met_to};
 ghost use Rattle.walter_cell.specs.Nodes.{IsNode, IsKnownNode, MayDrop};
 
 use crate::debt::{debt_of, settle};
-use crate::handling::{Handled, handle, only};
+use crate::handling::{Handled, handle};
 use crate::places::{make_places, place_any};
 use std::alloc::Global;
 use walter_base::{Catalog, Mem, Record, RecordPlace, SiteId, Tid};
@@ -191,7 +191,7 @@ fn opening_of(alloc: Global, place: RecordPlace) -> Entry
         event: Event::Restart,
         came: Came {
             wrote: place.fill(Record::Boot(1)),
-            ..only(alloc, Outcome::Taken)
+            ..Came::only(alloc, Outcome::Taken)
         },
     }
 }

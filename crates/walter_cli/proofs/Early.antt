@@ -1,6 +1,6 @@
 -- What is left of a rack where no run began over its disks.
-use Rattle.std.proofs.Common.{◌≡◌, ℕ, ◌+◌, ◌<◌, ◌≤◌, List, [], ◌∷◌, ◌++◌, length, map, slice_get, Option, Some, None, option_map, ap, sym, ◌∙◌, refl, subst, arith, inl, inr, ◌⊎◌}
-use Rattle.std.specs.Prelude.{IfSome, Result, Err}
+use Rattle.std.proofs.Common.{◌≡◌, ℕ, ◌<◌, ◌≤◌, List, [], ◌++◌, length, map, slice_get, Option, Some, None, ap, sym, ◌∙◌, refl, subst, arith, inr}
+use Rattle.std.specs.Prelude.{IfSome, Err}
 use Rattle.std.proofs.lemmas.List.Elements.{All-nil}
 use Rattle.std.proofs.lemmas.List.{append-nil}
 use Rattle.std.proofs.lemmas.Option.{slice_get_within}
@@ -12,8 +12,7 @@ use Rattle.walter_engine.specs.declared.answers.Unbegun.{Unbegun}
 use Rattle.walter_engine.specs.declared.answers.Unbegun.TheVariants as unbegun
 use Rattle.walter_play.proofs.Steps.{there_is}
 use Rattle.walter_cli.specs.Ending.{EndsEarly, IsUnbuilt, fault_of}
-use Rattle.walter_cli.specs.Headline.{IsFirstUnfit}
-use Rattle.walter_cli.specs.Racks.{RackAt, Racked, OfADisk, IsGiven, AreSo, Holds, IsUntouched, IsUnarmed, HasFailed, IsFaultlessBefore, FailsToLoad, HasCause, racked}
+use Rattle.walter_cli.specs.Racks.{RackAt, Racked, OfADisk, AreSo, Holds, IsUntouched, IsUnarmed, HasFailed, IsFaultlessBefore, HasCause, racked}
 use Rattle.walter_cli.specs.declared.ended.Fault.{Fault}
 use Rattle.walter_cli.specs.declared.ended.JournalCause.TheVariants.{Foreign, Damaged, Used}
 use Rattle.walter_cli.proofs.Trails.{field_of}

@@ -1,7 +1,7 @@
 -- What a run comes to whose bench was built over the disks of a rack, driven, and taken apart.
-use Rattle.std.proofs.Common.{◌≡◌, ℕ, ◌<◌, List, [], ◌∷◌, ◌++◌, length, map, slice_get, reverse, Bool, Option, Some, None, option_map, refl, ap, sym, ◌∙◌, subst, arith, inl, inr, ◌⊎◌}
-use Rattle.std.specs.Prelude.{IfSome, IsSome}
-use Rattle.std.proofs.lemmas.List.{append-nil, length-map}
+use Rattle.std.proofs.Common.{◌≡◌, ℕ, ◌<◌, List, [], ◌++◌, length, map, slice_get, reverse, Bool, Option, Some, None, option_map, ap, sym, ◌∙◌, subst, arith, inl, inr}
+use Rattle.std.specs.Prelude.{IfSome}
+use Rattle.std.proofs.lemmas.List.{length-map}
 use Rattle.std.proofs.lemmas.Option.{slice_get-map, slice_get_within}
 use Rattle.walter_cell.specs.declared.cell.Cell.{Cell}
 use Rattle.walter_cell.specs.Entries.{HaveRisingStamps}
@@ -19,7 +19,7 @@ use Rattle.walter_engine.specs.declared.engine.State.{State}
 use Rattle.walter_engine.specs.declared.engine.State.TheVariants.{Up, Down}
 use Rattle.walter_engine.proofs.Resting.{may_have, leaves_bodies}
 use Rattle.walter_linked.specs.Catalogs.{IsWhole}
-use Rattle.walter_play.specs.Scripts.{IsPlayed, Plays, ArmsMore, AreArmed, arms_for, arms_of, all_arms}
+use Rattle.walter_play.specs.Scripts.{Plays, ArmsMore, AreArmed, arms_for, arms_of, all_arms}
 use Rattle.walter_play.proofs.Arming.{for_more}
 use Rattle.walter_play.proofs.Steps.{there_is, plays_told}
 use Rattle.walter_rules.specs.declared.entry.Entry.{Entry}
@@ -33,10 +33,10 @@ use Rattle.walter_stream.specs.declared.sink.Sink.{Ghosts as SinkGhosts}
 use Rattle.walter_stream.specs.declared.source.Source.{Ghosts as SourceGhosts}
 use Rattle.walter_cli.specs.declared.ended.Fault.{Fault}
 use Rattle.walter_cli.specs.declared.ended.Fault.TheVariants.{Usage, Scenario as ScenarioFault, Read, Write, Memory, Rack, Journal}
-use Rattle.walter_cli.specs.Disks.{AreTaken, AreGiven}
+use Rattle.walter_cli.specs.Disks.{AreGiven}
 use Rattle.walter_cli.specs.Ending.{IsBuilt, IsWriteFault, EndsRun}
 use Rattle.walter_cli.specs.Headline.{AreCallsOf, AreTold, IsDiskOf, IsDiskOfRun, IsDiskOfWhole, IsRun, IsWholeRun, trail_at}
-use Rattle.walter_cli.specs.Racks.{RackAt, Racked, IsTold, bytes_of, racked}
+use Rattle.walter_cli.specs.Racks.{RackAt, Racked, IsTold, racked}
 use Rattle.walter_cli.specs.Texts.{text_of}
 use Rattle.walter_cli.proofs.Giving.{IsReturned, each_back, all_back, all_or_failed, holds_taken, told_reads}
 use Rattle.walter_cli.proofs.Trails.{field_of, field_at, trail_is, one_each, begins, stamps_rise, calls_are, told_trails}

@@ -1,6 +1,6 @@
 -- What of a rack's disks holds behind a call: they were taken, and given back or lost.
-use Rattle.std.proofs.Common.{◌≡◌, ℕ, ◌+◌, ◌<◌, ◌≤◌, zero, suc, List, [], ◌∷◌, ◌++◌, length, slice_get, Option, Some, None, option_map, ap, sym, ◌∙◌, refl, subst, arith, inl, inr, ◌⊎◌}
-use Rattle.std.specs.Prelude.{Result, Ok, Err, OnOk, OnErr, IfSome, IsSome, All, Contains, true, false}
+use Rattle.std.proofs.Common.{◌≡◌, ℕ, ◌+◌, ◌≤◌, zero, suc, List, [], ◌∷◌, ◌++◌, length, slice_get, Option, Some, None, option_map, ap, sym, ◌∙◌, refl, subst, arith, inl, inr, ◌⊎◌}
+use Rattle.std.specs.Prelude.{Result, Ok, Err, OnOk, OnErr, IfSome, IsSome, Contains, true, false}
 use Rattle.std.specs.Result.{is_err}
 use Rattle.std.proofs.lemmas.Bool.{cases_lt, cases_eq}
 use Rattle.std.proofs.lemmas.List.{length-append}
@@ -10,7 +10,7 @@ use Rattle.walter_disk.specs.Images.{Only, IsDurable}
 use Rattle.walter_disk.specs.Racks.{IsFresh}
 use Rattle.walter_disk.specs.declared.disk.Disk.{Ghosts}
 use Rattle.walter_psi.proofs.Lists.{contains_at, Contains-nil}
-use Rattle.walter_cli.specs.Disks.{AreTaken, AreGiven, IsFirstLost}
+use Rattle.walter_cli.specs.Disks.{AreGiven, IsFirstLost}
 use Rattle.walter_cli.specs.Racks.{OfADisk, RackAt, Racked, IsGiven, AreSo, bytes_of, numbered, racked, FailsToGive}
 
 -- what holds of a result that is Err, holds of one that is no Ok; and the other way round

@@ -1,5 +1,5 @@
 -- How the disks of one more site are taken from a rack, and given back to it.
-use Rattle.std.proofs.Common.{◌≡◌, ℕ, zero, suc, ◌+◌, ◌<◌, ◌≤◌, List, [], ◌∷◌, ◌++◌, length, slice_get, Option, Some, None, option_map, ap, sym, ◌∙◌, refl, subst, arith, inl, inr}
+use Rattle.std.proofs.Common.{◌≡◌, ℕ, suc, ◌+◌, ◌<◌, ◌≤◌, List, [], ◌∷◌, ◌++◌, length, slice_get, Option, Some, None, option_map, ap, sym, ◌∙◌, refl, subst, arith, inl, inr}
 use Rattle.std.specs.Prelude.{Result, Ok, Err, OnOk, OnErr, IsOk, IfErr, IfSome, All, Contains}
 use Rattle.std.specs.Result.{is_err}
 use Rattle.std.proofs.lemmas.List.{append-nil, append_assoc, length-append}

@@ -1,6 +1,6 @@
 -- What a call promises over a rack that tells its disks, whose disks have no bytes and never failed where they have no
 -- arm, and of which two calls for each site don't fail.
-use Rattle.std.proofs.Common.{◌≡◌, ℕ, ◌+◌, ◌<◌, ◌≤◌, List, [], ◌∷◌, ◌++◌, length, map, slice_get, Option, Some, None, ap, sym, ◌∙◌, refl, subst, arith, inl, inr}
+use Rattle.std.proofs.Common.{◌≡◌, ℕ, ◌≤◌, List, [], ◌∷◌, ◌++◌, length, Option, Some, None, ap, sym, ◌∙◌, refl, subst, arith, inl, inr}
 use Rattle.std.specs.Prelude.{All, Contains, IfSome, String}
 use Rattle.std.specs.Global.{Global}
 use Rattle.std.proofs.lemmas.List.Elements.{All-contains}
@@ -8,7 +8,6 @@ use Rattle.walter_disk.specs.declared.disk.Disk.{Ghosts}
 use Rattle.walter_engine.specs.Begins.{HasNoRecord}
 use Rattle.walter_play.proofs.Steps.{there_is, plays_told}
 use Rattle.walter_play.specs.Scripts.{all_arms}
-use Rattle.walter_rules.specs.declared.entry.Entry.{Entry}
 use Rattle.walter_scenario.specs.declared.scenario.Scenario.{Scenario}
 use Rattle.walter_stream.specs.Streams.{Appends, AppendsFront}
 use Rattle.walter_cli.specs.declared.ended.Ended.{Ended}
@@ -17,7 +16,7 @@ use Rattle.walter_cli.specs.declared.ended.Fault.TheVariants.{Usage, Memory, Rac
 use Rattle.walter_cli.specs.declared.ended.JournalCause.{JournalCause}
 use Rattle.walter_cli.specs.Assurance.{Assures, IsSureRun, IsSureReport}
 use Rattle.walter_cli.specs.Headline.{Outside, IsDiskOfRun, Runs, RunsWhole, IsRackFault, FailsEarly, Promise}
-use Rattle.walter_cli.specs.Racks.{RackAt, Racked, OfADisk, IsTold, Holds, AreSo, IsGiven, IsUnarmed, HasFailed, HasCause, numbered, racked}
+use Rattle.walter_cli.specs.Racks.{RackAt, Racked, IsTold, Holds, AreSo, IsGiven, IsUnarmed, HasFailed, HasCause, numbered, racked}
 use Rattle.walter_cli.specs.Statuses.{status_of}
 use Rattle.walter_cli.specs.Words.{IsLine}
 use Rattle.walter_cli.proofs.Causes.{cause_has_record}

@@ -1,5 +1,5 @@
 -- What the trails of a bench are, cell by cell.
-use Rattle.std.proofs.Common.{◌≡◌, ℕ, ◌<◌, zero, suc, List, [], ◌∷◌, length, map, slice_get, get_or, reverse, Option, Some, None, option_map, refl, ap, sym, ◌∙◌, subst, arith}
+use Rattle.std.proofs.Common.{◌≡◌, ℕ, ◌<◌, zero, suc, List, [], ◌∷◌, length, map, slice_get, get_or, reverse, Some, option_map, refl, ap, sym, ◌∙◌, subst, arith}
 use Rattle.std.specs.Prelude.{All}
 use Rattle.std.proofs.lemmas.List.{length-map}
 use Rattle.std.proofs.lemmas.List.Elements.{All-weaker, All-push}
@@ -11,7 +11,7 @@ use Rattle.walter_cell.specs.declared.cell.Cell.{Cell}
 use Rattle.walter_cell.specs.Entries.{HaveRisingStamps}
 use Rattle.walter_cell.specs.Handled.{IsSized}
 use Rattle.walter_cluster.specs.declared.bench.Bench.{Bench}
-use Rattle.walter_cluster.specs.Benches.{trails_of, IsOfSite, IsBench, IsCellOf, IsKnownAt, AreAllConnected}
+use Rattle.walter_cluster.specs.Benches.{trails_of, IsOfSite, IsBench, IsKnownAt, AreAllConnected}
 use Rattle.walter_conn.proofs.Standings.{calls_of as calls_told}
 use Rattle.walter_conn.specs.Connections.{incoming}
 use Rattle.walter_conn.specs.Sequences.{HasCalled}

@@ -1,5 +1,5 @@
 -- The disks of all sites, taken from a rack and given back to it.
-use Rattle.std.specs.Prelude.{◌≡◌, ◌+◌, ◌<◌, ◌≤◌, ◌++◌, ℕ, Bool, true, false, List, length, slice_get, Option, None, Some, Result, Ok, Err, option_map, IfSome, All, Contains}
+use Rattle.std.specs.Prelude.{◌≡◌, ◌+◌, ◌<◌, ◌≤◌, ◌++◌, ℕ, Bool, true, false, List, length, slice_get, None, Some, Result, Ok, Err, option_map, IfSome, All, Contains}
 use Rattle.walter_disk.specs.Racks.{IsFresh}
 use Rattle.walter_disk.specs.declared.disk.Disk.{Ghosts}
 use Rattle.walter_cli.specs.Racks.{RackAt, numbered}

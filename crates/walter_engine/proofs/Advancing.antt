@@ -23,9 +23,9 @@ use Rattle.walter_rules.specs.Records.{CanFollow, IsRecordAmong}
 use Rattle.walter_rules.specs.Rule.{rule}
 use Rattle.walter_rules.specs.Sending.{Send}
 use Rattle.walter_rules.specs.Standing.{Standing, stands_after, goes_down, flight_after}
-use Rattle.walter_rules.specs.Trails.{Comes, IsPutOut, failure, fullness, want, FitsIn, need_of, left_behind}
+use Rattle.walter_rules.specs.Trails.{Comes, IsPutOut, failure, fullness, want, FitsIn, need_of, left_behind, only}
 use Rattle.walter_engine.specs.Contents.{CanBeJournaled, AreJournaled}
-use Rattle.walter_engine.specs.Steps.{only, IsUntold}
+use Rattle.walter_engine.specs.Steps.{IsUntold}
 use Rattle.walter_engine.proofs.Replayed.{lost_after}
 use Rattle.walter_engine.proofs.Standings.{rule_here, journaled_more, journaled_same}
 use Rattle.walter_rules.proofs.Staying.{rule_stays, fault_falls, put_all}

@@ -24,7 +24,7 @@ use Rattle.walter_rules.specs.Records.{CanFollow, IsRecordAmong}
 use Rattle.walter_rules.specs.Rule.{rule}
 use Rattle.walter_rules.specs.Sending.{Send}
 use Rattle.walter_rules.specs.Standing.{Standing, stands_after}
-use Rattle.walter_rules.specs.Trails.{Comes, TakesMemory, want, fullness, failure, need_of, left_behind}
+use Rattle.walter_rules.specs.Trails.{Comes, TakesMemory, want, fullness, failure, need_of, left_behind, only}
 use Rattle.walter_tables.specs.declared.tables.Tables.{Tables}
 use Rattle.walter_engine.specs.declared.answers.Stepped.{Stepped}
 use Rattle.walter_engine.specs.declared.answers.Stepped.TheVariants.{Full, NoMemory}
@@ -32,7 +32,7 @@ use Rattle.walter_engine.specs.declared.stepping.StagedRecord.{StagedRecord}
 use Rattle.walter_engine.specs.Advances.{IsSameJournal, IsStagedRecord, Advances}
 use Rattle.walter_engine.specs.Contents.{MayHaveRecords, AreJournaled}
 use Rattle.walter_engine.specs.Engines.{IsRunning}
-use Rattle.walter_engine.specs.Steps.{came_of_step, only, IsUntold}
+use Rattle.walter_engine.specs.Steps.{came_of_step, IsUntold}
 use Rattle.walter_engine.proofs.Advancing.{expects, came_with, want_stays, want_knows, full_stays, full_knows, still_up, still_knows, still_settled, still_journaled, brings, done_up, done_knows, done_settled, done_comes, passed_journaled, wrote_journaled, flew_comes, flew_up, flew_rests, flew_journaled, full_comes}
 use Rattle.walter_engine.proofs.Crashes.{room_and_append}
 use Rattle.walter_engine.proofs.Resting.{before_or_behind, rests_failed, SizeIs, CountsNow}

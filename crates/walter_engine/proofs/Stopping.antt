@@ -8,13 +8,13 @@ use Rattle.walter_disk.specs.declared.disk.Disk.{Ghosts}
 use Rattle.walter_rules.specs.declared.event.Event.TheVariants.{Stop}
 use Rattle.walter_rules.specs.declared.outcome.Outcome.TheVariants.{Taken}
 use Rattle.walter_rules.specs.Standing.{Standing, stands_after}
+use Rattle.walter_rules.specs.Trails.{only}
 use Rattle.walter_engine.specs.declared.engine.State.{State}
 use Rattle.walter_engine.specs.declared.engine.State.TheVariants.{Up, Down}
 use Rattle.walter_engine.specs.declared.engine.Tally.{Tally}
 use Rattle.walter_engine.specs.Contents.{AreJournaled, CanBeJournaled}
 use Rattle.walter_engine.specs.Engines.{IsResting, IsInState, IsTallied}
 use Rattle.walter_engine.specs.States.{disk_of_state}
-use Rattle.walter_engine.specs.Steps.{only}
 use Rattle.walter_engine.proofs.Resting.{SizeIs, rests_under}
 use Rattle.walter_engine.proofs.Standings.{journaled_same}
 

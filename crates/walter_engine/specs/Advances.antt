@@ -13,13 +13,13 @@ use Rattle.walter_tables.specs.declared.tables.Tables.{Tables}
 use Rattle.walter_rules.specs.declared.event.Event.{Event}
 use Rattle.walter_rules.specs.Standing.{Standing, stands_after}
 use Rattle.walter_rules.specs.declared.entry.Came.{Came}
-use Rattle.walter_rules.specs.Trails.{Comes, failure}
+use Rattle.walter_rules.specs.Trails.{Comes, failure, only}
 use Rattle.walter_engine.specs.declared.answers.Stepped.{Stepped}
 use Rattle.walter_engine.specs.declared.answers.Stepped.TheVariants as stepped
 use Rattle.walter_engine.specs.declared.stepping.StagedRecord.{StagedRecord}
 use Rattle.walter_engine.specs.Contents.{AreJournaled}
 use Rattle.walter_engine.specs.Engines.{IsRunning, IsResting}
-use Rattle.walter_engine.specs.Steps.{came_of_step, only, IsSizedStep, IsFaultOfStep, AreCallsOfStep}
+use Rattle.walter_engine.specs.Steps.{came_of_step, IsSizedStep, IsFaultOfStep, AreCallsOfStep}
 
 -- the journal is as before, but for its room
 pub record IsSameJournal {D : Type 0} {g : Ghosts D} (old new : Journal D g) : Type 0 where

@@ -1,5 +1,5 @@
 -- What a step and a restart come to, as an event of the site's trail.
-use Rattle.std.specs.Prelude.{◌≡◌, ◌≢◌, ◌+◌, ◌<◌, ◌≤◌, ℕ, Bool, List, [], map, take, slice_get, Option, Some, None, All, IfSome}
+use Rattle.std.specs.Prelude.{◌≡◌, ◌≢◌, ◌+◌, ◌<◌, ◌≤◌, ℕ, Bool, List, map, take, slice_get, Option, Some, None, All, IfSome}
 use Rattle.walter_base.specs.declared.catalog.Catalog.{Catalog}
 use Rattle.walter_base.specs.declared.message.Record.{Record}
 use Rattle.walter_base.specs.declared.message.Record.TheVariants.{Boot}
@@ -26,17 +26,13 @@ use Rattle.walter_rules.specs.Knowledge.{fresh}
 use Rattle.walter_rules.specs.Records.{CanFollow, CanAllFollow, replayed}
 use Rattle.walter_rules.specs.Sessions.{Sessions}
 use Rattle.walter_rules.specs.Standing.{Standing, comes_up}
-use Rattle.walter_rules.specs.Trails.{failure, fullness, want}
+use Rattle.walter_rules.specs.Trails.{only, failure, fullness, want}
 use Rattle.walter_engine.specs.declared.answers.RefusedRestart.{RefusedRestart}
 use Rattle.walter_engine.specs.declared.answers.RefusedRestart.TheVariants.{Foreign, Damaged, Unreadable, LastEpoch}
 use Rattle.walter_engine.specs.declared.answers.Restarted.{Restarted}
 use Rattle.walter_engine.specs.declared.answers.Restarted.TheVariants as restarted
 use Rattle.walter_engine.specs.declared.answers.Stepped.{Stepped}
 use Rattle.walter_engine.specs.declared.answers.Stepped.TheVariants.{Done, Failed, Full, Down, NoMemory}
-
--- an outcome alone: no record, and nothing put out
-abbrev pub only : Outcome → Came
-only outcome = record { outcome = outcome; kept = None; wrote = None; flight = None; sends = []; dropped = 0 }
 
 -- what the event of a step came to, where all that is put out finds its place
 abbrev pub came_of_step : Event → Stepped → Came

@@ -73,7 +73,7 @@ impl<D: Disk + Drop> Engine<D> {
     ghost use Rattle.walter_rules.specs.Learning.{after};
     ghost use Rattle.walter_rules.specs.Standing.{Standing, stands_after};
     ghost use Rattle.walter_session.specs.Sessions.{sessions_of};
-    ghost use Rattle.walter_rules.specs.Trails.{Comes, standing};
+    ghost use Rattle.walter_rules.specs.Trails.{Comes, standing, only};
     ghost use Rattle.walter_rules.specs.declared.outcome.Outcome.TheVariants.{Taken};
     ghost use Rattle.walter_rules.specs.declared.event.Event.TheVariants.{Stop};
     ghost use Rattle.walter_journal.specs.Journals.{calls_of_load};
@@ -81,7 +81,7 @@ impl<D: Disk + Drop> Engine<D> {
     ghost use Rattle.walter_engine.specs.Contents.{AreJournaled, MayHaveRecords, MayHaveBoot};
     ghost use Rattle.walter_engine.specs.Engines.{catalog_in, site_in, capacity_in, disk_in, is_up, OfDisk, OfDisks, IsResting, IsSameEngine, Stands};
     ghost use Rattle.walter_engine.specs.Restarts.{Restarts};
-    ghost use Rattle.walter_engine.specs.Steps.{came_of_step, only, opening, IsUntold, DoesLose, IsSizedStep, IsSizedRestart, IsFaultOfStep, IsFaultOfRestart, AreCallsOfStep, IsRefusedFor, IfRefused, IfUp, brings_up, kept_of};
+    ghost use Rattle.walter_engine.specs.Steps.{came_of_step, opening, IsUntold, DoesLose, IsSizedStep, IsSizedRestart, IsFaultOfStep, IsFaultOfRestart, AreCallsOfStep, IsRefusedFor, IfRefused, IfUp, brings_up, kept_of};
 
     /// A site that is down, with a disk that it knows nothing of. Where there is no memory the disk comes back. Over a
     /// journal with the records of a site it stands as these tell. How a new site goes on, over a disk of no bytes or a

@@ -78,11 +78,11 @@ module _ (catalog : Catalog) (W Then : Stands) (put then_put : Put) (A : AreAgre
   }
 
 -- what a restart finds
-module _ (catalog : Catalog) (W W1 : Stands) (put : Put) (A : AreAgreed catalog W put) (i : SiteId)
+module _ (catalog : Catalog) (W Found : Stands) (put : Put) (A : AreAgreed catalog W put) (i : SiteId)
     (alone : IsAlone catalog i (W i)) (kept : Option Record)
-    (here : W1 i ≡ settled catalog i kept (W i)) (away : (k : SiteId) → k ≢ i → W1 k ≡ W k)
+    (here : Found i ≡ settled catalog i kept (W i)) (away : (k : SiteId) → k ≢ i → Found k ≡ W k)
     (due : IfSome kept (IsDue catalog W put i)) where
-  pub settled_recorded : IsRecorded catalog i kept W W1
+  pub settled_recorded : IsRecorded catalog i kept W Found
   settled_recorded = record {
     here = ap (λ (S : Standing). lost S.knows) here ∙ lost_settled catalog i kept
         (W i);
@@ -97,13 +97,13 @@ module _ (catalog : Catalog) (W W1 : Stands) (put : Put) (A : AreAgreed catalog 
   heard_settled None S = (λ k. refl, λ k. refl, λ n. refl, λ n. refl)
   heard_settled (Some r) S = (λ k. refl, λ k. refl, λ n. refl, λ n. refl)
 
-  pub agreed_settled : AreAgreed catalog W1 put
+  pub agreed_settled : AreAgreed catalog Found put
   agreed_settled =
       let R = settled_recorded in
-      let G = grown catalog W W1 put put A i alone kept R due in
+      let G = grown catalog W Found put put A i alone kept R due in
       let same = heard_settled kept (W i) in
-      agreed_on catalog W W1 put put A i alone kept R due (λ j k packet p. p) (λ j k packet apart p. inl p)
-      (heard_later catalog W W1 put put A G (λ j k packet p. p) i
+      agreed_on catalog W Found put put A i alone kept R due (λ j k packet p. p) (λ j k packet apart p. inl p)
+      (heard_later catalog W Found put put A G (λ j k packet p. p) i
       (λ k. ap (λ (S : Standing). S.knows.acknowledged k) here ∙ same.0 k)
       (λ k. ap (λ (S : Standing). S.knows.visible k) here ∙ same.1 k)
       (λ n. ap (λ (S : Standing). S.knows.said_yes n) here ∙ same.2 n)
@@ -112,10 +112,10 @@ module _ (catalog : Catalog) (W W1 : Stands) (put : Put) (A : AreAgreed catalog 
     where
       -- with a record that was found none is in flight, and with none nothing is new
       settled_flight : (rec : Option Record) → kept ≡ rec → (r : Record) → (settled catalog i rec (W i)).flight ≡ Some r
-          → IsDue catalog W1 put i r
+          → IsDue catalog Found put i r
       settled_flight (Some found) is r e = absurd cc
       settled_flight None is r e =
-          due_later catalog W W1 put put (grown catalog W W1 put put A i alone kept settled_recorded due) i
+          due_later catalog W Found put put (grown catalog W Found put put A i alone kept settled_recorded due) i
           (ap (λ (S : Standing). lost S.knows) here ∙ lost_settled catalog i kept (W i)
           ∙ ap (λ o. recorded catalog i o (lost (W i).knows)) is)
           (λ j k packet p. p) r (A.ready i r e)

@@ -32,9 +32,9 @@ use Rattle.walter_alone.proofs.Kept.{one_more_grows, committed_grows}
 use Rattle.walter_linked.proofs.Agreed.{Stands, Put, logs, owns, received, counts, slows, parts, IsOver, IsSo, IsDue}
 
 -- site i has this record behind what it had, and the others stand as they stood
-pub record IsRecorded (catalog : Catalog) (i : SiteId) (rec : Option Record) (W W2 : Stands) : Type 0 where
-  pub here : lost (W2 i).knows ≡ recorded catalog i rec (lost (W i).knows)
-  pub away : (k : SiteId) → k ≢ i → W2 k ≡ W k
+pub record IsRecorded (catalog : Catalog) (i : SiteId) (rec : Option Record) (W Then : Stands) : Type 0 where
+  pub here : lost (Then i).knows ≡ recorded catalog i rec (lost (W i).knows)
+  pub away : (k : SiteId) → k ≢ i → Then k ≡ W k
 
 -- what is the same at one site and at the others is the same at all
 pub at_all : {X : Type 0} (f g : SiteId → X) (i : SiteId) → f i ≡ g i → ((k : SiteId) → k ≢ i → f k ≡ g k)
@@ -52,14 +52,14 @@ holds_all P i here away k = elim (site_cases k i) [
 ]
 
 -- what later stands have of earlier ones
-pub record HasGrown (W W2 : Stands) : Type 0 where
-  pub own : (k : SiteId) (q : ℕ) (r : Held) → slice_get (owns W k) q ≡ Some r → slice_get (owns W2 k) q ≡ Some r
-  pub more : (i k : SiteId) → received W i k ≤ received W2 i k
-  pub done : (i k : SiteId) → counts W i k ≤ counts W2 i k
-  pub begins : (j : SiteId) (n : ℕ) (x : Tx) → begun (slows W j n) ≡ Some x → begun (slows W2 j n) ≡ Some x
+pub record HasGrown (W Then : Stands) : Type 0 where
+  pub own : (k : SiteId) (q : ℕ) (r : Held) → slice_get (owns W k) q ≡ Some r → slice_get (owns Then k) q ≡ Some r
+  pub more : (i k : SiteId) → received W i k ≤ received Then i k
+  pub done : (i k : SiteId) → counts W i k ≤ counts Then i k
+  pub begins : (j : SiteId) (n : ℕ) (x : Tx) → begun (slows W j n) ≡ Some x → begun (slows Then j n) ≡ Some x
   pub drops : (j : SiteId) (n : ℕ) (x : Tx) (asked : List SiteId) → slows W j n ≡ Dropped x asked
-      → slows W2 j n ≡ Dropped x asked
-  pub holds : (p j : SiteId) (n : ℕ) → j ≢ p → parts W p j n ≢ Free → parts W2 p j n ≢ Free
+      → slows Then j n ≡ Dropped x asked
+  pub holds : (p j : SiteId) (n : ℕ) → j ≢ p → parts W p j n ≢ Free → parts Then p j n ≢ Free
 
 -- by a record the log gets longer
 log_grows : (rec : Option Record) (log : List Held) → IsPrefix log (log_after rec log)
@@ -167,63 +167,63 @@ module _ (catalog : Catalog) (i : SiteId) (K : Knowledge) (j : SiteId) (apart : 
   part_grows (Some (SlowEnd m)) = not_own m
   part_grows (Some (Marks durable visible)) = some
 
-module _ (catalog : Catalog) (i : SiteId) (rec : Option Record) (W W2 : Stands) (R : IsRecorded catalog i rec W W2)
+module _ (catalog : Catalog) (i : SiteId) (rec : Option Record) (W Then : Stands) (R : IsRecorded catalog i rec W Then)
   where
     -- field by field at site i
-    pub log_here : logs W2 i ≡ log_after rec (logs W i)
+    pub log_here : logs Then i ≡ log_after rec (logs W i)
     log_here = ap (λ (K : Knowledge). K.log) R.here
 
-    pub got_here : (k : SiteId) → received W2 i k ≡ got_after i rec (received W i) k
+    pub got_here : (k : SiteId) → received Then i k ≡ got_after i rec (received W i) k
     got_here k = ap (λ (K : Knowledge). K.got k) R.here
 
-    pub committed_here : (k : SiteId) → counts W2 i k ≡ committed_after i rec (counts W i) k
+    pub committed_here : (k : SiteId) → counts Then i k ≡ committed_after i rec (counts W i) k
     committed_here k = ap (λ (K : Knowledge). K.committed k) R.here
 
-    pub slow_here : (n : ℕ) → slows W2 i n ≡ slow_after catalog i (lost (W i).knows) rec n
+    pub slow_here : (n : ℕ) → slows Then i n ≡ slow_after catalog i (lost (W i).knows) rec n
     slow_here n = ap (λ (K : Knowledge). K.slow n) R.here
 
-    pub part_here : (j : SiteId) (n : ℕ) → parts W2 i j n ≡ part_after catalog i (lost (W i).knows) rec j n
+    pub part_here : (j : SiteId) (n : ℕ) → parts Then i j n ≡ part_after catalog i (lost (W i).knows) rec j n
     part_here j n = ap (λ (K : Knowledge). K.part j n) R.here
 
     -- and at another
-    pub log_away : (k : SiteId) → k ≢ i → logs W2 k ≡ logs W k
+    pub log_away : (k : SiteId) → k ≢ i → logs Then k ≡ logs W k
     log_away k apart = ap (λ (S : Standing). S.knows.log) (R.away k apart)
 
-    pub got_away : (k : SiteId) → k ≢ i → (j : SiteId) → received W2 k j ≡ received W k j
+    pub got_away : (k : SiteId) → k ≢ i → (j : SiteId) → received Then k j ≡ received W k j
     got_away k apart j = ap (λ (S : Standing). S.knows.got j) (R.away k apart)
 
-    pub committed_away : (k : SiteId) → k ≢ i → (j : SiteId) → counts W2 k j ≡ counts W k j
+    pub committed_away : (k : SiteId) → k ≢ i → (j : SiteId) → counts Then k j ≡ counts W k j
     committed_away k apart j = ap (λ (S : Standing). S.knows.committed j) (R.away k apart)
 
-    pub slow_away : (k : SiteId) → k ≢ i → (n : ℕ) → slows W2 k n ≡ slows W k n
+    pub slow_away : (k : SiteId) → k ≢ i → (n : ℕ) → slows Then k n ≡ slows W k n
     slow_away k apart n = ap (λ (S : Standing). S.knows.slow n) (R.away k apart)
 
-    pub part_away : (k : SiteId) → k ≢ i → (j : SiteId) (n : ℕ) → parts W2 k j n ≡ parts W k j n
+    pub part_away : (k : SiteId) → k ≢ i → (j : SiteId) (n : ℕ) → parts Then k j n ≡ parts W k j n
     part_away k apart j n = ap (λ (S : Standing). S.knows.part j n) (R.away k apart)
 
     -- so the stands have grown, where a slow commit that begins is new
-    pub has_grown : ((n : ℕ) (x : Tx) → rec ≡ Some (SlowBegin n x) → slows W i n ≡ Unused) → HasGrown W W2
+    pub has_grown : ((n : ℕ) (x : Tx) → rec ≡ Some (SlowBegin n x) → slows W i n ≡ Unused) → HasGrown W Then
     has_grown new = record {
-      own = λ k q r. holds_all (λ z. slice_get (owns W z) q ≡ Some r → slice_get (owns W2 z) q ≡ Some r) i
+      own = λ k q r. holds_all (λ z. slice_get (owns W z) q ≡ Some r → slice_get (owns Then z) q ≡ Some r) i
           (λ h. ap (λ l. slice_get (of_site i l) q) log_here ∙ prefix_get (of_site i (logs W i))
           (of_site i (log_after rec (logs W i))) r q (front_of i (logs W i) (log_after rec (logs W i))
           (log_grows rec (logs W i))) h)
           (λ z apart h. ap (λ l. slice_get (of_site z l) q) (log_away z apart) ∙ h) k;
-      more = λ a k. holds_all (λ z. received W z k ≤ received W2 z k) i
+      more = λ a k. holds_all (λ z. received W z k ≤ received Then z k) i
           (let e = got_here k in let l = got_grows i rec (received W i) k in omega (arith, e, l))
           (λ z apart. let e = got_away z apart k in omega (arith, e)) a;
-      done = λ a k. holds_all (λ z. counts W z k ≤ counts W2 z k) i
+      done = λ a k. holds_all (λ z. counts W z k ≤ counts Then z k) i
           (let e = committed_here k in let l = committed_grows i rec (counts W i) k in omega (arith, e, l))
           (λ z apart. let e = committed_away z apart k in omega (arith, e)) a;
-      begins = λ j n x. holds_all (λ z. begun (slows W z n) ≡ Some x → begun (slows W2 z n) ≡ Some x) i
+      begins = λ j n x. holds_all (λ z. begun (slows W z n) ≡ Some x → begun (slows Then z n) ≡ Some x) i
           (λ h. ap begun (slow_here n) ∙ slow_grows (λ g. begun g ≡ Some x) (λ e. cc) (λ g e. begun_ended g ∙ e)
           (λ g e. begun_decided g ∙ e) catalog i (lost (W i).knows) rec new n h)
           (λ z apart h. ap begun (slow_away z apart n) ∙ h) j;
-      drops = λ j n x asked. holds_all (λ z. slows W z n ≡ Dropped x asked → slows W2 z n ≡ Dropped x asked) i
+      drops = λ j n x asked. holds_all (λ z. slows W z n ≡ Dropped x asked → slows Then z n ≡ Dropped x asked) i
           (λ h. slow_here n ∙ slow_grows (λ g. g ≡ Dropped x asked) (λ e. cc) (λ g e. ap ended e)
           (λ g e. ap decided e) catalog i (lost (W i).knows) rec new n h)
           (λ z apart h. slow_away z apart n ∙ h) j;
-      holds = λ p j n. holds_all (λ z. j ≢ z → parts W z j n ≢ Free → parts W2 z j n ≢ Free) i
+      holds = λ p j n. holds_all (λ z. j ≢ z → parts W z j n ≢ Free → parts Then z j n ≢ Free) i
           (λ apart h e. part_grows catalog i (lost (W i).knows) j apart n h rec (sym (part_here j n) ∙ e))
           (λ z other apart h e. h (sym (part_away z other j n) ∙ e)) p;
     }
@@ -235,9 +235,9 @@ is_begun (Undecided x asked) h = (x, refl)
 is_begun (Dropped x asked) h = (x, refl)
 is_begun (Decided x) h = (x, refl)
 
-module _ (catalog : Catalog) (W W2 : Stands) (G : HasGrown W W2) where
+module _ (catalog : Catalog) (W Then : Stands) (G : HasGrown W Then) where
   -- what stands over a transaction stays
-  pub over_later : (x : Tx) (conflict : Conflict) → IsOver W x conflict → IsOver W2 x conflict
+  pub over_later : (x : Tx) (conflict : Conflict) → IsOver W x conflict → IsOver Then x conflict
   over_later x (Modified oid version) h = (
     h.0,
     (
@@ -253,7 +253,7 @@ module _ (catalog : Catalog) (W W2 : Stands) (G : HasGrown W W2) where
   over_later x Dead h = tt
 
   -- what a packet to another site says stays so
-  pub so_later : (j i : SiteId) (packet : Packet) → j ≢ i → IsSo catalog W j i packet → IsSo catalog W2 j i packet
+  pub so_later : (j i : SiteId) (packet : Packet) → j ≢ i → IsSo catalog W j i packet → IsSo catalog Then j i packet
   so_later j i (Propagate seq x) apart h = (h.0, G.own j (seq - 1) (record { seq = seq; tx = x }) h.1)
   so_later j i (Ack got) apart h = let l = G.more j i in omega (arith, h, l)
   so_later j i (Dsmark durable) apart h = tt
@@ -261,19 +261,19 @@ module _ (catalog : Catalog) (W W2 : Stands) (G : HasGrown W W2) where
   so_later j i (Prepare n tid start objects) apart h = (h.0, G.begins j n h.0 h.1, h.2, h.3, h.4, h.5)
   so_later j i (Vote n Yes) apart h =
       let b = is_begun (slows W i n) h.0 in
-      (λ e. not_unused (slows W2 i n) b.0 (G.begins i n b.0 b.1) e, G.holds j i n (λ e. apart (sym e)) h.1)
+      (λ e. not_unused (slows Then i n) b.0 (G.begins i n b.0 b.1) e, G.holds j i n (λ e. apart (sym e)) h.1)
   so_later j i (Vote n (No conflict)) apart h = (h.0, G.begins i n h.0 h.1, over_later h.0 conflict h.2)
   so_later j i (Release n) apart h = (h.0, h.1, G.drops j n h.0 h.1 h.2)
   so_later j i (ReleasedSaid n) apart h = tt
 
 -- what may come at a site may still come while nothing is recorded there, others go on and more is put out
-module _ (catalog : Catalog) (W W2 : Stands) (put put2 : Put) (G : HasGrown W W2) (i : SiteId)
-    (same : lost (W2 i).knows ≡ lost (W i).knows)
-    (puts : (j k : SiteId) (packet : Packet) → put j k packet → put2 j k packet) where
-  due_by : (P : Knowledge → Type 0) → P (lost (W i).knows) → P (lost (W2 i).knows)
+module _ (catalog : Catalog) (W Then : Stands) (put then_put : Put) (G : HasGrown W Then) (i : SiteId)
+    (same : lost (Then i).knows ≡ lost (W i).knows)
+    (puts : (j k : SiteId) (packet : Packet) → put j k packet → then_put j k packet) where
+  due_by : (P : Knowledge → Type 0) → P (lost (W i).knows) → P (lost (Then i).knows)
   due_by P h = subst P (sym same) h
 
-  pub due_later : (r : Record) → IsDue catalog W put i r → IsDue catalog W2 put2 i r
+  pub due_later : (r : Record) → IsDue catalog W put i r → IsDue catalog Then then_put i r
   due_later (Boot epoch) h = tt
   due_later (Own seq x) h = record {
     next = due_by (λ K. seq ≡ K.committed i + 1) h.next;

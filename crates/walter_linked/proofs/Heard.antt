@@ -120,13 +120,13 @@ heard_of_cases m n j p heard c = elim (nat_eq m n) as
       | false ↦ λ isnt within. inl within
     ] refl c
 
-module _ (catalog : Catalog) (W W2 : Stands) (put put2 : Put) (A : AreAgreed catalog W put) (G : HasGrown W W2)
-    (puts : (j k : SiteId) (packet : Packet) → put j k packet → put2 j k packet) (i : SiteId) where
+module _ (catalog : Catalog) (W Then : Stands) (put then_put : Put) (A : AreAgreed catalog W put) (G : HasGrown W Then)
+    (puts : (j k : SiteId) (packet : Packet) → put j k packet → then_put j k packet) (i : SiteId) where
   -- what was heard stays so, while nothing more is heard
-  pub heard_later : ((k : SiteId) → (W2 i).knows.acknowledged k ≡ (W i).knows.acknowledged k)
-      → ((k : SiteId) → (W2 i).knows.visible k ≡ (W i).knows.visible k)
-      → ((n : ℕ) → (W2 i).knows.said_yes n ≡ (W i).knows.said_yes n)
-      → ((n : ℕ) → (W2 i).knows.said_no n ≡ (W i).knows.said_no n) → IsHeardRight W2 put2 i
+  pub heard_later : ((k : SiteId) → (Then i).knows.acknowledged k ≡ (W i).knows.acknowledged k)
+      → ((k : SiteId) → (Then i).knows.visible k ≡ (W i).knows.visible k)
+      → ((n : ℕ) → (Then i).knows.said_yes n ≡ (W i).knows.said_yes n)
+      → ((n : ℕ) → (Then i).knows.said_no n ≡ (W i).knows.said_no n) → IsHeardRight Then then_put i
   heard_later acknowledged visible said_yes said_no = record {
     acknowledged = λ k apart. let e = acknowledged k in let a =
         (A.heard i).acknowledged k apart in let b = G.more k i in omega (arith, e, a, b);
@@ -140,24 +140,24 @@ module _ (catalog : Catalog) (W W2 : Stands) (put put2 : Put) (A : AreAgreed cat
 
   pub acknowledged_right : (outcome : Outcome) (event : Event) → IsTakenRight i outcome event
       → ((j : SiteId) (number : ℕ) (packet : Packet) → event ≡ Given (Deliver j number packet) → put j i packet)
-      → (k : SiteId) → k ≢ i → acknowledged_after outcome event (W i).knows.acknowledged k ≤ received W2 k i
+      → (k : SiteId) → k ≢ i → acknowledged_after outcome event (W i).knows.acknowledged k ≤ received Then k i
   acknowledged_right Taken (Given (Deliver j number (Ack got))) taken delivered k apart =
       let so = A.said j i (Ack got) taken (delivered j number (Ack got) refl) in
       let b = G.more j i in
-      let now : got ≤ received W2 j i = omega (arith, so, b) in
-      risen_within j k got (W i).knows.acknowledged (λ z. received W2 z i) now
+      let now : got ≤ received Then j i = omega (arith, so, b) in
+      risen_within j k got (W i).knows.acknowledged (λ z. received Then z i) now
       (let a = (A.heard i).acknowledged k apart in let b = G.more k i in omega (arith, a, b))
   acknowledged_right outcome event taken delivered k apart = let a =
       (A.heard i).acknowledged k apart in let b = G.more k i in omega (arith, a, b)
 
   pub visible_right : (outcome : Outcome) (event : Event) → IsTakenRight i outcome event
       → ((j : SiteId) (number : ℕ) (packet : Packet) → event ≡ Given (Deliver j number packet) → put j i packet)
-      → (k : SiteId) → k ≢ i → said_visible_after outcome event (W i).knows.visible k ≤ counts W2 k i
+      → (k : SiteId) → k ≢ i → said_visible_after outcome event (W i).knows.visible k ≤ counts Then k i
   visible_right Taken (Given (Deliver j number (Visible committed))) taken delivered k apart =
       let so = A.said j i (Visible committed) taken (delivered j number (Visible committed) refl) in
       let b = G.done j i in
-      let now : committed ≤ counts W2 j i = omega (arith, so, b) in
-      risen_within j k committed (W i).knows.visible (λ z. counts W2 z i) now
+      let now : committed ≤ counts Then j i = omega (arith, so, b) in
+      risen_within j k committed (W i).knows.visible (λ z. counts Then z i) now
       (let a = (A.heard i).visible k apart in let b = G.done k i in omega (arith, a, b))
   visible_right outcome event taken delivered k apart = let a =
       (A.heard i).visible k apart in let b = G.done k i in omega (arith, a, b)
@@ -165,7 +165,7 @@ module _ (catalog : Catalog) (W W2 : Stands) (put put2 : Put) (A : AreAgreed cat
   yes_right : (outcome : Outcome) (event : Event) → IsTakenRight i outcome event
       → ((j : SiteId) (number : ℕ) (packet : Packet) → event ≡ Given (Deliver j number packet) → put j i packet)
       → (n : ℕ) (p : SiteId) → Contains (said_yes_after outcome event (W i).knows.said_yes n) p
-      → (p ≢ i) × put2 p i (Vote n Yes)
+      → (p ≢ i) × then_put p i (Vote n Yes)
   yes_right Taken (Given (Deliver j number (Vote m Yes))) taken delivered n p c = elim
       (heard_of_cases m n j p (W i).knows.said_yes c) [
         | inl before ↦ let h = (A.heard i).said_yes n p before in (h.0, puts p i (Vote n Yes) h.1)
@@ -180,10 +180,10 @@ module _ (catalog : Catalog) (W W2 : Stands) (put put2 : Put) (A : AreAgreed cat
   no_right : (outcome : Outcome) (event : Event) → IsTakenRight i outcome event
       → ((j : SiteId) (number : ℕ) (packet : Packet) → event ≡ Given (Deliver j number packet) → put j i packet)
       → (n : ℕ) (conflict : Conflict) → said_no_after outcome event (W i).knows.said_no n ≡ Some conflict
-      → (p : SiteId) × (p ≢ i) × (conflict ≢ Dead) × put2 p i (Vote n (No conflict))
+      → (p : SiteId) × (p ≢ i) × (conflict ≢ Dead) × then_put p i (Vote n (No conflict))
   no_right Taken (Given (Deliver j number (Vote m (No other)))) taken delivered n conflict e =
       elim (nat_eq m n) as (λ b. nat_eq m n ≡ b → (if b then Some other else (W i).knows.said_no n) ≡ Some conflict →
-      (p : SiteId) × (p ≢ i) × (conflict ≢ Dead) × put2 p i (Vote n (No conflict))) [
+      (p : SiteId) × (p ≢ i) × (conflict ≢ Dead) × then_put p i (Vote n (No conflict))) [
         | true ↦ λ is h.
             let same : other ≡ conflict = same_Some other conflict h in (
               j,
@@ -202,22 +202,22 @@ module _ (catalog : Catalog) (W W2 : Stands) (put put2 : Put) (A : AreAgreed cat
   -- what was heard of the packet that was delivered is so
   pub heard_right : (event : Event) (outcome : Outcome) (wrote : Option Record) → IsTakenRight i outcome event
       → ((j : SiteId) (number : ℕ) (packet : Packet) → event ≡ Given (Deliver j number packet) → put j i packet)
-      → (W2 i).knows ≡ knows_after event outcome (after catalog i (W i).knows event outcome wrote)
-      → IsHeardRight W2 put2 i
+      → (Then i).knows ≡ knows_after event outcome (after catalog i (W i).knows event outcome wrote)
+      → IsHeardRight Then then_put i
   heard_right event outcome wrote taken delivered is =
       let K = after catalog i (W i).knows event outcome wrote in
-      elim (goes_down event outcome) as (λ b. (W2 i).knows ≡ (if b then lost K else K) → IsHeardRight W2 put2 i) [
+      elim (goes_down event outcome) as (λ b. (Then i).knows ≡ (if b then lost K else K) → IsHeardRight Then then_put i) [
         | true ↦ λ e. record {
           acknowledged = λ k apart. let z = ap (λ (L : Knowledge). L.acknowledged k) e in omega (arith, z);
           visible = λ k apart. let z = ap (λ (L : Knowledge). L.visible k) e in omega (arith, z);
           said_yes = λ n p c. absurd (Contains-nil p (subst (λ (L : Knowledge). Contains (L.said_yes n) p) e c));
-          said_no = λ n conflict h. absurd (none_not_some ((W2 i).knows.said_no n) conflict
+          said_no = λ n conflict h. absurd (none_not_some ((Then i).knows.said_no n) conflict
               (ap (λ (L : Knowledge). L.said_no n) e) h);
         }
         | false ↦ λ e. record {
-          acknowledged = λ k apart. subst (λ (L : Knowledge). L.acknowledged k ≤ received W2 k i) (sym e)
+          acknowledged = λ k apart. subst (λ (L : Knowledge). L.acknowledged k ≤ received Then k i) (sym e)
               (acknowledged_right outcome event taken delivered k apart);
-          visible = λ k apart. subst (λ (L : Knowledge). L.visible k ≤ counts W2 k i) (sym e)
+          visible = λ k apart. subst (λ (L : Knowledge). L.visible k ≤ counts Then k i) (sym e)
               (visible_right outcome event taken delivered k apart);
           said_yes = λ n p c. yes_right outcome event taken delivered n p
               (subst (λ (L : Knowledge). Contains (L.said_yes n) p) e c);

@@ -67,10 +67,10 @@ grown_none W = record {
 }
 
 -- what is durable stays so
-durable_in_later : (catalog : Catalog) (W W2 : Stands) → HasGrown W W2 → (k : SiteId) (d e : ℕ) → e ≤ d
-    → AreDurableIn catalog W k d → AreDurableIn catalog W2 k e
-durable_in_later catalog W W2 G k d e fewer h = all_durable_later (home catalog) catalog.tolerated (owns W k)
-    (owns W2 k) (λ s. received W s k) (λ s. received W2 s k) (G.own k) (λ s. G.more s k) d e fewer h
+durable_in_later : (catalog : Catalog) (W Then : Stands) → HasGrown W Then → (k : SiteId) (d e : ℕ) → e ≤ d
+    → AreDurableIn catalog W k d → AreDurableIn catalog Then k e
+durable_in_later catalog W Then G k d e fewer h = all_durable_later (home catalog) catalog.tolerated (owns W k)
+    (owns Then k) (λ s. received W s k) (λ s. received Then s k) (G.own k) (λ s. G.more s k) d e fewer h
 
 module _ (catalog : Catalog) (homes : (oid : ObjId) → (home catalog oid).0 < catalog.sites) (W : Stands) (put : Put)
     (A : AreAgreed catalog W put) (M : AreMarkedRight catalog W put) (i : SiteId) where
@@ -169,92 +169,92 @@ visible_floor_cases catalog W i (Some (Marks durable visible)) floor so = inr so
 visible_floor_cases catalog W i (Some rec) floor so = inl (omega arith)
 
 -- what is committed of another site stays, or is durable
-seen_cases : (catalog : Catalog) (W W2 : Stands) (put : Put) (i : SiteId) (rec : Option Record)
-    → IfSome rec (IsDue catalog W put i) → IfSome rec (IsTrueIn catalog W2 i) → (j : SiteId) → i ≢ j
-    → (committed_after i rec (counts W i) j ≤ counts W i j) ⊎ AreDurableIn catalog W2 j
+seen_cases : (catalog : Catalog) (W Then : Stands) (put : Put) (i : SiteId) (rec : Option Record)
+    → IfSome rec (IsDue catalog W put i) → IfSome rec (IsTrueIn catalog Then i) → (j : SiteId) → i ≢ j
+    → (committed_after i rec (counts W i) j ≤ counts W i j) ⊎ AreDurableIn catalog Then j
     (committed_after i rec (counts W i) j)
-seen_cases catalog W W2 put i None due so j apart = inl (omega arith)
-seen_cases catalog W W2 put i (Some (Own seq x)) due so j apart = elim (site_cases i j) [
+seen_cases catalog W Then put i None due so j apart = inl (omega arith)
+seen_cases catalog W Then put i (Some (Own seq x)) due so j apart = elim (site_cases i j) [
   | inl same ↦ absurd (apart same.1)
   | inr other ↦ inl (rw other.0 (omega arith))
 ]
-seen_cases catalog W W2 put i (Some (Seen k m)) due so j apart = elim (site_cases k j) [
+seen_cases catalog W Then put i (Some (Seen k m)) due so j apart = elim (site_cases k j) [
   | inl same ↦
       let number : m ≡ counts W i j + 1 = due.next ∙ ap (λ z. counts W i z + 1) same.1 in
-      inr (rw same.0 (subst (λ n. AreDurableIn catalog W2 j n) number
-      (subst (λ z. AreDurableIn catalog W2 z m) same.1 so)))
+      inr (rw same.0 (subst (λ n. AreDurableIn catalog Then j n) number
+      (subst (λ z. AreDurableIn catalog Then z m) same.1 so)))
   | inr other ↦ inl (rw other.0 (omega arith))
 ]
-seen_cases catalog W W2 put i (Some rec) due so j apart = inl (omega arith)
+seen_cases catalog W Then put i (Some rec) due so j apart = inl (omega arith)
 
-module _ (catalog : Catalog) (W W2 : Stands) (put put2 : Put) (M : AreMarkedRight catalog W put) (G : HasGrown W W2)
+module _ (catalog : Catalog) (W Then : Stands) (put then_put : Put) (M : AreMarkedRight catalog W put) (G : HasGrown W Then)
     (i : SiteId) (rec : Option Record)
-    (R : IsRecorded catalog i rec W W2) (due : IfSome rec (IsDue catalog W put i))
+    (R : IsRecorded catalog i rec W Then) (due : IfSome rec (IsDue catalog W put i))
     (so : IfSome rec (IsTrueIn catalog W i)) where
-  still_true : (o : Option Record) → IfSome o (IsTrueIn catalog W i) → IfSome o (IsTrueIn catalog W2 i)
+  still_true : (o : Option Record) → IfSome o (IsTrueIn catalog W i) → IfSome o (IsTrueIn catalog Then i)
   still_true None h = tt
-  still_true (Some r) h = record_later (home catalog) (sites catalog) catalog.tolerated (owns W) (owns W2) (received W)
-      (received W2) (counts W) (counts W2) G.own G.more G.done i r h
+  still_true (Some r) h = record_later (home catalog) (sites catalog) catalog.tolerated (owns W) (owns Then) (received W)
+      (received Then) (counts W) (counts Then) G.own G.more G.done i r h
 
   durables_now : (k : SiteId)
-      → ((W2 k).knows.durable_floor ≤ (W k).knows.durable_floor) ⊎ AreDurableIn catalog W2 k (W2 k).knows.durable_floor
-  durables_now = holds_all (λ k. ((W2 k).knows.durable_floor ≤ (W k).knows.durable_floor) ⊎ AreDurableIn catalog W2 k
-      (W2 k).knows.durable_floor) i
-      (let e : (W2 i).knows.durable_floor ≡ durable_after rec (W i).knows.durable_floor = ap
+      → ((Then k).knows.durable_floor ≤ (W k).knows.durable_floor) ⊎ AreDurableIn catalog Then k (Then k).knows.durable_floor
+  durables_now = holds_all (λ k. ((Then k).knows.durable_floor ≤ (W k).knows.durable_floor) ⊎ AreDurableIn catalog Then k
+      (Then k).knows.durable_floor) i
+      (let e : (Then i).knows.durable_floor ≡ durable_after rec (W i).knows.durable_floor = ap
       (λ (K : Knowledge). K.durable_floor) R.here in
-      subst (λ d. (d ≤ (W i).knows.durable_floor) ⊎ AreDurableIn catalog W2 i d) (sym e)
-      (durable_floor_cases catalog W2 i rec (W i).knows.durable_floor (still_true rec so)))
-      (λ k apart. inl (let e : (W2 k).knows.durable_floor ≡ (W k).knows.durable_floor = ap
+      subst (λ d. (d ≤ (W i).knows.durable_floor) ⊎ AreDurableIn catalog Then i d) (sym e)
+      (durable_floor_cases catalog Then i rec (W i).knows.durable_floor (still_true rec so)))
+      (λ k apart. inl (let e : (Then k).knows.durable_floor ≡ (W k).knows.durable_floor = ap
       (λ (S : Standing). S.knows.durable_floor) (R.away k apart) in omega (arith, e)))
 
   visibles_now : (k : SiteId)
-      → ((W2 k).knows.visible_floor ≤ (W k).knows.visible_floor) ⊎ AreVisibleIn catalog W2 k (W2 k).knows.visible_floor
-  visibles_now = holds_all (λ k. ((W2 k).knows.visible_floor ≤ (W k).knows.visible_floor) ⊎ AreVisibleIn catalog W2 k
-      (W2 k).knows.visible_floor) i
-      (let e : (W2 i).knows.visible_floor ≡ visible_after rec (W i).knows.visible_floor = ap
+      → ((Then k).knows.visible_floor ≤ (W k).knows.visible_floor) ⊎ AreVisibleIn catalog Then k (Then k).knows.visible_floor
+  visibles_now = holds_all (λ k. ((Then k).knows.visible_floor ≤ (W k).knows.visible_floor) ⊎ AreVisibleIn catalog Then k
+      (Then k).knows.visible_floor) i
+      (let e : (Then i).knows.visible_floor ≡ visible_after rec (W i).knows.visible_floor = ap
       (λ (K : Knowledge). K.visible_floor) R.here in
-      subst (λ d. (d ≤ (W i).knows.visible_floor) ⊎ AreVisibleIn catalog W2 i d) (sym e)
-      (visible_floor_cases catalog W2 i rec (W i).knows.visible_floor (still_true rec so)))
-      (λ k apart. inl (let e : (W2 k).knows.visible_floor ≡ (W k).knows.visible_floor = ap
+      subst (λ d. (d ≤ (W i).knows.visible_floor) ⊎ AreVisibleIn catalog Then i d) (sym e)
+      (visible_floor_cases catalog Then i rec (W i).knows.visible_floor (still_true rec so)))
+      (λ k apart. inl (let e : (Then k).knows.visible_floor ≡ (W k).knows.visible_floor = ap
       (λ (S : Standing). S.knows.visible_floor) (R.away k apart) in omega (arith, e)))
 
   -- the journaled mark of the site is true now
-  pub floor_now : AreDurableIn catalog W2 i (W2 i).knows.durable_floor
+  pub floor_now : AreDurableIn catalog Then i (Then i).knows.durable_floor
   floor_now = elim (durables_now i) [
-    | inl low ↦ durable_in_later catalog W W2 G i (W i).knows.durable_floor (W2 i).knows.durable_floor low
+    | inl low ↦ durable_in_later catalog W Then G i (W i).knows.durable_floor (Then i).knows.durable_floor low
         (M.marked.durables i)
     | inr now ↦ now
   ]
 
-  pub marked_on : ((k j : SiteId) (packet : Packet) → put2 k j packet → put k j packet ⊎ IsSaidIn catalog W2 k j packet)
-      → ((r : Record) → (W2 i).flight ≡ Some r → ((W i).flight ≡ Some r) ⊎ IsTrueIn catalog W2 i r)
-      → ((k : SiteId) → AreDurableIn catalog W2 k ((W2 i).knows.durable k)) → AreMarkedRight catalog W2 put2
+  pub marked_on : ((k j : SiteId) (packet : Packet) → then_put k j packet → put k j packet ⊎ IsSaidIn catalog Then k j packet)
+      → ((r : Record) → (Then i).flight ≡ Some r → ((W i).flight ≡ Some r) ⊎ IsTrueIn catalog Then i r)
+      → ((k : SiteId) → AreDurableIn catalog Then k ((Then i).knows.durable k)) → AreMarkedRight catalog Then then_put
   marked_on new flight told = record {
-    marked = marked_later (home catalog) (sites catalog) catalog.tolerated (owns W) (owns W2) (received W) (received W2)
-        (counts W) (counts W2) G.own G.more G.done
-        put put2 (λ k. (W k).knows.durable_floor) (λ k. (W2 k).knows.durable_floor) (λ k. (W k).knows.visible_floor)
-        (λ k. (W2 k).knows.visible_floor)
-        (λ k. (W k).flight) (λ k. (W2 k).flight) M.marked new durables_now visibles_now
-        (holds_all (λ k. (r : Record) → (W2 k).flight ≡ Some r → ((W k).flight ≡ Some r)
-        ⊎ IsTrueIn catalog W2 k r) i flight
+    marked = marked_later (home catalog) (sites catalog) catalog.tolerated (owns W) (owns Then) (received W) (received Then)
+        (counts W) (counts Then) G.own G.more G.done
+        put then_put (λ k. (W k).knows.durable_floor) (λ k. (Then k).knows.durable_floor) (λ k. (W k).knows.visible_floor)
+        (λ k. (Then k).knows.visible_floor)
+        (λ k. (W k).flight) (λ k. (Then k).flight) M.marked new durables_now visibles_now
+        (holds_all (λ k. (r : Record) → (Then k).flight ≡ Some r → ((W k).flight ≡ Some r)
+        ⊎ IsTrueIn catalog Then k r) i flight
         (λ k apart r e. inl (sym (ap (λ (S : Standing). S.flight) (R.away k apart)) ∙ e)))
-        (holds_all (λ k. (j : SiteId) → k ≢ j → (counts W2 k j ≤ counts W k j) ⊎ AreDurableIn catalog W2 j
-        (counts W2 k j)) i
-        (λ j apart. subst (λ n. (n ≤ counts W i j) ⊎ AreDurableIn catalog W2 j n)
+        (holds_all (λ k. (j : SiteId) → k ≢ j → (counts Then k j ≤ counts W k j) ⊎ AreDurableIn catalog Then j
+        (counts Then k j)) i
+        (λ j apart. subst (λ n. (n ≤ counts W i j) ⊎ AreDurableIn catalog Then j n)
         (sym (ap (λ (K : Knowledge). K.committed j) R.here))
-        (seen_cases catalog W W2 put i rec due (still_true rec so) j apart))
-        (λ k apart j other. inl (let e : counts W2 k j ≡ counts W k j = ap (λ (S : Standing). S.knows.committed j)
+        (seen_cases catalog W Then put i rec due (still_true rec so) j apart))
+        (λ k apart j other. inl (let e : counts Then k j ≡ counts W k j = ap (λ (S : Standing). S.knows.committed j)
         (R.away k apart) in omega (arith, e))));
-    told = holds_all (λ k. (j : SiteId) → AreDurableIn catalog W2 j ((W2 k).knows.durable j)) i told
-        (λ k apart j. durable_in_later catalog W W2 G j ((W k).knows.durable j) ((W2 k).knows.durable j)
-        (let e : (W2 k).knows.durable j ≡ (W k).knows.durable j = ap (λ (S : Standing). S.knows.durable j)
+    told = holds_all (λ k. (j : SiteId) → AreDurableIn catalog Then j ((Then k).knows.durable j)) i told
+        (λ k apart j. durable_in_later catalog W Then G j ((W k).knows.durable j) ((Then k).knows.durable j)
+        (let e : (Then k).knows.durable j ≡ (W k).knows.durable j = ap (λ (S : Standing). S.knows.durable j)
         (R.away k apart) in omega (arith, e)) (M.told k j));
   }
 
 -- what a restart finds
-module _ (catalog : Catalog) (W W1 : Stands) (put : Put) (A : AreAgreed catalog W put)
+module _ (catalog : Catalog) (W Found : Stands) (put : Put) (A : AreAgreed catalog W put)
     (M : AreMarkedRight catalog W put) (i : SiteId) (alone : IsAlone catalog i (W i)) (kept : Option Record)
-    (here : W1 i ≡ settled catalog i kept (W i)) (away : (k : SiteId) → k ≢ i → W1 k ≡ W k)
+    (here : Found i ≡ settled catalog i kept (W i)) (away : (k : SiteId) → k ≢ i → Found k ≡ W k)
     (due : IfSome kept (IsDue catalog W put i))
     (flew : (r : Record) → kept ≡ Some r → (W i).flight ≡ Some r) where
   found_true : (o : Option Record) → ((r : Record) → o ≡ Some r → (W i).flight ≡ Some r)
@@ -272,14 +272,14 @@ module _ (catalog : Catalog) (W W1 : Stands) (put : Put) (A : AreAgreed catalog 
   settled_durable None k = refl
   settled_durable (Some found) k = refl
 
-  pub marked_settled : AreMarkedRight catalog W1 put
+  pub marked_settled : AreMarkedRight catalog Found put
   marked_settled =
-      let R = settled_recorded catalog W W1 put A i alone kept here away due in
-      let G = grown catalog W W1 put put A i alone kept R due in
-      marked_on catalog W W1 put put M G i kept R due (found_true kept flew) (λ k j packet p. inl p)
+      let R = settled_recorded catalog W Found put A i alone kept here away due in
+      let G = grown catalog W Found put put A i alone kept R due in
+      marked_on catalog W Found put put M G i kept R due (found_true kept flew) (λ k j packet p. inl p)
       (λ r e. inl (settled_flight kept r (sym (ap (λ (S : Standing). S.flight) here) ∙ e)))
-      (λ k. durable_in_later catalog W W1 G k ((W i).knows.durable k) ((W1 i).knows.durable k)
-      (let e : (W1 i).knows.durable k ≡ (W i).knows.durable k = ap (λ (S : Standing). S.knows.durable k) here
+      (λ k. durable_in_later catalog W Found G k ((W i).knows.durable k) ((Found i).knows.durable k)
+      (let e : (Found i).knows.durable k ≡ (W i).knows.durable k = ap (λ (S : Standing). S.knows.durable k) here
       ∙ settled_durable kept k in omega (arith, e)) (M.told i k))
 
 -- and what comes of a step
@@ -288,16 +288,16 @@ module _ (catalog : Catalog) (homes : (oid : ObjId) → (home catalog oid).0 < c
     (alone : (k : SiteId) → IsAlone catalog k (W k)) (i : SiteId) (event : Event) (came : Came)
     (step : IsStep catalog i (W i) event came)
     (delivered : (j : SiteId) (number : ℕ) (packet : Packet) → event ≡ Given (Deliver j number packet) → put j i packet)
-    (W2 : Stands) (here : W2 i ≡ stands_after catalog i (W i) event came) (away : (k : SiteId) → k ≢ i → W2 k ≡ W k)
-    (put2 : Put)
-    (puts : (j k : SiteId) (packet : Packet) → put j k packet → put2 j k packet)
-    (new : (j k : SiteId) (packet : Packet) → put2 j k packet → put j k packet ⊎
+    (Then : Stands) (here : Then i ≡ stands_after catalog i (W i) event came) (away : (k : SiteId) → k ≢ i → Then k ≡ W k)
+    (then_put : Put)
+    (puts : (j k : SiteId) (packet : Packet) → put j k packet → then_put j k packet)
+    (new : (j k : SiteId) (packet : Packet) → then_put j k packet → put j k packet ⊎
     ((j ≡ i) × Contains came.sends (k, packet))) where
-  grown_now : HasGrown W W2
-  grown_now = step_grown catalog homes W put A alone i event came step delivered W2 here away put2 puts new
+  grown_now : HasGrown W Then
+  grown_now = step_grown catalog homes W put A alone i event came step delivered Then here away then_put puts new
 
-  recorded_now : IsRecorded catalog i came.wrote W W2
-  recorded_now = step_recorded catalog homes W put A alone i event came step delivered W2 here away put2 puts new
+  recorded_now : IsRecorded catalog i came.wrote W Then
+  recorded_now = step_recorded catalog homes W put A alone i event came step delivered Then here away then_put puts new
 
   wrote_so : IfSome came.wrote (IsTrueIn catalog W i)
   wrote_so = wrote_true catalog homes W put A M i event delivered came step
@@ -309,22 +309,22 @@ module _ (catalog : Catalog) (homes : (oid : ObjId) → (home catalog oid).0 < c
   abbrev known_now : Knowledge
   known_now = after catalog i (W i).knows event came.outcome came.wrote
 
-  same_lost : lost (W2 i).knows ≡ lost known_now
+  same_lost : lost (Then i).knows ≡ lost known_now
   same_lost = recorded_now.here ∙ sym (lost_after catalog i (W i).knows event came.outcome came.wrote)
 
   -- a packet that is put out is so
   sent_true : (to : SiteId) (packet : Packet) → IsTrueOf catalog i (W i).knows event known_now to packet
-      → IsSaidIn catalog W2 i to packet
+      → IsSaidIn catalog Then i to packet
   sent_true to (Propagate seq tx) h = tt
   sent_true to (Ack got) h = subst (λ (L : Knowledge). got ≤ L.got to) (sym same_lost) h
   sent_true to (Dsmark durable) h =
-      subst (λ d. AreDurableIn catalog W2 i d) (sym h)
-      (durable_true catalog homes W2 (core_of catalog W2 put2
-      (agreed_after catalog homes W put A alone i event came step delivered W2 here away put2 puts new)) i known_now same_lost
-      (acknowledged_right catalog W W2 put put2 A grown_now puts i came.outcome event
+      subst (λ d. AreDurableIn catalog Then i d) (sym h)
+      (durable_true catalog homes Then (core_of catalog Then then_put
+      (agreed_after catalog homes W put A alone i event came step delivered Then here away then_put puts new)) i known_now same_lost
+      (acknowledged_right catalog W Then put then_put A grown_now puts i came.outcome event
       (step_taken catalog i (W i) event came step) delivered)
-      (subst (λ (L : Knowledge). AreDurableIn catalog W2 i L.durable_floor) same_lost
-      (floor_now catalog W W2 put put2 M grown_now i came.wrote recorded_now wrote_is_due wrote_so)))
+      (subst (λ (L : Knowledge). AreDurableIn catalog Then i L.durable_floor) same_lost
+      (floor_now catalog W Then put then_put M grown_now i came.wrote recorded_now wrote_is_due wrote_so)))
   sent_true to (VisibleSaid committed) h = subst (λ (L : Knowledge). committed ≤ L.committed to) (sym same_lost) h
   sent_true to (Prepare n tid start objects) h = tt
   sent_true to (Vote n answer) h = tt
@@ -334,46 +334,46 @@ module _ (catalog : Catalog) (homes : (oid : ObjId) → (home catalog oid).0 < c
   -- what a peer called durable is
   durable_heard : (outcome : Outcome) (e : Event)
       → ((j : SiteId) (number : ℕ) (packet : Packet) → e ≡ Given (Deliver j number packet) → put j i packet)
-      → (k : SiteId) → AreDurableIn catalog W2 k (said_durable_after outcome e (W i).knows.durable k)
+      → (k : SiteId) → AreDurableIn catalog Then k (said_durable_after outcome e (W i).knows.durable k)
   durable_heard Taken (Given (Deliver j number (Dsmark durable))) deliver k = elim (site_cases j k) [
     | inl it ↦
         let said : AreDurableIn catalog W j durable = M.marked.packets j i (Dsmark durable)
         (deliver j number (Dsmark durable) refl) in
-        rw it.0 (durable_mark_true (home catalog) catalog.tolerated (owns W2 k) (λ s. received W2 s k)
+        rw it.0 (durable_mark_true (home catalog) catalog.tolerated (owns Then k) (λ s. received Then s k)
         ((W i).knows.durable k) durable
-        (durable_in_later catalog W W2 grown_now k ((W i).knows.durable k) ((W i).knows.durable k) (omega arith)
+        (durable_in_later catalog W Then grown_now k ((W i).knows.durable k) ((W i).knows.durable k) (omega arith)
         (M.told i k))
-        (durable_in_later catalog W W2 grown_now k durable durable (omega arith)
+        (durable_in_later catalog W Then grown_now k durable durable (omega arith)
         (subst (λ z. AreDurableIn catalog W z durable) it.1 said)))
-    | inr other ↦ rw other.0 (durable_in_later catalog W W2 grown_now k ((W i).knows.durable k) ((W i).knows.durable k)
+    | inr other ↦ rw other.0 (durable_in_later catalog W Then grown_now k ((W i).knows.durable k) ((W i).knows.durable k)
         (omega arith) (M.told i k))
   ]
-  durable_heard outcome e deliver k = durable_in_later catalog W W2 grown_now k ((W i).knows.durable k)
+  durable_heard outcome e deliver k = durable_in_later catalog W Then grown_now k ((W i).knows.durable k)
       ((W i).knows.durable k) (omega arith) (M.told i k)
 
-  durable_told : (k : SiteId) → AreDurableIn catalog W2 k ((W2 i).knows.durable k)
+  durable_told : (k : SiteId) → AreDurableIn catalog Then k ((Then i).knows.durable k)
   durable_told k =
-      elim (goes_down event came.outcome) as (λ b. (W2 i).knows ≡ (if b then lost known_now else known_now)
-      → AreDurableIn catalog W2 k ((W2 i).knows.durable k)) [
-        | true ↦ λ is. subst (λ (L : Knowledge). AreDurableIn catalog W2 k (L.durable k)) (sym is)
+      elim (goes_down event came.outcome) as (λ b. (Then i).knows ≡ (if b then lost known_now else known_now)
+      → AreDurableIn catalog Then k ((Then i).knows.durable k)) [
+        | true ↦ λ is. subst (λ (L : Knowledge). AreDurableIn catalog Then k (L.durable k)) (sym is)
             (λ m one l. absurd (omega (arith, one, l)))
-        | false ↦ λ is. subst (λ (L : Knowledge). AreDurableIn catalog W2 k (L.durable k)) (sym is)
+        | false ↦ λ is. subst (λ (L : Knowledge). AreDurableIn catalog Then k (L.durable k)) (sym is)
             (durable_heard came.outcome event delivered k)
       ] (ap (λ (S : Standing). S.knows) here)
 
   flight_told : (o : Option Record) → IfSome o (IsTrueIn catalog W i) → (r : Record) → o ≡ Some r
-      → IsTrueIn catalog W2 i r
+      → IsTrueIn catalog Then i r
   flight_told None h r e = absurd cc
   flight_told (Some f) h r e =
-      subst (λ z. IsTrueIn catalog W2 i z) (same_Some f r e)
-      (record_later (home catalog) (sites catalog) catalog.tolerated (owns W) (owns W2) (received W) (received W2)
-      (counts W) (counts W2) grown_now.own grown_now.more grown_now.done i f h)
+      subst (λ z. IsTrueIn catalog Then i z) (same_Some f r e)
+      (record_later (home catalog) (sites catalog) catalog.tolerated (owns W) (owns Then) (received W) (received Then)
+      (counts W) (counts Then) grown_now.own grown_now.more grown_now.done i f h)
 
-  pub marked_after : AreMarkedRight catalog W2 put2
-  marked_after = marked_on catalog W W2 put put2 M grown_now i came.wrote recorded_now wrote_is_due wrote_so
+  pub marked_after : AreMarkedRight catalog Then then_put
+  marked_after = marked_on catalog W Then put then_put M grown_now i came.wrote recorded_now wrote_is_due wrote_so
       (λ k j packet p. elim (new k j packet p) [
         | inl old ↦ inl old
-        | inr sent ↦ inr (subst (λ z. IsSaidIn catalog W2 z j packet) (sym sent.0)
+        | inr sent ↦ inr (subst (λ z. IsSaidIn catalog Then z j packet) (sym sent.0)
             (sent_true j packet (sent_by catalog homes W put A alone i event came step delivered came step j packet sent.1)))
       ])
       (λ r e. elim (flight_cases came.flight came.wrote came.outcome (W i).flight r

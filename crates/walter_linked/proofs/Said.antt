@@ -148,13 +148,13 @@ module _ (catalog : Catalog) (W : Stands) (put : Put) (A : AreAgreed catalog W p
         ] one.2,
       )
 
-  module _ (W2 : Stands) (G : HasGrown W W2) (C : IsCore catalog W2) where
-    pub so_new : (event : Event) (K : Knowledge) (to : SiteId) (packet : Packet) → to ≢ i → lost (W2 i).knows ≡ lost K
+  module _ (Then : Stands) (G : HasGrown W Then) (C : IsCore catalog Then) where
+    pub so_new : (event : Event) (K : Knowledge) (to : SiteId) (packet : Packet) → to ≢ i → lost (Then i).knows ≡ lost K
         → ((j : SiteId) (number : ℕ) (packet : Packet) → event ≡ Given (Deliver j number packet) → put j i packet)
-        → IsTrueOf catalog i (W i).knows event K to packet → IsSo catalog W2 i to packet
+        → IsTrueOf catalog i (W i).knows event K to packet → IsSo catalog Then i to packet
     so_new event K to (Propagate seq tx) apart same puts h =
         let above = h.0 in
-        let held = commit_held i seq (logs W2 i) tx (ap (λ (L : Knowledge). commit_at i seq L.log) same ∙ h.1) in
+        let held = commit_held i seq (logs Then i) tx (ap (λ (L : Knowledge). commit_at i seq L.log) same ∙ h.1) in
         let number = C.numbered.own.numbered i (seq - 1) held.0 held.1 in
         let e : held.0.seq ≡ seq = omega (arith, number, above) in
         (omega (arith, above), held.1 ∙ (λ t. Some (record { seq = e t; tx = held.2 t })))
@@ -174,15 +174,15 @@ module _ (catalog : Catalog) (W : Stands) (put : Put) (A : AreAgreed catalog W p
       λ oid c. (objects_at_from catalog K to h.0.updates oid (subst (λ z. Contains z oid) h.5 c)).1,
     )
     so_new event K to (Vote n Yes) apart same puts h =
-        let lock : parts W2 i to n ≡ Locked h.0 h.1 = ap (λ (L : Knowledge). L.part to n) same ∙ h.2 in
+        let lock : parts Then i to n ≡ Locked h.0 h.1 = ap (λ (L : Knowledge). L.part to n) same ∙ h.2 in
         let held = C.locked.held i to n h.0 h.1 lock in
-        (λ e. not_unused (slows W2 to n) held.0 held.1 e, λ e. locked_not_free (parts W2 i to n) h.0 h.1 lock e)
+        (λ e. not_unused (slows Then to n) held.0 held.1 e, λ e. locked_not_free (parts Then i to n) h.0 h.1 lock e)
     so_new event K to (Vote n (No (Modified oid version))) apart same puts h =
         let over = met_over event to n (Modified oid version) apart puts h in
-        (over.0, G.begins to n over.0 over.1, over_later catalog W W2 G over.0 (Modified oid version) over.2)
+        (over.0, G.begins to n over.0 over.1, over_later catalog W Then G over.0 (Modified oid version) over.2)
     so_new event K to (Vote n (No (LockedThere oid owner))) apart same puts h =
         let over = met_over event to n (LockedThere oid owner) apart puts h in
-        (over.0, G.begins to n over.0 over.1, over_later catalog W W2 G over.0 (LockedThere oid owner) over.2)
+        (over.0, G.begins to n over.0 over.1, over_later catalog W Then G over.0 (LockedThere oid owner) over.2)
     so_new event K to (Vote n (No Dead)) apart same puts h =
         let end = C.locked.over i to n (ap (λ (L : Knowledge). L.part to n) same ∙ h) in
         (end.0, elim end.1 [ inl dropped ↦ ap begun dropped.1 | inr done ↦ ap begun done ], tt)

@@ -164,30 +164,30 @@ module _ (catalog : Catalog) (i : SiteId) (W : Stands) (put : Put) (h : List Ste
     committed_so client s seq open_ due owned_after =
         let S2 = then_ catalog i (W i) (Given (Call client (Ok CommitAsked)))
         (Replied (Committed (own_version i seq))) kept (Some (Own seq (tx_of s))) None sends dropped in
-        let W2 = at_site i S2 W in
-        let first : Spells W2 (h ++ Commit s.tid s.updates ∷ []) =
+        let Then = at_site i S2 W in
+        let first : Spells Then (h ++ Commit s.tid s.updates ∷ []) =
         owns_more S2 (suc client) s seq due open_.session refl (λ k. refl) (λ n. refl)
         (λ x g. issued_same (W i).up (W i).knows S2.knows x refl (omega arith) g)
         (λ c t now. (without_cases client c t (W i).knows.sessions now).1) refl
         (λ fast now. (without_cases client client s (W i).knows.sessions now).0 refl) in
         let r : Held = record { seq = seq; tx = tx_of s } in
         let all = G.numbered.own.counted i in
-        let here : slice_get (owns W2 i) (length (owns W i)) ≡ Some r =
+        let here : slice_get (owns Then i) (length (owns W i)) ≡ Some r =
         ap (λ (z : Standing). slice_get (of_site i z.knows.log) (length (owns W i))) (at_here W i S2)
         ∙ (ap (λ l. slice_get l (length (owns W i))) (own_log (tx_of s) seq due.site) ∙ slice_get-push (owns W i) r) in
         let version : version_of r ≡ own_version i seq = (λ t. record { site = due.site t; seq = seq }) in
         let step : Step = Told s.tid (OfVersion (version_of r)) in
-        let second : Spells W2 ((h ++ Commit s.tid s.updates ∷ []) ++ step ∷ []) =
-        one_more W2 (h ++ Commit s.tid s.updates ∷ []) step (λ x us e. absurd cc)
-        (did_tell_version (owns W2) (counts W2) (numbers W2) (held W2) (spent W2)
-        (h ++ Commit s.tid s.updates ∷ []) first.spelled i (length (owns W i)) r (held W2) owned_after here
+        let second : Spells Then ((h ++ Commit s.tid s.updates ∷ []) ++ step ∷ []) =
+        one_more Then (h ++ Commit s.tid s.updates ∷ []) step (λ x us e. absurd cc)
+        (did_tell_version (owns Then) (counts Then) (numbers Then) (held Then) (spent Then)
+        (h ++ Commit s.tid s.updates ∷ []) first.spelled i (length (owns W i)) r (held Then) owned_after here
         (λ d t has. has)) first in
         let spelled_ : answered i (W i) (Replied (Committed (own_version i seq)))
         (Given (Call client (Ok CommitAsked))) ≡ step ∷ [] =
         ap (λ o. of_session (told (own_version i seq)) o) open_.session ∙ ap (λ v. Told s.tid (OfVersion v) ∷ [])
         (sym version) in
-        subst (λ t. Spells W2 (h ++ (Commit s.tid s.updates ∷ [] ++ t))) (sym spelled_)
-        (subst (λ t. Spells W2 t) (append_assoc h (Commit s.tid s.updates ∷ []) (step ∷ [])) second)
+        subst (λ t. Spells Then (h ++ (Commit s.tid s.updates ∷ [] ++ t))) (sym spelled_)
+        (subst (λ t. Spells Then t) (append_assoc h (Commit s.tid s.updates ∷ []) (step ∷ [])) second)
 
     -- the commit of a slow one, by the last missing YES
     pub decided_so : (p : SiteId) (number n seq c : ℕ) (s : Session) → session_of (W i).knows c ≡ Some s → s.slow ≢ 0

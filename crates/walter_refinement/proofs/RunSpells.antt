@@ -197,18 +197,18 @@ module _ (catalog : Catalog) (capacity : ℕ) (homes : (oid : ObjId) → (home c
           | inr away ↦ away.1
         ]
     same_steps (Some r) found_ step =
-        let W1 = at_site n.0 (settled catalog n.0 (Some r) (stands catalog older n.0)) (stands catalog older) in
-        let still = restart_step_still catalog n.0 (W1 n.0) n.1.event n.1.came found_.restart step in
+        let Found = at_site n.0 (settled catalog n.0 (Some r) (stands catalog older n.0)) (stands catalog older) in
+        let still = restart_step_still catalog n.0 (Found n.0) n.1.event n.1.came found_.restart step in
         let quiet : (S : Standing) → answered n.0 S n.1.came.outcome n.1.event ≡ [] =
         λ S. ap (λ e. answered n.0 S n.1.came.outcome e) found_.restart in
-        (λ t. still_spells W1 n.0 n.1.came.wrote still t ++ quiet (W1 n.0) t)
+        (λ t. still_spells Found n.0 n.1.came.wrote still t ++ quiet (Found n.0) t)
         ∙ sym (λ t. still_spells (stands catalog older) n.0 n.1.came.wrote still t ++ quiet
         (stands catalog older n.0) t)
 
     entry_spells : Spells (stands catalog (n ∷ older)) (history catalog (n ∷ older))
     entry_spells =
         let i = n.0 in
-        let W1 : Stands = found catalog older n in
+        let Found : Stands = found catalog older n in
         let right = right_alone catalog capacity in
         let settles = settled_alone catalog capacity in
         let alone = found_alone catalog capacity homes right settles older n is.0 is.1 in
@@ -216,32 +216,32 @@ module _ (catalog : Catalog) (capacity : ℕ) (homes : (oid : ObjId) → (home c
         let step = next_step catalog capacity homes right settles older n is.0 is.1 in
         let first = found_spells n.1.came.kept is.1.right.kept
         (kept_due catalog capacity homes right settles older n is) in
-        let W2 : Stands = at_site i (stands_after catalog i (W1 i) n.1.event n.1.came) W1 in
-        let same : (k : SiteId) → W2 k ≡ stands catalog (n ∷ older) k =
-        λ k. elim (views W1 i (stands_after catalog i (W1 i) n.1.event n.1.came) (λ z. z) k) [
+        let Then : Stands = at_site i (stands_after catalog i (Found i) n.1.event n.1.came) Found in
+        let same : (k : SiteId) → Then k ≡ stands catalog (n ∷ older) k =
+        λ k. elim (views Found i (stands_after catalog i (Found i) n.1.event n.1.came) (λ z. z) k) [
           | inl here ↦ here.1 ∙ (sym (stands_here catalog older n) ∙ ap (λ j. stands catalog (n ∷ older) j) here.0)
           | inr away ↦ away.1 ∙ sym (stands_away catalog older n k (λ e. away.0 (sym e)))
         ] in
-        let path : W2 ≡ stands catalog (n ∷ older) = (λ t k. same k t) in
+        let path : Then ≡ stands catalog (n ∷ older) = (λ t k. same k t) in
         let all = (run_agrees catalog capacity homes right settles (n ∷ older) is).numbered.own in
-        let numbered : AreOwned (owns W2) (counts W2) = subst (λ (W : Stands). AreOwned (owns W) (counts W))
+        let numbered : AreOwned (owns Then) (counts Then) = subst (λ (W : Stands). AreOwned (owns W) (counts W))
         (sym path) all in
-        let second = step_keeps catalog i W1 (IsPut older)
+        let second = step_keeps catalog i Found (IsPut older)
         (history catalog older ++ recorded
         (stands catalog older) i n.1.came.kept) is.1.below alone G first n.1.event n.1.came step
         (wrote_due catalog capacity homes right settles older n is)
         (flight_due catalog capacity homes right settles older n is) numbered in
         let steps = same_steps n.1.came.kept is.1.right.kept step in
         let joined : (history catalog older ++ recorded (stands catalog older) i n.1.came.kept) ++
-        (recorded W1 i n.1.came.wrote ++ answered i (W1 i) n.1.came.outcome n.1.event) ≡ history catalog
+        (recorded Found i n.1.came.wrote ++ answered i (Found i) n.1.came.outcome n.1.event) ≡ history catalog
         (n ∷ older) =
         append_assoc (history catalog older) (recorded (stands catalog older) i n.1.came.kept)
-        (recorded W1 i n.1.came.wrote ++ answered i (W1 i) n.1.came.outcome n.1.event)
+        (recorded Found i n.1.came.wrote ++ answered i (Found i) n.1.came.outcome n.1.event)
         ∙ ap (λ t. history catalog older ++ (recorded (stands catalog older) i n.1.came.kept ++ t)) steps in
         subst (λ t. Spells (stands catalog (n ∷ older)) t) joined
         (subst (λ (W : Stands). Spells W
         ((history catalog older ++ recorded (stands catalog older) i n.1.came.kept) ++
-        (recorded W1 i n.1.came.wrote ++ answered i (W1 i) n.1.came.outcome n.1.event))) path second)
+        (recorded Found i n.1.came.wrote ++ answered i (Found i) n.1.came.outcome n.1.event))) path second)
 
   -- each run spells what its sites say
   pub run_spells : (run : List Named) → IsRun catalog capacity run → Spells (stands catalog run) (history catalog run)

@@ -1,10 +1,10 @@
 -- What the rules say of an input leaves a site up that is up, a fault brings it down, each stamp is later than the last,
--- and all that is to be put out can be.
-use Rattle.std.proofs.Common.{◌≡◌, ℕ, ◌<◌, true, false, List, [], ◌∷◌, Option, Result, refl, arith}
+-- all that is to be put out can be, a restart changes no debt, and each record raises the epoch by one at most.
+use Rattle.std.proofs.Common.{◌≡◌, ℕ, ◌+◌, ◌<◌, ◌≤◌, true, false, List, [], ◌∷◌, length, Option, Some, None, Result, refl, arith}
 use Rattle.walter_base.specs.declared.catalog.Catalog.{Catalog}
 use Rattle.walter_base.specs.declared.message.BadFrame.{BadFrame}
 use Rattle.walter_base.specs.declared.message.Record.{Record}
-use Rattle.walter_base.specs.declared.message.Record.TheVariants.{Own, SlowBegin}
+use Rattle.walter_base.specs.declared.message.Record.TheVariants.{Boot, Own, SlowBegin}
 use Rattle.walter_base.specs.declared.message.Reply.{Reply}
 use Rattle.walter_base.specs.declared.message.Request.{Request}
 use Rattle.walter_base.specs.declared.names.SiteId.{SiteId}
@@ -16,9 +16,12 @@ use Rattle.walter_rules.specs.declared.event.Input.TheVariants.{Call, Deliver, A
 use Rattle.walter_rules.specs.declared.outcome.Outcome.{Outcome}
 use Rattle.walter_rules.specs.declared.outcome.Outcome.TheVariants.{Replied, Passed, Down}
 use Rattle.walter_rules.specs.Allowed.{IsKind, is_refused, starts, does, reads, ends, aborts, conflicts, commits, begins, waits, tells_version, tells_cause, levels_own, is_deciding, is_running, denies, passes, receives, hears_ack, hears_durable, hears_visible, marks_durable, marks_visible, prepares, hears_yes, decides, gives_up, releases, hears_released, sees, stops, is_down, boots, IsReadCall, of_value, of_counts, of_count}
+use Rattle.walter_rules.specs.Knowledge.{Knowledge}
+use Rattle.walter_rules.specs.Learning.{recorded}
+use Rattle.walter_rules.specs.Records.{CanAllFollow, replayed}
 use Rattle.walter_rules.specs.Rule.{rule}
 use Rattle.walter_rules.specs.Sending.{Send}
-use Rattle.walter_rules.specs.Standing.{Standing, goes_down}
+use Rattle.walter_rules.specs.Standing.{Standing, goes_down, settled}
 use Rattle.walter_rules.specs.Trails.{IsPutOut, all_out, put_out, carried_one, failure, IsNextStamp}
 use Rattle.walter_rules.proofs.RulesAllowed.{rule_allowed}
 
@@ -111,3 +114,19 @@ later_next Restart last stamp is = omega (arith, is)
 pub put_all : (carried : SiteId → ℕ) (sends : List Send) → IsPutOut carried sends sends 0
 put_all carried [] = all_out carried
 put_all carried (send ∷ sends) = put_out carried send sends sends 0 (put_all (carried_one send.0 carried) sends)
+
+-- a restart that finds the record in flight changes no debt
+pub settled_gone : (catalog : Catalog) (i : SiteId) (kept : Option Record) (S : Standing) (client : ℕ)
+    → (settled catalog i kept S).gone client ≡ S.gone client
+settled_gone catalog i None S client = refl
+settled_gone catalog i (Some rec) S client = refl
+
+-- each Boot raises the epoch by one
+pub epoch_few : (catalog : Catalog) (i : SiteId) (K : Knowledge) (records : List Record) → CanAllFollow catalog i K records
+    → (replayed catalog i K records).epoch ≤ K.epoch + length records
+epoch_few catalog i K [] follow = omega arith
+epoch_few catalog i K (Boot epoch ∷ records) follow =
+    let rest = epoch_few catalog i (recorded catalog i (Some (Boot epoch)) K) records follow.1 in
+    let next = follow.0 in omega (arith, rest, next)
+epoch_few catalog i K (rec ∷ records) follow =
+    let rest = epoch_few catalog i (recorded catalog i (Some rec) K) records follow.1 in omega (arith, rest)

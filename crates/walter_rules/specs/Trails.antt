@@ -67,6 +67,10 @@ pub record IsAsRuled (S : Standing) (expected : Expected) (came : Came) : Type 0
   pub flight : came.flight ≡ None
   pub sends : IsPutOut S.carried expected.sends came.sends came.dropped
 
+-- an outcome alone: no record, and nothing put out
+abbrev pub only : Outcome → Came
+only outcome = record { outcome = outcome; kept = None; wrote = None; flight = None; sends = []; dropped = 0 }
+
 -- no record is stable, and nothing is put out
 pub record IsOnly (came : Came) (outcome : Outcome) (flight : Option Record) : Type 0 where
   pub outcome_is : came.outcome ≡ outcome

@@ -1,5 +1,6 @@
 use crate::event::Event;
 use crate::outcome::Outcome;
+use std::alloc::Global;
 use walter_base::{MaybeRecord, Sends};
 
 /// What came of an event.
@@ -16,6 +17,25 @@ pub struct Came {
     pub sends: Sends,
     /// How many packets found no place on their lane, and were lost there.
     pub dropped: u64,
+}
+
+impl Came {
+    ghost use Rattle.std.specs.Prelude.{◌≡◌};
+    ghost use Rattle.walter_rules.specs.Trails.{only};
+
+    /// An outcome alone: no record, and nothing put out.
+    pub fn only(alloc: Global, outcome: Outcome) -> Came
+        ensures { result ≡ only outcome }
+    {
+        Came {
+            outcome,
+            kept: MaybeRecord::none(),
+            wrote: MaybeRecord::none(),
+            flight: MaybeRecord::none(),
+            sends: Sends::from(Vec::new(alloc)),
+            dropped: 0,
+        }
+    }
 }
 
 /// One thing that happened at a site.

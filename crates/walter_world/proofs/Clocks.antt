@@ -15,14 +15,14 @@ use Rattle.walter_rules.specs.declared.event.Event.{Event}
 use Rattle.walter_rules.specs.declared.outcome.Outcome.{Outcome}
 use Rattle.walter_rules.specs.declared.outcome.Outcome.TheVariants.{Full}
 use Rattle.walter_rules.specs.Knowledge.{Knowledge, fresh}
-use Rattle.walter_rules.specs.Learning.{recorded, epoch_after}
+use Rattle.walter_rules.specs.Learning.{epoch_after}
 use Rattle.walter_rules.specs.Merges.{Stamped, sent_to, put_out_to}
-use Rattle.walter_rules.specs.Records.{CanFollow, CanAllFollow, replayed}
+use Rattle.walter_rules.specs.Records.{CanFollow, replayed}
 use Rattle.walter_rules.specs.Sending.{Send}
 use Rattle.walter_rules.specs.Standing.{Standing, records_after, settled, flight_after}
 use Rattle.walter_rules.specs.Trails.{standing, clock, AreRight, IsFound, Comes, ruled, met_fault, unread, no_memory, full}
 use Rattle.walter_rules.proofs.Membership.{given_from}
-use Rattle.walter_rules.proofs.Staying.{later_next}
+use Rattle.walter_rules.proofs.Staying.{later_next, epoch_few}
 use Rattle.walter_alone.specs.Journaled.{IsJournaled}
 use Rattle.walter_alone.proofs.TrailJournaled.{right_journaled}
 
@@ -73,15 +73,6 @@ put_later catalog capacity i to trail place st right at =
     omega (arith, is, low)
 
 -- ---- epochs
-
-epoch_few : (catalog : Catalog) (i : SiteId) (K : Knowledge) (records : List Record) → CanAllFollow catalog i K records
-    → (replayed catalog i K records).epoch ≤ K.epoch + length records
-epoch_few catalog i K [] follow = omega arith
-epoch_few catalog i K (Boot epoch ∷ records) follow =
-    let rest = epoch_few catalog i (recorded catalog i (Some (Boot epoch)) K) records follow.1 in
-    let next = follow.0 in omega (arith, rest, next)
-epoch_few catalog i K (rec ∷ records) follow =
-    let rest = epoch_few catalog i (recorded catalog i (Some rec) K) records follow.1 in omega (arith, rest)
 
 epoch_next : (catalog : Catalog) (i : SiteId) (K : Knowledge) (rec : Record) → CanFollow catalog i K rec
     → epoch_after (Some rec) K.epoch ≤ K.epoch + 1

@@ -27,7 +27,7 @@ use Rattle.walter_rules.specs.Records.{IsRecordAmong}
 use Rattle.walter_rules.specs.Rule.{rule, given_rule, given_down, rule_where}
 use Rattle.walter_rules.specs.Sessions.{Sessions, session_in}
 use Rattle.walter_rules.specs.Standing.{Standing, stands_after, goes_down, told, owed}
-use Rattle.walter_rules.specs.Trails.{failure}
+use Rattle.walter_rules.specs.Trails.{failure, only}
 use Rattle.walter_session.specs.Sessions.{Table, sessions_of}
 use Rattle.walter_site.specs.declared.plan.Plan.{Plan}
 use Rattle.walter_site.specs.Members.{Knows, IsSizedPacket, input_rule}
@@ -41,7 +41,7 @@ use Rattle.walter_world.specs.declared.events.Fate.TheVariants.{Fine, Broken}
 use Rattle.walter_world.specs.declared.taking.Effect.{Effect}
 use Rattle.walter_world.specs.Comings.{found_by, came_stable, came_broken, came_by, breaks}
 use Rattle.walter_world.specs.Debts.{owed_after, IsOwed, gone_first}
-use Rattle.walter_world.specs.Plans.{only, fallen, told_by, came_of, IsLost, IsPrepared}
+use Rattle.walter_world.specs.Plans.{fallen, told_by, came_of, IsLost, IsPrepared}
 use Rattle.walter_world.specs.Seats.{IsUpWith, MayFind, IsSizedCame, HasCome}
 use Rattle.walter_rules.proofs.Staying.{rule_stays, fault_falls}
 

@@ -22,7 +22,8 @@ use Rattle.walter_rules.specs.Records.{CanFollow, CanAllFollow, IsRecordAmong, r
 use Rattle.walter_rules.specs.Rule.{rule, stop_rule, restart_rule}
 use Rattle.walter_rules.specs.Sessions.{Sessions, session_in}
 use Rattle.walter_rules.specs.Standing.{Standing, records_after, settled, flight_after, stands_after, owed}
-use Rattle.walter_rules.specs.Trails.{standing, AreRight}
+use Rattle.walter_rules.specs.Trails.{standing, AreRight, only}
+use Rattle.walter_rules.proofs.Staying.{settled_gone}
 use Rattle.walter_session.specs.Sessions.{Table, sessions_of}
 use Rattle.walter_site.specs.Members.{IsSizedPacket}
 use Rattle.walter_site.proofs.Booted.{knows_booted}
@@ -33,7 +34,6 @@ use Rattle.walter_world.specs.declared.events.Fate.{Fate}
 use Rattle.walter_world.specs.declared.events.Fate.TheVariants.{Fine, Broken}
 use Rattle.walter_world.specs.declared.taking.Effect.{Effect}
 use Rattle.walter_world.specs.Comings.{came_by, came_broken, came_stable, found_by}
-use Rattle.walter_world.specs.Plans.{only}
 use Rattle.walter_world.specs.Records.{one_of, records_of, flight_settled}
 use Rattle.walter_world.specs.Seats.{IsDownWith, IsUpWith, IsState, IsSizedCame, HasCome}
 use Rattle.walter_world.proofs.Clocks.{found_which}
@@ -142,11 +142,6 @@ stopped_already catalog i S fate down =
 settled_up : (catalog : Catalog) (i : SiteId) (kept : Option Record) (S : Standing) → (settled catalog i kept S).up ≡ S.up
 settled_up catalog i None S = refl
 settled_up catalog i (Some rec) S = refl
-
-settled_gone : (catalog : Catalog) (i : SiteId) (kept : Option Record) (S : Standing) (client : ℕ)
-    → (settled catalog i kept S).gone client ≡ S.gone client
-settled_gone catalog i None S client = refl
-settled_gone catalog i (Some rec) S client = refl
 
 settled_sessions : (catalog : Catalog) (i : SiteId) (kept : Option Record) (S : Standing)
     → (settled catalog i kept S).knows.sessions ≡ S.knows.sessions

@@ -1,5 +1,5 @@
 -- What is made ready for an input at a site that is up, and what a fault takes from it.
-use Rattle.std.specs.Prelude.{◌≡◌, [], Option, Some, None, IfSome, All}
+use Rattle.std.specs.Prelude.{◌≡◌, Option, Some, None, IfSome, All}
 use Rattle.walter_base.specs.declared.message.Record.{Record}
 use Rattle.walter_base.specs.declared.message.Reply.TheVariants.{Unsure}
 use Rattle.walter_rules.specs.declared.entry.Came.{Came}
@@ -11,7 +11,7 @@ use Rattle.walter_rules.specs.declared.outcome.Outcome.TheVariants.{Replied, Fai
 use Rattle.walter_rules.specs.Knowledge.{Knowledge}
 use Rattle.walter_rules.specs.Records.{IsRecordAmong}
 use Rattle.walter_rules.specs.Sessions.{Sessions}
-use Rattle.walter_rules.specs.Trails.{failure}
+use Rattle.walter_rules.specs.Trails.{only, failure}
 use Rattle.walter_session.specs.Sessions.{sessions_of}
 use Rattle.walter_site.specs.declared.plan.Plan.{Plan}
 use Rattle.walter_site.specs.Members.{Knows, IsSizedPacket, input_rule}
@@ -21,10 +21,6 @@ use Rattle.walter_tables.specs.Planning.{expected_of}
 use Rattle.walter_tables.specs.Sites.{site_of, catalog_of}
 use Rattle.walter_world.specs.declared.debts.DebtChange.{DebtChange}
 use Rattle.walter_world.specs.declared.debts.DebtChange.TheVariants.{Lost, Told}
-
--- an outcome alone: no record, and nothing put out
-abbrev pub only : Outcome → Came
-only outcome = record { outcome = outcome; kept = None; wrote = None; flight = None; sends = []; dropped = 0 }
 
 -- the record that was met by a fault is in flight
 abbrev pub fallen : Input → Record → Came

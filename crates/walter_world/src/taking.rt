@@ -12,14 +12,14 @@ ghost use Rattle.walter_rules.specs.Knowledge.{Knowledge};
 ghost use Rattle.walter_rules.specs.Learning.{after};
 ghost use Rattle.walter_rules.specs.Rule.{given_down};
 ghost use Rattle.walter_rules.specs.Standing.{Standing};
-ghost use Rattle.walter_rules.specs.Trails.{standing, clock, failure, AreRight};
+ghost use Rattle.walter_rules.specs.Trails.{standing, clock, failure, AreRight, only};
 ghost use Rattle.walter_session.specs.Sessions.{sessions_of};
 ghost use Rattle.walter_site.specs.Members.{Knows, IsStanding, IsSizedInput};
 ghost use Rattle.walter_tables.specs.Sites.{values_of, site_of, catalog_of, Stands};
 ghost use Rattle.walter_world.specs.declared.events.Fate.{Fate as Fated};
 ghost use Rattle.walter_world.specs.Comings.{breaks, found_by};
 ghost use Rattle.walter_world.specs.Debts.{IsOwed};
-ghost use Rattle.walter_world.specs.Plans.{only, fallen, told_by, came_of, IsFall, IsLost, IsPrepared};
+ghost use Rattle.walter_world.specs.Plans.{fallen, told_by, came_of, IsFall, IsLost, IsPrepared};
 ghost use Rattle.walter_world.specs.Seats.{IsDownWith, IsState, IsSizedCame, HasCome};
 
 use crate::debts::{DebtChange, gone_first};
@@ -49,26 +49,12 @@ struct Prepared {
     rec: MaybeRecord,
 }
 
-/// An outcome alone: no record, and nothing put out.
-pub(crate) fn only(alloc: Global, outcome: Outcome) -> Came
-    ensures { result ≡ only outcome }
-{
-    Came {
-        outcome,
-        kept: MaybeRecord::none(),
-        wrote: MaybeRecord::none(),
-        flight: MaybeRecord::none(),
-        sends: Sends::from(Vec::new(alloc)),
-        dropped: 0,
-    }
-}
-
 fn alone(alloc: Global, outcome: Outcome) -> Effect
     ensures came { result.came ≡ only outcome }
     ensures debt { result.debt ≡ None }
 {
     Effect {
-        came: only(alloc, outcome),
+        came: Came::only(alloc, outcome),
         debt: None,
     }
 }
@@ -138,7 +124,7 @@ fn tell(alloc: Global, input: &Input, tid: Tid) -> Effect
         _ => None,
     };
     Effect {
-        came: only(
+        came: Came::only(
             alloc,
             Outcome::Replied(Reply::Refused(Refusal::Gone { tid })),
         ),
@@ -190,7 +176,7 @@ fn follow(alloc: Global, site: &mut Site, input: &Input, plan: Plan, rec: MaybeR
         came: Came {
             wrote: rec,
             sends,
-            ..only(alloc, outcome)
+            ..Came::only(alloc, outcome)
         },
         debt: None,
     }
@@ -209,7 +195,7 @@ fn fall(alloc: Global, site: Site, input: &Input, rec: MaybeRecord) -> Effect
     Effect {
         came: Came {
             flight: rec,
-            ..only(alloc, outcome)
+            ..Came::only(alloc, outcome)
         },
         debt: Some(DebtChange::Lost(lost)),
     }
@@ -248,7 +234,7 @@ pub(crate) fn stop(alloc: Global, state: &mut Option<Site>) -> Effect
 {
     match mem::replace(state, None) {
         Some(site) => Effect {
-            came: only(alloc, Outcome::Taken),
+            came: Came::only(alloc, Outcome::Taken),
             debt: Some(DebtChange::Lost(site.into_sessions())),
         },
         None => alone(alloc, Outcome::Down),
@@ -376,7 +362,7 @@ fn rise(
             kept,
             wrote,
             flight,
-            ..only(alloc, outcome)
+            ..Came::only(alloc, outcome)
         },
         debt: None,
     }

@@ -1,11 +1,11 @@
 use Rattle.std.proofs.Common.{◌≡◌, true, false, Option, sym, ◌∙◌, subst}
 use Rattle.walter_engine.specs.Engines.{catalog_in, site_in, capacity_in, is_up, Stands}
-use Rattle.walter_engine.specs.Steps.{only}
 use Rattle.walter_rules.specs.declared.entry.Came.{Came}
 use Rattle.walter_rules.specs.declared.event.Event.{Event}
 use Rattle.walter_rules.specs.declared.event.Event.TheVariants.{Stop, Restart}
 use Rattle.walter_rules.specs.declared.outcome.Outcome.TheVariants.{Taken, Passed}
 use Rattle.walter_rules.specs.Standing.{stands_after}
+use Rattle.walter_rules.specs.Trails.{only}
 use Rattle.walter_session.specs.Sessions.{Table}
 use Rattle.walter_cell.specs.Debts.{IsDebt, IsDebtOf}
 use Rattle.walter_cell.specs.Handled.{HasCome}

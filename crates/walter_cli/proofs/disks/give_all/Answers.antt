@@ -1,8 +1,8 @@
-use Rattle.std.proofs.Common.{◌≡◌, ◌+◌, ◌<◌, ◌≤◌, ◌++◌, ◌∷◌, [], ℕ, List, length, Some, option_map, refl, ap, sym, ◌∙◌, subst, arith, false, true}
+use Rattle.std.proofs.Common.{◌≡◌, ◌++◌, ◌∷◌, [], ℕ, length, option_map, refl, ap, sym, ◌∙◌, subst, arith}
 use Rattle.std.specs.Prelude.{Result, OnOk, IfErr}
 use Rattle.std.specs.Result.{is_err}
 use Rattle.std.proofs.lemmas.List.{length-append}
-use Rattle.walter_cli.specs.Disks.{AreGiven, IsFirstLost, lost_after}
+use Rattle.walter_cli.specs.Disks.{IsFirstLost, lost_after}
 use Rattle.walter_cli.specs.Racks.{RackAt}
 use Rattle.walter_cli.proofs.Racking.{given_none, given_more, lost_more}
 use Rattle.walter_cli.proofs.disks.give_all.Goals as goal

@@ -1,7 +1,6 @@
 use Rattle.std.proofs.Common.{◌≡◌, length}
 use Rattle.std.specs.Prelude.{OnOk, IfErr}
 use Rattle.walter_cli.specs.Disks.{AreGiven, IsFirstLost}
-use Rattle.walter_cli.specs.Racks.{RackAt}
 use Rattle.walter_cli.proofs.disks.give_all.Given as goal
 
 abbrev pub invariant-loop-disk : goal.invariant-loop-disk

@@ -1,4 +1,4 @@
-use Rattle.std.proofs.Common.{◌≡◌, ◌+◌, ◌<◌, ◌≤◌, ◌++◌, ◌∷◌, [], ℕ, List, length, Some, None, refl, ap, sym, ◌∙◌, subst, arith, inl}
+use Rattle.std.proofs.Common.{◌≡◌, ◌+◌, ◌<◌, ◌∷◌, [], ℕ, List, length, None, refl, ap, sym, ◌∙◌, subst, arith, inl}
 use Rattle.std.specs.Prelude.{IfSome}
 use Rattle.std.proofs.lemmas.List.{length-append}
 use Rattle.walter_cli.specs.Disks.{AreTaken}
@@ -6,7 +6,7 @@ use Rattle.walter_cli.specs.Racks.{RackAt}
 use Rattle.walter_cli.specs.declared.ended.Fault.TheVariants.{Memory, Rack}
 use Rattle.walter_cli.proofs.Early.{ends_before, ends_early}
 use Rattle.walter_cli.proofs.Giving.{IsReturned, took_all, lacks_behind}
-use Rattle.walter_cli.proofs.Racking.{taken_none, taken_more, left_alone, err_never}
+use Rattle.walter_cli.proofs.Racking.{taken_more, left_alone, err_never}
 use Rattle.walter_cli.proofs.disks.take_all.Goals as goal
 
 pub returns-in_default-clause-fault : goal.returns-in_default-clause-fault

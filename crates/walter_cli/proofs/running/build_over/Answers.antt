@@ -1,4 +1,4 @@
-use Rattle.std.proofs.Common.{◌≡◌, ◌≤◌, ℕ, List, length, slice_get, Some, sym, subst, arith, refl}
+use Rattle.std.proofs.Common.{List, sym, subst, arith, refl}
 use Rattle.walter_cluster.specs.Builds.{AreUnread}
 use Rattle.walter_engine.specs.Begins.{HasNoRecord}
 use Rattle.walter_scenario.specs.declared.scenario.Client.{Client}

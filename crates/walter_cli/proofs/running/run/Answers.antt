@@ -1,4 +1,4 @@
-use Rattle.std.proofs.Common.{ℕ, ◌≡◌, ◌≤◌, ◌<◌, List, Option, Some, None, Vec, Global, false, true, length, inl, inr, subst, ap, sym, refl, ◌∙◌, arith}
+use Rattle.std.proofs.Common.{◌≡◌, ◌≤◌, List, Some, None, Vec, Global, false, inr, subst, ap, sym, refl, ◌∙◌, arith}
 use Rattle.std.specs.Result.{is_err}
 use Rattle.walter_report.specs.Reports.{HaveFrames}
 use Rattle.walter_report.specs.Traces.{HaveSpellings}

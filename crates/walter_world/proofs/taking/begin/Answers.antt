@@ -4,10 +4,10 @@ use Rattle.walter_base.specs.declared.message.Record.TheVariants.{Boot}
 use Rattle.walter_rules.specs.declared.outcome.Outcome.TheVariants.{Taken, Failed}
 use Rattle.walter_rules.specs.Learning.{recorded}
 use Rattle.walter_rules.specs.Standing.{settled}
+use Rattle.walter_rules.specs.Trails.{only}
 use Rattle.walter_site.proofs.Booted.{knows_booted}
 use Rattle.walter_tables.specs.declared.tables.Tables.{Tables}
 use Rattle.walter_tables.specs.Sites.{site_of, catalog_of, Stands}
-use Rattle.walter_world.specs.Plans.{only}
 use Rattle.walter_world.proofs.Restarting.{has_risen, has_failed}
 use Rattle.walter_world.proofs.taking.begin.Goals as goal
 
