@@ -17,6 +17,7 @@ use Rattle.walter_cell.specs.Cells.{IsKnown, IsLineAt, HasPlace, MovesTo, arriva
 use Rattle.walter_cell.specs.Entries.{Grows, IsSpent}
 use Rattle.walter_cell.specs.Handled.{IsSized}
 use Rattle.walter_cell.specs.Nodes.{MayDrop}
+use Rattle.walter_cell.specs.Written.{AreWrittenAt}
 use Rattle.walter_disk.specs.declared.disk.Disk.{Ghosts}
 use Rattle.walter_lane.specs.Lanes.{Sending, Receiving}
 use Rattle.walter_lane.specs.declared.posted.Posted.{Posted}
@@ -36,7 +37,7 @@ use Rattle.walter_scenario.specs.declared.scenario.Scenario.{Scenario}
 use Rattle.walter_stream.specs.declared.sink.Sink.{Ghosts as SinkGhosts}
 use Rattle.walter_stream.specs.declared.source.Source.{Ghosts as SourceGhosts}
 use Rattle.walter_trail.specs.Calls.{calls_of}
-use Rattle.walter_cluster.specs.Benches.{IsOfSite, trails_of, AtEach, IsCellOf, AreConnected}
+use Rattle.walter_cluster.specs.Benches.{IsOfSite, trails_of, AtEach, IsCellOf, AreConnected, AreAnswered}
 use Rattle.walter_cluster.specs.Meetings.{arrived_at, HaveAllMet, HaveStayed, HasStayed, HasArrived, IsAsBefore}
 use Rattle.walter_cluster.specs.Moments.{moment_of, clock_at, ChangesAt, AllArrive, put_out_as, HandsOver, MovesAt, Drops, arrives as moves_after}
 use Rattle.walter_cluster.proofs.Changes.{there_is, field_at, field_past, ChangesOne}
@@ -112,6 +113,14 @@ module _ {D S K : Type 0} {g : Ghosts D} {s : SourceGhosts S} {k : SinkGhosts K}
       (sym (ap (λ v. calls_of number v.items) stay.node.entries))
       (w.0, ap (λ v. slice_get v.items number) stay.lines ∙ w.1, w.2)
 
+  answer_stays : (t : Scenario) (before : ℕ → List ℕ) (i : SiteId) (a b : Cell D S K g s k) → HasStayed a b
+      → AreAnswered t before i a → AreAnswered t before i b
+  answer_stays t before i a b stay are number client at here =
+      let w = are number client at here in
+      subst (λ es. AreWrittenAt {S = S} {K = K} {s = s} {k = k} (before number) number es b.lines.items)
+      (sym (ap (λ v. v.items) stay.node.entries))
+      (w.0, ap (λ v. slice_get v.items number) stay.lines ∙ w.1, w.2)
+
   module _ (t : Scenario) (old mid : List (Cell D S K g s k)) (stay : HaveStayed old mid) where
     each_stays : (P : SiteId → Cell D S K g s k → Type 0) → ((i : SiteId) (a b : Cell D S K g s k) → HasStayed a b → P i a → P i b)
         → AtEach old P → AtEach mid P
@@ -131,6 +140,10 @@ module _ {D S K : Type 0} {g : Ghosts D} {s : SourceGhosts S} {k : SinkGhosts K}
 
     pub connected_stays : AtEach old (λ i c. AreConnected t i c) → AtEach mid (λ i c. AreConnected t i c)
     connected_stays all = each_stays (λ i c. AreConnected t i c) (line_stays t) all
+
+    pub answered_stays : (before : ℕ → List ℕ) → AtEach old (λ i c. AreAnswered t before i c)
+        → AtEach mid (λ i c. AreAnswered t before i c)
+    answered_stays before all = each_stays (λ i c. AreAnswered t before i c) (answer_stays t before) all
 
     pub known_stays : (j : ℕ) → ((c : Cell D S K g s k) → slice_get old j ≡ Some c → IsKnown t.catalog t.capacity (site_at j) c)
         → (c : Cell D S K g s k) → slice_get mid j ≡ Some c → IsKnown t.catalog t.capacity (site_at j) c

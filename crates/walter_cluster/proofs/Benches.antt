@@ -15,9 +15,11 @@ use Rattle.walter_cell.specs.declared.answers.Moved.{Moved}
 use Rattle.walter_cell.specs.declared.answers.Moved.TheVariants as moved
 use Rattle.walter_cell.specs.declared.answers.Serve.{Serve}
 use Rattle.walter_cell.specs.declared.cell.Cell.{Cell}
-use Rattle.walter_cell.specs.Cells.{IsCell, IsKnown, IsSameCell, IsLineAt, HasFaultAt, OfLine, TurnsTo, Acts, MovesTo}
+use Rattle.walter_cell.specs.Cells.{IsCell, IsKnown, IsSameCell, IsLine, IsLineAt, HasFaultAt, OfLine, TurnsTo, Acts, MovesTo}
 use Rattle.walter_cell.specs.Entries.{Grows}
 use Rattle.walter_cell.specs.Nodes.{MayDrop}
+use Rattle.walter_cell.specs.Written.{framed_for, replies_to, AreWritten, AreWrittenAt}
+use Rattle.walter_conn.specs.Connections.{incoming, sink_of}
 use Rattle.walter_conn.specs.Frames.{Call}
 use Rattle.walter_conn.specs.declared.conn.Conn.{Conn}
 use Rattle.walter_disk.specs.declared.disk.Disk.{Ghosts}
@@ -33,6 +35,7 @@ use Rattle.walter_rules.specs.declared.entry.Entry.{Entry}
 use Rattle.walter_rules.specs.declared.event.Event.{Event}
 use Rattle.walter_rules.specs.declared.event.Event.TheVariants.{Given, Stop, Restart}
 use Rattle.walter_rules.specs.declared.event.Input.TheVariants.{Call as CallInput, Deliver, Advance, Tick}
+use Rattle.walter_rules.specs.declared.outcome.Outcome.{Outcome}
 use Rattle.walter_rules.specs.Knowledge.{site_at}
 use Rattle.walter_rules.specs.Merges.{trail_of}
 use Rattle.walter_rules.specs.Trails.{clock}
@@ -42,7 +45,7 @@ use Rattle.walter_stream.specs.declared.sink.Sink.{Ghosts as SinkGhosts}
 use Rattle.walter_stream.specs.declared.source.Source.{Ghosts as SourceGhosts}
 use Rattle.walter_trail.specs.Calls.{call_by, calls_of}
 use Rattle.walter_cluster.specs.declared.bench.Bench.{Bench}
-use Rattle.walter_cluster.specs.Benches.{IsOfSite, arms_under, trails_of, outs_at, ins_at, lines_at, arms_at, AtEach, IsCellOf, AreConnected, IsBench}
+use Rattle.walter_cluster.specs.Benches.{IsOfSite, arms_under, trails_of, outs_at, ins_at, lines_at, arms_at, AtEach, IsCellOf, AreConnected, AreAnswered, IsBench}
 use Rattle.walter_cluster.specs.Meetings.{HaveAllMet, HaveLanes}
 use Rattle.walter_cluster.specs.Moments.{Moment, moment_of, clock_at, ChangesAt, NoneArrive, Drops, TurnsAt, ActsAt}
 use Rattle.walter_cluster.proofs.Changes.{one_there, there_is, field_at, ChangesOne, one_set, reads_same, others_same, field_kept}
@@ -91,6 +94,29 @@ whose_grown clients i old new ev of grows all =
     subst (λ es. All (λ (e : Entry). IsOfSite clients i e.event) es) (sym grows.1)
     (All-push (λ (e : Entry). IsOfSite clients i e.event) old grows.0 all (subst (λ (v : Event). IsOfSite clients i v) (sym grows.2) of))
 
+replies_none : (ev : Event) → IsNoCall ev → (client : ℕ) (outcome : Outcome) → framed_for client ev outcome ≡ []
+replies_none (Given (CallInput c call)) none client outcome = absurd none
+replies_none (Given (Deliver from number packet)) none client outcome = refl
+replies_none (Given (Advance from)) none client outcome = refl
+replies_none (Given Tick) none client outcome = refl
+replies_none Stop none client outcome = refl
+replies_none Restart none client outcome = refl
+
+replies_grown : (client : ℕ) (old new : List Entry) (ev : Event) → ((outcome : Outcome) → framed_for client ev outcome ≡ [])
+    → Grows ev old new → replies_to client new ≡ replies_to client old
+replies_grown client old new ev none grows =
+    let e : Entry = grows.0 in
+    let framed : List (List ℕ) = framed_for client e.event e.came.outcome in
+    ap (λ es. replies_to client es) grows.1
+    ∙ (flat_map-append (λ (z : Entry). framed_for client z.event z.came.outcome) old (e ∷ [])
+    ∙ (ap (λ xs. replies_to client old ++ xs)
+    (append-nil framed ∙ (ap (λ v. framed_for client v e.came.outcome) grows.2 ∙ none e.came.outcome))
+    ∙ append-nil (replies_to client old)))
+
+replies_quiet : (client : ℕ) (old new : List Entry) → GrowsQuietly old new → replies_to client new ≡ replies_to client old
+replies_quiet client old new (inl same) = ap (λ es. replies_to client es) same
+replies_quiet client old new (inr more) = replies_grown client old new more.0 (replies_none more.0 more.1 client) more.2
+
 pub calls_quiet : (client : ℕ) (old new : List Entry) → GrowsQuietly old new → calls_of client new ≡ calls_of client old
 calls_quiet client old new (inl same) = ap (λ es. calls_of client es) same
 calls_quiet client old new (inr more) = calls_grown client old new more.0 (called_none more.0 more.1 client) more.2
@@ -133,6 +159,16 @@ calls_of_others client number old new apart (inr more) =
   where
     not_picked : (n m : ℕ) (call : Call) → n ≢ m → call_by m (Given (CallInput n call)) ≡ []
     not_picked n m call apart = rw (ne_eqb n m apart) refl
+
+replies_of_others : (client number : ℕ) (old new : List Entry) → client ≢ number → GrowsByCall number old new
+    → replies_to client new ≡ replies_to client old
+replies_of_others client number old new apart (inl same) = ap (λ es. replies_to client es) same
+replies_of_others client number old new apart (inr more) =
+    replies_grown client old new (Given (CallInput number more.0))
+    (λ outcome. not_framed number client more.0 outcome (λ e. apart (sym e))) more.1
+  where
+    not_framed : (n m : ℕ) (call : Call) (outcome : Outcome) → n ≢ m → framed_for m (Given (CallInput n call)) outcome ≡ []
+    not_framed n m call outcome apart = rw (ne_eqb n m apart) refl
 
 whose_called : (clients : List Client) (i : SiteId) (number : ℕ) (old new : List Entry) (client : Client) → slice_get clients number ≡ Some client → client.site ≡ i
     → GrowsByCall number old new
@@ -372,6 +408,11 @@ module _ {D S K : Type 0} {g : Ghosts D} {s : SourceGhosts S} {k : SinkGhosts K}
         (subst (λ (es : List Entry). MayDrop catalog i (met_to a.node.outs.items) es (trail_of (trails_of new) i)) (sym trail_was)
         (subst (λ (es : List Entry). MayDrop catalog i (met_to a.node.outs.items) a.node.entries.items es) (sym trail_now) drops))
 
+  -- P holds of the connection of each client of the site, by the trail
+  abbrev AreLines : (ℕ → Client → List Entry → Conn S K s k → Type 0) → Scenario → SiteId → Cell D S K g s k → Type 0
+  AreLines P t i cell = (number : ℕ) (client : Client) → slice_get t.clients number ≡ Some client → client.site ≡ i
+      → OfLine cell.lines.items number (λ line. P number client cell.node.entries.items line)
+
   -- ---- a call that brings no call of a client
 
   module _ (t : Scenario) (i : SiteId) (a x : Cell D S K g s k) (same : IsSameCell a x) (lines : x.lines ≡ a.lines)
@@ -386,12 +427,24 @@ module _ {D S K : Type 0} {g : Ghosts D} {s : SourceGhosts S} {k : SinkGhosts K}
       whose_calls = whose_quiet t.clients i a.node.entries.items x.node.entries.items grows is.whose_calls;
     }
 
-    pub connected_quiet : AreConnected t i a → AreConnected t i x
-    connected_quiet are number client at here =
+    -- what the trail's growth leaves true of a connection, stays so of each
+    lines_quiet : (P : ℕ → Client → List Entry → Conn S K s k → Type 0)
+        → ((number : ℕ) (client : Client) (line : Conn S K s k) → P number client a.node.entries.items line
+        → P number client x.node.entries.items line) → AreLines P t i a → AreLines P t i x
+    lines_quiet P stays are number client at here =
         let w = are number client at here in
-        subst (λ calls. IsLineAt {S = S} {K = K} {s = s} {k = k} client.bytes calls x.lines.items number)
-        (sym (calls_quiet number a.node.entries.items x.node.entries.items grows))
-        (w.0, ap (λ v. slice_get v.items number) lines ∙ w.1, w.2)
+        (w.0, ap (λ v. slice_get v.items number) lines ∙ w.1, stays number client w.0 w.2)
+
+    pub connected_quiet : AreConnected t i a → AreConnected t i x
+    connected_quiet = lines_quiet (λ number client trail line. IsLine client.bytes (calls_of number trail) line)
+        (λ number client line is. subst (λ calls. IsLine client.bytes calls line)
+        (sym (calls_quiet number a.node.entries.items x.node.entries.items grows)) is)
+
+    pub answered_quiet : (before : ℕ → List ℕ) → AreAnswered t before i a → AreAnswered t before i x
+    answered_quiet before =
+        lines_quiet (λ number client trail line. AreWritten k (before number) (replies_to number trail) (incoming line).state (sink_of line))
+        (λ number client line is. subst (λ replies. AreWritten k (before number) replies (incoming line).state (sink_of line))
+        (sym (replies_quiet number a.node.entries.items x.node.entries.items grows)) is)
 
   -- ---- a client's turn
 
@@ -412,21 +465,39 @@ module _ {D S K : Type 0} {g : Ghosts D} {s : SourceGhosts S} {k : SinkGhosts K}
       whose_calls = whose_called t.clients i number a.node.entries.items x.node.entries.items client at home comes is.whose_calls;
     }
 
+    -- what the turn leaves true of its client's connection, and the trail's growth of another one
+    lines_served : (P : ℕ → Client → List Entry → Conn S K s k → Type 0)
+        → ((one : Client) → OfLine a.lines.items number (λ line. P number one a.node.entries.items line)
+        → OfLine x.lines.items number (λ line. P number one x.node.entries.items line))
+        → ((other : ℕ) (one : Client) (line : Conn S K s k) → other ≢ number → P other one a.node.entries.items line
+        → P other one x.node.entries.items line) → AreLines P t i a → AreLines P t i x
+    lines_served P own stays are other one found here = elim (cases_eq other number) [
+      | inl same_number ↦
+          let found_here = ap (slice_get t.clients) (sym same_number) ∙ found in
+          subst (λ (n : ℕ). OfLine {S = S} {K = K} {s = s} {k = k} x.lines.items n (λ line. P n one x.node.entries.items line))
+          (sym same_number) (own one (are number one found_here here))
+      | inr apart ↦
+          let w = are other one found here in (w.0, others other apart ∙ w.1, stays other one w.0 apart w.2)
+    ]
+
     pub connected_served :
         ((bytes : List ℕ) → IsLineAt bytes (calls_of number a.node.entries.items) a.lines.items number
         → IsLineAt bytes (calls_of number x.node.entries.items) x.lines.items number)
         → AreConnected t i a → AreConnected t i x
-    connected_served line are other one found here = elim (cases_eq other number) [
-      | inl same_number ↦
-          let found_here = ap (slice_get t.clients) (sym same_number) ∙ found in
-          subst (λ (n : ℕ). IsLineAt one.bytes (calls_of n x.node.entries.items) x.lines.items n) (sym same_number)
-          (line one.bytes (are number one found_here here))
-      | inr apart ↦
-          let w = are other one found here in
-          subst (λ calls. IsLineAt {S = S} {K = K} {s = s} {k = k} one.bytes calls x.lines.items other)
-          (sym (calls_of_others other number a.node.entries.items x.node.entries.items apart comes))
-          (w.0, others other apart ∙ w.1, w.2)
-    ]
+    connected_served line =
+        lines_served (λ other one trail conn. IsLine one.bytes (calls_of other trail) conn) (λ one is. line one.bytes is)
+        (λ other one conn apart is. subst (λ calls. IsLine one.bytes calls conn)
+        (sym (calls_of_others other number a.node.entries.items x.node.entries.items apart comes)) is)
+
+    pub answered_served : (before : ℕ → List ℕ)
+        → ((first : List ℕ) → AreWrittenAt first number a.node.entries.items a.lines.items
+        → AreWrittenAt first number x.node.entries.items x.lines.items)
+        → AreAnswered t before i a → AreAnswered t before i x
+    answered_served before written =
+        lines_served (λ other one trail line. AreWritten k (before other) (replies_to other trail) (incoming line).state (sink_of line))
+        (λ one is. written (before number) is)
+        (λ other one line apart is. subst (λ replies. AreWritten k (before other) replies (incoming line).state (sink_of line))
+        (sym (replies_of_others other number a.node.entries.items x.node.entries.items apart comes)) is)
 
   -- ---- the client of a number
 

@@ -8,6 +8,8 @@ use Rattle.walter_base.specs.declared.names.SiteId.{SiteId}
 use Rattle.walter_base.specs.Vectors.{most_sites}
 use Rattle.walter_cell.specs.declared.cell.Cell.{Cell}
 use Rattle.walter_cell.specs.Cells.{IsLine}
+use Rattle.walter_cell.specs.Written.{replies_to, AreWritten}
+use Rattle.walter_conn.specs.Connections.{incoming, sink_of}
 use Rattle.walter_conn.specs.declared.conn.Conn.{Conn}
 use Rattle.walter_disk.specs.declared.disk.Disk.{Ghosts}
 use Rattle.walter_engine.specs.Steps.{opening}
@@ -21,8 +23,8 @@ use Rattle.walter_stream.specs.declared.source.Source.{Ghosts as SourceGhosts}
 use Rattle.walter_trail.specs.Calls.{calls_of}
 use Rattle.walter_cluster.specs.declared.bench.Bench.{Bench}
 use Rattle.walter_cluster.specs.declared.opening.Parts.{Parts}
-use Rattle.walter_cluster.specs.Benches.{outs_at, ins_at, IsOfSite, IsCellOf, IsBench, IsKnownAt, AreAllConnected, AreMet, HasRoom}
-use Rattle.walter_cluster.specs.Builds.{AreUnread, HadNoRecords}
+use Rattle.walter_cluster.specs.Benches.{outs_at, ins_at, IsOfSite, IsCellOf, IsBench, IsKnownAt, AreAllConnected, AreAllAnswered, AreMet, HasRoom}
+use Rattle.walter_cluster.specs.Builds.{AreUnread, AreUnwritten, HadNoRecords}
 use Rattle.walter_cluster.specs.Lanes.{AreJoined, rows_in, columns_in, row_of, column_of}
 use Rattle.walter_cluster.specs.Moments.{IsFirst, moment_of}
 use Rattle.walter_cluster.specs.Openings.{HasPlaces, HasBegun, ArePrepared, IsBegunBench}
@@ -133,6 +135,12 @@ module _ {D S K : Type 0} {g : Ghosts D} {s : SourceGhosts S} {k : SinkGhosts K}
       let line = line_at i cell at number client there home in
       let Read : List Entry → Type 0 = λ es. IsLine client.bytes (calls_of number es) line.0 in
       (line.0, line.2, subst Read (sym (begun_at i cell at).2.opens) (unread number client line.0 there line.1))
+
+  pub answered_built : (before : ℕ → List ℕ) → AreUnwritten before conns → AreAllAnswered t before bench
+  answered_built before unwritten i cell at number client there home =
+      let line = line_at i cell at number client there home in
+      let Answered : List Entry → Type 0 = λ es. AreWritten k (before number) (replies_to number es) (incoming line.0).state (sink_of line.0) in
+      (line.0, line.2, subst Answered (sym (begun_at i cell at).2.opens) (unwritten number line.0 line.1))
 
   none_came : (to from : ℕ) → arrived_from (ins_at bench.cells.items to) from ≡ []
   none_came to from = ap (λ column. arrived_from column from) (ins_is to) ∙ prepared.ready.joined.none_arrived to from

@@ -4,6 +4,7 @@ use Rattle.walter_base.specs.declared.names.SiteId.{SiteId}
 use Rattle.walter_base.specs.Vectors.{most_sites}
 use Rattle.walter_cell.specs.declared.cell.Cell.{Cell}
 use Rattle.walter_cell.specs.Cells.{IsCell, IsKnown, OfLine, IsLineAt}
+use Rattle.walter_cell.specs.Written.{AreWrittenAt}
 use Rattle.walter_conn.specs.declared.conn.Conn.{Conn}
 use Rattle.walter_disk.specs.declared.disk.Disk.{Ghosts}
 use Rattle.walter_engine.specs.Engines.{disk_in}
@@ -80,6 +81,11 @@ module _ {D S K : Type 0} {g : Ghosts D} {s : SourceGhosts S} {k : SinkGhosts K}
   AreConnected t i cell = (number : ℕ) (client : Client) → slice_get t.clients number ≡ Some client → client.site ≡ i
       → IsLineAt client.bytes (calls_of number cell.node.entries.items) cell.lines.items number
 
+  -- the replies to the calls of each client of the site were written to its connection, behind the bytes from before
+  abbrev pub AreAnswered : Scenario → (ℕ → List ℕ) → SiteId → Cell D S K g s k → Type 0
+  AreAnswered t before i cell = (number : ℕ) (client : Client) → slice_get t.clients number ≡ Some client
+      → client.site ≡ i → AreWrittenAt (before number) number cell.node.entries.items cell.lines.items
+
   -- ---- a bench
 
   -- there is room for what closing it takes
@@ -111,6 +117,10 @@ module _ {D S K : Type 0} {g : Ghosts D} {s : SourceGhosts S} {k : SinkGhosts K}
   -- where the sources of all clients tell their bytes
   abbrev pub AreAllConnected : Scenario → Bench D S K g s k → Type 0
   AreAllConnected t bench = AtEach bench.cells.items (λ i cell. AreConnected t i cell)
+
+  -- so were the replies to all clients, where their sinks tell what they hold
+  abbrev pub AreAllAnswered : Scenario → (ℕ → List ℕ) → Bench D S K g s k → Type 0
+  AreAllAnswered t before bench = AtEach bench.cells.items (λ i cell. AreAnswered t before i cell)
 
   -- what has arrived at a site is what had been put for it when the ends of the lane last met: nothing arrives but so
   abbrev pub AreMet : Bench D S K g s k → Type 0

@@ -2,6 +2,8 @@
 use Rattle.std.specs.Prelude.{◌≡◌, ◌<◌, ◌≤◌, ℕ, List, [], length, map, slice_get, Option, Some, Result, Ok, Err}
 use Rattle.walter_cell.specs.declared.cell.Cell.{Cell}
 use Rattle.walter_cell.specs.Cells.{IsLine}
+use Rattle.walter_cell.specs.Written.{AreWritten}
+use Rattle.walter_conn.specs.Connections.{incoming, sink_of}
 use Rattle.walter_conn.specs.declared.conn.Conn.{Conn}
 use Rattle.walter_disk.specs.declared.disk.Disk.{Ghosts}
 use Rattle.walter_engine.specs.Begins.{HasOnly, IsBegun, IsFaultOfBegin, MayHaveBegun, HasNoRecord}
@@ -18,6 +20,12 @@ abbrev pub AreUnread : {S K : Type 0} {s : SourceGhosts S} {k : SinkGhosts K} �
     → Type 0
 AreUnread {S = S} {K = K} {s = s} {k = k} clients conns = (number : ℕ) (client : Client) (line : Conn S K s k)
     → slice_get clients number ≡ Some client → slice_get conns number ≡ Some line → IsLine client.bytes [] line
+
+-- nothing was written to a client's connection but the bytes from before, where its sink tells what it holds
+abbrev pub AreUnwritten : {S K : Type 0} {s : SourceGhosts S} {k : SinkGhosts K} → (ℕ → List ℕ) → List (Conn S K s k)
+    → Type 0
+AreUnwritten {S = S} {K = K} {s = s} {k = k} before conns = (number : ℕ) (line : Conn S K s k)
+    → slice_get conns number ≡ Some line → AreWritten k (before number) [] (incoming line).state (sink_of line)
 
 module _ {D : Type 0} (g : Ghosts D) where
   -- what the building leaves of the disk of a site, which it was given so

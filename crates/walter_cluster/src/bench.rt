@@ -1,4 +1,4 @@
-ghost use Rattle.std.specs.Prelude.{◌≡◌, ◌≢◌, ◌<◌, ℕ, length, slice_get, option_map, ◌++◌, ◌∷◌, [], Some, OnErr, OnOk, IfOk};
+ghost use Rattle.std.specs.Prelude.{◌≡◌, ◌≢◌, ◌<◌, ℕ, List, length, slice_get, option_map, ◌++◌, ◌∷◌, [], Some, OnErr, OnOk, IfOk};
 ghost use Rattle.walter_base.specs.declared.names.SiteId.{SiteId};
 ghost use Rattle.walter_cell.specs.Cells.{HasFault, HasFaultAt};
 ghost use Rattle.walter_rules.specs.declared.event.Event.TheVariants as event;
@@ -31,7 +31,7 @@ pub struct Bench<D: Disk, S: Source + Drop, K: Sink + Drop> {
 }
 
 impl<D: Disk + Drop, S: Source + Drop, K: Sink + Drop> Bench<D, S, K> {
-    ghost use Rattle.walter_cluster.specs.Benches.{IsBench, IsKnownAt, AreAllConnected, AreMet, HasSameArms, arms_at, lines_at};
+    ghost use Rattle.walter_cluster.specs.Benches.{IsBench, IsKnownAt, AreAllConnected, AreAllAnswered, AreMet, HasSameArms, arms_at, lines_at};
 
     /// Gives a client its turn at its site: its next call comes to the trail there, or nothing does.
     pub fn turn(&mut self, alloc: Global, number: u32) -> Mem<Serve>
@@ -41,6 +41,8 @@ impl<D: Disk + Drop, S: Source + Drop, K: Sink + Drop> Bench<D, S, K> {
         ensures known { (t : Scenario) (i : ℕ) → IsBench t self.old → IsKnownAt t i self.old → IsKnownAt t i self.new }
         ensures connected { (t : Scenario) → IsBench t self.old → AreAllConnected t self.old
             → AreAllConnected t self.new }
+        ensures answered { (t : Scenario) (before : ℕ → List ℕ) → IsBench t self.old → AreAllAnswered t before self.old
+            → AreAllAnswered t before self.new }
         ensures met { AreMet self.old → AreMet self.new }
         ensures turns { (t : Scenario) (client : Client) → IsBench t self.old → AreAllConnected t self.old
             → slice_get t.clients number ≡ Some client
@@ -69,6 +71,8 @@ impl<D: Disk + Drop, S: Source + Drop, K: Sink + Drop> Bench<D, S, K> {
         ensures known { (t : Scenario) (i : ℕ) → IsBench t self.old → IsKnownAt t i self.old → IsKnownAt t i self.new }
         ensures connected { (t : Scenario) → IsBench t self.old → AreAllConnected t self.old
             → AreAllConnected t self.new }
+        ensures answered { (t : Scenario) (before : ℕ → List ℕ) → IsBench t self.old → AreAllAnswered t before self.old
+            → AreAllAnswered t before self.new }
         ensures met { AreMet self.old → AreMet self.new }
         ensures moves { (t : Scenario) → IsBench t self.old → IfOk result (MovesAt to from number
             (moment_of self.old.cells.items) (moment_of self.new.cells.items)) }
@@ -94,6 +98,8 @@ impl<D: Disk + Drop, S: Source + Drop, K: Sink + Drop> Bench<D, S, K> {
         ensures known { (t : Scenario) (i : ℕ) → IsBench t self.old → IsKnownAt t i self.old → IsKnownAt t i self.new }
         ensures connected { (t : Scenario) → IsBench t self.old → AreAllConnected t self.old
             → AreAllConnected t self.new }
+        ensures answered { (t : Scenario) (before : ℕ → List ℕ) → IsBench t self.old → AreAllAnswered t before self.old
+            → AreAllAnswered t before self.new }
         ensures met { AreMet self.old → AreMet self.new }
         ensures acts { (t : Scenario) → IsBench t self.old
             → IfOk result (ActsAt at (event.Given (input.Advance from)) (moment_of self.old.cells.items)
@@ -115,6 +121,8 @@ impl<D: Disk + Drop, S: Source + Drop, K: Sink + Drop> Bench<D, S, K> {
         ensures known { (t : Scenario) (i : ℕ) → IsBench t self.old → IsKnownAt t i self.old → IsKnownAt t i self.new }
         ensures connected { (t : Scenario) → IsBench t self.old → AreAllConnected t self.old
             → AreAllConnected t self.new }
+        ensures answered { (t : Scenario) (before : ℕ → List ℕ) → IsBench t self.old → AreAllAnswered t before self.old
+            → AreAllAnswered t before self.new }
         ensures met { AreMet self.old → AreMet self.new }
         ensures acts { (t : Scenario) → IsBench t self.old
             → IfOk result (ActsAt site (event.Given input.Tick) (moment_of self.old.cells.items)
@@ -136,6 +144,8 @@ impl<D: Disk + Drop, S: Source + Drop, K: Sink + Drop> Bench<D, S, K> {
         ensures known { (t : Scenario) (i : ℕ) → IsBench t self.old → IsKnownAt t i self.old → IsKnownAt t i self.new }
         ensures connected { (t : Scenario) → IsBench t self.old → AreAllConnected t self.old
             → AreAllConnected t self.new }
+        ensures answered { (t : Scenario) (before : ℕ → List ℕ) → IsBench t self.old → AreAllAnswered t before self.old
+            → AreAllAnswered t before self.new }
         ensures met { AreMet self.old → AreMet self.new }
         ensures acts { (t : Scenario) → IsBench t self.old
             → IfOk result (ActsAt site event.Stop (moment_of self.old.cells.items)
@@ -157,6 +167,8 @@ impl<D: Disk + Drop, S: Source + Drop, K: Sink + Drop> Bench<D, S, K> {
         ensures known { (t : Scenario) (i : ℕ) → IsBench t self.old → IsKnownAt t i self.old → IsKnownAt t i self.new }
         ensures connected { (t : Scenario) → IsBench t self.old → AreAllConnected t self.old
             → AreAllConnected t self.new }
+        ensures answered { (t : Scenario) (before : ℕ → List ℕ) → IsBench t self.old → AreAllAnswered t before self.old
+            → AreAllAnswered t before self.new }
         ensures met { AreMet self.old → AreMet self.new }
         ensures acts { (t : Scenario) → IsBench t self.old
             → IfOk result (ActsAt site event.Restart (moment_of self.old.cells.items)
@@ -179,6 +191,8 @@ impl<D: Disk + Drop, S: Source + Drop, K: Sink + Drop> Bench<D, S, K> {
         ensures known { (t : Scenario) (i : ℕ) → IsBench t self.old → IsKnownAt t i self.old → IsKnownAt t i self.new }
         ensures connected { (t : Scenario) → IsBench t self.old → AreAllConnected t self.old
             → AreAllConnected t self.new }
+        ensures answered { (t : Scenario) (before : ℕ → List ℕ) → IsBench t self.old → AreAllAnswered t before self.old
+            → AreAllAnswered t before self.new }
         ensures same { moment_of self.new.cells.items ≡ moment_of self.old.cells.items }
         ensures met { AreMet self.old → AreMet self.new }
         ensures armed { OnOk result (arms_at self.new.cells.items site.0

@@ -1,8 +1,8 @@
-ghost use Rattle.std.specs.Prelude.{◌≡◌, ◌<◌, ◌≤◌, ◌+◌, ◌∷◌, ◌++◌, ℕ, [], length, map, slice_get, vec_capacity, Option, Some, IsSome, IfOk, IfErr, OnOk, All};
+ghost use Rattle.std.specs.Prelude.{◌≡◌, ◌<◌, ◌≤◌, ◌+◌, ◌∷◌, ◌++◌, ℕ, List, [], length, map, slice_get, vec_capacity, Option, Some, IsSome, IfOk, IfErr, OnOk, All};
 ghost use Rattle.walter_base.specs.Vectors.{most_sites};
 ghost use Rattle.walter_scenario.specs.declared.scenario.Client.{Client};
-ghost use Rattle.walter_cluster.specs.Benches.{IsBench, IsKnownAt, AreAllConnected, AreMet};
-ghost use Rattle.walter_cluster.specs.Builds.{AreUnread, LeavesDisks, HadNoRecords, IsWhyNone};
+ghost use Rattle.walter_cluster.specs.Benches.{IsBench, IsKnownAt, AreAllConnected, AreAllAnswered, AreMet};
+ghost use Rattle.walter_cluster.specs.Builds.{AreUnread, AreUnwritten, LeavesDisks, HadNoRecords, IsWhyNone};
 ghost use Rattle.walter_cluster.specs.Moments.{IsFirst, moment_of};
 ghost use Rattle.walter_cluster.specs.Openings.{HasPlaces, AreReady, ArePrepared, IsBegunBench, disks_of};
 
@@ -57,6 +57,8 @@ pub fn build<D: Disk + Drop, S: Source + Drop, K: Sink + Drop>(
         → IfOk result (λ bench. IsKnownAt scenario.now i bench) }
     ensures connected { AreUnread scenario.now.clients conns.items
         → IfOk result (λ bench. AreAllConnected scenario.now bench) }
+    ensures answered { (before : ℕ → List ℕ) → AreUnwritten before conns.items
+        → IfOk result (λ bench. AreAllAnswered scenario.now before bench) }
     ensures met { IfOk result (λ bench. AreMet bench) }
     ensures first { IfOk result (λ bench. IsFirst scenario.now.catalog.sites (moment_of bench.cells.items)) }
     ensures leaves { LeavesDisks disks.items result }

@@ -1,9 +1,9 @@
 use Rattle.std.proofs.lemmas.Result.{IfOk-weaker}
-use Rattle.walter_cluster.specs.Benches.{IsBench, IsKnownAt, AreAllConnected, AreMet}
+use Rattle.walter_cluster.specs.Benches.{IsBench, IsKnownAt, AreAllConnected, AreAllAnswered, AreMet}
 use Rattle.walter_cluster.specs.Builds.{HadNoRecords}
 use Rattle.walter_cluster.specs.Moments.{IsFirst, moment_of}
 use Rattle.walter_cluster.specs.Openings.{IsBegunBench}
-use Rattle.walter_cluster.proofs.Built.{bench_built, known_built, connected_built, met_built, first_built, none_had_built}
+use Rattle.walter_cluster.proofs.Built.{bench_built, known_built, connected_built, answered_built, met_built, first_built, none_had_built}
 use Rattle.walter_cluster.proofs.opening.build.Goals as goal
 
 pub returns-clause-bench : goal.returns-clause-bench
@@ -29,6 +29,15 @@ returns-clause-connected g c unread =
     let disks = c.args.disks.items in
     IfOk-weaker c.begin_all.result (IsBegunBench t disks parts) (λ bench. AreAllConnected t bench)
     (λ bench begun. connected_built t disks c.args.conns.items parts bench c.in-Ok.ensures begun c.requires.disks c.requires.conns unread) c.begin_all.ensures.begun
+
+pub returns-clause-answered : goal.returns-clause-answered
+returns-clause-answered g c before unwritten =
+    let t = c.args.scenario.now in
+    let parts = c.in-Ok.parts in
+    let disks = c.args.disks.items in
+    IfOk-weaker c.begin_all.result (IsBegunBench t disks parts) (λ bench. AreAllAnswered t before bench)
+    (λ bench begun. answered_built t disks c.args.conns.items parts bench c.in-Ok.ensures begun c.requires.disks c.requires.conns before unwritten)
+    c.begin_all.ensures.begun
 
 pub returns-clause-met : goal.returns-clause-met
 returns-clause-met g c =

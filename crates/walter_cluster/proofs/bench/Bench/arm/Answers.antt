@@ -1,8 +1,8 @@
 use Rattle.std.proofs.Common.{◌++◌, ◌∷◌, [], ℕ, List, set, refl, ap, sym, ◌∙◌, inl, arith, option_map}
 use Rattle.std.proofs.lemmas.Result.{on_ok_weaker, on_err_weaker}
 use Rattle.walter_outbox.specs.Lanes.{mets}
-use Rattle.walter_cluster.specs.Benches.{AreConnected}
-use Rattle.walter_cluster.proofs.Benches.{cells_of, bench_of, cells_kept, cell_quiet, known_kept, each_kept, connected_quiet, all_met_kept, same_moment, arms_told, arms_was, arms_now, arms_kept_by, arms_of_others, one_at}
+use Rattle.walter_cluster.specs.Benches.{AreConnected, AreAnswered}
+use Rattle.walter_cluster.proofs.Benches.{cells_of, bench_of, cells_kept, cell_quiet, known_kept, each_kept, connected_quiet, answered_quiet, all_met_kept, same_moment, arms_told, arms_was, arms_now, arms_kept_by, arms_of_others, one_at}
 use Rattle.walter_cluster.proofs.bench.Bench.arm.Goals as goal
 
 pub index_mut-requires : goal.index_mut-requires
@@ -44,6 +44,17 @@ returns-clause-connected g c t is all =
     let one = one_at cells c.from.result site.0 a x c.from.ensures c.requires.there c.index_mut.ensures.value in
     each_kept cells new site a x one (λ j cell. AreConnected t j cell) all
     (connected_quiet t site a x c.arm.ensures.same c.arm.ensures.lines (inl c.arm.ensures.trail) (all site.0 a one.was))
+
+pub returns-clause-answered : goal.returns-clause-answered
+returns-clause-answered g c t before is all =
+    let cells = c.args.self.now.cells.items in
+    let site = c.args.site in
+    let a = c.index_mut.result.now in
+    let x = c.arm.new.self in
+    let new = set cells c.from.result x in
+    let one = one_at cells c.from.result site.0 a x c.from.ensures c.requires.there c.index_mut.ensures.value in
+    each_kept cells new site a x one (λ j cell. AreAnswered t before j cell) all
+    (answered_quiet t site a x c.arm.ensures.same c.arm.ensures.lines (inl c.arm.ensures.trail) before (all site.0 a one.was))
 
 pub returns-clause-same : goal.returns-clause-same
 returns-clause-same g c =

@@ -6,12 +6,12 @@ use Rattle.walter_base.specs.declared.catalog.Catalog.{Catalog}
 use Rattle.walter_cell.specs.Cells.{MovesTo, HasPlace, arrival}
 use Rattle.walter_cell.specs.Entries.{IsSpent}
 use Rattle.walter_rules.specs.Merges.{trail_of}
-use Rattle.walter_cluster.specs.Benches.{AreConnected, trails_of}
+use Rattle.walter_cluster.specs.Benches.{AreConnected, AreAnswered, trails_of}
 use Rattle.walter_cluster.specs.Meetings.{HaveStayed, HaveAllMet, HaveLanes, HasArrived, IsAsBefore}
 use Rattle.walter_cluster.specs.Moments.{MovesAt, moment_of, at_once}
 use Rattle.walter_cluster.proofs.Meetings.{trails_stay, arms_stay}
-use Rattle.walter_cluster.proofs.Benches.{cells_of, lanes_of, bench_of, cells_kept, cell_quiet, known_kept, each_kept, connected_quiet, all_met_kept, trails_kept, arms_kept, moved_quiet, one_at, on_err_so, clock_was, trail_was}
-use Rattle.walter_cluster.proofs.Arrivals.{cells_stay, connected_stays, known_stays, moves_at, drops_on, place_left}
+use Rattle.walter_cluster.proofs.Benches.{cells_of, lanes_of, bench_of, cells_kept, cell_quiet, known_kept, each_kept, connected_quiet, answered_quiet, all_met_kept, trails_kept, arms_kept, moved_quiet, one_at, on_err_so, clock_was, trail_was}
+use Rattle.walter_cluster.proofs.Arrivals.{cells_stay, connected_stays, answered_stays, known_stays, moves_at, drops_on, place_left}
 use Rattle.walter_cluster.proofs.bench.Bench.deliver.Goals as goal
 
 pub meet_all-requires-clause-lanes : goal.meet_all-requires-clause-lanes
@@ -81,6 +81,27 @@ returns-clause-connected g c t is all =
     let mid_all = connected_stays t old mid stay all in
     each_kept mid new site a x one (λ j cell. AreConnected t j cell) mid_all
     (connected_quiet t site a x c.deliver.ensures.same c.deliver.ensures.lines grows (mid_all site.0 a one.was))
+
+pub returns-clause-answered : goal.returns-clause-answered
+returns-clause-answered g c t before is all =
+    let old = c.args.self.now.cells.items in
+    let met = c.meet_all.new.cells in
+    let mid = take c.args.self.now.cells.len (met ++ drop (length met) old) in
+    let is_old = c.deref_mut.ensures.value in
+    let long : length met ≡ c.args.self.now.cells.len = (let l = c.meet_all.ensures.stays.long in let e = ap length is_old in let k = c.args.self.now.cells.ok.0 in omega (arith, l, e, k)) in
+    let is_mid : mid ≡ met = take_at met (drop (length met) old) c.args.self.now.cells.len long in
+    let stay = subst (λ l. HaveStayed old l) (sym is_mid) (subst (λ l. HaveStayed l met) is_old c.meet_all.ensures.stays) in
+    let site = c.args.to in
+    let a = c.index_mut.result.now in
+    let x = c.deliver.new.self in
+    let new = set mid c.from-place.result x in
+    let below : site.0 < length mid = (let w = c.requires.to in let l = stay.long in omega (arith, w, l)) in
+    let one = one_at mid c.from-place.result site.0 a x c.from-place.ensures below c.index_mut.ensures.value in
+    let grows = moved_quiet c.args.from c.args.number (arrival a.ins.items c.args.from c.args.number) (length a.ins.items) a.node.clock
+    a.node.entries.items x.node.entries.items c.deliver.result c.deliver.ensures.moves c.deliver.ensures.kept in
+    let mid_all = answered_stays t old mid stay before all in
+    each_kept mid new site a x one (λ j cell. AreAnswered t before j cell) mid_all
+    (answered_quiet t site a x c.deliver.ensures.same c.deliver.ensures.lines grows before (mid_all site.0 a one.was))
 
 pub returns-clause-met : goal.returns-clause-met
 returns-clause-met g c all =
@@ -192,6 +213,17 @@ returns-in_err-meet_all-clause-connected g c t is all =
     let is_mid : mid ≡ met = take_at met (drop (length met) old) c.args.self.now.cells.len long in
     let stay = subst (λ l. HaveStayed old l) (sym is_mid) (subst (λ l. HaveStayed l met) is_old c.meet_all.ensures.stays) in
     connected_stays t old mid stay all
+
+pub returns-in_err-meet_all-clause-answered : goal.returns-in_err-meet_all-clause-answered
+returns-in_err-meet_all-clause-answered g c t before is all =
+    let old = c.args.self.now.cells.items in
+    let met = c.meet_all.new.cells in
+    let mid = take c.args.self.now.cells.len (met ++ drop (length met) old) in
+    let is_old = c.deref_mut.ensures.value in
+    let long : length met ≡ c.args.self.now.cells.len = (let l = c.meet_all.ensures.stays.long in let e = ap length is_old in let k = c.args.self.now.cells.ok.0 in omega (arith, l, e, k)) in
+    let is_mid : mid ≡ met = take_at met (drop (length met) old) c.args.self.now.cells.len long in
+    let stay = subst (λ l. HaveStayed old l) (sym is_mid) (subst (λ l. HaveStayed l met) is_old c.meet_all.ensures.stays) in
+    answered_stays t old mid stay before all
 
 pub returns-in_err-meet_all-clause-met : goal.returns-in_err-meet_all-clause-met
 returns-in_err-meet_all-clause-met g c all =

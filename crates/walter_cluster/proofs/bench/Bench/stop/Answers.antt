@@ -3,9 +3,9 @@ use Rattle.std.proofs.lemmas.Result.{IfOk-weaker, on_err_weaker}
 use Rattle.walter_cell.specs.declared.answers.Acted.{Acted}
 use Rattle.walter_cell.specs.Cells.{Acts}
 use Rattle.walter_rules.specs.declared.event.Event.TheVariants as event
-use Rattle.walter_cluster.specs.Benches.{AreConnected}
+use Rattle.walter_cluster.specs.Benches.{AreConnected, AreAnswered}
 use Rattle.walter_cluster.specs.Moments.{ActsAt, moment_of}
-use Rattle.walter_cluster.proofs.Benches.{cells_of, bench_of, cells_kept, cell_quiet, known_kept, each_kept, connected_quiet, all_met_kept, acts_at, drops_at, trails_kept, arms_kept, acted_quiet, one_at}
+use Rattle.walter_cluster.proofs.Benches.{cells_of, bench_of, cells_kept, cell_quiet, known_kept, each_kept, connected_quiet, answered_quiet, all_met_kept, acts_at, drops_at, trails_kept, arms_kept, acted_quiet, one_at}
 use Rattle.walter_cluster.proofs.bench.Bench.stop.Goals as goal
 
 pub index_mut-requires : goal.index_mut-requires
@@ -50,6 +50,18 @@ returns-clause-connected g c t is all =
     let grows = acted_quiet (event.Stop) a.node.clock a.node.entries.items x.node.entries.items c.stop.result tt c.stop.ensures.acts c.stop.ensures.kept in
     each_kept cells new site a x one (λ j cell. AreConnected t j cell) all
     (connected_quiet t site a x c.stop.ensures.same c.stop.ensures.lines grows (all site.0 a one.was))
+
+pub returns-clause-answered : goal.returns-clause-answered
+returns-clause-answered g c t before is all =
+    let cells = c.args.self.now.cells.items in
+    let site = c.args.site in
+    let a = c.index_mut.result.now in
+    let x = c.stop.new.self in
+    let new = set cells c.from.result x in
+    let one = one_at cells c.from.result site.0 a x c.from.ensures c.requires.there c.index_mut.ensures.value in
+    let grows = acted_quiet (event.Stop) a.node.clock a.node.entries.items x.node.entries.items c.stop.result tt c.stop.ensures.acts c.stop.ensures.kept in
+    each_kept cells new site a x one (λ j cell. AreAnswered t before j cell) all
+    (answered_quiet t site a x c.stop.ensures.same c.stop.ensures.lines grows before (all site.0 a one.was))
 
 pub returns-clause-met : goal.returns-clause-met
 returns-clause-met g c all =

@@ -5,10 +5,10 @@ use Rattle.walter_base.specs.declared.names.SiteId.{SiteId}
 use Rattle.walter_cell.specs.declared.answers.Serve.{Serve}
 use Rattle.walter_cell.specs.Cells.{TurnsTo, HasFaultAt}
 use Rattle.walter_scenario.specs.declared.scenario.Client.{Client}
-use Rattle.walter_cluster.specs.Benches.{AreConnected, lines_at}
+use Rattle.walter_cluster.specs.Benches.{AreConnected, AreAnswered, lines_at}
 use Rattle.walter_cluster.specs.Moments.{TurnsAt, moment_of}
 use Rattle.walter_cluster.proofs.Changes.{one_there}
-use Rattle.walter_cluster.proofs.Benches.{cells_of, bench_of, client_at, cells_kept, cell_served, known_kept, each_kept, connected_served, all_met_kept, turns_at, drops_at, trails_kept, arms_kept, one_at}
+use Rattle.walter_cluster.proofs.Benches.{cells_of, bench_of, client_at, cells_kept, cell_served, known_kept, each_kept, connected_served, answered_served, all_met_kept, turns_at, drops_at, trails_kept, arms_kept, one_at}
 use Rattle.walter_cluster.proofs.bench.Bench.turn.Goals as goal
 
 pub index_mut-requires : goal.index_mut-requires
@@ -114,6 +114,24 @@ returns-clause-connected g c t is all =
     each_kept cells new site a x one (λ j cell. AreConnected t j cell) all
     (connected_served t site c.args.number who.0 who.1 refl a x c.serve.ensures.same c.serve.ensures.others c.serve.ensures.comes
     c.serve.ensures.line (all site.0 a one.was))
+
+pub returns-clause-answered : goal.returns-clause-answered
+returns-clause-answered g c t before is all =
+    let who = client_at t c.args.self.now c.args.number is c.requires.there in
+    let h = c.index-home.result.now in
+    let homes = c.args.self.now.homes.items in
+    let home = one_there homes c.args.number h who.0.site
+    (slice_get_read homes (length homes) c.args.number h refl c.requires.there c.index-home.ensures) who.2 in
+    let place = c.from.ensures ∙ ap (λ (i : SiteId). i.0) home in
+    let cells = c.args.self.now.cells.items in
+    let site = who.0.site in
+    let a = c.index_mut.result.now in
+    let x = c.serve.new.self in
+    let new = set cells c.from.result x in
+    let one = one_at cells c.from.result site.0 a x place who.3 c.index_mut.ensures.value in
+    each_kept cells new site a x one (λ j cell. AreAnswered t before j cell) all
+    (answered_served t site c.args.number who.0 who.1 refl a x c.serve.ensures.same c.serve.ensures.others c.serve.ensures.comes
+    before c.serve.ensures.written (all site.0 a one.was))
 
 pub returns-clause-met : goal.returns-clause-met
 returns-clause-met g c all =
