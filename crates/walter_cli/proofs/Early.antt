@@ -127,6 +127,9 @@ module _ {D : Type 0} (g : Ghosts D) (before mid after : RackAt D) (taken back :
         let d = there_is taken i (omega (arith, within, long)) in
         faultless i d.0 e early d.1 at_ ∙ (is.fresh i d.0 d.1).faultless
 
+    each_faultless : rack.each (IsFaultlessBefore site)
+    each_faultless = each_back g before mid after taken back is (IsFaultlessBefore site) faultless_before
+
     pub unbuilt : (w : Unbegun) → why ≡ w → IsUnbuilt rack (length taken) (fault_of site w)
     unbuilt unbegun.Failed same = (
       slice_get_within taken site disk at,
@@ -136,7 +139,8 @@ module _ {D : Type 0} (g : Ghosts D) (before mid after : RackAt D) (taken back :
             (let rose : (g.known disk).faults < (g.known now).faults =
             subst (λ (x : Unbegun). IsFaultOfBegin (Err x) (g.known disk).faults (g.known now).faults) same rises in
             omega (arith, rose));
-        before = each_back g before mid after taken back is (IsFaultlessBefore site) faultless_before;
+        before = each_faultless;
+        no_record = others_held;
       }),
     )
     unbuilt unbegun.Foreign same = (
@@ -146,6 +150,7 @@ module _ {D : Type 0} (g : Ghosts D) (before mid after : RackAt D) (taken back :
             let so = subst (λ (x : Unbegun). IsBegun bytes (Err x)) same (begins bytes only) in (refl, so.0, so.1));
         others = others_held;
       },
+      each_faultless,
     )
     unbuilt (unbegun.Damaged place claimed) same = (
       slice_get_within taken site disk at,
@@ -154,6 +159,7 @@ module _ {D : Type 0} (g : Ghosts D) (before mid after : RackAt D) (taken back :
             subst (λ (x : Unbegun). IsBegun bytes (Err x)) same (begins bytes only));
         others = others_held;
       },
+      each_faultless,
     )
     unbuilt unbegun.Used same = (
       slice_get_within taken site disk at,
@@ -162,6 +168,7 @@ module _ {D : Type 0} (g : Ghosts D) (before mid after : RackAt D) (taken back :
             (refl, subst (λ (x : Unbegun). IsBegun bytes (Err x)) same (begins bytes only)));
         others = others_held;
       },
+      each_faultless,
     )
     unbuilt unbegun.NoMemory same = tt
 

@@ -20,7 +20,7 @@ use Rattle.walter_cli.specs.declared.ended.Fault.TheVariants.{Usage, Scenario as
 use Rattle.walter_cli.specs.declared.ended.JournalCause.{JournalCause}
 use Rattle.walter_cli.specs.Ending.{IsTaken, IsTakeFault, MayHaveRun, EndsRun}
 use Rattle.walter_cli.specs.Headline.{Outside, HasNoReading, IsRun, IsWholeRun, Runs, RunsWhole, OfScenario, IsRackFault, IsFirstUnfit, FailsEarly, Promise}
-use Rattle.walter_cli.specs.Racks.{Racked, AreAllTold, Holds, IsUntouched, HasCause}
+use Rattle.walter_cli.specs.Racks.{Racked, AreAllTold, Holds, IsUntouched, IsFaultlessBefore, HasCause}
 use Rattle.walter_cli.specs.Statuses.{status_of}
 use Rattle.walter_cli.specs.Texts.{text_of}
 use Rattle.walter_cli.specs.Words.{IsPlayLine, IsLine}
@@ -145,8 +145,9 @@ module _ (words : List (String Global)) (rack : Racked) (before after : Outside)
     Tells (Some Memory) = Unit {0}
     Tells (Some (Rack site)) =
         OfScenario before after (λ s. (site < s.catalog.sites) × IsRackFault rack s ended.trails.items site)
-    Tells (Some (Journal site cause place)) = IsFirstUnfit rack site cause place × (ended.trails.items ≡ [])
-        × ((s : Scenario) × IsTaken before.left after.left s × (site < s.catalog.sites))
+    Tells (Some (Journal site cause place)) =
+        OfScenario before after (λ s. (site < s.catalog.sites) × IsFirstUnfit rack site cause place
+        × rack.each (IsFaultlessBefore site)) × (ended.trails.items ≡ [])
 
     -- so it is by the status
     at_done : (fault : Option Fault) → Tells fault → status_of fault ≡ 0
@@ -209,11 +210,13 @@ module _ (words : List (String Global)) (rack : Racked) (before after : Outside)
     completes (Some (Rack site)) is told bytes s left reading known new source sink ok =
         inr (inr (early site told.scenario ok told.holds.1))
     completes (Some (Journal site cause place)) is told bytes s left reading known new source sink ok =
-        let same : told.2.0 ≡ s =
-        one_scenario bytes told.2.0 s (taken_reading before.left after.left bytes told.2.0 told.2.1 left) reading in
-        let within : site < s.catalog.sites = subst (λ (t : Scenario). site < t.catalog.sites) same told.2.2 in
+        let is = told.0 in
+        let same : is.scenario ≡ s =
+        one_scenario bytes is.scenario s (taken_reading before.left after.left bytes is.scenario
+        (record { bytes = is.bytes; source = is.source; reading = is.reading }) left) reading in
+        let within : site < s.catalog.sites = subst (λ (t : Scenario). site < t.catalog.sites) same is.holds.0 in
         absurd (of_both (rack.bytes site) (HasCause cause place) HasNoRecord ⊥ (cause_has_record cause place)
-        (known site within) told.0.unfit (new site within))
+        (known site within) is.holds.1.unfit (new site within))
 
     -- what was run over holds no record, and so has no cause of a fault
     run_has_none : (bytes : List ℕ) (s : Scenario) (site : ℕ) (cause : JournalCause) (place : ℕ)
@@ -253,7 +256,7 @@ module _ (words : List (String Global)) (rack : Racked) (before after : Outside)
     names (Some (Rack other)) named is told bytes s site cause place left reading within known why source ok =
         inr (inr (early other told.scenario ok told.holds.1))
     names (Some (Journal other c p)) named is told bytes s site cause place left reading within known why source ok =
-        let same = one_unfit rack s.catalog.sites other site c cause p place known within told.0 why in
+        let same = one_unfit rack s.catalog.sites other site c cause p place known within told.0.holds.1 why in
         inl (named
         ∙ (ap (λ n. Some (Journal n c p)) same.0
         ∙ (ap (λ k. Some (Journal site k p)) same.1 ∙ ap (λ n. Some (Journal site cause n)) same.2)))
@@ -279,9 +282,7 @@ module _ (words : List (String Global)) (rack : Racked) (before after : Outside)
           cut = λ h. (at_cut fault told (sym is ∙ h)).0;
           failed = λ h. (at_cut fault told (sym is ∙ h)).1;
           unracked = λ site h. subst (λ (f : Option Fault). Tells f) (sym named ∙ h) told;
-          unfit = λ site cause place h.
-              let why : Tells (Some (Journal site cause place)) = subst (λ (f : Option Fault). Tells f) (sym named ∙ h) told in
-              spelled why.2.0 (λ s. (site < s.catalog.sites) × IsFirstUnfit rack site cause place) why.2.1 (why.2.2, why.0);
+          unfit = λ site cause place h. (subst (λ (f : Option Fault). Tells f) (sym named ∙ h) told).0;
           unfit_named = λ bytes s site cause place play. names fault named is told bytes s site cause place;
           given_back = back;
           unfailing = unfailing;
@@ -316,7 +317,11 @@ module _ (words : List (String Global)) (rack : Racked) (before after : Outside)
         (spelled s (λ t. (site < t.catalog.sites) × IsRackFault rack t ended.trails.items site) taken (ends.0, ends.1))
         (λ not_done not_cut. ends.2) (runs_if s taken (may_have_run s site ends.1)) (never s taken)
     promise_run s (Some (Journal site cause place)) named taken ends =
-        promise (Some (Journal site cause place)) named (ends.3, ends.0.0, (s, taken, ends.2)) (λ not_done not_cut. ends.1)
+        promise (Some (Journal site cause place)) named (
+          spelled s (λ t. (site < t.catalog.sites) × IsFirstUnfit rack site cause place × rack.each (IsFaultlessBefore site)) taken
+              (ends.2, ends.3, ends.4),
+          ends.0.0,
+        ) (λ not_done not_cut. ends.1)
         (inl ends.0) (never s taken)
     promise_run s (Some Usage) named taken ends = absurd ends
     promise_run s (Some (ScenarioFault place detail)) named taken ends = absurd ends

@@ -18,7 +18,7 @@ use Rattle.walter_cli.specs.declared.ended.Fault.TheVariants.{Usage, Scenario as
 use Rattle.walter_cli.specs.declared.ended.JournalCause.TheVariants.{Foreign, Damaged, Used}
 use Rattle.walter_cli.specs.Disks.{AreTaken}
 use Rattle.walter_cli.specs.Headline.{IsSource, HasNoReading, IsRun, IsWholeRun, IsRackFault, IsFirstUnfit}
-use Rattle.walter_cli.specs.Racks.{RackAt, Racked, IsUntouched, FailsToTake, FailsToLoad}
+use Rattle.walter_cli.specs.Racks.{RackAt, Racked, IsUntouched, IsFaultlessBefore, FailsToTake, FailsToLoad}
 use Rattle.walter_cli.specs.Texts.{text_of}
 
 -- the scenario is a reading of the bytes of the source
@@ -62,7 +62,8 @@ pub record IsBuilt {D S K : Type 0} {g : Ghosts D} {s : SourceGhosts S} {k : Sin
 abbrev pub IsUnbuilt : Racked → (sites : ℕ) → Fault → Type 0
 IsUnbuilt rack sites Memory = Unit {0}
 IsUnbuilt rack sites (Rack site) = (site < sites) × (FailsToTake rack site ⊎ FailsToLoad rack sites site)
-IsUnbuilt rack sites (Journal site cause place) = (site < sites) × IsFirstUnfit rack site cause place
+IsUnbuilt rack sites (Journal site cause place) =
+    (site < sites) × IsFirstUnfit rack site cause place × rack.each (IsFaultlessBefore site)
 IsUnbuilt rack sites fault = ⊥
 
 -- the rack is as no run has begun, and what it was taken of was given back, but for what it lost by a fault
@@ -89,7 +90,7 @@ EndsRun rack trace s holds holds' faults faults' trails (Some (Rack site)) =
     (site < s.catalog.sites) × IsRackFault rack s trails site × (holds' ≡ holds)
 EndsRun rack trace s holds holds' faults faults' trails (Some (Journal site cause place)) =
     ((trails ≡ []) × IsUntouched rack) × (holds' ≡ holds) × (site < s.catalog.sites)
-    × IsFirstUnfit rack site cause place
+    × IsFirstUnfit rack site cause place × rack.each (IsFaultlessBefore site)
 EndsRun rack trace s holds holds' faults faults' trails (Some Usage) = ⊥
 EndsRun rack trace s holds holds' faults faults' trails (Some (ScenarioFault place detail)) = ⊥
 EndsRun rack trace s holds holds' faults faults' trails (Some Read) = ⊥

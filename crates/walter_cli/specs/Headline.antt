@@ -31,7 +31,7 @@ use Rattle.walter_cli.specs.declared.ended.Ended.{Ended}
 use Rattle.walter_cli.specs.declared.ended.Fault.TheVariants as fault
 use Rattle.walter_cli.specs.declared.ended.JournalCause.{JournalCause}
 use Rattle.walter_cli.specs.Promises.{KeepAllPromises}
-use Rattle.walter_cli.specs.Racks.{Racked, IsTold, AreAllTold, Holds, IsUntouched, HasFailed, HasCause, FailsToTake, FailsToLoad, FailsToGive}
+use Rattle.walter_cli.specs.Racks.{Racked, IsTold, AreAllTold, Holds, IsUntouched, HasFailed, HasCause, IsFaultlessBefore, FailsToTake, FailsToLoad, FailsToGive}
 use Rattle.walter_cli.specs.Statuses.{status_of}
 use Rattle.walter_cli.specs.Texts.{text_of}
 use Rattle.walter_cli.specs.Words.{IsPlayLine, IsLine}
@@ -189,9 +189,10 @@ pub record Promise (words : List (String Global)) (rack : Racked) (before after 
   pub unracked : (site : ℕ) → ended.fault ≡ Some (fault.Rack site)
       → OfScenario before after (λ s. (site < s.catalog.sites) × IsRackFault rack s ended.trails.items site)
   -- 7: the disk of the site that is named, one of the scenario's, has what no new site can begin with, where it tells what
-  -- it has; those of the sites before it have no record
+  -- it has; those of the sites before it have no record, and have not failed
   pub unfit : (site : ℕ) (cause : JournalCause) (place : ℕ) → ended.fault ≡ Some (fault.Journal site cause place)
-      → OfScenario before after (λ s. (site < s.catalog.sites) × IsFirstUnfit rack site cause place)
+      → OfScenario before after (λ s. (site < s.catalog.sites) × IsFirstUnfit rack site cause place
+      × rack.each (IsFaultlessBefore site))
   -- and exactly then, where all disks are told, the source and the rack don't fail, and no disk does before all sites
   -- are up
   pub unfit_named : (bytes : List ℕ) (s : Scenario) (site : ℕ) (cause : JournalCause) (place : ℕ) → IsLine words

@@ -2,7 +2,7 @@
 use Rattle.std.specs.Prelude.{◌≡◌, ◌≢◌, ◌⊎◌, ◌+◌, ◌<◌, ◌≤◌, ℕ, List, [], ◌∷◌, ◌++◌, length, All, Contains, Option, None, Some, IfSome, IsSome}
 use Rattle.walter_disk.specs.Disks.{DiskState}
 use Rattle.walter_disk.specs.declared.disk.Disk.{Ghosts}
-use Rattle.walter_engine.specs.Begins.{MayHaveBegun}
+use Rattle.walter_engine.specs.Begins.{MayHaveBegun, HasNoRecord}
 use Rattle.walter_journal.specs.Layout.{HasContent, IsForeign, IsDamaged}
 use Rattle.walter_cli.specs.declared.ended.JournalCause.{JournalCause}
 use Rattle.walter_cli.specs.declared.ended.JournalCause.TheVariants.{Foreign, Damaged, Used}
@@ -111,12 +111,13 @@ pub record FailsToTake (rack : Racked) (site : ℕ) : Type 0 where
   pub before : rack.took site
   pub lacks : rack.lacks site
 
--- The disks of all sites were taken, so many, and that of this site failed in its first loading, which that of no site
--- before it did. It was given back so, or lost.
+-- The disks of all sites were taken, so many, and that of this site failed in its first loading; it was given back so, or
+-- lost. Those of the sites before it did not, and have no record, where that is told.
 pub record FailsToLoad (rack : Racked) (sites site : ℕ) : Type 0 where
   pub all : rack.took sites
   pub failed : (rack.failed × rack.lacks site) ⊎ rack.one site HasFailed
   pub before : rack.each (IsFaultlessBefore site)
+  pub no_record : (i : ℕ) → i < site → Holds rack i HasNoRecord
 
 -- the disk of this site is the first that was not given back, since the rack failed
 pub record FailsToGive (rack : Racked) (site : ℕ) : Type 0 where
