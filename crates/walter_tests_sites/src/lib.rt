@@ -1,4 +1,4 @@
-//! Tests of the program over several sites, and nothing else.
+//! Tests of the program over several sites, and of a bench, and nothing else.
 #![tactic(auto)]
 
 #[cfg(test)]
