@@ -26,6 +26,8 @@ use Rattle.walter_scenario.specs.declared.scenario.Client.{Client}
 use Rattle.walter_scenario.specs.declared.scenario.Scenario.{Scenario}
 use Rattle.walter_scenario.specs.Scenarios.{IsReading, IsRefusedAt}
 use Rattle.walter_stream.specs.Streams.{AtEnd, TakesFront, Appends, AppendsFront}
+use Rattle.walter_stream.specs.declared.sink.Sink.{Ghosts as SinkGhosts}
+use Rattle.walter_stream.specs.declared.source.Source.{Ghosts as SourceGhosts}
 use Rattle.walter_trail.specs.Calls.{calls_of}
 use Rattle.walter_cli.specs.declared.ended.Ended.{Ended}
 use Rattle.walter_cli.specs.declared.ended.Fault.TheVariants as fault
@@ -45,6 +47,15 @@ pub record Outside : Type 0 where
   pub source_faults : ℕ
   pub holds : Option (List ℕ)
   pub sink_faults : ℕ
+
+-- what is known of this source and this sink
+abbrev pub outside_at : {S K : Type 0} (s : SourceGhosts S) (k : SinkGhosts K) → S → K → Outside
+outside_at s k source sink = record {
+  left = s.left source;
+  source_faults = s.faults source;
+  holds = k.holds sink;
+  sink_faults = k.faults sink;
+}
 
 -- these bytes were taken from a source, and nothing is left in it
 pub record IsSource (before after : Option (List ℕ)) (bytes : List ℕ) : Type 0 where

@@ -2,6 +2,7 @@
 use Rattle.std.specs.Prelude.{◌≡◌, ◌≢◌, ◌⊎◌, ◌+◌, ◌<◌, ◌≤◌, ℕ, List, [], ◌∷◌, ◌++◌, length, All, Contains, Option, None, Some, IfSome, IsSome}
 use Rattle.walter_disk.specs.Disks.{DiskState}
 use Rattle.walter_disk.specs.declared.disk.Disk.{Ghosts}
+use Rattle.walter_disk.specs.declared.rack.Rack.{Ghosts as RackGhosts}
 use Rattle.walter_engine.specs.Begins.{MayHaveBegun, HasNoRecord}
 use Rattle.walter_journal.specs.Layout.{HasContent, IsForeign, IsDamaged}
 use Rattle.walter_cli.specs.declared.ended.JournalCause.{JournalCause}
@@ -19,6 +20,16 @@ pub record RackAt (D : Type 0) : Type 0 where
   pub faults : ℕ
   -- how many of the following calls of it don't fail
   pub unfailing : ℕ
+
+-- what is known of this rack
+abbrev pub rack_at : {R D : Type 0} (r : RackGhosts R D) → R → RackAt D
+rack_at r rack = record {
+  disks = r.disks rack;
+  given = r.given rack;
+  taken = r.taken rack;
+  faults = r.faults rack;
+  unfailing = r.unfailing rack;
+}
 
 -- a property of a disk: of what is known of it, and of what a crash leaves
 abbrev pub OfADisk : Type 1

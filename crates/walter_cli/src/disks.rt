@@ -2,7 +2,7 @@ ghost use Rattle.std.specs.Prelude.{◌≡◌, ◌<◌, ◌≤◌, ◌+◌, leng
 ghost use Rattle.walter_base.specs.Vectors.{most_sites};
 ghost use Rattle.walter_cli.specs.Disks.{AreTaken, AreGiven, IsFirstLost, lost_after};
 ghost use Rattle.walter_cli.specs.Ending.{EndsEarly};
-ghost use Rattle.walter_cli.specs.Racks.{racked};
+ghost use Rattle.walter_cli.specs.Racks.{rack_at, racked};
 
 use crate::ended::Fault;
 use std::alloc::Global;
@@ -12,36 +12,9 @@ use walter_disk::Rack;
 pub fn take_all<R: Rack>(alloc: Global, rack: &mut R, sites: u8) -> Result<Vec<R::D>, Fault>
     requires few { sites ≤ most_sites }
     ensures taken { IfOk result (λ disks. (length disks.items ≡ sites) × AreTaken R.D.Disk
-        (record {
-          disks = R.disks rack.old;
-          given = R.given rack.old;
-          taken = R.taken rack.old;
-          faults = R.faults rack.old;
-          unfailing = R.unfailing rack.old;
-        })
-        (record {
-          disks = R.disks rack.new;
-          given = R.given rack.new;
-          taken = R.taken rack.new;
-          faults = R.faults rack.new;
-          unfailing = R.unfailing rack.new;
-        })
+        (rack_at R.Rack rack.old) (rack_at R.Rack rack.new)
         disks.items) }
-    ensures fault { IfErr result (EndsEarly (racked R.D.Disk
-        (record {
-          disks = R.disks rack.old;
-          given = R.given rack.old;
-          taken = R.taken rack.old;
-          faults = R.faults rack.old;
-          unfailing = R.unfailing rack.old;
-        })
-        (record {
-          disks = R.disks rack.new;
-          given = R.given rack.new;
-          taken = R.taken rack.new;
-          faults = R.faults rack.new;
-          unfailing = R.unfailing rack.new;
-        })) sites) }
+    ensures fault { IfErr result (EndsEarly (racked R.D.Disk (rack_at R.Rack rack.old) (rack_at R.Rack rack.new)) sites) }
 {
     let Ok(mut disks) = Vec::with_capacity(alloc, usize::from(sites)) else {
         return Err(Fault::Memory);
@@ -63,37 +36,11 @@ pub fn take_all<R: Rack>(alloc: Global, rack: &mut R, sites: u8) -> Result<Vec<R
 pub fn give_all<R: Rack>(rack: &mut R, disks: Vec<R::D>) -> Result<(), u8>
     requires few { length disks.items ≤ most_sites }
     ensures given { AreGiven
-        (record {
-          disks = R.disks rack.old;
-          given = R.given rack.old;
-          taken = R.taken rack.old;
-          faults = R.faults rack.old;
-          unfailing = R.unfailing rack.old;
-        })
-        (record {
-          disks = R.disks rack.new;
-          given = R.given rack.new;
-          taken = R.taken rack.new;
-          faults = R.faults rack.new;
-          unfailing = R.unfailing rack.new;
-        })
+        (rack_at R.Rack rack.old) (rack_at R.Rack rack.new)
         0 disks.items }
     ensures ok { OnOk result (R.faults rack.new ≡ R.faults rack.old) }
     ensures lost { IfErr result (IsFirstLost
-        (record {
-          disks = R.disks rack.old;
-          given = R.given rack.old;
-          taken = R.taken rack.old;
-          faults = R.faults rack.old;
-          unfailing = R.unfailing rack.old;
-        })
-        (record {
-          disks = R.disks rack.new;
-          given = R.given rack.new;
-          taken = R.taken rack.new;
-          faults = R.faults rack.new;
-          unfailing = R.unfailing rack.new;
-        })
+        (rack_at R.Rack rack.old) (rack_at R.Rack rack.new)
         disks.items) }
 {
     let mut lost = Ok(());

@@ -1,5 +1,5 @@
 ghost use Rattle.walter_cli.specs.Assurance.{Assures};
-ghost use Rattle.walter_cli.specs.Headline.{Outside};
+ghost use Rattle.walter_cli.specs.Headline.{outside_at};
 
 use crate::ended::{Ended, Fault};
 use crate::program::top;
@@ -15,18 +15,8 @@ pub fn top_in_memory<X: AllocGlobal, S: Source, K: Sink>(
     sink: &mut K,
 ) -> Ended
     ensures { Assures words.now
-        (record {
-          left = S.left source.old;
-          source_faults = S.faults source.old;
-          holds = K.holds sink.old;
-          sink_faults = K.faults sink.old;
-        })
-        (record {
-          left = S.left source.new;
-          source_faults = S.faults source.new;
-          holds = K.holds sink.new;
-          sink_faults = K.faults sink.new;
-        })
+        (outside_at S.Source K.Sink source.old sink.old)
+        (outside_at S.Source K.Sink source.new sink.new)
         result }
 {
     let alloc = rt.alloc();

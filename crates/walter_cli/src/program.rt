@@ -1,5 +1,5 @@
-ghost use Rattle.walter_cli.specs.Headline.{Promise, Outside};
-ghost use Rattle.walter_cli.specs.Racks.{racked};
+ghost use Rattle.walter_cli.specs.Headline.{Promise, outside_at};
+ghost use Rattle.walter_cli.specs.Racks.{rack_at, racked};
 
 use crate::ended::{Ended, Fault};
 use crate::running::run;
@@ -18,23 +18,9 @@ pub fn top<X: AllocGlobal, S: Source, K: Sink, R: Rack>(
     rack: &mut R,
 ) -> Ended
     ensures { Promise words.now
-        (racked R.D.Disk
-        (record {
-          disks = R.disks rack.old;
-          given = R.given rack.old;
-          taken = R.taken rack.old;
-          faults = R.faults rack.old;
-          unfailing = R.unfailing rack.old;
-        })
-        (record {
-          disks = R.disks rack.new;
-          given = R.given rack.new;
-          taken = R.taken rack.new;
-          faults = R.faults rack.new;
-          unfailing = R.unfailing rack.new;
-        }))
-        (record { left = S.left source.old; source_faults = S.faults source.old; holds = K.holds sink.old; sink_faults = K.faults sink.old })
-        (record { left = S.left source.new; source_faults = S.faults source.new; holds = K.holds sink.new; sink_faults = K.faults sink.new })
+        (racked R.D.Disk (rack_at R.Rack rack.old) (rack_at R.Rack rack.new))
+        (outside_at S.Source K.Sink source.old sink.old)
+        (outside_at S.Source K.Sink source.new sink.new)
         result }
 {
     let alloc = rt.alloc();

@@ -7,7 +7,7 @@ ghost use Rattle.walter_scenario.specs.declared.scenario.Client.{Client};
 ghost use Rattle.walter_scenario.specs.Parts.{IsArm, IsStep, IsCapacity};
 ghost use Rattle.walter_stream.specs.Streams.{Appends};
 ghost use Rattle.walter_cli.specs.Ending.{EndsRun, EndsEarly, IsBuilt, IsWriteFault, fault_of};
-ghost use Rattle.walter_cli.specs.Racks.{racked};
+ghost use Rattle.walter_cli.specs.Racks.{rack_at, racked};
 ghost use Rattle.walter_cli.specs.Statuses.{status_of};
 ghost use Rattle.walter_cli.specs.Texts.{text_of};
 
@@ -42,37 +42,9 @@ pub fn run<K: Sink, R: Rack>(
     requires arms { All (IsArm scenario.now.catalog.sites) scenario.now.arms }
     requires steps { All (IsStep scenario.now.catalog.sites (length scenario.now.clients)) scenario.now.steps }
     ensures status { result.status ≡ status_of result.fault }
-    ensures given_back { (racked R.D.Disk
-        (record {
-          disks = R.disks rack.old;
-          given = R.given rack.old;
-          taken = R.taken rack.old;
-          faults = R.faults rack.old;
-          unfailing = R.unfailing rack.old;
-        })
-        (record {
-          disks = R.disks rack.new;
-          given = R.given rack.new;
-          taken = R.taken rack.new;
-          faults = R.faults rack.new;
-          unfailing = R.unfailing rack.new;
-        })).balanced }
+    ensures given_back { (racked R.D.Disk (rack_at R.Rack rack.old) (rack_at R.Rack rack.new)).balanced }
     ensures unfailing { 16 ≤ R.unfailing rack.old → ¬ (R.faults rack.old < R.faults rack.new) }
-    ensures run { EndsRun (racked R.D.Disk
-        (record {
-          disks = R.disks rack.old;
-          given = R.given rack.old;
-          taken = R.taken rack.old;
-          faults = R.faults rack.old;
-          unfailing = R.unfailing rack.old;
-        })
-        (record {
-          disks = R.disks rack.new;
-          given = R.given rack.new;
-          taken = R.taken rack.new;
-          faults = R.faults rack.new;
-          unfailing = R.unfailing rack.new;
-        }))
+    ensures run { EndsRun (racked R.D.Disk (rack_at R.Rack rack.old) (rack_at R.Rack rack.new))
         traced scenario.now (K.holds sink.old) (K.holds sink.new) (K.faults sink.old) (K.faults sink.new)
         result.trails.items result.fault }
 {
@@ -107,36 +79,10 @@ fn build_over<R: Rack>(
     requires within { All (λ (client : Client). client.site.0 < scenario.now.catalog.sites) scenario.now.clients }
     requires capacity { IsCapacity scenario.now.capacity }
     ensures built { IfOk result (IsBuilt
-        (record {
-          disks = R.disks rack.old;
-          given = R.given rack.old;
-          taken = R.taken rack.old;
-          faults = R.faults rack.old;
-          unfailing = R.unfailing rack.old;
-        })
-        (record {
-          disks = R.disks rack.new;
-          given = R.given rack.new;
-          taken = R.taken rack.new;
-          faults = R.faults rack.new;
-          unfailing = R.unfailing rack.new;
-        })
+        (rack_at R.Rack rack.old) (rack_at R.Rack rack.new)
         scenario.now) }
-    ensures unbuilt { IfErr result (EndsEarly (racked R.D.Disk
-        (record {
-          disks = R.disks rack.old;
-          given = R.given rack.old;
-          taken = R.taken rack.old;
-          faults = R.faults rack.old;
-          unfailing = R.unfailing rack.old;
-        })
-        (record {
-          disks = R.disks rack.new;
-          given = R.given rack.new;
-          taken = R.taken rack.new;
-          faults = R.faults rack.new;
-          unfailing = R.unfailing rack.new;
-        })) scenario.now.catalog.sites) }
+    ensures unbuilt { IfErr result (EndsEarly (racked R.D.Disk (rack_at R.Rack rack.old) (rack_at R.Rack rack.new))
+        scenario.now.catalog.sites) }
 {
     let Ok(lines) = open_lines(alloc, scenario.clients.as_slice()) else {
         return Err(Fault::Memory);

@@ -3,44 +3,20 @@ use Rattle.std.specs.Prelude.{Result, OnOk, IfErr}
 use Rattle.std.specs.Result.{is_err}
 use Rattle.std.proofs.lemmas.List.{length-append}
 use Rattle.walter_cli.specs.Disks.{IsFirstLost, lost_after}
-use Rattle.walter_cli.specs.Racks.{RackAt}
+use Rattle.walter_cli.specs.Racks.{RackAt, rack_at}
 use Rattle.walter_cli.proofs.Racking.{given_none, given_more, lost_more}
 use Rattle.walter_cli.proofs.disks.give_all.Goals as goal
 
 pub loop-disk-init : goal.loop-disk-init
 loop-disk-init g c =
-    let a : RackAt g.row.R-D.Denot = record {
-      disks = g.R.Rack.disks c.args.rack.now;
-      given = g.R.Rack.given c.args.rack.now;
-      taken = g.R.Rack.taken c.args.rack.now;
-      faults = g.R.Rack.faults c.args.rack.now;
-      unfailing = g.R.Rack.unfailing c.args.rack.now;
-    } in
+    let a : RackAt g.row.R-D.Denot = rack_at g.R.Rack c.args.rack.now in
     record { given = given_none a a a; next = refl; ok = refl; err = tt }
 
 pub loop-disk-preserved : goal.loop-disk-preserved
 loop-disk-preserved g c =
-    let a : RackAt g.row.R-D.Denot = record {
-      disks = g.R.Rack.disks c.args.rack.now;
-      given = g.R.Rack.given c.args.rack.now;
-      taken = g.R.Rack.taken c.args.rack.now;
-      faults = g.R.Rack.faults c.args.rack.now;
-      unfailing = g.R.Rack.unfailing c.args.rack.now;
-    } in
-    let b : RackAt g.row.R-D.Denot = record {
-      disks = g.R.Rack.disks c.loop-disk.rack;
-      given = g.R.Rack.given c.loop-disk.rack;
-      taken = g.R.Rack.taken c.loop-disk.rack;
-      faults = g.R.Rack.faults c.loop-disk.rack;
-      unfailing = g.R.Rack.unfailing c.loop-disk.rack;
-    } in
-    let d : RackAt g.row.R-D.Denot = record {
-      disks = g.R.Rack.disks c.give-given.new.self;
-      given = g.R.Rack.given c.give-given.new.self;
-      taken = g.R.Rack.taken c.give-given.new.self;
-      faults = g.R.Rack.faults c.give-given.new.self;
-      unfailing = g.R.Rack.unfailing c.give-given.new.self;
-    } in
+    let a : RackAt g.row.R-D.Denot = rack_at g.R.Rack c.args.rack.now in
+    let b : RackAt g.row.R-D.Denot = rack_at g.R.Rack c.loop-disk.rack in
+    let d : RackAt g.row.R-D.Denot = rack_at g.R.Rack c.give-given.new.self in
     let is = c.loop-disk.invariant in
     let e = c.give-given.ensures in
     let done = c.loop-disk.yielded in

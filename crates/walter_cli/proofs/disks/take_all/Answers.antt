@@ -2,7 +2,7 @@ use Rattle.std.proofs.Common.{◌≡◌, ◌+◌, ◌<◌, ◌∷◌, [], ℕ, L
 use Rattle.std.specs.Prelude.{IfSome}
 use Rattle.std.proofs.lemmas.List.{length-append}
 use Rattle.walter_cli.specs.Disks.{AreTaken}
-use Rattle.walter_cli.specs.Racks.{RackAt}
+use Rattle.walter_cli.specs.Racks.{RackAt, rack_at}
 use Rattle.walter_cli.specs.declared.ended.Fault.TheVariants.{Memory, Rack}
 use Rattle.walter_cli.proofs.Early.{ends_before, ends_early}
 use Rattle.walter_cli.proofs.Giving.{IsReturned, took_all, lacks_behind}
@@ -11,45 +11,15 @@ use Rattle.walter_cli.proofs.disks.take_all.Goals as goal
 
 pub returns-in_default-clause-fault : goal.returns-in_default-clause-fault
 returns-in_default-clause-fault g c =
-    let a : RackAt g.row.R-D.Denot = record {
-      disks = g.R.Rack.disks c.args.rack.now;
-      given = g.R.Rack.given c.args.rack.now;
-      taken = g.R.Rack.taken c.args.rack.now;
-      faults = g.R.Rack.faults c.args.rack.now;
-      unfailing = g.R.Rack.unfailing c.args.rack.now;
-    } in
+    let a : RackAt g.row.R-D.Denot = rack_at g.R.Rack c.args.rack.now in
     ends_before g.R.D.Disk a a c.args.sites Memory refl refl (omega arith) (λ many. refl) tt
 
 pub returns-in-Err-clause-fault : goal.returns-in-Err-clause-fault
 returns-in-Err-clause-fault g c =
-    let a : RackAt g.row.R-D.Denot = record {
-      disks = g.R.Rack.disks c.args.rack.now;
-      given = g.R.Rack.given c.args.rack.now;
-      taken = g.R.Rack.taken c.args.rack.now;
-      faults = g.R.Rack.faults c.args.rack.now;
-      unfailing = g.R.Rack.unfailing c.args.rack.now;
-    } in
-    let b : RackAt g.row.R-D.Denot = record {
-      disks = g.R.Rack.disks c.loop-site.rack;
-      given = g.R.Rack.given c.loop-site.rack;
-      taken = g.R.Rack.taken c.loop-site.rack;
-      faults = g.R.Rack.faults c.loop-site.rack;
-      unfailing = g.R.Rack.unfailing c.loop-site.rack;
-    } in
-    let d : RackAt g.row.R-D.Denot = record {
-      disks = g.R.Rack.disks c.take.new.self;
-      given = g.R.Rack.given c.take.new.self;
-      taken = g.R.Rack.taken c.take.new.self;
-      faults = g.R.Rack.faults c.take.new.self;
-      unfailing = g.R.Rack.unfailing c.take.new.self;
-    } in
-    let e : RackAt g.row.R-D.Denot = record {
-      disks = g.R.Rack.disks c.give_all.new.rack;
-      given = g.R.Rack.given c.give_all.new.rack;
-      taken = g.R.Rack.taken c.give_all.new.rack;
-      faults = g.R.Rack.faults c.give_all.new.rack;
-      unfailing = g.R.Rack.unfailing c.give_all.new.rack;
-    } in
+    let a : RackAt g.row.R-D.Denot = rack_at g.R.Rack c.args.rack.now in
+    let b : RackAt g.row.R-D.Denot = rack_at g.R.Rack c.loop-site.rack in
+    let d : RackAt g.row.R-D.Denot = rack_at g.R.Rack c.take.new.self in
+    let e : RackAt g.row.R-D.Denot = rack_at g.R.Rack c.give_all.new.rack in
     let is = c.loop-site.invariant in
     let taken = is.taken in
     let rose : b.faults < d.faults = c.in-Err.ensures.cause in
@@ -83,27 +53,9 @@ returns-in-Err-clause-fault g c =
 
 pub loop-site-preserved : goal.loop-site-preserved
 loop-site-preserved g c =
-    let a : RackAt g.row.R-D.Denot = record {
-      disks = g.R.Rack.disks c.args.rack.now;
-      given = g.R.Rack.given c.args.rack.now;
-      taken = g.R.Rack.taken c.args.rack.now;
-      faults = g.R.Rack.faults c.args.rack.now;
-      unfailing = g.R.Rack.unfailing c.args.rack.now;
-    } in
-    let b : RackAt g.row.R-D.Denot = record {
-      disks = g.R.Rack.disks c.loop-site.rack;
-      given = g.R.Rack.given c.loop-site.rack;
-      taken = g.R.Rack.taken c.loop-site.rack;
-      faults = g.R.Rack.faults c.loop-site.rack;
-      unfailing = g.R.Rack.unfailing c.loop-site.rack;
-    } in
-    let d : RackAt g.row.R-D.Denot = record {
-      disks = g.R.Rack.disks c.take.new.self;
-      given = g.R.Rack.given c.take.new.self;
-      taken = g.R.Rack.taken c.take.new.self;
-      faults = g.R.Rack.faults c.take.new.self;
-      unfailing = g.R.Rack.unfailing c.take.new.self;
-    } in
+    let a : RackAt g.row.R-D.Denot = rack_at g.R.Rack c.args.rack.now in
+    let b : RackAt g.row.R-D.Denot = rack_at g.R.Rack c.loop-site.rack in
+    let d : RackAt g.row.R-D.Denot = rack_at g.R.Rack c.take.new.self in
     let is = c.loop-site.invariant in
     let e = c.in-Ok-take.ensures in
     let disks = c.loop-site.disks.items in

@@ -5,13 +5,13 @@ use Rattle.walter_disk_memory.specs.MemoryRacks.{RackState, unfailing_of}
 use Rattle.walter_disk_memory.specs.contracts.memory_disk.MemoryDiskDisk.TheImpl.{ghosts as disk_ghosts}
 use Rattle.walter_disk_memory.specs.contracts.memory_rack.MemoryRackRack.TheImpl.{ghosts as rack_ghosts}
 use Rattle.walter_engine.specs.Begins.{HasNoRecord}
-use Rattle.walter_cli.specs.Racks.{RackAt, Holds, racked}
+use Rattle.walter_cli.specs.Racks.{RackAt, rack_at, Holds, racked}
 use Rattle.walter_cli.proofs.Sure.{assured, assured_early, assured_usage}
 use Rattle.walter_cli.proofs.memory.top_in_memory.Goals as goal
 
 -- what is known of a rack in memory
 abbrev at : RackState → RackAt MemoryState
-at rack = record { disks = rack_ghosts.disks rack; given = rack_ghosts.given rack; taken = rack_ghosts.taken rack; faults = rack_ghosts.faults rack; unfailing = rack_ghosts.unfailing rack }
+at rack = rack_at rack_ghosts rack
 
 -- the disks that it was given have not failed where they have no arm
 sound : (given more : List (ℕ × MemoryState)) → All (λ (it : ℕ × MemoryState). FailsOnlyIfArmed it.1) given → Some given ≡ Some more

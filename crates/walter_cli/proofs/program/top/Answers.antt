@@ -1,5 +1,5 @@
 use Rattle.std.proofs.Common.{refl, ap, sym, ◌∙◌, arith}
-use Rattle.walter_cli.specs.Racks.{RackAt, racked}
+use Rattle.walter_cli.specs.Racks.{RackAt, rack_at, racked}
 use Rattle.walter_cli.specs.Statuses.{status_of}
 use Rattle.walter_cli.proofs.Early.{untouched_before}
 use Rattle.walter_cli.proofs.Giving.{none_balances}
@@ -10,13 +10,7 @@ use Rattle.walter_cli.proofs.program.top.Goals as goal
 -- the words ask for nothing
 pub returns-in_default : goal.returns-in_default
 returns-in_default g c =
-    let at : RackAt g.row.R-D.Denot = record {
-      disks = g.R.Rack.disks c.args.rack.now;
-      given = g.R.Rack.given c.args.rack.now;
-      taken = g.R.Rack.taken c.args.rack.now;
-      faults = g.R.Rack.faults c.args.rack.now;
-      unfailing = g.R.Rack.unfailing c.args.rack.now;
-    } in
+    let at : RackAt g.row.R-D.Denot = rack_at g.R.Rack c.args.rack.now in
     let ended = c.early.ensures in
     promise_usage c.args.words.now (racked g.R.D.Disk at at) _ _ c.early.result (ended.status ∙ ap status_of (sym ended.fault))
     (none_balances g.R.D.Disk at at refl refl (omega arith)) (λ many rose. omega (arith, rose)) c.in_default.ensures.none
@@ -50,20 +44,8 @@ run-requires-clause-within g c =
 
 pub returns-in-Ok : goal.returns-in-Ok
 returns-in-Ok g c =
-    let before : RackAt g.row.R-D.Denot = record {
-      disks = g.R.Rack.disks c.args.rack.now;
-      given = g.R.Rack.given c.args.rack.now;
-      taken = g.R.Rack.taken c.args.rack.now;
-      faults = g.R.Rack.faults c.args.rack.now;
-      unfailing = g.R.Rack.unfailing c.args.rack.now;
-    } in
-    let after : RackAt g.row.R-D.Denot = record {
-      disks = g.R.Rack.disks c.run.new.rack;
-      given = g.R.Rack.given c.run.new.rack;
-      taken = g.R.Rack.taken c.run.new.rack;
-      faults = g.R.Rack.faults c.run.new.rack;
-      unfailing = g.R.Rack.unfailing c.run.new.rack;
-    } in
+    let before : RackAt g.row.R-D.Denot = rack_at g.R.Rack c.args.rack.now in
+    let after : RackAt g.row.R-D.Denot = rack_at g.R.Rack c.run.new.rack in
     promise_run c.args.words.now (racked g.R.D.Disk before after) _ _ c.run.result c.run.ensures.status c.run.ensures.given_back
     c.run.ensures.unfailing c.in-Some.command.trace c.in-Some.ensures.some c.in-Ok.scenario c.run.result.fault refl
     c.in-Ok.ensures.ok c.run.ensures.run
@@ -71,13 +53,7 @@ returns-in-Ok g c =
 -- no scenario was taken
 pub returns-in-Err : goal.returns-in-Err
 returns-in-Err g c =
-    let at : RackAt g.row.R-D.Denot = record {
-      disks = g.R.Rack.disks c.args.rack.now;
-      given = g.R.Rack.given c.args.rack.now;
-      taken = g.R.Rack.taken c.args.rack.now;
-      faults = g.R.Rack.faults c.args.rack.now;
-      unfailing = g.R.Rack.unfailing c.args.rack.now;
-    } in
+    let at : RackAt g.row.R-D.Denot = rack_at g.R.Rack c.args.rack.now in
     let ended = c.early-in-Err.ensures in
     promise_fault c.args.words.now (racked g.R.D.Disk at at) _ _ c.early-in-Err.result
     (ended.status ∙ ap status_of (sym ended.fault)) (none_balances g.R.D.Disk at at refl refl (omega arith))

@@ -3,7 +3,7 @@ use Rattle.walter_cluster.specs.Builds.{AreUnread}
 use Rattle.walter_engine.specs.Begins.{HasNoRecord}
 use Rattle.walter_scenario.specs.declared.scenario.Client.{Client}
 use Rattle.walter_cli.specs.Ending.{EndsEarly}
-use Rattle.walter_cli.specs.Racks.{RackAt, racked}
+use Rattle.walter_cli.specs.Racks.{RackAt, rack_at, racked}
 use Rattle.walter_cli.specs.declared.ended.Fault.{Fault}
 use Rattle.walter_cli.specs.declared.ended.Fault.TheVariants.{Memory}
 use Rattle.walter_cli.proofs.Early.{ends_before, ends_unbuilt}
@@ -14,13 +14,7 @@ use Rattle.walter_cli.proofs.running.build_over.Goals as goal
 
 pub returns-in_default-clause-unbuilt : goal.returns-in_default-clause-unbuilt
 returns-in_default-clause-unbuilt g c =
-    let a : RackAt g.row.R-D.Denot = record {
-      disks = g.R.Rack.disks c.args.rack.now;
-      given = g.R.Rack.given c.args.rack.now;
-      taken = g.R.Rack.taken c.args.rack.now;
-      faults = g.R.Rack.faults c.args.rack.now;
-      unfailing = g.R.Rack.unfailing c.args.rack.now;
-    } in
+    let a : RackAt g.row.R-D.Denot = rack_at g.R.Rack c.args.rack.now in
     ends_before g.R.D.Disk a a c.args.scenario.now.catalog.sites Memory refl refl (omega arith) (λ many. refl) tt
 
 pub returns-in-Ok-build-clause-built : goal.returns-in-Ok-build-clause-built
@@ -45,27 +39,9 @@ returns-in-Ok-build-clause-built g c =
 
 pub returns-in-Err-clause-unbuilt : goal.returns-in-Err-clause-unbuilt
 returns-in-Err-clause-unbuilt g c =
-    let a : RackAt g.row.R-D.Denot = record {
-      disks = g.R.Rack.disks c.args.rack.now;
-      given = g.R.Rack.given c.args.rack.now;
-      taken = g.R.Rack.taken c.args.rack.now;
-      faults = g.R.Rack.faults c.args.rack.now;
-      unfailing = g.R.Rack.unfailing c.args.rack.now;
-    } in
-    let b : RackAt g.row.R-D.Denot = record {
-      disks = g.R.Rack.disks c.take_all.new.rack;
-      given = g.R.Rack.given c.take_all.new.rack;
-      taken = g.R.Rack.taken c.take_all.new.rack;
-      faults = g.R.Rack.faults c.take_all.new.rack;
-      unfailing = g.R.Rack.unfailing c.take_all.new.rack;
-    } in
-    let d : RackAt g.row.R-D.Denot = record {
-      disks = g.R.Rack.disks c.give_all.new.rack;
-      given = g.R.Rack.given c.give_all.new.rack;
-      taken = g.R.Rack.taken c.give_all.new.rack;
-      faults = g.R.Rack.faults c.give_all.new.rack;
-      unfailing = g.R.Rack.unfailing c.give_all.new.rack;
-    } in
+    let a : RackAt g.row.R-D.Denot = rack_at g.R.Rack c.args.rack.now in
+    let b : RackAt g.row.R-D.Denot = rack_at g.R.Rack c.take_all.new.rack in
+    let d : RackAt g.row.R-D.Denot = rack_at g.R.Rack c.give_all.new.rack in
     let was = c.in_ok-disks.ensures.taken in
     let disks = c.in_ok-disks.disks.items in
     let why = c.in-Err.ensures.why in

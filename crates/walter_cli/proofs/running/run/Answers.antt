@@ -8,7 +8,7 @@ use Rattle.walter_trail.specs.declared.trail.Trail.{Trail}
 use Rattle.walter_cli.specs.declared.ended.Fault.TheVariants.{Memory, Rack}
 use Rattle.walter_cli.specs.Ending.{IsBuilt, IsWriteFault}
 use Rattle.walter_cli.specs.Headline.{IsRun, IsWholeRun}
-use Rattle.walter_cli.specs.Racks.{RackAt, Racked, racked}
+use Rattle.walter_cli.specs.Racks.{RackAt, rack_at, Racked, racked}
 use Rattle.walter_cli.specs.Texts.{text_of}
 use Rattle.walter_cli.proofs.Finished.{returned, run_is, whole_is, ends_with, ends_cut}
 use Rattle.walter_cli.proofs.Giving.{IsReturned, ok_part, balances, fails_to_give}
@@ -21,31 +21,13 @@ use Rattle.walter_cli.proofs.running.run.Goals as goal
 -- a run behind the call that gives the disks back to the rack
 module _ (g : Over) (c : After-give_all-given g) where
   abbrev before : RackAt g.row.R-D.Denot
-  before = record {
-    disks = g.R.Rack.disks c.args.rack.now;
-    given = g.R.Rack.given c.args.rack.now;
-    taken = g.R.Rack.taken c.args.rack.now;
-    faults = g.R.Rack.faults c.args.rack.now;
-    unfailing = g.R.Rack.unfailing c.args.rack.now;
-  }
+  before = rack_at g.R.Rack c.args.rack.now
 
   abbrev mid : RackAt g.row.R-D.Denot
-  mid = record {
-    disks = g.R.Rack.disks c.build_over.new.rack;
-    given = g.R.Rack.given c.build_over.new.rack;
-    taken = g.R.Rack.taken c.build_over.new.rack;
-    faults = g.R.Rack.faults c.build_over.new.rack;
-    unfailing = g.R.Rack.unfailing c.build_over.new.rack;
-  }
+  mid = rack_at g.R.Rack c.build_over.new.rack
 
   abbrev after : RackAt g.row.R-D.Denot
-  after = record {
-    disks = g.R.Rack.disks c.give_all-given.new.rack;
-    given = g.R.Rack.given c.give_all-given.new.rack;
-    taken = g.R.Rack.taken c.give_all-given.new.rack;
-    faults = g.R.Rack.faults c.give_all-given.new.rack;
-    unfailing = g.R.Rack.unfailing c.give_all-given.new.rack;
-  }
+  after = rack_at g.R.Rack c.give_all-given.new.rack
 
   abbrev rack : Racked
   rack = racked g.R.D.Disk before after
