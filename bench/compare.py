@@ -38,7 +38,9 @@ OUTCOMES += [f"advance {outcome}" for outcome in ("taken", "passed", "failed", "
 OUTCOMES += [f"restart {outcome}" for outcome in ("taken", "passed", "failed", "full")]
 OUTCOMES += ["stop taken", "stop down", "tick passed", "tick down"]
 RECORDED = [f"{record} {how}" for record in RECORDS for how in ("stable", "in flight", "found")]
-VOTES = ["VOTE YES", "VOTE NO modified", "VOTE NO locked", "VOTE NO over"]
+VOTES = ["VOTE YES", "VOTE LATER", "VOTE NO modified", "VOTE NO locked", "VOTE NO over"]
+# What the model counts while it plays: why a peer is to be asked again, and an ACK of several commits at once.
+RULES = ["LATER before all is received", "LATER over the lock of a cause", "ACK that jumps"]
 DELIVERIES = [f"packet {how}" for how in ("in order", "late", "again", "never", "of no such number")]
 SITES = [f"sites {number}" for number in range(1, 9)]
 AT_LIMITS = {
@@ -49,9 +51,10 @@ AT_LIMITS = {
     "bytes of a value": 4096,
     "bytes of a frame": 65536,
     "packets of a lane": 1024,
+    "commits in a window": 64,
 }
 LIMITS = [f"{what} {number:,}" for what, limit in AT_LIMITS.items() for number in (limit, limit + 1)]
-ALL = SITES + REPLIES + OUTCOMES + RECORDED + VOTES + DELIVERIES + LIMITS
+ALL = SITES + REPLIES + OUTCOMES + RECORDED + VOTES + RULES + DELIVERIES + LIMITS
 
 
 # What a run met
@@ -75,7 +78,9 @@ def entry_met(entry):
 
 
 def vote_met(packet):
-    return "VOTE NO " + CAUSES[packet[2][0]] if len(packet) > 2 else "VOTE YES"
+    if len(packet) == 2:
+        return "VOTE YES"
+    return "VOTE LATER" if packet[2] == (LATER,) else "VOTE NO " + CAUSES[packet[2][0]]
 
 
 def packets_met(run):

@@ -1,8 +1,8 @@
 """Random scenarios, each by its seed: of one site and of several, and some that come to a limit.
 
 Of ten seeds in a row one makes a scenario that comes to a limit: a site's open transactions, the updates and the bytes of a
-transaction, the ids of a set, the bytes of a value and of a frame, the packets of a lane. Two make one of one site, and
-seven one of several, in the kinds of `SEVERAL`. These are made beside a run of the plain model, which tells which packets
+transaction, the ids of a set, the bytes of a value and of a frame, the packets of a lane, the commits in a window. Two make
+one of one site, and seven one of several, in the kinds of `SEVERAL`. These are made beside a run of the plain model, which tells which packets
 there are: so most deliveries find one, in order or not, again, late or never.
 """
 
@@ -319,9 +319,33 @@ def full_lane(rng):
     return {"sites": 2, "f": 0, "containers": [[2, "cset", 0]], "clients": [client], "steps": steps}
 
 
+def full_window(rng):
+    """A site commits about as often as its window has places while a peer hears nothing. Then the peer receives some of it, in
+    order, and some of its ACKs come, which jump; and the site says again what is left."""
+    sites, count = rng.choice([2, 2, 3]), near(rng, 64)
+    client = [0, frames([START, on_set(model.SET_ADD, (2, 1), 9), COMMIT] * count).hex()]
+    made = {"sites": sites, "f": rng.randrange(sites), "containers": [[2, "cset", 0]], "clients": [client]}
+    run, steps = model.Run(made, Counter()), []
+
+    def take(*made):
+        steps.append(list(made))
+        run.step(*made)
+
+    for _ in range(3 * count):
+        take("call", 0)
+    for _ in range(2):
+        for kind, here, there in (model.PROPAGATE, 1, 0), (model.ACK, 0, 1):
+            numbers = [number for number, (_, packet) in enumerate(run.sites[there].put_out[here], 1) if packet[0] == kind]
+            for number in numbers[: rng.randint(1, len(numbers))]:
+                if kind == model.PROPAGATE or rng.random() < 0.3 or number == numbers[-1]:
+                    take("deliver", here, there, number)
+        take("tick", 0)
+    return {**made, "steps": steps}
+
+
 # The kinds, by seed
 
-AT_LIMIT = [many_open, many_updates, many_bytes, many_ids, long_value, long_frame, full_lane]
+AT_LIMIT = [many_open, many_updates, many_bytes, many_ids, long_value, long_frame, full_lane, full_window]
 # Of ten seeds in a row: what is made by each but the first.
 BY_SEED = [None, "one", "one", *SEVERAL]
 

@@ -12,7 +12,7 @@ from collections import Counter, defaultdict, namedtuple
 from disks import Disk, Failed, Full, Journal
 from spelled import *
 
-WINDOW = 1
+WINDOW = 64
 LANE = 1024
 
 Tx = namedtuple("Tx", "tid slow start updates")
@@ -260,6 +260,8 @@ class Site:
 
     def own_sends(self, before):
         number, durable = self.own(), self.marks()[0]
+        for k in self.peers:
+            meet(self.met, "commits in a window", number - self.acked[k], WINDOW)
         sends = [(k, self.propagate(number)) for k in self.peers if number <= self.acked[k] + WINDOW]
         return sends + ([(k, (DSMARK, durable)) for k in self.peers] if durable > before else [])
 
@@ -350,6 +352,7 @@ class Site:
         before, own = self.acked[j], self.own()
         if not before < number <= own:
             return Plan("passed")
+        self.met["ACK that jumps"] += number > before + 1
         marks, acked = self.marks(), {**self.acked, j: number}
         now = self.marks(acked=acked)
         new = [k for k in range(number + 1, min(own, number + WINDOW) + 1) if k > before + WINDOW]
@@ -383,12 +386,22 @@ class Site:
             return Plan("passed", sends=vote())
         conflict = self.conflict(objects, start)
         if conflict:
-            return Plan("passed", sends=vote(conflict))
+            return Plan("passed", sends=vote(self.answer_over(conflict, start)))
         return Plan("taken", (PREPARED, j, number, tid, objects), sends=vote())
+
+    def answer_over(self, conflict, start):
+        """What is answered where this conflict is met: over a lock NO only where its owner is known to be outside the snapshot."""
+        if conflict[0] == LOCKED and not covers(self.got, start):
+            self.met["LATER before all is received"] += 1
+            return (LATER,)
+        if conflict[0] == LOCKED and any(tx.tid == conflict[2] and sees(start, *at) for at, tx in self.log.items()):
+            self.met["LATER over the lock of a cause"] += 1
+            return (LATER,)
+        return conflict
 
     def hear_vote(self, j, number, conflict=None):
         slow = self.slows.get(number)
-        if not slow or slow.stands != "undecided" or j not in slow.asked or conflict == (DEAD,):
+        if not slow or slow.stands != "undecided" or j not in slow.asked or conflict in ((DEAD,), (LATER,)):
             return Plan("passed")
         if conflict:
             def blame():

@@ -50,6 +50,13 @@ def value(content):
     return bytes([VALUE, 0]) if content is None else bytes([VALUE, 1]) + frame(content)
 
 
+def packet_told(packet):
+    """The kind of a packet and its number, and of a VOTE what is answered."""
+    kind, number, *rest = packet
+    answer = (" yes" if not rest else " later" if rest[0] == (LATER,) else " no") if kind == VOTE else ""
+    return f"{PACKETS[kind - 1]} {number}{answer}"
+
+
 class Row:
     """A run with the clients that call in it, one at each site that is named, and the steps with what comes of them."""
 
@@ -76,7 +83,7 @@ class Row:
         self.check((word, site, *rest), self.run.sites[site].entries[-1], to, record, sends)
 
     def check(self, what, entry, outcome, record, sends):
-        put_out = ",".join(f"{to}:{PACKETS[packet[0] - 1]} {packet[1]}" for to, packet in entry.sends)
+        put_out = ",".join(f"{to}:{packet_told(packet)}" for to, packet in entry.sends)
         found = entry.outcome, RECORDS[entry.wrote[0]] if entry.wrote else None, put_out
         if found != (outcome, record, sends):
             self.wrong.append((what, (outcome, record, sends), found))
@@ -161,12 +168,17 @@ def a_cause_comes_first():
     return row
 
 
-def a_slow_commit():
+def a_slow_commit_alone():
     row = Row(2, 0, [REGULAR_AT_0], (0, 1))
     row.begins(1, (1, 1, 1), ((1, 5), b"s"))
     row.call(1, COMMIT_IT, deciding(1, 1, 1), "SlowBegin", "0:prepare 1")
+    return row
+
+
+def a_slow_commit():
+    row = a_slow_commit_alone()
     row.begins(0, (0, 1, 1), ((1, 5), b"t"))
-    row.step("deliver", 0, 1, 1, record="Prepared", sends="1:vote 1")
+    row.step("deliver", 0, 1, 1, record="Prepared", sends="1:vote 1 yes")
     row.call(0, COMMIT_IT, locked((1, 5), (1, 1, 1)))
     row.step("deliver", 1, 0, 1, record="Own", sends="0:propagate 1")
     row.call(1, COMMIT_IT, committed(1, 1))
@@ -200,10 +212,10 @@ def crossing():
     for client, site in ((0, 2), (1, 3)):
         row.begins(client, (site, 1, 1), ((1, 1), b"a"), ((2, 1), b"a"))
         row.call(client, COMMIT_IT, deciding(site, 1, 1), "SlowBegin", "0:prepare 1,1:prepare 1")
-    row.step("deliver", 0, 2, 1, record="Prepared", sends="2:vote 1")
-    row.step("deliver", 1, 3, 1, record="Prepared", sends="3:vote 1")
-    row.step("deliver", 0, 3, 1, to="passed", sends="3:vote 1")
-    row.step("deliver", 1, 2, 1, to="passed", sends="2:vote 1")
+    row.step("deliver", 0, 2, 1, record="Prepared", sends="2:vote 1 yes")
+    row.step("deliver", 1, 3, 1, record="Prepared", sends="3:vote 1 yes")
+    row.step("deliver", 0, 3, 1, to="passed", sends="3:vote 1 no")
+    row.step("deliver", 1, 2, 1, to="passed", sends="2:vote 1 no")
     return row
 
 
@@ -224,7 +236,7 @@ def the_run_that_is_told():
     row.begins(2, (0, 1, 1), ((1, 1), b"c"))
     row.call(2, COMMIT_IT, committed(0, 1), "Own", TO_ALL_BUT_0)
     row.step("deliver", 0, 3, 2, record="Released", sends="3:released 1")
-    row.step("deliver", 0, 3, 1, to="passed", sends="3:vote 1")
+    row.step("deliver", 0, 3, 1, to="passed", sends="3:vote 1 no")
     return row
 
 
@@ -252,7 +264,7 @@ def a_prepare_comes_late():
     row.step("deliver", 0, 1, 2, record="Released", sends="1:released 1")
     row.step("stop", 0)
     row.step("restart", 0, record="Boot")
-    row.step("deliver", 0, 1, 1, to="passed", sends="1:vote 1")
+    row.step("deliver", 0, 1, 1, to="passed", sends="1:vote 1 no")
     row.begins(0, (0, 2, 1), ((1, 5), b"b"))
     row.call(0, COMMIT_IT, committed(0, 1), "Own", "1:propagate 1,1:dsmark 1")
     row.step("deliver", 1, 0, 2, to="passed")
@@ -273,8 +285,8 @@ def locks_outlive_a_stop():
     row = Row(3, 0, [REGULAR_AT_0, REGULAR_AT_1], (2, 0))
     row.begins(0, (2, 1, 1), ((1, 1), b"a"), ((2, 1), b"a"))
     row.call(0, COMMIT_IT, deciding(2, 1, 1), "SlowBegin", "0:prepare 1,1:prepare 1")
-    row.step("deliver", 0, 2, 1, record="Prepared", sends="2:vote 1")
-    row.step("deliver", 1, 2, 1, record="Prepared", sends="2:vote 1")
+    row.step("deliver", 0, 2, 1, record="Prepared", sends="2:vote 1 yes")
+    row.step("deliver", 1, 2, 1, record="Prepared", sends="2:vote 1 yes")
     row.step("stop", 2)
     row.step("restart", 2, record="Boot")
     row.call(0, COMMIT_IT, refusal(7, name_of((2, 1, 1))))
@@ -310,6 +322,57 @@ def durable_and_then_visible():
     return row
 
 
+def the_lock_of_a_cause():
+    """Who asks for the lock of a transaction that its snapshot has is asked to ask again, until the lock is gone."""
+    row = a_slow_commit_alone()
+    row.step("deliver", 0, 1, 1, record="Prepared", sends="1:vote 1 yes")
+    row.step("deliver", 1, 0, 1, record="Own", sends="0:propagate 1")
+    row.call(1, COMMIT_IT, committed(1, 1))
+    row.begins(1, (1, 1, 2), ((1, 5), b"u"))
+    row.call(1, COMMIT_IT, deciding(1, 1, 2), "SlowBegin", "0:prepare 2")
+    row.step("deliver", 0, 1, 3, to="passed", sends="1:vote 2 later")
+    row.step("deliver", 0, 1, 2, record="Got", sends="1:ack 1")
+    row.step("deliver", 0, 1, 3, to="passed", sends="1:vote 2 later")
+    row.step("deliver", 1, 0, 2, to="passed")
+    row.step("deliver", 1, 0, 3, record="Marks", sends="0:dsmark 1")
+    row.step("deliver", 0, 1, 4)
+    row.step("advance", 0, 1, record="Seen", sends="1:visible 1")
+    row.step("tick", 1, to="passed", sends="0:dsmark 1,0:prepare 2")
+    row.step("deliver", 0, 1, 6, record="Prepared", sends="1:vote 2 yes")
+    row.step("deliver", 1, 0, 6, record="Own", sends="0:propagate 2")
+    row.call(1, COMMIT_IT, committed(1, 2))
+    return row
+
+
+def commits_of_a_set(row, count):
+    """Client 0 adds to the set so many times, in a transaction each, and nothing is delivered."""
+    for number in range(1, count + 1):
+        row.calls(0, (START_IT, started(0, 1, number)), (on_set(SET_ADD, (3, 1), 9), DONE_IT))
+        sends = f"1:propagate {number}," if number <= model.WINDOW else ""
+        row.call(0, COMMIT_IT, committed(0, number), "Own", f"{sends}1:dsmark {number}")
+
+
+def a_window_of_three():
+    row = Row(2, 0, [SET_AT_0], (0, 1))
+    commits_of_a_set(row, 3)
+    row.step("deliver", 1, 0, 5, to="passed")
+    for number in (1, 2, 3):
+        row.step("deliver", 1, 0, 2 * number - 1, record="Got", sends=f"0:ack {number}")
+    row.step("deliver", 1, 0, 6)
+    for number in (1, 2, 3):
+        row.step("advance", 1, 0, record="Seen", sends=f"0:visible {number}")
+    row.step("advance", 1, 0, to="passed")
+    return row
+
+
+def a_window_that_is_full():
+    row = Row(2, 0, [SET_AT_0], (0, 1))
+    commits_of_a_set(row, 65)
+    row.step("deliver", 1, 0, 1, record="Got", sends="0:ack 1")
+    row.step("deliver", 0, 1, 1, sends="1:propagate 65")
+    return row
+
+
 ROWS = {
     "a long fork": long_fork,
     "a set cancels out": a_set_cancels_out,
@@ -325,6 +388,9 @@ ROWS = {
     "a commit at whose gate the disk fails is lost": lambda: a_stop_at_the_gate(7, 0),
     "locks outlive a stop": locks_outlive_a_stop,
     "a commit is durable and then visible": durable_and_then_visible,
+    "a lock of what the snapshot has is waited for": the_lock_of_a_cause,
+    "three commits are under way at once": a_window_of_three,
+    "a window is full": a_window_that_is_full,
 }
 
 

@@ -9,7 +9,7 @@ REFUSED = 0xE0
 PACKETS = ["propagate", "ack", "dsmark", "visible", "prepare", "vote", "release", "released"]
 PROPAGATE, ACK, DSMARK, VISIBLE, PREPARE, VOTE, RELEASE, RELEASED = range(1, 9)
 BOOT, OWN, GOT, SEEN, PREPARED, LET_GO, SLOW_BEGIN, SLOW_END, MARKS = range(1, 10)
-MODIFIED, LOCKED, ASKED, DEAD = range(1, 5)
+MODIFIED, LOCKED, ASKED, DEAD, LATER = range(1, 6)
 
 
 def frame(body):

@@ -6,5 +6,6 @@ pub mod Locks
 pub mod LocksKept
 pub mod Issued
 pub mod Tidy
+pub mod FastNames
 pub mod Owners
 pub mod Marked

@@ -94,7 +94,7 @@ on_decided slows slows2 owned2 how n = elim (how n) [
       ] refl end.0
 ]
 
-on_begun : (slows slows2 : ℕ → Slow) (owned2 : List Held) → IsOn slows slows2 owned2 → (n : ℕ)
+pub on_begun : (slows slows2 : ℕ → Slow) (owned2 : List Held) → IsOn slows slows2 owned2 → (n : ℕ)
     → begun (slows2 n) ≡ begun (slows n)
 on_begun slows slows2 owned2 on n = elim (on n) [
   | inl same ↦ ap begun same

@@ -14,6 +14,7 @@ use Rattle.walter_rules.specs.Log.{of_site}
 use Rattle.walter_rules.specs.Sessions.{Session}
 use Rattle.walter_rules.specs.Slow.{Undecided, Dropped, Locked}
 use Rattle.walter_rules.specs.Standing.{Standing}
+use Rattle.walter_agreement.proofs.FastNames.{AreFastNames}
 use Rattle.walter_agreement.proofs.Issued.{Issued, IsIssued}
 use Rattle.walter_agreement.proofs.Owners.{AreOwners}
 use Rattle.walter_agreement.proofs.Tidy.{IsTidy}
@@ -43,6 +44,11 @@ pub record IsAlone (catalog : Catalog) (i : SiteId) (S : Standing) : Type 0 wher
   -- its slow commits and sessions belong together
   pub tidy : IsTidy i (λ c. session_of S.knows c) S.knows.slow S.flight S.up S.knows.last (issued_of S)
       (of_site i S.knows.log)
+  -- no transaction of its is both a fast commit and a slow one
+  pub names : AreFastNames (λ c. session_of S.knows c) S.knows.slow S.flight (issued_of S) (of_site i S.knows.log)
+  -- an own lock is of a slow commit that is being decided
+  pub own_open : (n : ℕ) (t : Tid) (objs : List ObjId) → S.knows.part i n ≡ Locked t objs
+      → (tx : Tx) × (asked : List SiteId) × (S.knows.slow n ≡ Undecided tx asked)
   -- the owners of objects are those of its locks
   pub owners : AreOwners S.knows.part S.knows.owner
   -- what is locked is preferred here

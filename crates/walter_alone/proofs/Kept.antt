@@ -15,7 +15,7 @@ use Rattle.walter_base.specs.declared.transaction.Tx.{Tx}
 use Rattle.walter_base.specs.Names.{same_site}
 use Rattle.walter_base.proofs.ByClient.{lookup-changed, lookup-behind}
 use Rattle.walter_base.proofs.NameTests.{same_site_refl}
-use Rattle.walter_psi.proofs.Lists.{slice_get-append_left, slice_get-push}
+use Rattle.walter_psi.proofs.Lists.{slice_get-append_left, slice_get-push, slice_get-push_cases}
 use Rattle.walter_rules.specs.declared.event.Event.{Event}
 use Rattle.walter_rules.specs.declared.event.Event.TheVariants.{Given, Restart}
 use Rattle.walter_rules.specs.declared.event.Input.TheVariants.{Call}
@@ -30,11 +30,13 @@ use Rattle.walter_rules.specs.Log.{is_of, of_site}
 use Rattle.walter_rules.specs.Objects.{participants}
 use Rattle.walter_rules.specs.Records.{CanFollow}
 use Rattle.walter_rules.specs.Sessions.{Session, session_in, with_slow, tx_of}
-use Rattle.walter_rules.specs.Slow.{Undecided, begun, ended, decided}
-use Rattle.walter_agreement.proofs.Cases.{ended_not_undecided, none_not_some}
-use Rattle.walter_agreement.proofs.Issued.{IsIssued, issued_by_start, next_not_issued, next_issued}
+use Rattle.walter_rules.specs.Slow.{Slow, Undecided, begun, ended, decided}
+use Rattle.walter_rules.proofs.RuleTests.{peer_true}
+use Rattle.walter_agreement.proofs.Cases.{ended_not_undecided, none_not_some, site_cases}
+use Rattle.walter_agreement.proofs.FastNames.{IsFast, IsFreeName, AreFastNames, none_fast, names_go, names_begin}
+use Rattle.walter_agreement.proofs.Issued.{Issued, IsIssued, issued_by_start, next_not_issued, next_issued}
 use Rattle.walter_agreement.proofs.Lists.{filter_push_kept, filter_push_left}
-use Rattle.walter_agreement.proofs.Tidy.{IsTidy, IsUnbegun, IsOwn, IsOn, AreFrom, on_ended, on_decided, on_open, tidy_at_first, goes_on, begins_one}
+use Rattle.walter_agreement.proofs.Tidy.{IsTidy, IsUnbegun, IsOwn, IsOn, AreFrom, on_ended, on_decided, on_begun, on_open, tidy_at_first, goes_on, begins_one}
 use Rattle.walter_alone.proofs.Alone.{issued_by}
 use Rattle.walter_alone.proofs.Followed.{follow_lost, lost_recorded}
 use Rattle.walter_alone.proofs.Learned.{IsLearned, learned_fresh, learned_lost, learned_after, learned_recorded}
@@ -43,6 +45,7 @@ use Rattle.walter_alone.proofs.SoundSessions.{AreSound, none_sound, WasThere, so
 -- of whether a site is up, what it knows, and the record in flight
 pub record IsKept (catalog : Catalog) (i : SiteId) (up : Bool) (K : Knowledge) (flight : Option Record) : Type 0 where
   pub tidy : IsTidy i (λ c. session_of K c) K.slow flight up K.last (issued_by up K) (of_site i K.log)
+  pub names : AreFastNames (λ c. session_of K c) K.slow flight (issued_by up K) (of_site i K.log)
   pub learned : IsLearned catalog i K
   pub sound : AreSound catalog i (λ c. session_of K c) K.committed (issued_by up K)
   pub stopped : up ≡ false → lost K ≡ K
@@ -55,6 +58,7 @@ pub kept_at_first : (catalog : Catalog) (i : SiteId) → IsKept catalog i false 
 kept_at_first catalog i = record {
   tidy = tidy_at_first i (λ c. session_of fresh c) fresh.slow false fresh.last (issued_by false fresh)
       (of_site i fresh.log) (λ c. refl) (λ n. refl);
+  names = none_fast (λ c. session_of fresh c) fresh.slow (issued_by false fresh);
   learned = learned_fresh catalog i;
   sound = none_sound catalog i (λ c. session_of fresh c) fresh.committed (issued_by false fresh) (λ c. refl);
   stopped = λ down. refl;
@@ -124,6 +128,65 @@ begun_elsewhere catalog i K n x m = elim (nat_eq n m) as
       | true ↦ λ e. inr (sym (eqb-true n m e))
       | false ↦ λ e. inl refl
     ] refl
+
+-- and what is begun then was, or is this one
+begun_new : (catalog : Catalog) (i : SiteId) (K : Knowledge) (n : ℕ) (x : Tx) (m : ℕ) (y : Tx)
+    → begun (slow_after catalog i K (Some (SlowBegin n x)) m) ≡ Some y → (begun (K.slow m) ≡ Some y) ⊎ (x ≡ y)
+begun_new catalog i K n x m y = elim (nat_eq n m) as
+    (λ b. begun (if b then Undecided x (participants catalog K i x.updates) else K.slow m) ≡ Some y
+    → (begun (K.slow m) ≡ Some y) ⊎ (x ≡ y)) [
+      | true ↦ λ e. inr (same_Some x y e)
+      | false ↦ λ e. inl e
+    ]
+
+-- the record is a fast own commit of this transaction
+abbrev pub IsFastRecord : Option Record → Tid → Type 0
+IsFastRecord (Some (Own seq tx)) tid = (tx.slow ≡ 0) × (tx.tid ≡ tid)
+IsFastRecord wrote tid = ⊥
+
+-- a fast own commit behind a record was one, or is the record's
+fast_pushed : (i : SiteId) (log : List Held) (h : Held) (tid : Tid) → IsFast (of_site i (log ++ h ∷ [])) tid
+    → IsFast (of_site i log) tid ⊎ ((h.tx.tid.site ≡ i) × (h.tx.slow ≡ 0) × (h.tx.tid ≡ tid))
+fast_pushed i log h tid f = elim (site_cases h.tx.tid.site i) [
+  | inl own ↦ elim (slice_get-push_cases (of_site i log) h f.1 f.0
+      (ap (λ t. slice_get t f.0) (sym (filter_push_kept (is_of i) log h own.0)) ∙ f.2)) [
+        | inl was ↦ inl (f.0, f.1, was.1, f.3, f.4)
+        | inr last ↦ inr (
+          own.1,
+          ap (λ (z : Held). z.tx.slow) last.1 ∙ f.3,
+          ap (λ (z : Held). z.tx.tid) last.1 ∙ f.4,
+        )
+      ]
+  | inr other ↦ inl (f.0, f.1, ap (λ t. slice_get t f.0) (sym (filter_push_left (is_of i) log h other.0)) ∙ f.2, f.3, f.4)
+]
+
+fast_then : (catalog : Catalog) (i : SiteId) (K : Knowledge) (wrote : Option Record)
+    → IfSome wrote (CanFollow catalog i K) → (tid : Tid) → IsFast (of_site i (log_after wrote K.log)) tid
+    → IsFast (of_site i K.log) tid ⊎ IsFastRecord wrote tid
+fast_then catalog i K None f tid h = inl h
+fast_then catalog i K (Some (Own seq tx)) f tid h =
+    elim (fast_pushed i K.log (record { seq = seq; tx = tx }) tid h) [ inl was ↦ inl was | inr new ↦ inr (new.1, new.2) ]
+fast_then catalog i K (Some (Got from seq tx)) f tid h =
+    elim (fast_pushed i K.log (record { seq = seq; tx = tx }) tid h) [
+      | inl was ↦ inl was
+      | inr new ↦ absurd ((peer_true catalog i from f.peer).1 (sym f.sender ∙ new.0))
+    ]
+fast_then catalog i K (Some rec) f tid h = inl h
+
+-- a fast own commit that is to come has a free name, that no open session will have
+abbrev pub IsNewName : (ℕ → Option Session) → (ℕ → Slow) → Issued → Option Record → Type 0
+IsNewName sess slows numbers (Some (Own seq tx)) = tx.slow ≡ 0 → IsFreeName slows numbers tx.tid
+    × ((c : ℕ) (s : Session) → sess c ≡ Some s → s.slow ≡ 0 → s.tid ≡ tx.tid → ⊥)
+IsNewName sess slows numbers wrote = Unit {0}
+
+new_name : (sess : ℕ → Option Session) (slows : ℕ → Slow) (numbers : Issued) (wrote : Option Record)
+    → IsNewName sess slows numbers wrote → (tid : Tid) → IsFastRecord wrote tid
+    → IsFreeName slows numbers tid × ((c : ℕ) (s : Session) → sess c ≡ Some s → s.slow ≡ 0 → s.tid ≡ tid → ⊥)
+new_name sess slows numbers None name tid is = absurd is
+new_name sess slows numbers (Some (Own seq tx)) name tid is =
+    subst (λ t. IsFreeName slows numbers t
+    × ((c : ℕ) (s : Session) → sess c ≡ Some s → s.slow ≡ 0 → s.tid ≡ t → ⊥)) is.1 (name is.0)
+new_name sess slows numbers (Some rec) name tid is = absurd is
 
 -- none is in flight where a site is up
 pub none_flying : (catalog : Catalog) (i : SiteId) (K : Knowledge) (flight : Option Record)
@@ -201,6 +264,12 @@ module _ (catalog : Catalog) (i : SiteId) (up : Bool) (K : Knowledge) (flight : 
       flight = λ n x h. absurd cc;
       row = I.tidy.row;
     };
+    names = record {
+      fast = I.names.fast;
+      open_ = I.names.open_;
+      flies = λ seq x h. absurd cc;
+      begins = λ n x h. absurd cc;
+    };
     learned = I.learned;
     sound = I.sound;
     stopped = I.stopped;
@@ -208,9 +277,12 @@ module _ (catalog : Catalog) (i : SiteId) (up : Bool) (K : Knowledge) (flight : 
     flies = tt;
   }
 
-  -- a slow commit that was to begin, of a transaction whose slow commit isn't begun
+  -- a slow commit that was to begin, of a transaction whose slow commit isn't begun, and which isn't a fast commit; or
+  -- a fast commit that was to come, of such a transaction
   abbrev pub CanBegin : Record → Type 0
   CanBegin (SlowBegin n x) = (x.tid.site ≡ i) × IsIssued (issued_by up K) x.tid × IsUnbegun K.slow x.tid
+      × (IsFast (of_site i K.log) x.tid → ⊥)
+  CanBegin (Own seq x) = x.slow ≡ 0 → IsFreeName K.slow (issued_by up K) x.tid
   CanBegin rec = Unit {0}
 
   -- the site goes down, with a record in flight or without one
@@ -226,6 +298,12 @@ module _ (catalog : Catalog) (i : SiteId) (up : Bool) (K : Knowledge) (flight : 
         (λ n x h.
         let f = new (SlowBegin n x) h in
         inr (f.0.named, f.0.next, f.1.0, issued_down up K x.tid f.1.1, f.1.2));
+    names = names_go (λ c. session_of K c) K.slow flight (issued_by up K) (of_site i K.log) I.names
+        (λ c. session_of (lost K) c) K.slow flight2 (issued_by false K) (of_site i K.log)
+        (issued_down up K) (λ n x b. b) (λ tid h. inl h)
+        (λ c s h. absurd (none_not_some (session_of (lost K) c) s refl h))
+        (λ seq x h zero_. let f = (new (Own seq x) h).1 zero_ in (issued_down up K x.tid f.0, f.1))
+        (λ n x h. (new (SlowBegin n x) h).1.3);
     learned = learned_lost catalog i K I.learned;
     sound = none_sound catalog i (λ c. session_of (lost K) c) K.committed (issued_by false K) (λ c. refl);
     stopped = λ down. refl;
@@ -301,11 +379,71 @@ settled_tidy catalog i K (Released j n) I = settled_plain catalog i K (Released 
 settled_tidy catalog i K (SlowEnd n) I = settled_plain catalog i K (SlowEnd n) I tt
 settled_tidy catalog i K (Marks durable visible) I = settled_plain catalog i K (Marks durable visible) I tt
 
+-- and how names are then
+settled_name : (catalog : Catalog) (i : SiteId) (K : Knowledge) (rec : Record) → IsKept catalog i false K (Some rec)
+    → IsPlain (Some rec) → IsNewName (λ c. session_of K c) K.slow (issued_by false K) (Some rec)
+settled_name catalog i K (Own seq tx) I plain =
+    λ zero_. (I.names.flies seq tx refl zero_, λ c s h. absurd (no_session catalog i K (Own seq tx) I c s h))
+settled_name catalog i K rec I plain = tt
+
+settled_free : (catalog : Catalog) (i : SiteId) (K : Knowledge) (rec : Record) → IsKept catalog i false K (Some rec)
+    → IsPlain (Some rec)
+    → AreFastNames (λ c. session_of K c) (slow_after catalog i K (Some rec)) None
+    (issued_by false (recorded catalog i (Some rec) K)) (of_site i (log_after (Some rec) K.log))
+settled_free catalog i K rec I plain =
+    subst (λ (e : ℕ). AreFastNames (λ c. session_of K c) (slow_after catalog i K (Some rec)) None
+    (record { epoch = e + 1; starts = 0 }) (of_site i (log_after (Some rec) K.log)))
+    (sym (plain_epoch (Some rec) K.epoch plain))
+    (names_go (λ c. session_of K c) K.slow (Some rec) (issued_by false K) (of_site i K.log) I.names
+    (λ c. session_of K c) (slow_after catalog i K (Some rec)) None (issued_by false K)
+    (of_site i (log_after (Some rec) K.log)) (λ x is. is)
+    (λ n x b. sym (on_begun K.slow (slow_after catalog i K (Some rec)) (of_site i (log_after (Some rec) K.log))
+    (on_plain catalog i false K (Some rec) I (Some rec) plain I.flies) n) ∙ b)
+    (λ tid h. elim (fast_then catalog i K (Some rec) I.flies tid h) [
+      | inl was ↦ inl was
+      | inr new ↦ inr (new_name (λ c. session_of K c) K.slow (issued_by false K) (Some rec)
+          (settled_name catalog i K rec I plain) tid new)
+    ])
+    (λ c s h. absurd (no_session catalog i K rec I c s h))
+    (λ seq x h. absurd cc)
+    (λ n x h. absurd cc))
+
+settled_names : (catalog : Catalog) (i : SiteId) (K : Knowledge) (rec : Record) → IsKept catalog i false K (Some rec)
+    → AreFastNames (λ c. session_of K c) (slow_after catalog i K (Some rec)) None
+    (issued_by false (recorded catalog i (Some rec) K)) (of_site i (log_after (Some rec) K.log))
+settled_names catalog i K (Boot epoch) I =
+    names_go (λ c. session_of K c) K.slow (Some (Boot epoch)) (issued_by false K) (of_site i K.log) I.names
+    (λ c. session_of K c) (slow_after catalog i K (Some (Boot epoch))) None (record { epoch = epoch + 1; starts = 0 })
+    (of_site i K.log)
+    (λ x is. let next : epoch ≡ K.epoch + 1 = I.flies in elim is [
+      | inl over ↦ inl (omega (arith, over, next))
+      | inr here ↦ inl (let e = here.0 in omega (arith, e, next))
+    ])
+    (λ n x b. sym (on_begun K.slow (slow_after catalog i K (Some (Boot epoch))) (of_site i K.log)
+    (on_boot catalog i false K (Some (Boot epoch)) I epoch) n) ∙ b)
+    (λ tid h. inl h)
+    (λ c s h. absurd (no_session catalog i K (Boot epoch) I c s h))
+    (λ seq x h. absurd cc)
+    (λ n x h. absurd cc)
+settled_names catalog i K (SlowBegin n x) I =
+    names_begin (λ c. session_of K c) K.slow (Some (SlowBegin n x)) (issued_by false K) (of_site i K.log) I.names
+    x (λ c. session_of K c) (slow_after catalog i K (Some (SlowBegin n x))) (I.names.begins n x refl)
+    (begun_new catalog i K n x)
+    (λ c s h. absurd (no_session catalog i K (SlowBegin n x) I c s h))
+settled_names catalog i K (Own seq tx) I = settled_free catalog i K (Own seq tx) I tt
+settled_names catalog i K (Got j seq tx) I = settled_free catalog i K (Got j seq tx) I tt
+settled_names catalog i K (Seen j seq) I = settled_free catalog i K (Seen j seq) I tt
+settled_names catalog i K (Prepared j n tid objects) I = settled_free catalog i K (Prepared j n tid objects) I tt
+settled_names catalog i K (Released j n) I = settled_free catalog i K (Released j n) I tt
+settled_names catalog i K (SlowEnd n) I = settled_free catalog i K (SlowEnd n) I tt
+settled_names catalog i K (Marks durable visible) I = settled_free catalog i K (Marks durable visible) I tt
+
 pub settles : (catalog : Catalog) (i : SiteId) → i.0 < catalog.sites → (K : Knowledge) (rec : Record)
     → IsKept catalog i false K (Some rec)
     → IsKept catalog i false (recorded catalog i (Some rec) K) None
 settles catalog i below K rec I = record {
   tidy = settled_tidy catalog i K rec I;
+  names = settled_names catalog i K rec I;
   learned = learned_recorded catalog i K I.learned below rec I.flies;
   sound = none_sound catalog i (λ c. session_of K c) (recorded catalog i (Some rec) K).committed
       (issued_by false (recorded catalog i (Some rec) K)) (I.tidy.down rec refl).1;
@@ -334,8 +472,10 @@ module _ (catalog : Catalog) (i : SiteId) (K : Knowledge) (flight : Option Recor
       → s.slow ≡ n → HasThen event outcome wrote c ≡ Some s)
       → AreSound catalog i (HasThen event outcome wrote) (committed_after i wrote K.committed)
       (record { epoch = K.epoch; starts = starts_after outcome K.starts })
+      → IsNewName (HasThen event outcome wrote) K.slow
+      (record { epoch = K.epoch; starts = starts_after outcome K.starts }) wrote
       → IsKept catalog i true (Then event outcome wrote) None
-  stays event outcome wrote plain f rise from waits sound =
+  stays event outcome wrote plain f rise from waits sound name =
       let on = on_plain catalog i true K flight I wrote plain f in
       let epoch : epoch_after wrote K.epoch ≡ K.epoch = plain_epoch wrote K.epoch plain in
       record {
@@ -357,6 +497,25 @@ module _ (catalog : Catalog) (i : SiteId) (K : Knowledge) (flight : Option Recor
             ))
             (λ r h. absurd cc)
             (λ n x h. absurd cc)));
+        names = subst (λ e. AreFastNames (HasThen event outcome wrote) (slow_after catalog i K wrote) None
+            (record { epoch = e; starts = starts_after outcome K.starts }) (of_site i (log_after wrote K.log)))
+            (sym epoch)
+            (names_go (λ c. session_of K c) K.slow flight (issued_by true K) (of_site i K.log) I.names
+            (HasThen event outcome wrote) (slow_after catalog i K wrote) None
+            (record { epoch = K.epoch; starts = starts_after outcome K.starts }) (of_site i (log_after wrote K.log))
+            rise
+            (λ n x b. sym (on_begun K.slow (slow_after catalog i K wrote) (of_site i (log_after wrote K.log)) on n) ∙ b)
+            (λ tid h. elim (fast_then catalog i K wrote f tid h) [
+              | inl was ↦ inl was
+              | inr new ↦ inr (new_name (HasThen event outcome wrote) K.slow
+                  (record { epoch = K.epoch; starts = starts_after outcome K.starts }) wrote name tid new)
+            ])
+            (λ c s h zero_. elim (from c s h) [
+              | inl was ↦ inl (was.0, was.1, was.2, was.3 ∙ zero_)
+              | inr new ↦ inr new.1
+            ])
+            (λ seq x h. absurd cc)
+            (λ n x h. absurd cc));
         learned = learned_after catalog i K event outcome wrote (learned_then catalog i true K flight I below wrote f);
         sound = subst (λ e. AreSound catalog i (HasThen event outcome wrote) (committed_after i wrote K.committed)
             (record { epoch = e; starts = starts_after outcome K.starts })) (sym epoch) sound;
@@ -379,8 +538,9 @@ module _ (catalog : Catalog) (i : SiteId) (K : Knowledge) (flight : Option Recor
       × (are_declared catalog z.updates ≡ true → are_declared catalog s.updates ≡ true))
       → ((c n : ℕ) (s : Session) (x : Tx) (asked : List SiteId) → K.slow n ≡ Undecided x asked → session_of K c ≡ Some s
       → s.slow ≡ n → HasThen event outcome wrote c ≡ Some s)
+      → IsNewName (HasThen event outcome wrote) K.slow (issued_by true K) wrote
       → IsKept catalog i true (Then event outcome wrote) None
-  moves event outcome wrote plain f same from waits =
+  moves event outcome wrote plain f same from waits name =
       let rise : (x : Tid) → IsIssued (issued_by true K) x
       → IsIssued (record { epoch = K.epoch; starts = starts_after outcome K.starts }) x
       = λ x is. subst (λ n. IsIssued (record { epoch = K.epoch; starts = n }) x) (sym same) is in
@@ -390,18 +550,22 @@ module _ (catalog : Catalog) (i : SiteId) (K : Knowledge) (flight : Option Recor
       (sound_from catalog i (λ c. session_of K c) K.committed (issued_by true K) I.sound (HasThen event outcome wrote)
       (committed_after i wrote K.committed) (record { epoch = K.epoch; starts = starts_after outcome K.starts })
       (committed_grows i wrote K.committed) rise (λ c s h. let z = from c s h in (z.0, z.1, z.2, z.5, z.6)))
+      (subst (λ n. IsNewName (HasThen event outcome wrote) K.slow (record { epoch = K.epoch; starts = n }) wrote)
+      (sym same) name)
 
   -- the sessions stay
   pub quiet : (event : Event) (outcome : Outcome) (wrote : Option Record) → IsPlain wrote
       → IfSome wrote (CanFollow catalog i K)
       → starts_after outcome K.starts ≡ K.starts → sessions_after event outcome wrote
       (vector_of catalog (recorded catalog i wrote K)) K.sessions ≡ K.sessions
+      → IsNewName (HasThen event outcome wrote) K.slow (issued_by true K) wrote
       → IsKept catalog i true (Then event outcome wrote) None
-  quiet event outcome wrote plain f same all =
+  quiet event outcome wrote plain f same all name =
       let at : (c : ℕ) → HasThen event outcome wrote c ≡ session_of K c = λ c. ap (session_in c) all in
       moves event outcome wrote plain f same
       (λ c s h. (s, sym (at c) ∙ h, refl, refl, λ some. refl, refl, λ d. d))
       (λ c n s x asked open_ has number. at c ∙ has)
+      name
 
   -- an undecided slow commit has a number
   undecided_some : (x : Tx) (asked : List SiteId) → K.slow 0 ≡ Undecided x asked → ⊥
@@ -413,8 +577,9 @@ module _ (catalog : Catalog) (i : SiteId) (K : Knowledge) (flight : Option Recor
       → starts_after outcome K.starts ≡ K.starts → session_of K client ≡ Some s
       → ((x : Tx) (asked : List SiteId) → K.slow s.slow ≡ Undecided x asked → ⊥)
       → ((c : ℕ) → HasThen event outcome wrote c ≡ (if nat_eq client c then None else session_of K c))
+      → IsNewName (HasThen event outcome wrote) K.slow (issued_by true K) wrote
       → IsKept catalog i true (Then event outcome wrote) None
-  closes event outcome wrote client s plain f same mine not_open is =
+  closes event outcome wrote client s plain f same mine not_open is name =
       let there : (c : ℕ) → nat_eq client c ≡ false → HasThen event outcome wrote c ≡ session_of K c = λ c e. is c
       ∙ ap (λ b. if b then None else session_of K c) e in
       moves event outcome wrote plain f same
@@ -429,6 +594,7 @@ module _ (catalog : Catalog) (i : SiteId) (K : Knowledge) (flight : Option Recor
             absurd (not_open x asked (ap K.slow (ap (λ (z : Session). z.slow) one ∙ number) ∙ open_))
         | inr e ↦ there c e ∙ has
       ])
+      name
 
   -- the open session of a client is changed
   pub changes : (event : Event) (outcome : Outcome) (wrote : Option Record) (client : ℕ) (s : Session)
@@ -439,8 +605,9 @@ module _ (catalog : Catalog) (i : SiteId) (K : Knowledge) (flight : Option Recor
       → ((z : Session) → are_declared catalog z.updates ≡ true → are_declared catalog (change z).updates ≡ true)
       → ((c : ℕ) → HasThen event outcome wrote c
       ≡ (if nat_eq client c then option_map change (session_of K c) else session_of K c))
+      → IsNewName (HasThen event outcome wrote) K.slow (issued_by true K) wrote
       → IsKept catalog i true (Then event outcome wrote) None
-  changes event outcome wrote client s change plain f same mine is_open tid slow snapshot declared is =
+  changes event outcome wrote client s change plain f same mine is_open tid slow snapshot declared is name =
       let there : (c : ℕ) → nat_eq client c ≡ false → HasThen event outcome wrote c ≡ session_of K c = λ c e. is c
       ∙ ap (λ b. if b then option_map change (session_of K c) else session_of K c) e in
       let here : (c : ℕ) → nat_eq client c ≡ true → (session_of K c ≡ Some s) ×
@@ -472,6 +639,7 @@ module _ (catalog : Catalog) (i : SiteId) (K : Knowledge) (flight : Option Recor
             absurd (undecided_some x asked (ap K.slow (sym none) ∙ open_))
         | inr e ↦ there c e ∙ has
       ])
+      name
 
   -- a transaction starts
   pub starts_one : (client : ℕ) → session_of K client ≡ None
@@ -503,6 +671,7 @@ module _ (catalog : Catalog) (i : SiteId) (K : Knowledge) (flight : Option Recor
       (sound_new catalog i (λ c. session_of K c) K.committed (issued_by true K) I.sound client new
       (HasThen event outcome None) (record { epoch = K.epoch; starts = K.starts + 1 })
       rise is refl (next_issued i (issued_by true K)) fresh_ (vector_within catalog K) refl)
+      tt
 
   -- the slow commit of a client's transaction begins
   pub begins_slow : (client : ℕ) (s : Session) → session_of K client ≡ Some s → s.slow ≡ 0
@@ -549,6 +718,15 @@ module _ (catalog : Catalog) (i : SiteId) (K : Knowledge) (flight : Option Recor
               ],
               (client, with_slow n s, here client (eq-eqb client client refl), refl),
             ));
+        names = names_begin (λ c. session_of K c) K.slow flight (issued_by true K) (of_site i K.log) I.names
+            x (HasThen event outcome (Some rec)) (slow_after catalog i K (Some rec)) (I.names.open_ client s mine is_open)
+            (begun_new catalog i K n x)
+            (λ c t h zero_. elim (cases_Bool (nat_eq client c)) [
+              | inl e ↦
+                  let one : with_slow n s ≡ t = same_Some (with_slow n s) t (sym (here c e) ∙ h) in
+                  absurd (let number : n ≡ 0 = ap (λ (z : Session). z.slow) one ∙ zero_ in omega (arith, number))
+              | inr e ↦ sym (there c e) ∙ h
+            ]);
         learned = learned_after catalog i K event outcome (Some rec)
             (learned_recorded catalog i K I.learned below rec f);
         sound = sound_from catalog i (λ c. session_of K c) K.committed (issued_by true K) I.sound
@@ -593,6 +771,19 @@ boots_up catalog i below K flight I =
           (λ c s h. absurd (none_not_some (session_of K c) s (no_one c) h))
           (λ up n x asked h. absurd (ended_not_undecided (K.slow n) x asked h))
           (λ r h. absurd cc)
+          (λ n x h. absurd cc);
+      names = names_go (λ c. session_of K c) K.slow flight (issued_by false K) (of_site i K.log) I.names
+          (λ c. session_of K c) (slow_after catalog i K (Some rec)) None
+          (record { epoch = K.epoch + 1; starts = K.starts }) (of_site i K.log)
+          (λ x is. elim is [
+            | inl over ↦ inl over
+            | inr here ↦ inr (let e = here.0 in let l = here.1 in (e, omega (arith, l)))
+          ])
+          (λ n x b. sym (on_begun K.slow (slow_after catalog i K (Some rec)) (of_site i K.log)
+          (on_boot catalog i false K flight I (K.epoch + 1)) n) ∙ b)
+          (λ tid h. inl h)
+          (λ c s h. absurd (none_not_some (session_of K c) s (no_one c) h))
+          (λ seq x h. absurd cc)
           (λ n x h. absurd cc);
       learned = learned_after catalog i K Restart Taken (Some rec)
           (learned_recorded catalog i K I.learned below rec follow);

@@ -1,6 +1,7 @@
 -- What a site keeps by itself, over each kind of step of it.
-use Rattle.std.proofs.Common.{◌≡◌, ◌+◌, ◌<◌, ℕ, nat_eq, true, false, List, [], ◌∷◌, ◌++◌, Some, None, IfSome, Ok, option_map, refl, ap, sym, ◌∙◌, subst, if◌then◌else◌}
+use Rattle.std.proofs.Common.{◌≡◌, ◌+◌, ◌<◌, ℕ, nat_eq, true, false, List, [], ◌∷◌, ◌++◌, Some, None, IfSome, Ok, option_map, refl, ap, sym, ◌∙◌, subst, inl, inr, if◌then◌else◌}
 use Rattle.std.specs.Prelude.{Option, Result}
+use Rattle.std.proofs.lemmas.Bool.{cases_Bool, eq-eqb}
 use Rattle.std.proofs.lemmas.Option.{same_Some}
 use Rattle.std.proofs.lemmas.List.Folds.{list_all-append}
 use Rattle.walter_base.specs.declared.catalog.Catalog.{Catalog}
@@ -40,9 +41,11 @@ use Rattle.walter_rules.specs.Sessions.{Session, with_update, with_slow, tx_of}
 use Rattle.walter_rules.specs.Slow.{Undecided, Dropped, Decided, begun}
 use Rattle.walter_rules.specs.Standing.{Standing, settled, goes_down, comes_up, up_after, knows_after, flight_after}
 use Rattle.walter_rules.specs.Trails.{standing, IsOnly, failure, want, fullness, IsFound, IsRightEntry, AreRight}
+use Rattle.walter_agreement.proofs.Cases.{none_not_some}
+use Rattle.walter_agreement.proofs.Issued.{IsIssued}
 use Rattle.walter_alone.proofs.Alone.{issued_by, IsAlone}
 use Rattle.walter_alone.proofs.Followed.{kind_follows}
-use Rattle.walter_alone.proofs.Kept.{IsKept, kept_at_first, IsPlain, CanBegin, unflown, falls, settles, quiet, closes, changes, starts_one, begins_slow, boots_up, none_flying}
+use Rattle.walter_alone.proofs.Kept.{IsKept, kept_at_first, IsPlain, IsNewName, CanBegin, unflown, falls, settles, quiet, closes, changes, starts_one, begins_slow, boots_up, none_flying}
 use Rattle.walter_rules.proofs.Staying.{fault_falls}
 use Rattle.walter_runs.proofs.Steps.{IsStep, stable, flies, unread_step, wants, finds_full, step_of}
 
@@ -170,7 +173,8 @@ module _ (catalog : Catalog) (i : SiteId) (below : i.0 < catalog.sites) (S : Sta
   still r flying = (subst (λ f. IfSome f (CanFollow catalog i S.knows)) flying I.flies, by r flying)
     where
       by : (r : Record) → S.flight ≡ Some r → CanBegin catalog i S.up S.knows S.flight I r
-      by (SlowBegin n x) flying = let f = I.tidy.flight n x flying in (f.2, f.3, f.4)
+      by (SlowBegin n x) flying = let f = I.tidy.flight n x flying in (f.2, f.3, f.4, I.names.begins n x flying)
+      by (Own seq x) flying = I.names.flies seq x flying
       by rec flying = tt
 
   -- the record of each kind can follow, and a slow commit can begin
@@ -182,8 +186,16 @@ module _ (catalog : Catalog) (i : SiteId) (below : i.0 < catalog.sites) (S : Sta
   kind_begins : (event : Event) (wrote : Option Record) (outcome : Outcome) → IsKind catalog i S event wrote outcome
       → IfSome wrote (CanBegin catalog i S.up S.knows S.flight I)
   kind_begins event wrote outcome (begins client s open_ some clear) =
-      let started = I.sound.started client s open_.session in
-      (started.0, started.1, I.tidy.open_ client s open_.session open_.is_open)
+      let started = I.sound.started client s open_.session in (
+        started.0,
+        started.1,
+        I.tidy.open_ client s open_.session open_.is_open,
+        I.names.open_ client s open_.session open_.is_open,
+      )
+  kind_begins event wrote outcome (commits client s open_ some local clear) =
+      λ zero_. ((I.sound.started client s open_.session).1, I.tidy.open_ client s open_.session open_.is_open)
+  kind_begins event wrote outcome (decides p number n tx asked from undecided within said) =
+      λ zero_. absurd (let name = I.tidy.named n tx (ap begun undecided) in name.1 (sym name.0 ∙ zero_))
   kind_begins event wrote outcome kind = tt
 
   -- the sessions stay, with a plain record or without one
@@ -192,10 +204,12 @@ module _ (catalog : Catalog) (i : SiteId) (below : i.0 < catalog.sites) (S : Sta
       → starts_after outcome S.knows.starts ≡ S.knows.starts
       → sessions_after event outcome wrote (vector_of catalog
       (recorded catalog i wrote S.knows)) S.knows.sessions ≡ S.knows.sessions
+      → IsNewName (λ c. session_of (after catalog i S.knows event outcome wrote) c) S.knows.slow
+      (issued_by true S.knows) wrote
       → IsKept catalog i S.up (after catalog i S.knows event outcome wrote) (flight_after None wrote outcome S.flight)
-  stays_quiet up event outcome wrote plain f same all =
+  stays_quiet up event outcome wrote plain f same all name =
       back up outcome wrote (after catalog i S.knows event outcome wrote)
-      (quiet catalog i S.knows S.flight (at_up up) below event outcome wrote plain f same all)
+      (quiet catalog i S.knows S.flight (at_up up) below event outcome wrote plain f same all name)
 
   -- the session of the client ends
   ends_session : (client : ℕ) (s : Session) (call : Result Request BadFrame) (outcome : Outcome) (wrote : Option Record)
@@ -205,12 +219,14 @@ module _ (catalog : Catalog) (i : SiteId) (below : i.0 < catalog.sites) (S : Sta
       → starts_after outcome S.knows.starts ≡ S.knows.starts
       → ((c : ℕ) → session_of (after catalog i S.knows (Given (Call client call)) outcome wrote) c ≡
       (if nat_eq client c then None else session_of S.knows c))
+      → IsNewName (λ c. session_of (after catalog i S.knows (Given (Call client call)) outcome wrote) c) S.knows.slow
+      (issued_by true S.knows) wrote
       → IsKept catalog i S.up (after catalog i S.knows (Given (Call client call)) outcome wrote)
       (flight_after None wrote outcome S.flight)
-  ends_session client s call outcome wrote up mine not_open plain f same is =
+  ends_session client s call outcome wrote up mine not_open plain f same is name =
       back up outcome wrote (after catalog i S.knows (Given (Call client call)) outcome wrote)
       (closes catalog i S.knows S.flight (at_up up) below
-      (Given (Call client call)) outcome wrote client s plain f same mine not_open is)
+      (Given (Call client call)) outcome wrote client s plain f same mine not_open is name)
 
   -- an open one has no slow commit
   open_none : (client : ℕ) (s : Session) → HasOpen S client s → (x : Tx) (asked : List SiteId)
@@ -227,7 +243,7 @@ module _ (catalog : Catalog) (i : SiteId) (below : i.0 < catalog.sites) (S : Sta
       back open_.up (Replied Done) None (after catalog i S.knows (Given (Call client call)) (Replied Done) None)
       (changes catalog i S.knows S.flight (at_up open_.up) below (Given (Call client call)) (Replied Done) None client s
       (with_update update) tt tt refl open_.session open_.is_open
-      (λ z. refl) (λ z. refl) (λ z. refl) (λ z d. more_declared catalog z.updates update declared d) is)
+      (λ z. refl) (λ z. refl) (λ z. refl) (λ z d. more_declared catalog z.updates update declared d) is tt)
 
   done_kept : (client : ℕ) (call : Result Request BadFrame) (s : Session) (update : Update) → HasOpen S client s
       → IsUpdateCall call update → is_declared catalog update ≡ true
@@ -244,11 +260,38 @@ module _ (catalog : Catalog) (i : SiteId) (below : i.0 < catalog.sites) (S : Sta
       → IsReadCall call reply updates
       → Then (Given (Call client call)) (Replied reply) None None
   read_kept client call reply updates up (of_value oid us) = stays_quiet up (Given (Call client (Ok (Read oid))))
-      (Replied (Value (value_of oid us))) None tt tt refl refl
+      (Replied (Value (value_of oid us))) None tt tt refl refl tt
   read_kept client call reply updates up (of_counts oid us) = stays_quiet up (Given (Call client (Ok (SetRead oid))))
-      (Replied (Set (counts_of oid us))) None tt tt refl refl
+      (Replied (Set (counts_of oid us))) None tt tt refl refl tt
   read_kept client call reply updates up (of_count oid id us) = stays_quiet up
-      (Given (Call client (Ok (SetReadId oid id)))) (Replied (Count (count_of oid id us))) None tt tt refl refl
+      (Given (Call client (Ok (SetReadId oid id)))) (Replied (Count (count_of oid id us))) None tt tt refl refl tt
+
+  -- the name of a fast commit of an open session is free, and no other session has it
+  own_name : (client : ℕ) (s : Session) → HasOpen S client s
+      → IsNewName (λ c. session_of (after catalog i S.knows (Given (Call client (Ok Commit)))
+      (Replied (Committed (own_version i (next_seq i S.knows)))) (Some (Own (next_seq i S.knows) (tx_of s)))) c)
+      S.knows.slow (issued_by true S.knows) (Some (Own (next_seq i S.knows) (tx_of s)))
+  own_name client s open_ zero_ =
+      let started = (I.sound.started client s open_.session).1 in (
+        (
+          subst (λ b. IsIssued (issued_by b S.knows) s.tid) open_.up started,
+          I.tidy.open_ client s open_.session open_.is_open,
+        ),
+        λ c t h none same.
+            let is : session_of (after catalog i S.knows (Given (Call client (Ok Commit)))
+            (Replied (Committed (own_version i (next_seq i S.knows)))) (Some (Own (next_seq i S.knows) (tx_of s)))) c
+            ≡ (if nat_eq client c then None else session_of S.knows c) = lookup-without client c S.knows.sessions in
+            elim (cases_Bool (nat_eq client c)) [
+              | inl e ↦ none_not_some (if nat_eq client c then None else session_of S.knows c) t
+                  (ap (λ b. if b then None else session_of S.knows c) e) (sym is ∙ h)
+              | inr e ↦
+                  let was : session_of S.knows c ≡ Some t = sym (is
+                  ∙ ap (λ b. if b then None else session_of S.knows c) e) ∙ h in
+                  let one : client ≡ c = I.sound.distinct client c s t open_.session was (sym same) in
+                  let test : nat_eq client c ≡ true = eq-eqb client c one in
+                  (let clash : true ≡ false = sym test ∙ e in cc)
+            ],
+      )
 
   -- each kind
   kind_kept : (event : Event) (wrote : Option Record) (outcome : Outcome) → IsKind catalog i S event wrote outcome
@@ -265,18 +308,19 @@ module _ (catalog : Catalog) (i : SiteId) (below : i.0 < catalog.sites) (S : Sta
       (read_updates S.knows s) open_.up asks
   kind_kept event wrote outcome (ends client s open_ none) =
       ends_session client s (Ok Commit) (Replied Ended) None open_.up open_.session
-      (open_none client s open_) tt tt refl (λ c. lookup-without client c S.knows.sessions)
+      (open_none client s open_) tt tt refl (λ c. lookup-without client c S.knows.sessions) tt
   kind_kept event wrote outcome (aborts client s open_) =
       ends_session client s (Ok Abort) (Replied (Aborted Asked)) None open_.up open_.session
-      (open_none client s open_) tt tt refl (λ c. lookup-without client c S.knows.sessions)
+      (open_none client s open_) tt tt refl (λ c. lookup-without client c S.knows.sessions) tt
   kind_kept event wrote outcome (conflicts client s conflict open_ met) =
       ends_session client s (Ok Commit) (Replied (Aborted (cause_of conflict))) None open_.up open_.session
-      (open_none client s open_) tt tt refl (λ c. lookup-without client c S.knows.sessions)
+      (open_none client s open_) tt tt refl (λ c. lookup-without client c S.knows.sessions) tt
   kind_kept event wrote outcome (commits client s open_ some local clear) =
       ends_session client s (Ok Commit) (Replied (Committed (own_version i (next_seq i S.knows))))
       (Some (Own (next_seq i S.knows) (tx_of s))) open_.up open_.session (open_none client s open_) tt
       (kind_can event wrote outcome (commits client s open_ some local clear)) refl
       (λ c. lookup-without client c S.knows.sessions)
+      (own_name client s open_)
   kind_kept event wrote outcome (begins client s open_ some clear) =
       let n : ℕ = next_slow S.knows in
       let rec : Record = SlowBegin n (tx_of (with_slow n s)) in
@@ -286,62 +330,63 @@ module _ (catalog : Catalog) (i : SiteId) (below : i.0 < catalog.sites) (S : Sta
       (kind_can event wrote outcome (begins client s open_ some clear)))
   kind_kept event wrote outcome (waits client s tx asked begun_ undecided) =
       stays_quiet begun_.up (Given (Call client (Ok Commit))) (Replied (Deciding s.tid)) None tt tt refl
-      (changed-same client (deciding None) S.knows.sessions (λ z. refl))
+      (changed-same client (deciding None) S.knows.sessions (λ z. refl)) tt
   kind_kept event wrote outcome (tells_version client s tx seq begun_ decided_ own) =
       ends_session client s (Ok Commit) (Replied (Committed (own_version i seq))) None begun_.up begun_.session
       (λ x asked h. let e : Decided tx ≡ Undecided x asked = sym decided_ ∙ h in cc) tt tt refl
-      (λ c. lookup-without client c S.knows.sessions)
+      (λ c. lookup-without client c S.knows.sessions) tt
   kind_kept event wrote outcome (tells_cause client s tx asked conflict begun_ dropped_ said) =
       ends_session client s (Ok Commit) (Replied (Aborted (cause_of conflict))) None begun_.up begun_.session
       (λ x others h. let e : Dropped tx asked ≡ Undecided x others = sym dropped_ ∙ h in cc) tt tt refl
-      (λ c. lookup-without client c S.knows.sessions)
+      (λ c. lookup-without client c S.knows.sessions) tt
   kind_kept event wrote outcome (levels_own client tid seq up here own) =
       stays_quiet up (Given (Call client (Ok (LevelAsked tid))))
-      (Replied (Level (level_of_own catalog i S.knows seq))) None tt tt refl refl
+      (Replied (Level (level_of_own catalog i S.knows seq))) None tt tt refl refl tt
   kind_kept event wrote outcome (is_deciding client tid up) = stays_quiet up (Given (Call client (Ok (LevelAsked tid))))
-      (Replied (Level BeingDecided)) None tt tt refl refl
+      (Replied (Level BeingDecided)) None tt tt refl refl tt
   kind_kept event wrote outcome (is_running client tid up) = stays_quiet up (Given (Call client (Ok (LevelAsked tid))))
-      (Replied (Level Running)) None tt tt refl refl
+      (Replied (Level Running)) None tt tt refl refl tt
   kind_kept event wrote outcome (denies client tid up here issued none undecided open_) = stays_quiet up
-      (Given (Call client (Ok (LevelAsked tid)))) (Replied (Level NotCommitted)) None tt tt refl refl
+      (Given (Call client (Ok (LevelAsked tid)))) (Replied (Level NotCommitted)) None tt tt refl refl tt
   kind_kept event wrote outcome (passes ev) = idle ev Passed tt
   kind_kept event wrote outcome (receives j number seq tx from next) =
       stays_quiet from.up (Given (Deliver j number (Propagate seq tx))) Taken (Some (Got j seq tx)) tt
-      (kind_can event wrote outcome (receives j number seq tx from next)) refl refl
+      (kind_can event wrote outcome (receives j number seq tx from next)) refl refl tt
   kind_kept event wrote outcome (hears_ack j number got from most) = stays_quiet from.up
-      (Given (Deliver j number (Ack got))) Taken None tt tt refl refl
+      (Given (Deliver j number (Ack got))) Taken None tt tt refl refl tt
   kind_kept event wrote outcome (hears_durable j number durable from) = stays_quiet from.up
-      (Given (Deliver j number (Dsmark durable))) Taken None tt tt refl refl
+      (Given (Deliver j number (Dsmark durable))) Taken None tt tt refl refl tt
   kind_kept event wrote outcome (hears_visible j number committed from most) = stays_quiet from.up
-      (Given (Deliver j number (Visible committed))) Taken None tt tt refl refl
+      (Given (Deliver j number (Visible committed))) Taken None tt tt refl refl tt
   kind_kept event wrote outcome (marks_durable j number got K from most is rises) =
       stays_quiet from.up (Given (Deliver j number (Ack got))) Taken
       (Some (Marks (durable_mark catalog i K) (visible_mark catalog i K))) tt
-      (kind_can event wrote outcome (marks_durable j number got K from most is rises)) refl refl
+      (kind_can event wrote outcome (marks_durable j number got K from most is rises)) refl refl tt
   kind_kept event wrote outcome (marks_visible j number committed K from most is rises) =
       stays_quiet from.up (Given (Deliver j number (Visible committed))) Taken
       (Some (Marks (durable_mark catalog i K) (visible_mark catalog i K))) tt
-      (kind_can event wrote outcome (marks_visible j number committed K from most is rises)) refl refl
+      (kind_can event wrote outcome (marks_visible j number committed K from most is rises)) refl refl tt
   kind_kept event wrote outcome (prepares j number n tid start objects from free lockable) =
       stays_quiet from.up (Given (Deliver j number (Prepare n tid start objects))) Taken
       (Some (Prepared j n tid objects)) tt
-      (kind_can event wrote outcome (prepares j number n tid start objects from free lockable)) refl refl
+      (kind_can event wrote outcome (prepares j number n tid start objects from free lockable)) refl refl tt
   kind_kept event wrote outcome (hears_yes p number n tx asked from undecided within) = stays_quiet from.up
-      (Given (Deliver p number (Vote n Yes))) Taken None tt tt refl refl
+      (Given (Deliver p number (Vote n Yes))) Taken None tt tt refl refl tt
   kind_kept event wrote outcome (decides p number n tx asked from undecided within said) =
       stays_quiet from.up (Given (Deliver p number (Vote n Yes))) Taken (Some (Own (next_seq i S.knows) tx)) tt
       (kind_can event wrote outcome (decides p number n tx asked from undecided within said)) refl refl
+      (λ zero_. absurd (let name = I.tidy.named n tx (ap begun undecided) in name.1 (sym name.0 ∙ zero_)))
   kind_kept event wrote outcome (gives_up p number n tx asked conflict from undecided within alive) =
       stays_quiet from.up (Given (Deliver p number (Vote n (No conflict)))) Taken (Some (SlowEnd n)) tt
-      (kind_can event wrote outcome (gives_up p number n tx asked conflict from undecided within alive)) refl refl
+      (kind_can event wrote outcome (gives_up p number n tx asked conflict from undecided within alive)) refl refl tt
   kind_kept event wrote outcome (releases j number n from alive) =
       stays_quiet from.up (Given (Deliver j number (Release n))) Taken (Some (Released j n)) tt
-      (kind_can event wrote outcome (releases j number n from alive)) refl refl
+      (kind_can event wrote outcome (releases j number n from alive)) refl refl tt
   kind_kept event wrote outcome (hears_released j number n from) = stays_quiet from.up
-      (Given (Deliver j number (ReleasedSaid n))) Taken None tt tt refl refl
+      (Given (Deliver j number (ReleasedSaid n))) Taken None tt tt refl refl tt
   kind_kept event wrote outcome (sees j tx from due) =
       stays_quiet from.up (Given (Advance j)) Taken (Some (Seen j (S.knows.committed j + 1))) tt
-      (kind_can event wrote outcome (sees j tx from due)) refl refl
+      (kind_can event wrote outcome (sees j tx from due)) refl refl tt
   kind_kept event wrote outcome (stops up) =
       falls catalog i S.up S.knows S.flight I S.flight still
   kind_kept event wrote outcome (is_down ev) = idle ev Down tt
@@ -405,6 +450,8 @@ pub alone_of : (catalog : Catalog) (i : SiteId) (S : Standing) → IsKept catalo
     → IsAlone catalog i S
 alone_of catalog i S I = record {
   tidy = I.tidy;
+  names = I.names;
+  own_open = I.learned.own_open;
   owners = I.learned.owners;
   here = I.learned.here;
   asked = I.learned.asked;

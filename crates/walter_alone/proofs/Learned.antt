@@ -33,6 +33,11 @@ use Rattle.walter_agreement.proofs.Owners.{AreOwners, none_owned, release, unloc
 use Rattle.walter_alone.proofs.Alone.{home, IsAskedFor}
 use Rattle.walter_alone.proofs.TestsPass.{is_made, some_pass, in_from_to}
 
+-- a slow commit whose part at its own site is a lock is being decided
+abbrev pub IsOpenIfLocked : Part → Slow → Type 0
+IsOpenIfLocked a g = (t : Tid) (objs : List ObjId) → a ≡ Locked t objs → (tx : Tx) × (asked : List SiteId)
+    × (g ≡ Undecided tx asked)
+
 -- of what a site knows by its records
 pub record IsLearned (catalog : Catalog) (i : SiteId) (K : Knowledge) : Type 0 where
   -- the owners of objects are those of its locks
@@ -47,6 +52,8 @@ pub record IsLearned (catalog : Catalog) (i : SiteId) (K : Knowledge) : Type 0 w
   pub outside : (k : SiteId) → catalog.sites ≤ k.0 → (K.got k ≡ 0) × (K.committed k ≡ 0)
   -- its own slow commits have locks only where their numbers were given
   pub given_ : (n : ℕ) → (K.part i n ≡ Free) ⊎ ((1 ≤ n) × (n ≤ K.last))
+  -- and only while they are being decided
+  pub own_open : (n : ℕ) → IsOpenIfLocked (K.part i n) (K.slow n)
   -- slow commits write what the catalog has
   pub declared : (n : ℕ) (tx : Tx) → begun (K.slow n) ≡ Some tx → are_declared catalog tx.updates ≡ true
   -- the marks are of own commits
@@ -61,6 +68,7 @@ learned_fresh catalog i = record {
   asked = λ n tx asked h. elim h [ inl e ↦ absurd cc | inr e ↦ absurd cc ];
   outside = λ k past. (refl, refl);
   given_ = λ n. inl refl;
+  own_open = λ n t objs h. absurd (locked_not_free (fresh.part i n) t objs h refl);
   declared = λ n tx h. absurd (not_unused (fresh.slow n) tx h refl);
   durable = omega arith;
   visible = omega arith;
@@ -75,6 +83,7 @@ learned_lost catalog i K L = record {
   asked = L.asked;
   outside = L.outside;
   given_ = L.given_;
+  own_open = L.own_open;
   declared = L.declared;
   durable = L.durable;
   visible = L.visible;
@@ -89,6 +98,7 @@ learned_after catalog i K event outcome wrote L = record {
   asked = L.asked;
   outside = L.outside;
   given_ = L.given_;
+  own_open = L.own_open;
   declared = L.declared;
   durable = L.durable;
   visible = L.visible;
@@ -385,6 +395,48 @@ module _ (catalog : Catalog) (i : SiteId) (K : Knowledge) (L : IsLearned catalog
       (given_unlocked K.last n (K.part i n) (L.given_ n)) (L.given_ n)
   given_then (Marks durable visible) f n = L.given_ n
 
+  -- an own lock goes with the slow commit that ends or is decided
+  own_open_if : (m n : ℕ) (g : Slow) (a : Part) → IsOpenIfLocked a g
+      → IsOpenIfLocked (if is_slow i m i n then a else K.part i n) (if nat_eq m n then g else K.slow n)
+  own_open_if m n g a is =
+      subst (λ s. IsOpenIfLocked (if s && nat_eq m n then a else K.part i n) (if nat_eq m n then g else K.slow n))
+      (sym (same_site_refl i)) (elim (nat_eq m n) as (λ b. IsOpenIfLocked (if b then a else K.part i n)
+      (if b then g else K.slow n)) [ true ↦ is | false ↦ L.own_open n ])
+
+  own_open_unlocked : (n : ℕ) (g : Slow) → IsOpenIfLocked (unlocked (K.part i n)) g
+  own_open_unlocked n g t objs h = absurd (unlocked_not_locked (K.part i n) t objs h)
+
+  own_open_other : (k : SiteId) (m n : ℕ) (a : Part) → k ≢ i
+      → IsOpenIfLocked (if is_slow k m i n then a else K.part i n) (K.slow n)
+  own_open_other k m n a other = elim (slow_cases k m i n) [
+    | inl same ↦ absurd (other same.1)
+    | inr apart ↦ subst (λ b. IsOpenIfLocked (if b then a else K.part i n) (K.slow n)) (sym apart.0) (L.own_open n)
+  ]
+
+  own_open_over : (k : SiteId) (m n : ℕ) → k ≢ i → IsOpenIfLocked (part_over k m K.part i n) (K.slow n)
+  own_open_over k zero n other = L.own_open n
+  own_open_over k (suc m) n other = own_open_other k (suc m) n Over other
+
+  own_open_then : (rec : Record) → CanFollow catalog i K rec → (n : ℕ)
+      → IsOpenIfLocked (part_after catalog i K (Some rec) i n) (slow_after catalog i K (Some rec) n)
+  own_open_then (Boot epoch) f n =
+      subst (λ b. IsOpenIfLocked (if b then unlocked (K.part i n) else K.part i n) (ended (K.slow n)))
+      (sym (same_site_refl i)) (own_open_unlocked n (ended (K.slow n)))
+  own_open_then (Own seq tx) f n = own_open_if tx.slow n (decided (K.slow n)) (unlocked (K.part i n))
+      (own_open_unlocked n (decided (K.slow n)))
+  own_open_then (Got k seq tx) f n = L.own_open n
+  own_open_then (Seen k seq) f n = own_open_over k (slow_number (commit_at k seq K.log)) n
+      (peer_true catalog i k f.peer).1
+  own_open_then (Prepared k m tid objects) f n = own_open_other k m n (Locked tid objects)
+      (peer_true catalog i k f.peer).1
+  own_open_then (Released k m) f n = own_open_other k m n Over (peer_true catalog i k f.peer).1
+  own_open_then (SlowBegin m tx) f n = own_open_if m n (Undecided tx (participants catalog K i tx.updates))
+      (Locked tx.tid (objects_at catalog K i tx.updates))
+      (λ t objs h. (tx, participants catalog K i tx.updates, refl))
+  own_open_then (SlowEnd m) f n = own_open_if m n (ended (K.slow n)) (unlocked (K.part i n))
+      (own_open_unlocked n (ended (K.slow n)))
+  own_open_then (Marks durable visible) f n = L.own_open n
+
   -- the marks
   abbrev pub AreBelow : ℕ → ℕ → ℕ → Type 0
   AreBelow durable visible own = (durable ≤ own) × (visible ≤ own)
@@ -418,6 +470,7 @@ module _ (catalog : Catalog) (i : SiteId) (K : Knowledge) (L : IsLearned catalog
     asked = λ n. (slow_then rec f n).0;
     outside = outside_then below rec f;
     given_ = given_then rec f;
+    own_open = own_open_then rec f;
     declared = λ n. (slow_then rec f n).1;
     durable = (marks_then rec f).0;
     visible = (marks_then rec f).1;

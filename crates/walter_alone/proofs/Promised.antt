@@ -12,6 +12,7 @@ use Rattle.walter_base.specs.declared.names.Tid.{Tid}
 use Rattle.walter_base.specs.declared.packet.Answer.TheVariants.{Yes}
 use Rattle.walter_base.specs.declared.packet.Packet.{Packet}
 use Rattle.walter_base.specs.declared.packet.Packet.TheVariants.{Propagate, Ack, Visible, Prepare, Vote}
+use Rattle.walter_base.specs.declared.transaction.Conflict.{Conflict}
 use Rattle.walter_base.specs.declared.transaction.Tx.{Tx}
 use Rattle.walter_base.specs.declared.update.Update.{Update}
 use Rattle.walter_base.specs.Names.{same_site}
@@ -25,7 +26,7 @@ use Rattle.walter_rules.specs.declared.event.Input.{Input}
 use Rattle.walter_rules.specs.declared.event.Input.TheVariants.{Call, Deliver, Advance}
 use Rattle.walter_rules.specs.declared.outcome.Outcome.TheVariants.{Failed, Full, Memory}
 use Rattle.walter_rules.specs.Calls.{Expected, next_seq, if_local, decides, commits_open, commits_by, commits_for, commits_fast, call_rule, if_told}
-use Rattle.walter_rules.specs.Deliveries.{passes, takes, back, is_peer, is_enabled, advances, if_accepted, prepares, prepares_by, if_lockable, if_peer, packet_rule}
+use Rattle.walter_rules.specs.Deliveries.{passes, takes, back, is_peer, is_enabled, advances, if_accepted, answer_over, prepares, prepares_by, if_lockable, if_peer, packet_rule}
 use Rattle.walter_rules.specs.Knowledge.{preferred, session_of}
 use Rattle.walter_rules.specs.Objects.{objects_of, are_local}
 use Rattle.walter_rules.specs.Rule.{rule_where, rule}
@@ -35,7 +36,7 @@ use Rattle.walter_rules.specs.Slow.{Part, Free, Locked, Over}
 use Rattle.walter_rules.specs.Standing.{Standing, settled}
 use Rattle.walter_rules.specs.Trails.{standing, need_of, left_behind, FitsIn, IsPutOut, failure, want, fullness, IsFound, Comes, ruled, met_fault, unread, no_memory, full, IsRightEntry}
 use Rattle.walter_rules.proofs.WrittenObjects.{rising_from}
-use Rattle.walter_alone.specs.Promises.{IsFree, committed, unsure, full as is_refused, no_memory as wants_memory, IsAnswered, IsWritten, is_stable, is_flying, is_full, is_lost, IsAtPeer, IsNext, IsReceived, IsDue, IsSeen, IsAsked, IsSaid, is_said, is_unsaid, IsLocked, is_locked, is_held}
+use Rattle.walter_alone.specs.Promises.{IsFree, committed, unsure, full as is_refused, no_memory as wants_memory, IsAnswered, IsWritten, is_stable, is_flying, is_full, is_lost, IsAtPeer, IsNext, IsReceived, IsDue, IsSeen, IsAsked, IsSaid, is_said, is_unsaid, IsLocked, is_locked, is_held, IsHindered, IsHinderedAnswer}
 use Rattle.walter_alone.proofs.TestsPass.{all_pass}
 
 -- what a restart finds in the journal changes nothing where something is given
@@ -159,7 +160,7 @@ module _ (catalog : Catalog) (capacity : ℕ) (i : SiteId) (S : Standing) (event
       is_locked is
       (written catalog capacity i S came prepare (Prepared j n tid objects) (back j (Vote n Yes)) tt
       (prepare_rule ∙ (ap (prepares_by S.knows j n tid asked.start objects) is
-      ∙ ap (prepares j n tid objects) (asked.clear is))) comes)
+      ∙ ap (prepares S.knows j n tid asked.start objects) (asked.clear is))) comes)
   prepared_by comes (Locked owner held) is =
       is_held owner held is (said catalog capacity i S came prepare (back j (Vote n Yes)) tt
       (prepare_rule ∙ ap (prepares_by S.knows j n tid asked.start objects) is) comes)
@@ -174,6 +175,24 @@ entry_locked catalog capacity i older e j n tid objects right asked =
     prepared_by catalog capacity i S e.event e.came j n tid objects asked
     (given_comes catalog capacity i older e
     (Deliver j asked.number (Prepare n tid asked.start objects)) right asked.came) (S.knows.part j n) refl
+
+-- a PREPARE that meets a conflict
+pub entry_hindered : (catalog : Catalog) (capacity : ℕ) (i : SiteId) (older : List Entry) (e : Entry) (j : SiteId)
+    (n : ℕ) (start : List ℕ) (conflict : Conflict) → IsRightEntry catalog capacity i older e
+    → IsHindered catalog i (standing catalog i older) e.event j n start conflict
+    → IsHinderedAnswer (standing catalog i older) j n start conflict e.came
+entry_hindered catalog capacity i older e j n start conflict right hindered =
+    let S : Standing = standing catalog i older in
+    let tid : Tid = hindered.tid in
+    let objects : List ObjId = hindered.objects in
+    said catalog capacity i S e.came (Deliver j hindered.number (Prepare n tid start objects))
+    (back j (Vote n (answer_over S.knows start conflict))) tt
+    (peer_rule catalog capacity i S e.came j hindered.number (Prepare n tid start objects) hindered.at
+    ∙ (ap (λ b. if_lockable b S.knows j n tid start objects) hindered.lockable
+    ∙ (ap (prepares_by S.knows j n tid start objects) hindered.free
+    ∙ ap (prepares S.knows j n tid start objects) hindered.met)))
+    (given_comes catalog capacity i older e (Deliver j hindered.number (Prepare n tid start objects)) right
+    hindered.came)
 
 -- a commit that meets no conflict, and whose objects are all preferred here
 module _ (catalog : Catalog) (capacity : ℕ) (i : SiteId) (S : Standing) (event : Event) (s : Session)

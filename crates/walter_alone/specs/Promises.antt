@@ -12,6 +12,7 @@ use Rattle.walter_base.specs.declared.names.SiteId.{SiteId}
 use Rattle.walter_base.specs.declared.names.Tid.{Tid}
 use Rattle.walter_base.specs.declared.packet.Answer.TheVariants.{Yes}
 use Rattle.walter_base.specs.declared.packet.Packet.TheVariants.{Propagate, Ack, Visible, Prepare, Vote}
+use Rattle.walter_base.specs.declared.transaction.Conflict.{Conflict}
 use Rattle.walter_base.specs.declared.transaction.Tx.{Tx}
 use Rattle.walter_rules.specs.declared.entry.Came.{Came}
 use Rattle.walter_rules.specs.declared.event.Event.{Event}
@@ -23,7 +24,7 @@ use Rattle.walter_rules.specs.Allowed.{HasOpen, AreLocal}
 use Rattle.walter_rules.specs.Calls.{next_seq, own_version}
 use Rattle.walter_rules.specs.Conflicts.{first_conflict}
 use Rattle.walter_rules.specs.Declarations.{are_lockable}
-use Rattle.walter_rules.specs.Deliveries.{is_peer, accepts, is_enabled, back}
+use Rattle.walter_rules.specs.Deliveries.{is_peer, accepts, is_enabled, back, answer_over}
 use Rattle.walter_rules.specs.Knowledge.{Knowledge}
 use Rattle.walter_rules.specs.Objects.{objects_at}
 use Rattle.walter_rules.specs.Sending.{Send}
@@ -110,7 +111,7 @@ pub record IsAsked (catalog : Catalog) (i : SiteId) (S : Standing) (event : Even
   pub alive : S.knows.part j n ≢ Over
   pub clear : S.knows.part j n ≡ Free → first_conflict S.knows start objects ≡ None
 
--- a YES that is said, or counted as lost; or memory runs out
+-- an answer that is said, or counted as lost; or memory runs out
 pub data IsSaid (S : Standing) (sends : List Send) (came : Came) : Type 0 where
   is_said : came.outcome ≡ Passed → IsPutOut S.carried sends came.sends came.dropped → IsSaid S sends came
   is_unsaid : came.outcome ≡ Memory → IsSaid S sends came
@@ -122,3 +123,21 @@ pub data IsLocked (capacity : ℕ) (S : Standing) (j : SiteId) (n : ℕ) (tid : 
       → IsLocked capacity S j n tid objects came
   is_held : (owner : Tid) (held : List ObjId) → S.knows.part j n ≡ Locked owner held
       → IsSaid S (back j (Vote n Yes)) came → IsLocked capacity S j n tid objects came
+
+-- a peer asks for the locks of its slow commit, of which there is nothing here; the objects can be locked, and this is
+-- the first conflict that they meet
+pub record IsHindered (catalog : Catalog) (i : SiteId) (S : Standing) (event : Event) (j : SiteId) (n : ℕ)
+    (start : List ℕ) (conflict : Conflict) : Type 0 where
+  pub number : ℕ
+  pub tid : Tid
+  pub objects : List ObjId
+  pub came : event ≡ Given (Deliver j number (Prepare n tid start objects))
+  pub at : IsAtPeer catalog i S j
+  pub lockable : are_lockable catalog S.knows i objects ≡ true
+  pub free : S.knows.part j n ≡ Free
+  pub met : first_conflict S.knows start objects ≡ Some conflict
+
+-- the peer is told NO over a version that is outside the snapshot, and over a lock whose owner is known to be unseen
+-- by it; over another lock it is told to ask again
+abbrev pub IsHinderedAnswer : Standing → SiteId → ℕ → List ℕ → Conflict → Came → Type 0
+IsHinderedAnswer S j n start conflict came = IsSaid S (back j (Vote n (answer_over S.knows start conflict))) came

@@ -3,12 +3,13 @@ ghost use Rattle.walter_base.specs.declared.catalog.Catalog.{Catalog};
 ghost use Rattle.walter_base.specs.declared.names.ObjId.{ObjId};
 ghost use Rattle.walter_base.specs.declared.names.SiteId.{SiteId};
 ghost use Rattle.walter_base.specs.declared.names.Tid.{Tid};
+ghost use Rattle.walter_base.specs.declared.transaction.Conflict.{Conflict};
 ghost use Rattle.walter_base.specs.declared.transaction.Tx.{Tx};
 ghost use Rattle.walter_rules.specs.declared.entry.Entry.{Entry};
 ghost use Rattle.walter_rules.specs.Sessions.{Session};
 ghost use Rattle.walter_rules.specs.Trails.{standing, IsRightEntry, AreRight};
 ghost use Rattle.walter_alone.specs.Journaled.{IsJournaled};
-ghost use Rattle.walter_alone.specs.Promises.{IsFree, IsAnswered, IsNext, IsReceived, IsDue, IsSeen, IsAsked, IsLocked};
+ghost use Rattle.walter_alone.specs.Promises.{IsFree, IsAnswered, IsNext, IsReceived, IsDue, IsSeen, IsAsked, IsLocked, IsHindered, IsHinderedAnswer};
 
 /// After each entry of a right trail what the site knows, but for its clients' transactions and what its peers have
 /// said, is what its records tell, each of which can follow those before it. So a restart, which goes by the records,
@@ -21,7 +22,8 @@ pub fn a_restart_keeps_what_is_journaled()
 /// At a site that is up nothing is refused without a reason. A commit whose objects are all preferred here, and that
 /// meets no conflict, gives up only for want of memory or of place in the journal. So it is with a commit that a peer
 /// sends and that is the next of that peer, with one that can be committed here, and with the locks that a slow
-/// commit of a peer asks for.
+/// commit of a peer asks for. Where these meet a conflict, the peer is told NO only over a version outside its snapshot,
+/// or over a lock whose owner is known to be outside.
 pub fn right_trails_keep_promises()
     ensures committed { (catalog : Catalog) (capacity : ℕ) (i : SiteId) (older : List Entry) (e : Entry) (s : Session)
         → IsRightEntry catalog capacity i older e → IsFree catalog i (standing catalog i older) e.event s
@@ -37,4 +39,8 @@ pub fn right_trails_keep_promises()
         (n : ℕ) (tid : Tid) (objects : List ObjId)
         → IsRightEntry catalog capacity i older e → IsAsked catalog i (standing catalog i older) e.event j n tid objects
         → IsLocked capacity (standing catalog i older) j n tid objects e.came }
+    ensures hindered { (catalog : Catalog) (capacity : ℕ) (i : SiteId) (older : List Entry) (e : Entry) (j : SiteId)
+        (n : ℕ) (start : List ℕ) (conflict : Conflict) → IsRightEntry catalog capacity i older e
+        → IsHindered catalog i (standing catalog i older) e.event j n start conflict
+        → IsHinderedAnswer (standing catalog i older) j n start conflict e.came }
 {}

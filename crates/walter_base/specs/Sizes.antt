@@ -6,7 +6,7 @@ use Rattle.walter_base.specs.declared.message.Record.TheVariants.{Boot, Own, Got
 use Rattle.walter_base.specs.declared.names.ObjId.{ObjId}
 use Rattle.walter_base.specs.declared.packet.Packet.{Packet}
 use Rattle.walter_base.specs.declared.packet.Packet.TheVariants.{Propagate, Ack, Dsmark, Visible, Prepare, Vote, Release, Released as ReleasedSaid}
-use Rattle.walter_base.specs.declared.packet.Answer.TheVariants.{Yes, No}
+use Rattle.walter_base.specs.declared.packet.Answer.TheVariants.{Yes, No, Later}
 use Rattle.walter_base.specs.declared.transaction.Conflict.{Conflict}
 use Rattle.walter_base.specs.declared.transaction.Conflict.TheVariants.{Modified, Locked, Dead}
 use Rattle.walter_base.specs.declared.message.Reply.{Reply}
@@ -53,6 +53,7 @@ size_of_packet (Visible committed) = 9
 size_of_packet (Prepare slow tid start objects) = 88 + 12 * length objects
 size_of_packet (Vote slow Yes) = 10
 size_of_packet (Vote slow (No conflict)) = 10 + size_of_conflict conflict
+size_of_packet (Vote slow Later) = 10
 size_of_packet (Release slow) = 9
 size_of_packet (ReleasedSaid slow) = 9
 

@@ -15,6 +15,8 @@ pub enum Answer {
     Yes,
     /// This stands in its way.
     No(Conflict),
+    /// It is to be asked again: an object is locked by a transaction that the snapshot may see.
+    Later,
 }
 
 /// What a site says to another. The sender and the receiver are those of the lane.

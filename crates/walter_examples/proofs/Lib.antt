@@ -1,3 +1,4 @@
 pub mod WrittenTrails
 pub mod CausalRun
 pub mod DecisionRun
+pub mod LockedRun

@@ -1,3 +1,4 @@
 pub mod Entries
 pub mod CausalOrder
 pub mod DecisionInFlight
+pub mod LockedByACause

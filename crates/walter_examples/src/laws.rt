@@ -2,13 +2,15 @@ ghost use Rattle.std.specs.Prelude.{◌≡◌, ℕ, List};
 ghost use Rattle.walter_base.specs.declared.catalog.Catalog.{Catalog};
 ghost use Rattle.walter_examples.specs.CausalOrder.{HoldsCausalOrder, causal_trails, causal_history};
 ghost use Rattle.walter_examples.specs.DecisionInFlight.{HoldsDecision, decision_trails, decision_history};
+ghost use Rattle.walter_examples.specs.LockedByACause.{HoldsLockedCause, locked_trails, locked_history};
 ghost use Rattle.walter_refinement.specs.Spelled.{psi_of};
 ghost use Rattle.walter_rules.specs.Merges.{merge};
 ghost use Rattle.walter_runs.specs.Runs.{AreRightTrails};
 
-/// The right trails of two runs written out, over a catalog that has their containers and journals that have a place
+/// The right trails of three runs written out, over a catalog that has their containers and journals that have a place
 /// for their records, and the histories that they spell. In the first a commit comes to a site before its cause; in
-/// the second the disk fails while the decision of a slow commit is journaled, and the restart finds it.
+/// the second the disk fails while the decision of a slow commit is journaled, and the restart finds it; in the third
+/// a slow commit meets the lock of a transaction that it has seen, and is asked for again until the lock is gone.
 pub fn examples_spell()
     ensures causal_right { (catalog : Catalog) (capacity : ℕ) (cause effect : List ℕ)
         → HoldsCausalOrder catalog capacity cause effect
@@ -19,4 +21,9 @@ pub fn examples_spell()
         → HoldsDecision catalog capacity value → AreRightTrails catalog capacity (decision_trails value) }
     ensures decision_history { (catalog : Catalog) (value : List ℕ)
         → psi_of catalog (merge (decision_trails value)) ≡ decision_history value }
+    ensures locked_right { (catalog : Catalog) (capacity : ℕ) (first second : List ℕ)
+        → HoldsLockedCause catalog capacity first second
+        → AreRightTrails catalog capacity (locked_trails first second) }
+    ensures locked_history { (catalog : Catalog) (first second : List ℕ)
+        → psi_of catalog (merge (locked_trails first second)) ≡ locked_history first second }
 {}

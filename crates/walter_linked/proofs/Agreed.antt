@@ -1,12 +1,12 @@
 -- What sites that are linked agree on, by how each stands and by what was put out. Nothing here speaks of a history.
-use Rattle.std.specs.Prelude.{◌≡◌, ◌≢◌, ◌+◌, ◌-◌, ◌≤◌, ◌⊎◌, ℕ, false, List, [], length, slice_get, Some, Contains, if◌then◌else◌}
+use Rattle.std.specs.Prelude.{◌≡◌, ◌≢◌, ◌+◌, ◌-◌, ◌<◌, ◌≤◌, ◌⊎◌, ℕ, false, List, [], length, slice_get, Some, Contains, if◌then◌else◌}
 use Rattle.walter_base.specs.declared.catalog.Catalog.{Catalog}
 use Rattle.walter_base.specs.declared.message.Record.{Record}
 use Rattle.walter_base.specs.declared.message.Record.TheVariants.{Boot, Own, Got, Seen, Prepared, Released, SlowBegin, SlowEnd, Marks}
 use Rattle.walter_base.specs.declared.names.ObjId.{ObjId}
 use Rattle.walter_base.specs.declared.names.SiteId.{SiteId}
 use Rattle.walter_base.specs.declared.names.Tid.{Tid}
-use Rattle.walter_base.specs.declared.packet.Answer.TheVariants.{Yes, No}
+use Rattle.walter_base.specs.declared.packet.Answer.TheVariants.{Yes, No, Later}
 use Rattle.walter_base.specs.declared.packet.Packet.{Packet}
 use Rattle.walter_base.specs.declared.packet.Packet.TheVariants.{Propagate, Ack, Dsmark, Visible, Prepare, Vote, Release, Released as ReleasedSaid}
 use Rattle.walter_base.specs.declared.transaction.Conflict.{Conflict}
@@ -54,14 +54,19 @@ parts W p j n = (W p).knows.part j n
 abbrev pub at_site : SiteId → Standing → Stands → Stands
 at_site i S W k = if same_site k i then S else W k
 
+-- each commit of a transaction's site that the vector sees is another one's
+abbrev pub AreOthers : Stands → List ℕ → Tid → Type 0
+AreOthers W vector tid = (q : ℕ) → q < entry_at vector tid.site → (r : Held) × (slice_get (owns W tid.site) q ≡ Some r)
+    × (r.tx.tid ≢ tid)
+
 -- a conflict that stands in the way of a transaction of a slow commit: a version that it doesn't see, of an object
--- that it writes; or another's lock on one
+-- that it writes; or the lock on one of another transaction, that it doesn't see
 abbrev pub IsOver : Stands → Tx → Conflict → Type 0
 IsOver W x (Modified oid version) =
     Contains (write_set x.updates) oid
     × ((r : Held) × (slice_get (owns W version.site) (version.seq - 1) ≡ Some r) × (1 ≤ version.seq)
     × Contains (write_set r.tx.updates) oid × (sees x.start r ≡ false))
-IsOver W x (LockedThere oid owner) = Contains (write_set x.updates) oid × (owner ≢ x.tid)
+IsOver W x (LockedThere oid owner) = Contains (write_set x.updates) oid × (owner ≢ x.tid) × AreOthers W x.start owner
 IsOver W x Dead = Unit {0}
 
 -- what a packet from j to i says is so
@@ -76,6 +81,7 @@ IsSo catalog W j i (Prepare n tid start objects) =
     × ((oid : ObjId) → Contains objects oid → home catalog oid ≡ i)
 IsSo catalog W j i (Vote n Yes) = (slows W i n ≢ Unused) × (parts W j i n ≢ Free)
 IsSo catalog W j i (Vote n (No conflict)) = (x : Tx) × (begun (slows W i n) ≡ Some x) × IsOver W x conflict
+IsSo catalog W j i (Vote n Later) = Unit {0}
 IsSo catalog W j i (Release n) = (x : Tx) × (asked : List SiteId) × (slows W j n ≡ Dropped x asked)
 IsSo catalog W j i (ReleasedSaid n) = Unit {0}
 

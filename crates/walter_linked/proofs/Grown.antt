@@ -10,7 +10,7 @@ use Rattle.walter_base.specs.declared.message.Record.TheVariants.{Boot, Own, Got
 use Rattle.walter_base.specs.declared.names.ObjId.{ObjId}
 use Rattle.walter_base.specs.declared.names.SiteId.{SiteId}
 use Rattle.walter_base.specs.declared.names.Tid.{Tid}
-use Rattle.walter_base.specs.declared.packet.Answer.TheVariants.{Yes, No}
+use Rattle.walter_base.specs.declared.packet.Answer.TheVariants.{Yes, No, Later}
 use Rattle.walter_base.specs.declared.packet.Packet.{Packet}
 use Rattle.walter_base.specs.declared.packet.Packet.TheVariants.{Propagate, Ack, Dsmark, Visible, Prepare, Vote, Release, Released as ReleasedSaid}
 use Rattle.walter_base.specs.declared.transaction.Conflict.{Conflict}
@@ -249,7 +249,11 @@ module _ (catalog : Catalog) (W Then : Stands) (G : HasGrown W Then) where
       h.1.4,
     ),
   )
-  over_later x (LockedThere oid owner) h = h
+  over_later x (LockedThere oid owner) h = (
+    h.0,
+    h.1,
+    λ q low. let r = h.2 q low in (r.0, G.own owner.site q r.0 r.1, r.2),
+  )
   over_later x Dead h = tt
 
   -- what a packet to another site says stays so
@@ -263,6 +267,7 @@ module _ (catalog : Catalog) (W Then : Stands) (G : HasGrown W Then) where
       let b = is_begun (slows W i n) h.0 in
       (λ e. not_unused (slows Then i n) b.0 (G.begins i n b.0 b.1) e, G.holds j i n (λ e. apart (sym e)) h.1)
   so_later j i (Vote n (No conflict)) apart h = (h.0, G.begins i n h.0 h.1, over_later h.0 conflict h.2)
+  so_later j i (Vote n Later) apart h = tt
   so_later j i (Release n) apart h = (h.0, h.1, G.drops j n h.0 h.1 h.2)
   so_later j i (ReleasedSaid n) apart h = tt
 

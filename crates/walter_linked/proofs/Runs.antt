@@ -20,6 +20,7 @@ use Rattle.walter_runs.specs.Runs.{stands, IsPut, IsNext, IsRun}
 use Rattle.walter_runs.proofs.Steps.{IsStep, step_of}
 use Rattle.walter_agreement.proofs.Cases.{site_cases, low_or}
 use Rattle.walter_agreement.proofs.CausalLogs.{causal_none}
+use Rattle.walter_agreement.proofs.FastNames.{none_fast}
 use Rattle.walter_agreement.proofs.Locks.{none_locked}
 use Rattle.walter_agreement.proofs.Numbers.{numbered_none}
 use Rattle.walter_agreement.proofs.Owners.{none_owned}
@@ -44,6 +45,8 @@ homes_below catalog some all oid =
 pub alone_unmade : (catalog : Catalog) (i : SiteId) → IsAlone catalog i unmade
 alone_unmade catalog i = record {
   tidy = tidy_at_first i (λ c. None) (λ n. unmade.knows.slow n) false 0 (issued_of unmade) [] (λ c. refl) (λ n. refl);
+  names = none_fast (λ c. None) (λ n. unmade.knows.slow n) (issued_of unmade);
+  own_open = λ n t objs e. absurd cc;
   owners = none_owned unmade.knows.part unmade.knows.owner (λ j n. refl) (λ oid. refl);
   here = λ j n t objs oid e. absurd cc;
   asked = λ n tx asked e. elim e [ inl undecided ↦ absurd cc | inr dropped ↦ absurd cc ];

@@ -1,14 +1,14 @@
 -- What a site puts out to another says what is so.
-use Rattle.std.proofs.Common.{◌≡◌, ◌≢◌, ◌-◌, ◌≤◌, ℕ, false, List, slice_get, length, take, Some, None, ap, sym, ◌∙◌, subst, arith, inl, inr}
+use Rattle.std.proofs.Common.{◌≡◌, ◌≢◌, ◌-◌, ◌<◌, ◌≤◌, ℕ, true, false, List, slice_get, length, take, Some, None, refl, ap, sym, ◌∙◌, subst, arith, inl, inr, if◌then◌else◌}
 use Rattle.std.specs.Prelude.{Option, Contains, filter, map, not}
-use Rattle.std.proofs.lemmas.Bool.{not-true}
-use Rattle.std.proofs.lemmas.Option.{same_Some}
+use Rattle.std.proofs.lemmas.Bool.{not-true, cases_lt}
+use Rattle.std.proofs.lemmas.Option.{same_Some, slice_get_cases}
 use Rattle.walter_base.specs.declared.catalog.Catalog.{Catalog}
 use Rattle.walter_base.specs.declared.names.ObjId.{ObjId}
 use Rattle.walter_base.specs.declared.names.SiteId.{SiteId}
 use Rattle.walter_base.specs.declared.names.Tid.{Tid}
 use Rattle.walter_base.specs.declared.names.Version.{Version}
-use Rattle.walter_base.specs.declared.packet.Answer.TheVariants.{Yes, No}
+use Rattle.walter_base.specs.declared.packet.Answer.TheVariants.{Yes, No, Later}
 use Rattle.walter_base.specs.declared.packet.Packet.{Packet}
 use Rattle.walter_base.specs.declared.packet.Packet.TheVariants.{Propagate, Ack, Dsmark, Visible, Prepare, Vote, Release, Released as ReleasedSaid}
 use Rattle.walter_base.specs.declared.transaction.Conflict.{Conflict}
@@ -16,27 +16,38 @@ use Rattle.walter_base.specs.declared.transaction.Conflict.TheVariants.{Modified
 use Rattle.walter_base.specs.declared.transaction.Tx.{Tx}
 use Rattle.walter_base.specs.Conflicts.{sees_version, first_outside, conflict_over}
 use Rattle.walter_base.specs.Values.{write_set}
-use Rattle.walter_base.proofs.NameTests.{same_site_refl}
+use Rattle.walter_base.specs.Vectors.{entry_at}
+use Rattle.walter_base.specs.Names.{same_tid}
+use Rattle.walter_base.proofs.NameTests.{same_site_refl, same_tid-true, same_tid_refl}
 use Rattle.walter_psi.proofs.Lists.{contains_at, place_of}
 use Rattle.walter_rules.specs.declared.event.Event.{Event}
 use Rattle.walter_rules.specs.declared.event.Event.TheVariants.{Given}
 use Rattle.walter_rules.specs.declared.event.Input.TheVariants.{Deliver}
 use Rattle.walter_rules.specs.declared.held.Held.{Held}
-use Rattle.walter_rules.specs.Allowed.{IsTrueOf, IsMet}
+use Rattle.walter_rules.specs.Allowed.{IsTrueOf, IsMet, IsUnseen, IsOwnerUnseen}
 use Rattle.walter_rules.specs.Conflicts.{conflict_at}
 use Rattle.walter_rules.specs.Knowledge.{Knowledge}
 use Rattle.walter_rules.specs.Learning.{lost}
 use Rattle.walter_rules.specs.Log.{is_of, of_site, commit_at, version_of, wrote, row, sees}
-use Rattle.walter_rules.specs.Slow.{Locked, begun}
-use Rattle.walter_rules.proofs.Membership.{kept_from, made_from}
+use Rattle.walter_rules.specs.Slow.{Decided, Locked, begun}
+use Rattle.walter_rules.proofs.Membership.{kept_from, made_from, first_given, first_given_by}
 use Rattle.walter_rules.proofs.RuleTests.{one_meets}
 use Rattle.walter_rules.proofs.WrittenObjects.{in_objects_at, objects_at_from}
-use Rattle.walter_agreement.proofs.Cases.{not_unused, locked_not_free, object_in}
-use Rattle.walter_agreement.proofs.Lists.{prefix_get, place_filtered}
+use Rattle.walter_agreement.proofs.Cases.{site_cases, zero_or, not_unused, locked_not_free, locked_not_over, decided_not_open, object_in}
+use Rattle.walter_agreement.proofs.Lists.{prefix_get, filter_place, place_filtered}
 use Rattle.walter_alone.proofs.Alone.{IsAlone}
-use Rattle.walter_linked.proofs.Agreed.{Stands, Put, logs, owns, slows, parts, IsOver, IsSo, AreAgreed}
+use Rattle.walter_linked.proofs.Agreed.{Stands, Put, logs, owns, counts, slows, parts, AreOthers, IsOver, IsSo, AreAgreed}
 use Rattle.walter_linked.proofs.Grown.{HasGrown, over_later}
 use Rattle.walter_linked.proofs.Recorded.{IsCore, commit_held}
+
+-- a number that is told of a transaction's name is that of one of this name
+named_seq : (tid : Tid) (h : Held) (seq : ℕ) → (if same_tid tid h.tx.tid then Some h.seq else None) ≡ Some seq
+    → (tid ≡ h.tx.tid) × (h.seq ≡ seq)
+named_seq tid h seq is = elim (same_tid tid h.tx.tid) as (λ b. same_tid tid h.tx.tid ≡ b
+    → (if b then Some h.seq else None) ≡ Some seq → (tid ≡ h.tx.tid) × (h.seq ≡ seq)) [
+      | true ↦ λ same e. (same_tid-true tid h.tx.tid same, same_Some h.seq seq e)
+      | false ↦ λ apart e. absurd cc
+    ] refl is
 
 -- a conflict over a version is over the first one outside, and one over a lock over the owner
 pub over_modified : (at oid : ObjId) (first : Option Version) (owner : Option Tid) (version : Version)
@@ -98,6 +109,89 @@ module _ (catalog : Catalog) (W : Stands) (put : Put) (A : AreAgreed catalog W p
       let e : r.seq - 1 ≡ m = omega (arith, number) in
       (omega (arith, number), ap (λ n. slice_get (owns W k) n) e ∙ own)
 
+  -- the owner of a lock is none of those that stand here: an own commit of its name is decided, and what is decided and
+  -- stands here has no lock here any more
+  lock_alone : (oid : ObjId) (owner : Tid) → (W i).knows.owner oid ≡ Some owner → (q : ℕ) (r : Held)
+      → slice_get (owns W owner.site) q ≡ Some r → q < counts W i owner.site → r.tx.tid ≢ owner
+  lock_alone oid owner locked q r here low same =
+      let lock = (alone i).owners.owned oid owner locked in
+      let held = A.locked.held i lock.0 lock.1 owner lock.2 lock.3 in
+      let named = (alone lock.0).tidy.named lock.1 held.0 held.1 in
+      let site : lock.0 ≡ owner.site = sym (ap (λ (t : Tid). t.site) held.2 ∙ named.2) in
+      let begun_there : begun (slows W owner.site lock.1) ≡ Some held.0 =
+      subst (λ z. begun (slows W z lock.1) ≡ Some held.0) site held.1 in
+      elim (zero_or r.tx.slow) [
+        | inl fast ↦ ((alone owner.site).names.fast owner (q, r, here, fast, same)).1 lock.1 held.0 begun_there
+            (sym held.2)
+        | inr slow ↦
+            let done : slows W owner.site r.tx.slow ≡ Decided r.tx = A.locked.slow owner.site q r here slow in
+            let number : lock.1 ≡ r.tx.slow = (alone owner.site).tidy.apart lock.1 r.tx.slow held.0 r.tx begun_there
+            (ap begun done) (sym held.2 ∙ sym same) in
+            let mine : parts W i owner.site r.tx.slow ≡ Locked owner lock.2 =
+            subst (λ z. parts W i z r.tx.slow ≡ Locked owner lock.2) site
+            (subst (λ m. parts W i lock.0 m ≡ Locked owner lock.2) number lock.3) in
+            elim (site_cases i owner.site) [
+              | inl home ↦
+                  let own : parts W i i r.tx.slow ≡ Locked owner lock.2 =
+                  subst (λ z. parts W i z r.tx.slow ≡ Locked owner lock.2) (sym home.1) mine in
+                  let open_ = (alone i).own_open r.tx.slow owner lock.2 own in
+                  decided_not_open (slows W i r.tx.slow) r.tx open_.0 open_.1
+                  (subst (λ z. slows W z r.tx.slow ≡ Decided r.tx) (sym home.1) done) open_.2
+              | inr away ↦ locked_not_over (parts W i owner.site r.tx.slow) owner lock.2 mine
+                  (A.locked.gone i owner.site q r away.1 here low slow)
+            ]
+      ]
+
+  -- so a vector that sees no more than stands here doesn't see the owner
+  pub unseen_here : (start : List ℕ) → ((k : SiteId) → entry_at start k ≤ counts W i k) → (oid : ObjId) (owner : Tid)
+      → (W i).knows.owner oid ≡ Some owner → IsUnseen (W i).knows start owner
+  unseen_here start few oid owner locked = record {
+    covered = λ k. let a = few k in let b = (A.numbered.held i).within k in let e = A.counted i k in
+        omega (arith, a, b, e);
+    unseen = λ seq is.
+        let k = owner.site in
+        let found = first_given (λ (h : Held). if same_tid owner h.tx.tid then Some h.seq else None)
+        (of_site k (logs W i)) seq is in
+        let its = named_seq owner found.0 seq found.2 in
+        let place = place_of (of_site k (logs W i)) found.0 found.1 in
+        let own : slice_get (owns W k) place.0 ≡ Some found.0 =
+        prefix_get (of_site k (logs W i)) (owns W k) found.0 place.0 ((A.numbered.held i).fronts k) place.1 in
+        let number = A.numbered.own.numbered k place.0 found.0 own in
+        elim (cases_lt (entry_at start k) seq) [
+          | inl below ↦ below
+          | inr from ↦ absurd (lock_alone oid owner locked place.0 found.0 own
+              (let a = few k in let e = its.1 in omega (arith, from, a, e, number)) (sym its.0))
+        ];
+  }
+
+  -- of a transaction that is known to be unseen the vector sees nothing
+  pub others_of : (start : List ℕ) (tid : Tid) → IsUnseen (W i).knows start tid → AreOthers W start tid
+  others_of start tid u q low =
+      let k = tid.site in
+      elim (slice_get_cases (of_site k (logs W i)) q).1 [
+        | inl has ↦
+            let own : slice_get (owns W k) q ≡ Some has.0 =
+            prefix_get (of_site k (logs W i)) (owns W k) has.0 q ((A.numbered.held i).fronts k) has.2 in (
+              has.0,
+              own,
+              λ same.
+                  let named : (if same_tid tid has.0.tx.tid then Some has.0.seq else None) ≡ Some has.0.seq =
+                  ap (λ b. if b then Some has.0.seq else None) (subst (λ z. same_tid tid z ≡ true) (sym same)
+                  (same_tid_refl tid)) in
+                  let first = first_given_by (λ (h : Held). if same_tid tid h.tx.tid then Some h.seq else None)
+                  (of_site k (logs W i)) q has.0 has.0.seq has.2 named in
+                  let its = named_seq tid first.1 first.2 first.5 in
+                  let number = A.numbered.own.numbered k first.0 first.1
+                  (prefix_get (of_site k (logs W i)) (owns W k) first.1 first.0 ((A.numbered.held i).fronts k) first.4) in
+                  let above : entry_at start k < first.2 = u.unseen first.2 first.6 in
+                  let late = first.3 in
+                  let e = its.1 in
+                  (omega (arith, above, late, e, number, low)),
+            )
+        | inr past ↦ absurd (let a = u.covered k in let e = A.counted i k in let l = past.0 in
+            omega (arith, a, e, l, low))
+      ]
+
   -- what a PREPARE meets that asks for objects of a transaction stands in its way
   pub met_over : (event : Event) (to : SiteId) (n : ℕ) (conflict : Conflict) → to ≢ i
       → ((j : SiteId) (number : ℕ) (packet : Packet) → event ≡ Given (Deliver j number packet) → put j i packet)
@@ -110,42 +204,44 @@ module _ (catalog : Catalog) (W : Stands) (put : Put) (A : AreAgreed catalog W p
       let written : Contains (write_set x.updates) one.0 = (so.4 one.0 (so.5 one.0 one.1)).0 one.1 in (
         x,
         so.1,
-        elim conflict as (λ c. conflict_at (W i).knows met.start one.0 ≡ Some c → IsOver W x c) [
-          | Modified oid version ↦ λ is.
-              let over = over_modified one.0 oid (first_outside met.start (map version_of (row one.0 (logs W i))))
-              ((W i).knows.owner one.0) version is in
-              let held = first_outside_held (W i).knows met.start one.0 version over.1 in
-              let own = held_own held.0 held.1 held.2 in
-              let v : version_of held.0 ≡ version = held.3 in (
-                subst (λ z. Contains (write_set x.updates) z) over.0 written,
-                (
-                  held.0,
-                  subst (λ (z : Version). slice_get (owns W z.site) (z.seq - 1) ≡ Some held.0) v own.1,
-                  subst (λ (z : Version). 1 ≤ z.seq) v own.0,
-                  subst (λ z. Contains (write_set held.0.tx.updates) z) over.0 held.4,
-                  subst (λ s. sees s held.0 ≡ false) so.3 held.5,
-                ),
-              )
-          | LockedThere oid owner ↦ λ is.
-              let over = over_locked one.0 oid (first_outside met.start (map version_of (row one.0 (logs W i))))
-              ((W i).knows.owner one.0) owner is in
-              let lock = (alone i).owners.owned one.0 owner over.1 in
-              let held = A.locked.held i lock.0 lock.1 owner lock.2 lock.3 in (
-                subst (λ z. Contains (write_set x.updates) z) over.0 written,
-                λ same.
-                    let tids : held.0.tid ≡ x.tid = sym held.2 ∙ same in
-                    let there = (alone to).tidy.named n x so.1 in
-                    let here = (alone lock.0).tidy.named lock.1 held.0 held.1 in
-                    let coordinator : lock.0 ≡ to = sym here.2 ∙ ap (λ (t : Tid). t.site) tids ∙ there.2 in
-                    let begun_there : begun (slows W to lock.1) ≡ Some held.0 = subst
-                    (λ z. begun (slows W z lock.1) ≡ Some held.0) coordinator held.1 in
-                    let number : lock.1 ≡ n = (alone to).tidy.apart lock.1 n held.0 x begun_there so.1 tids in
-                    locked_not_free (parts W i to n) owner lock.2
-                    (subst (λ z. parts W i z n ≡ Locked owner lock.2) coordinator
-                    (subst (λ m. parts W i lock.0 m ≡ Locked owner lock.2) number lock.3)) met.free,
-              )
-          | Dead ↦ λ is. tt
-        ] one.2,
+        elim conflict as (λ c. conflict_at (W i).knows met.start one.0 ≡ Some c
+            → IsOwnerUnseen (W i).knows met.start c → IsOver W x c) [
+              | Modified oid version ↦ λ is free.
+                  let over = over_modified one.0 oid (first_outside met.start (map version_of (row one.0 (logs W i))))
+                  ((W i).knows.owner one.0) version is in
+                  let held = first_outside_held (W i).knows met.start one.0 version over.1 in
+                  let own = held_own held.0 held.1 held.2 in
+                  let v : version_of held.0 ≡ version = held.3 in (
+                    subst (λ z. Contains (write_set x.updates) z) over.0 written,
+                    (
+                      held.0,
+                      subst (λ (z : Version). slice_get (owns W z.site) (z.seq - 1) ≡ Some held.0) v own.1,
+                      subst (λ (z : Version). 1 ≤ z.seq) v own.0,
+                      subst (λ z. Contains (write_set held.0.tx.updates) z) over.0 held.4,
+                      subst (λ s. sees s held.0 ≡ false) so.3 held.5,
+                    ),
+                  )
+              | LockedThere oid owner ↦ λ is unseen.
+                  let over = over_locked one.0 oid (first_outside met.start (map version_of (row one.0 (logs W i))))
+                  ((W i).knows.owner one.0) owner is in
+                  let lock = (alone i).owners.owned one.0 owner over.1 in
+                  let held = A.locked.held i lock.0 lock.1 owner lock.2 lock.3 in (
+                    subst (λ z. Contains (write_set x.updates) z) over.0 written,
+                    λ same.
+                        let tids : held.0.tid ≡ x.tid = sym held.2 ∙ same in
+                        let there = (alone to).tidy.named n x so.1 in
+                        let here = (alone lock.0).tidy.named lock.1 held.0 held.1 in
+                        let coordinator : lock.0 ≡ to = sym here.2 ∙ ap (λ (t : Tid). t.site) tids ∙ there.2 in
+                        let begun_there : begun (slows W to lock.1) ≡ Some held.0 = subst
+                        (λ z. begun (slows W z lock.1) ≡ Some held.0) coordinator held.1 in
+                        let number : lock.1 ≡ n = (alone to).tidy.apart lock.1 n held.0 x begun_there so.1 tids in
+                        locked_not_free (parts W i to n) owner lock.2
+                        (subst (λ z. parts W i z n ≡ Locked owner lock.2) coordinator
+                        (subst (λ m. parts W i lock.0 m ≡ Locked owner lock.2) number lock.3)) met.free,
+                    subst (λ v. AreOthers W v owner) so.3 (others_of met.start owner unseen),
+                  )
+              | Dead ↦ λ is unseen. tt
+            ] one.2 met.unseen,
       )
 
   module _ (Then : Stands) (G : HasGrown W Then) (C : IsCore catalog Then) where
@@ -186,5 +282,6 @@ module _ (catalog : Catalog) (W : Stands) (put : Put) (A : AreAgreed catalog W p
     so_new event K to (Vote n (No Dead)) apart same puts h =
         let end = C.locked.over i to n (ap (λ (L : Knowledge). L.part to n) same ∙ h) in
         (end.0, elim end.1 [ inl dropped ↦ ap begun dropped.1 | inr done ↦ ap begun done ], tt)
+    so_new event K to (Vote n Later) apart same puts h = tt
     so_new event K to (Release n) apart same puts h = (h.0, h.1, ap (λ (L : Knowledge). L.slow n) same ∙ h.2)
     so_new event K to (ReleasedSaid n) apart same puts h = tt

@@ -14,8 +14,8 @@ use Rattle.walter_log.specs.Places.{places_of}
 abbrev pub ArePlaced : List Held → List (Vec ℕ) → Type 0
 ArePlaced log places = (j : SiteId) → map (slice_get log) (places_of places j) ≡ map (λ h. Some h) (of_site j log)
 
--- the names of own transactions have the first of their numbers
-pub record AreKept (site : SiteId) (log : List Held) (places : List (Vec ℕ)) (numbers : List (Tid × ℕ)) : Type 0 where
+-- the names of transactions have the first of their numbers
+pub record AreKept (log : List Held) (places : List (Vec ℕ)) (numbers : List (Tid × ℕ)) : Type 0 where
   pub within : AreWithin (length places) log
   pub placed : ArePlaced log places
-  pub numbered : (tid : Tid) → lookup (same_tid tid) numbers ≡ seq_in site log tid
+  pub numbered : (tid : Tid) → lookup (same_tid tid) numbers ≡ seq_in tid.site log tid

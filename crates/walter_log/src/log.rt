@@ -1,7 +1,7 @@
 ghost use Rattle.std.specs.Prelude.{◌≡◌, ◌<◌, ◌≤◌, ◌+◌, ◌++◌, ◌∷◌, [], IfOk, OnOk, IsOk};
 ghost use Rattle.std.specs.Option.{option_copied};
 ghost use Rattle.walter_base.specs.declared.names.SiteId.{SiteId as Site};
-ghost use Rattle.walter_rules.specs.Log.{commit_at, seq_in};
+ghost use Rattle.walter_rules.specs.Log.{commit_at, seq_in, has_seen};
 ghost use Rattle.walter_log.specs.Logged.{room_of, AreWithin};
 
 use crate::names::keep_first;
@@ -9,11 +9,11 @@ use crate::places::{make_room, no_places, put_place};
 use indexmap::IndexMap;
 use std::alloc::Global;
 use std::marker::Model;
-use walter_base::{Mem, SiteId, Tid, Tx};
+use walter_base::{Mem, SiteId, Tid, Tx, Vts};
 use walter_rules::Held;
 
-/// The transactions that a site holds, in order, with the places of each site's and the numbers of own ones. Contracts
-/// see the list of them, and the room for more.
+/// The transactions that a site holds, in order, with the places of each site's and the numbers of all by their names.
+/// Contracts see the list of them, and the room for more.
 #[derive(Drop)]
 pub struct Log {
     site: SiteId,
@@ -39,7 +39,7 @@ impl Model for Log {
       numbers = spare l.numbers;
     } };
 
-    ghost invariant = { λ l. AreKept l.site l.held.items l.places.items l.numbers.entries };
+    ghost invariant = { λ l. AreKept l.held.items l.places.items l.numbers.entries };
 }
 
 impl Log {
@@ -76,11 +76,31 @@ impl Log {
         Some(&held.tx)
     }
 
+    /// The number of the first commit of its site that is this transaction, if it is held.
+    pub fn number_of(&self, tid: Tid) -> Option<u64>
+        ensures { result ≡ seq_in tid.site self.now.log tid }
+    {
+        self.numbers.get(&tid).copied()
+    }
+
     /// The number of the first own commit that is this transaction.
     pub fn seq_of(&self, tid: Tid) -> Option<u64>
         ensures { result ≡ seq_in self.now.site self.now.log tid }
     {
-        self.numbers.get(&tid).copied()
+        if tid.site != self.site {
+            return None;
+        }
+        self.number_of(tid)
+    }
+
+    /// Whether the transaction is held, under a number that the vector sees.
+    pub fn has_seen(&self, vector: &Vts, tid: Tid) -> bool
+        ensures { result ≡ has_seen vector.now tid self.now.log }
+    {
+        match self.number_of(tid) {
+            Some(seq) => seq <= vector.get(tid.site),
+            None => false,
+        }
     }
 
     /// Makes room for one more transaction of the site.
@@ -108,7 +128,7 @@ impl Log {
         ensures room { (other : Site) → room_of self.old other ≤ room_of self.new other + 1 }
     {
         let tid = held.tx.tid;
-        keep_first(&mut self.numbers, self.site, tid, held.seq);
+        keep_first(&mut self.numbers, tid, held.seq);
         put_place(&mut self.places, tid.site, self.held.len());
         self.held.push_reserved(held);
     }

@@ -7,7 +7,7 @@ use Rattle.walter_base.specs.Vectors.{most_sites}
 use Rattle.walter_base.specs.declared.names.ObjId.{ObjId}
 use Rattle.walter_base.specs.declared.names.Tid.{Tid}
 use Rattle.walter_base.specs.declared.packet.Answer.{Answer}
-use Rattle.walter_base.specs.declared.packet.Answer.TheVariants.{Yes, No}
+use Rattle.walter_base.specs.declared.packet.Answer.TheVariants.{Yes, No, Later}
 use Rattle.walter_base.specs.declared.packet.Packet.{Packet}
 use Rattle.walter_base.specs.declared.packet.Packet.TheVariants.{Propagate, Ack, Dsmark, Visible, Prepare, Vote, Release, Released}
 use Rattle.walter_base.specs.declared.transaction.Conflict.TheVariants.{Modified, Locked, Dead}
@@ -56,6 +56,7 @@ of_vote slow answer = omega (arith, length-append (number_spelled 8 slow) (answe
 size_of_vote : (slow : ℕ) (answer : Answer) → size_of_packet (Vote slow answer) ≡ 9 + size_of_answer answer
 size_of_vote slow Yes = refl
 size_of_vote slow (No conflict) = omega arith
+size_of_vote slow Later = refl
 
 -- the spelling has the packet's size
 pub length-packet_spelled : (packet : Packet) → CanBeSent packet → length (packet_spelled packet) ≡ size_of_packet packet
@@ -76,6 +77,7 @@ most_bytes (Dsmark durable) can = omega arith
 most_bytes (Visible committed) can = omega arith
 most_bytes (Prepare slow tid start objects) can = omega (arith, can.1.few)
 most_bytes (Vote slow Yes) can = omega arith
+most_bytes (Vote slow Later) can = omega arith
 most_bytes (Vote slow (No (Modified oid version))) can = omega arith
 most_bytes (Vote slow (No (Locked oid owner))) can = omega arith
 most_bytes (Vote slow (No Dead)) can = omega arith

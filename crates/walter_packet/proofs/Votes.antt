@@ -6,7 +6,7 @@ use Rattle.walter_base.specs.declared.names.ObjId.{ObjId}
 use Rattle.walter_base.specs.declared.names.Tid.{Tid}
 use Rattle.walter_base.specs.declared.names.Version.{Version}
 use Rattle.walter_base.specs.declared.packet.Answer.{Answer}
-use Rattle.walter_base.specs.declared.packet.Answer.TheVariants.{Yes, No}
+use Rattle.walter_base.specs.declared.packet.Answer.TheVariants.{Yes, No, Later}
 use Rattle.walter_base.specs.declared.transaction.Conflict.{Conflict}
 use Rattle.walter_base.specs.declared.transaction.Conflict.TheVariants.{Modified, Locked, Dead}
 use Rattle.walter_fields.specs.Spellings.{number_spelled}
@@ -101,20 +101,23 @@ no_such_conflict kind left not_1 not_2 not_4 = record { none = λ x rest of e. k
 answer_parts : (x : Answer) → answer_spelled x ≡ number_spelled 1 (answer_kind x) ++ answer_fields x
 answer_parts Yes = sym (append-nil (number_spelled 1 1))
 answer_parts (No conflict) = refl
+answer_parts Later = sym (append-nil (number_spelled 1 2))
 
 answer_low : (x : Answer) → answer_kind x < 256
 answer_low Yes = omega arith
 answer_low (No conflict) = omega arith
+answer_low Later = omega arith
 
 pub length-answer_spelled : (x : Answer) → length (answer_spelled x) ≡ size_of_answer x
 length-answer_spelled Yes = length-number_spelled 1 1
 length-answer_spelled (No conflict) = omega (arith, length-append (number_spelled 1 0) (conflict_spelled conflict), length-number_spelled 1 0, length-conflict_spelled conflict)
+length-answer_spelled Later = length-number_spelled 1 2
 
 same_answer : (a b : Answer) (x y : List ℕ) → answer_kind a ≡ answer_kind b → IsAnswer a → IsAnswer b → answer_fields a ++ x ≡ answer_fields b ++ y → (a ≡ b) × (x ≡ y)
 same_answer Yes Yes x y kinds is_a is_b e = (refl, e)
 same_answer (No m) (No n) x y kinds is_a is_b e = let same = (free_kinds conflict_kinds).same m n x y is_a is_b e in ((λ i. No (same.0 i)), same.1)
-same_answer Yes (No n) x y kinds is_a is_b e = absurd (omega (arith, kinds))
-same_answer (No m) Yes x y kinds is_a is_b e = absurd (omega (arith, kinds))
+same_answer Later Later x y kinds is_a is_b e = (refl, e)
+same_answer a b x y kinds is_a is_b e = absurd (omega (arith, kinds))
 
 pub answer_kinds : HasKinds IsAnswer answer_kind answer_fields answer_spelled
 answer_kinds = record { parts = answer_parts; low = answer_low; same = same_answer }
@@ -127,14 +130,15 @@ no_refusal kind left is none = record { none = each }
   where
     each : (x : Answer) (rest : List ℕ) → IsSuchOfKind IsAnswer answer_kind kind x → left ≢ answer_fields x ++ rest
     each (No conflict) rest of e = none.none conflict rest of.1 e
-    each Yes rest of e = omega (arith, is, of.0)
+    each x rest of e = omega (arith, is, of.0)
 
-pub no_such_answer : (kind : ℕ) (left : List ℕ) → kind ≢ 0 → kind ≢ 1 → NoAnswer kind left
-no_such_answer kind left not_0 not_1 = record { none = each }
+pub no_such_answer : (kind : ℕ) (left : List ℕ) → kind ≢ 0 → kind ≢ 1 → kind ≢ 2 → NoAnswer kind left
+no_such_answer kind left not_0 not_1 not_2 = record { none = each }
   where
     each : (x : Answer) (rest : List ℕ) → IsSuchOfKind IsAnswer answer_kind kind x → left ≢ answer_fields x ++ rest
     each Yes rest of e = not_1 (sym of.0)
     each (No conflict) rest of e = not_0 (sym of.0)
+    each Later rest of e = not_2 (sym of.0)
 
 pub free_votes : IsPrefixFree IsVote vote_spelled
 free_votes = free_both free_numbers (free_kinds answer_kinds)

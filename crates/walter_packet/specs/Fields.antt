@@ -4,7 +4,7 @@ use Rattle.walter_base.specs.Sizes.{size_of_conflict}
 use Rattle.walter_base.specs.declared.names.ObjId.{ObjId}
 use Rattle.walter_base.specs.declared.names.Tid.{Tid}
 use Rattle.walter_base.specs.declared.packet.Answer.{Answer}
-use Rattle.walter_base.specs.declared.packet.Answer.TheVariants.{Yes, No}
+use Rattle.walter_base.specs.declared.packet.Answer.TheVariants.{Yes, No, Later}
 use Rattle.walter_base.specs.declared.packet.Packet.{Packet}
 use Rattle.walter_base.specs.declared.packet.Packet.TheVariants.{Propagate, Ack, Dsmark, Visible, Prepare, Vote, Release, Released}
 use Rattle.walter_base.specs.declared.transaction.Conflict.{Conflict}
@@ -27,15 +27,18 @@ conflict_fields Dead = []
 abbrev pub answer_kind : Answer → ℕ
 answer_kind Yes = 1
 answer_kind (No conflict) = 0
+answer_kind Later = 2
 
 abbrev pub answer_fields : Answer → List ℕ
 answer_fields Yes = []
 answer_fields (No conflict) = conflict_spelled conflict
+answer_fields Later = []
 
 -- how many bytes that are, with the kind
 abbrev pub size_of_answer : Answer → ℕ
 size_of_answer Yes = 1
 size_of_answer (No conflict) = 1 + size_of_conflict conflict
+size_of_answer Later = 1
 
 -- the number of a slow commit, and the answer to it
 abbrev pub vote_spelled : ℕ × Answer → List ℕ

@@ -2,7 +2,7 @@
 use Rattle.std.specs.Prelude.{◌≡◌, ◌<◌, ◌^◌, ℕ, List, ◌++◌, length, All}
 use Rattle.walter_base.specs.Sizes.{CanBeSent}
 use Rattle.walter_base.specs.declared.packet.Answer.{Answer}
-use Rattle.walter_base.specs.declared.packet.Answer.TheVariants.{Yes, No}
+use Rattle.walter_base.specs.declared.packet.Answer.TheVariants.{Yes, No, Later}
 use Rattle.walter_base.specs.declared.packet.Packet.{Packet}
 use Rattle.walter_base.specs.declared.packet.Packet.TheVariants.{Propagate, Ack, Dsmark, Visible, Prepare, Vote, Release, Released}
 use Rattle.walter_base.specs.declared.transaction.Conflict.{Conflict}
@@ -19,6 +19,7 @@ conflict_spelled Dead = number_spelled 1 4
 abbrev pub answer_spelled : Answer → List ℕ
 answer_spelled Yes = number_spelled 1 1
 answer_spelled (No conflict) = number_spelled 1 0 ++ conflict_spelled conflict
+answer_spelled Later = number_spelled 1 2
 
 abbrev pub packet_spelled : Packet → List ℕ
 packet_spelled (Propagate seq tx) = number_spelled 1 1 ++ (number_spelled 8 seq ++ spelling tx)
@@ -41,6 +42,7 @@ IsConflict Dead = Unit {0}
 abbrev pub IsAnswer : Answer → Type 0
 IsAnswer Yes = Unit {0}
 IsAnswer (No conflict) = IsConflict conflict
+IsAnswer Later = Unit {0}
 
 abbrev pub AreInRange : Packet → Type 0
 AreInRange (Propagate seq tx) = (seq < 2 ^ 64) × IsInRange tx

@@ -58,6 +58,7 @@ fn read_answer_fields(cursor: &mut Cursor, kind: u8) -> Result<Answer, DecodeFau
             Ok(Answer::No(conflict))
         }
         1 => Ok(Answer::Yes),
+        2 => Ok(Answer::Later),
         _ => Err(DecodeFault::Unspelled),
     }
 }
@@ -121,7 +122,7 @@ pub(crate) fn size_of_answer(answer: Answer) -> usize
     ensures { result ≡ size_of_answer answer }
 {
     match answer {
-        Answer::Yes => 1,
+        Answer::Yes | Answer::Later => 1,
         Answer::No(conflict) => 1 + size_of_conflict(conflict),
     }
 }
@@ -133,6 +134,7 @@ pub(crate) fn write_answer(out: &mut Appender, answer: Answer)
 {
     match answer {
         Answer::Yes => out.u8(1),
+        Answer::Later => out.u8(2),
         Answer::No(conflict) => {
             out.u8(0);
             write_conflict(out, conflict);

@@ -34,6 +34,10 @@ pub record Blocks (steps : List Step) (snapshot : List Tid) (x : Tid) (updates :
   pub outside : ¬ Contains snapshot y
   pub conflict : DoConflict (committed_updates steps y) updates
 
+-- a transaction is another one, and isn't in the snapshot
+abbrev pub IsUnseenOwner : Tid → List Step → Tid → Type 0
+IsUnseenOwner x steps owner = (owner ≢ x) × ¬ Contains (snapshot x steps) owner
+
 -- a transaction wrote the object, and isn't in the snapshot
 abbrev pub IsUnseenWriter : Tid → List Step → ObjId → Tid → Type 0
 IsUnseenWriter x steps oid y = Contains (write_set (committed_updates steps y)) oid × ¬ Contains (snapshot x steps) y

@@ -50,7 +50,8 @@ IsOutside x steps oid version =
 abbrev pub IsCauseOfAbort : Tid → List Step → Cause → Type 0
 IsCauseOfAbort x steps Asked = Unit {0}
 IsCauseOfAbort x steps (Modified oid version) = Contains (write_set (own_updates x steps)) oid × IsOutside x steps oid version
-IsCauseOfAbort x steps (Locked oid owner) = Contains (write_set (own_updates x steps)) oid × (owner ≢ x)
+IsCauseOfAbort x steps (Locked oid owner) =
+    Contains (write_set (own_updates x steps)) oid × (owner ≢ x) × ¬ Contains (snapshot x steps) owner
 
 -- what was told of a transaction is so
 abbrev pub IsTrueNotice : Tid → List Step → Notice → Type 0

@@ -1,6 +1,7 @@
 -- The cause of an abort was there: a version outside the snapshot, or another's lock.
 use Rattle.std.proofs.Common.{◌≡◌, ◌≢◌, ℕ, ◌-◌, ◌≤◌, List, map, refl, ap, sym, ◌∙◌, subst, arith, slice_get, Some}
 use Rattle.std.specs.Prelude.{Contains}
+use Rattle.std.proofs.lemmas.Option.{same_Some}
 use Rattle.walter_base.specs.declared.catalog.Catalog.{Catalog}
 use Rattle.walter_base.specs.declared.names.ObjId.{ObjId}
 use Rattle.walter_base.specs.declared.names.SiteId.{SiteId}
@@ -10,8 +11,9 @@ use Rattle.walter_base.specs.declared.transaction.Conflict.{Conflict}
 use Rattle.walter_base.specs.declared.transaction.Conflict.TheVariants.{Modified, Locked as LockedThere, Dead}
 use Rattle.walter_base.specs.Conflicts.{first_outside}
 use Rattle.walter_base.specs.Values.{write_set}
+use Rattle.walter_base.specs.Vectors.{entry_at}
 use Rattle.walter_psi.specs.declared.step.Step.{Step}
-use Rattle.walter_psi.specs.Histories.{own_updates}
+use Rattle.walter_psi.specs.Histories.{own_updates, snapshot}
 use Rattle.walter_psi.specs.Legal.{IsCauseOfAbort, IsOutside}
 use Rattle.walter_rules.specs.declared.held.Held.{Held}
 use Rattle.walter_rules.specs.Allowed.{HasOpen}
@@ -21,10 +23,10 @@ use Rattle.walter_rules.specs.Sessions.{Session, tx_of}
 use Rattle.walter_rules.specs.Slow.{begun}
 use Rattle.walter_alone.proofs.Alone.{IsAlone}
 use Rattle.walter_linked.proofs.Agreed.{Stands, Put, logs, owns, counts, slows, AreAgreed, IsOver}
-use Rattle.walter_linked.proofs.Said.{over_modified, over_locked, first_outside_held, held_own}
+use Rattle.walter_linked.proofs.Said.{over_modified, over_locked, first_outside_held, held_own, unseen_here, others_of}
 use Rattle.walter_refinement.proofs.Facts.{modified}
 use Rattle.walter_refinement.proofs.Moves.{held, numbers, spent, Spells}
-use Rattle.walter_refinement.proofs.Spelled.{IsLive}
+use Rattle.walter_refinement.proofs.Spelled.{IsLive, seen_row}
 
 module _ (catalog : Catalog) (W : Stands) (put : Put) (h : List Step) (alone : (k : SiteId) → IsAlone catalog k (W k))
     (G : AreAgreed catalog W put) (sp : Spells W h) (i : SiteId) (s : Session)
@@ -53,7 +55,14 @@ module _ (catalog : Catalog) (W : Stands) (put : Put) (h : List Step) (alone : (
       over_version oid version r over.0 over.1.1 over.1.2 over.1.3
       (modified (owns W) (counts W) (numbers W) (held W) (spent W) h G.numbered.own sp.spelled s version.site
       (version.seq - 1) r oid live over.1.1 over.1.3 over.1.4)
-  cause_there (LockedThere oid owner) alive over = (writes_own oid over.0, over.1)
+  cause_there (LockedThere oid owner) alive over = (
+    writes_own oid over.0,
+    over.1,
+    λ within.
+        let row = seen_row (owns W) (λ k. entry_at s.snapshot k) (snapshot s.tid h) owner live.seen within in
+        let other = over.2 row.place row.below in
+        other.2 (ap (λ (r : Held). r.tx.tid) (same_Some other.0 row.row (sym other.1 ∙ row.here)) ∙ row.is),
+  )
   cause_there Dead alive over = absurd (alive refl)
 
   -- a conflict that an open session meets at its own site
@@ -90,6 +99,8 @@ module _ (catalog : Catalog) (W : Stands) (put : Put) (h : List Step) (alone : (
                   let coordinator : lock.0 ≡ i = sym named.2 ∙ (ap (λ (t : Tid). t.site) tids ∙ home) in
                   (alone i).tidy.open_ client s open_.session open_.is_open lock.1 x.0
                   (subst (λ z. begun (slows W z lock.1) ≡ Some x.0) coordinator x.1) tids,
+              others_of catalog W put G alone i s.snapshot owner (unseen_here catalog W put G alone i s.snapshot
+                  ((alone i).snapshots client s open_.session) at_ owner over.1),
             )
         | Dead ↦ λ is. tt
       ] met

@@ -1,5 +1,5 @@
 -- Each abort but one that was asked for has its conflict, where it was met.
-use Rattle.std.proofs.Common.{◌≡◌, ◌≢◌, ℕ, ◌<◌, List, [], ◌∷◌, ◌++◌, refl, ap, sym, ◌∙◌, subst, arith, Some, None, inl, inr}
+use Rattle.std.proofs.Common.{◌≡◌, ◌≢◌, ℕ, ◌<◌, List, [], ◌∷◌, ◌++◌, map, refl, ap, sym, ◌∙◌, subst, arith, Some, None, inl, inr}
 use Rattle.std.specs.Prelude.{Option, Contains, IfSome, Ok}
 use Rattle.std.proofs.lemmas.List.Elements.{Contains-append_cases}
 use Rattle.std.proofs.lemmas.Option.{same_Some}
@@ -18,6 +18,7 @@ use Rattle.walter_base.specs.declared.transaction.Cause.TheVariants.{Asked}
 use Rattle.walter_base.specs.declared.transaction.Conflict.{Conflict}
 use Rattle.walter_base.specs.declared.transaction.Conflict.TheVariants.{Modified as ModifiedThere, Locked as LockedThere, Dead}
 use Rattle.walter_base.specs.declared.transaction.Tx.{Tx}
+use Rattle.walter_base.specs.Conflicts.{first_outside}
 use Rattle.walter_base.specs.Values.{write_set}
 use Rattle.walter_psi.proofs.Lists.{Contains-nil, Contains-one}
 use Rattle.walter_rules.specs.declared.entry.Came.{Came}
@@ -26,9 +27,10 @@ use Rattle.walter_rules.specs.declared.event.Event.TheVariants.{Given, Stop, Res
 use Rattle.walter_rules.specs.declared.event.Input.TheVariants.{Call, Deliver, Advance, Tick}
 use Rattle.walter_rules.specs.declared.outcome.Outcome.{Outcome}
 use Rattle.walter_rules.specs.declared.outcome.Outcome.TheVariants.{Replied, Failed}
-use Rattle.walter_rules.specs.Allowed.{HasOpen, HasBegun, IsMet, of_value, of_counts, of_count, IsKind, is_refused, starts, does, reads, ends, aborts, conflicts, commits, begins, waits, tells_version, tells_cause, levels_own, is_deciding, is_running, denies, passes, receives, hears_ack, hears_durable, hears_visible, marks_durable, marks_visible, prepares, hears_yes, decides, gives_up, releases, hears_released, sees, stops, is_down, boots}
+use Rattle.walter_rules.specs.Allowed.{HasOpen, HasBegun, IsOwnerUnseen, IsMet, of_value, of_counts, of_count, IsKind, is_refused, starts, does, reads, ends, aborts, conflicts, commits, begins, waits, tells_version, tells_cause, levels_own, is_deciding, is_running, denies, passes, receives, hears_ack, hears_durable, hears_visible, marks_durable, marks_visible, prepares, hears_yes, decides, gives_up, releases, hears_released, sees, stops, is_down, boots}
 use Rattle.walter_rules.specs.Conflicts.{conflict_at, first_conflict, cause_of}
-use Rattle.walter_rules.specs.Knowledge.{session_of}
+use Rattle.walter_rules.specs.Knowledge.{Knowledge, session_of}
+use Rattle.walter_rules.specs.Log.{row, version_of}
 use Rattle.walter_rules.specs.Merges.{Named}
 use Rattle.walter_rules.specs.Objects.{objects_at}
 use Rattle.walter_rules.specs.Sessions.{Session, tx_of}
@@ -40,6 +42,7 @@ use Rattle.walter_runs.specs.Runs.{stands, IsPut, IsRun}
 use Rattle.walter_runs.proofs.Steps.{IsStep, stable, flies, unread_step, wants, finds_full}
 use Rattle.walter_alone.proofs.Alone.{home}
 use Rattle.walter_alone.proofs.KeptSteps.{right_alone, settled_alone}
+use Rattle.walter_linked.proofs.Said.{over_locked, unseen_here}
 use Rattle.walter_linked.proofs.Runs.{found, found_here, run_alone, next_step, run_agrees, put_later}
 use Rattle.walter_linked.proofs.Whole.{run_behind}
 use Rattle.walter_refinement.specs.Named.{IsMetThere, IsConflictNamed, IsNamed}
@@ -237,6 +240,8 @@ module _ (catalog : Catalog) (capacity : ℕ) (homes : (oid : ObjId) → (home c
           met = subst (λ (S : Standing). conflict_at S.knows s.snapshot at_conflict.0 ≡ Some conflict) stood
               (subst (λ v. conflict_at (found catalog at_.1 (p, put.entry) p).knows v at_conflict.0
               ≡ Some conflict) start at_conflict.2);
+          unseen = subst (λ (S : Standing). IsOwnerUnseen S.knows s.snapshot conflict) stood
+              (subst (λ v. IsOwnerUnseen (found catalog at_.1 (p, put.entry) p).knows v conflict) start met.unseen);
         };
       }
 
@@ -260,6 +265,23 @@ module _ (catalog : Catalog) (capacity : ℕ) (homes : (oid : ObjId) → (home c
           (subst (λ z. IsConflictNamed catalog older n z) c named)
       by_conflict Dead alive c named = absurd (alive refl)
 
+      -- the owner of a lock that the session meets at its own site is one that it doesn't see
+      owner_unseen : (client : ℕ) (s : Session) (at_ : ObjId) (conflict : Conflict)
+          → session_of (stands catalog older n.0).knows client ≡ Some s
+          → conflict_at (stands catalog older n.0).knows s.snapshot at_ ≡ Some conflict
+          → IsOwnerUnseen (stands catalog older n.0).knows s.snapshot conflict
+      owner_unseen client s at_ (ModifiedThere oid version) has met = tt
+      owner_unseen client s at_ (LockedThere oid owner) has met =
+          let alone = run_alone catalog capacity homes (right_alone catalog capacity)
+          (settled_alone catalog capacity) older is.0 in
+          let agreed = run_agrees catalog capacity homes (right_alone catalog capacity)
+          (settled_alone catalog capacity) older is.0 in
+          let K : Knowledge = (stands catalog older n.0).knows in
+          unseen_here catalog (stands catalog older) (IsPut older) agreed alone n.0 s.snapshot
+          ((alone n.0).snapshots client s has) at_ owner
+          (over_locked at_ oid (first_outside s.snapshot (map version_of (row at_ K.log))) (K.owner at_) owner met).1
+      owner_unseen client s at_ Dead has met = tt
+
       abort_named : IsAbort catalog n.0 (found catalog older n n.0) n.1.event cause → IsNamed catalog older n cause
       abort_named (was_asked client event c) = subst (λ z. IsNamed catalog older n z) (sym c) (client, event)
       abort_named (met_here client s conflict event open_ c first) =
@@ -282,6 +304,9 @@ module _ (catalog : Catalog) (capacity : ℕ) (homes : (oid : ObjId) → (home c
               here = within.1;
               met =
                   subst (λ (S : Standing). conflict_at S.knows s.snapshot one.0 ≡ Some conflict) same one.2;
+              unseen = owner_unseen client s one.0 conflict
+                  (subst (λ (S : Standing). session_of S.knows client ≡ Some s) same open_.session)
+                  (subst (λ (S : Standing). conflict_at S.knows s.snapshot one.0 ≡ Some conflict) same one.2);
             });
           })
       abort_named (met_there client s conflict event begun_ c said) =

@@ -15,6 +15,7 @@ use Rattle.walter_rules.specs.declared.entry.Entry.{Entry}
 use Rattle.walter_rules.specs.declared.event.Event.TheVariants.{Given}
 use Rattle.walter_rules.specs.declared.event.Input.TheVariants.{Call, Deliver}
 use Rattle.walter_rules.specs.declared.outcome.Outcome.TheVariants.{Replied}
+use Rattle.walter_rules.specs.Allowed.{IsOwnerUnseen}
 use Rattle.walter_rules.specs.Conflicts.{conflict_at, cause_of}
 use Rattle.walter_rules.specs.Knowledge.{Knowledge, preferred, session_of}
 use Rattle.walter_rules.specs.Merges.{Named}
@@ -23,12 +24,14 @@ use Rattle.walter_runs.specs.Runs.{stands}
 
 -- At a site that knows this the transaction meets the conflict, over an object that it writes and that is preferred
 -- there: the first version in the object's row that its snapshot doesn't see; or else, where it sees them all, the
--- lock on the object.
+-- lock on the object, of a transaction that it doesn't see.
 pub record IsMetAt (catalog : Catalog) (p : SiteId) (K : Knowledge) (s : Session) (conflict : Conflict) : Type 0 where
   pub oid : ObjId
   pub written : Contains (write_set s.updates) oid
   pub here : preferred catalog K oid ≡ p
   pub met : conflict_at K s.snapshot oid ≡ Some conflict
+  -- the owner of the lock isn't seen by the snapshot: all that it sees is there, and not that one
+  pub unseen : IsOwnerUnseen K s.snapshot conflict
 
 -- another site met it, at a PREPARE of the transaction, and put out its NO
 pub record IsMetThere (catalog : Catalog) (older : List Named) (i : SiteId) (s : Session)

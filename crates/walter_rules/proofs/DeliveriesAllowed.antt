@@ -1,6 +1,6 @@
 -- What the rule says of a packet of another site, and of its next commit, is of one of the kinds, and what it puts
 -- out is so, and in order.
-use Rattle.std.proofs.Common.{◌≡◌, ◌≢◌, ℕ, ◌+◌, ◌-◌, ◌<◌, ◌≤◌, min, max, Bool, true, false, not, ◌&&◌, nat_le, nat_lt, List, [], ◌∷◌, Option, Some, None, refl, sym, ◌∙◌, arith}
+use Rattle.std.proofs.Common.{◌≡◌, ◌≢◌, ℕ, ◌+◌, ◌-◌, ◌<◌, ◌≤◌, min, max, Bool, true, false, not, ◌&&◌, nat_le, nat_lt, List, [], ◌∷◌, Option, Some, None, refl, sym, ◌∙◌, arith, if◌then◌else◌}
 use Rattle.std.specs.Prelude.{Contains}
 use Rattle.std.specs.List.{list_all}
 use Rattle.std.specs.Option.{option_map_or}
@@ -12,7 +12,7 @@ use Rattle.walter_base.specs.declared.names.ObjId.{ObjId}
 use Rattle.walter_base.specs.declared.names.SiteId.{SiteId}
 use Rattle.walter_base.specs.declared.names.Tid.{Tid}
 use Rattle.walter_base.specs.declared.packet.Answer.{Answer}
-use Rattle.walter_base.specs.declared.packet.Answer.TheVariants.{Yes, No}
+use Rattle.walter_base.specs.declared.packet.Answer.TheVariants.{Yes, No, Later}
 use Rattle.walter_base.specs.declared.packet.Packet.{Packet}
 use Rattle.walter_base.specs.declared.packet.Packet.TheVariants.{Propagate, Ack, Dsmark, Visible, Prepare, Vote, Release, Released as ReleasedSaid}
 use Rattle.walter_base.specs.declared.transaction.Conflict.{Conflict}
@@ -29,7 +29,7 @@ use Rattle.walter_rules.specs.Allowed.{IsKind, IsFromPeer, IsDueThere, IsTrueOf}
 use Rattle.walter_rules.specs.Calls.{next_seq}
 use Rattle.walter_rules.specs.Conflicts.{first_conflict}
 use Rattle.walter_rules.specs.Declarations.{are_lockable}
-use Rattle.walter_rules.specs.Deliveries.{passes, takes, back, is_peer, covers, accepts, if_accepted, if_marks, is_news, acknowledged_to, if_acknowledged, if_shown, if_greater, prepares, prepares_by, if_lockable, commits_if_all, if_missing, releases_to, ends_slow, votes, if_asked, votes_by, releases, confirms, packet_rule, if_peer, deliver_rule, is_enabled, advances, advance_rule}
+use Rattle.walter_rules.specs.Deliveries.{passes, takes, back, is_peer, covers, accepts, if_accepted, if_marks, is_news, acknowledged_to, if_acknowledged, if_shown, if_greater, is_unseen, answer_over, prepares, prepares_by, if_lockable, commits_if_all, if_missing, releases_to, ends_slow, votes, if_asked, votes_by, releases, confirms, packet_rule, if_peer, deliver_rule, is_enabled, advances, advance_rule}
 use Rattle.walter_rules.specs.Knowledge.{Knowledge, peers}
 use Rattle.walter_rules.specs.Learning.{recorded, after, risen}
 use Rattle.walter_rules.specs.Log.{commit_at}
@@ -38,7 +38,7 @@ use Rattle.walter_rules.specs.Sending.{Send, to_each, propagates, into_window, w
 use Rattle.walter_rules.specs.Slow.{Slow, Unused, Undecided, Dropped, Decided, Part, Free, Locked, Over, has_site}
 use Rattle.walter_rules.specs.Standing.{Standing}
 use Rattle.walter_rules.proofs.Membership.{range_from}
-use Rattle.walter_rules.proofs.RuleTests.{has_site_true, peer_true, covers_true, accepted, all_said, first_alive, lockable}
+use Rattle.walter_rules.proofs.RuleTests.{has_site_true, peer_true, covers_true, accepted, all_said, unseen_true, first_alive, lockable}
 use Rattle.walter_rules.proofs.SaidTrue.{AreTrue, nothing_sent, one_sent, each_sent, one_to, both_to, where_to, propagates_to, risen_to, own_sent}
 use Rattle.walter_rules.proofs.SendsInOrder.{nothing_in_order, one_in_order, own_in_order, acknowledged_in_order, releases_in_order}
 use Rattle.walter_rules.proofs.CallsAllowed.{Allows, quiet}
@@ -208,37 +208,54 @@ module _ (catalog : Catalog) (i : SiteId) (S : Standing) where
       abbrev asked_lock : Event
       asked_lock = Given (Deliver j number (Prepare n tid start objects))
 
-      -- a NO over what was met
+      -- a NO over what was met, or that it is to be asked again
       refusal_true : (conflict : Conflict) → S.knows.part j n ≡ Free
           → first_conflict S.knows start objects ≡ Some conflict
-          → IsTrueOf catalog i S.knows asked_lock S.knows j (Vote n (No conflict))
+          → IsTrueOf catalog i S.knows asked_lock S.knows j (Vote n (answer_over S.knows start conflict))
       refusal_true (Modified oid version) free met = record {
         free = free;
         number = number;
         tid = tid;
-        start =
-            start;
+        start = start;
         objects = objects;
         came = refl;
         met = met;
+        unseen = tt;
       }
-      refusal_true (LockedThere oid owner) free met = record {
-        free = free;
-        number = number;
-        tid = tid;
-        start =
-            start;
-        objects = objects;
-        came = refl;
-        met = met;
-      }
+      refusal_true (LockedThere oid owner) free met =
+          elim (is_unseen S.knows start owner) as (λ b. is_unseen S.knows start owner ≡ b
+          → IsTrueOf catalog i S.knows asked_lock S.knows j
+          (Vote n (if b then No (LockedThere oid owner) else Later))) [
+            | true ↦ λ is. record {
+              free = free;
+              number = number;
+              tid = tid;
+              start = start;
+              objects = objects;
+              came = refl;
+              met = met;
+              unseen = unseen_true S.knows start owner is;
+            }
+            | false ↦ λ is. record {
+              free = free;
+              number = number;
+              tid = tid;
+              start = start;
+              objects = objects;
+              came = refl;
+              oid = oid;
+              owner = owner;
+              met = met;
+              unknown = is;
+            }
+          ] refl
       refusal_true Dead free met = absurd (first_alive S.knows start objects Dead met refl)
 
-      -- a YES with the lock, or a NO
+      -- a YES with the lock, or an answer over what was met
       free_by : are_lockable catalog S.knows i objects ≡ true → S.knows.part j n ≡ Free → (conflict : Option Conflict)
           → first_conflict S.knows start objects ≡ conflict
-          → Allows catalog i S asked_lock (prepares j n tid objects conflict)
-      free_by regular free (Some conflict) met = answering asked_lock j (Vote n (No conflict))
+          → Allows catalog i S asked_lock (prepares S.knows j n tid start objects conflict)
+      free_by regular free (Some conflict) met = answering asked_lock j (Vote n (answer_over S.knows start conflict))
           (refusal_true conflict free met)
       free_by regular free None none =
           recording asked_lock (Some (Prepared j n tid objects)) j (Vote n Yes)
@@ -309,6 +326,7 @@ module _ (catalog : Catalog) (i : SiteId) (S : Standing) where
       votes_allowed (No (Modified oid version)) = ended (Modified oid version) (λ dead. cc)
       votes_allowed (No (LockedThere oid owner)) = ended (LockedThere oid owner) (λ dead. cc)
       votes_allowed (No Dead) = passing_quietly (Given (Deliver j number (Vote n (No Dead))))
+      votes_allowed Later = passing_quietly (Given (Deliver j number (Vote n Later)))
 
     -- a vote of another site does nothing
     asked_by : (n : ℕ) (tx : Tx) (asked : List SiteId) (answer : Answer) → S.knows.slow n ≡ Undecided tx asked

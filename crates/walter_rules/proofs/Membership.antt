@@ -1,5 +1,5 @@
 -- What stands in a list that was filtered, mapped or counted, and what a test of all or of some of a list tells.
-use Rattle.std.proofs.Common.{◌≡◌, ℕ, zero, suc, ◌+◌, ◌<◌, ◌≤◌, Bool, true, List, [], ◌∷◌, map, refl, ap, subst, arith, slice_get, Option, Some, None, inl, inr, ◌⊎◌}
+use Rattle.std.proofs.Common.{◌≡◌, ℕ, zero, suc, ◌+◌, ◌<◌, ◌≤◌, Bool, true, List, [], ◌∷◌, map, refl, ap, ◌∙◌, subst, arith, slice_get, Option, Some, None, inl, inr, ◌⊎◌}
 use Rattle.std.specs.Prelude.{Contains, filter, filter_map}
 use Rattle.std.specs.List.{cons_option, list_any, list_all, range_with_len}
 use Rattle.std.proofs.lemmas.Bool.{cases_Bool, cases_eq, and_parts}
@@ -90,6 +90,22 @@ module _ {X Y : Type 0} where
   pub first_given : (h : X → Option Y) (xs : List X) (y : Y) → slice_get (filter_map h xs) 0 ≡ Some y
       → (x : X) × Contains xs x × (h x ≡ Some y)
   first_given h xs y first = given_from h xs y (contains_at (filter_map h xs) y 0 first)
+
+  -- what it gives at a place it gives first at no later one
+  pub first_given_by : (h : X → Option Y) (xs : List X) (n : ℕ) (x : X) (y : Y) → slice_get xs n ≡ Some x → h x ≡ Some y
+      → (m : ℕ) × (w : X) × (z : Y) × (m ≤ n) × (slice_get xs m ≡ Some w) × (h w ≡ Some z)
+      × (slice_get (filter_map h xs) 0 ≡ Some z)
+  first_given_by h [] n x y at is = absurd cc
+  first_given_by h (v ∷ xs) zero x y at is =
+      let e : v ≡ x = cc in
+      (0, v, y, omega arith, refl, ap h e ∙ is, ap (λ o. slice_get (cons_option o (filter_map h xs)) 0) (ap h e ∙ is))
+  first_given_by h (v ∷ xs) (suc n) x y at is =
+      let rest = first_given_by h xs n x y at is in
+      elim (h v) as (λ o. h v ≡ o → (m : ℕ) × (w : X) × (z : Y) × (m ≤ suc n) × (slice_get (v ∷ xs) m ≡ Some w)
+      × (h w ≡ Some z) × (slice_get (cons_option o (filter_map h xs)) 0 ≡ Some z)) [
+        | None ↦ λ none. (suc rest.0, rest.1, rest.2, let l = rest.3 in omega (arith, l), rest.4, rest.5, rest.6)
+        | Some z ↦ λ here. (0, v, z, omega arith, refl, here, refl)
+      ] refl
 
   -- where it gave nothing, it gave nothing at each element
   pub none_given : (h : X → Option Y) (xs : List X) (x : X) → slice_get (filter_map h xs) 0 ≡ None → Contains xs x

@@ -4,7 +4,7 @@ use Rattle.std.specs.Prelude.{Contains}
 use Rattle.std.specs.FinMap.{get}
 use Rattle.std.specs.List.{list_all, range_with_len}
 use Rattle.std.specs.Option.{option_map_or}
-use Rattle.std.proofs.lemmas.Bool.{cases_lt, and_parts, ltb-true, leb-true, eqb-true, not-true, both_ways}
+use Rattle.std.proofs.lemmas.Bool.{cases_lt, and_parts, ltb-true, leb-true, le-leb, eqb-true, not-true, both_ways}
 use Rattle.std.proofs.lemmas.List.{get_or_past}
 use Rattle.walter_base.specs.declared.catalog.Catalog.{Catalog}
 use Rattle.walter_base.specs.declared.containers.Container.{Container}
@@ -20,13 +20,14 @@ use Rattle.walter_base.specs.declared.transaction.Tx.{Tx}
 use Rattle.walter_base.specs.declared.update.Update.{Update}
 use Rattle.walter_base.specs.Conflicts.{first_outside, conflict_over}
 use Rattle.walter_base.specs.Names.{same_site}
+use Rattle.walter_base.specs.Vectors.{entry_at}
 use Rattle.walter_base.proofs.NameTests.{same_site-true, same_site_refl}
-use Rattle.walter_rules.specs.Allowed.{AreClear, Covers, HaveSaidYes, IsNextCommit, AreLockable}
+use Rattle.walter_rules.specs.Allowed.{AreClear, Covers, IsUnseen, HaveSaidYes, IsNextCommit, AreLockable}
 use Rattle.walter_rules.specs.Conflicts.{conflict_at, first_conflict}
 use Rattle.walter_rules.specs.Declarations.{is_of_kind, same_kind, are_declared, are_lockable}
-use Rattle.walter_rules.specs.Deliveries.{is_peer, covers, accepts}
+use Rattle.walter_rules.specs.Deliveries.{is_peer, covers, accepts, is_unseen}
 use Rattle.walter_rules.specs.Knowledge.{Knowledge, preferred, site_at}
-use Rattle.walter_rules.specs.Log.{row, version_of}
+use Rattle.walter_rules.specs.Log.{row, version_of, seq_in, has_seen}
 use Rattle.walter_rules.specs.Objects.{objects_at}
 use Rattle.walter_rules.specs.Slow.{has_site}
 use Rattle.walter_rules.proofs.Membership.{each_passes, one_passes, first_given, none_given, in_range}
@@ -57,6 +58,23 @@ covers_true counts snapshot all k = elim (cases_lt k.0 (length snapshot)) [
       (in_range 0 (length snapshot) k.0 (omega arith) (omega arith)))
   | inr past ↦ let none : slice_index snapshot k.0 ≡ 0 = get_or_past snapshot k.0 0 past in omega (arith, none)
 ]
+
+-- a transaction that is known to be unseen is unseen
+pub unseen_true : (K : Knowledge) (start : List ℕ) (tid : Tid) → is_unseen K start tid ≡ true → IsUnseen K start tid
+unseen_true K start tid is =
+    let parts = and_parts (covers K.got start) (not (has_seen start tid K.log)) is in
+    record {
+      covered = covers_true K.got start parts.0;
+      unseen = λ seq is.
+          let none : nat_le seq (entry_at start tid.site) ≡ false =
+          sym (ap (λ o. option_map_or (λ s. nat_le s (entry_at start tid.site)) o false) is)
+          ∙ not-true (has_seen start tid K.log) parts.1 in
+          elim (cases_lt (entry_at start tid.site) seq) [
+            | inl below ↦ below
+            | inr from ↦ absurd (let seen = le-leb seq (entry_at start tid.site) from in
+                let clash : true ≡ false = sym seen ∙ none in cc)
+          ];
+    }
 
 -- a commit that is accepted is the next of its site
 pub accepted : (catalog : Catalog) (K : Knowledge) (j : SiteId) (seq : ℕ) (tx : Tx)

@@ -14,7 +14,7 @@ use Rattle.walter_base.specs.declared.message.Request.TheVariants.{Start, Read, 
 use Rattle.walter_base.specs.declared.names.ObjId.{ObjId}
 use Rattle.walter_base.specs.declared.names.SiteId.{SiteId}
 use Rattle.walter_base.specs.declared.names.Tid.{Tid}
-use Rattle.walter_base.specs.declared.packet.Answer.TheVariants.{Yes, No}
+use Rattle.walter_base.specs.declared.packet.Answer.TheVariants.{Yes, No, Later}
 use Rattle.walter_base.specs.declared.packet.Packet.{Packet}
 use Rattle.walter_base.specs.declared.packet.Packet.TheVariants.{Propagate, Ack, Dsmark, Visible, Prepare, Vote, Release, Released as ReleasedSaid}
 use Rattle.walter_base.specs.declared.transaction.Cause.TheVariants.{Asked}
@@ -33,9 +33,10 @@ use Rattle.walter_rules.specs.declared.outcome.Outcome.TheVariants.{Replied, Tak
 use Rattle.walter_rules.specs.Calls.{Expected, next_tid, next_seq, next_slow, own_version, read_updates, seq_of, level_of_own, is_issued, is_undecided, is_open}
 use Rattle.walter_rules.specs.Conflicts.{conflict_at, first_conflict, cause_of}
 use Rattle.walter_rules.specs.Declarations.{is_declared, are_declared, are_lockable}
+use Rattle.walter_rules.specs.Deliveries.{is_unseen}
 use Rattle.walter_rules.specs.Knowledge.{Knowledge, preferred, session_of}
 use Rattle.walter_rules.specs.Learning.{after, heard}
-use Rattle.walter_rules.specs.Log.{commit_at}
+use Rattle.walter_rules.specs.Log.{commit_at, seq_in}
 use Rattle.walter_rules.specs.Marks.{durable_mark, visible_mark}
 use Rattle.walter_rules.specs.Objects.{objects_at}
 use Rattle.walter_rules.specs.Sessions.{Session, with_slow, tx_of}
@@ -80,6 +81,18 @@ AreLocal catalog i K updates = (oid : ObjId) → Contains (write_set updates) oi
 -- of each site so many are counted as the snapshot sees
 abbrev pub Covers : (SiteId → ℕ) → List ℕ → Type 0
 Covers counts snapshot = (k : SiteId) → entry_at snapshot k ≤ counts k
+
+-- the snapshot doesn't see the transaction: the site has received all that it sees, and that one not at all or under a
+-- number that it doesn't see
+pub record IsUnseen (K : Knowledge) (start : List ℕ) (tid : Tid) : Type 0 where
+  pub covered : Covers K.got start
+  pub unseen : (seq : ℕ) → seq_in tid.site K.log tid ≡ Some seq → entry_at start tid.site < seq
+
+-- a lock stands in the way only where the snapshot doesn't see its owner
+abbrev pub IsOwnerUnseen : Knowledge → List ℕ → Conflict → Type 0
+IsOwnerUnseen K start (Modified oid version) = Unit {0}
+IsOwnerUnseen K start (LockedThere oid owner) = IsUnseen K start owner
+IsOwnerUnseen K start Dead = Unit {0}
 
 -- each site that was asked has said YES
 abbrev pub HaveSaidYes : List SiteId → List SiteId → Type 0
@@ -216,6 +229,20 @@ pub record IsMet (before : Knowledge) (event : Event) (to : SiteId) (n : ℕ) (c
   pub objects : List ObjId
   pub came : event ≡ Given (Deliver to number (Prepare n tid start objects))
   pub met : first_conflict before start objects ≡ Some conflict
+  pub unseen : IsOwnerUnseen before start conflict
+
+-- that it is to be asked again is said over a lock, of an owner that isn't known to be unseen
+pub record IsPutOff (before : Knowledge) (event : Event) (to : SiteId) (n : ℕ) : Type 0 where
+  pub free : before.part to n ≡ Free
+  pub number : ℕ
+  pub tid : Tid
+  pub start : List ℕ
+  pub objects : List ObjId
+  pub came : event ≡ Given (Deliver to number (Prepare n tid start objects))
+  pub oid : ObjId
+  pub owner : Tid
+  pub met : first_conflict before start objects ≡ Some (LockedThere oid owner)
+  pub unknown : is_unseen before start owner ≡ false
 
 -- what a packet says is so, by what the site knew before the event and what it knows after it
 abbrev pub IsTrueOf : Catalog → SiteId → Knowledge → Event → Knowledge → SiteId → Packet → Type 0
@@ -233,6 +260,7 @@ IsTrueOf catalog i before event K to (Vote n (No (Modified oid version))) =
 IsTrueOf catalog i before event K to (Vote n (No (LockedThere oid owner))) =
     IsMet before event to n (LockedThere oid owner)
 IsTrueOf catalog i before event K to (Vote n (No Dead)) = K.part to n ≡ Over
+IsTrueOf catalog i before event K to (Vote n Later) = IsPutOff before event to n
 IsTrueOf catalog i before event K to (Release n) = (tx : Tx) × (asked : List SiteId) × (K.slow n ≡ Dropped tx asked)
 IsTrueOf catalog i before event K to (ReleasedSaid n) = K.part to n ≡ Over
 

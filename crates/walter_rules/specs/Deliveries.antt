@@ -10,7 +10,7 @@ use Rattle.walter_base.specs.declared.names.ObjId.{ObjId}
 use Rattle.walter_base.specs.declared.names.SiteId.{SiteId}
 use Rattle.walter_base.specs.declared.names.Tid.{Tid}
 use Rattle.walter_base.specs.declared.packet.Answer.{Answer}
-use Rattle.walter_base.specs.declared.packet.Answer.TheVariants.{Yes, No}
+use Rattle.walter_base.specs.declared.packet.Answer.TheVariants.{Yes, No, Later}
 use Rattle.walter_base.specs.declared.packet.Packet.{Packet}
 use Rattle.walter_base.specs.declared.packet.Packet.TheVariants.{Propagate, Ack, Dsmark, Visible, Prepare, Vote, Release, Released as ReleasedSaid}
 use Rattle.walter_base.specs.declared.transaction.Conflict.{Conflict}
@@ -23,7 +23,7 @@ use Rattle.walter_rules.specs.Conflicts.{first_conflict}
 use Rattle.walter_rules.specs.Declarations.{are_declared, are_lockable}
 use Rattle.walter_rules.specs.Knowledge.{Knowledge, peers, site_at}
 use Rattle.walter_rules.specs.Learning.{recorded, risen}
-use Rattle.walter_rules.specs.Log.{commit_at}
+use Rattle.walter_rules.specs.Log.{commit_at, has_seen}
 use Rattle.walter_rules.specs.Marks.{durable_mark, visible_mark}
 use Rattle.walter_rules.specs.Sending.{Send, to_each, where_site, if_risen, propagates, into_window, own_sends}
 use Rattle.walter_rules.specs.Slow.{Slow, Unused, Undecided, Dropped, Decided, Part, Free, Locked, Over, has_site}
@@ -100,15 +100,27 @@ abbrev pub if_greater : Bool → Expected
 if_greater true = takes None []
 if_greater false = passes []
 
+-- whether it is known here that the snapshot doesn't see a transaction: all that it sees is here, and not that one
+abbrev pub is_unseen : Knowledge → List ℕ → Tid → Bool
+is_unseen K start tid = covers K.got start && not (has_seen start tid K.log)
+
+-- what is answered where this conflict is met: over a lock there is a NO only where its owner is known to be unseen,
+-- and else the site is to be asked again
+abbrev pub answer_over : Knowledge → List ℕ → Conflict → Answer
+answer_over K start (Modified oid version) = No (Modified oid version)
+answer_over K start (LockedThere oid owner) = if is_unseen K start owner then No (LockedThere oid owner) else Later
+answer_over K start Dead = No Dead
+
 -- the objects of a PREPARE are locked where none of them meets a conflict
-abbrev pub prepares : SiteId → ℕ → Tid → List ObjId → Option Conflict → Expected
-prepares j n tid objects (Some conflict) = passes (back j (Vote n (No conflict)))
-prepares j n tid objects None = takes (Some (Prepared j n tid objects)) (back j (Vote n Yes))
+abbrev pub prepares : Knowledge → SiteId → ℕ → Tid → List ℕ → List ObjId → Option Conflict → Expected
+prepares K j n tid start objects (Some conflict) = passes (back j (Vote n (answer_over K start conflict)))
+prepares K j n tid start objects None = takes (Some (Prepared j n tid objects)) (back j (Vote n Yes))
 
 abbrev pub prepares_by : Knowledge → SiteId → ℕ → Tid → List ℕ → List ObjId → Part → Expected
 prepares_by K j n tid start objects Over = passes (back j (Vote n (No Dead)))
 prepares_by K j n tid start objects (Locked owner locked) = passes (back j (Vote n Yes))
-prepares_by K j n tid start objects Free = prepares j n tid objects (first_conflict K start objects)
+prepares_by K j n tid start objects Free =
+    prepares K j n tid start objects (first_conflict K start objects)
 
 -- one of objects that aren't regular, or not preferred here, does nothing
 abbrev pub if_lockable : Bool → Knowledge → SiteId → ℕ → Tid → List ℕ → List ObjId → Expected
@@ -133,12 +145,13 @@ releases_to n asked k = if has_site k asked then Release n ∷ [] else []
 abbrev pub ends_slow : Catalog → SiteId → ℕ → List SiteId → Expected
 ends_slow catalog i n asked = takes (Some (SlowEnd n)) (to_each (peers catalog i) (releases_to n asked))
 
--- a NO ends it, but not one that says that it is over there
+-- a NO ends it, but not one that says that it is over there; who is to be asked again is waited for
 abbrev pub votes : Catalog → SiteId → Knowledge → SiteId → ℕ → Tx → List SiteId → Answer → Expected
 votes catalog i K p n tx asked Yes = if_missing (not (has_site p (K.said_yes n))) catalog i K p n tx asked
 votes catalog i K p n tx asked (No (Modified oid version)) = ends_slow catalog i n asked
 votes catalog i K p n tx asked (No (LockedThere oid owner)) = ends_slow catalog i n asked
 votes catalog i K p n tx asked (No Dead) = passes []
+votes catalog i K p n tx asked Later = passes []
 
 abbrev pub if_asked : Bool → Catalog → SiteId → Knowledge → SiteId → ℕ → Tx → List SiteId → Answer → Expected
 if_asked true catalog i K p n tx asked answer = votes catalog i K p n tx asked answer

@@ -1,6 +1,7 @@
 -- The transactions that a site holds, its own and received ones, in order, and what a vector sees of them.
-use Rattle.std.specs.Prelude.{ℕ, ◌-◌, nat_le, Bool, List, filter, filter_map, slice_get, Option, Some, None, option_map, if◌then◌else◌}
+use Rattle.std.specs.Prelude.{ℕ, ◌-◌, nat_le, Bool, false, List, filter, filter_map, slice_get, Option, Some, None, option_map, if◌then◌else◌}
 use Rattle.std.specs.List.{list_any}
+use Rattle.std.specs.Option.{option_map_or}
 use Rattle.walter_base.specs.declared.names.ObjId.{ObjId}
 use Rattle.walter_base.specs.declared.names.SiteId.{SiteId}
 use Rattle.walter_base.specs.declared.names.Tid.{Tid}
@@ -32,6 +33,10 @@ seq_in site log tid = slice_get (filter_map (λ h. if same_tid tid h.tx.tid then
 -- whether the vector sees it
 abbrev pub sees : List ℕ → Held → Bool
 sees vector h = nat_le h.seq (entry_at vector h.tx.tid.site)
+
+-- whether the log has this transaction, under a number that the vector sees
+abbrev pub has_seen : List ℕ → Tid → List Held → Bool
+has_seen vector tid log = option_map_or (λ seq. nat_le seq (entry_at vector tid.site)) (seq_in tid.site log tid) false
 
 abbrev pub wrote : ObjId → Held → Bool
 wrote oid h = list_any (same_object oid) (write_set h.tx.updates)

@@ -1,7 +1,7 @@
 use walter_base::Tx;
 
 /// How many own commits above what a peer has acknowledged are sent to it.
-pub const WINDOW: u64 = 1;
+pub const WINDOW: u64 = 64;
 
 /// A committed transaction that a site holds, with its number among the commits of its own site.
 #[derive(Debug, Drop)]

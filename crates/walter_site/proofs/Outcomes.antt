@@ -14,7 +14,7 @@ use Rattle.walter_base.specs.declared.names.ObjId.{ObjId}
 use Rattle.walter_base.specs.declared.names.SiteId.{SiteId}
 use Rattle.walter_base.specs.declared.names.Tid.{Tid}
 use Rattle.walter_base.specs.declared.packet.Answer.{Answer}
-use Rattle.walter_base.specs.declared.packet.Answer.TheVariants.{Yes, No}
+use Rattle.walter_base.specs.declared.packet.Answer.TheVariants.{Yes, No, Later}
 use Rattle.walter_base.specs.declared.packet.Packet.{Packet}
 use Rattle.walter_base.specs.declared.packet.Packet.TheVariants.{Propagate, Ack, Dsmark, Visible, Prepare, Vote, Release, Released}
 use Rattle.walter_base.specs.declared.transaction.Conflict.{Conflict}
@@ -55,14 +55,14 @@ module _ (catalog : Catalog) (i : SiteId) (K : Knowledge) where
   shown_plain true j committed = tt
   shown_plain false j committed = tt
 
-  prepares_plain : (j : SiteId) (n : ℕ) (tid : Tid) (objects : List ObjId) (conflict : Option Conflict)
-      → IsNoReply (prepares j n tid objects conflict).outcome
-  prepares_plain j n tid objects None = tt
-  prepares_plain j n tid objects (Some conflict) = tt
+  prepares_plain : (j : SiteId) (n : ℕ) (tid : Tid) (start : List ℕ) (objects : List ObjId) (conflict : Option Conflict)
+      → IsNoReply (prepares K j n tid start objects conflict).outcome
+  prepares_plain j n tid start objects None = tt
+  prepares_plain j n tid start objects (Some conflict) = tt
 
   prepared_plain : (j : SiteId) (n : ℕ) (tid : Tid) (start : List ℕ) (objects : List ObjId) (part : Part)
       → IsNoReply (prepares_by K j n tid start objects part).outcome
-  prepared_plain j n tid start objects Free = prepares_plain j n tid objects (first_conflict K start objects)
+  prepared_plain j n tid start objects Free = prepares_plain j n tid start objects (first_conflict K start objects)
   prepared_plain j n tid start objects (Locked owner locked) = tt
   prepared_plain j n tid start objects Over = tt
 
@@ -90,6 +90,7 @@ module _ (catalog : Catalog) (i : SiteId) (K : Knowledge) where
       → IsNoReply (votes catalog i K j n tx asked answer).outcome
   votes_plain j n tx asked Yes = missing_plain (not (has_site j (K.said_yes n))) j n tx asked
   votes_plain j n tx asked (No conflict) = refused_plain j n tx asked conflict
+  votes_plain j n tx asked Later = tt
 
   asked_plain : (b : Bool) (j : SiteId) (n : ℕ) (tx : Tx) (asked : List SiteId) (answer : Answer)
       → IsNoReply (if_asked b catalog i K j n tx asked answer).outcome

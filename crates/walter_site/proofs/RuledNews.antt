@@ -6,7 +6,7 @@ use Rattle.std.proofs.lemmas.Bool.{and_parts, leb-true, eq-eqb}
 use Rattle.walter_base.specs.declared.catalog.Catalog.{Catalog}
 use Rattle.walter_base.specs.declared.names.SiteId.{SiteId}
 use Rattle.walter_base.specs.declared.packet.Answer.{Answer}
-use Rattle.walter_base.specs.declared.packet.Answer.TheVariants.{Yes, No}
+use Rattle.walter_base.specs.declared.packet.Answer.TheVariants.{Yes, No, Later}
 use Rattle.walter_base.specs.declared.packet.Packet.{Packet}
 use Rattle.walter_base.specs.declared.packet.Packet.TheVariants.{Propagate, Ack, Dsmark, Visible, Prepare, Vote, Release, Released}
 use Rattle.walter_base.specs.declared.transaction.Conflict.TheVariants.{Modified, Locked, Dead}
@@ -97,6 +97,7 @@ module _ (catalog : Catalog) (i : SiteId) (K : Knowledge) (S : IsSound catalog i
     asked_news (No (Modified oid version)) true is = (tx, asked, ended_there n (K.slow n) tx asked undecided)
     asked_news (No (Locked oid owner)) true is = (tx, asked, ended_there n (K.slow n) tx asked undecided)
     asked_news (No Dead) true is = tt
+    asked_news Later true is = tt
 
   votes_news : (n : ℕ) (answer : Answer) (g : Slow) → K.slow n ≡ g
       → BringsNews catalog i K j number (Vote n answer) (votes_by catalog i K j n answer g)

@@ -10,7 +10,7 @@ use Rattle.walter_base.specs.declared.names.ObjId.{ObjId}
 use Rattle.walter_base.specs.declared.names.SiteId.{SiteId}
 use Rattle.walter_base.specs.declared.names.Tid.{Tid}
 use Rattle.walter_base.specs.declared.packet.Answer.{Answer}
-use Rattle.walter_base.specs.declared.packet.Answer.TheVariants.{Yes, No}
+use Rattle.walter_base.specs.declared.packet.Answer.TheVariants.{Yes, No, Later}
 use Rattle.walter_base.specs.declared.packet.Packet.{Packet}
 use Rattle.walter_base.specs.declared.packet.Packet.TheVariants.{Propagate, Ack, Dsmark, Visible, Prepare, Vote, Release, Released}
 use Rattle.walter_base.specs.declared.transaction.Conflict.{Conflict}
@@ -25,7 +25,7 @@ use Rattle.walter_rules.specs.declared.held.Held.{Held}
 use Rattle.walter_rules.specs.Calls.{if_local, decides, commits_open, tells_version, tells_cause, tells_decision, commits_by, commits_for, seq_of, next_seq, next_slow}
 use Rattle.walter_rules.specs.Conflicts.{first_conflict}
 use Rattle.walter_rules.specs.Declarations.{are_lockable}
-use Rattle.walter_rules.specs.Deliveries.{back, is_peer, accepts, if_accepted, is_news, acknowledged_to, if_acknowledged, if_shown, if_greater, prepares, prepares_by, if_lockable, commits_if_all, if_missing, releases_to, votes, if_asked, votes_by, releases, confirms, packet_rule, if_peer, deliver_rule, is_enabled, advances, advance_rule}
+use Rattle.walter_rules.specs.Deliveries.{back, is_peer, accepts, if_accepted, is_news, acknowledged_to, if_acknowledged, if_shown, if_greater, answer_over, prepares, prepares_by, if_lockable, commits_if_all, if_missing, releases_to, votes, if_asked, votes_by, releases, confirms, packet_rule, if_peer, deliver_rule, is_enabled, advances, advance_rule}
 use Rattle.walter_rules.specs.Knowledge.{Knowledge, preferred, peers, from_to}
 use Rattle.walter_rules.specs.Learning.{recorded, risen}
 use Rattle.walter_rules.specs.Log.{of_site, is_of, commit_at}
@@ -272,18 +272,18 @@ module _ (catalog : Catalog) (i : SiteId) (K : Knowledge) (S : IsSound catalog i
     shown_sized committed true = none_sized catalog i
     shown_sized committed false = none_sized catalog i
 
-    prepares_sized : (n : ℕ) (tid : Tid) (objects : List ObjId) (conflict : Option Conflict)
-        → AreAllSized catalog i (prepares j n tid objects conflict).sends
-    prepares_sized n tid objects None = back_sized catalog i j (Vote n Yes) (record { sizes = tt; among = tt })
-    prepares_sized n tid objects (Some conflict) =
-        back_sized catalog i j (Vote n (No conflict)) (record { sizes = tt; among = tt })
+    prepares_sized : (n : ℕ) (tid : Tid) (start : List ℕ) (objects : List ObjId) (conflict : Option Conflict)
+        → AreAllSized catalog i (prepares K j n tid start objects conflict).sends
+    prepares_sized n tid start objects None = back_sized catalog i j (Vote n Yes) (record { sizes = tt; among = tt })
+    prepares_sized n tid start objects (Some conflict) =
+        back_sized catalog i j (Vote n (answer_over K start conflict)) (record { sizes = tt; among = tt })
 
     part_sized : (n : ℕ) (tid : Tid) (start : List ℕ) (objects : List ObjId) (part : Part)
         → AreAllSized catalog i (prepares_by K j n tid start objects part).sends
     part_sized n tid start objects Over = back_sized catalog i j (Vote n (No Dead)) (record { sizes = tt; among = tt })
     part_sized n tid start objects (Locked owner locked) =
         back_sized catalog i j (Vote n Yes) (record { sizes = tt; among = tt })
-    part_sized n tid start objects Free = prepares_sized n tid objects (first_conflict K start objects)
+    part_sized n tid start objects Free = prepares_sized n tid start objects (first_conflict K start objects)
 
     lockable_sized : (n : ℕ) (tid : Tid) (start : List ℕ) (objects : List ObjId) (test : Bool)
         → AreAllSized catalog i (if_lockable test K j n tid start objects).sends
@@ -304,6 +304,7 @@ module _ (catalog : Catalog) (i : SiteId) (K : Knowledge) (S : IsSound catalog i
       vote_sized (No (Modified oid version)) = releases_sized catalog i n asked
       vote_sized (No (LockedThere oid owner)) = releases_sized catalog i n asked
       vote_sized (No Dead) = none_sized catalog i
+      vote_sized Later = none_sized catalog i
 
       asked_sized : (answer : Answer) (test : Bool)
           → AreAllSized catalog i (if_asked test catalog i K j n tx asked answer).sends

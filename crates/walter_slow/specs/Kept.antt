@@ -5,7 +5,7 @@ use Rattle.std.specs.Option.{option_map_or}
 use Rattle.walter_base.specs.declared.names.SiteId.{SiteId}
 use Rattle.walter_base.specs.declared.names.Tid.{Tid}
 use Rattle.walter_base.specs.declared.packet.Answer.{Answer}
-use Rattle.walter_base.specs.declared.packet.Answer.TheVariants.{Yes, No}
+use Rattle.walter_base.specs.declared.packet.Answer.TheVariants.{Yes, No, Later}
 use Rattle.walter_base.specs.declared.transaction.Conflict.{Conflict}
 use Rattle.walter_base.specs.declared.transaction.Conflict.TheVariants.{Modified, Locked, Dead}
 use Rattle.walter_base.specs.declared.transaction.Tx.{Tx}
@@ -62,6 +62,7 @@ judged kept from Yes = if list_all (λ site. has_site site (from ∷ kept.heard)
 judged kept from (No (Modified oid version)) = Abort (Modified oid version)
 judged kept from (No (Locked oid owner)) = Abort (Locked oid owner)
 judged kept from (No Dead) = Waiting
+judged kept from Later = Waiting
 
 -- and no vote counts but that of a site that an undecided slow commit has asked
 abbrev pub verdict_of : Option Kept → SiteId → Answer → Verdict

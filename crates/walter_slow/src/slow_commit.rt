@@ -101,7 +101,7 @@ impl SlowCommit {
         }
         match answer {
             Answer::Yes if are_heard_with(from, asked, &self.heard) => Verdict::Commit,
-            Answer::Yes | Answer::No(Conflict::Dead) => Verdict::Waiting,
+            Answer::Yes | Answer::No(Conflict::Dead) | Answer::Later => Verdict::Waiting,
             Answer::No(conflict) => Verdict::Abort(*conflict),
         }
     }

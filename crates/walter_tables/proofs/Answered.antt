@@ -49,6 +49,7 @@ sound_answered catalog i K S starts2 sessions2 = record {
     asked = L.asked;
     outside = L.outside;
     given_ = L.given_;
+    own_open = L.own_open;
     declared = L.declared;
     durable = L.durable;
     visible = L.visible;

@@ -7,7 +7,7 @@ use Rattle.walter_base.specs.declared.catalog.Catalog.{Catalog}
 use Rattle.walter_base.specs.declared.message.Record.{Record}
 use Rattle.walter_base.specs.declared.message.Record.TheVariants.{Boot, Own, Got, Seen, Prepared, Released, SlowBegin, SlowEnd, Marks}
 use Rattle.walter_base.specs.declared.names.SiteId.{SiteId}
-use Rattle.walter_base.specs.declared.packet.Answer.TheVariants.{Yes, No}
+use Rattle.walter_base.specs.declared.packet.Answer.TheVariants.{Yes, No, Later}
 use Rattle.walter_base.specs.declared.packet.Packet.TheVariants.{Propagate, Ack, Dsmark, Visible, Prepare, Vote, Release, Released as ReleasedSaid}
 use Rattle.walter_base.specs.declared.transaction.Conflict.{Conflict}
 use Rattle.walter_base.specs.declared.transaction.Tx.{Tx}
@@ -322,6 +322,7 @@ module _ (catalog : Catalog) (i : SiteId) (K : Knowledge) (S : IsSound catalog i
   silent_then (Given (Deliver j number (Release m))) Taken h n = silent n
   silent_then (Given (Deliver j number (Vote m Yes))) Taken h n = silent_yes m j n h
   silent_then (Given (Deliver j number (Vote m (No conflict)))) Taken h n = silent_no m conflict n h
+  silent_then (Given (Deliver j number (Vote m Later))) Taken h n = absurd h
   silent_then (Given (Deliver j number (ReleasedSaid m))) Taken h n = silent_released m j n h
 
 -- behind a reply, and what was heard

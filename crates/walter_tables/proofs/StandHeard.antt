@@ -3,7 +3,7 @@ use Rattle.std.proofs.Common.{◌≡◌, ◌≤◌, ◌<◌, ℕ, nat_eq, true, 
 use Rattle.std.specs.Prelude.{max, slice_set}
 use Rattle.std.proofs.lemmas.Bool.{eqb-true, le-leb}
 use Rattle.walter_base.specs.declared.names.SiteId.{SiteId}
-use Rattle.walter_base.specs.declared.packet.Answer.TheVariants.{Yes, No}
+use Rattle.walter_base.specs.declared.packet.Answer.TheVariants.{Yes, No, Later}
 use Rattle.walter_base.specs.declared.packet.Packet.{Packet}
 use Rattle.walter_base.specs.declared.packet.Packet.TheVariants.{Propagate, Ack, Dsmark, Visible, Prepare, Vote, Release, Released}
 use Rattle.walter_base.specs.declared.transaction.Conflict.{Conflict}
@@ -74,6 +74,7 @@ module _ (V : Values) (K : Knowledge) (S : StandFor V K) (j : SiteId) (number : 
     | inr d ↦ let e = d.1 in absurd (let none = unused in cc)
   ]
   begun_votes (Vote n (No conflict)) news = news
+  begun_votes (Vote n Later) news = news
   begun_votes (Released n) news = (news.0, news.1, news.2)
   begun_votes (Propagate seq tx) news = tt
   begun_votes (Ack got) news = tt

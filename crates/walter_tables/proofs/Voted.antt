@@ -6,7 +6,7 @@ use Rattle.walter_base.specs.declared.catalog.Catalog.{Catalog}
 use Rattle.walter_base.specs.declared.message.Record.TheVariants.{Own}
 use Rattle.walter_base.specs.declared.names.SiteId.{SiteId}
 use Rattle.walter_base.specs.declared.packet.Answer.{Answer}
-use Rattle.walter_base.specs.declared.packet.Answer.TheVariants.{Yes, No}
+use Rattle.walter_base.specs.declared.packet.Answer.TheVariants.{Yes, No, Later}
 use Rattle.walter_base.specs.declared.transaction.Conflict.{Conflict}
 use Rattle.walter_base.specs.declared.transaction.Conflict.TheVariants.{Modified, Locked as LockedThere, Dead}
 use Rattle.walter_base.specs.declared.transaction.Tx.{Tx}
@@ -126,10 +126,22 @@ module _ (catalog : Catalog) (i : SiteId) (K : Knowledge) (p : SiteId) (n : ℕ)
             (ap (λ a. if_asked a catalog i K p n tx asked (No conflict)) out)
       ]
 
+  by_later : (g : Slow) → ByVerdict g Later (verdict_of (kept g) p Later)
+  by_later Unused = refl
+  by_later (Dropped tx asked) = refl
+  by_later (Decided tx) = refl
+  by_later (Undecided tx asked) = elim (cases_Bool (has_site p asked)) [
+    | inl there ↦ subst (λ (a : Bool). ByVerdict (Undecided tx asked) Later (if a then Waiting else Unknown)) (sym there)
+        (ap (λ a. if_asked a catalog i K p n tx asked Later) there)
+    | inr out ↦ subst (λ (a : Bool). ByVerdict (Undecided tx asked) Later (if a then Waiting else Unknown)) (sym out)
+        (ap (λ a. if_asked a catalog i K p n tx asked Later) out)
+  ]
+
   pub ends : (answer : Answer) (cause : Conflict) (g : Slow) → answer ≢ Yes → verdict_of (kept g) p answer ≡ Abort cause
       → IsEnding g answer
   ends Yes cause g other is = absurd (other refl)
   ends (No conflict) cause g other is = subst (ByVerdict g (No conflict)) is (by_verdict conflict g)
+  ends Later cause g other is = subst (ByVerdict g Later) is (by_later g)
 
 -- what is being decided can be committed under the next number
 pub decided_follows : (V : Values) (K : Knowledge) → StandFor V K → IsUp V → (n seq : ℕ) (tx : Tx) (asked : List SiteId)

@@ -2,7 +2,7 @@
 use Rattle.std.specs.Prelude.{◌≡◌, ◌⊎◌, ◌≤◌, ℕ, true, List}
 use Rattle.walter_base.specs.declared.names.SiteId.{SiteId}
 use Rattle.walter_base.specs.declared.packet.Answer.{Answer}
-use Rattle.walter_base.specs.declared.packet.Answer.TheVariants.{Yes, No}
+use Rattle.walter_base.specs.declared.packet.Answer.TheVariants.{Yes, No, Later}
 use Rattle.walter_base.specs.declared.packet.Packet.{Packet}
 use Rattle.walter_base.specs.declared.packet.Packet.TheVariants.{Propagate, Ack, Dsmark, Visible, Prepare, Vote, Release, Released}
 use Rattle.walter_base.specs.declared.transaction.Tx.{Tx}
@@ -16,10 +16,11 @@ abbrev pub IsYesOf : Knowledge → SiteId → ℕ → Type 0
 IsYesOf K j n = ((tx : Tx) × (asked : List SiteId) × (K.slow n ≡ Undecided tx asked) × (is_missing j asked (K.said_yes n) ≡ true))
     ⊎ ((tx : Tx) × (K.slow n ≡ Decided tx))
 
--- a vote is a YES that is missing, or the NO that has just ended the slow commit
+-- a vote is a YES that is missing, or the NO that has just ended the slow commit; who is to be asked again has not voted
 abbrev pub IsVoteFor : Knowledge → SiteId → ℕ → Answer → Type 0
 IsVoteFor K j n Yes = IsYesOf K j n
 IsVoteFor K j n (No conflict) = HasDropped (K.slow n)
+IsVoteFor K j n Later = ⊥
 
 -- a RELEASED is one that is missing
 abbrev pub IsReleasedBy : Knowledge → SiteId → ℕ → Type 0

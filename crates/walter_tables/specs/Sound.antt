@@ -3,7 +3,7 @@ use Rattle.std.specs.Prelude.{◌≡◌, ◌≢◌, ◌≤◌, ℕ, List, [], le
 use Rattle.walter_base.specs.declared.catalog.Catalog.{Catalog}
 use Rattle.walter_base.specs.declared.names.SiteId.{SiteId}
 use Rattle.walter_base.specs.declared.packet.Answer.{Answer}
-use Rattle.walter_base.specs.declared.packet.Answer.TheVariants.{Yes, No}
+use Rattle.walter_base.specs.declared.packet.Answer.TheVariants.{Yes, No, Later}
 use Rattle.walter_base.specs.declared.packet.Packet.{Packet}
 use Rattle.walter_base.specs.declared.packet.Packet.TheVariants.{Propagate, Ack, Dsmark, Visible, Prepare, Vote, Release, Released}
 use Rattle.walter_base.specs.declared.transaction.Tx.{Tx}
@@ -62,6 +62,7 @@ HasDropped g = (tx : Tx) × (asked : List SiteId) × (g ≡ Dropped tx asked)
 abbrev pub IsVoteOf : Slow → Answer → Type 0
 IsVoteOf g Yes = g ≢ Unused
 IsVoteOf g (No conflict) = HasDropped g
+IsVoteOf g Later = ⊥
 
 abbrev pub IsSaidOf : (ℕ → Slow) → Packet → Type 0
 IsSaidOf slow (Vote n answer) = IsVoteOf (slow n) answer

@@ -4,7 +4,7 @@ ghost use Rattle.walter_base.specs.declared.packet.Packet.{Packet as Said};
 ghost use Rattle.walter_base.specs.Vectors.{entry_at};
 ghost use Rattle.walter_locks.specs.Parts.{part_of};
 ghost use Rattle.walter_rules.specs.Conflicts.{first_conflict};
-ghost use Rattle.walter_rules.specs.Deliveries.{passes, takes, back, is_peer, is_enabled, if_greater, packet_rule, advance_rule, prepares};
+ghost use Rattle.walter_rules.specs.Deliveries.{passes, takes, back, is_peer, is_enabled, if_greater, packet_rule, advance_rule, covers, is_unseen, answer_over, prepares};
 ghost use Rattle.walter_rules.specs.Knowledge.{Knowledge};
 ghost use Rattle.walter_rules.specs.Slow.{Free};
 ghost use Rattle.walter_tables.specs.Keeping.{GoesOn};
@@ -162,6 +162,36 @@ impl Tables {
         Ok(takes(Some(Record::Seen(from, seq)), sends))
     }
 
+    /// Whether all that the snapshot sees is received here.
+    fn has_received(&self, start: &Vts) -> bool
+        ensures { (K : Knowledge) → Stands self.now K → result ≡ covers K.got start.now }
+    {
+        self.spread.got().covers(start)
+    }
+
+    /// Whether it is known here that the snapshot doesn't see the transaction.
+    fn is_unseen(&self, start: &Vts, tid: Tid) -> bool
+        ensures { (K : Knowledge) → Stands self.now K → result ≡ is_unseen K start.now tid }
+    {
+        self.has_received(start) && !self.log.has_seen(start, tid)
+    }
+
+    /// What is answered where this conflict is met.
+    fn answer_over(&self, start: &Vts, conflict: Conflict) -> Answer
+        ensures { (K : Knowledge) → Stands self.now K → result ≡ answer_over K start.now conflict }
+    {
+        match conflict {
+            Conflict::Locked { oid: _, owner } => {
+                if self.is_unseen(start, owner) {
+                    Answer::No(conflict)
+                } else {
+                    Answer::Later
+                }
+            }
+            Conflict::Modified { oid: _, version: _ } | Conflict::Dead => Answer::No(conflict),
+        }
+    }
+
     /// The objects are locked where none of them meets a conflict.
     fn plan_lock(
         &self,
@@ -175,12 +205,12 @@ impl Tables {
         requires free { part_of self.now.locks from slow ≡ Free }
         requires regular { IsTrue (are_regular (catalog_of self.now) objects.now) }
         ensures rule { IfOk result (λ p. (K : Knowledge) → Stands self.now K
-            → expected_of p ≡ prepares from slow tid objects.now (first_conflict K start.now objects.now)) }
+            → expected_of p ≡ prepares K from slow tid start.now objects.now (first_conflict K start.now objects.now)) }
         ensures on { IfOk result (λ p. IfSome p.rec (GoesOn self.now)) }
     {
         if let Some(conflict) = self.conflict(start, objects) {
-            let no = Packet::Vote(slow, Answer::No(conflict));
-            return Ok(passes(self.back(from, no)?));
+            let answer = self.answer_over(start, conflict);
+            return Ok(passes(self.back(from, Packet::Vote(slow, answer))?));
         }
         let objects = objects.clone()?;
         let sends = self.back(from, Packet::Vote(slow, Answer::Yes))?;

@@ -44,6 +44,7 @@ impl Tables {
         match answer {
             Answer::Yes => self.slow.hear_yes(from, slow),
             Answer::No(conflict) => self.slow.hear_no(slow, *conflict),
+            Answer::Later => {}
         }
     }
 }

@@ -64,7 +64,7 @@ impl Tables {
     {
         match answer {
             Answer::Yes => self.plan_yes(from, slow),
-            Answer::No(_) => self.plan_no(from, slow, answer),
+            Answer::No(_) | Answer::Later => self.plan_no(from, slow, answer),
         }
     }
 

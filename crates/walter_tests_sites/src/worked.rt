@@ -5,7 +5,7 @@ use std::process::Abort;
 use std::test::Fail;
 
 // The name of each run, its scenario, and the report of it.
-static RUNS: [(&str, &str, &str); 12] = [
+static RUNS: [(&str, &str, &str); 13] = [
     // Two sites commit, and neither has heard of the other: each sees its own commit alone.
     (
         "long_fork",
@@ -78,6 +78,12 @@ static RUNS: [(&str, &str, &str); 12] = [
         r#"{"sites":3,"f":0,"containers":[[1,"regular",0],[2,"regular",1]],"clients":[[2,"0000000101000000120300000001000000000000000100000001610000001203000000020000000000000001000000016100000001080000000108"],[0,"00000001010000001203000000010000000000000001000000016200000001080000000101000000120300000001000000000000000100000001620000000108"]],"steps":[["call",0],["call",0],["call",0],["call",0],["deliver",0,2,1],["deliver",1,2,1],["stop",2],["restart",2],["call",0],["stop",0],["restart",0],["call",1],["call",1],["call",1],["tick",2],["deliver",0,2,2],["call",1],["call",1],["call",1]]}"#,
         "sites 3 f 0 clients 2\nclient 0 site 2 replies 5 0000000e8002000000010000000000000001000000018200000001820000000e87020000000100000000000000010000000fe00702000000010000000000000001\nclient 1 site 0 replies 6 0000000e800000000002000000000000000100000001820000001b8602000000010000000000000001020000000100000000000000010000000e800000000002000000000000000200000001820000000a85000000000000000001\nsite 0 up epoch 2 events 11 records 5 got 1,0,0 committed 1,0,0 log 0:1\nsite 1 up epoch 1 events 2 records 2 got 0,0,0 committed 0,0,0 log -\nsite 2 up epoch 2 events 9 records 3 got 0,0,0 committed 0,0,0 log -\n",
     ),
+    // A slow commit meets the lock of a transaction that it has seen, and is asked for again until the lock is gone.
+    (
+        "lock_of_a_cause",
+        r#"{"sites":2,"f":0,"containers":[[1,"regular",0]],"clients":[[0,""],[1,"0000000101000000120300000001000000000000000500000001730000000108000000010800000001010000001203000000010000000000000005000000017500000001080000000108"]],"steps":[["call",1],["call",1],["call",1],["deliver",0,1,1],["deliver",1,0,1],["call",1],["call",1],["call",1],["call",1],["deliver",0,1,3],["deliver",0,1,2],["deliver",0,1,3],["deliver",1,0,3],["deliver",0,1,4],["advance",0,1],["deliver",0,1,3],["deliver",1,0,6],["call",1]]}"#,
+        "sites 2 f 0 clients 2\nclient 0 site 0 replies 0 -\nclient 1 site 1 replies 8 0000000e800100000001000000000000000100000001820000000e87010000000100000000000000010000000a850100000000000000010000000e800100000001000000000000000200000001820000000e87010000000100000000000000020000000a85010000000000000002\nsite 0 up epoch 1 events 8 records 5 got 0,1 committed 0,1 log 1:1\nsite 1 up epoch 1 events 12 records 6 got 0,2 committed 0,2 log 1:1,1:2\n",
+    ),
 ];
 
 // The run of this name has its report, and a legal history; and where each of its events can come to sites without disks,
@@ -147,4 +153,9 @@ fn late_prepare(rt: HostRuntime) -> Result<(), Fail> {
 #[test]
 fn locks_outlive_a_stop(rt: HostRuntime) -> Result<(), Fail> {
     reports(&rt, "locks_outlive_a_stop")
+}
+
+#[test]
+fn lock_of_a_cause(rt: HostRuntime) -> Result<(), Fail> {
+    reports(&rt, "lock_of_a_cause")
 }

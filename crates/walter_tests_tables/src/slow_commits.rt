@@ -70,7 +70,7 @@ fn decide(commits: &mut SlowCommits, from: SiteId, slow: u64, answer: &Answer) -
 fn hear(commits: &mut SlowCommits, from: SiteId, slow: u64, answer: &Answer) {
     match answer {
         Answer::Yes => commits.hear_yes(from, slow),
-        Answer::No(_) => {}
+        Answer::No(_) | Answer::Later => {}
     }
 }
 
@@ -83,6 +83,8 @@ fn check_votes(rt: &impl Abort, commits: &mut SlowCommits) {
         (STRANGER, 2, Answer::Yes, Verdict::Unknown),
         (FIRST, 2, Answer::No(DEAD), Verdict::Waiting),
         (FIRST, 2, Answer::Yes, Verdict::Commit),
+        (FIRST, 3, Answer::Later, Verdict::Waiting),
+        (STRANGER, 3, Answer::Later, Verdict::Unknown),
         (FIRST, 3, Answer::Yes, Verdict::Waiting),
         (STRANGER, 3, Answer::No(CONFLICT), Verdict::Unknown),
         (SECOND, 3, Answer::No(CONFLICT), Verdict::Abort(CONFLICT)),

@@ -5,7 +5,7 @@ ghost use Rattle.walter_base.specs.declared.names.ObjId.{ObjId};
 ghost use Rattle.walter_base.specs.Values.{written, write_set, DoConflict};
 ghost use Rattle.walter_psi.specs.Histories.{log, snapshot, committed_updates};
 ghost use Rattle.walter_psi.specs.Legal.{IsBlocked, IsVersionOf, IsOutside, IsCauseOfAbort, IsTrueNotice, IsLegalCommit, IsLegalArrival, IsLegalStep};
-ghost use Rattle.walter_psi.specs.Checking.{Blocks, IsUnseenWriter};
+ghost use Rattle.walter_psi.specs.Checking.{Blocks, IsUnseenWriter, IsUnseenOwner};
 
 use super::answers::is_answer;
 use super::logs::{commits_of, is_among, log_of, snapshot_of};
@@ -138,6 +138,17 @@ fn is_outside(alloc: Global, steps: &[Step], x: Tid, oid: ObjId, version: Versio
     }
 }
 
+// Whether a transaction is another one, and isn't in the snapshot.
+fn is_unseen_owner(alloc: Global, steps: &[Step], x: Tid, owner: Tid) -> Mem<bool>
+    ensures { IfOk result (λ is. IsTrue is ↔ IsUnseenOwner x steps.now owner) }
+{
+    let snapshot = snapshot_of(alloc, steps, x)?;
+    if is_among(&snapshot, owner) {
+        return Ok(false);
+    }
+    Ok(owner != x)
+}
+
 fn is_cause(alloc: Global, steps: &[Step], x: Tid, cause: Cause) -> Mem<bool>
     ensures { IfOk result (λ is. IsTrue is ↔ IsCauseOfAbort x steps.now cause) }
 {
@@ -151,8 +162,10 @@ fn is_cause(alloc: Global, steps: &[Step], x: Tid, cause: Cause) -> Mem<bool>
             is_outside(alloc, steps, x, oid, version)
         }
         Cause::Locked { oid, owner } => {
-            let written = writes(alloc, &own, oid)?;
-            Ok(written && owner != x)
+            if !writes(alloc, &own, oid)? {
+                return Ok(false);
+            }
+            is_unseen_owner(alloc, steps, x, owner)
         }
     }
 }

@@ -10,4 +10,4 @@ returns-in_err-conflict-in-0-clause-fault c =
     is_fault _ exit.result fault.field-0.0 exit.ensures.1 (IfUnspelled-weaker fault.field-0.0 (no_refusal c.args.kind c.args.cursor.now.left c.in-0.is) fault.ensures.fault)
 
 pub returns-in_default-clause-fault : goal.returns-in_default-clause-fault
-returns-in_default-clause-fault c = no_such_answer c.args.kind c.args.cursor.now.left (λ e. omega (arith, e)) (λ e. omega (arith, e))
+returns-in_default-clause-fault c = no_such_answer c.args.kind c.args.cursor.now.left (λ e. omega (arith, e)) (λ e. omega (arith, e)) (λ e. omega (arith, e))

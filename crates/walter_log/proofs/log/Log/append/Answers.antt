@@ -20,8 +20,8 @@ invariant_of-self c =
     let put = λ (j : SiteId).
     c.put_place.ensures.places j
     ∙ ap (λ (n : ℕ). if same_site s j then places_of l.places.items s ++ n ∷ [] else places_of l.places.items j) long in
-    subst (λ (log : List Held). AreKept l.site log places numbers) (sym c.push_reserved.ensures.items)
-    (kept_more l.site l.held.items c.args.held l.places.items places l.numbers.entries numbers c.self.invariant inside
+    subst (λ (log : List Held). AreKept log places numbers) (sym c.push_reserved.ensures.items)
+    (kept_more l.held.items c.args.held l.places.items places l.numbers.entries numbers c.self.invariant inside
     c.put_place.ensures.sites put c.keep_first.ensures.numbers)
 
 pub returns-clause-room : goal.returns-clause-room

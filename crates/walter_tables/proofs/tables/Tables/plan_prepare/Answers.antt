@@ -38,7 +38,7 @@ returns-clause-rule c =
     c.if-dead.false c.if-holds.false in
     IfOk-weaker c.plan_lock.result
     (λ (p : Planned). (K : Knowledge) → Stands now K
-    → expected_of p ≡ prepares j n tid objects (first_conflict K start objects))
+    → expected_of p ≡ prepares K j n tid start objects (first_conflict K start objects))
     (λ (p : Planned). (K : Knowledge) → Stands now K
     → expected_of p ≡ packet_rule now.catalog now.site K j (Prepare n tid start objects))
     (λ p told K S. told K S
