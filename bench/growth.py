@@ -4,7 +4,8 @@
 Plays a scenario of 10,000 calls and one of 20,000, spread over as many objects as they have transactions, and prints
 the least time of five runs of each, and their ratio: about 2 where a call costs what it touches and not what the store
 holds. Then the same of 2,500 and of 5,000 transactions at three sites, each of which reaches every site and is durable and
-visible in the end; these runs' reports are looked at too, and the memory is printed that the 5,000 take.
+visible in the end; these runs' reports are looked at too, and the memory is printed that the 5,000 take. Then one site of
+three commits 5,000 transactions, and 10,000, while its peers hear nothing, and all of them go over as the window lets them.
 
 With --example it plays nothing, and writes one of the two big examples. Both are made so, and the scripts beside them:
 
@@ -28,6 +29,7 @@ from string import ascii_lowercase
 HERE = os.path.dirname(os.path.abspath(__file__))
 CLIENTS = 10
 SITES = 3
+WINDOW = 64
 MOST_BYTES, MOST_ENTRIES = 16_777_216, 100_000
 START, COMMIT = "0000000101", "0000000108"
 # In a small process of its own: what a child took is never told as less than its parent had.
@@ -105,8 +107,51 @@ class Spread:
         return {"sites": SITES, "f": 1, "containers": containers, "clients": clients, "steps": self.steps}
 
 
+class Behind:
+    """Site 0 commits while its two peers hear nothing. Then ticks and deliveries bring all over, a window at a time: by the
+    first ACK it is durable, and the ACKs of both let the next ones out."""
+
+    def __init__(self, transactions):
+        self.transactions, self.acknowledged = transactions, 0
+        self.steps = [["call", 0]] * (3 * transactions)
+        # How many packets are put out: by site 0 to each peer, and by each peer to site 0.
+        self.out, self.back = {peer: min(WINDOW, transactions) for peer in (1, 2)}, {1: 0, 2: 0}
+        while self.acknowledged < transactions:
+            self.bring_over(min(WINDOW, transactions - self.acknowledged))
+        self.commit_everywhere()
+
+    def bring_over(self, count):
+        """A tick says the window again, which goes to both peers; and of the ACKs the last ones come."""
+        self.steps.append(["tick", 0])
+        for peer in (1, 2):
+            self.steps += [["deliver", peer, 0, self.out[peer] + number] for number in range(1, count + 1)]
+            # Behind them the tick says how many are durable.
+            self.out[peer] += count + (self.acknowledged > 0)
+            self.back[peer] += count
+        self.acknowledged += count
+        entering = max(0, min(count, self.transactions - WINDOW - self.acknowledged + count))
+        for peer in (1, 2):
+            self.steps.append(["deliver", 0, peer, self.back[peer]])
+            self.out[peer] += entering
+        # The mark rises by the ACK of peer 1, and goes to both.
+        self.out = {peer: number + 1 for peer, number in self.out.items()}
+
+    def commit_everywhere(self):
+        for peer in (1, 2):
+            self.steps.append(["deliver", peer, 0, self.out[peer]])
+            self.steps += [["advance", peer, 0]] * self.transactions
+
+    def made(self):
+        sent = "".join(START + write(1, number) + COMMIT for number in range(self.transactions))
+        return {"sites": SITES, "f": 1, "containers": [[1, "regular", 0]], "clients": [[0, sent]], "steps": self.steps}
+
+
 def spread(transactions):
     return json.dumps(Spread(transactions).made(), separators=(",", ":"))
+
+
+def behind(transactions):
+    return json.dumps(Behind(transactions).made(), separators=(",", ":"))
 
 
 EXAMPLES = {"ten_thousand_calls": ten_thousand_calls, "five_thousand_transactions": lambda: spread(5_000)}
@@ -133,8 +178,7 @@ def least_time(program, text):
     return min(times)
 
 
-def time_of_spread(program, transactions):
-    text = spread(transactions)
+def time_of(program, text, transactions):
     if len(text) >= MOST_BYTES:
         sys.exit(f"{transactions} transactions at three sites are a scenario of {len(text)} bytes")
     ended = subprocess.run([program, "play"], input=text, capture_output=True, text=True)
@@ -168,9 +212,12 @@ def main():
     program = words.program
     fewer, more = (least_time(program, scenario(calls)) for calls in (10_000, 20_000))
     print(f"10,000 calls: {fewer:.3f} s; 20,000 calls: {more:.3f} s; ratio {more / fewer:.2f}")
-    fewer, more = (time_of_spread(program, transactions) for transactions in (2_500, 5_000))
+    fewer, more = (time_of(program, spread(transactions), transactions) for transactions in (2_500, 5_000))
     print(f"at three sites, 2,500 transactions: {fewer:.3f} s; 5,000 transactions: {more:.3f} s; ratio {more / fewer:.2f}; "
           f"memory {memory(program, spread(5_000)):.0f} MB")
+    fewer, more = (time_of(program, behind(transactions), transactions) for transactions in (5_000, 10_000))
+    print(f"two peers that hear nothing first, 5,000 transactions: {fewer:.3f} s; 10,000 transactions: {more:.3f} s; "
+          f"ratio {more / fewer:.2f}")
 
 
 if __name__ == "__main__":

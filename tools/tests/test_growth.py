@@ -21,6 +21,16 @@ class Growth(unittest.TestCase):
             self.assertEqual({entry.outcome for entry in heard}, {"taken"})
             self.assertEqual([len(site.put_out[peer]) for peer in site.peers], [80, 80])
 
+    def test_peers_that_hear_nothing_first_have_all_in_the_end(self):
+        for transactions in (1, 63, 64, 65, 128, 200):
+            with self.subTest(transactions):
+                run = by_model(growth.behind(transactions))
+                self.assertEqual(growth.strays(run.text(), transactions), [])
+                self.assertEqual(run.sites[0].marks()[0], transactions)
+                for site in run.sites[1:]:
+                    heard = [entry for entry in site.entries if entry.event.startswith(("deliver", "advance"))]
+                    self.assertEqual({entry.outcome for entry in heard}, {"taken"})
+
     def test_the_big_examples_are_those_that_it_makes(self):
         for name, make in growth.EXAMPLES.items():
             text, path = make() + "\n", os.path.join(TOP, "examples", name)
