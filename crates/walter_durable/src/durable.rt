@@ -1,4 +1,5 @@
-ghost use Rattle.std.specs.Prelude.{◌≡◌, ◌<◌, ◌≤◌, ◌+◌, length, IsOk, OnOk, ◌↔◌, IsTrue};
+ghost use Rattle.std.specs.Prelude.{◌≡◌, ◌<◌, ◌≤◌, ◌+◌, List, length, IsOk, OnOk, ◌↔◌, IsTrue};
+ghost use Rattle.walter_base.specs.declared.names.SiteId.{SiteId as Site};
 ghost use Rattle.walter_base.specs.Vectors.{most_sites, entry_at};
 ghost use Rattle.walter_durable.specs.Marks.{unbegun, own, heard, AreVisible, IsGreatest, IsDurableMark, IsVisibleMark, IsPossible, with_own, with_acknowledged, with_visible, with_floors, CanJournal};
 ghost use Rattle.walter_durable.specs.Counted.{IsCounted};
@@ -18,13 +19,15 @@ pub struct Durable {
     visible: Vts,
     /// How many own commits are held one after another, from the first on.
     counted: u64,
+    /// How many own commits each peer has called visible. Without peers it is all.
+    seen_by_all: u64,
     durable_floor: u64,
     visible_floor: u64,
 }
 
 impl Model for Durable {
     ghost use Rattle.std.specs.Prelude.{◌-◌, vec_len, vec_capacity};
-    ghost use Rattle.walter_durable.specs.Marks.{HoldingsWithRoom, IsPossible};
+    ghost use Rattle.walter_durable.specs.Marks.{HoldingsWithRoom, IsPossible, AreVisible, IsGreatest};
 
     ghost Value = { HoldingsWithRoom };
 
@@ -35,7 +38,8 @@ impl Model for Durable {
       room = vec_capacity d.copies.preferred - vec_len d.copies.preferred;
     } };
 
-    ghost invariant = { λ d. IsPossible (kept_in d) × IsCounted (kept_in d) d.counted };
+    ghost invariant = { λ d. IsPossible (kept_in d) × IsCounted (kept_in d) d.counted
+        × IsGreatest (AreVisible (kept_in d)) d.seen_by_all };
 }
 
 /// What peers have said, where one says a number: a greater one than before is believed, up to the most.
@@ -67,6 +71,7 @@ impl Durable {
             acknowledged: Vts::zero(sites),
             visible: Vts::zero(sites),
             counted: 0,
+            seen_by_all: 0,
             durable_floor: 0,
             visible_floor: 0,
         }
@@ -111,8 +116,11 @@ impl Durable {
         ensures holdings { self.new.holdings ≡ with_own preferred self.old.holdings }
         ensures room { self.new.room + 1 ≡ self.old.room }
     {
-        self.counted = self.counted_with_own(&preferred);
+        let counted = self.counted_with_own(&preferred);
+        let seen_by_all = self.seen_with_own();
         self.copies.preferred.push_reserved(preferred);
+        self.counted = counted;
+        self.seen_by_all = seen_by_all;
     }
 
     /// Takes in that the site has received so many own commits.
@@ -133,7 +141,9 @@ impl Durable {
         ensures possible { IsPossible self.old.holdings }
         ensures room { self.new.room ≡ self.old.room }
     {
-        self.visible = after_hearing(self.visible, self.copies.own(), peer, committed);
+        let visible = after_hearing(self.visible, self.copies.own(), peer, committed);
+        self.seen_by_all = self.seen(&visible);
+        self.visible = visible;
     }
 
     /// How many own commits are durable.
@@ -186,7 +196,7 @@ impl Durable {
         ensures rises { self.now.holdings.visible_floor ≤ result }
         ensures within { result ≤ own self.now.holdings }
     {
-        self.visible_floor.max(self.seen(&self.visible))
+        self.visible_floor.max(self.seen_by_all)
     }
 
     /// How many would be, if the site had committed so many own commits.
@@ -199,6 +209,17 @@ impl Durable {
     {
         let visible = after_hearing(self.visible, self.copies.own(), peer, committed);
         self.visible_floor.max(self.seen(&visible))
+    }
+
+    /// How many own commits each peer has called visible, with one more that none has.
+    fn seen_with_own(&self) -> u64
+        ensures { (preferred : List Site) → IsGreatest (AreVisible (with_own preferred self.now.holdings)) result }
+    {
+        if self.copies.sites == 1 {
+            self.copies.own() + 1
+        } else {
+            self.seen_by_all
+        }
     }
 
     /// How many own commits each peer has called visible, where they have called so many visible.

@@ -1,8 +1,9 @@
 use Rattle.std.proofs.Common.{◌<◌, sym, subst}
-use Rattle.walter_durable.specs.Marks.{Holdings, HoldingsWithRoom, IsPossible}
+use Rattle.walter_durable.specs.Marks.{Holdings, HoldingsWithRoom, own, heard, IsPossible, AreVisible, IsGreatest}
 use Rattle.walter_durable.specs.Counted.{kept_in, IsCounted}
 use Rattle.walter_durable.proofs.Heard.{possible_acknowledged}
 use Rattle.walter_durable.proofs.Kept.{told_acknowledged, held_heard, counted_heard}
+use Rattle.walter_durable.proofs.Seen.{visible_beside}
 use Rattle.walter_durable.proofs.durable.Durable.hear_acknowledged.Goals as goal
 
 pub count_on-self-inside-requires : goal.count_on-self-inside-requires
@@ -22,5 +23,9 @@ invariant_of-self c =
     c.after_hearing-self-inside.ensures in
     let counted = counted_heard d c.own.result c.own.ensures said c.args.peer c.args.got
     c.after_hearing-self-inside.ensures m c.count_on-self-inside.ensures in
-    subst (λ (H : Holdings). IsPossible H × IsCounted H m) (sym told)
-    (possible_acknowledged (kept_in d) c.self.invariant.0 c.args.peer c.args.got inside, counted)
+    subst (λ (H : Holdings). IsPossible H × IsCounted H m × IsGreatest (AreVisible H) d.seen_by_all) (sym told) (
+      possible_acknowledged (kept_in d) c.self.invariant.0 c.args.peer c.args.got inside,
+      counted,
+      visible_beside (kept_in d) (heard (own (kept_in d)) d.acknowledged c.args.peer c.args.got) d.durable_floor
+          d.visible_floor d.seen_by_all c.self.invariant.2,
+    )

@@ -2,6 +2,7 @@ use Rattle.std.proofs.Common.{◌≤◌, sym, subst}
 use Rattle.walter_durable.specs.Marks.{HoldingsWithRoom, own}
 use Rattle.walter_durable.specs.Counted.{kept_in}
 use Rattle.walter_durable.proofs.Held.{counted_beside}
+use Rattle.walter_durable.proofs.Seen.{visible_beside}
 use Rattle.walter_durable.proofs.durable.Durable.journal.Goals as goal
 
 pub invariant_of-self : goal.invariant_of-self
@@ -22,4 +23,5 @@ invariant_of-self c =
             c.requires.visible_within;
       },
       counted_beside (kept_in d) d.visible c.args.durable c.args.visible d.counted c.self.invariant.1,
+      visible_beside (kept_in d) d.acknowledged c.args.durable c.args.visible d.seen_by_all c.self.invariant.2,
     )
