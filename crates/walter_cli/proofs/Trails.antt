@@ -6,7 +6,7 @@ use Rattle.std.proofs.lemmas.List.Elements.{All-weaker, All-push}
 use Rattle.std.proofs.lemmas.Option.{slice_get-map, slice_get_within, slice_get-get_or, get_or_from_slice_get}
 use Rattle.walter_base.specs.declared.catalog.Catalog.{Catalog}
 use Rattle.walter_base.specs.declared.names.SiteId.{SiteId}
-use Rattle.walter_alone.proofs.Promised.{entry_answered, entry_received, entry_seen, entry_locked}
+use Rattle.walter_alone.proofs.Promised.{entry_answered, entry_received, entry_seen, entry_locked, entry_hindered}
 use Rattle.walter_cell.specs.declared.cell.Cell.{Cell}
 use Rattle.walter_cell.specs.Entries.{HaveRisingStamps}
 use Rattle.walter_cell.specs.Handled.{IsSized}
@@ -18,6 +18,7 @@ use Rattle.walter_conn.specs.Sequences.{HasCalled}
 use Rattle.walter_disk.specs.declared.disk.Disk.{Ghosts}
 use Rattle.walter_engine.specs.Steps.{opening}
 use Rattle.walter_linked.specs.Catalogs.{IsWhole}
+use Rattle.walter_linked.proofs.Whole.{trails_got, trails_marks}
 use Rattle.walter_play.proofs.Steps.{there_is}
 use Rattle.walter_refinement.proofs.Trails.{trails_legal, trails_once, trails_named}
 use Rattle.walter_reply.specs.Replies.{FitsFrame}
@@ -70,6 +71,7 @@ kept_of catalog capacity i (e ∷ older) right = (
     received = λ j seq tx next. entry_received catalog capacity i older e j seq tx right.1 next;
     seen = λ j due. entry_seen catalog capacity i older e j right.1 due;
     locked = λ j n tid objects asked. entry_locked catalog capacity i older e j n tid objects right.1 asked;
+    hindered = λ j n start conflict met. entry_hindered catalog capacity i older e j n start conflict right.1 met;
   },
 )
 
@@ -161,7 +163,9 @@ module _ {D S K : Type 0} {g : Ghosts D} {s : SourceGhosts S} {k : SinkGhosts K}
         right_trails = are;
         legal_history = trails_legal t.catalog t.capacity whole trails are;
         commits_once = trails_once t.catalog t.capacity whole trails are;
+        got_right = trails_got t.catalog t.capacity whole trails are;
         aborts_named = trails_named t.catalog t.capacity whole trails are;
+        marks_true = trails_marks t.catalog t.capacity whole trails are;
         promises_kept = promises_kept t.catalog t.capacity trails are;
       }
 

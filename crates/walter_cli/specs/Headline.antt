@@ -1,5 +1,5 @@
 -- What a run of the program promises, on one page.
-use Rattle.std.specs.Prelude.{◌≡◌, ◌≢◌, ◌<◌, ◌≤◌, ◌↔◌, ◌⊎◌, ℕ, Bool, List, [], length, reverse, count_by, ◌++◌, slice_get, Option, Some, IfSome, String, All}
+use Rattle.std.specs.Prelude.{◌≡◌, ◌≢◌, ◌<◌, ◌≤◌, ◌↔◌, ◌⊎◌, ℕ, Bool, List, [], ◌∷◌, length, reverse, count_by, ◌++◌, slice_get, Option, Some, IfSome, String, All}
 use Rattle.std.specs.Global.{Global}
 use Rattle.walter_cell.specs.Entries.{HaveRisingStamps}
 use Rattle.walter_cell.specs.Handled.{is_faulty}
@@ -9,6 +9,7 @@ use Rattle.walter_disk.specs.Disks.{DiskState}
 use Rattle.walter_engine.specs.Begins.{HasNoRecord}
 use Rattle.walter_engine.specs.Contents.{MayHaveRecords}
 use Rattle.walter_engine.specs.Steps.{opening}
+use Rattle.walter_linked.specs.Marks.{AreGotRight, AreMarksTrue}
 use Rattle.walter_play.specs.Scripts.{IsPlayed, all_arms}
 use Rattle.walter_psi.specs.Legal.{IsLegal}
 use Rattle.walter_refinement.specs.Named.{AreNamed}
@@ -16,7 +17,7 @@ use Rattle.walter_refinement.specs.Once.{StandsOnce}
 use Rattle.walter_refinement.specs.Spelled.{psi_of}
 use Rattle.walter_rules.specs.declared.entry.Entry.{Entry}
 use Rattle.walter_rules.specs.Knowledge.{site_at}
-use Rattle.walter_rules.specs.Merges.{merge, trail_of, AreLinked}
+use Rattle.walter_rules.specs.Merges.{Named, merge, trail_of, AreLinked}
 use Rattle.walter_rules.specs.Trails.{standing}
 use Rattle.walter_runs.specs.Runs.{AreRightTrails}
 use Rattle.walter_scenario.specs.declared.place.Detail.{Detail}
@@ -92,13 +93,17 @@ pub record IsDiskOf (s : Scenario) (i : ℕ) (trail : List Entry) (known : DiskS
   pub faults : count_by (λ e. is_faulty e.came.outcome) trail ≤ known.faults
 
 -- what the trails tell of sites whose disks tell what they hold: they are right and linked, and spell a legal history,
--- in which no transaction commits twice; each abort was asked for or names its conflict; and nothing is given up at a
--- site that is up, but for memory, the disk and its capacity
+-- in which no transaction commits twice; what a site has of another stands there as that one's own commit, by its
+-- number; each abort was asked for or names its conflict; at each entry what is committed of another site, or told to be
+-- durable or visible, is so; and nothing is given up at a site that is up, but for memory, the disk and its capacity
 pub record AreTold (s : Scenario) (trails : List (List Entry)) : Type 0 where
   pub right_trails : AreRightTrails s.catalog s.capacity trails
   pub legal_history : IsLegal (psi_of s.catalog (merge trails))
   pub commits_once : StandsOnce s.catalog (reverse (merge trails))
+  pub got_right : AreGotRight s.catalog (reverse (merge trails))
   pub aborts_named : AreNamed s.catalog (reverse (merge trails))
+  pub marks_true : (newer older : List Named) (n : Named) → reverse (merge trails) ≡ newer ++ n ∷ older
+      → AreMarksTrue s.catalog older n
   pub promises_kept : KeepAllPromises s.catalog s.capacity trails
 
 -- the disk of a site behind a run: that of its trail, where it is told, with arms that are the first ones of the

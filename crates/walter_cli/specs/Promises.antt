@@ -1,11 +1,12 @@
 -- What each entry of right trails promises: nothing is given up at a site that is up, but for want of memory, a fault of
 -- the disk, or want of place in the journal. Of one entry walter_alone says it.
 use Rattle.std.specs.Prelude.{◌<◌, ℕ, List, [], ◌∷◌, reverse}
-use Rattle.walter_alone.specs.Promises.{IsFree, IsAnswered, IsNext, IsReceived, IsDue, IsSeen, IsAsked, IsLocked}
+use Rattle.walter_alone.specs.Promises.{IsFree, IsAnswered, IsNext, IsReceived, IsDue, IsSeen, IsAsked, IsLocked, IsHindered, IsHinderedAnswer}
 use Rattle.walter_base.specs.declared.catalog.Catalog.{Catalog}
 use Rattle.walter_base.specs.declared.names.ObjId.{ObjId}
 use Rattle.walter_base.specs.declared.names.SiteId.{SiteId}
 use Rattle.walter_base.specs.declared.names.Tid.{Tid}
+use Rattle.walter_base.specs.declared.transaction.Conflict.{Conflict}
 use Rattle.walter_base.specs.declared.transaction.Tx.{Tx}
 use Rattle.walter_rules.specs.declared.entry.Entry.{Entry}
 use Rattle.walter_rules.specs.Merges.{trail_of}
@@ -14,7 +15,8 @@ use Rattle.walter_rules.specs.Trails.{standing}
 
 -- a commit that meets no conflict, all of whose objects are preferred here, is answered Committed or Unsure; a commit
 -- that a peer sends, and that is the next of that peer, is received; one that can be committed here is; and a slow
--- commit of a peer that meets no conflict gets its locks, and is told YES
+-- commit of a peer that meets no conflict gets its locks, and is told YES; one that meets a conflict is told NO over a
+-- version outside its snapshot, or over a lock whose owner is known to be outside, and over another lock to ask again
 pub record KeepsPromises (catalog : Catalog) (capacity : ℕ) (i : SiteId) (older : List Entry) (e : Entry) : Type 0 where
   pub committed : (s : Session) → IsFree catalog i (standing catalog i older) e.event s
       → IsAnswered capacity i (standing catalog i older) s e.came.outcome
@@ -25,6 +27,9 @@ pub record KeepsPromises (catalog : Catalog) (capacity : ℕ) (i : SiteId) (olde
   pub locked : (j : SiteId) (n : ℕ) (tid : Tid) (objects : List ObjId)
       → IsAsked catalog i (standing catalog i older) e.event j n tid objects
       → IsLocked capacity (standing catalog i older) j n tid objects e.came
+  pub hindered : (j : SiteId) (n : ℕ) (start : List ℕ) (conflict : Conflict)
+      → IsHindered catalog i (standing catalog i older) e.event j n start conflict
+      → IsHinderedAnswer (standing catalog i older) j n start conflict e.came
 
 -- so does each entry; the newest comes first
 abbrev pub AreKept : Catalog → ℕ → SiteId → List Entry → Type 0
