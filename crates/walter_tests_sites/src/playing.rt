@@ -1,6 +1,6 @@
 //! Scenarios, played by the program over empty disks in memory.
-use std::process::Abort;
-use std::test::Fail;
+use anyhow::{Result, bail};
+use std::alloc::Global;
 use walter_cli::{Ended, top};
 use walter_disk_memory::MemoryRack;
 use walter_psi::first_illegal;
@@ -15,30 +15,39 @@ pub(crate) struct Run {
     pub report: String,
 }
 
-pub(crate) fn play(rt: &(impl Abort + AllocGlobal), scenario: &str) -> Result<Run, Fail> {
-    let alloc = rt.alloc();
+// The words of the program.
+fn words_for(alloc: Global, is_traced: bool) -> Result<Vec<String>> {
     let mut words = Vec::new(alloc);
     words.push(String::from_str(alloc, "play")?)?;
+    if is_traced {
+        words.push(String::from_str(alloc, "--trace")?)?;
+    }
+    Ok(words)
+}
+
+pub(crate) fn play(rt: &impl AllocGlobal, is_traced: bool, scenario: &str) -> Result<Run> {
+    let alloc = rt.alloc();
+    let words = words_for(alloc, is_traced)?;
     let mut source = BytesSource::from(scenario.as_bytes().to_vec(alloc)?);
-    let mut sink = MemorySink::with_room(alloc, 200_000, Vec::new(alloc))?;
+    let mut sink = MemorySink::with_room(alloc, 1_000_000, Vec::new(alloc))?;
     let mut rack = MemoryRack::new(alloc);
     let Ended { status, trails, .. } = top(rt, &words, &mut source, &mut sink, &mut rack);
-    assert_eq!(rt; status, 0);
+    if status != 0 {
+        bail!("the program ends with the status {status}");
+    }
     let report = String::from_str(alloc, str::from_utf8(sink.as_slice())?)?;
     Ok(Run { trails, report })
 }
 
 /// The history that the trails spell, in which the checker finds no step that isn't legal.
-pub(crate) fn legal_history(
-    rt: &(impl Abort + AllocGlobal),
-    trails: &[Trail],
-) -> Result<Steps, Fail> {
+pub(crate) fn legal_history(alloc: Global, trails: &[Trail]) -> Result<Steps> {
     if trails.len() > 8 {
-        return Err(Fail::from("more than eight sites"));
+        bail!("there are more than eight sites");
     }
-    let merged = merge(rt.alloc(), trails)?;
-    let history = psi_of(rt.alloc(), &merged)?;
-    let found = first_illegal(rt.alloc(), history.as_slice())?;
-    assert!(rt; found.is_none(), "{found:?}");
+    let merged = merge(alloc, trails)?;
+    let history = psi_of(alloc, &merged)?;
+    if let Some(place) = first_illegal(alloc, history.as_slice())? {
+        bail!("the step {place} of the history isn't legal");
+    }
     Ok(history)
 }

@@ -4,11 +4,10 @@ ghost use Rattle.std.specs.Prelude.{◌≡◌, ◌<◌, ◌≤◌};
 
 use crate::playing::{Run, legal_history, play};
 use crate::worlds::is_same_in_a_world;
+use anyhow::{Result, bail};
 use rand_core::Rng;
 use rand_pcg::Pcg32;
 use std::alloc::Global;
-use std::process::Abort;
-use std::test::Fail;
 use walter_base::{Cause, Mem};
 use walter_psi::Step;
 use walter_trail::Trail;
@@ -249,7 +248,7 @@ struct Played {
 }
 
 // What a schedule comes to.
-fn play_schedule(rt: &(impl Abort + AllocGlobal), seed: u64) -> Result<Played, Fail> {
+fn play_schedule(rt: &impl AllocGlobal, seed: u64) -> Result<Played> {
     let alloc = rt.alloc();
     let mut schedule = Schedule::new(alloc, seed)?;
     let mut last = Played {
@@ -259,35 +258,57 @@ fn play_schedule(rt: &(impl Abort + AllocGlobal), seed: u64) -> Result<Played, F
     for _ in 0..BLOCKS {
         schedule.block()?;
         let scenario = format!(in alloc; "{}]}}", schedule.text)?;
-        let Run { trails, .. } = play(rt, &scenario)?;
+        let Run { trails, .. } = play(rt, false, &scenario)?;
         schedule.count_all(&trails);
         last = Played { scenario, trails };
     }
     Ok(last)
 }
 
-#[test]
-fn runs_at_random_are_legal(rt: HostRuntime) -> Result<(), Fail> {
-    // How many commits came to another site, how many were aborted over a lock, and how many runs came to the same at
-    // sites without disks.
-    let (mut arrivals, mut locked, mut same): (usize, usize, usize) = (0, 0, 0);
-    for seed in 0..200 {
-        let Played { scenario, trails } = play_schedule(&rt, seed)?;
-        if is_same_in_a_world(&rt, &scenario, &trails)? {
-            same = same.saturating_add(1);
-        }
-        let history = legal_history(&rt, &trails)?;
-        for step in history.as_slice() {
-            match step {
-                Step::Arrive(_, _) => arrivals = arrivals.saturating_add(1),
-                Step::Abort(_, Cause::Locked { .. }) => locked = locked.saturating_add(1),
-                _ => {}
-            }
+/// What runs at random met.
+#[derive(Clone, Copy, Debug)]
+struct Met {
+    /// How many commits came to another site.
+    arrivals: usize,
+    /// How many were aborted over a lock.
+    locked: usize,
+    /// How many runs came to the same at sites without disks.
+    same: usize,
+}
+
+impl Met {
+    fn count(&mut self, step: &Step) {
+        match step {
+            Step::Arrive(_, _) => self.arrivals = self.arrivals.saturating_add(1),
+            Step::Abort(_, Cause::Locked { .. }) => self.locked = self.locked.saturating_add(1),
+            _ => {}
         }
     }
-    assert!(rt;
-        arrivals > 100 && locked > 20 && same > 100,
-        "{arrivals}, {locked}, {same}"
-    );
-    Ok(())
+
+    fn play(&mut self, rt: &impl AllocGlobal, seed: u64) -> Result<()> {
+        let Played { scenario, trails } = play_schedule(rt, seed)?;
+        if is_same_in_a_world(rt.alloc(), &scenario, &trails)? {
+            self.same = self.same.saturating_add(1);
+        }
+        for step in legal_history(rt.alloc(), &trails)?.as_slice() {
+            self.count(step);
+        }
+        Ok(())
+    }
+}
+
+/// Plays so many runs at random, each of which spells a legal history.
+pub(crate) fn play_at_random(rt: &impl AllocGlobal, runs: u64) -> Result<String> {
+    let mut met = Met {
+        arrivals: 0,
+        locked: 0,
+        same: 0,
+    };
+    for seed in 0..runs {
+        met.play(rt, seed)?;
+    }
+    if met.arrivals <= 100 || met.locked <= 20 || met.same <= 100 {
+        bail!("few of {met:?}");
+    }
+    Ok(format!(in rt.alloc(); "{runs} runs are legal")?)
 }

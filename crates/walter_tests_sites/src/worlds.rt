@@ -1,7 +1,6 @@
 //! The events of a run once more, at the sites without disks.
+use anyhow::{Result, bail};
 use std::alloc::Global;
-use std::process::Abort;
-use std::test::Fail;
 use walter_base::{Bytes, Mem, SiteId};
 use walter_rules::{Entry, Event, Input, Outcome};
 use walter_scenario::{Scenario, read};
@@ -81,13 +80,9 @@ fn frames_of(alloc: Global, scenario: &Scenario) -> Mem<Vec<Frames>> {
 }
 
 // The trails of a world to which the same came, or none where an entry can't stand there.
-fn again(
-    alloc: Global,
-    text: &str,
-    merged: &[(SiteId, Entry)],
-) -> Result<Option<Vec<Trail>>, Fail> {
+fn again(alloc: Global, text: &str, merged: &[(SiteId, Entry)]) -> Result<Option<Vec<Trail>>> {
     let Ok(scenario) = read(alloc, text.as_bytes()) else {
-        return Err(Fail::from("no scenario"));
+        bail!("no scenario");
     };
     let mut clients = frames_of(alloc, &scenario)?;
     let mut world = World::new(alloc, &scenario.catalog)?;
@@ -102,7 +97,7 @@ fn again(
                 fate: fate_of(entry),
             };
             if !world.takes(&event) {
-                return Err(Fail::from("the event can't come"));
+                bail!("an event can't come to sites without disks");
             }
             world.step(event)?;
         }
@@ -112,14 +107,9 @@ fn again(
 
 /// Has all that happened in a run of a scenario happen at sites without disks, whose trails are then the same; and whether
 /// it could: not where a disk couldn't be read.
-pub(crate) fn is_same_in_a_world(
-    rt: &(impl Abort + AllocGlobal),
-    text: &str,
-    trails: &[Trail],
-) -> Result<bool, Fail> {
-    let alloc = rt.alloc();
+pub(crate) fn is_same_in_a_world(alloc: Global, text: &str, trails: &[Trail]) -> Result<bool> {
     if trails.len() > 8 {
-        return Err(Fail::from("more than eight sites"));
+        bail!("there are more than eight sites");
     }
     let merged = merge(alloc, trails)?;
     let Some(others) = again(alloc, text, merged.as_slice())? else {
@@ -129,6 +119,8 @@ pub(crate) fn is_same_in_a_world(
         format!(in alloc; "{trails:?}")?,
         format!(in alloc; "{others:?}")?,
     );
-    assert!(rt; mine == theirs, "{mine}\n{theirs}");
+    if mine != theirs {
+        bail!("the trails are others at sites without disks");
+    }
     Ok(true)
 }
