@@ -7,13 +7,11 @@ ghost use Rattle.walter_site.specs.Members.{IsSizedInput, IsShortOutcome};
 use std::alloc::Global;
 use std::test::Fail;
 use walter_base::{
-    BadFrame, Call, Catalog, Kind, Mem, NoMemory, Record, Refusal, Reply, Request, Sends, SiteId,
-    Tid,
+    Call, Catalog, Kind, Mem, NoMemory, Record, Refusal, Reply, Request, Sends, SiteId, Tid,
 };
 use walter_disk_memory::MemoryDisk;
 use walter_engine::{Engine, Restarted, Stepped};
 use walter_packet::Framed;
-use walter_request::RequestFault;
 use walter_rules::{Input, Outcome};
 use walter_session::Sessions;
 
@@ -22,8 +20,6 @@ const CAPACITY: u64 = 1_000_000;
 /// What is done to a site.
 #[derive(Clone, Copy)]
 pub(crate) enum Act {
-    /// A client, by its number, sends a frame with this body.
-    Call(u32, &'static [u8]),
     /// A packet of another site comes, by its number among those that this one has put out to the site, from 1.
     Deliver(u8, u32),
     /// The next commit of another site is to be committed.
@@ -31,25 +27,6 @@ pub(crate) enum Act {
     Tick,
     Stop,
     Restart,
-}
-
-/// What came of it.
-#[derive(Drop)]
-pub(crate) struct Done {
-    pub outcome: Outcome,
-    pub wrote: Option<Record>,
-    pub sends: Sends,
-}
-
-// What writes and puts out nothing.
-fn bare(alloc: Global, outcome: Outcome) -> Done
-    ensures { result.outcome ≡ outcome }
-{
-    Done {
-        outcome,
-        wrote: None,
-        sends: Sends::from(Vec::new(alloc)),
-    }
 }
 
 // What an input comes to where the disk failed under this record.
@@ -133,34 +110,26 @@ impl Host {
         })
     }
 
-    fn arm(&mut self, nth: u32, choice: u64) -> Mem<()> {
-        self.engine.arm(u64::from(nth) + 1, choice)
-    }
-
-    fn give(&mut self, alloc: Global, input: &Input) -> Mem<Done>
+    fn give(&mut self, input: &Input) -> Mem<Outcome>
         requires sized { IsSizedInput self.old.sites input.now }
-        ensures short { IfOk result (λ done. IsShortOutcome done.outcome) }
+        ensures short { IfOk result IsShortOutcome }
     {
         match self.engine.step(input) {
             Stepped::Done {
                 outcome,
-                wrote,
+                wrote: _,
                 sends,
                 frames,
             } => {
                 put_all_out(&mut self.lanes, &sends, frames)?;
-                Ok(Done {
-                    outcome,
-                    wrote,
-                    sends,
-                })
+                Ok(outcome)
             }
             Stepped::Failed { flight, lost } => {
                 self.lost = Some(lost);
-                Ok(bare(alloc, failed(input, &flight)))
+                Ok(failed(input, &flight))
             }
-            Stepped::Full { need, left } => Ok(bare(alloc, Outcome::Full { need, left })),
-            Stepped::Down => Ok(bare(alloc, refused(input))),
+            Stepped::Full { need, left } => Ok(Outcome::Full { need, left }),
+            Stepped::Down => Ok(refused(input)),
             Stepped::NoMemory => Err(NoMemory),
         }
     }
@@ -175,17 +144,17 @@ impl Host {
         Some(tid)
     }
 
-    fn call(&mut self, alloc: Global, client: u32, call: Call) -> Mem<Done>
-        ensures short { IfOk result (λ done. IsShortOutcome done.outcome) }
+    fn call(&mut self, client: u32, call: Call) -> Mem<Outcome>
+        ensures short { IfOk result IsShortOutcome }
     {
         let is_told = self.engine.is_up() && !matches!(&call, Ok(Request::Level(_)) | Err(_));
         if is_told {
             if let Some(tid) = self.gone(client) {
                 let refusal = Refusal::Gone { tid };
-                return Ok(bare(alloc, Outcome::Replied(Reply::Refused(refusal))));
+                return Ok(Outcome::Replied(Reply::Refused(refusal)));
             }
         }
-        self.give(alloc, &Input::Call { client, call })
+        self.give(&Input::Call { client, call })
     }
 
     fn deliver(
@@ -194,8 +163,8 @@ impl Host {
         from: SiteId,
         number: u32,
         frame: &Framed,
-    ) -> Result<Done, Fail>
-        ensures short { IfOk result (λ done. IsShortOutcome done.outcome) }
+    ) -> Result<Outcome, Fail>
+        ensures short { IfOk result IsShortOutcome }
     {
         if frame.sites() != self.sites {
             return Err("the frame is among other sites".into());
@@ -206,48 +175,32 @@ impl Host {
             number,
             packet,
         };
-        Ok(self.give(alloc, &input)?)
+        Ok(self.give(&input)?)
     }
 
-    fn stop(&mut self, alloc: Global) -> Done
-        ensures short { IsShortOutcome result.outcome }
+    fn stop(&mut self) -> Outcome
+        ensures short { IsShortOutcome result }
     {
         let Some(lost) = self.engine.stop() else {
-            return bare(alloc, Outcome::Down);
+            return Outcome::Down;
         };
         self.lost = Some(lost);
-        bare(alloc, Outcome::Taken)
+        Outcome::Taken
     }
 
-    fn restart(&mut self, alloc: Global) -> Mem<Done>
-        ensures short { IfOk result (λ done. IsShortOutcome done.outcome) }
+    fn restart(&mut self) -> Mem<Outcome>
+        ensures short { IfOk result IsShortOutcome }
     {
         if self.engine.is_up() {
-            return Ok(bare(alloc, Outcome::Passed));
+            return Ok(Outcome::Passed);
         }
         match self.engine.restart() {
-            Restarted::Up { wrote, .. } => Ok(Done {
-                outcome: Outcome::Taken,
-                wrote: Some(wrote),
-                sends: Sends::from(Vec::new(alloc)),
-            }),
-            Restarted::Failed { .. } => Ok(bare(alloc, Outcome::Failed)),
-            Restarted::Full { need, left, .. } => Ok(bare(alloc, Outcome::Full { need, left })),
-            Restarted::Refused { .. } => Ok(bare(alloc, Outcome::Refused)),
+            Restarted::Up { .. } => Ok(Outcome::Taken),
+            Restarted::Failed { .. } => Ok(Outcome::Failed),
+            Restarted::Full { need, left, .. } => Ok(Outcome::Full { need, left }),
+            Restarted::Refused { .. } => Ok(Outcome::Refused),
             Restarted::NoMemory { .. } => Err(NoMemory),
         }
-    }
-}
-
-/// What a client's frame with this body calls for.
-fn call_of(alloc: Global, body: &[u8]) -> Mem<Call> {
-    if body.len() > 65536 {
-        return Ok(Err(BadFrame { at: 0 }));
-    }
-    match walter_request::decode(alloc, body) {
-        Ok(request) => Ok(Ok(request)),
-        Err(RequestFault::BadFrame { at }) => Ok(Err(BadFrame { at })),
-        Err(RequestFault::NoMemory) => Err(NoMemory),
     }
 }
 
@@ -314,29 +267,19 @@ impl Net {
         }
     }
 
-    /// Has the disk's call behind so many fail, with this choice.
-    pub(crate) fn arm_behind(&mut self, site: u8, passing: u32, choice: u64) -> Result<(), Fail> {
-        Ok(self.host(site)?.arm(passing, choice)?)
-    }
-
     /// What comes of a client's call.
-    pub(crate) fn call(&mut self, site: u8, client: u32, call: Call) -> Result<Done, Fail>
-        ensures short { IfOk result (λ done. IsShortOutcome done.outcome) }
+    pub(crate) fn call(&mut self, site: u8, client: u32, call: Call) -> Result<Outcome, Fail>
+        ensures short { IfOk result IsShortOutcome }
     {
-        let alloc = self.alloc;
-        Ok(self.host(site)?.call(alloc, client, call)?)
+        Ok(self.host(site)?.call(client, call)?)
     }
 
     /// What comes of an act at a site.
-    pub(crate) fn act(&mut self, site: u8, act: Act) -> Result<Done, Fail>
-        ensures short { IfOk result (λ done. IsShortOutcome done.outcome) }
+    pub(crate) fn act(&mut self, site: u8, act: Act) -> Result<Outcome, Fail>
+        ensures short { IfOk result IsShortOutcome }
     {
         let alloc = self.alloc;
         match act {
-            Act::Call(client, body) => {
-                let call = call_of(alloc, body)?;
-                self.call(site, client, call)
-            }
             Act::Deliver(from, number) => {
                 let frame = self.frame(from, site, number)?;
                 self.host(site)?
@@ -344,11 +287,11 @@ impl Net {
             }
             Act::Advance(from) => {
                 let from = SiteId(from);
-                Ok(self.host(site)?.give(alloc, &Input::Advance { from })?)
+                Ok(self.host(site)?.give(&Input::Advance { from })?)
             }
-            Act::Tick => Ok(self.host(site)?.give(alloc, &Input::Tick)?),
-            Act::Stop => Ok(self.host(site)?.stop(alloc)),
-            Act::Restart => Ok(self.host(site)?.restart(alloc)?),
+            Act::Tick => Ok(self.host(site)?.give(&Input::Tick)?),
+            Act::Stop => Ok(self.host(site)?.stop()),
+            Act::Restart => Ok(self.host(site)?.restart()?),
         }
     }
 }

@@ -29,6 +29,9 @@ const STEPS: u64 = 1000;
 /// Behind so many rounds all that is to be said is heard.
 const ROUNDS: u64 = 60;
 
+/// How many packets a tick says to a peer, or more: those of the own commits in a window, and some others.
+const SAID: usize = 80;
+
 /// The client that asks what a site has. It has no transaction when it doesn't ask.
 const OBSERVER: u32 = 9;
 
@@ -101,7 +104,7 @@ impl Run {
     fn ask(&mut self, site: u8, client: u32, request: Request) -> Result<Outcome, Fail>
         ensures { IfOk result IsShortOutcome }
     {
-        Ok(self.net.call(site, client, Ok(request))?.outcome)
+        self.net.call(site, client, Ok(request))
     }
 
     fn call(&mut self, site: u8) -> Result<(), Fail> {
@@ -198,10 +201,10 @@ impl Run {
         Ok(are_alike(&before.objects, &after.objects) && are_left(&before.levels, &after.levels))
     }
 
-    // The last eight packets arrive, in order.
+    // The last packets arrive, in order: all that a tick says.
     fn hear(&mut self, site: u8, from: u8) -> Result<(), Fail> {
         let count = self.net.count(from, site).min(1_000_000);
-        for number in count - count.min(8)..count {
+        for number in count - count.min(SAID)..count {
             self.net.act(site, Act::Deliver(from, number as u32 + 1))?;
         }
         self.net.act(site, Act::Advance(from))?;
