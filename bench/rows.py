@@ -1,9 +1,12 @@
 #!/usr/bin/env python3
 """Plays worked runs of several sites in the plain model of model.py, step by step, and says which of them it answers
-otherwise. Each step has what is to come of it, told by hand: a reply, or an outcome with the record and what is put out;
-and of one run the report is told. Ends with status 1 where something isn't met.
+otherwise. Each step has what is to come of it, told by hand: a reply, or an outcome with the record and what is put out.
+Then it plays the runs that the program is tested by, and compares what it writes of each with what the program is to write.
+Ends with status 1 where something isn't met.
 """
 
+import json
+import os
 import struct
 import sys
 from collections import Counter
@@ -185,27 +188,6 @@ def a_slow_commit():
     return row
 
 
-def a_report():
-    """The report of that run: the bytes of the clients are frames."""
-    sent = [b"".join(map(frame, bodies)).hex() for bodies in (
-        (START_IT, write((1, 5), b"t"), COMMIT_IT), (START_IT, write((1, 5), b"s"), COMMIT_IT, COMMIT_IT))]
-    steps = [["call", 1]] * 3 + [["call", 0]] * 2 + [["deliver", 0, 1, 1], ["call", 0], ["deliver", 1, 0, 1], ["call", 1]]
-    scenario = {"sites": 2, "f": 0, "containers": [REGULAR_AT_0], "clients": [[0, sent[0]], [1, sent[1]]], "steps": steps}
-    wanted = [
-        "sites 2 f 0 clients 2",
-        "client 0 site 0 replies 3 0000000e80000000000100000000000000010000000182"
-        "0000001b860200000001000000000000000501000000010000000000000001",
-        "client 1 site 1 replies 4 0000000e80010000000100000000000000010000000182"
-        "0000000e87010000000100000000000000010000000a85010000000000000001",
-        "site 0 up epoch 1 events 5 records 2 got 0,0 committed 0,0 log -",
-        "site 1 up epoch 1 events 6 records 3 got 0,1 committed 0,1 log 1:1",
-    ]
-    row = Row(1, 0, [])
-    found = model.play(scenario, Counter()).split("\n")
-    row.wrong = [("the report", *pair) for pair in zip(wanted, found) if pair[0] != pair[1]]
-    return row
-
-
 def crossing():
     """Two slow commits of the same objects have begun, and each has a YES and a NO on its way."""
     row = Row(4, 0, [REGULAR_AT_0, REGULAR_AT_1], (2, 3, 0))
@@ -380,7 +362,6 @@ ROWS = {
     "a durable mark comes first": a_durable_mark_first,
     "a cause comes before its effect": a_cause_comes_first,
     "a slow commit locks and commits": a_slow_commit,
-    "its report": a_report,
     "the run that docs/SITE.md tells": the_run_that_is_told,
     "two slow commits cross": two_slow_commits_that_cross,
     "a PREPARE comes late": a_prepare_comes_late,
@@ -394,13 +375,46 @@ ROWS = {
 }
 
 
+TESTED = os.path.join(os.path.dirname(os.path.abspath(__file__)), "..", "crates", "walter_tests_sites")
+
+
+def content_of(name):
+    with open(os.path.join(TESTED, name), encoding="utf-8") as file:
+        return file.read()
+
+
+def written(command, scenario):
+    """What the program writes of a run: its report, with the trace behind it where that is asked for, and that it is right."""
+    lines = model.play(json.loads(scenario), Counter()).splitlines(keepends=True)
+    return "".join(line for line in lines if command == "trace" or not line.startswith("e ")) + "legal, and the same without disks\n"
+
+
+def tested_runs():
+    """The runs that the program is tested by: of each what stands before it, what it is to write, and what the model does."""
+    lines = iter(content_of("stdin").splitlines())
+    for told in content_of("stdout").split("# ")[1:]:
+        said, _, wanted = told.partition("\n")
+        line = next(lines)
+        assert line == f"# {said}", line
+        if wanted:
+            command, _, scenario = next(lines).partition(" ")
+            if command in ("report", "trace"):
+                yield said, wanted, written(command, scenario)
+
+
 def main():
     failed = 0
     for name, play in ROWS.items():
         for what, wanted, found in play().wrong:
             failed += 1
             print(f"{name}: at {what}\n  wanted {wanted}\n  found  {found}")
-    print(f"{len(ROWS)} runs, {failed} steps that differ")
+    count = 0
+    for said, wanted, found in tested_runs():
+        count += 1
+        if wanted != found:
+            failed += 1
+            print(f"{said}\n  wanted {wanted}\n  found  {found}")
+    print(f"{len(ROWS)} runs told by hand, {count} that the program is tested by, {failed} steps and runs that differ")
     sys.exit(failed > 0)
 
 
