@@ -21,6 +21,12 @@ CRATES = ["walter_base", "walter_psi", "walter_rules", "walter_runs", "walter_ag
           "walter_refinement"]
 RULES = "walter_rules/specs/"
 ALLOWED = "walter_rules/proofs/DeliveriesAllowed.antt"
+TESTS = "walter_rules/proofs/RuleTests.antt"
+FOLLOWED = "walter_alone/proofs/Followed.antt"
+COMMITTED_ROW = """abbrev pub committed_row : Knowledge → ObjId → List Held
+committed_row K oid = filter (λ h. nat_le h.seq (K.committed h.tx.tid.site)) (row oid K.log)
+
+"""
 OVER_A_LOCK = "      refusal_true (LockedThere oid owner) free met =\n"
 # What is changed, and in which files what stands there once for what.
 CHANGES = {
@@ -32,9 +38,15 @@ CHANGES = {
         (ALLOWED, "covers_true S.knows.committed due.0.start", "covers_true S.knows.got due.0.start"),
     ],
     "a conflict is looked for among what is committed here alone": [
-        (RULES + "Conflicts.antt", "(map version_of (row oid K.log))",
-         "(map version_of (filter (λ h. nat_le h.seq (K.committed h.tx.tid.site)) (row oid K.log)))"),
         (RULES + "Conflicts.antt", "{ℕ, List, map, filter_map,", "{ℕ, nat_le, List, map, filter, filter_map,"),
+        (RULES + "Conflicts.antt", "use Rattle.walter_rules.specs.Knowledge.{Knowledge}\n",
+         "use Rattle.walter_rules.specs.declared.held.Held.{Held}\nuse Rattle.walter_rules.specs.Knowledge.{Knowledge}\n"),
+        (RULES + "Conflicts.antt", "abbrev pub conflict_at :", COMMITTED_ROW + "abbrev pub conflict_at :"),
+        (RULES + "Conflicts.antt", "(row oid K.log)) (K.owner", "(committed_row K oid)) (K.owner"),
+        (TESTS, "(map version_of (row one.0 K.log))", "(map version_of (committed_row K one.0))"),
+        (TESTS, "specs.Conflicts.{conflict_at,", "specs.Conflicts.{committed_row, conflict_at,"),
+        (FOLLOWED, "(map version_of (row oid K.log))", "(map version_of (committed_row K oid))"),
+        (FOLLOWED, "specs.Conflicts.{conflict_at}", "specs.Conflicts.{committed_row, conflict_at}"),
     ],
     "a commit is durable where f sites have it": [
         (RULES + "Marks.antt", "nat_le (catalog.tolerated + 1) (count_by", "nat_le catalog.tolerated (count_by"),
