@@ -1,4 +1,4 @@
-ghost use Rattle.std.specs.Prelude.{◌≡◌, ◌≢◌, ◌≤◌, ℕ, Some, None, [], true, false, is_some, map, All, IfOk, IfSome, OnErr};
+ghost use Rattle.std.specs.Prelude.{◌≡◌, ◌≢◌, ◌≤◌, ℕ, List, Some, None, [], true, false, is_some, map, All, IfOk, IfSome, OnErr};
 ghost use Rattle.walter_base.specs.declared.catalog.Catalog.{Catalog};
 ghost use Rattle.walter_base.specs.declared.names.SiteId.{SiteId};
 ghost use Rattle.walter_base.specs.Sizes.{CanBeRecorded};
@@ -18,7 +18,7 @@ ghost use Rattle.walter_packet.specs.Framed.{frame_of};
 ghost use Rattle.walter_packet.specs.Spelling.{HasPacketSpelling};
 ghost use Rattle.walter_rules.specs.declared.event.Event.{Event};
 ghost use Rattle.walter_rules.specs.Knowledge.{Knowledge};
-ghost use Rattle.walter_rules.specs.Learning.{after};
+ghost use Rattle.walter_rules.specs.Learning.{after, sessions_after};
 ghost use Rattle.walter_rules.specs.Rule.{rule};
 ghost use Rattle.walter_rules.specs.Standing.{Standing};
 ghost use Rattle.walter_rules.specs.Trails.{TakesMemory, failure};
@@ -126,7 +126,14 @@ fn lost_with(site: Site, input: &Input, flight: &Record) -> Sessions
         ≡ (after (catalog_of site) (site_of site) K (Event.Given input.now)
         (failure (Event.Given input.now) flight.now) None).sessions }
 {
-    let mut sessions = site.into_sessions();
+    without_unsure(site.into_sessions(), input, flight)
+}
+
+/// These sessions but for that of a client which is told that its commit is unsure.
+fn without_unsure(mut sessions: Sessions, input: &Input, flight: &Record) -> Sessions
+    ensures { (snapshot : List ℕ) → sessions_of result ≡ sessions_after (Event.Given input.now)
+        (failure (Event.Given input.now) flight.now) None snapshot (sessions_of sessions) }
+{
     if let (Input::Call { client, .. }, Record::Own(_, _) | Record::SlowBegin(_, _)) = (
         input, flight,
     ) {

@@ -1,5 +1,5 @@
 //! What comes of an event at a site without a disk.
-ghost use Rattle.std.specs.Prelude.{◌≡◌, ◌<◌, ◌≤◌, ◌+◌, ℕ, reverse, length, All, IfOk, IfSome, IsSome, OnErr, Some, None, false};
+ghost use Rattle.std.specs.Prelude.{◌≡◌, ◌<◌, ◌≤◌, ◌+◌, ℕ, List, reverse, length, All, IfOk, IfSome, IsSome, OnErr, Some, None, false};
 ghost use Rattle.walter_base.specs.Vectors.{most_sites};
 ghost use Rattle.walter_base.specs.declared.catalog.Catalog.{Catalog};
 ghost use Rattle.walter_base.specs.declared.message.Record.{Record as Written};
@@ -9,7 +9,7 @@ ghost use Rattle.walter_base.specs.declared.names.SiteId.{SiteId};
 ghost use Rattle.walter_rules.specs.declared.event.Event.{Event};
 ghost use Rattle.walter_rules.specs.declared.outcome.Outcome.{Outcome as Comes};
 ghost use Rattle.walter_rules.specs.Knowledge.{Knowledge};
-ghost use Rattle.walter_rules.specs.Learning.{after};
+ghost use Rattle.walter_rules.specs.Learning.{after, sessions_after};
 ghost use Rattle.walter_rules.specs.Rule.{given_down};
 ghost use Rattle.walter_rules.specs.Standing.{Standing};
 ghost use Rattle.walter_rules.specs.Trails.{standing, clock, failure, AreRight, only};
@@ -207,7 +207,15 @@ fn lost_with(site: Site, input: &Input, outcome: &Outcome) -> Sessions
     ensures { (K : Knowledge) → Knows site K → sessions_of result
         ≡ (after (catalog_of site) (site_of site) K (Event.Given input.now) outcome.now None).sessions }
 {
-    let mut sessions = site.into_sessions();
+    without_unsure(site.into_sessions(), input, outcome)
+}
+
+// These sessions but for that of a client which is told that its commit is unsure.
+fn without_unsure(mut sessions: Sessions, input: &Input, outcome: &Outcome) -> Sessions
+    requires { IsFall input.now outcome.now }
+    ensures { (snapshot : List ℕ) → sessions_of result
+        ≡ sessions_after (Event.Given input.now) outcome.now None snapshot (sessions_of sessions) }
+{
     if let (Input::Call { client, .. }, Outcome::Replied(Reply::Unsure(_))) = (input, outcome) {
         sessions.end(*client);
     }
