@@ -2,8 +2,9 @@
 
 It says again what docs/SITE.md and docs/FORMATS.md say, and docs/DECISIONS.md of the disk, and shares nothing with the
 program: a site keeps the transactions that it has, by version, and what they did, by object; it computes each answer anew
-from these, and after a stop it learns all its records again. It takes scenarios that are right, and is no checker of them.
-Nor does it know want of memory, the end of a trail at 100,000 entries, or the step that pumps.
+from these, and after a stop it learns all its records again. It takes scenarios that are right: readings.py refuses others,
+and command.py is the command over both. It doesn't know want of memory, the end of a trail at 100,000 entries, or the step
+that pumps.
 """
 
 import struct
@@ -592,15 +593,20 @@ def trace_line(site, entry):
     return f"e {entry.stamp} {site} {entry.event} {entry.outcome} {' '.join(records)} {sends} {entry.dropped}"
 
 
-def report(sites, clients, replies):
+def report(sites, clients, replies, trace):
     lines = [f"sites {len(sites)} f {sites[0].tolerated} clients {len(clients)}"]
     for number, frames in enumerate(replies):
         sent = b"".join(frames).hex() or "-"
         lines.append(f"client {number} site {clients[number][0]} replies {len(frames)} {sent}")
     lines += map(site_line, sites)
-    merged = sorted(((entry.stamp, site.me, entry) for site in sites for entry in site.entries), key=lambda one: one[:2])
-    lines += [trace_line(site, entry) for _, site, entry in merged]
+    if trace:
+        lines += trace_lines(sites)
     return "\n".join(lines) + "\n"
+
+
+def trace_lines(sites):
+    merged = sorted(((entry.stamp, site.me, entry) for site in sites for entry in site.entries), key=lambda one: one[:2])
+    return [trace_line(site, entry) for _, site, entry in merged]
 
 
 class Run:
@@ -635,8 +641,8 @@ class Run:
         if place <= self.arrived[i, j]:
             self.sites[i].deliver(j, place, *self.sites[j].put_out[i][place - 1])
 
-    def text(self):
-        return report(self.sites, self.clients, self.replies)
+    def text(self, trace=True):
+        return report(self.sites, self.clients, self.replies, trace)
 
 
 def played(scenario, met):
@@ -653,7 +659,6 @@ def play(scenario, met):
 
 
 if __name__ == "__main__":
-    import json
-    import sys
+    import command
 
-    sys.stdout.write(play(json.load(sys.stdin), Counter()))
+    command.ends.run(command.main)

@@ -1,20 +1,24 @@
 #!/usr/bin/env python3
 """Runs the program on wrong inputs, and compares how each run ends with what is wanted: its status, what it wrote on
 standard error and, where that can be read, on standard output. Prints a line for each case, and ends with status 1
-where one differs.
+where one differs. With --model the plain model is run in its place, which is to end in the same ways: its own name stands in
+front of what it says, and what it says of wrong words is its own.
 """
 
 import argparse
 import os
 import subprocess
 import sys
+from concurrent.futures import ThreadPoolExecutor
+
+import readings
 
 TOP = os.path.dirname(os.path.dirname(os.path.abspath(__file__)))
 USAGE = "usage: walter play [--trace], with a scenario on standard input; the report comes on standard output"
 NO_READING = "the scenario has no reading: "
-CLIENT = "client 0: wants [site, bytes] in a list, a site below sites, an even number of hex digits, at most 1024 of each site"
-SITES = "sites: wants a whole number from 1 to 8"
+SITES = readings.TEXTS["sites"]
 CLOSED = None
+MODELS_AT_ONCE = 6
 
 
 def file_of(*parts):
@@ -22,8 +26,8 @@ def file_of(*parts):
         return file.read()
 
 
-def scenario(sites="1", clients="", more=""):
-    return f'{{"sites":{sites},"f":0,"containers":[],"clients":[{clients}],"steps":[]{more}}}'
+def scenario(sites="1", clients="", more="", f="0", containers="", steps=""):
+    return (f'{{"sites":{sites},"f":{f},"containers":[{containers}],"clients":[{clients}],"steps":[{steps}]{more}}}')
 
 
 # The stored run of the program.
@@ -38,7 +42,18 @@ CASES = [
     ("an open bracket", ["play"], "[", None, 2, NO_READING + "the text is no JSON: line 1, column 1", ""),
     ("nine sites", ["play"], scenario(sites="9"), None, 2, NO_READING + SITES, ""),
     ("another key", ["play"], scenario(more=',"speed":1'), None, 2, NO_READING + 'key "speed": a scenario has none', ""),
-    ("odd hex", ["play"], scenario(clients='[0,"0"]'), None, 2, NO_READING + CLIENT, ""),
+    ("odd hex", ["play"], scenario(clients='[0,"0"]'), None, 2, NO_READING + readings.TEXTS["clients"].format(0), ""),
+    ("no keys", ["play"], "{}", None, 2, NO_READING + readings.TEXTS["keys"], ""),
+    ("another outermost value", ["play"], "[]", None, 2, NO_READING + readings.TEXTS["json"], ""),
+    ("too great an f", ["play"], scenario(f="1"), None, 2, NO_READING + readings.TEXTS["f"], ""),
+    ("containers out of order", ["play"], scenario(containers='[2,"cset",0],[1,"cset",0]'), None, 2,
+     NO_READING + readings.TEXTS["containers"].format(1), ""),
+    ("a capacity of 10", ["play"], scenario(more=',"capacity":10'), None, 2, NO_READING + readings.TEXTS["capacity"], ""),
+    ("an arm of no site", ["play"], scenario(more=',"arms":[[1,1,1]]'), None, 2, NO_READING + readings.TEXTS["arms"].format(0),
+     ""),
+    ("a turn of no client", ["play"], scenario(steps='["tick",0],["call",0]'), None, 2,
+     NO_READING + readings.TEXTS["steps"].format(1), ""),
+    ("too many bytes", ["play"], " " * (readings.MOST_BYTES + 1), None, 2, NO_READING + readings.TEXTS["long"], ""),
     ("a closed standard input", ["play"], CLOSED, None, 3, "the scenario could not be read to its end", ""),
     ("a full standard output", ["play"], RUN, "/dev/full", 4, "the report could not be written to its end", ""),
     ("the stored run", ["play"], RUN, None, 0, "", REPORT),
@@ -47,18 +62,36 @@ CASES = [
 
 def run(program, words, stdin, sink):
     """The status, and what was written on standard error and on standard output."""
-    close = (lambda: os.close(0)) if stdin is CLOSED else None
+    closing = ["sh", "-c", 'exec "$@" <&-', "sh"] if stdin is CLOSED else []
     with open(sink or os.devnull, "w", encoding="utf-8") as out:
         ended = subprocess.run(
-            [program, *words],
+            [*closing, *program, *words],
             input=stdin,
             stdout=out if sink else subprocess.PIPE,
             stderr=subprocess.PIPE,
             encoding="utf-8",
             timeout=60,
-            preexec_fn=close,
         )
     return ended.returncode, ended.stderr, ended.stdout or ""
+
+
+def model_run(words, stdin, sink):
+    """The same of the model, in the words of the program: its words are those behind `play`."""
+    model = [sys.executable, os.path.join(TOP, "bench", "model.py")]
+    status, said, written = run(model, words[1:] if words else ["no", "words"], stdin, sink)
+    return status, f"walter: {USAGE}\n" if status == 1 else said.replace("model: ", "walter: ", 1), written
+
+
+def differing(play, at_once=1):
+    """Plays all cases, with a line for each. Gives how many differ."""
+    differ = 0
+    with ThreadPoolExecutor(at_once) as pool:
+        for case, came in zip(CASES, pool.map(lambda case: play(*case[1:4]), CASES)):
+            name, _, _, _, status, line, report = case
+            wanted = status, f"walter: {line}\n" if line else "", report
+            print(f"{name}: {'the same' if came == wanted else f'wanted {wanted}, came {came}'}")
+            differ += came != wanted
+    return differ
 
 
 def main():
@@ -68,14 +101,12 @@ def main():
         default=os.path.join(TOP, "walter"),
         help="without it `./walter`, which proves and builds the program where that isn't done yet",
     )
-    program = os.path.abspath(parser.parse_args().program)
-    differs = False
-    for name, words, stdin, sink, status, line, report in CASES:
-        wanted = status, f"walter: {line}\n" if line else "", report
-        came = run(program, words, stdin, sink)
-        print(f"{name}: {'the same' if came == wanted else f'wanted {wanted}, came {came}'}")
-        differs = differs or came != wanted
-    sys.exit(1 if differs else 0)
+    parser.add_argument("--model", action="store_true", help="run the plain model of model.py")
+    given = parser.parse_args()
+    program = [os.path.abspath(given.program)]
+    # The first case may have to prove the program, so its cases come one after another.
+    differ = differing(model_run, MODELS_AT_ONCE) if given.model else differing(lambda *case: run(program, *case))
+    sys.exit(differ > 0)
 
 
 if __name__ == "__main__":

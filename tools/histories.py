@@ -1,36 +1,75 @@
-"""The transactions of a run as a list of JSON maps, in the form that Elle reads.
+"""The transactions of a run as a history in EDN, in the form that Elle's checker of registers and transactions reads.
 
 A transaction is an invoke where it starts and an ok, a fail or an info where its client is told its end; the reads of an ok
-have their values. Regular objects alone are told: Elle knows no sets that count.
+have their values. Elle knows no sets that count: what was done to these is a history of its own kind, which it doesn't read.
 """
+
+import struct
+from collections import namedtuple
 
 import reports
 import scripts
+import transactions
 
 KINDS = {"committed": "ok", "ended": "ok", "aborted": "fail", "unsure": "info"}
-WAS_LOST = 7
+# What a history is of: the word of its transactions, and of each call that it tells the word in the history.
+Kind = namedtuple("Kind", "word does")
+REGISTERS = Kind("txn", {"read": "r", "write": "w"})
+SETS = Kind("sets", {"setread": "r", "setreadid": "count", "setadd": "add", "setdel": "del"})
+ANSWERED = ("r", "count")
 
 
-def text_of_value(value):
-    """Bytes as a text, each byte a character, so that no two values have one text."""
-    return None if value is None else value.decode("latin-1")
+class NotDistinct(Exception):
+    """An object to which one value is written twice."""
+
+
+class Keyword(str):
+    """A word that names itself, with a colon in EDN."""
+
+
+def edn(value):
+    """A value in EDN."""
+    if value is None:
+        return "nil"
+    if isinstance(value, Keyword):
+        return ":" + value
+    if isinstance(value, bytes):
+        return '"' + "".join(map(letter, value)) + '"'
+    if isinstance(value, str):
+        return edn(value.encode())
+    if isinstance(value, dict):
+        return "{" + ", ".join(f"{edn(key)} {edn(one)}" for key, one in value.items()) + "}"
+    if isinstance(value, (list, tuple)):
+        return "[" + " ".join(map(edn, value)) + "]"
+    return str(value)
+
+
+def letter(byte):
+    """A byte as a letter of a text, so that no two values have one text."""
+    if byte in b'"\\':
+        return "\\" + chr(byte)
+    return chr(byte) if 0x20 <= byte < 0x7F else f"\\u{byte:04x}"
 
 
 class Transaction:
-    def __init__(self, process):
-        self.process, self.does = process, []
+    """A transaction of a client that is told as this process: what it does, each with the object and the values."""
 
-    def map(self, kind, index):
+    def __init__(self, name, process):
+        self.name, self.process, self.does = name, process, []
+
+    def operation(self, kind, word, index):
         """A read has its value where the transaction is committed."""
-        does = [[what, oid, None if what == "r" and kind != "ok" else value] for what, oid, value in self.does]
-        return {"index": index, "type": kind, "process": self.process, "value": does}
+        does = [[Keyword(what), *given, *([answer if kind == "ok" else None] if what in ANSWERED else [])]
+                for what, given, answer in self.does]
+        return {Keyword("type"): Keyword(kind), Keyword("f"): Keyword(word), Keyword("value"): does,
+                Keyword("process"): self.process, Keyword("index"): index}
 
 
 class History:
-    """The transactions of a run, in the order of its calls."""
+    """The transactions of a run that do what a history is of, in the order of its calls."""
 
-    def __init__(self, run):
-        self.clients = len(run.scenario.names)
+    def __init__(self, run, kind=REGISTERS):
+        self.kind, self.clients = kind, len(run.scenario.names)
         # A client that isn't told the end of a transaction goes on as another process.
         self.process, self.open = list(range(self.clients)), {}
         self.events = []
@@ -39,27 +78,53 @@ class History:
                 self.take(*step.call, reports.reply_of(step.reply))
         for client in list(self.open):
             self.end(client, "info")
+        self.events = [(one, what) for one, what in self.events if one.does]
 
     def take(self, client, frame, reply):
-        operation = (scripts.words_of(frame) or "").split(" ")
+        word = transactions.word_of(frame)
         if reply.kind == "started":
-            self.open[client] = Transaction(self.process[client])
+            self.open[client] = Transaction(reply.fields, self.process[client])
             self.events.append((self.open[client], "invoke"))
         elif client not in self.open:
             return
-        elif operation[0] == "read" and reply.kind == "value":
-            self.open[client].does.append(["r", operation[1], text_of_value(reply.fields)])
-        elif operation[0] == "write" and reply.kind == "done":
-            self.open[client].does.append(["w", operation[1], text_of_value(scripts.value_in(frame))])
+        elif word in self.kind.does and reply.kind != "refused":
+            self.open[client].does.append(self.done(word, frame, reply))
         elif reply.kind in KINDS:
             self.end(client, KINDS[reply.kind])
-        elif reply.kind == "refused" and reply.fields[0] == WAS_LOST:
+        elif reply.kind == "refused" and reply.fields[0] == transactions.WAS_LOST:
             self.end(client, "info")
+
+    def done(self, word, frame, reply):
+        """What a call does: its word, the object with what is given, and the answer."""
+        given = ["%d:%d" % struct.unpack_from(">IQ", frame, 5)]
+        if word == "write":
+            given.append(scripts.value_in(frame))
+        elif word in ("setadd", "setdel", "setreadid"):
+            given.append(struct.unpack_from(">Q", frame, 17)[0])
+        return self.kind.does[word], given, dict(reply.fields) if reply.kind == "set" else reply.fields
 
     def end(self, client, kind):
         self.events.append((self.open.pop(client), kind))
         if kind == "info":
             self.process[client] += self.clients
 
-    def maps(self):
-        return [transaction.map(kind, index) for index, (transaction, kind) in enumerate(self.events)]
+    def operations(self):
+        return [transaction.operation(kind, self.kind.word, index) for index, (transaction, kind) in enumerate(self.events)]
+
+    def check(self):
+        """Elle tells the writes of an object apart by their values."""
+        wrote = {}
+        for transaction, kind in self.events:
+            for what, given, _ in transaction.does if kind == "invoke" else []:
+                if what != "w":
+                    continue
+                before = wrote.setdefault(tuple(given), transaction.name)
+                if before != transaction.name:
+                    names = "%d.%d.%d and %d.%d.%d" % (*before, *transaction.name)
+                    raise NotDistinct(f"{names} write {scripts.words_of_value(given[1])} to {given[0]}: each transaction "
+                                      "that writes an object is to give it a value of its own")
+
+    def text(self):
+        """A line for each operation."""
+        self.check()
+        return "".join(edn(one) + "\n" for one in self.operations())

@@ -1,21 +1,25 @@
 """A run as a picture, in SVG: a column for each site, time downward, a row for each entry, and an arrow for each delivery.
 
-The words stand to the right of all columns, a row each, so that no arrow crosses them.
+The words stand to the right of all columns, a row each, so that no arrow crosses them. Each transaction has a colour, the
+same at all sites. Below stands what the marks, the lines and the colours of this picture are.
 """
 
+import colorsys
 import math
+import textwrap
 from collections import defaultdict
 from xml.sax.saxutils import escape
 
 import reports
+import transactions
 import words
 
 MOST = 500
 ROW, FONT, LETTER = 22, 12, 7.4
 MARGIN, STAMPS, GAP, BAR = 14, 56, 72, 7
 LONGEST, BEND = 110, 14
-# How long a packet's line is that no site took, and how many of them a fan has before they are drawn by receiver.
-STUB, FAN = 20, 6
+# How long a packet's line is that no site took, and how many of them a fan has before they are drawn by kind.
+STUB, FAN = 26, 6
 FLAT, STEEP = 0.02 * math.pi, 0.31 * math.pi
 # Spreading is thin and slow commits are thick; of each kind of packet, how its line is dashed.
 LINES = {
@@ -28,26 +32,27 @@ LINES = {
     "release": (2.4, "2 4"),
     "released": (2.4, "10 4 2 4"),
 }
+# The first transactions have these colours, and the others go round the circle.
+COLOURS = ("#1f55a5", "#b3261e", "#1b7a3d", "#8a3fbf", "#b25a00", "#007a8c", "#a8186f", "#5f6b00", "#6b4a2b", "#4a4fd0")
+PLAIN = "#555"
+SHADE = 18
 STYLE = f"""
 text {{ font: {FONT}px "DejaVu Sans Mono", "Liberation Mono", monospace; fill: #111 }}
+.title {{ font-weight: bold }}
+.row {{ fill: #fff }}
 .faint {{ fill: #f1f1f1 }}
-.column, .cap, .none {{ stroke: #111; stroke-width: 1.2; fill: none }}
-.stable {{ fill: #111; stroke: #111 }}
-.flight {{ fill: #fff; stroke: #111; stroke-width: 1.6 }}
-.lock {{ fill: url(#hatch); stroke: #555; stroke-width: 0.8 }}
-.arrow, .stub {{ fill: none; stroke: #1f4e8c }}
-.slow {{ stroke: #9a2c1c }}
-.head {{ stroke: #111; stroke-width: 1; stroke-dasharray: none }}
-.taken {{ fill: #111 }}
-.passed {{ fill: #fff }}
+.column, .cap {{ stroke: #111; stroke-width: 1.2; fill: none }}
+.none {{ stroke-width: 2; fill: none }}
+.flight {{ stroke-width: 1.6 }}
+.lock {{ fill-opacity: 0.3; stroke-width: 0.8 }}
+.arrow, .end {{ fill: none }}
+.end {{ stroke-width: 1.2 }}
+.head {{ stroke-width: 1; stroke-dasharray: none }}
 """
-HATCH = ('<defs><pattern id="hatch" width="4" height="4" patternUnits="userSpaceOnUse" patternTransform="rotate(45)">'
-         '<rect width="4" height="4" fill="#fff"/><line x1="0" y1="0" x2="0" y2="4" stroke="#777" stroke-width="1.6"/>'
-         "</pattern></defs>")
 
 
 class TooMany(Exception):
-    """More entries than a picture has."""
+    """More entries than a picture has, or none."""
 
 
 def tag(name, content=None, title=None, **given):
@@ -62,34 +67,66 @@ def value_of(value):
     return f"{value:.1f}" if isinstance(value, float) else str(value)
 
 
-def label(x, y, text, anchor="start"):
-    return tag("text", escape(text), x=x, y=y, text_anchor=anchor)
+def label(x, y, text, anchor="start", **given):
+    return tag("text", escape(text), x=x, y=y, text_anchor=anchor, **given)
 
 
 def line(one, other, **given):
     return tag("line", x1=one[0], y1=one[1], x2=other[0], y2=other[1], **given)
 
 
+def colour_of(place):
+    """The colour of the transaction of this place."""
+    if place < len(COLOURS):
+        return COLOURS[place]
+    red, green, blue = colorsys.hls_to_rgb(place * 0.381966 % 1, 0.30 + 0.06 * (place % 3), 0.6)
+    return f"#{round(255 * red):02x}{round(255 * green):02x}{round(255 * blue):02x}"
+
+
+def in_order(run):
+    """The moments by stamp, and those of one stamp in the order of the steps, behind the openings."""
+    places = {step.moment: step.place for step in run.steps if step.moment}
+    return sorted(run.moments, key=lambda moment: (moment.entry.stamp, places.get(moment, 0)))
+
+
+def kind_of(moment):
+    """The call, the packet or the step that an entry is of, in a word."""
+    word, *fields = moment.entry.event
+    return fields[1] if word == "call" else fields[2].upper() if word == "deliver" else word
+
+
 class Picture:
     """The moments of a run whose stamps are from one to another."""
 
-    def __init__(self, run, first=None, last=None):
-        self.run = run
-        self.before = [one for one in run.moments if first is not None and one.entry.stamp < first]
-        self.moments = [one for one in run.moments
-                        if (first is None or one.entry.stamp >= first) and (last is None or one.entry.stamp <= last)]
+    def __init__(self, run, first=None, last=None, title=None):
+        self.run, self.all = run, in_order(run)
+        self.before = [one for one in self.all if first is not None and one.entry.stamp < first]
+        self.moments = [one for one in self.all[len(self.before) :] if last is None or one.entry.stamp <= last]
+        self.check(first, last)
+        self.rows = {moment: row for row, moment in enumerate(self.moments)}
+        self.early = set(self.before)
+        self.names = transactions.Names(run)
+        self.colours = {name: colour_of(place) for place, name in enumerate(run.sessions.started)}
+        self.short = {moment: self.said(moment, False) for moment in self.moments}
+        self.longest = max(map(len, self.short.values()))
+        self.bars = self.locks()
+        self.width_of_bars = BAR * (1 + max((slot for *_, slot in self.bars), default=-1))
+        self.legend = Legend(self)
+        self.width = max(self.words_at() + self.longest * LETTER, self.legend.width) + MARGIN
+        self.title = textwrap.wrap(title or run.scenario.title or "A run", int((self.width - 2 * MARGIN) / LETTER))
+        self.heads = MARGIN + FONT + SHADE * len(self.title)
+        self.top = self.heads + 2 * ROW
+        self.bottom = self.top + ROW * len(self.moments)
+        self.height = self.bottom + 2 * ROW + self.legend.height + MARGIN
+
+    def check(self, first, last):
         if len(self.moments) > MOST:
             raise TooMany(f"{len(self.moments):,} entries, where a picture has at most {MOST}: "
                           "choose some of their stamps by --from and --to")
-        self.rows = {moment: row for row, moment in enumerate(self.moments)}
-        self.early = set(self.before)
-        self.short = {moment: self.said(moment, False) for moment in self.moments}
-        self.longest = max(map(len, self.short.values()), default=0)
-        self.bars = self.locks()
-        self.width_of_bars = BAR * (1 + max((slot for *_, slot in self.bars), default=-1))
-        self.heads = MARGIN + FONT
-        self.top = self.heads + 2 * ROW
-        self.bottom = self.top + ROW * len(self.moments)
+        if first is not None and last is not None and last < first:
+            raise TooMany(f"--from {first} is behind --to {last}")
+        if not self.moments:
+            raise TooMany(f"no entry has such a stamp: they are from 1 to {self.all[-1].entry.stamp}")
 
     def said(self, moment, whole):
         """The line of a moment, and the record that it made stable; or as much of this as a row has place for."""
@@ -97,6 +134,9 @@ class Picture:
         stable = f" [{words.record(wrote, moment.site).split(',')[0]}]" if wrote else ""
         said = words.moment_line(self.run.scenario, moment, whole) + stable
         return said if whole or len(said) <= LONGEST else said[: LONGEST - 1] + "\u2026"
+
+    def colour(self, name):
+        return self.colours.get(name, PLAIN)
 
     # Places
 
@@ -110,24 +150,29 @@ class Picture:
         return self.top - 4 if moment in self.early else self.bottom + 4
 
     def words_at(self):
-        return self.x(self.run.scenario.sites - 1) + self.width_of_bars + 70
+        return self.x(self.run.scenario.sites - 1) + self.width_of_bars + 78
 
     # What there is beside the entries
 
     def locks(self):
         """Each lock that is held within the picture, with a slot beside its column that no other has meanwhile."""
         ends, bars = defaultdict(list), []
-        order = {moment: place for place, moment in enumerate(self.run.moments)}
-        seen = [order[moment] for moment in self.moments]
+        order = {moment: place for place, moment in enumerate(self.all)}
+        first, last = order[self.moments[0]], order[self.moments[-1]]
         for lock in sorted(self.run.locks(), key=lambda lock: order[lock.begins]):
             begins, end = order[lock.begins], order[lock.ends] if lock.ends else len(order)
-            if not seen or begins > seen[-1] or end < seen[0]:
+            if begins > last or end < first:
                 continue
             slots = ends[lock.site]
             slot = next((slot for slot, free in enumerate(slots) if free <= begins), len(slots))
             slots[slot : slot + 1] = [end]
             bars.append((lock, slot))
         return bars
+
+    def deliveries(self):
+        """Each packet with each moment that took it, where either end is in the picture."""
+        return [(packet, came) for lane in self.run.lanes.values() for packet in lane for came in packet.came
+                if packet.put_out in self.rows or came in self.rows]
 
     def stays(self, site):
         """The times that a site was up, each from where it came up to where it went down."""
@@ -148,14 +193,20 @@ class Picture:
 
     def background(self):
         right = self.words_at() + self.longest * LETTER + 4
-        return [tag("rect", kind="faint", x=MARGIN, y=self.top + ROW * row, width=right - MARGIN, height=ROW)
-                for row in range(0, len(self.moments), 2)]
+        return [tag("rect", kind="row" if row % 2 else "row faint", x=MARGIN, y=self.top + ROW * row, width=right - MARGIN,
+                    height=ROW, data_row=row) for row in range(len(self.moments))]
+
+    def heading(self):
+        drawn = [label(MARGIN, MARGIN + FONT + SHADE * place, text, kind="title") for place, text in enumerate(self.title)]
+        at = self.heads + SHADE
+        drawn.append(label(MARGIN + STAMPS - 8, at, "stamp", "end"))
+        return drawn + [label(self.words_at() - 30, at, "at")]
 
     def columns(self):
         drawn = []
         for site in range(self.run.scenario.sites):
             x = self.x(site)
-            drawn.append(label(x, self.heads, f"site {site}", "middle"))
+            drawn.append(label(x, self.heads + SHADE, f"site {site}", "middle"))
             for begins, ends in self.stays(site):
                 drawn.append(line((x, begins), (x, ends), kind="column"))
                 if ends < self.bottom:
@@ -167,17 +218,22 @@ class Picture:
         x, ends = self.x(lock.site) + 18 + BAR * slot, self.y(lock.ends) if lock.ends else self.bottom + 4
         begins = self.y(lock.begins)
         title = f"site {lock.site}: {words.objects(lock.objects)} locked by {words.name(lock.name)}"
-        return tag("rect", None, title, kind="lock", x=x, y=begins, width=BAR - 3, height=max(3, ends - begins))
+        return bar_of(x, begins, max(3, ends - begins), self.colour(lock.name), title)
 
     def arrow(self, packet, came):
         """From the entry that put a packet out to one that took it, where it has its head if that is in the picture."""
         begins, bend, ends = self.places(packet, came)
         start, angle = shifted(begins, towards(begins, bend), 5), towards(bend, ends)
+        colour, given = self.colour(self.names.of_packet(packet)), {"kind": "delivery", **self.rows_of(packet, came)}
         title = f"{words.route(packet)}: {words.outcome(came)}"
         if came not in self.rows:
-            return tag("g", curve(start, bend, ends, **line_of(packet.kind)), title, kind="delivery")
-        shaft = curve(start, bend, shifted(ends, angle, -15), **line_of(packet.kind))
-        return tag("g", shaft + head(shifted(ends, angle, -7), angle, came.entry.outcome[0]), title, kind="delivery")
+            return tag("g", curve(start, bend, ends, **line_of(packet.kind, colour)), title, **given)
+        shaft = curve(start, bend, shifted(ends, angle, -15), **line_of(packet.kind, colour))
+        return tag("g", shaft + head(shifted(ends, angle, -7), angle, came.entry.outcome[0], colour), title, **given)
+
+    def rows_of(self, packet, came):
+        ends = ("data_from", packet.put_out), ("data_to", came)
+        return {key: self.rows[moment] for key, moment in ends if moment in self.rows}
 
     def places(self, packet, came):
         """Where an arrow begins, where it bends, and where it ends."""
@@ -189,20 +245,14 @@ class Picture:
         aside = 0 if moment in self.rows else 4 * (reports.PACKETS.index(packet.kind) - 3.5)
         return self.x(site) + aside, self.y(moment)
 
-    def arrows(self):
-        """Of each packet one for each delivery, where either end is in the picture."""
-        packets = [packet for lane in self.run.lanes.values() for packet in lane]
-        return [self.arrow(packet, came) for packet in packets for came in packet.came
-                if packet.put_out in self.rows or came in self.rows]
-
     def stubs(self):
-        """What an entry put out and no site took: to each side a fan of short lines with a bar at their ends."""
+        """What an entry put out and no site took: to each side a fan of short lines, each kind with an end of its own."""
         return [stub for moment in self.moments for side in (-1, 1) for stub in self.fan(moment, side)]
 
     def fan(self, moment, side):
         sends = [one for one in moment.sends if (one.receiver - one.sender) * side > 0]
         lost = [one for one in sends if not one.came]
-        lines = [[one] for one in lost] if len(lost) <= FAN else by_receiver(lost)
+        lines = [[one] for one in lost] if len(lost) <= FAN else by_kind(lost)
         begins, ends = widest([self.slope(one, came) for one in sends for came in one.came])
         return [self.stub(packets, side, begins + (ends - begins) * (place + 0.5) / len(lines))
                 for place, packets in enumerate(lines)]
@@ -213,72 +263,155 @@ class Picture:
         return math.atan2(bend[1] - begins[1], abs(bend[0] - begins[0]))
 
     def stub(self, packets, side, slope):
-        angle = slope if side > 0 else math.pi - slope
-        middle = self.x(packets[0].sender), self.y(packets[0].put_out)
+        angle, moment, kind = slope if side > 0 else math.pi - slope, packets[0].put_out, packets[0].kind
+        middle = self.x(moment.site), self.y(moment)
         begins, ends = shifted(middle, angle, 5), shifted(middle, angle, STUB)
-        across = [shifted(ends, angle + turn, 2) for turn in (math.pi / 2, -math.pi / 2)]
-        kind = "stub slow" if LINES[packets[0].kind][0] > 2 else "stub"
+        colour = self.colour(self.names.of_packet(packets[-1]))
         title = "never delivered: " + "\n".join(map(words.route, packets))
-        return tag("g", line(begins, ends, kind=kind) + line(*across, kind="cap"), title, kind="lost")
+        drawn = line(begins, ends, **line_of(kind, colour)) + stub_end(kind, ends, angle, colour)
+        return tag("g", drawn, title, kind="lost", data_from=self.rows[moment])
 
     def mark(self, moment):
         x, y, entry, drawn = self.x(moment.site), self.y(moment), moment.entry, ""
         if entry.kept:
-            drawn += tag("rect", kind="stable", x=x - 13, y=y - 4, width=8, height=8)
-        if entry.wrote or entry.flight:
-            drawn += tag("circle", kind="stable" if entry.wrote else "flight", cx=x, cy=y, r=4.5)
+            drawn += found_of(x - 13, y - 4, self.colour(self.names.of_record(entry.kept, moment.site)))
+        record = entry.wrote or entry.flight
+        if record:
+            drawn += disc(x, y, self.colour(self.names.of_record(record, moment.site)), "stable" if entry.wrote else "flight")
         elif not entry.kept:
-            drawn += line((x - 5, y), (x + 5, y), kind="none")
+            drawn += line((x - 5, y), (x + 5, y), kind="none", stroke=self.colour(self.names.of_moment(moment)))
         return drawn
 
     def entry(self, moment):
-        """A row: the stamp, the mark, the site, and the words; whoever points at it sees the whole."""
+        """A row: the stamp, the mark, the site, the colour and the words; whoever points at it sees the whole."""
         below, at = self.y(moment) + FONT / 3, self.words_at()
+        name = self.names.of_moment(moment)
         drawn = label(MARGIN + STAMPS - 8, below, str(moment.entry.stamp), "end") + self.mark(moment)
-        drawn += label(at - 22, below, str(moment.site)) + label(at, below, self.short[moment])
-        return tag("g", drawn, f"{self.said(moment, True)}\n{moment.entry.line}", kind="entry")
-
-    # The legend
-
-    def legend(self):
-        """What the marks and the lines are, below all rows, in two columns."""
-        marks = [
-            (lambda x, y: tag("circle", kind="stable", cx=x, cy=y, r=4.5), "a record made stable"),
-            (lambda x, y: tag("circle", kind="flight", cx=x, cy=y, r=4.5), "a record in flight"),
-            (lambda x, y: tag("rect", kind="stable", x=x - 4, y=y - 4, width=8, height=8), "a record that a restart found"),
-            (lambda x, y: line((x - 5, y), (x + 5, y), kind="none"), "no record"),
-            (lambda x, y: tag("rect", kind="lock", x=x - 2, y=y - 7, width=BAR - 3, height=14), "a slow commit's locks"),
-            (lambda x, y: line((x - 12, y), (x, y), **line_of("propagate")) + head((x + 8, y), 0, "taken"),
-             "a packet that is taken"),
-            (lambda x, y: line((x - 12, y), (x, y), **line_of("propagate")) + head((x + 8, y), 0, "passed"),
-             "a packet that changes nothing"),
-            (lambda x, y: line((x - 8, y), (x + 6, y), kind="stub") + line((x + 6, y - 3), (x + 6, y + 3), kind="cap"),
-             "a packet that never came"),
-        ]
-        lines = [(lambda x, y, kind=kind: line((x - 22, y), (x + 16, y), **line_of(kind)), kind.upper()) for kind in LINES]
-        drawn = []
-        for column, parts in enumerate((marks, lines)):
-            for row, (shape, text) in enumerate(parts):
-                x, y = MARGIN + 30 + column * 300, self.bottom + 3 * ROW + row * ROW
-                drawn.append(shape(x, y) + label(x + 24, y + FONT / 3, text))
-        return drawn
+        drawn += label(at - 30, below, str(moment.site)) + label(at, below, self.short[moment])
+        if name in self.colours:
+            drawn += swatch(at - 14, self.y(moment), self.colours[name])
+        title = f"{self.said(moment, True)}\n{moment.entry.line}"
+        return tag("g", drawn, title, kind="entry", data_row=self.rows[moment])
 
     def svg(self):
-        width = max(self.words_at() + self.longest * LETTER + MARGIN, MARGIN + 30 + 300 + 150)
-        height = self.bottom + 3 * ROW + 8 * ROW + MARGIN
-        heads = [label(MARGIN + STAMPS - 8, self.heads, "stamp", "end"), label(self.words_at() - 22, self.heads, "at")]
-        parts = [self.background(), self.columns(), [self.bar(lock, slot) for lock, slot in self.bars], heads,
-                 self.stubs(), self.arrows(), [self.entry(moment) for moment in self.moments], self.legend()]
+        parts = [self.background(), self.heading(), self.columns(), [self.bar(lock, slot) for lock, slot in self.bars],
+                 self.stubs(), [self.arrow(packet, came) for packet, came in self.deliveries()],
+                 [self.entry(moment) for moment in self.moments], self.legend.parts(self.bottom + 2 * ROW)]
         body = "\n".join(part for some in parts for part in some)
-        size = f'width="{width:.0f}" height="{height:.0f}" viewBox="0 0 {width:.0f} {height:.0f}"'
-        return (f'<svg xmlns="http://www.w3.org/2000/svg" {size}>\n<style>{STYLE}</style>\n{HATCH}\n'
+        size = f'width="{self.width:.0f}" height="{self.height:.0f}" viewBox="0 0 {self.width:.0f} {self.height:.0f}"'
+        return (f'<svg xmlns="http://www.w3.org/2000/svg" {size}>\n<style>{STYLE}</style>\n'
                 f'<rect width="100%" height="100%" fill="#fff"/>\n{body}\n</svg>\n')
 
 
-def by_receiver(packets):
+class Legend:
+    """What the marks, the records, the packets and the transactions of a picture are, of those that occur, in two columns."""
+
+    def __init__(self, picture):
+        self.picture = picture
+        entries = [moment.entry for moment in picture.moments]
+        self.columns = [[*self.marks(entries), *self.records(entries)], [*self.packets(), *self.transactions()]]
+        self.aside = MARGIN + 92 + LETTER * max(len(text) for _, text in self.columns[0])
+        self.width = self.aside + 32 + LETTER * max((len(text) for _, text in self.columns[1]), default=0)
+        self.height = ROW * max(map(len, self.columns))
+
+    def marks(self, entries):
+        came = {moment.entry.outcome[0] for _, moment in self.picture.deliveries() if moment in self.picture.rows}
+        lost = any(not one.came for moment in self.picture.moments for one in moment.sends)
+        marks = [
+            (any(one.wrote for one in entries), lambda x, y: disc(x, y, PLAIN, "stable"), "a record made stable"),
+            (any(one.flight for one in entries), lambda x, y: disc(x, y, PLAIN, "flight"), "a record in flight"),
+            (any(one.kept for one in entries), lambda x, y: found_of(x - 4, y - 4, PLAIN), "a record that a restart found"),
+            (any(not (one.wrote or one.flight or one.kept) for one in entries),
+             lambda x, y: line((x - 5, y), (x + 5, y), kind="none", stroke=PLAIN), "no record"),
+            (self.picture.bars, lambda x, y: bar_of(x - 2, y - 7, 14, PLAIN), "a slow commit's locks"),
+            ("taken" in came, lambda x, y: arrow_of(x, y, "taken"), "a packet that is taken"),
+            (came - {"taken"}, lambda x, y: arrow_of(x, y, "passed"), "a packet that changes nothing"),
+            (lost, lambda x, y: stub_of(x, y, "propagate"), "a packet that never came"),
+        ]
+        return [(shape, text) for occurs, shape, text in marks if occurs]
+
+    def records(self, entries):
+        kinds = {record.kind for one in entries for record in (one.kept, one.wrote, one.flight) if record}
+        return [(None, f"{kind}: {text}") for kind, text in words.RECORDS.items() if kind in kinds]
+
+    def packets(self):
+        sends = [one for moment in self.picture.moments for one in moment.sends]
+        kinds = {one.kind for one in sends} | {packet.kind for packet, _ in self.picture.deliveries()}
+        lost = {one.kind for one in sends if not one.came}
+        return [(lambda x, y, kind=kind: sample(x, y, kind, kind in lost), f"{kind.upper()}: {text}")
+                for kind, text in words.PACKETS.items() if kind in kinds]
+
+    def transactions(self):
+        picture = self.picture
+        occur = {picture.names.of_moment(moment) for moment in picture.moments}
+        occur |= {picture.names.of_packet(packet) for packet, _ in picture.deliveries()}
+        occur |= {lock.name for lock, _ in picture.bars}
+        return [(lambda x, y, colour=colour: swatch(x, y, colour), self.told(name))
+                for name, colour in picture.colours.items() if name in occur]
+
+    def told(self, name):
+        """A transaction, with its client, and its version where it was committed."""
+        client = self.picture.run.scenario.names[self.picture.run.sessions.started[name].client]
+        version = self.picture.names.versions.get(name)
+        return f"{words.name(name)} of {client}" + (f": committed {words.pair(version)}" if version else "")
+
+    def parts(self, top):
+        drawn = []
+        for at, rows in zip((MARGIN + 28, self.aside), self.columns):
+            for row, (shape, text) in enumerate(rows):
+                y = top + ROW * row
+                drawn.append((shape(at, y) if shape else "") + label(at + 24 if shape else at - 8, y + FONT / 3, text))
+        return drawn
+
+
+# ---- shapes
+
+
+def disc(x, y, colour, kind):
+    return tag("circle", kind=kind, cx=x, cy=y, r=4.5, stroke=colour, fill=colour if kind == "stable" else "#fff")
+
+
+def found_of(x, y, colour):
+    return tag("rect", kind="found", x=x, y=y, width=8, height=8, fill=colour)
+
+
+def bar_of(x, y, height, colour, title=None):
+    return tag("rect", None, title, kind="lock", x=x, y=y, width=BAR - 3, height=height, fill=colour, stroke=colour)
+
+
+def swatch(x, y, colour):
+    return tag("rect", kind="swatch", x=x - 3, y=y - 6, width=6, height=12, rx=2, fill=colour)
+
+
+def arrow_of(x, y, outcome):
+    return line((x - 12, y), (x, y), **line_of("propagate", PLAIN)) + head((x + 8, y), 0, outcome, PLAIN)
+
+
+def stub_of(x, y, kind):
+    return line((x - 12, y), (x + 6, y), **line_of(kind, PLAIN)) + stub_end(kind, (x + 6, y), 0, PLAIN)
+
+
+def sample(x, y, kind, is_lost):
+    """The line of a kind of packet, with its end where some never came."""
+    drawn = line((x - 22, y), (x + 14, y), **line_of(kind, PLAIN))
+    return drawn + (stub_end(kind, (x + 14, y), 0, PLAIN) if is_lost else "")
+
+
+def stub_end(kind, place, angle, colour):
+    """The end of a packet that never came: a bar, a disc, a ring or a cross, of spreading and of slow commits alike."""
+    shape, (x, y), size = reports.PACKETS.index(kind) % 4, place, 3.5
+    if shape == 1:
+        return tag("circle", kind="end", cx=x, cy=y, r=2.5, stroke=colour, fill="#fff")
+    if shape == 2:
+        return tag("circle", kind="end full", cx=x, cy=y, r=2.5, stroke=colour, fill=colour)
+    turns = [(math.pi / 2, -math.pi / 2)] if shape == 0 else [(0.8, 0.8 + math.pi), (-0.8, math.pi - 0.8)]
+    return "".join(line(*(shifted(place, angle + turn, size) for turn in pair), kind="end", stroke=colour) for pair in turns)
+
+
+def by_kind(packets):
     by = defaultdict(list)
     for packet in packets:
-        by[packet.receiver].append(packet)
+        by[packet.kind].append(packet)
     return list(by.values())
 
 
@@ -310,12 +443,14 @@ def shifted(place, angle, by):
     return place[0] + by * math.cos(angle), place[1] + by * math.sin(angle)
 
 
-def line_of(kind, what="arrow"):
+def line_of(kind, colour):
     width, dashes = LINES[kind]
-    return {"kind": what + (" slow" if width > 2 else ""), "stroke_width": width, "stroke_dasharray": dashes}
+    return {"kind": "arrow", "stroke": colour, "stroke_width": width, "stroke_dasharray": dashes}
 
 
-def head(tip, angle, outcome):
+def head(tip, angle, outcome, colour):
     sides = [shifted(tip, angle + turn, -9) for turn in (0.38, -0.38)]
     points = " ".join(f"{x:.1f},{y:.1f}" for x, y in [tip, *sides])
-    return tag("polygon", kind="head " + ("taken" if outcome == "taken" else "passed"), points=points)
+    is_taken = outcome == "taken"
+    return tag("polygon", kind="head " + ("taken" if is_taken else "passed"), points=points, stroke=colour,
+               fill=colour if is_taken else "#fff")

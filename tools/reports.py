@@ -236,7 +236,7 @@ class Reading:
     """A report while it is read, line by line."""
 
     def __init__(self, text):
-        if not text.endswith("\n"):
+        if text and not text.endswith("\n"):
             raise wrong(text.count("\n") + 1, "a line feed at the end of the report")
         self.lines, self.at = text[:-1].split("\n"), 0
 

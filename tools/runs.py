@@ -9,8 +9,12 @@ from collections import Counter, namedtuple
 
 import reports
 import scripts
+import transactions
+import wants
 
 Wrong = reports.Wrong
+# How many own commits above what a peer has acknowledged are sent to it.
+WINDOW = 64
 # What came of a step: its place among the steps, the line of the script that it stands in, the step itself, the call that a
 # turn made, and the moment or the reply that it came to; or else why it came to nothing.
 Step = namedtuple("Step", "place line made call moment reply why", defaults=(None,) * 4)
@@ -33,7 +37,7 @@ def script_of(text):
         return scripts.read_script(scripts.script_of(text)), True
     except scripts.Wrong:
         # Lines of a script that was made of JSON are nobody's.
-        raise scripts.Wrong(scripts.NO_SCENARIO) from None
+        raise scripts.NoScenario from None
 
 
 def calls_of(sent):
@@ -50,11 +54,19 @@ def calls_of(sent):
     return calls, sent[at:]
 
 
-class Scenario:
-    """A scenario, with the names and the lines of its script. One that is JSON has client0 and so on, and no lines."""
+def title_of(text):
+    """The first line of a script, where it is a comment."""
+    first = text.lstrip().split("\n")[0]
+    title = first[1:].strip() if first.startswith("#") else ""
+    return "".join(letter if letter.isprintable() else " " for letter in title)
 
-    def __init__(self, text):
-        script, is_json = script_of(text)
+
+class Scenario:
+    """A scenario, with the title, the names and the lines of its script. JSON has client0 and so on, and no title and lines."""
+
+    def __init__(self, text, script=None):
+        script, is_json = (script, False) if script else script_of(text)
+        self.script, self.title = script, "" if is_json else title_of(text)
         self.sites, self.tolerated = script.sites, script.tolerated
         self.containers = {number: (kind, site) for number, kind, site in script.containers}
         self.names = list(script.numbers)
@@ -87,11 +99,12 @@ Says = namedtuple("Says", "number transaction name objects against", defaults=(N
 
 
 class Moment:
-    """An entry, with the call or the packet that it took, and the packets that it put out."""
+    """An entry, with the call or the packet that it took, what was wanting to change anything, and what it put out."""
 
     def __init__(self, entry):
         self.entry, self.site = entry, entry.site
-        self.call = self.packet = self.news = None
+        # `name` is the transaction of a call, and `acked` how many commits the sender of an ACK had acknowledged before.
+        self.call = self.packet = self.news = self.name = self.acked = self.wanting = None
         self.sends = []
 
 
@@ -118,12 +131,12 @@ class Site:
         self.log, self.held = [], {}
         self.got, self.committed = [0] * scenario.sites, [0] * scenario.sites
         self.slows, self.locks, self.over, self.all_locks = {}, {}, set(), []
-        self.floors, self.last = (0, 0), 0
+        self.floors, self.flight = (0, 0), None
         self.go_down()
 
     def go_down(self):
         """What no record tells is lost."""
-        self.acked, self.counted = Counter(), 0
+        self.acked, self.durable_at, self.seen_by, self.counted = Counter(), Counter(), Counter(), 0
 
     def learn(self, record, moment):
         learns = {"Boot": self.boot, "Own": self.own, "Got": self.receive, "Seen": self.see, "Prepared": self.prepared,
@@ -216,15 +229,23 @@ class Site:
                     return "modified", oid, (site, number)
             for lock in self.locks.values():
                 if oid in lock.objects:
-                    return "locked", oid, lock.name
+                    return self.over_lock(oid, lock.name, asking.snapshot)
         return None
+
+    def over_lock(self, oid, owner, snapshot):
+        """A lock is in the way where its owner is known to be outside the snapshot; else this site is to be asked again."""
+        if any(has < seen for has, seen in zip(self.got, snapshot)):
+            return "later", oid, owner, "missing"
+        if any(transaction.name == owner and number <= snapshot[site] for site, number, transaction in self.log):
+            return "later", oid, owner, "seen"
+        return "locked", oid, owner
 
     # What a packet says that is put out at a moment: the nth of its kind to this receiver.
 
     def says(self, kind, receiver, nth, moment):
         record = moment.entry.wrote
         if kind == "propagate":
-            number = record.number if record and record.kind == "Own" else self.acked[receiver] + 1 + nth
+            number = record.number if record and record.kind == "Own" else self.first_of(receiver, moment) + nth
             return Says(number, self.held.get((self.me, number)))
         if kind == "ack":
             return Says(self.got[receiver])
@@ -240,6 +261,11 @@ class Site:
         if moment.packet is None:
             return Says(None)
         return self.says_vote(moment) if kind == "vote" else Says(moment.packet.says.number)
+
+    def first_of(self, receiver, moment):
+        """The first commit that a Tick says again to a peer, or that comes into the peer's window by its ACK."""
+        last = moment.acked + WINDOW if moment.acked is not None else 0
+        return max(self.acked[receiver], last) + 1
 
     def nth_of(self, nth, receiver, stands, done):
         """The number of a slow commit that a Tick speaks of to this receiver."""
@@ -264,14 +290,26 @@ class Site:
 
     # What a packet that was taken leaves, beside its record.
 
-    def hear(self, packet):
-        number = packet.says.number
-        if packet.kind == "ack":
-            self.acked[packet.sender] = number
+    def hear(self, moment):
+        packet, number = moment.packet, moment.packet.says.number
+        if packet.kind in ("ack", "dsmark", "visible"):
+            said = {"ack": self.acked, "dsmark": self.durable_at, "visible": self.seen_by}[packet.kind]
+            moment.acked = self.acked[packet.sender] if packet.kind == "ack" else None
+            said[packet.sender] = number or said[packet.sender]
         elif packet.kind == "vote" and number in self.slows and not packet.says.against:
             self.slows[number].yes.add(packet.sender)
         elif packet.kind == "released" and number in self.slows:
             self.slows[number].confirmed.add(packet.sender)
+
+
+def at_of(record):
+    """The version of a commit of another site."""
+    return record.site, record.number
+
+
+def check_answer(place, name, frame, reply):
+    if not transactions.may_answer(frame, reply):
+        raise reports.wrong(place, f"an answer to {name}: {scripts.words_of(frame) or 'a bad frame'}")
 
 
 class Run:
@@ -282,7 +320,7 @@ class Run:
         self.check_report()
         self.sites = [Site(scenario, me) for me in range(scenario.sites)]
         self.lanes = {(one, other): [] for one in range(scenario.sites) for other in range(scenario.sites) if one != other}
-        self.made = Counter()
+        self.made, self.sessions = Counter(), transactions.Sessions()
         self.moments = [self.moment(entry) for entry in report.entries]
         self.arms = []
         self.steps = Steps(self).all() if report.entries else list(replies_of(self))
@@ -298,18 +336,21 @@ class Run:
 
     def moment(self, entry):
         moment, site = Moment(entry), self.sites[entry.site]
+        self.check_records(entry)
         if entry.event[0] == "call":
             moment.call = self.next_call(entry)
+            moment.name = self.sessions.take(*moment.call, reports.reply_of(entry.outcome[1]))
         elif entry.event[0] == "deliver":
             moment.packet = self.packet(entry)
             moment.packet.came.append(moment)
+        moment.wanting = wants.of(site, moment)
         before = site.floors
         for record in (entry.kept, entry.wrote):
             if record:
                 site.learn(record, moment)
         moment.news = tuple(now if now > was else None for was, now in zip(before, site.floors))
         if moment.packet and entry.outcome[0] == "taken":
-            site.hear(moment.packet)
+            site.hear(moment)
         if reports.goes_down(entry):
             site.go_down()
         self.put_out(moment, site)
@@ -322,7 +363,28 @@ class Run:
         words = scripts.words_of(calls[made])
         if (words.split()[0] if words else "bad") != name:
             raise reports.wrong(entry.place, f"the next call of {self.scenario.names[client]}")
+        self.check_call(entry, client, calls[made])
         return client, calls[made]
+
+    def check_call(self, entry, client, frame):
+        """A call is answered as it may be, and what it records is the client's transaction."""
+        name, record = self.scenario.names[client], entry.wrote or entry.flight
+        check_answer(entry.place, name, frame, reports.reply_of(entry.outcome[1]))
+        if record and not (record.transaction and self.sessions.has(client, record.transaction)):
+            raise reports.wrong(entry.place, f"a record of what {name} has done since its start")
+
+    def check_records(self, entry):
+        """What a restart finds was in flight, and what a site receives or decides is what was committed or begun."""
+        site, record = self.sites[entry.site], entry.wrote or entry.flight
+        if entry.kept and entry.kept != site.flight:
+            raise reports.wrong(entry.place, "the record that was in flight")
+        site.flight = entry.flight or (None if entry.wrote or entry.kept else site.flight)
+        if record and record.kind == "Got" and record.transaction != self.sites[record.site].held.get(at_of(record)):
+            raise reports.wrong(entry.place, "the transaction that its site has committed")
+        if record and record.kind == "Own" and entry.event[0] == "deliver":
+            slow = site.slows.get(record.transaction.slow)
+            if slow is None or slow.transaction != record.transaction:
+                raise reports.wrong(entry.place, "the transaction of the slow commit")
 
     def packet(self, entry):
         _, sender, number, kind = entry.event
@@ -383,7 +445,7 @@ class Steps:
         if self.is_spent(where):
             return step._replace(why=f"the trail of site {where} is spent")
         if word == "deliver" and more[1] > self.out[more[0], where]:
-            return step._replace(why="no such packet was put out")
+            return step._replace(why=f"no such packet was put out: site {more[0]} had put out {self.out[more[0], where]} to it")
         return step._replace(moment=self.next_of(where, (word, *more), step))
 
     def turn(self, step, client):
@@ -442,6 +504,7 @@ def replies_of(run):
         calls, replies = run.scenario.calls[client], run.report.clients[client].replies
         if turns[client] < len(replies):
             call, reply = (client, calls[turns[client]]), replies[turns[client]]
+            check_answer(client + 2, run.scenario.names[client], call[1], reports.reply_of(reply))
             turns[client] += 1
             yield step._replace(call=call, reply=reply)
         elif turns[client] == len(calls):

@@ -1,13 +1,13 @@
 """Scenarios as scripts: lines that people write, made into the JSON that `walter play` takes, and made of it again.
 
-Stands on docs/FORMATS.md alone. Nothing here is proved.
+Stands on docs/FORMATS.md; names.py works out by the plain model what a script says by name. Nothing here is proved.
 """
 
 import functools
 import json
 import re
 import struct
-from collections import namedtuple
+from collections import Counter, namedtuple
 
 # What each operation has behind its number, by docs/FORMATS.md, "Frames of a client".
 OPERATIONS = {
@@ -24,6 +24,7 @@ OPERATIONS = {
 }
 WORDS = {number: word for word, (number, _) in OPERATIONS.items()}
 MOST_BODY = 65536
+PACKETS = ("PROPAGATE", "ACK", "DSMARK", "VISIBLE", "PREPARE", "VOTE", "RELEASE", "RELEASED")
 
 DIGITS = re.compile("[0-9]{1,20}")
 NAME = r"[A-Za-z_][A-Za-z0-9_-]*"
@@ -42,17 +43,63 @@ NUMBERS = {
     "transaction": (">BIQ", ".", "a transaction as site.epoch.number"),
 }
 STEPS = ("arm", "stop", "restart", "deliver", "advance", "tick")
-MOST_SITES, MOST_PACKET = 8, (1 << 32) - 1
-NO_SCENARIO = "wants a scenario, as docs/FORMATS.md has it"
+MOST_SITES, MOST_CONTAINERS, MOST_CLIENTS, MOST_PACKET = 8, 256, 1024, (1 << 32) - 1
+LEAST_CAPACITY, MOST_CAPACITY, MOST_BYTES = 19, 1 << 40, 16_777_216
+# No step, container, client or arm takes as much in a scenario, but for a client's bytes.
+MOST_WORDS = 64
+# How many faults of a script are told.
+MOST_FAULTS = 20
+
+# What is wrong in a line: its number, the word that is wrong as it is quoted, what is wanted, and the form of such a line.
+Fault = namedtuple("Fault", "place word wants form")
 
 
 class Wrong(Exception):
-    """A line, or a scenario, that isn't one."""
+    """A script that isn't one: its faults, by their lines."""
+
+    def __init__(self, faults):
+        super().__init__()
+        self.faults = faults
+
+    def __str__(self):
+        return "\n".join(self.told("line "))
+
+    def in_file(self, name):
+        """The faults as those of a file."""
+        return "\n".join(self.told(f"{name}, line "))
+
+    def told(self, before):
+        for fault in self.faults[:MOST_FAULTS]:
+            form = f"; the form is {fault.form}" if fault.form else ""
+            yield f"{before}{fault.place}: {fault.word}wants {fault.wants}{form}"
+        if len(self.faults) > MOST_FAULTS:
+            yield f"and {len(self.faults) - MOST_FAULTS} more"
+
+
+class NoScenario(Wrong):
+    """JSON that is no scenario."""
+
+    def __init__(self):
+        super().__init__([])
+
+    def __str__(self):
+        return "wants a scenario, as docs/FORMATS.md has it"
+
+    def in_file(self, name):
+        return f"{name}: {self}"
+
+
+class Unfit(Exception):
+    """A word that doesn't fit, and what is wanted in its place. Where no form is told it is that of the line."""
+
+    def __init__(self, word, wants, form=None):
+        super().__init__(word, wants)
+        self.word, self.wants, self.form = word, wants, form
 
 
 def number(text, least, below, what):
     if not DIGITS.fullmatch(text) or not least <= int(text) < below:
-        raise Wrong(what)
+        raise Unfit(text, what)
     return int(text)
 
 
@@ -65,10 +112,10 @@ def value_of(tokens):
     if first == "hex" and tokens and re.fullmatch(r"([0-9a-fA-F]{2})+", tokens[0]):
         return bytes.fromhex(tokens.pop(0))
     if not re.fullmatch(TEXT, first):
-        raise Wrong('a value as "text" or hex DIGITS')
+        raise Unfit(first, 'a value as "text" or hex DIGITS')
     pieces = ESCAPE.split(first[1:-1])
     if any("\\" in piece for piece in pieces[::2]):
-        raise Wrong(r'a text whose escapes are \", \\, \n and \x with two digits')
+        raise Unfit(first, r'a text whose escapes are \", \\, \n and \x with two digits')
     plain = {"n": b"\n", '"': b'"', "\\": b"\\"}
     return b"".join(
         piece.encode() if place % 2 == 0 else plain.get(piece) or bytes.fromhex(piece[1:])
@@ -82,10 +129,19 @@ def field_of(kind, tokens):
         value = value_of(tokens)
         return struct.pack(">I", len(value)) + value
     packed, between, wants = NUMBERS[kind]
-    parts, limits = (tokens.pop(0) if tokens else "").split(between), [LIMITS[size] for size in packed[1:]]
+    word, limits = tokens.pop(0) if tokens else "", [LIMITS[size] for size in packed[1:]]
+    parts = word.split(between)
     if len(parts) != len(limits):
-        raise Wrong(wants)
-    return struct.pack(packed, *(number(part, 0, limit, wants) for part, limit in zip(parts, limits)))
+        raise Unfit(word, wants)
+    try:
+        return struct.pack(packed, *(number(part, 0, limit, wants) for part, limit in zip(parts, limits)))
+    except Unfit:
+        raise Unfit(word, wants) from None
+
+
+def form_of(word):
+    """How the line of a request is to be."""
+    return " ".join(["NAME:", word, *(kind.upper() for kind in OPERATIONS[word][1])])
 
 
 @functools.lru_cache(maxsize=16384)
@@ -94,11 +150,16 @@ def frame_of(words):
     tokens = TOKEN.findall(words)
     word = tokens.pop(0) if tokens else ""
     if word not in OPERATIONS:
-        raise Wrong(f"bytes, again, or one of {', '.join(OPERATIONS)}")
+        raise Unfit(word, f"bytes, again, or one of {', '.join(OPERATIONS)}", "NAME: OPERATION ..")
     operation, kinds = OPERATIONS[word]
-    body = bytes([operation]) + b"".join(field_of(kind, tokens) for kind in kinds)
+    try:
+        body = bytes([operation]) + b"".join(field_of(kind, tokens) for kind in kinds)
+    except Unfit as unfit:
+        raise Unfit(unfit.word, unfit.wants, form_of(word)) from None
     if tokens:
-        raise Wrong(f"nothing behind {word}" + "".join(f" {kind}" for kind in kinds))
+        raise Unfit(tokens[0], "nothing there", form_of(word))
+    if len(body) > MOST_BODY:
+        raise Unfit(word, f"a request of at most {MOST_BODY} bytes, and not of {len(body)}", form_of(word))
     return struct.pack(">I", len(body)) + body
 
 
@@ -131,7 +192,7 @@ def words_of(frame):
             words.append(text)
         line = " ".join(words)
         return line if frame_of(line) == frame else None
-    except (struct.error, Wrong):
+    except (struct.error, Unfit):
         return None
 
 
@@ -152,15 +213,24 @@ def front(sent, at):
 # ---- scripts
 
 
+# What the lines of a script say: a client's request with its turn, where `last` asks for the level of the transaction that it
+# started last; bytes without a turn; a step by its numbers; and what is said by name, which names.py works out.
+Turn = namedtuple("Turn", "place client frame last", defaults=(False,))
+Sent = namedtuple("Sent", "place client sent")
+Step = namedtuple("Step", "place made")
+Named = namedtuple("Named", "place word fields")
+LEVEL_OF_NONE = frame_of("level 0.0.0")
+
+
 class Script:
     """A script while it is read, line by line. `places` has the line of each step, and `armed_at` that of each arm."""
 
     def __init__(self):
         self.place = 0
         self.sites = self.tolerated = self.capacity = None
-        self.containers, self.arms, self.steps = [], [], []
-        self.clients, self.numbers = [], {}
-        self.places, self.armed_at = [], []
+        self.containers, self.arms, self.armed_at = [], [], []
+        self.clients, self.numbers, self.items = [], {}, []
+        self.steps, self.places = [], []
 
     def site(self, text):
         return number(text, 0, self.sites, f"a site below {self.sites}")
@@ -169,7 +239,7 @@ class Script:
         """The site at which something comes, and the one from which it comes."""
         here, there = self.site(one), self.site(other)
         if here == there:
-            raise Wrong(f"a site below {self.sites} other than {here}")
+            raise Unfit(other, f"a site below {self.sites} other than {here}")
         return [here, there]
 
     def fault(self, site, nth, choice):
@@ -177,36 +247,43 @@ class Script:
         return [self.site(site), nth, number(choice, 0, 1 << 64, "a choice below 2^64")]
 
     def step(self, *made):
-        self.steps.append(list(made))
-        self.places.append(self.place)
+        self.items.append(Step(self.place, list(made)))
+
+    def named(self, word, *fields):
+        self.items.append(Named(self.place, word, fields))
 
     # The lines without a colon, in the order of FORMS.
 
     def take_sites(self, sites, tolerated):
         if self.sites is not None:
-            raise Wrong("the sites once")
-        self.sites = number(sites, 1, MOST_SITES + 1, f"a number of sites from 1 to {MOST_SITES}")
-        self.tolerated = number(tolerated, 0, self.sites, "fewer sites that may be lost than there are")
+            raise Unfit("sites", "the sites once")
+        try:
+            self.sites = number(sites, 1, MOST_SITES + 1, f"a number of sites from 1 to {MOST_SITES}")
+            self.tolerated = number(tolerated, 0, self.sites, f"fewer sites that may be lost than the {sites} that there are")
+        finally:
+            # The lines behind a wrong one are read all the same.
+            self.sites = self.sites or MOST_SITES
 
     def take_capacity(self, size):
-        self.capacity = number(size, 0, 1 << 64, "a whole number of bytes")
-
-    def take_regular(self, which, site):
-        self.take_container(which, "regular", site)
-
-    def take_set(self, which, site):
-        self.take_container(which, "cset", site)
+        self.capacity = number(size, LEAST_CAPACITY, MOST_CAPACITY + 1,
+                               f"a number of bytes from {LEAST_CAPACITY} to {MOST_CAPACITY}")
 
     def take_container(self, which, kind, site):
         least = self.containers[-1][0] + 1 if self.containers else 0
-        which = number(which, least, 1 << 32, f"a number of a container from {least}, below 2^32")
-        self.containers.append([which, kind, self.site(site)])
+        number(which, least, 1 << 32, f"a number of a container from {least}, below 2^32")
+        if len(self.containers) == MOST_CONTAINERS:
+            raise Unfit(which, f"at most {MOST_CONTAINERS} containers")
+        self.containers.append([int(which), "cset" if kind == "set" else kind, self.site(site)])
 
     def take_client(self, name, site):
         if not re.fullmatch(NAME, name) or name in self.numbers:
-            raise Wrong("a client's name that is new: letters, digits, _ and -, no digit first")
+            raise Unfit(name, "a client's name that is new: letters, digits, _ and -, no digit first")
+        # The name is taken though its site is wrong, so that the lines of the client are read.
         self.numbers[name] = len(self.clients)
-        self.clients.append([self.site(site), bytearray()])
+        self.clients.append([0, b""])
+        home = self.clients[-1][0] = self.site(site)
+        if sum(client[0] == home for client in self.clients) > MOST_CLIENTS:
+            raise Unfit(name, f"at most {MOST_CLIENTS} clients of a site")
 
     def take_armed(self, *fault):
         self.arms.append(self.fault(*fault))
@@ -223,45 +300,66 @@ class Script:
 
     def take_deliver(self, receiver, sender, packet):
         sites = self.two_sites(receiver, sender)
-        wanted = f"a packet's number from 1 to {MOST_PACKET}"
-        self.step("deliver", *sites, number(packet, 1, MOST_PACKET + 1, wanted))
+        self.step("deliver", *sites, packet_number(packet))
+
+    def take_deliver_by_name(self, receiver, sender, kind, which, again):
+        self.named("deliver", *self.two_sites(receiver, sender), *packet_kind(kind, which), again is not None)
+
+    def take_lose(self, receiver, sender, packet):
+        self.named("lose", *self.two_sites(receiver, sender), None, packet_number(packet))
+
+    def take_lose_by_name(self, receiver, sender, kind, which):
+        self.named("lose", *self.two_sites(receiver, sender), *packet_kind(kind, which))
 
     def take_advance(self, here, there):
         self.step("advance", *self.two_sites(here, there))
 
+    def take_advance_to(self, here):
+        self.named("advance", self.site(here))
+
     def take_tick(self, site):
         self.step("tick", self.site(site))
 
+    def take_settle(self, site):
+        self.named("settle", None if site is None else self.site(site))
+
     def declare(self, words):
         """Takes a line without a colon."""
-        first = words.split(maxsplit=1)[0]
-        if self.sites is None and first != "sites":
-            raise Wrong("sites N tolerated F first")
-        for form in FORMS_OF.get(first, ()):
-            given = form.pattern.fullmatch(words)
-            if given:
-                return form.take(self, *given.groups())
-        raise Wrong("one of " + "; ".join([*FORMS, "NAME: OPERATION .."]))
+        tokens = words.split()
+        forms = FORMS_OF.get(tokens[0])
+        if self.sites is None and tokens[0] != "sites":
+            raise Unfit(tokens[0], "sites N tolerated F first")
+        if tokens[0] in self.numbers and not forms:
+            raise Unfit(tokens[0], f"a colon behind the client: {tokens[0]}: OPERATION ..")
+        if not forms:
+            raise Unfit(tokens[0], f"one of {', '.join(FORMS_OF)}, or NAME: OPERATION ..")
+        try:
+            for form in forms:
+                given = form.pattern.fullmatch(words)
+                if given:
+                    return form.take(self, *given.groups())
+            raise misfit(forms, tokens)
+        except Unfit as unfit:
+            raise Unfit(unfit.word, unfit.wants, " or ".join(form.text for form in forms)) from None
 
     def turn(self, name, words):
         """Takes a line of a client: a request and its turn, bytes without a turn, or a turn without bytes."""
         if name not in self.numbers:
-            raise Wrong(f"a client that was declared by client {name} at SITE")
+            raise Unfit(name, f"a client that was declared by client {name} at SITE")
         client, tokens = self.numbers[name], TOKEN.findall(words)
-        if tokens[:1] == ["bytes"] and len(tokens) == 2:
-            if not re.fullmatch(r"([0-9a-fA-F]{2})+", tokens[1]):
-                raise Wrong("an even number of hex digits behind bytes")
-            self.clients[client][1] += bytes.fromhex(tokens[1])
-            return
-        if tokens != ["again"]:
-            self.clients[client][1] += frame_of(words)
-        self.step("call", client)
+        if tokens[:1] == ["bytes"]:
+            if len(tokens) != 2 or not re.fullmatch(r"([0-9a-fA-F]{2})+", tokens[1]):
+                raise Unfit(" ".join(tokens[1:]), "an even number of hex digits", "NAME: bytes DIGITS")
+            self.items.append(Sent(self.place, client, bytes.fromhex(tokens[1])))
+        elif tokens == ["again"]:
+            self.items.append(Turn(self.place, client, b""))
+        elif tokens == ["level", "last"]:
+            self.items.append(Turn(self.place, client, LEVEL_OF_NONE, True))
+        else:
+            self.items.append(Turn(self.place, client, frame_of(words)))
 
     def take(self, line):
-        code = CODE.match(line)
-        if code is None:
-            raise Wrong('a text that ends: "..."')
-        words = code[1].strip()
+        words = code_of(line).strip()
         if not words:
             return
         turn = LINE.fullmatch(words)
@@ -270,65 +368,213 @@ class Script:
         else:
             self.declare(words)
 
-    def scenario(self):
+    def sends(self):
+        """The bytes of each client, as far as its lines have them."""
+        sent = [[] for _ in self.clients]
+        for item in self.items:
+            if isinstance(item, Turn):
+                sent[item.client].append(item.frame)
+            elif isinstance(item, Sent):
+                sent[item.client].append(item.sent)
+        return [bytearray(b"".join(frames)) for frames in sent]
+
+    def has_names(self):
+        return any(isinstance(item, Named) or isinstance(item, Turn) and item.last for item in self.items)
+
+    def lay_out(self):
+        """Makes the steps and the clients' bytes of the lines."""
+        if self.has_names():
+            import names
+
+            course = names.Course(self)
+            course.play()
+            self.steps, self.places, sent = course.steps, course.places, course.sent
+        else:
+            made = [(["call", item.client] if isinstance(item, Turn) else item.made, item.place)
+                    for item in self.items if not isinstance(item, Sent)]
+            self.steps, self.places, sent = [step for step, _ in made], [place for _, place in made], self.sends()
+        for client, its in zip(self.clients, sent):
+            client[1] = bytes(its)
+
+    def head(self):
+        """What a scenario has beside its clients and its steps."""
         made = {"sites": self.sites, "f": self.tolerated, "containers": self.containers}
         if self.capacity is not None:
             made["capacity"] = self.capacity
         if self.arms:
             made["arms"] = self.arms
-        made["clients"] = [[site, sent.hex()] for site, sent in self.clients]
-        made["steps"] = self.steps
         return made
 
+    def scenario(self):
+        return {**self.head(), "clients": [[site, sent.hex()] for site, sent in self.clients], "steps": self.steps}
 
-# What a line without a colon may be: capitals stand for what is given there.
+
+def code_of(line):
+    """A line without its comment."""
+    if '"' not in line:
+        return line.split("#", 1)[0]
+    code = CODE.match(line)
+    if code is None:
+        raise Unfit(line[line.index('"') :].strip(), 'a text that ends: "..."')
+    return code[1]
+
+
+def packet_number(text):
+    return number(text, 1, MOST_PACKET + 1, f"a packet's number from 1 to {MOST_PACKET}")
+
+
+def packet_kind(kind, which):
+    """The kind of a packet and the number that it says, which may be absent."""
+    if kind not in PACKETS:
+        raise Unfit(kind, f"packet N, or one of {', '.join(PACKETS)}")
+    return kind, None if which is None else number(which, 0, 1 << 64, "a number below 2^64")
+
+
+# What a line without a colon may be: capitals stand for what is given there, and brackets for what may be absent.
 FORMS = {
     "sites N tolerated F": Script.take_sites,
     "capacity N": Script.take_capacity,
-    "container N regular at SITE": Script.take_regular,
-    "container N set at SITE": Script.take_set,
+    "container N regular|set at SITE": Script.take_container,
     "client NAME at SITE": Script.take_client,
     "armed SITE call N choice N": Script.take_armed,
     "arm SITE call N choice N": Script.take_arm,
     "stop SITE": Script.take_stop,
     "restart SITE": Script.take_restart,
     "deliver to SITE from SITE packet N": Script.take_deliver,
+    "deliver to SITE from SITE KIND [N] [again]": Script.take_deliver_by_name,
+    "lose to SITE from SITE packet N": Script.take_lose,
+    "lose to SITE from SITE KIND [N]": Script.take_lose_by_name,
     "advance SITE from SITE": Script.take_advance,
+    "advance to SITE": Script.take_advance_to,
     "tick SITE": Script.take_tick,
+    "settle [SITE]": Script.take_settle,
 }
-Form = namedtuple("Form", "parts pattern take")
+Form = namedtuple("Form", "text parts pattern take")
 
 
 def by_word(forms):
     """The forms by their first words, each with its parts and its pattern."""
     by = {}
-    for form, take in forms.items():
-        parts = form.split()
-        pattern = re.compile(r"\s+".join(r"(\S+)" if part.isupper() else part for part in parts))
-        by.setdefault(parts[0], []).append(Form(parts, pattern, take))
+    for text, take in forms.items():
+        parts = text.split()
+        by.setdefault(parts[0], []).append(Form(text, parts, re.compile("".join(map(piece_of, parts))[3:]), take))
     return by
+
+
+def piece_of(part):
+    """The piece of a form's pattern for one of its words, and what is before it."""
+    name = part.strip("[]")
+    if name != part:
+        return rf"(?:\s+({'[0-9]+' if name.isupper() else name}))?"
+    return rf"\s+(\S+)" if name.isupper() else rf"\s+({name})" if "|" in name else rf"\s+{name}"
 
 
 FORMS_OF = by_word(FORMS)
 
 
+def misfit(forms, tokens):
+    """The first word of a line that fits none of the forms that its first word has, and what is wanted there."""
+    at = max(fitting(form.parts, tokens) for form in forms)
+    wanted = dict.fromkeys(form.parts[at] for form in forms if fitting(form.parts, tokens) == at < len(form.parts))
+    return Unfit(tokens[at] if at < len(tokens) else "", " or ".join(wanted) or "nothing there")
+
+
+def fitting(parts, tokens):
+    """How many words of a line fit the parts of a form."""
+    at = 0
+    for part, word in zip(parts, tokens):
+        name = part.strip("[]")
+        is_given = name.isupper() and (name == part or DIGITS.fullmatch(word))
+        if not is_given and word not in name.split("|"):
+            break
+        at += 1
+    return at
+
+
+def quoted(text):
+    """The word of a fault, as it is told."""
+    shown = text if len(text) <= 60 else text[:57] + "..."
+    return "" if not text else f"{json.dumps(shown, ensure_ascii=False) if shown[:1] != chr(34) else shown}: "
+
+
+def fault_of(place, line, unfit):
+    word = quoted(unfit.word) or f"behind {quoted(line.split('#')[0].strip())}"
+    return Fault(place, word, unfit.wants, unfit.form)
+
+
 def read_script(text):
-    """A script, read to its end. A line that is wrong is named with what is wanted there."""
-    script, lines = Script(), text.split("\n")
+    """A script, read to its end. All lines that are wrong are named, each with what is wanted there."""
+    script, lines, faults = Script(), text.split("\n"), []
     for place, line in enumerate(lines, 1):
         script.place = place
         try:
             script.take(line)
-        except Wrong as wrong:
-            raise Wrong(f"line {place}: wants {wrong}") from None
-    if script.sites is None:
-        raise Wrong(f"line {len(lines)}: wants sites N tolerated F")
+        except Unfit as unfit:
+            faults.append(fault_of(place, line, unfit))
+            if script.sites is None:
+                break
+    if script.sites is None and not faults:
+        faults = [Fault(len(lines), "", "sites N tolerated F", None)]
+    if faults:
+        raise Wrong(faults)
+    script.lay_out()
+    check_length(script)
     return script
+
+
+def check_length(script):
+    """Refuses a script whose scenario is too long, at the line that makes it so."""
+    sent = sum(len(its) for _, its in script.clients)
+    if 2 * sent + MOST_WORDS * sum(map(len, (script.steps, script.containers, script.clients, script.arms))) < MOST_BYTES:
+        return
+    sizes = Counter()
+    for item in script.items:
+        sizes[item.place] += 2 * len(item.frame if isinstance(item, Turn) else item.sent if isinstance(item, Sent) else "")
+    for place, step in zip(script.places, script.steps):
+        sizes[place] += len(step[0]) + 3 + sum(len(str(one)) + 1 for one in step[1:]) + 2
+    left = MOST_BYTES - len(text_of({**script.head(), "clients": [[0, ""]] * len(script.clients), "steps": []}))
+    if sum(sizes.values()) <= left:
+        return
+    for place in sorted(sizes):
+        left -= sizes[place]
+        if left < 0:
+            raise Wrong([Fault(place, "", f"a scenario of at most {MOST_BYTES} bytes, which ends before this line", None)])
+
+
+def decoded(data):
+    """The text of a script's bytes."""
+    try:
+        return data.decode()
+    except UnicodeDecodeError as wrong:
+        raise Wrong([Fault(data[: wrong.start].count(b"\n") + 1, "", "text in UTF-8", None)]) from None
 
 
 def read(text):
     """The scenario of a script."""
     return read_script(text).scenario()
+
+
+def line_of(item, names):
+    """The lines that say an item of a script, whose clients have these names."""
+    if isinstance(item, Sent):
+        return [f"{names[item.client]}: bytes {item.sent.hex()}"]
+    if isinstance(item, Turn):
+        return [f"{names[item.client]}: level last"] if item.last else turn_lines(names[item.client], item.frame)
+    if isinstance(item, Step):
+        return [words_of_step(*item.made)]
+    here, there, kind, says, again = item.fields
+    return [f"deliver to {here} from {there} {kind}" + ("" if says is None else f" {says}") + (" again" if again else "")]
+
+
+def head_lines(script, names):
+    """The lines in front of the items of a script: its clients have these names, and those that have none are left out."""
+    lines = [f"sites {script.sites} tolerated {script.tolerated}"]
+    if script.capacity is not None:
+        lines.append(f"capacity {script.capacity}")
+    for which, kind, site in script.containers:
+        lines.append(f"container {which} {'set' if kind == 'cset' else kind} at {site}")
+    lines += [f"client {name} at {site}" for name, (site, _) in zip(names, script.clients) if name is not None]
+    return lines + [words_of_step("armed", *arm) for arm in script.arms]
 
 
 def turn_lines(name, frame):
@@ -376,7 +622,7 @@ def script_of(text):
     try:
         return write(json.loads(text))
     except (ValueError, TypeError, KeyError, IndexError, AttributeError):
-        raise Wrong(NO_SCENARIO) from None
+        raise NoScenario from None
 
 
 def text_of(made):

@@ -19,6 +19,29 @@ REFUSALS = {
     15: "no such transaction was started",
 }
 
+# What records and packets are, in a line each.
+RECORDS = {
+    "Boot": "the site has come up, in the next epoch",
+    "Own": "a transaction of this site is committed",
+    "Got": "a commit of another site is received",
+    "Seen": "a commit of another site is committed here",
+    "Prepared": "another site's slow commit has its locks here",
+    "Released": "another site's slow commit is over here",
+    "SlowBegin": "a slow commit of this site begins",
+    "SlowEnd": "a slow commit of this site ends without a commit",
+    "Marks": "how many own commits are durable, and visible",
+}
+PACKETS = {
+    "propagate": "this is my commit of that number",
+    "ack": "so many of your commits are received here",
+    "dsmark": "so many of my commits are durable",
+    "visible": "so many of your commits are committed here",
+    "prepare": "lock these objects for my slow commit",
+    "vote": "YES, NO or LATER to a PREPARE",
+    "release": "my slow commit is over: let its locks go",
+    "released": "your slow commit is over here",
+}
+
 
 def name(transaction):
     return "%d.%d.%d" % transaction
@@ -44,6 +67,12 @@ def updates(transaction):
 
 # ---- replies
 
+# Why a lock isn't yet in the way, and the site is to be asked again.
+WHY_LATER = {
+    "missing": "and not all that the snapshot sees is received here",
+    "seen": "which the snapshot sees",
+}
+
 
 def conflict(cause, *fields):
     """What stands in the way of a commit."""
@@ -51,6 +80,8 @@ def conflict(cause, *fields):
         return f"{pair(fields[0])} was modified by {pair(fields[1])}"
     if cause == "locked":
         return f"{pair(fields[0])} is locked by {name(fields[1])}"
+    if cause == "later":
+        return f"{pair(fields[0])} is locked by {name(fields[1])}, {WHY_LATER[fields[2]]}"
     return {"asked": "it was asked for", "over": "it is over", "unknown": "for a cause that isn't told"}[cause]
 
 
@@ -110,7 +141,7 @@ def packet(one, whole=True):
     says, kind = one.says, one.kind.upper()
     words = kind if says.number is None else f"{kind} {says.number}"
     if one.kind == "vote":
-        words += " NO" if says.against else " YES"
+        words += f" {answer(says.against)}"
     if not whole:
         return words
     if one.kind == "propagate" and says.transaction:
@@ -118,6 +149,11 @@ def packet(one, whole=True):
     if one.kind == "prepare" and says.name:
         return f"{words} of {name(says.name)} for {objects(says.objects)}"
     return f"{words}, {conflict(*says.against)}" if says.against else words
+
+
+def answer(against):
+    """What a VOTE answers."""
+    return "YES" if not against else "LATER" if against[0] == "later" else "NO"
 
 
 def route(one, whole=True):
@@ -163,15 +199,17 @@ def taken(moment):
 def passed(moment):
     """Why a packet or an Advance changed nothing, and what is answered to it."""
     if moment.entry.event[0] == "advance":
-        return "nothing is to be committed yet"
+        return f"nothing is committed: {moment.wanting}"
     if moment.packet.kind == "propagate":
-        return "received already" if moment.sends else "not received: something is missing before it"
+        return "received already" if moment.sends else f"not received: {moment.wanting}"
     if moment.packet.kind == "prepare" and moment.sends:
         against = moment.sends[0].says.against
-        return f"votes NO, {conflict(*against)}" if against else "votes YES again"
+        if against:
+            return f"votes {answer(against)}{':' if against[0] == 'later' else ','} {conflict(*against)}"
+        return "votes YES again"
     if moment.packet.kind == "release":
         return "over here already"
-    return "nothing new"
+    return f"nothing new: {moment.wanting}" if moment.wanting else "nothing new"
 
 
 def fault(moment):

@@ -1,5 +1,6 @@
 """Pictures are whole: an arrow for each delivery, no two labels at one place, and nothing beside the page."""
 
+import json
 import os
 import subprocess
 import sys
@@ -8,6 +9,9 @@ import xml.etree.ElementTree as xml
 
 from played import TOP, RANDOM, by_model, example_run, examples, file_text, random_run, source_of, without_trace
 import pictures
+import reports
+import runs
+import scripts
 
 SVG = "{http://www.w3.org/2000/svg}"
 # No letter of the fonts is wider, by which the labels are placed.
@@ -16,6 +20,11 @@ LETTER = 7.3
 
 def places_of(curve):
     return [tuple(map(float, place.split(","))) for place in curve.replace("M", "").replace("Q", "").split(" ")]
+
+
+def run_of(script):
+    """The model's run of a script."""
+    return runs.Run(runs.Scenario(script), reports.read(by_model(json.dumps(scripts.read(script))).text()))
 
 
 class Drawn:
@@ -73,12 +82,14 @@ class Draw(unittest.TestCase):
     def check_entries(self, run, picture, drawn):
         titles = drawn.titles("entry")
         self.assertEqual([title.split("\n")[1] for title in titles], [moment.entry.line for moment in picture.moments])
-        flights = sum(moment.entry.flight is not None for moment in picture.moments)
-        legend = 1
-        self.assertEqual(len(drawn.all("circle", "flight")), flights + legend)
-        stable = sum(moment.entry.wrote is not None for moment in picture.moments)
-        self.assertEqual(len(drawn.all("circle", "stable")), stable + legend)
-        self.assertEqual(len(drawn.all("rect", "lock")), len(picture.bars) + legend)
+        # Of what occurs the legend has one more.
+        for name, kind, count in [
+            ("circle", "flight", sum(moment.entry.flight is not None and not moment.entry.wrote for moment in picture.moments)),
+            ("circle", "stable", sum(moment.entry.wrote is not None for moment in picture.moments)),
+            ("rect", "found", sum(moment.entry.kept is not None for moment in picture.moments)),
+            ("rect", "lock", len(picture.bars)),
+        ]:
+            self.assertEqual(len(drawn.all(name, kind)), count + (count > 0))
 
     def check_packets(self, run, picture, drawn):
         seen = set(picture.moments)
@@ -102,6 +113,69 @@ class Draw(unittest.TestCase):
         for seed in RANDOM:
             with self.subTest(seed):
                 self.check(random_run(seed)[1])
+
+    def test_entries_of_one_stamp_stand_in_the_order_of_the_steps(self):
+        """The clients of the sites 2, 0 and 1 call in this order."""
+        script = "sites 3 tolerated 0\n" + "".join(f"client at{site} at {site}\n" for site in range(3))
+        run = run_of(script + "at2: start\nat0: start\nat1: start\nat0: abort\nat2: abort\n")
+        picture = pictures.Picture(run)
+        self.assertEqual([moment.site for moment in picture.moments], [0, 1, 2, 2, 0, 1, 0, 2])
+        for seed in RANDOM:
+            run = random_run(seed)[1]
+            places = {step.moment: step.place for step in run.steps if step.moment}
+            keys = [(moment.entry.stamp, places.get(moment, -1)) for moment in pictures.in_order(run)]
+            self.assertEqual(keys, sorted(keys))
+
+    def test_a_transaction_has_one_colour_at_all_sites(self):
+        """In the picture of a slow commit its records and packets have one colour, and the other transaction another."""
+        drawn = Drawn(pictures.Picture(example_run(os.path.join(TOP, "examples", "slow_commit.json"))).svg())
+        colours = {}
+        for entry in drawn.all("g", "entry"):
+            swatch = [one.get("fill") for one in entry.iter(SVG + "rect")]
+            mark = [one.get("stroke") for one in entry if one.get("class") in ("none", "stable")]
+            if swatch:
+                self.assertEqual(swatch, mark)
+                colours.setdefault(swatch[0], set()).add(entry.find(SVG + "title").text.split("\n")[1].split()[2])
+        self.assertEqual(sorted(map(sorted, colours.values())), [["0"], ["0", "1"]])
+        for delivery in drawn.all("g", "delivery"):
+            self.assertEqual({one.get("stroke") for one in delivery if one.tag != SVG + "title"},
+                             {colour for colour, sites in colours.items() if len(sites) == 2})
+        self.assertEqual(len({pictures.colour_of(place) for place in range(60)}), 60)
+
+    def test_the_legend_has_what_occurs_alone(self):
+        texts = {}
+        for name in ("first_run", "stop_at_the_gate", "slow_commit", "crossed_slow_commits"):
+            drawn = Drawn(pictures.Picture(example_run(os.path.join(TOP, "examples", name + ".json"))).svg())
+            texts[name] = {one.text.split(":")[0] for one in drawn.all("text") if one.get("class") != "title"}
+        self.assertTrue(texts["first_run"] >= {"Boot", "Own", "a record made stable", "0.1.1 of ann"})
+        self.assertFalse(texts["first_run"] & {"Got", "PROPAGATE", "VOTE", "a record in flight", "a slow commit's locks"})
+        self.assertTrue(texts["stop_at_the_gate"] >= {"a record in flight", "a record that a restart found"})
+        self.assertTrue(texts["slow_commit"] >= {"PREPARE", "VOTE", "PROPAGATE", "a packet that never came", "1.1.1 of bob"})
+        self.assertFalse(texts["slow_commit"] & {"ACK", "RELEASE", "SlowEnd", "a packet that changes nothing"})
+        self.assertTrue(texts["crossed_slow_commits"] >= {"RELEASE", "SlowEnd", "a packet that changes nothing"})
+
+    def test_a_picture_has_a_title(self):
+        run = example_run(os.path.join(TOP, "examples", "slow_commit.json"))
+        for given, title in [(None, run.scenario.title), ("Mine", "Mine"), ("long " * 99, ("long " * 99).strip())]:
+            drawn = Drawn(pictures.Picture(run, title=given).svg())
+            self.assertEqual(" ".join(one.text for one in drawn.all("text", "title")), title)
+            self.check_labels(drawn)
+
+    def test_packets_that_never_came_are_told_apart_by_kind(self):
+        """A commit puts out a PROPAGATE and a DSMARK to each of seven peers, of which none comes."""
+        script = "sites 8 tolerated 0\ncontainer 1 set at 0\nclient ann at 0\nann: start\nann: setadd 1:1 9\nann: commit\n"
+        drawn = Drawn(pictures.Picture(run_of(script)).svg())
+        lost = {}
+        for one in drawn.all("g", "lost"):
+            shaft, *end = [part for part in one if part.tag != SVG + "title"]
+            kinds = {text.split(" packet ")[1].split()[1] for text in one.find(SVG + "title").text.split("\n")}
+            lost[kinds.pop()] = shaft.get("stroke-dasharray"), {(part.tag, part.get("fill")) for part in end}
+            self.assertEqual(kinds, set())
+        self.assertEqual(sorted(lost), ["DSMARK", "PROPAGATE"])
+        for one, other in zip(*lost.values()):
+            self.assertNotEqual(one, other)
+        ends = {(pictures.stub_end(kind, (0, 0), 0, "#000"), pictures.LINES[kind]) for kind in pictures.LINES}
+        self.assertEqual(len(ends), 8)
 
     def test_a_stop_is_a_gap(self):
         picture = pictures.Picture(example_run(os.path.join(TOP, "examples", "locks_outlive_a_stop.json")))
@@ -129,13 +203,33 @@ class Draw(unittest.TestCase):
         self.assertEqual(len(Drawn(made.stdout).all("g", "delivery")), 2)
         some = subprocess.run(tool + [source_of(slow), "--from", "3", "--to", "4"], input=text, capture_output=True, text=True)
         self.assertEqual(len(Drawn(some.stdout).all("g", "entry")), text.count("\ne 3 ") + text.count("\ne 4 "))
-        for given, said in [
-            (without_trace(text), "draw: the report: line 6: wants the trace"),
-            ("sites\n", "draw: the report: line 1: wants sites N f F clients N"),
+        for words, given, status, said in [
+            ([], without_trace(text), 2, "draw: standard input: it has no trace, which play --trace writes"),
+            ([], "sites\n", 2, "draw: standard input, line 1: wants sites N f F clients N; it has: sites"),
+            ([], "", 2, "draw: standard input, line 1: wants sites N f F clients N; it is empty"),
+            (["--from", "4", "--to", "3"], text, 1, "draw: --from 4 is behind --to 3"),
+            (["--from", "90"], text, 1, "draw: no entry has such a stamp: they are from 1 to 7"),
+            (["--html", "--from", "90"], text, 1, "draw: no entry has such a stamp: they are from 1 to 7"),
+            (["no such file"], text, 3, "draw: no such file: No such file or directory"),
         ]:
-            wrong = subprocess.run(tool + [slow], input=given, capture_output=True, text=True)
-            self.assertEqual((wrong.returncode, wrong.stdout), (2, ""))
-            self.assertTrue(wrong.stderr.startswith(said), wrong.stderr)
+            wrong = subprocess.run(tool + [slow] + words, input=given, capture_output=True, text=True)
+            self.assertEqual((wrong.returncode, wrong.stdout), (status, ""))
+            self.assertEqual(wrong.stderr.split("\n")[0], said)
+            self.assertNotIn("Traceback", wrong.stderr)
+
+    @unittest.skipUnless(os.path.exists("/dev/full"), "there is no /dev/full")
+    def test_an_output_that_fails_is_told(self):
+        slow = os.path.join(TOP, "examples", "slow_commit.json")
+        tool, text = [sys.executable, os.path.join(TOP, "tools", "draw"), slow, "--html"], by_model(file_text(slow)).text()
+        with open("/dev/full", "w", encoding="utf-8") as full:
+            made = subprocess.run(tool, input=text, stdout=full, stderr=subprocess.PIPE, text=True)
+        self.assertEqual((made.returncode, made.stderr.count("\n")), (4, 1))
+        # Who reads takes nothing, and is gone.
+        reader, writer = os.pipe()
+        os.close(reader)
+        made = subprocess.run(tool, input=text, stdout=writer, stderr=subprocess.PIPE, text=True)
+        os.close(writer)
+        self.assertEqual((made.returncode, made.stderr), (4, ""))
 
 
 if __name__ == "__main__":

@@ -3,12 +3,15 @@
 import json
 import os
 import random
+import re
 import subprocess
 import sys
 import tempfile
 import unittest
+from collections import Counter
 
 from played import TOP, RANDOM, by_model, example_run, examples, file_text, random_run, source_of, without_trace
+import clocks
 import histories
 import model
 import reports
@@ -61,12 +64,12 @@ tick 1 -> to 0: PROPAGATE 1 of 1.1.1 (write 1:5 "s") as packet 3
 ann level 0.1.1 -> refused: the site is down
 restart 0 -> site 0 is up in epoch 2; found Got 1:1
 arm 1 call 5 choice 1 -> never comes
-advance 1 from 0 -> nothing is to be committed yet
+advance 1 from 0 -> nothing is committed: 0:1 isn't received here
 ann abort -> refused: no transaction is open
 stop 1 -> site 1 is down
 not played: bob commit: it had no turn
 not played: cat bytes 00000001: they end inside a frame
-not played: deliver to 0 from 1 packet 2 in line 13: no such packet was put out
+not played: deliver to 0 from 1 packet 2 in line 13: no such packet was put out: site 1 had put out 1 to it
 not played: ann again in line 25: all calls are made
 never delivered: 0 <- 1 packet 3 PROPAGATE 1 of 1.1.1 (write 1:5 "s")
 """
@@ -82,6 +85,33 @@ not played: bob commit: it had no turn
 not played: cat bytes 00000001: they end inside a frame
 not played: ann again in line 25: all calls are made
 """.replace("; the slow commit 1 begins", "")
+
+# Who asks for the lock of a transaction that its snapshot has is asked to ask again.
+LOCK_OF_A_CAUSE = """sites 2 tolerated 0
+container 1 regular at 0
+client ann at 1
+ann: start
+ann: write 1:5 "s"
+ann: commit
+deliver to 0 from 1 packet 1
+deliver to 1 from 0 packet 1
+ann: commit
+ann: start
+ann: write 1:5 "u"
+ann: commit
+deliver to 0 from 1 packet 3
+deliver to 0 from 1 packet 2
+deliver to 0 from 1 packet 3
+deliver to 1 from 0 packet 2
+"""
+LATER = [
+    "0 <- 1 packet 3 PREPARE 2 of 1.1.2 for 1:5: votes LATER: 1:5 is locked by 1.1.1, and not all that the snapshot sees is "
+    "received here",
+    '0 <- 1 packet 2 PROPAGATE 1 of 1.1.1 (write 1:5 "s"): received 1:1',
+    "0 <- 1 packet 3 PREPARE 2 of 1.1.2 for 1:5: votes LATER: 1:5 is locked by 1.1.1, which the snapshot sees",
+    "1 <- 0 packet 2 VOTE 2 LATER, 1:5 is locked by 1.1.1, and not all that the snapshot sees is received here: "
+    "nothing new: site 0 is to be asked again at a tick",
+]
 
 SLOW = os.path.join(TOP, "examples", "slow_commit.json")
 # What is written for what in the report and the trace of that example, the line that is wrong then, and what is wanted.
@@ -107,6 +137,37 @@ WRONG = [
     (" 0:prepare 0\n", " 0:prepare\n", 12, "e STAMP SITE EVENT OUTCOME"),
     ("taken - 0100000001 - - 0\ne 2", "taken - 010000000100 - - 0\ne 2", 7, "records as docs/FORMATS.md has them"),
 ]
+
+
+EDN = re.compile(r'[{}\[\]]|:[a-z]+|nil|-?[0-9]+|"(?:[^"\\]|\\.)*"')
+
+
+def read_edn(text):
+    """A value of EDN, keywords as their words."""
+    tokens = EDN.findall(text)
+    assert set(EDN.sub("", text)) <= set(" ,"), text
+
+    def read(token):
+        if token in ("{", "["):
+            parts = []
+            while tokens[0] not in ("}", "]"):
+                parts.append(read(tokens.pop(0)))
+            tokens.pop(0)
+            return dict(zip(parts[::2], parts[1::2])) if token == "{" else parts
+        if token[0] == '"':
+            return json.loads(token).encode("latin-1")
+        return token[1:] if token[0] == ":" else None if token == "nil" else int(token)
+
+    return read(tokens.pop(0))
+
+
+def plain(value):
+    """A value as it is read back: texts are bytes, but for keywords."""
+    if isinstance(value, dict):
+        return {plain(key): plain(one) for key, one in value.items()}
+    if isinstance(value, list):
+        return [plain(one) for one in value]
+    return value.encode() if type(value) is str else str(value) if isinstance(value, str) else value
 
 
 class Explain(unittest.TestCase):
@@ -155,8 +216,29 @@ class Explain(unittest.TestCase):
             calls = [line for line in self.explained(short) if " -> " in line]
             self.assertEqual(len(calls), sum(map(len, played.replies)))
 
+    def test_why_a_site_is_to_be_asked_again(self):
+        _, run = self.read(LOCK_OF_A_CAUSE)
+        self.assertEqual(self.explained(run)[9:13], LATER)
+        told, met = Counter(), Counter()
+        for seed in RANDOM:
+            played, run = random_run(seed)
+            said = [packet.says.against for lane in run.lanes.values() for packet in lane if packet.kind == "vote"]
+            told.update(against[3] for against in said if against and against[0] == "later")
+            met.update(played.sites[0].met)
+        self.assertEqual((told["missing"], told["seen"]),
+                         (met["LATER before all is received"], met["LATER over the lock of a cause"]))
+        self.assertTrue(all(told.values()), told)
+
+    def test_what_comes_into_a_window(self):
+        """An ACK of the second of 66 commits brings the last two; the window has 64."""
+        adds = "ann: start\nann: setadd 1:1 9\nann: commit\n" * 66
+        _, run = self.read("sites 2 tolerated 0\ncontainer 1 set at 0\nclient ann at 0\n" + adds +
+                           "deliver to 1 from 0 packet 1\ndeliver to 1 from 0 packet 3\ndeliver to 0 from 1 packet 2\ntick 0\n")
+        lane = [packet.says.number for packet in run.lanes[0, 1] if packet.kind == "propagate"]
+        self.assertEqual(lane, [*range(1, 65), 65, 66, *range(3, 67)])
+
     def test_what_packets_say_is_what_they_said(self):
-        causes = {model.MODIFIED: "modified", model.LOCKED: "locked", model.DEAD: "over"}
+        causes = {model.MODIFIED: "modified", model.LOCKED: "locked", model.DEAD: "over", model.LATER: "later"}
         for seed in RANDOM:
             played, run = random_run(seed)
             for (sender, receiver), lane in run.lanes.items():
@@ -166,7 +248,9 @@ class Explain(unittest.TestCase):
                 for one, packet in zip(lane, put_out):
                     if one.kind == "vote":
                         against = (causes[packet[2][0]], *packet[2][1:]) if len(packet) > 2 else None
-                        self.assertEqual(one.says.against, against)
+                        # A LATER doesn't say over what.
+                        told = one.says.against
+                        self.assertEqual(told[:1] if told and told[0] == "later" else told, against)
                     elif one.kind in ("propagate", "prepare"):
                         self.assertEqual(one.says.transaction.name, packet[2].tid if one.kind == "propagate" else packet[2])
 
@@ -192,9 +276,30 @@ class Explain(unittest.TestCase):
             ("deliver to 0 from 1 packet 1 #", "#", "bob to be played next|no such entry|to be played next"),
             ("bob: commit\n", "bob: abort\n", "the next call of bob"),
             ("client bob at 1", "client bob at 1\nclient cat at 0", "the sites and the clients"),
+            ('bob: write 1:5 "s"', 'bob: write 1:5 "S"', "of what bob has done since its start"),
+            ('bob: write 1:5 "s"', 'bob: write 1:6 "s"', "of what bob has done since its start"),
         ]:
+            self.assertIn(old, script)
             with self.assertRaisesRegex(reports.Wrong, wanted):
                 runs.Run(runs.Scenario(script.replace(old, new)), reports.read(text))
+        with self.assertRaisesRegex(reports.Wrong, "line 3: wants an answer to bob: read"):
+            runs.Run(runs.Scenario(script.replace('bob: write 1:5 "s"', "bob: read 1:5")), reports.read(without_trace(text)))
+
+    def test_records_that_are_of_another_run_are_refused(self):
+        """The trace of a lost commit with a record in flight, of which the restart finds another, and so on."""
+        gate = os.path.join(TOP, "examples", "stop_at_the_gate.json")
+        scenario, right = runs.Scenario(file_text(source_of(gate))), by_model(file_text(gate)).text()
+        lines = right.splitlines(keepends=True)
+        kept = next(line for line in lines if line.startswith("e 6 0 restart taken"))
+        record = kept.split()[5]
+        changed = right.replace(kept, kept.replace(record, record[:-2] + "62"))
+        with self.assertRaisesRegex(reports.Wrong, "wants the record that was in flight"):
+            runs.Run(scenario, reports.read(changed))
+        slow, scenario = by_model(file_text(SLOW)).text(), runs.Scenario(file_text(source_of(SLOW)))
+        decided = next(line for line in slow.splitlines() if line.startswith("e 6 1 deliver"))
+        record = decided.split()[6]
+        with self.assertRaisesRegex(reports.Wrong, "wants the transaction of the slow commit"):
+            runs.Run(scenario, reports.read(slow.replace(record, record[:-2] + "62")))
 
     def test_changed_reports_are_read_or_refused(self):
         for seed in range(1, 60):
@@ -230,7 +335,7 @@ class Explain(unittest.TestCase):
         for text, said in [
             ("{}", "wants a scenario"),
             ('{"sites":1,"f":0,"containers":[[1,"regular",7]],"clients":[],"steps":[]}', "wants a scenario"),
-            ("sites 1 tolerated 0\ntick 1", "line 2: wants a site below 1"),
+            ("sites 1 tolerated 0\ntick 1", 'line 2: "1": wants a site below 1'),
         ]:
             with self.assertRaisesRegex(scripts.Wrong, said):
                 runs.Scenario(text)
@@ -247,7 +352,7 @@ ann: read 1:5
 bob: start
 bob: read 1:5
 ann: commit
-bob: write 1:5 hex 00ff
+bob: write 1:5 hex 00ff22
 bob: commit
 ann: start
 ann: read 1:5
@@ -256,34 +361,83 @@ restart 0
 ann: commit
 ann: start
 ann: commit
+ann: start
+ann: read 1:5
+ann: commit
 """)
-        maps = histories.History(run).maps()
-        self.assertEqual([one["index"] for one in maps], list(range(8)))
-        self.assertEqual([(one["type"], one["process"], one["value"]) for one in maps], [
-            ("invoke", 0, [["w", "1:5", "a"], ["r", "1:5", None]]),
-            ("invoke", 1, [["r", "1:5", None], ["w", "1:5", "\0\xff"]]),
-            ("ok", 0, [["w", "1:5", "a"], ["r", "1:5", "a"]]),
-            ("fail", 1, [["r", "1:5", None], ["w", "1:5", "\0\xff"]]),
-            ("invoke", 0, [["r", "1:5", None]]),
-            ("info", 0, [["r", "1:5", None]]),
-            ("invoke", 2, []),
-            ("ok", 2, []),
+        self.assertEqual(histories.History(run).text().splitlines(), [
+            '{:type :invoke, :f :txn, :value [[:w "1:5" "a"] [:r "1:5" nil]], :process 0, :index 0}',
+            '{:type :invoke, :f :txn, :value [[:r "1:5" nil] [:w "1:5" "\\u0000\\u00ff\\""]], :process 1, :index 1}',
+            '{:type :ok, :f :txn, :value [[:w "1:5" "a"] [:r "1:5" "a"]], :process 0, :index 2}',
+            '{:type :fail, :f :txn, :value [[:r "1:5" nil] [:w "1:5" "\\u0000\\u00ff\\""]], :process 1, :index 3}',
+            '{:type :invoke, :f :txn, :value [[:r "1:5" nil]], :process 0, :index 4}',
+            '{:type :info, :f :txn, :value [[:r "1:5" nil]], :process 0, :index 5}',
+            '{:type :invoke, :f :txn, :value [[:r "1:5" nil]], :process 2, :index 6}',
+            '{:type :ok, :f :txn, :value [[:r "1:5" "a"]], :process 2, :index 7}',
         ])
 
+    def test_a_history_of_sets(self):
+        run = example_run(os.path.join(TOP, "examples", "friend_list.json"))
+        lines = histories.History(run, histories.SETS).text().splitlines()
+        self.assertEqual(lines[0], '{:type :invoke, :f :sets, :value [[:add "3:1" 5] [:add "3:1" 7]], :process 0, :index 0}')
+        reads = '{:type :invoke, :f :sets, :value [[:r "3:1" nil] [:count "3:1" 5 nil]], :process 0, :index 4}'
+        self.assertEqual(lines[-2], reads)
+        self.assertEqual(histories.History(run).text(), "")
+        self.assertEqual(histories.edn({7: 2, 9: -1}), "{7 2, 9 -1}")
+
+    def test_a_value_is_written_to_an_object_once(self):
+        """Elle tells writes apart by their values; one transaction may write a value twice."""
+        head = "sites 1 tolerated 0\ncontainer 1 regular at 0\nclient ann at 0\n"
+        turn = 'ann: start\nann: write 1:5 "a"\nann: write 1:5 "a"\nann: commit\n'
+        self.assertEqual(histories.History(self.read(head + turn)[1]).text().count("\n"), 2)
+        with self.assertRaisesRegex(histories.NotDistinct, '0.1.1 and 0.1.2 write "a" to 1:5: each transaction'):
+            histories.History(self.read(head + turn + turn)[1]).text()
+
     def test_random_histories(self):
-        """Each invoke has one end, and no process goes on where it has an info."""
+        """Each invoke has one end, no process goes on where it has an info, and each line is EDN of just these keys."""
         for seed in RANDOM:
-            open_at, ended = {}, set()
-            for one in histories.History(random_run(seed)[1]).maps():
-                process = one["process"]
-                self.assertNotIn(process, ended)
-                self.assertEqual(one["type"] != "invoke", process in open_at)
-                if one["type"] == "invoke":
-                    open_at[process] = one
-                else:
-                    del open_at[process]
-                    ended |= {process} if one["type"] == "info" else set()
-            self.assertEqual(open_at, {})
+            for kind in (histories.REGISTERS, histories.SETS):
+                open_at, ended, operations = {}, set(), histories.History(random_run(seed)[1], kind).operations()
+                self.assertEqual([one["index"] for one in operations], list(range(len(operations))))
+                for one in operations:
+                    process = one["process"]
+                    self.assertNotIn(process, ended)
+                    self.assertEqual(one["type"] != "invoke", process in open_at)
+                    if one["type"] == "invoke":
+                        open_at[process] = one
+                    else:
+                        self.assertEqual(len(open_at.pop(process)["value"]), len(one["value"]))
+                        ended |= {process} if one["type"] == "info" else set()
+                self.assertEqual(open_at, {})
+                for one in operations[:20]:
+                    self.assertEqual(read_edn(histories.edn(one)), plain(one))
+
+    def test_clocks(self):
+        """A log is read back by the expression in its first line; a clock says just which entries one comes behind."""
+        for path in examples("json")[:5] + [SLOW]:
+            run = example_run(path)
+            if len(run.moments) > 500:
+                continue
+            expression, empty, *lines = clocks.log(run).split("\n")
+            found = list(re.finditer(expression.replace("(?<", "(?P<"), "\n".join(lines)))
+            self.assertEqual((empty, len(found)), ("", len(run.moments)))
+            self.assertEqual([one["event"] for one in found], [words.moment_line(run.scenario, one) for one in run.moments])
+            told = [json.loads(one["clock"]) for one in found]
+            for one, clock, moment in zip(found, told, run.moments):
+                before = [other["host"] for other in found[: found.index(one) + 1]].count(one["host"])
+                self.assertEqual((one["host"], clock[one["host"]]), (f"site{moment.site}", before))
+            self.check_order(run, told)
+
+    def check_order(self, run, told):
+        behind = {}
+        for place, moment in enumerate(run.moments):
+            causes = [one for one in run.moments[:place] if one.site == moment.site][-1:]
+            causes += [moment.packet.put_out] if moment.packet else []
+            behind[moment] = set(causes).union(*(behind[one] for one in causes))
+        for moment, clock in zip(run.moments, told):
+            for other, earlier in zip(run.moments, told):
+                is_behind = other is moment or all(clock.get(site, 0) >= count for site, count in earlier.items())
+                self.assertEqual(is_behind, other is moment or other in behind[moment])
 
     def test_the_tool(self):
         tool = [sys.executable, os.path.join(TOP, "tools", "explain"), source_of(SLOW)]
@@ -302,12 +456,41 @@ ann: commit
                 file.write(told.stdout.replace("locks 1:5", "locks 1:6"))
             other = subprocess.run(tool + [report, "--expect", wanted], capture_output=True, text=True)
             self.assertEqual((other.returncode, other.stdout), (1, ""))
-            self.assertTrue(other.stderr.startswith("explain: line 6 differs\nwanted: 0 <- 1 packet 1 PREPARE"), other.stderr)
-        history = subprocess.run(tool + ["--history"], input=text, capture_output=True, text=True)
-        self.assertEqual(json.loads(history.stdout)[0]["value"], [["w", "1:5", "s"]])
-        wrong = subprocess.run(tool, input="sites\n", capture_output=True, text=True)
-        self.assertEqual((wrong.returncode, wrong.stdout), (2, ""))
-        self.assertEqual(wrong.stderr, "explain: the report: line 1: wants sites N f F clients N\n")
+            self.assertTrue(other.stderr.startswith(f"explain: {wanted}: line 6 differs\nwanted: 0 <- 1 packet 1 PREPARE"))
+        for word, first in [("--history", '{:type :invoke, :f :txn, :value [[:w "1:5" "s"]], :process 1, :index 0}'),
+                            ("--shiviz", clocks.EXPRESSION)]:
+            made = subprocess.run(tool + [word], input=text, capture_output=True, text=True)
+            self.assertEqual((made.returncode, made.stdout.split("\n")[0]), (0, first))
+
+    def test_what_is_wrong_is_told_in_a_line(self):
+        tool, text = [sys.executable, os.path.join(TOP, "tools", "explain")], by_model(file_text(SLOW)).text()
+        for given, report, status, said in [
+            ([SLOW], "sites\n", 2, "standard input, line 1: wants sites N f F clients N; it has: sites"),
+            ([SLOW], "", 2, "standard input, line 1: wants sites N f F clients N; it is empty"),
+            ([SLOW], text[:-40], 2, "standard input, line 16: wants a line feed at the end of the report; it has: e 7 1 call"),
+            ([SLOW, "no such file"], "", 3, "no such file: No such file or directory"),
+            ([SLOW, "--shiviz"], without_trace(text), 2, "standard input: it has no trace, which play --trace writes"),
+            ([source_of(SLOW) + "x"], text, 3, source_of(SLOW) + "x: No such file or directory"),
+            ([__file__], text, 2, __file__ + ', line 1: '),
+            (["/dev/null"], text, 2, "/dev/null, line 1: wants sites N tolerated F"),
+            ([SLOW, "--fly"], text, 1, "unrecognized arguments: --fly"),
+        ]:
+            wrong = subprocess.run(tool + given, input=report, capture_output=True, text=True)
+            self.assertEqual((wrong.returncode, wrong.stdout), (status, ""))
+            self.assertTrue(wrong.stderr.startswith("explain: " + said), wrong.stderr)
+            self.assertNotIn("Traceback", wrong.stderr)
+
+    @unittest.skipUnless(os.path.exists("/dev/full"), "there is no /dev/full")
+    def test_an_output_that_fails_is_told(self):
+        tool = [sys.executable, os.path.join(TOP, "tools", "explain"), SLOW]
+        with open("/dev/full", "w", encoding="utf-8") as full:
+            made = subprocess.run(tool, input=by_model(file_text(SLOW)).text(), stdout=full, stderr=subprocess.PIPE, text=True)
+        self.assertEqual((made.returncode, made.stderr.count("\n")), (4, 1))
+        reader, writer = os.pipe()
+        os.close(reader)
+        made = subprocess.run(tool, input=by_model(file_text(SLOW)).text(), stdout=writer, stderr=subprocess.PIPE, text=True)
+        os.close(writer)
+        self.assertEqual((made.returncode, made.stderr), (4, ""))
 
 
 if __name__ == "__main__":

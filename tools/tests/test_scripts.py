@@ -6,45 +6,65 @@ import random
 import subprocess
 import sys
 import unittest
+from unittest import mock
 
 from played import TOP, RANDOM, examples, file_text, random_scenario
 import scripts
 
 HEAD = "sites 1 tolerated 0\ncontainer 1 regular at 0\nclient ann at 0\n"
 
-# What stands behind HEAD, the line that is wrong, and a piece of what is wanted there.
+# What stands behind HEAD, the line that is wrong, the word that is quoted, a piece of what is wanted there, and the form.
 WRONG = [
-    ("ann: fly", 4, "bytes, again, or one of start, read"),
-    ("bob: start", 4, "a client that was declared by client bob at SITE"),
-    ("ann: start\nann: write 1 5 \"a\"", 5, "an object as container:number"),
-    ("ann: write 1:5 \"a", 4, "a text that ends"),
-    ("ann: write 1:5 \"\\q\"", 4, "a text whose escapes are"),
-    ("ann: write 1:5 hex 0", 4, "a value as \"text\" or hex DIGITS"),
-    ("ann: commit now", 4, "nothing behind commit"),
-    ("ann: level 0.1", 4, "a transaction as site.epoch.number"),
-    ("ann: bytes 000", 4, "an even number of hex digits"),
-    ("\n# nothing\nstop 1", 6, "a site below 1"),
-    ("arm 0 call 0 choice 1", 4, "a call from 1 to 1000000"),
-    ("container 1 set at 0", 4, "a number of a container from 2"),
-    ("client ann at 0", 4, "a client's name that is new"),
-    ("sites 1 tolerated 0", 4, "the sites once"),
-    ("hello", 4, "one of sites N tolerated F"),
+    ("ann: fly", 4, '"fly"', "bytes, again, or one of start, read", "NAME: OPERATION .."),
+    ("bob: start", 4, '"bob"', "a client that was declared by client bob at SITE", None),
+    ("ann: start\nann: write 1 5 \"a\"", 5, '"1"', "an object as container:number", "NAME: write OBJECT VALUE"),
+    ("ann: write 1:x \"a\"", 4, '"1:x"', "an object as container:number", "NAME: write OBJECT VALUE"),
+    ("ann: write 1:5 \"a", 4, '"a', "a text that ends", None),
+    ("ann: write 1:5 \"\\q\"", 4, '"\\q"', "a text whose escapes are", "NAME: write OBJECT VALUE"),
+    ("ann: write 1:5 hex 0", 4, '"hex"', "a value as \"text\" or hex DIGITS", "NAME: write OBJECT VALUE"),
+    ("ann: write 1:5", 4, 'behind "ann: write 1:5"', "a value as \"text\" or hex DIGITS", "NAME: write OBJECT VALUE"),
+    ("ann: commit now", 4, '"now"', "nothing there", "NAME: commit"),
+    ("ann: level 0.1", 4, '"0.1"', "a transaction as site.epoch.number", "NAME: level TRANSACTION"),
+    ("ann: bytes 000", 4, '"000"', "an even number of hex digits", "NAME: bytes DIGITS"),
+    ("\n# nothing\nstop 1", 6, '"1"', "a site below 1", "stop SITE"),
+    ("arm 0 call 0 choice 1", 4, '"0"', "a call from 1 to 1000000", "arm SITE call N choice N"),
+    ("container 1 set at 0", 4, '"1"', "a number of a container from 2", "container N regular|set at SITE"),
+    ("container 2 list at 0", 4, '"list"', "regular|set", "container N regular|set at SITE"),
+    ("client ann at 0", 4, '"ann"', "a client's name that is new", "client NAME at SITE"),
+    ("sites 1 tolerated 0", 4, '"sites"', "the sites once", "sites N tolerated F"),
+    ("hello", 4, '"hello"', "one of sites, capacity, container, client, armed, arm, stop", None),
+    ("ann start", 4, '"ann"', "a colon behind the client: ann: OPERATION ..", None),
+    ("settle all", 4, '"all"', "[SITE]", "settle [SITE]"),
+    # Limits of the program.
+    ("capacity 18", 4, '"18"', "a number of bytes from 19 to 1099511627776", "capacity N"),
+    ("capacity 1099511627777", 4, '"1099511627777"', "a number of bytes from 19", "capacity N"),
+    ("\n".join(f"container {number} set at 0" for number in range(2, 258)), 259, '"257"', "at most 256 containers",
+     "container N regular|set at SITE"),
+    ("\n".join(f"client c{number} at 0" for number in range(1024)), 1027, '"c1023"', "at most 1024 clients of a site",
+     "client NAME at SITE"),
+    (f'ann: write 1:5 "{"a" * 65520}"', 4, '"write"', "a request of at most 65536 bytes, and not of 65537",
+     "NAME: write OBJECT VALUE"),
 ]
+TOO_LONG = "ann: bytes " + "00" * 5_000 + "\n"
 
 
 HEAD_OF_THREE = "sites 3 tolerated 1\ncontainer 1 regular at 2\nclient ann at 1\n"
+DELIVER = "deliver to SITE from SITE packet N or deliver to SITE from SITE KIND [N] [again]"
+ADVANCE = "advance SITE from SITE or advance to SITE"
 WRONG_OF_THREE = [
-    ("deliver to 1 from 1 packet 1", 4, "a site below 3 other than 1"),
-    ("deliver to 3 from 1 packet 1", 4, "a site below 3"),
-    ("ann: start\ndeliver to 1 from 0 packet 0", 5, "a packet's number from 1 to 4294967295"),
-    ("deliver to 1 from 0 packet 4294967296", 4, "a packet's number from 1 to 4294967295"),
-    ("deliver 1 from 0 packet 1", 4, "one of sites N tolerated F; capacity N; "),
-    ("tick 0\nadvance 2 from 2", 5, "a site below 3 other than 2"),
-    ("advance 1 from 3", 4, "a site below 3"),
-    ("advance 1", 4, "one of sites N tolerated F; capacity N; "),
-    ("tick 3", 4, "a site below 3"),
-    ("client bob at 3", 4, "a site below 3"),
-    ("container 2 set at 3", 4, "a site below 3"),
+    ("deliver to 1 from 1 packet 1", 4, '"1"', "a site below 3 other than 1", DELIVER),
+    ("deliver to 3 from 1 packet 1", 4, '"3"', "a site below 3", DELIVER),
+    ("ann: start\ndeliver to 1 from 0 packet 0", 5, '"0"', "a packet's number from 1 to 4294967295", DELIVER),
+    ("deliver to 1 from 0 packet 4294967296", 4, '"4294967296"', "a packet's number from 1 to 4294967295", DELIVER),
+    ("deliver 1 from 0 packet 1", 4, '"1"', "to", DELIVER),
+    ("deliver to 1 from 0", 4, 'behind "deliver to 1 from 0"', "packet or KIND", DELIVER),
+    ("deliver to 1 from 0 PROPOSE", 4, '"PROPOSE"', "packet N, or one of PROPAGATE, ACK,", DELIVER),
+    ("tick 0\nadvance 2 from 2", 5, '"2"', "a site below 3 other than 2", ADVANCE),
+    ("advance 1 from 3", 4, '"3"', "a site below 3", ADVANCE),
+    ("advance 1", 4, 'behind "advance 1"', "from", ADVANCE),
+    ("tick 3", 4, '"3"', "a site below 3", "tick SITE"),
+    ("client bob at 3", 4, '"3"', "a site below 3", "client NAME at SITE"),
+    ("container 2 set at 3", 4, '"3"', "a site below 3", "container N regular|set at SITE"),
 ]
 
 
@@ -62,7 +82,8 @@ class Scripts(unittest.TestCase):
                 self.assertEqual(as_bytes(read), as_bytes(made))
 
     def test_scenarios_go_to_scripts_and_back(self):
-        made = [json.loads(file_text(path)) for path in examples("json")]
+        # test_growth.py has the two that are big.
+        made = [json.loads(file_text(path)) for path in examples("json") if "thousand" not in path]
         for one in made + [random_scenario(seed) for seed in RANDOM]:
             text = scripts.write(one)
             back = scripts.read(text)
@@ -90,17 +111,39 @@ class Scripts(unittest.TestCase):
 
     def test_a_wrong_line_is_refused_with_what_is_wanted(self):
         for head, cases in [(HEAD, WRONG), (HEAD_OF_THREE, WRONG_OF_THREE)]:
-            for lines, place, wanted in cases:
-                self.is_refused(head + lines, place, wanted)
-        self.is_refused("client ann at 0", 1, "sites N tolerated F first")
-        self.is_refused("sites 9 tolerated 0", 1, "a number of sites from 1 to 8")
-        self.is_refused("sites 3 tolerated 3", 1, "fewer sites that may be lost than there are")
-        self.is_refused("# no sites\n\n", 3, "sites N tolerated F")
+            for lines, place, word, wanted, form in cases:
+                self.is_refused(head + lines, place, f"{word}: wants {wanted}", form)
+        self.is_refused("client ann at 0", 1, '"client": wants sites N tolerated F first', None)
+        self.is_refused("sites 9 tolerated 0", 1, '"9": wants a number of sites from 1 to 8', "sites N tolerated F")
+        self.is_refused("sites 3 tolerated 3", 1, '"3": wants fewer sites that may be lost than the 3', "sites N tolerated F")
+        self.is_refused("# no sites\n\n", 3, "wants sites N tolerated F", None)
 
-    def is_refused(self, text, place, wanted):
-        with self.subTest(text), self.assertRaises(scripts.Wrong) as wrong:
+    def is_refused(self, text, place, wanted, form):
+        with self.subTest(text[:200]), self.assertRaises(scripts.Wrong) as wrong:
             scripts.read(text)
-        self.assertTrue(str(wrong.exception).startswith(f"line {place}: wants {wanted}"), str(wrong.exception))
+        told = str(wrong.exception)
+        self.assertTrue(told.startswith(f"line {place}: {wanted}"), told)
+        self.assertEqual(told.endswith(f"; the form is {form}"), form is not None, told)
+
+    def test_all_lines_that_are_wrong_are_told(self):
+        """A line that declares something is read as far as it goes, so that those behind it aren't wrong for its sake."""
+        text = "sites 9 tolerated 0\nclient ann at 8\nann: start\nann: fly\nhello\ncapacity 10\n"
+        with self.assertRaises(scripts.Wrong) as wrong:
+            scripts.read(text)
+        self.assertEqual([fault.place for fault in wrong.exception.faults], [1, 2, 4, 5, 6])
+        with self.assertRaises(scripts.Wrong) as wrong:
+            scripts.read(HEAD + "ann: fly\n" * 27)
+        told = wrong.exception.in_file("some.script").split("\n")
+        self.assertEqual((len(told), told[-1]), (21, "and 7 more"))
+        self.assertTrue(told[0].startswith('some.script, line 4: "fly": wants '), told[0])
+
+    def test_a_scenario_that_is_too_long_is_refused_at_its_line(self):
+        self.assertEqual(scripts.MOST_BYTES, 16_777_216)
+        with mock.patch.object(scripts, "MOST_BYTES", 20_000):
+            with self.assertRaises(scripts.Wrong) as wrong:
+                scripts.read(HEAD + TOO_LONG + "stop 0\n" + TOO_LONG)
+            self.assertTrue(str(wrong.exception).startswith("line 6: wants a scenario of at most 20000 bytes"))
+            self.assertLess(len(scripts.text_of(scripts.read(HEAD + TOO_LONG + "stop 0\n"))), 20_000)
 
     def test_the_steps_of_several_sites(self):
         lines = "sites 8 tolerated 7\ncontainer 1 set at 7\nclient ann at 5\n" \
@@ -121,10 +164,31 @@ class Scripts(unittest.TestCase):
         self.assertEqual((made.returncode, json.loads(made.stdout)), (0, scripts.read(file_text(script))))
         back = subprocess.run(tool + ["--back"], input=made.stdout, capture_output=True, text=True)
         self.assertEqual((back.returncode, scripts.read(back.stdout)), (0, json.loads(made.stdout)))
-        for words, text, said in [([], "fly", "scenario: line 1: wants "), (["--back"], "{}", "scenario: wants a scenario")]:
+        for words, text, status, said in [
+            ([], "fly", 2, 'scenario: standard input, line 1: "fly": wants sites N tolerated F first'),
+            (["--back"], "{}", 2, "scenario: standard input: the keys: wants sites, f"),
+            (["--back", os.path.join(TOP, "README.md")], "", 2, f"scenario: {TOP}/README.md: the text is no JSON: line 1"),
+            (["none.script"], "", 3, "scenario: none.script: No such file or directory"),
+            (["--forth"], "", 1, "scenario: unrecognized arguments: --forth"),
+        ]:
             wrong = subprocess.run(tool + words, input=text, capture_output=True, text=True)
-            self.assertEqual((wrong.returncode, wrong.stdout), (2, ""))
+            self.assertEqual((wrong.returncode, wrong.stdout), (status, ""))
             self.assertTrue(wrong.stderr.startswith(said), wrong.stderr)
+
+    def test_no_end_is_a_traceback(self):
+        tool = [sys.executable, os.path.join(TOP, "tools", "scenario")]
+        script = os.path.join(TOP, "examples", "ten_thousand_calls.script")
+        with open("/dev/full", "w", encoding="utf-8") as full:
+            ended = subprocess.run(tool + [script], stdout=full, stderr=subprocess.PIPE, text=True)
+        self.assertEqual(ended.returncode, 4)
+        self.assertIn("could not be written to its end: No space left on device", ended.stderr)
+        reader, writer = os.pipe()
+        os.close(reader)
+        ended = subprocess.run(tool + [script], stdout=writer, stderr=subprocess.PIPE, text=True)
+        os.close(writer)
+        self.assertEqual((ended.returncode, ended.stderr), (4, ""))
+        ended = subprocess.run(tool, input=b"sites 1 tolerated 0\n\xff\n", capture_output=True)
+        self.assertEqual((ended.returncode, ended.stderr), (2, b"scenario: standard input, line 2: wants text in UTF-8\n"))
 
 
 if __name__ == "__main__":

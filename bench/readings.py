@@ -1,0 +1,311 @@
+"""The scenario that bytes spell, or the first place that is wrong in them, as docs/FORMATS.md has it under "Scenarios".
+
+The texts are those of the program, and so are the line and the column of what is no JSON: there the program names the lexeme
+at which its reader stands, so `Reader` goes through the lexemes in the same way.
+"""
+
+import json
+import re
+
+MOST_BYTES, MOST_DEPTH = 16_777_216, 127
+MOST_SITES, MOST_CONTAINERS, MOST_CLIENTS = 8, 256, 1024
+LEAST_CAPACITY, MOST_CAPACITY = 19, 1_099_511_627_776
+MOST_CALL, MOST_PACKET = 1_000_000, (1 << 32) - 1
+NEEDED, BESIDES = ("sites", "f", "containers", "clients", "steps"), ("capacity", "arms")
+
+TEXTS = {
+    "long": f"the text: wants at most {MOST_BYTES} bytes",
+    "json": "the text: wants JSON in UTF-8, an object outermost",
+    "keys": "the keys: wants sites, f, containers, clients and steps, and takes capacity and arms besides",
+    "sites": "sites: wants a whole number from 1 to 8",
+    "f": "f: wants a whole number below sites",
+    "containers": 'container {}: wants [number, "regular" or "cset", site] in a list, numbers below 2^32 that rise, a site '
+                  "below sites, at most 256",
+    "clients": "client {}: wants [site, bytes] in a list, a site below sites, an even number of hex digits, at most 1024 of "
+               "each site",
+    "capacity": "the capacity: wants a whole number from 19 to 1099511627776",
+    "arms": "arm {}: wants [site, nth, choice] in a list, a site below sites, an nth from 1 to 1000000, a choice below 2^64",
+    "steps": 'step {}: wants ["call", client], ["deliver", site, from, number], ["advance", site, from], ["tick", site], '
+             '["stop", site], ["restart", site] or ["arm", site, nth, choice] in a list, a client of the scenario, a site '
+             "below sites, a from that is another one, a number from 1 to 4294967295, an nth from 1 to 1000000, a choice "
+             "below 2^64",
+}
+
+
+class Refused(Exception):
+    """The bytes spell no scenario: the text of the first place that is wrong."""
+
+
+def refuse(place, *index):
+    raise Refused(TEXTS[place].format(*index))
+
+
+# ---- JSON
+
+
+LEXEME = re.compile(rb'[{}\[\]:,]|"[^"\\]*(?:\\.[^"\\]*)*"?|[^ \t\n\r{}\[\]:,]+', re.S)
+ESCAPE = (rb'\\(?:["\\/bfnrt]|u(?:[0-9a-cA-CefEF][0-9a-fA-F]{3}|[dD][0-7][0-9a-fA-F]{2}|'
+          rb"[dD][89abAB][0-9a-fA-F]{2}\\u[dD][c-fC-F][0-9a-fA-F]{2}))")
+RIGHT_STRING = re.compile(rb'"[^"\\\x00-\x1f]*(?:' + ESCAPE + rb'[^"\\\x00-\x1f]*)*"')
+NUMBER = re.compile(rb"-?(?:0|[1-9][0-9]*)((?:\.[0-9]+)?(?:[eE][+-]?[0-9]+)?)")
+LITERALS = {b"true": True, b"false": False, b"null": None}
+
+
+class Stopped(Exception):
+    """The text is no JSON: the reader stands at its lexeme."""
+
+
+class Reader:
+    """Goes through the lexemes of a text. `place` says what may stand at the next one."""
+
+    def __init__(self, data):
+        self.data, self.lexemes = data, LEXEME.finditer(data)
+        self.place = "fresh"
+        self.skip()
+
+    def skip(self):
+        """Goes on to the next lexeme: what it is, none at the end, and where it begins."""
+        found = next(self.lexemes, None)
+        self.lexeme = found[0] if found else b""
+        self.at = found.start() if found else len(self.data)
+
+    def pass_comma(self):
+        self.place = "after value"
+        if self.lexeme == b",":
+            self.skip()
+            self.place = "after comma"
+
+    def token(self):
+        """The next token: its kind and its value. None at the end, where no value is wanted any more."""
+        lexeme, may_close = self.lexeme, self.place != "after comma"
+        if lexeme in (b"}", b"]"):
+            if not may_close:
+                raise Stopped
+            self.skip()
+            self.pass_comma()
+            return lexeme, None
+        if not lexeme and may_close:
+            return None
+        if not lexeme or self.place == "after value" or lexeme in (b",", b":"):
+            raise Stopped
+        if lexeme in (b"{", b"["):
+            self.skip()
+            self.place = "fresh"
+            return lexeme, None
+        return self.string() if lexeme[:1] == b'"' else self.word()
+
+    def string(self):
+        if not RIGHT_STRING.fullmatch(self.lexeme):
+            raise Stopped
+        text = json.loads(self.lexeme.decode())
+        self.skip()
+        if self.lexeme == b":":
+            self.skip()
+            self.place = "fresh"
+            return "key", text
+        self.pass_comma()
+        return "value", text
+
+    def word(self):
+        lexeme = self.lexeme
+        number = NUMBER.fullmatch(lexeme)
+        if not number and lexeme not in LITERALS:
+            raise Stopped
+        self.skip()
+        self.pass_comma()
+        return "value", self.number(lexeme, number[1]) if number else LITERALS[lexeme]
+
+    def number(self, lexeme, behind):
+        """A whole number is an int, and any other a float."""
+        if not behind and len(lexeme) <= 20:
+            whole = int(lexeme)
+            if whole < 1 << 64 and lexeme[:2] != b"-0":
+                return whole if whole >= -1 << 63 else float(whole)
+        number = float(lexeme)
+        if number in (float("inf"), float("-inf")):
+            raise Stopped
+        return number
+
+    def value(self, depth):
+        token = self.token()
+        kind, value = token or (None, None)
+        if kind == "value":
+            return value
+        if kind not in (b"[", b"{") or depth == 0:
+            raise Stopped
+        return self.items(depth - 1) if kind == b"[" else self.members(depth - 1)
+
+    def items(self, depth):
+        items = []
+        while self.lexeme != b"]" or self.place == "after comma":
+            items.append(self.value(depth))
+        self.token()
+        return items
+
+    def members(self, depth):
+        members = {}
+        while True:
+            kind, key = self.token() or (None, None)
+            if kind == b"}":
+                return members
+            if kind != "key":
+                raise Stopped
+            members[key] = self.value(depth)
+
+    def whole(self):
+        value = self.value(MOST_DEPTH)
+        if self.lexeme or self.place == "after comma":
+            raise Stopped
+        return value
+
+
+def json_of(data):
+    """The value that the bytes are as JSON."""
+    try:
+        data.decode()
+    except UnicodeDecodeError:
+        refuse("json")
+    reader = Reader(data)
+    try:
+        return reader.whole()
+    except Stopped:
+        before = data[: reader.at]
+        line, column = before.count(b"\n") + 1, reader.at - (before.rfind(b"\n") + 1)
+        raise Refused(f"the text is no JSON: line {line}, column {column + (reader.at < len(data))}") from None
+
+
+# ---- places
+
+
+def is_whole(value, least, below):
+    return type(value) is int and least <= value < below
+
+
+def is_site(value, sites):
+    return is_whole(value, 0, sites)
+
+
+def are_items(value, count):
+    return type(value) is list and len(value) == count
+
+
+def is_container(value, sites, least):
+    return (are_items(value, 3) and is_whole(value[0], least, 1 << 32) and value[1] in ("regular", "cset")
+            and is_site(value[2], sites))
+
+
+def is_client(value, sites):
+    return (are_items(value, 2) and is_site(value[0], sites) and type(value[1]) is str
+            and re.fullmatch("(?:[0-9a-fA-F]{2})*", value[1]) is not None)
+
+
+def is_arm(value, sites):
+    return (are_items(value, 3) and is_site(value[0], sites) and is_whole(value[1], 1, MOST_CALL + 1)
+            and is_whole(value[2], 0, 1 << 64))
+
+
+def are_peers(value, sites):
+    return is_site(value[0], sites) and is_site(value[1], sites) and value[0] != value[1]
+
+
+def is_step(value, sites, clients):
+    if type(value) is not list or not value or type(value[0]) is not str:
+        return False
+    word, *fields = value
+    if word == "call":
+        return len(fields) == 1 and is_whole(fields[0], 0, clients)
+    if word in ("tick", "stop", "restart"):
+        return len(fields) == 1 and is_site(fields[0], sites)
+    if word == "advance":
+        return len(fields) == 2 and are_peers(fields, sites)
+    if word == "deliver":
+        return len(fields) == 3 and are_peers(fields, sites) and is_whole(fields[2], 1, MOST_PACKET + 1)
+    return word == "arm" and is_arm(fields, sites)
+
+
+def check_items(place, value, is_right):
+    """Each item of a list is right, by what stands before it."""
+    if type(value) is not list:
+        refuse(place, 0)
+    for index, item in enumerate(value):
+        if not is_right(index, item):
+            refuse(place, index)
+
+
+def check_keys(members):
+    other = sorted((key for key in members if key not in NEEDED + BESIDES), key=str.encode)
+    if other:
+        raise Refused(f"key {quoted(other[0])}: a scenario has none")
+    if any(key not in members for key in NEEDED):
+        refuse("keys")
+
+
+def quoted(text):
+    """A text as the program quotes it."""
+    plain = {"\n": "\\n", "\r": "\\r", "\t": "\\t", "\0": "\\0", '"': '\\"', "\\": "\\\\"}
+    return '"' + "".join(plain.get(c) or (c if c.isprintable() else f"\\u{{{ord(c):x}}}") for c in text) + '"'
+
+
+def check_containers(value, sites):
+    def is_right(index, item):
+        least = value[index - 1][0] + 1 if index else 0
+        return index < MOST_CONTAINERS and is_container(item, sites, least)
+
+    check_items("containers", value, is_right)
+
+
+def check_clients(value, sites):
+    counts = [0] * sites
+
+    def is_right(_, item):
+        if not is_client(item, sites):
+            return False
+        counts[item[0]] += 1
+        return counts[item[0]] <= MOST_CLIENTS
+
+    check_items("clients", value, is_right)
+
+
+def check(value):
+    """The value is a scenario."""
+    if type(value) is not dict:
+        refuse("json")
+    check_keys(value)
+    sites = value["sites"]
+    if not is_whole(sites, 1, MOST_SITES + 1):
+        refuse("sites")
+    if not is_whole(value["f"], 0, sites):
+        refuse("f")
+    check_containers(value["containers"], sites)
+    check_clients(value["clients"], sites)
+    if "capacity" in value and not is_whole(value["capacity"], LEAST_CAPACITY, MOST_CAPACITY + 1):
+        refuse("capacity")
+    if "arms" in value:
+        check_items("arms", value["arms"], lambda _, item: is_arm(item, sites))
+    clients = len(value["clients"])
+    check_items("steps", value["steps"], lambda _, item: is_step(item, sites, clients))
+    return value
+
+
+def plain_reading(data):
+    """What Python reads, where it is a scenario and nothing in its text could be read otherwise; else None."""
+    pairs = []
+
+    def members(found):
+        pairs.append(len(found))
+        return dict(found)
+
+    if b"\\" in data or b"-" in data:
+        return None
+    try:
+        made = check(json.loads(data.decode(), object_pairs_hook=members))
+    except (ValueError, RecursionError, Refused):
+        return None
+    return made if pairs == [len(made)] else None
+
+
+def read(data):
+    """The scenario that the bytes spell."""
+    if len(data) > MOST_BYTES:
+        refuse("long")
+    return plain_reading(data) or check(json_of(data))

@@ -1,0 +1,149 @@
+"""The wrapper ./walter, over a folder with a program of its own and a stand-in for rt: nothing is proved here."""
+
+import os
+import shutil
+import stat
+import subprocess
+import tempfile
+import time
+import unittest
+
+from played import TOP, file_text
+
+USAGE = "walter: usage: walter play [--trace], with a scenario on standard input; the report comes on standard output\n"
+SCENARIO = os.path.join(TOP, "examples", "first_run.json")
+SCRIPT = os.path.join(TOP, "examples", "first_run.script")
+IS_SCRIPT = "walter: this is a script: tools/scenario makes a scenario of it, and tools/play plays it\n"
+# Writes its words, and then what it reads.
+PROGRAM = '#!/bin/sh\necho "$@"\nexec cat\n'
+# Says that it was called. `run` builds that program, and `try` writes what it is given.
+RT = """#!/bin/sh
+echo "$@" >>"$FOLDER/calls"
+case $1 in
+  run) mkdir -p out && cp "$FOLDER/program" out/walter ;;
+  try) cat "$FOLDER/output" && cat "$FOLDER/said" >&2 ;;
+esac
+"""
+ENDED = "checked: ended status={0}\nraces: not looked for\nrun=ended status={0} runners=1 races=unchecked proved=no\n"
+TOO_MUCH = "checked: no-answer: it wrote too much\nrun=no-answer proved=no\n"
+
+
+class Walter(unittest.TestCase):
+    def setUp(self):
+        self.folder = tempfile.mkdtemp()
+        self.addCleanup(shutil.rmtree, self.folder)
+        os.makedirs(os.path.join(self.folder, "crates", "walter", "src"))
+        shutil.copy(os.path.join(TOP, "walter"), self.folder)
+        self.write("crates.txt", "walter:\n")
+        self.write("crates/walter/src/main.rt", "fn main() {}\n")
+        self.write("program", PROGRAM, True)
+        self.write("rt", RT, True)
+        self.environment = {**os.environ, "FOLDER": self.folder, "PATH": self.folder + ":" + os.environ["PATH"], "LC_ALL": "C"}
+
+    def write(self, name, text, is_program=False):
+        path = os.path.join(self.folder, name)
+        with open(path, "w", encoding="utf-8") as file:
+            file.write(text)
+        if is_program:
+            os.chmod(path, os.stat(path).st_mode | stat.S_IXUSR)
+
+    def answers(self, output, said):
+        self.write("output", output)
+        self.write("said", said)
+
+    def run_it(self, *words, **more):
+        more = {"stdin": subprocess.DEVNULL, "stdout": subprocess.PIPE, **more}
+        if "input" in more:
+            del more["stdin"]
+        ended = subprocess.run([os.path.join(self.folder, "walter"), *words], stderr=subprocess.PIPE, encoding="utf-8",
+                               env=self.environment, timeout=60, **more)
+        return ended.returncode, ended.stdout, ended.stderr
+
+    def calls(self):
+        path = os.path.join(self.folder, "calls")
+        return file_text(path) if os.path.exists(path) else ""
+
+    def test_what_asks_for_no_run_is_answered_at_once(self):
+        for words in [], ["run"], ["play", "--fast"], ["play", "--trace", "--trace"], ["play", "a", "b"], ["play", ""], \
+                ["--help", "play"], ["--unproved"], ["--unproved", "play", "--fast"], ["--trace", "play"]:
+            with self.subTest(words):
+                self.assertEqual(self.run_it(*words), (1, "", USAGE))
+        for word, begins in [("--help", "usage: walter [--unproved] play [--trace] [FILE]\n"),
+                             ("--version", "walter of the sources ")]:
+            begun = time.perf_counter()
+            status, said, wrong = self.run_it(word)
+            self.assertEqual((status, wrong, said[: len(begins)]), (0, "", begins))
+            self.assertLess(time.perf_counter() - begun, 5)
+        with open("/dev/full", "w", encoding="utf-8") as full:
+            self.assertEqual(self.run_it("--help", stdout=full)[::2],
+                             (4, "walter: the text could not be written to its end\n"))
+        self.assertEqual(self.calls(), "")
+
+    def test_a_file_that_is_not_there_is_named(self):
+        for path, why in ("none.json", "No such file or directory"), (self.folder, "Is a directory"):
+            for words in ["play", path], ["play", "--trace", path], ["--unproved", "play", path]:
+                self.assertEqual(self.run_it(*words), (3, "", f"walter: {path}: {why}\n"))
+        self.assertEqual(self.calls(), "")
+
+    def test_a_script_is_told_what_plays_it(self):
+        with open(SCRIPT, encoding="utf-8") as script:
+            self.assertEqual(self.run_it("play", stdin=script), (2, "", IS_SCRIPT))
+        self.assertEqual(self.run_it("play", SCRIPT), (2, "", IS_SCRIPT))
+        self.assertEqual(self.run_it("--unproved", "play", "--trace", input=file_text(SCRIPT)), (2, "", IS_SCRIPT))
+        self.assertEqual(self.run_it("play", input="\n\n  sites 1 tolerated 0\n"), (2, "", IS_SCRIPT))
+        self.assertEqual(self.calls(), "")
+
+    def test_a_file_is_played_as_standard_input_is(self):
+        status, played, said = self.run_it("play", SCENARIO)
+        self.assertEqual((status, played), (0, "play\n" + file_text(SCENARIO)))
+        self.assertIn("about half an hour to an hour on four processors", said)
+        with open(SCENARIO, encoding="utf-8") as scenario:
+            self.assertEqual(self.run_it("play", stdin=scenario), (0, played, ""))
+        self.assertEqual(self.run_it("play", input=file_text(SCENARIO)), (0, played, ""))
+        self.assertEqual(self.run_it("play", SCENARIO, "--trace"), (0, "play --trace\n" + file_text(SCENARIO), ""))
+        self.assertEqual(self.calls(), "run\n")
+        self.assertIn("proved and built here", self.run_it("--version")[1])
+
+    def test_where_nothing_can_be_proved_the_status_says_so(self):
+        self.write("rt", "#!/bin/sh\nexit 1\n", True)
+        self.assertEqual(self.run_it("play", SCENARIO)[:2], (9, ""))
+        os.remove(os.path.join(self.folder, "rt"))
+        self.environment["PATH"] = os.pathsep.join(part for part in os.environ["PATH"].split(os.pathsep)
+                                                   if not os.path.exists(os.path.join(part, "rt")))
+        for words, status in (["play", SCENARIO], 9), (["--unproved", "play", SCENARIO], 8):
+            found = self.run_it(*words)
+            self.assertEqual(found[:2], (status, ""))
+            self.assertIn("the command rt is not on the path", found[2])
+
+    def test_unproved_ends_as_the_program_did(self):
+        first = "walter: running without a proof, by rt try: this takes about a minute, and so does the next run\n"
+        self.answers("the report\n", ENDED.format(0))
+        self.assertEqual(self.run_it("--unproved", "play", SCENARIO), (0, "the report\n", first))
+        self.assertEqual(self.calls(), "try -- play\n")
+        self.answers("", "walter: the scenario is none\n" + ENDED.format(2))
+        self.assertEqual(self.run_it("--unproved", "play", SCENARIO), (2, "", first + "walter: the scenario is none\n"))
+
+    def test_unproved_has_a_status_where_there_is_no_answer(self):
+        self.answers("half a report", TOO_MUCH)
+        status, played, said = self.run_it("--unproved", "play", "--trace", SCENARIO)
+        self.assertEqual((status, played, said.splitlines()[1:]), (8, "", ["walter: no answer: it wrote too much"]))
+        self.answers("the report\n", ENDED.format(0))
+        closed = self.run_it("--unproved", "play", stdin=None, preexec_fn=lambda: os.close(0))
+        self.assertEqual((closed[0], closed[2].splitlines()[1:]), (8, ["walter: no answer: standard input is closed"]))
+        with open("/dev/full", "w", encoding="utf-8") as full:
+            status, _, said = self.run_it("--unproved", "play", SCENARIO, stdout=full)
+        self.assertEqual((status, said.splitlines()[1:]),
+                         (8, ["walter: no answer: the report could not be written to its end"]))
+        self.answers("", "error: the crate is refused\nrun=none proved=no\n")
+        status, _, said = self.run_it("--unproved", "play", SCENARIO)
+        self.assertEqual((status, said.splitlines()[1:]), (8, ["walter: no answer: error: the crate is refused"]))
+
+    def test_the_wrapper_of_this_repository_answers_at_once(self):
+        begun = time.perf_counter()
+        for word in "--help", "--version":
+            self.assertEqual(subprocess.run([os.path.join(TOP, "walter"), word], capture_output=True).returncode, 0)
+        self.assertLess(time.perf_counter() - begun, 10)
+
+
+if __name__ == "__main__":
+    unittest.main()
