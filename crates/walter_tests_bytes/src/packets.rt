@@ -17,6 +17,7 @@ fn said(packet: &Packet) -> (u8, u64, u64) {
         Packet::Propagate(_, tx) => tx.tid.number,
         Packet::Prepare(_, tid, _, _) => tid.number,
         Packet::Vote(_, Answer::Yes) => 1,
+        Packet::Vote(_, Answer::Later) => 2,
         Packet::Vote(_, Answer::No(Conflict::Modified { oid: _, version })) => version.seq,
         Packet::Vote(_, Answer::No(Conflict::Locked { oid: _, owner })) => owner.number,
         _ => 0,
@@ -39,7 +40,7 @@ fn read(alloc: Global, bytes: &[u8]) -> Result<(u8, u64, u64), Fail> {
 }
 
 /// Each row: the bytes of a packet, in parts, and what it says.
-static SPELLINGS: [(&[&[u8]], (u8, u64, u64)); 16] = [
+static SPELLINGS: [(&[&[u8]], (u8, u64, u64)); 17] = [
     (&[&[1, 0, 0, 0, 0, 0, 0, 0, 7], &HELL, b"o"], (1, 7, 1)),
     (&[&[2], &[0; 8]], (2, 0, 0)),
     (&[&[2], &MOST], (2, u64::MAX, 0)),
@@ -49,6 +50,7 @@ static SPELLINGS: [(&[&[u8]], (u8, u64, u64)); 16] = [
     (&[&[4], &MOST], (4, u64::MAX, 0)),
     (&[&PREPARE, &TID, &[0; 64], &[0, 1], &OBJECT], (5, 1, 1)),
     (&[&VOTE, &[1]], (6, 1, 1)),
+    (&[&VOTE, &[2]], (6, 1, 2)),
     (&[&VOTE, &[0, 1], &OBJECT, &[1], &MOST], (6, 1, u64::MAX)),
     (&[&VOTE, &[0, 2], &OBJECT, &TID], (6, 1, 1)),
     (&[&VOTE, &[0, 4]], (6, 1, 0)),
@@ -69,7 +71,7 @@ fn packets_are_read_and_written_again(rt: HostRuntime) -> Result<(), Fail> {
 
 /// Each row: bytes that spell no packet among two sites, in parts. In the last two the third site is not there, and an
 /// object stands twice.
-static REFUSED: [&[&[u8]]; 15] = [
+static REFUSED: [&[&[u8]]; 16] = [
     &[],
     &[&[0], &[0; 8]],
     &[&[9], &[0; 8]],
@@ -77,7 +79,8 @@ static REFUSED: [&[&[u8]]; 15] = [
     &[&[2], &[0; 7]],
     &[&[3], &[0; 9]],
     &[&VOTE],
-    &[&VOTE, &[2]],
+    &[&VOTE, &[3]],
+    &[&VOTE, &[2, 0]],
     &[&VOTE, &[1, 0]],
     &[&VOTE, &[0]],
     &[&VOTE, &[0, 3]],
