@@ -9,6 +9,7 @@ import importlib.util
 import io
 import json
 import os
+import resource
 import sys
 from collections import Counter
 from unittest import mock
@@ -29,6 +30,12 @@ gc.disable()
 def file_text(path):
     with open(path, encoding="utf-8") as source:
         return source.read()
+
+
+def seconds_of_commands():
+    """The processor time of the commands that tests have run so far: how long they are waited for depends on the machine's load."""
+    taken = resource.getrusage(resource.RUSAGE_CHILDREN)
+    return taken.ru_utime + taken.ru_stime
 
 
 def examples(kind):

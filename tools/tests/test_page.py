@@ -75,7 +75,7 @@ def in_browser(page):
         with open(path, "w", encoding="utf-8") as file:
             file.write(page.replace("</body>", TRIAL))
         words = [BROWSER, "--headless", "--no-sandbox", "--disable-gpu", f"--user-data-dir={folder}", "--dump-dom"]
-        shown = subprocess.run(words + ["file://" + path], capture_output=True, text=True, timeout=300).stdout
+        shown = subprocess.run(words + ["file://" + path], capture_output=True, text=True, timeout=900).stdout
     found = re.search(r'<pre id="tried">(.*?)</pre>', shown, re.DOTALL)
     return json.loads(found[1].replace("&gt;", ">").replace("&lt;", "<").replace("&amp;", "&"))
 

@@ -8,11 +8,11 @@ import stat
 import subprocess
 import sys
 import tempfile
-import time
 import unittest
 import unittest.mock
 
-from played import RANDOM, TOP, by_model, examples, file_text, random_run, run_tool, tool, without_trace
+from played import RANDOM, TOP, by_model, examples, file_text, random_run, run_tool, seconds_of_commands, tool, \
+    without_trace
 
 EXAMPLES = os.path.join(TOP, "examples")
 SLOW = os.path.join(EXAMPLES, "slow_commit.script")
@@ -86,12 +86,12 @@ class Play(unittest.TestCase):
         self.assertEqual((status, told.count(" | to ")), (0, 3))
 
     def test_it_is_a_command(self):
-        begun = time.perf_counter()
+        begun = seconds_of_commands()
         played = subprocess.run([sys.executable, os.path.join(TOP, "tools", "play"), "-"], input=file_text(SLOW),
                                 capture_output=True, text=True)
         self.assertEqual((played.returncode, played.stdout), (0, file_text(SLOW.replace(".script", ".expect"))))
-        # Half a second, as far as another Python takes no time to begin: but machines are slow.
-        self.assertLess(time.perf_counter() - begun, 20)
+        # Half a second where nothing else runs: processor time is more where processors are shared.
+        self.assertLess(seconds_of_commands() - begun, 5)
 
     def test_the_report_and_a_picture(self):
         report = without_trace(by_model(file_text(SLOW.replace(".script", ".json"))).text())

@@ -20,7 +20,7 @@ PACKET_ROW = re.compile(r"^\| ([A-Z]+) n \|", re.MULTILINE)
 
 def run(command, folder):
     """What a command writes and its status, in a folder that has the repository's own beside it."""
-    made = subprocess.run(["bash", "-c", command], cwd=folder, capture_output=True, text=True, timeout=300)
+    made = subprocess.run(["bash", "-c", command], cwd=folder, capture_output=True, text=True, timeout=900)
     return made.returncode, made.stdout, made.stderr
 
 

@@ -5,10 +5,9 @@ import shutil
 import stat
 import subprocess
 import tempfile
-import time
 import unittest
 
-from played import TOP, file_text
+from played import TOP, file_text, seconds_of_commands
 
 USAGE = "walter: usage: walter play [--trace], with a scenario on standard input; the report comes on standard output\n"
 SCENARIO = os.path.join(TOP, "examples", "first_run.json")
@@ -56,7 +55,7 @@ class Walter(unittest.TestCase):
         if "input" in more:
             del more["stdin"]
         ended = subprocess.run([os.path.join(self.folder, "walter"), *words], stderr=subprocess.PIPE, encoding="utf-8",
-                               env=self.environment, timeout=60, **more)
+                               env=self.environment, timeout=900, **more)
         return ended.returncode, ended.stdout, ended.stderr
 
     def calls(self):
@@ -70,10 +69,10 @@ class Walter(unittest.TestCase):
                 self.assertEqual(self.run_it(*words), (1, "", USAGE))
         for word, begins in [("--help", "usage: walter [--unproved] play [--trace] [FILE]\n"),
                              ("--version", "walter of the sources ")]:
-            begun = time.perf_counter()
+            begun = seconds_of_commands()
             status, said, wrong = self.run_it(word)
             self.assertEqual((status, wrong, said[: len(begins)]), (0, "", begins))
-            self.assertLess(time.perf_counter() - begun, 5)
+            self.assertLess(seconds_of_commands() - begun, 5)
         with open("/dev/full", "w", encoding="utf-8") as full:
             self.assertEqual(self.run_it("--help", stdout=full)[::2],
                              (4, "walter: the text could not be written to its end\n"))
@@ -139,10 +138,10 @@ class Walter(unittest.TestCase):
         self.assertEqual((status, said.splitlines()[1:]), (8, ["walter: no answer: error: the crate is refused"]))
 
     def test_the_wrapper_of_this_repository_answers_at_once(self):
-        begun = time.perf_counter()
+        begun = seconds_of_commands()
         for word in "--help", "--version":
             self.assertEqual(subprocess.run([os.path.join(TOP, "walter"), word], capture_output=True).returncode, 0)
-        self.assertLess(time.perf_counter() - begun, 10)
+        self.assertLess(seconds_of_commands() - begun, 10)
 
 
 if __name__ == "__main__":
