@@ -2,8 +2,8 @@
 
 Of ten seeds in a row one makes a scenario that comes to a limit: a site's open transactions, the updates and the bytes of a
 transaction, the ids of a set, the bytes of a value and of a frame, the packets of a lane, the commits in a window. Two make
-one of one site, and seven one of several, in the kinds of `SEVERAL`. These are made beside a run of the plain model, which tells which packets
-there are: so most deliveries find one, in order or not, again, late or never.
+one of one site, and seven one of several, in the kinds of `SEVERAL`. These are made beside a run of the plain model, which
+tells which packets there are: so most deliveries find one, in order or not, again, late or never.
 """
 
 import random
@@ -327,9 +327,9 @@ def full_window(rng):
     made = {"sites": sites, "f": rng.randrange(sites), "containers": [[2, "cset", 0]], "clients": [client]}
     run, steps = model.Run(made, Counter()), []
 
-    def take(*made):
-        steps.append(list(made))
-        run.step(*made)
+    def take(*step):
+        steps.append(list(step))
+        run.step(*step)
 
     for _ in range(3 * count):
         take("call", 0)

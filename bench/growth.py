@@ -26,10 +26,11 @@ import time
 from collections import Counter
 from string import ascii_lowercase
 
+from model import WINDOW
+
 HERE = os.path.dirname(os.path.abspath(__file__))
 CLIENTS = 10
 SITES = 3
-WINDOW = 64
 MOST_BYTES, MOST_ENTRIES = 16_777_216, 100_000
 START, COMMIT = "0000000101", "0000000108"
 # In a small process of its own: what a child took is never told as less than its parent had.
@@ -128,8 +129,8 @@ class Behind:
             # Behind them the tick says how many are durable.
             self.out[peer] += count + (self.acknowledged > 0)
             self.back[peer] += count
-        self.acknowledged += count
-        entering = max(0, min(count, self.transactions - WINDOW - self.acknowledged + count))
+        before, self.acknowledged = self.acknowledged, self.acknowledged + count
+        entering = min(self.transactions, self.acknowledged + WINDOW) - min(self.transactions, before + WINDOW)
         for peer in (1, 2):
             self.steps.append(["deliver", 0, peer, self.back[peer]])
             self.out[peer] += entering

@@ -111,8 +111,10 @@ def refusal(folder):
     run = subprocess.run(["rt", "ci", "walter_refinement"], cwd=folder, stdout=subprocess.PIPE, stderr=subprocess.STDOUT,
                          text=True)
     refused = re.search(r"^rt: (\w+) NOT PROVED", run.stdout, re.M)
+    if not refused and run.returncode != 0:
+        sys.exit("no answer: " + "".join(run.stdout.splitlines()[-1:]))
     if not refused:
-        return None if run.returncode == 0 else ("no crate", run.stdout.splitlines()[-1:])
+        return None
     places = re.findall(r"^\./(\S+?\.antt):\d+:\d+: error: `([^`]+)`", run.stdout, re.M)
     return refused[1], [f"{name} ({path})" for path, name in dict.fromkeys(places)] or run.stdout.splitlines()[-3:]
 

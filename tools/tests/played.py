@@ -10,7 +10,11 @@ import io
 import json
 import os
 import resource
+import shutil
+import stat
 import sys
+import tempfile
+import unittest
 from collections import Counter
 from unittest import mock
 
@@ -30,6 +34,22 @@ gc.disable()
 def file_text(path):
     with open(path, encoding="utf-8") as source:
         return source.read()
+
+
+class InFolder(unittest.TestCase):
+    """Tests that write files into a folder of their own."""
+
+    def setUp(self):
+        self.folder = tempfile.mkdtemp()
+        self.addCleanup(shutil.rmtree, self.folder)
+
+    def write(self, name, text, is_program=False):
+        path = os.path.join(self.folder, name)
+        with open(path, "w", encoding="utf-8") as file:
+            file.write(text)
+        if is_program:
+            os.chmod(path, os.stat(path).st_mode | stat.S_IXUSR)
+        return path
 
 
 def seconds_of_commands():

@@ -4,14 +4,12 @@ import os
 import re
 import shutil
 import signal
-import stat
 import subprocess
 import sys
-import tempfile
 import unittest
 import unittest.mock
 
-from played import RANDOM, TOP, by_model, examples, file_text, random_run, run_tool, seconds_of_commands, tool, \
+from played import InFolder, RANDOM, TOP, by_model, examples, file_text, random_run, run_tool, seconds_of_commands, tool, \
     without_trace
 
 EXAMPLES = os.path.join(TOP, "examples")
@@ -64,19 +62,7 @@ WANTED = [
 ]
 
 
-class Play(unittest.TestCase):
-    def setUp(self):
-        self.folder = tempfile.mkdtemp()
-        self.addCleanup(shutil.rmtree, self.folder)
-
-    def write(self, name, text, is_program=False):
-        path = os.path.join(self.folder, name)
-        with open(path, "w", encoding="utf-8") as file:
-            file.write(text)
-        if is_program:
-            os.chmod(path, os.stat(path).st_mode | stat.S_IXUSR)
-        return path
-
+class Play(InFolder):
     def test_a_script_and_a_scenario_are_told_in_words(self):
         expected = file_text(SLOW.replace(".script", ".expect"))
         self.assertEqual(run_tool("play", SLOW), (0, expected, ""))

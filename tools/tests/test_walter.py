@@ -2,12 +2,10 @@
 
 import os
 import shutil
-import stat
 import subprocess
-import tempfile
 import unittest
 
-from played import TOP, file_text, seconds_of_commands
+from played import InFolder, TOP, file_text, seconds_of_commands
 
 USAGE = "walter: usage: walter play [--trace], with a scenario on standard input; the report comes on standard output\n"
 SCENARIO = os.path.join(TOP, "examples", "first_run.json")
@@ -27,10 +25,9 @@ ENDED = "checked: ended status={0}\nraces: not looked for\nrun=ended status={0} 
 TOO_MUCH = "checked: no-answer: it wrote too much\nrun=no-answer proved=no\n"
 
 
-class Walter(unittest.TestCase):
+class Walter(InFolder):
     def setUp(self):
-        self.folder = tempfile.mkdtemp()
-        self.addCleanup(shutil.rmtree, self.folder)
+        super().setUp()
         os.makedirs(os.path.join(self.folder, "crates", "walter", "src"))
         shutil.copy(os.path.join(TOP, "walter"), self.folder)
         self.write("crates.txt", "walter:\n")
@@ -38,13 +35,6 @@ class Walter(unittest.TestCase):
         self.write("program", PROGRAM, True)
         self.write("rt", RT, True)
         self.environment = {**os.environ, "FOLDER": self.folder, "PATH": self.folder + ":" + os.environ["PATH"], "LC_ALL": "C"}
-
-    def write(self, name, text, is_program=False):
-        path = os.path.join(self.folder, name)
-        with open(path, "w", encoding="utf-8") as file:
-            file.write(text)
-        if is_program:
-            os.chmod(path, os.stat(path).st_mode | stat.S_IXUSR)
 
     def answers(self, output, said):
         self.write("output", output)
