@@ -64,7 +64,7 @@ static SPELLINGS: [(&[&[u8]], (u8, u64, u64)); 17] = [
 fn packets_are_read_and_written_again(rt: HostRuntime) -> Result<(), Fail> {
     for &(parts, wanted) in &SPELLINGS {
         let bytes = joined(rt.alloc(), parts)?;
-        assert_eq!(rt; read(rt.alloc(), &bytes)?, wanted);
+        assert!(rt; read(rt.alloc(), &bytes)? == wanted);
     }
     Ok(())
 }
@@ -101,7 +101,7 @@ fn what_is_no_spelling_is_refused(rt: HostRuntime) -> Result<(), Fail> {
     assert!(rt; decode(alloc, &joined(alloc, &THIRD)?, 3)?.is_some());
     for &(count, objects, is_taken) in &LISTS {
         let bytes = with_objects(alloc, &[&PREPARE, &TID, &[0; 64]], count, objects)?;
-        assert_eq!(rt; decode(alloc, &bytes, 2)?.is_some(), is_taken);
+        assert!(rt; decode(alloc, &bytes, 2)?.is_some() == is_taken);
     }
     Ok(())
 }

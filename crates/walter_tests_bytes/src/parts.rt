@@ -22,6 +22,9 @@ pub const OBJECT: [u8; 12] = [0, 0, 0, 1, 0, 0, 0, 0, 0, 0, 0, 5];
 
 pub const BEFORE: [u8; 12] = [0, 0, 0, 1, 0, 0, 0, 0, 0, 0, 0, 4];
 
+/// The objects 1, 0 to 1, 65535 without their last two bytes.
+const LOW_OBJECT: [u8; 10] = [0, 0, 0, 1, 0, 0, 0, 0, 0, 0];
+
 /// A count that is told, how many objects stand there, and whether a list is read so.
 pub static LISTS: [(u16, u16, bool); 6] = [
     (1, 1, true),
@@ -51,7 +54,7 @@ pub fn with_objects(
     let mut bytes = joined(alloc, front)?;
     bytes.extend_from_slice(&count.to_be_bytes())?;
     for local in 0..objects {
-        bytes.extend_from_slice(&[0, 0, 0, 1, 0, 0, 0, 0, 0, 0])?;
+        bytes.extend_from_slice(&LOW_OBJECT)?;
         bytes.extend_from_slice(&local.to_be_bytes())?;
     }
     Ok(bytes)

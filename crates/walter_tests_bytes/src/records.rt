@@ -63,7 +63,7 @@ static SPELLINGS: [(&[&[u8]], (u8, u8, u64, u64)); 14] = [
 fn records_are_read_and_written_again(rt: HostRuntime) -> Result<(), Fail> {
     for &(parts, wanted) in &SPELLINGS {
         let bytes = joined(rt.alloc(), parts)?;
-        assert_eq!(rt; read(rt.alloc(), &bytes)?, wanted);
+        assert!(rt; read(rt.alloc(), &bytes)? == wanted);
     }
     Ok(())
 }
@@ -97,7 +97,7 @@ fn what_is_no_spelling_is_refused(rt: HostRuntime) -> Result<(), Fail> {
     }
     for &(count, objects, is_taken) in &LISTS {
         let bytes = with_objects(alloc, &[&PREPARED, &TID], count, objects)?;
-        assert_eq!(rt; decode(alloc, &bytes, 2)?.is_some(), is_taken);
+        assert!(rt; decode(alloc, &bytes, 2)?.is_some() == is_taken);
     }
     Ok(())
 }
