@@ -7,11 +7,13 @@ Ends with status 1 where something isn't met.
 
 import json
 import os
+import re
 import struct
 import sys
 from collections import Counter
 
 import model
+import readings
 from spelled import *
 
 REGULAR_AT_0, REGULAR_AT_1, SET_AT_0 = [1, "regular", 0], [2, "regular", 1], [3, "cset", 0]
@@ -383,23 +385,68 @@ def content_of(name):
         return file.read()
 
 
-def written(command, scenario):
-    """What the program writes of a run: its report, with the trace behind it where that is asked for, and that it is right."""
+def expanded(text):
+    """The text, in which `<3*piece>` is three times the piece, as the program's tests have it."""
+
+    def pieces(found):
+        count, piece = found[1].split("*", 1)
+        return "".join(numbered(piece, number) for number in range(int(count)))
+
+    return re.sub("<([^>]*)>", pieces, text)
+
+
+def numbered(piece, number):
+    mark, shown = ("#", f"{number:012x}") if "#" in piece else ("%", str(number))
+    return piece.replace(mark, shown, 1)
+
+
+def cut(text):
+    """The text, or of a long one its front and its end."""
+    return f"{text[:100]} .. {text[-100:]}" if len(text) > 300 else text
+
+
+def brief(report):
+    lines = report.splitlines()
+    return "\n".join([f"{len(lines)} lines, and the last are", *map(cut, lines[-3:])]) + "\n"
+
+
+def report_of(command, scenario):
     lines = model.play(json.loads(scenario), Counter()).splitlines(keepends=True)
-    return "".join(line for line in lines if command == "trace" or not line.startswith("e ")) + "legal, and the same without disks\n"
+    return "".join(line for line in lines if command == "trace" or not line.startswith("e "))
+
+
+def refused(data):
+    """What is wrong with bytes that spell no scenario."""
+    try:
+        readings.read(data)
+    except readings.Refused as wrong:
+        return f"{wrong}\n"
+
+
+def written(line):
+    """What the program is to write of a line of its tests, or None where the model doesn't say it: it knows no end of a trail."""
+    command, _, rest = line.partition(" ")
+    text = expanded(rest)
+    if command in ("report", "trace"):
+        return report_of(command, text) + "legal, and the same without disks\n"
+    if command == "brief" and text.count('"call"') < 100_000:
+        return brief(report_of(command, text))
+    if command in ("read", "bytes"):
+        return refused(text.encode() if command == "read" else bytes.fromhex(text))
 
 
 def tested_runs():
     """The runs that the program is tested by: of each what stands before it, what it is to write, and what the model does."""
-    lines = iter(content_of("stdin").splitlines())
+    lines = content_of("stdin").splitlines()[::-1]
     for told in content_of("stdout").split("# ")[1:]:
         said, _, wanted = told.partition("\n")
-        line = next(lines)
+        line = lines.pop()
         assert line == f"# {said}", line
-        if wanted:
-            command, _, scenario = next(lines).partition(" ")
-            if command in ("report", "trace"):
-                yield said, wanted, written(command, scenario)
+        found = []
+        while lines and not lines[-1].startswith("#"):
+            found.append(written(lines.pop()))
+        if found and None not in found:
+            yield said, wanted, "".join(found)
 
 
 def main():

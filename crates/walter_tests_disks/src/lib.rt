@@ -1,7 +1,9 @@
-//! Tests of disks in memory, and of journals over them. The crate has nothing else.
+//! Tests of disks in memory, of journals over them, and of streams over std. The crate has nothing else.
 #![tactic(auto)]
 
 #[cfg(test)]
 mod disks;
 #[cfg(test)]
 mod journals;
+#[cfg(test)]
+mod streams;

@@ -1,20 +1,30 @@
-//! Plays the runs of its input by the program, and says what came of them. A line that begins with `#` is said again.
+//! Plays the runs of its input by the program, and says what came of them. A line that begins with `#` is said again. In what
+//! stands behind the first word of a line `<3*piece>` is three times the piece.
 //!
 //! | line | what is said |
 //! |---|---|
 //! | `report SCENARIO`, `trace SCENARIO` | what `play`, or `play --trace`, writes of it; that its history is legal; and that its events come to the same at sites without disks |
+//! | `brief SCENARIO` | the last three lines of what `play` writes of it, each without its middle where it is long |
+//! | `ends GIVEN.. SCENARIO` | how `play` ends over sources, sinks, racks and disks that are given: see `ending` |
+//! | `called WORDS..` | how the program ends that is called with these words, where nothing can be read |
+//! | `read SCENARIO`, `bytes HEX` | the scenario that the text or the bytes spell, or what is wrong with them |
+//! | `memory` | what is said where memory runs out |
 //! | `random SEEDS` | whether so many runs at random are so, and enough happens in them |
 //! | `sinks SCENARIO` | what the sinks of a bench's two clients hold |
 #![tactic(auto)]
 
 mod benches;
+mod ending;
 mod playing;
 mod schedules;
+mod texts;
 mod worlds;
 
 use crate::benches::held_by_sinks;
+use crate::ending::{end, reading, want_of_memory};
 use crate::playing::{Run, legal_history, play};
 use crate::schedules::play_at_random;
+use crate::texts::{end_of, expanded};
 use crate::worlds::is_same_in_a_world;
 use anyhow::{Result, bail};
 
@@ -34,21 +44,48 @@ fn play_line(rt: &impl AllocGlobal, command: &str, scenario: &str) -> Result<Str
     Ok(format!(in rt.alloc(); "{}{told}", run.report)?)
 }
 
-// What a line of input comes to.
-fn answer(rt: &impl AllocGlobal, line: &str) -> Result<String> {
+fn play_in_brief(rt: &impl AllocGlobal, scenario: &str) -> Result<String> {
+    let run = play(rt, false, scenario)?;
+    Ok(end_of(rt.alloc(), &run.report)?)
+}
+
+// What is given stands before the scenario, which has no space.
+fn end_line(rt: &impl AllocGlobal, given_and_scenario: &str) -> Result<String> {
+    let (given, scenario) = given_and_scenario
+        .rsplit_once(' ')
+        .unwrap_or(("", given_and_scenario));
+    end(rt, "play", given, scenario)
+}
+
+// What a command comes to.
+fn answer(rt: &impl AllocGlobal, command: &str, rest: &str) -> Result<String> {
     let alloc = rt.alloc();
-    match line.split_once(' ') {
-        Some(("#", _)) => Ok(String::from_str(alloc, line)?),
-        Some((command @ ("report" | "trace"), scenario)) => play_line(rt, command, scenario),
-        Some(("random", seeds)) => play_at_random(rt, seeds.parse().unwrap_or(0)),
-        Some(("sinks", scenario)) => held_by_sinks(alloc, scenario),
+    match command {
+        "report" | "trace" => play_line(rt, command, rest),
+        "brief" => play_in_brief(rt, rest),
+        "ends" => end_line(rt, rest),
+        "called" => end(rt, rest, "", ""),
+        "read" => Ok(reading(alloc, rest.as_bytes())?),
+        "bytes" => Ok(reading(alloc, &hex::decode(alloc, rest)?)?),
+        "memory" => Ok(want_of_memory(alloc)?),
+        "random" => play_at_random(rt, rest.parse().unwrap_or(0)),
+        "sinks" => held_by_sinks(alloc, rest),
         _ => bail!("no line of this kind"),
+    }
+}
+
+// What a line of input comes to.
+fn answer_line(rt: &impl AllocGlobal, line: &str) -> Result<String> {
+    match line.split_once(' ') {
+        Some(("#", _)) => Ok(String::from_str(rt.alloc(), line)?),
+        Some((command, rest)) => answer(rt, command, &expanded(rt.alloc(), rest)?),
+        None => answer(rt, line, ""),
     }
 }
 
 fn main(rt: HostRuntime) -> Result<()> {
     for line in rt.lines(rt.alloc()) {
-        match answer(&rt, line?.as_str()) {
+        match answer_line(&rt, line?.as_str()) {
             Ok(text) => println!(rt; "{text}")?,
             Err(wrong) => println!(rt; "wrong: {wrong}")?,
         }

@@ -51,20 +51,47 @@ const OTHER: ObjId = ObjId {
     local: 0,
 };
 
-fn version() -> Version {
-    Version {
-        site: SiteId(0),
-        seq: 4,
-    }
-}
+const VERSION: Version = Version {
+    site: SiteId(0),
+    seq: 4,
+};
 
-fn owner() -> Tid {
-    Tid {
-        site: SiteId(1),
-        epoch: 2,
-        number: 3,
-    }
-}
+const OWNER: Tid = Tid {
+    site: SiteId(1),
+    epoch: 2,
+    number: 3,
+};
+
+const FIRST_MODIFIED: Conflict = Conflict::Modified {
+    oid: FIRST,
+    version: VERSION,
+};
+
+const FIRST_LOCKED: Conflict = Conflict::Locked {
+    oid: FIRST,
+    owner: OWNER,
+};
+
+const SECOND_MODIFIED: Conflict = Conflict::Modified {
+    oid: SECOND,
+    version: VERSION,
+};
+
+const SECOND_LOCKED: Conflict = Conflict::Locked {
+    oid: SECOND,
+    owner: OWNER,
+};
+
+/// How many commits of site 0 the snapshot sees, which object has the version and which is locked; and what a commit of
+/// the first object and then the second meets.
+static ROWS: [(u64, ObjId, ObjId, Option<Conflict>); 6] = [
+    (4, FIRST, OTHER, None),
+    (3, OTHER, OTHER, None),
+    (3, FIRST, SECOND, Some(FIRST_MODIFIED)),
+    (3, SECOND, FIRST, Some(FIRST_LOCKED)),
+    (3, SECOND, SECOND, Some(SECOND_MODIFIED)),
+    (4, SECOND, SECOND, Some(SECOND_LOCKED)),
+];
 
 /// Two objects, not in the order of their names.
 fn both(alloc: Global) -> Mem<Objects> {
@@ -72,41 +99,23 @@ fn both(alloc: Global) -> Mem<Objects> {
     Ok(Objects::from(objects))
 }
 
-/// What a commit of the objects meets, whose snapshot sees so many commits of site 0.
-fn met(objects: &Objects, seen: u64, written: ObjId, locked: ObjId) -> Result<(), Conflict> {
+fn met(objects: &Objects, seen: u64, written: ObjId, locked: ObjId) -> Option<Conflict> {
     let mut snapshot = Vts::zero(2);
     snapshot.raise(SiteId(0), seen);
     let pair = Pair {
         written,
-        version: version(),
+        version: VERSION,
         locked,
-        owner: owner(),
+        owner: OWNER,
     };
-    fast(objects, &snapshot, &pair)
-}
-
-fn modified(oid: ObjId) -> Result<(), Conflict> {
-    Err(Conflict::Modified {
-        oid,
-        version: version(),
-    })
-}
-
-fn locked(oid: ObjId) -> Result<(), Conflict> {
-    Err(Conflict::Locked {
-        oid,
-        owner: owner(),
-    })
+    fast(objects, &snapshot, &pair).err()
 }
 
 #[test]
 fn the_first_conflict_is_the_answer(rt: HostRuntime) -> Result<(), Fail> {
     let objects = both(rt.alloc())?;
-    assert_eq!(rt; met(&objects, 4, FIRST, OTHER), Ok(()));
-    assert_eq!(rt; met(&objects, 3, OTHER, OTHER), Ok(()));
-    assert_eq!(rt; met(&objects, 3, FIRST, SECOND), modified(FIRST));
-    assert_eq!(rt; met(&objects, 3, SECOND, FIRST), locked(FIRST));
-    assert_eq!(rt; met(&objects, 3, SECOND, SECOND), modified(SECOND));
-    assert_eq!(rt; met(&objects, 4, SECOND, SECOND), locked(SECOND));
+    for &(seen, written, locked, wanted) in &ROWS {
+        assert!(rt; met(&objects, seen, written, locked) == wanted);
+    }
     Ok(())
 }

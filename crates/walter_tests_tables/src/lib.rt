@@ -1,25 +1,13 @@
-//! Tests of the tables of a site, one module for each crate. The crate has nothing else.
+//! Tests of the tables of a site, by tables of worked rows, one module for each crate. The crate has nothing else.
 #![tactic(auto)]
 
 #[cfg(test)]
 mod conflicts;
 #[cfg(test)]
-mod csets;
-#[cfg(test)]
-mod histories;
-#[cfg(test)]
-mod locks;
-#[cfg(test)]
-mod logs;
-#[cfg(test)]
 mod marks;
-#[cfg(test)]
-mod overlays;
 #[cfg(test)]
 mod propagation;
 #[cfg(test)]
-mod sessions;
+mod replays;
 #[cfg(test)]
 mod slow_commits;
-#[cfg(test)]
-mod trails;

@@ -14,6 +14,8 @@ const HERE: SiteId = SiteId(0);
 
 const THERE: SiteId = SiteId(1);
 
+const CONTAINERS: [(u32, Kind, SiteId); 2] = [(1, Kind::Regular, HERE), (2, Kind::Regular, THERE)];
+
 /// A record: transactions write a byte to an object of the container, which is preferred at site 0 for 1 and at site 1
 /// for 2; those of a slow commit are named by its number.
 #[derive(Clone, Copy)]
@@ -121,8 +123,7 @@ fn record_of(alloc: Global, kept: Kept) -> Mem<Record>
 fn unmade(alloc: Global) -> Result<Tables, Fail>
     ensures { IfOk result (λ tables. (catalog_of tables).sites ≡ 2) }
 {
-    let items = [(1, Kind::Regular, HERE), (2, Kind::Regular, THERE)];
-    let catalog = Catalog::build(alloc, 2, 0, &items)?;
+    let catalog = Catalog::build(alloc, 2, 0, &CONTAINERS)?;
     Ok(Tables::new(alloc, catalog, HERE)?)
 }
 
