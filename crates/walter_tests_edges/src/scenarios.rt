@@ -393,6 +393,120 @@ fn fault_text(alloc: Global, bytes: &[u8]) -> Result<String, Fail> {
     }
 }
 
+/// What of the scenario of several sites is replaced, by what, and what is said of its step then.
+const WRONG_STEPS: [(&str, &str, &str); 20] = [
+    (
+        "[[\"deliver\",0,2,1],[\"advance\",2,1],[\"tick\",1],[\"call\",0]]",
+        "{}",
+        "step 0, the value of steps: wants a list",
+    ),
+    ("[\"tick\",1]", "1", "step 2, its value: wants a list"),
+    (
+        "\"tick\"",
+        "\"pump\"",
+        "step 2, its word: wants \"call\", \"deliver\", \"advance\", \"tick\", \"stop\", \"restart\" or \"arm\"",
+    ),
+    (
+        "[\"deliver\",0,2,1]",
+        "[\"deliver\",0,2]",
+        "step 0, its length: wants just [\"deliver\", site, from, number]",
+    ),
+    (
+        "[\"advance\",2,1]",
+        "[\"advance\",2]",
+        "step 1, its length: wants just [\"advance\", site, from]",
+    ),
+    (
+        "[\"tick\",1]",
+        "[\"tick\"]",
+        "step 2, its length: wants just [\"tick\", site]",
+    ),
+    (
+        "[\"tick\",1]",
+        "[\"stop\",0,0,0,0]",
+        "step 2, its length: wants just [\"stop\", site]",
+    ),
+    (
+        "[\"tick\",1]",
+        "[\"restart\",1,1]",
+        "step 2, its length: wants just [\"restart\", site]",
+    ),
+    (
+        "[\"tick\",1]",
+        "[\"arm\",0,1]",
+        "step 2, its length: wants just [\"arm\", site, nth, choice]",
+    ),
+    (
+        "[\"call\",0]",
+        "[\"call\",0,0]",
+        "step 3, its length: wants just [\"call\", client]",
+    ),
+    (
+        "[\"call\",0]",
+        "[\"call\",1]",
+        "step 3, its client: wants a whole number below 1, the number of clients",
+    ),
+    (
+        "[\"tick\",1]",
+        "[\"tick\",3]",
+        "step 2, its site: wants a whole number below 3, the number of sites",
+    ),
+    (
+        "[\"tick\",1]",
+        "[\"arm\",3,0,-1]",
+        "step 2, its site: wants a whole number below 3, the number of sites",
+    ),
+    (
+        "[\"deliver\",0,2,1]",
+        "[\"deliver\",0,\"2\",0]",
+        "step 0, its from: wants a whole number below 3, the number of sites",
+    ),
+    (
+        "[\"advance\",2,1]",
+        "[\"advance\",2,2]",
+        "step 1, its from: wants another one than its site",
+    ),
+    (
+        "[\"deliver\",0,2,1]",
+        "[\"deliver\",0,2,0]",
+        "step 0, its number: wants a whole number from 1 to 4294967295",
+    ),
+    (
+        "[\"deliver\",0,2,1]",
+        "[\"deliver\",0,2,4294967296]",
+        "step 0, its number: wants a whole number from 1 to 4294967295",
+    ),
+    (
+        "[\"tick\",1]",
+        "[\"arm\",1,0,-1]",
+        "step 2, its nth: wants a whole number from 1 to 1000000",
+    ),
+    (
+        "[\"tick\",1]",
+        "[\"arm\",1,1000001,0]",
+        "step 2, its nth: wants a whole number from 1 to 1000000",
+    ),
+    (
+        "[\"tick\",1]",
+        "[\"arm\",1,1,18446744073709551616]",
+        "step 2, its choice: wants a whole number below 2^64",
+    ),
+];
+
+#[test]
+fn of_a_wrong_step_the_first_wrong_part_is_told(rt: HostRuntime) -> Result<(), Fail> {
+    let alloc = rt.alloc();
+    for (old, new, text) in WRONG_STEPS {
+        let scenario = changed(alloc, SEVERAL, old, new)?;
+        assert_eq!(rt;
+            fault_text(alloc, scenario.as_bytes())?.as_str(),
+            text,
+            "{new}"
+        );
+    }
+    Ok(())
+}
+
 #[test]
 fn faults_have_texts(rt: HostRuntime) -> Result<(), Fail> {
     let alloc = rt.alloc();
@@ -442,7 +556,7 @@ fn faults_have_texts(rt: HostRuntime) -> Result<(), Fail> {
         (
             "[\"call\",0]",
             "[]",
-            "step 1: wants [\"call\", client], [\"deliver\", site, from, number], [\"advance\", site, from], [\"tick\", site], [\"stop\", site], [\"restart\", site] or [\"arm\", site, nth, choice] in a list, a client of the scenario, a site below sites, a from that is another one, a number from 1 to 4294967295, an nth from 1 to 1000000, a choice below 2^64",
+            "step 1, its word: wants \"call\", \"deliver\", \"advance\", \"tick\", \"stop\", \"restart\" or \"arm\"",
         ),
     ] {
         let scenario = changed(alloc, GOOD, old, new)?;

@@ -6,7 +6,7 @@ use std::test::Fail;
 use walter_base::Mem;
 use walter_cli::{Fault, JournalCause};
 use walter_disk_memory::MemoryRack;
-use walter_scenario::{Detail, Place};
+use walter_scenario::{Detail, Place, StepFault};
 use walter_stream::MemorySource;
 
 const TWO_SITES: &str =
@@ -290,6 +290,8 @@ fn unbegun(cause: JournalCause, place: u64) -> Fault {
 #[test]
 fn faults_are_lines_that_a_person_understands(rt: HostRuntime) -> Result<(), Fail> {
     let key = Detail::Key(String::from_str(rt.alloc(), "speed")?);
+    let fault = StepFault::Site { sites: 2 };
+    let step = Detail::Step { index: 3, fault };
     let table = [
         (
             Fault::Usage,
@@ -367,6 +369,13 @@ fn faults_are_lines_that_a_person_understands(rt: HostRuntime) -> Result<(), Fai
                 detail: key,
             },
             "the scenario has no reading: key \"speed\": a scenario has none",
+        ),
+        (
+            Fault::Scenario {
+                place: Place::Steps(3),
+                detail: step,
+            },
+            "the scenario has no reading: step 3, its site: wants a whole number below 2, the number of sites",
         ),
     ];
     for (fault, text) in &table {
