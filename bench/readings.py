@@ -25,10 +25,31 @@ TEXTS = {
                "each site",
     "capacity": "the capacity: wants a whole number from 19 to 1099511627776",
     "arms": "arm {}: wants [site, nth, choice] in a list, a site below sites, an nth from 1 to 1000000, a choice below 2^64",
-    "steps": 'step {}: wants ["call", client], ["deliver", site, from, number], ["advance", site, from], ["tick", site], '
-             '["stop", site], ["restart", site] or ["arm", site, nth, choice] in a list, a client of the scenario, a site '
-             "below sites, a from that is another one, a number from 1 to 4294967295, an nth from 1 to 1000000, a choice "
-             "below 2^64",
+}
+
+# The parts of a step behind each word that it may begin with.
+PARTS = {
+    "call": ["client"],
+    "deliver": ["site", "from", "number"],
+    "advance": ["site", "from"],
+    "tick": ["site"],
+    "stop": ["site"],
+    "restart": ["site"],
+    "arm": ["site", "nth", "choice"],
+}
+# What is wrong with a step, in the order in which that is looked for.
+STEP_TEXTS = {
+    "steps": "the value of steps: wants a list",
+    "list": "its value: wants a list",
+    "word": 'its word: wants "call", "deliver", "advance", "tick", "stop", "restart" or "arm"',
+    "length": "its length: wants just {}",
+    "client": "its client: wants a whole number below {}, the number of clients",
+    "site": "its site: wants a whole number below {}, the number of sites",
+    "from": "its from: wants a whole number below {}, the number of sites",
+    "same": "its from: wants another one than its site",
+    "number": f"its number: wants a whole number from 1 to {MOST_PACKET}",
+    "nth": f"its nth: wants a whole number from 1 to {MOST_CALL}",
+    "choice": "its choice: wants a whole number below 2^64",
 }
 
 
@@ -38,6 +59,10 @@ class Refused(Exception):
 
 def refuse(place, *index):
     raise Refused(TEXTS[place].format(*index))
+
+
+def refuse_step(index, wrong):
+    raise Refused(f"step {index}, {wrong}")
 
 
 # ---- JSON
@@ -204,23 +229,23 @@ def is_arm(value, sites):
             and is_whole(value[2], 0, 1 << 64))
 
 
-def are_peers(value, sites):
-    return is_site(value[0], sites) and is_site(value[1], sites) and value[0] != value[1]
-
-
-def is_step(value, sites, clients):
-    if type(value) is not list or not value or type(value[0]) is not str:
-        return False
-    word, *fields = value
-    if word == "call":
-        return len(fields) == 1 and is_whole(fields[0], 0, clients)
-    if word in ("tick", "stop", "restart"):
-        return len(fields) == 1 and is_site(fields[0], sites)
-    if word == "advance":
-        return len(fields) == 2 and are_peers(fields, sites)
-    if word == "deliver":
-        return len(fields) == 3 and are_peers(fields, sites) and is_whole(fields[2], 1, MOST_PACKET + 1)
-    return word == "arm" and is_arm(fields, sites)
+def step_fault(value, limits):
+    """What is wrong with a step, by the limits of its parts; nothing where it is right."""
+    if type(value) is not list:
+        return STEP_TEXTS["list"]
+    word, *values = value or [None]
+    if type(word) is not str or word not in PARTS:
+        return STEP_TEXTS["word"]
+    parts = PARTS[word]
+    if len(values) != len(parts):
+        return STEP_TEXTS["length"].format(f'["{word}", {", ".join(parts)}]')
+    for part, number in zip(parts, values):
+        least, below = limits[part]
+        if not is_whole(number, least, below):
+            return STEP_TEXTS[part].format(below)
+        if part == "from" and number == values[0]:
+            return STEP_TEXTS["same"]
+    return None
 
 
 def check_items(place, value, is_right):
@@ -266,6 +291,23 @@ def check_clients(value, sites):
     check_items("clients", value, is_right)
 
 
+def check_steps(value, sites, clients):
+    limits = {
+        "client": (0, clients),
+        "site": (0, sites),
+        "from": (0, sites),
+        "number": (1, MOST_PACKET + 1),
+        "nth": (1, MOST_CALL + 1),
+        "choice": (0, 1 << 64),
+    }
+    if type(value) is not list:
+        refuse_step(0, STEP_TEXTS["steps"])
+    for index, item in enumerate(value):
+        wrong = step_fault(item, limits)
+        if wrong:
+            refuse_step(index, wrong)
+
+
 def check(value):
     """The value is a scenario."""
     if type(value) is not dict:
@@ -282,8 +324,7 @@ def check(value):
         refuse("capacity")
     if "arms" in value:
         check_items("arms", value["arms"], lambda _, item: is_arm(item, sites))
-    clients = len(value["clients"])
-    check_items("steps", value["steps"], lambda _, item: is_step(item, sites, clients))
+    check_steps(value["steps"], sites, len(value["clients"]))
     return value
 
 

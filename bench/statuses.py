@@ -34,6 +34,20 @@ def scenario(sites="1", clients="", more="", f="0", containers="", steps=""):
 RUN = file_of("crates", "walter", "stdin")
 REPORT = file_of("crates", "walter", "stdout")
 
+# The part that is wrong in a step of two sites and one client, the step, and what is said of it.
+STEPS = [
+    ("value", "{}", "its value: wants a list"),
+    ("word", '["pump",0]', 'its word: wants "call", "deliver", "advance", "tick", "stop", "restart" or "arm"'),
+    ("length", '["deliver",0,1]', 'its length: wants just ["deliver", site, from, number]'),
+    ("client", '["call",1]', "its client: wants a whole number below 1, the number of clients"),
+    ("site", '["tick",2]', "its site: wants a whole number below 2, the number of sites"),
+    ("from", '["advance",0,2]', "its from: wants a whole number below 2, the number of sites"),
+    ("from, which is its site", '["deliver",1,1,1]', "its from: wants another one than its site"),
+    ("number", '["deliver",1,0,0]', "its number: wants a whole number from 1 to 4294967295"),
+    ("nth", '["arm",0,0,0]', "its nth: wants a whole number from 1 to 1000000"),
+    ("choice", '["arm",0,1,18446744073709551616]', "its choice: wants a whole number below 2^64"),
+]
+
 # What is tried, the words, standard input, the file that standard output goes to if it is one, and what is wanted: the
 # status, the line on standard error, and the report.
 CASES = [
@@ -51,8 +65,10 @@ CASES = [
     ("a capacity of 10", ["play"], scenario(more=',"capacity":10'), None, 2, NO_READING + readings.TEXTS["capacity"], ""),
     ("an arm of no site", ["play"], scenario(more=',"arms":[[1,1,1]]'), None, 2, NO_READING + readings.TEXTS["arms"].format(0),
      ""),
-    ("a turn of no client", ["play"], scenario(steps='["tick",0],["call",0]'), None, 2,
-     NO_READING + readings.TEXTS["steps"].format(1), ""),
+    *((f"a step with a wrong {part}", ["play"], scenario("2", '[0,""]', steps=f'["tick",0],{step}'), None, 2,
+       f"{NO_READING}step 1, {said}", "") for part, step, said in STEPS),
+    ("no list of steps", ["play"], scenario(more=',"steps":0'), None, 2, NO_READING + "step 0, the value of steps: wants a list",
+     ""),
     ("too many bytes", ["play"], " " * (readings.MOST_BYTES + 1), None, 2, NO_READING + readings.TEXTS["long"], ""),
     ("a closed standard input", ["play"], CLOSED, None, 3, "the scenario could not be read to its end", ""),
     ("a full standard output", ["play"], RUN, "/dev/full", 4, "the report could not be written to its end", ""),

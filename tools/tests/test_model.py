@@ -50,10 +50,29 @@ PLACES = [
     ("capacity", 1099511627776, None), ("capacity", 1099511627777, "capacity"), ("capacity", None, "capacity"),
     ("arms", 5, "arms", 0), ("arms", [], None), ("arms", [[0, 0, 0]], "arms", 0), ("arms", [[0, 1000001, 0]], "arms", 0),
     ("arms", [[0, 1000000, 2**64 - 1]], None), ("arms", [[0, 1, 1], [0, 1, 2**64]], "arms", 1),
-    ("steps", 0, "steps", 0), ("steps", [1], "steps", 0), ("steps", [["call", 1], ["call", 2]], "steps", 1),
-    ("steps", [["deliver", 0, 0, 1]], "steps", 0), ("steps", [["deliver", 0, 1, 4294967295]], None),
-    ("steps", [["deliver", 0, 1, 4294967296]], "steps", 0), ("steps", [["advance", 1, 1]], "steps", 0),
-    ("steps", [["arm", 0, 1, 2], ["arm", 0, 1]], "steps", 1), ("steps", [["pump", 0]], "steps", 0), ("steps", [[]], "steps", 0),
+    ("steps", [["deliver", 0, 1, 4294967295], ["arm", 1, 1000000, 2**64 - 1]], None),
+]
+
+NO_WORD = 'its word: wants "call", "deliver", "advance", "tick", "stop", "restart" or "arm"'
+CLIENT = "its client: wants a whole number below 2, the number of clients"
+SITE, FROM = (f"its {part}: wants a whole number below 2, the number of sites" for part in ("site", "from"))
+NUMBER, NTH = (f"its {part}: wants a whole number from 1 to {most}" for part, most in (("number", 4294967295), ("nth", 1000000)))
+CHOICE, SAME = "its choice: wants a whole number below 2^64", "its from: wants another one than its site"
+# A wrong step, and what is said of it.
+STEPS = [
+    (1, "its value: wants a list"), ({"tick": 0}, "its value: wants a list"), ("tick", "its value: wants a list"),
+    ([], NO_WORD), ([0, 0], NO_WORD), (["pump", 0], NO_WORD), (["Tick", 0], NO_WORD), ([["tick"], 0], NO_WORD),
+    (["call"], 'its length: wants just ["call", client]'), (["call", 0, 0], 'its length: wants just ["call", client]'),
+    (["deliver", 0, 1], 'its length: wants just ["deliver", site, from, number]'),
+    (["advance", 9, 9, 9], 'its length: wants just ["advance", site, from]'),
+    (["tick", 0, 1], 'its length: wants just ["tick", site]'), (["stop"], 'its length: wants just ["stop", site]'),
+    (["restart", 0, 0, 0, 0], 'its length: wants just ["restart", site]'),
+    (["arm", 0, 1], 'its length: wants just ["arm", site, nth, choice]'),
+    (["call", 2], CLIENT), (["call", "0"], CLIENT), (["call", 4294967296], CLIENT), (["tick", 2], SITE), (["stop", True], SITE),
+    (["restart", -1], SITE), (["advance", 2, 2], SITE), (["deliver", 256, 1, 0], SITE), (["arm", 1.0, 0, -1], SITE),
+    (["advance", 0, 2], FROM), (["deliver", 0, None, 0], FROM), (["advance", 1, 1], SAME), (["deliver", 0, 0, 0], SAME),
+    (["deliver", 0, 1, 0], NUMBER), (["deliver", 0, 1, 4294967296], NUMBER), (["arm", 0, 0, -1], NTH),
+    (["arm", 0, 1000001, 0], NTH), (["arm", 0, 1, 2**64], CHOICE), (["arm", 0, 1, 0.5], CHOICE),
 ]
 
 
@@ -77,6 +96,18 @@ class Model(unittest.TestCase):
             self.assertEqual(refusal(json.dumps({**RIGHT, key: value}).encode()), wanted, (key, value))
         self.assertEqual(refusal(b" " * 16_777_217), readings.TEXTS["long"])
         self.assertEqual(refusal(json.dumps({**RIGHT, "sites": 9, "f": 9, "steps": 1}).encode()), readings.TEXTS["sites"])
+
+    def test_of_a_wrong_step_the_first_wrong_part_is_told(self):
+        for step, said in STEPS:
+            for before in [], [["tick", 0]] * 3:
+                made = {**RIGHT, "steps": [*before, step, 0]}
+                self.assertEqual(refusal(json.dumps(made).encode()), f"step {len(before)}, {said}", step)
+        self.assertEqual(refusal(json.dumps({**RIGHT, "steps": 0}).encode()), "step 0, the value of steps: wants a list")
+        made = {**RIGHT, "clients": [], "steps": [["call", 0]]}
+        self.assertEqual(refusal(json.dumps(made).encode()),
+                         "step 0, its client: wants a whole number below 0, the number of clients")
+        self.assertEqual({said.split(": ")[0] for _, said in STEPS} | {"the value of steps"},
+                         {said.split(": ")[0] for said in readings.STEP_TEXTS.values()})
 
     def test_numbers_and_keys_are_as_the_program_reads_them(self):
         text = '{"sites":1,"sites":2,"f":%s,"containers":[],"clients":[],"steps":[]}'

@@ -5,6 +5,7 @@ mod arms;
 mod capacity;
 mod clients;
 mod containers;
+mod details;
 mod faults;
 mod laws;
 mod lists;
@@ -13,6 +14,7 @@ mod numbers;
 mod place;
 mod reading;
 mod scenario;
+mod step_fault;
 mod steps;
 mod text;
 mod values;
@@ -25,3 +27,4 @@ pub use scenario::{
     Arm, COMMON_CAPACITY, Client, GREATEST_CAPACITY, LAST_ARMED, LEAST_CAPACITY, LONGEST_TEXT,
     MOST_CLIENTS, Scenario, Step,
 };
+pub use step_fault::{StepFault, StepForm};

@@ -1,3 +1,4 @@
+use crate::step_fault::StepFault;
 use std::fmt::{self, Display, Formatter, Write};
 use thiserror::Error;
 
@@ -48,6 +49,8 @@ pub enum Detail {
     At { line: usize, column: usize },
     /// The key that a scenario hasn't.
     Key(String),
+    /// What is wrong with the first wrong step, counted from 0.
+    Step { index: usize, fault: StepFault },
 }
 
 /// What is wrong, in words: the detail where there is one, else the place.
@@ -65,6 +68,7 @@ impl Display for Refusal<'_> {
                 write!(f, "the text is no JSON: line {line}, column {column}")
             }
             Detail::Key(key) => write!(f, "key {key:?}: a scenario has none"),
+            Detail::Step { index, fault } => write!(f, "step {index}, {fault}"),
         }
     }
 }

@@ -7,6 +7,7 @@ ghost use Rattle.walter_scenario.specs.Fronts.{ListsSteps};
 ghost use Rattle.walter_scenario.specs.Parts.{list, whole, step_spelled, ArePeers, IsStep};
 
 use crate::arms::arm_from;
+use crate::details::step_detail;
 use crate::place::{Place, ReadFault};
 use crate::scenario::Step;
 use crate::values::{four_of, items_of, pair_of, site_of, string_of, triple_of, whole_of};
@@ -153,8 +154,8 @@ fn step_of(sites: u8, clients: usize, value: &Value) -> Option<Step>
     step_of_three(sites, word, first, second, third)
 }
 
-/// The steps that the value spells, over so many sites and clients.
-pub fn steps_of(
+/// The steps that the value spells, or the first place that is wrong.
+fn steps_listed(
     alloc: Global,
     sites: u8,
     clients: usize,
@@ -170,4 +171,25 @@ pub fn steps_of(
         steps.push(step_of(sites, clients, value).ok_or(Place::Steps(index))?)?;
     }
     Ok(steps)
+}
+
+/// The steps that the value spells, over so many sites and clients; or what is wrong with the first wrong one.
+pub fn steps_of(
+    alloc: Global,
+    sites: u8,
+    clients: usize,
+    value: &Value,
+) -> Result<Vec<Step>, ReadFault>
+    requires { clients ≤ 2 ^ 32 }
+    ensures ok { IfOk result (λ steps. ListsSteps sites clients (view value.now) steps.items) }
+    ensures fault { IfErr result (IsStepsFault sites clients (view value.now)) }
+{
+    match steps_listed(alloc, sites, clients, value) {
+        Ok(steps) => Ok(steps),
+        Err(ReadFault::Refused { place, .. }) => Err(ReadFault::Refused {
+            place,
+            detail: step_detail(sites, clients, value, place),
+        }),
+        Err(ReadFault::NoMemory) => Err(ReadFault::NoMemory),
+    }
 }

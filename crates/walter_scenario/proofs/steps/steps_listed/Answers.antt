@@ -8,7 +8,7 @@ use Rattle.walter_scenario.specs.declared.scenario.Step.{Step}
 use Rattle.walter_scenario.specs.Parts.{step_spelled, IsStep}
 use Rattle.walter_scenario.proofs.Scripts.{item_more, item_wrong}
 use Rattle.walter_scenario.proofs.Spelling.{seen_at}
-use Rattle.walter_scenario.proofs.steps.steps_of.Goals as goal
+use Rattle.walter_scenario.proofs.steps.steps_listed.Goals as goal
 
 pub returns-in_err-ok_or-clause-fault : goal.returns-in_err-ok_or-clause-fault
 returns-in_err-ok_or-clause-fault c =
