@@ -415,6 +415,12 @@ def report_of(command, scenario):
     return "".join(line for line in lines if command == "trace" or not line.startswith("e "))
 
 
+def legal(scenario):
+    """What is said of a history: at sites without disks each disk can be read."""
+    unread = re.search(r"^e \S+ \S+ \S+ failed - - - ", report_of("trace", scenario), re.M)
+    return "legal; a disk could not be read\n" if unread else "legal, and the same without disks\n"
+
+
 def refused(data):
     """What is wrong with bytes that spell no scenario."""
     try:
@@ -428,7 +434,7 @@ def written(line):
     command, _, rest = line.partition(" ")
     text = expanded(rest)
     if command in ("report", "trace"):
-        return report_of(command, text) + "legal, and the same without disks\n"
+        return report_of(command, text) + legal(text)
     if command == "brief" and text.count('"call"') < 100_000:
         return brief(report_of(command, text))
     if command in ("read", "bytes"):

@@ -29,7 +29,7 @@ pub(crate) fn play(rt: &impl AllocGlobal, is_traced: bool, scenario: &str) -> Re
     let alloc = rt.alloc();
     let words = words_for(alloc, is_traced)?;
     let mut source = BytesSource::from(scenario.as_bytes().to_vec(alloc)?);
-    let mut sink = MemorySink::with_room(alloc, 1_000_000, Vec::new(alloc))?;
+    let mut sink = MemorySink::with_room(alloc, 2_000_000, Vec::new(alloc))?;
     let mut rack = MemoryRack::new(alloc);
     let Ended { status, trails, .. } = top(rt, &words, &mut source, &mut sink, &mut rack);
     if status != 0 {
