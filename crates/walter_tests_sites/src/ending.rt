@@ -69,8 +69,8 @@ fn said(alloc: Global, ended: &Ended, written: &str, disks: &str) -> Mem<String>
     Ok(text)
 }
 
-/// What comes of these words and this scenario. Given are the numbers of the reads, the writes and the calls of the rack that
-/// fail, and what the disks hold, as in `reads=2 writes=1 racks=2,3 disks=00,ff`.
+/// What comes of these words and this scenario. Given are the numbers of the reads, the writes and the calls of the
+/// rack that fail, and what the disks hold, as in `reads=2 writes=1 racks=2,3 disks=00,ff`.
 pub(crate) fn end(
     rt: &impl AllocGlobal,
     words: &str,

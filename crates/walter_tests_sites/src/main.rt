@@ -1,5 +1,5 @@
-//! Plays the runs of its input by the program, and says what came of them. A line that begins with `#` is said again. In what
-//! stands behind the first word of a line `<3*piece>` is three times the piece.
+//! Plays the runs of its input by the program, and says what came of them. A line that begins with `#` is said again.
+//! In what stands behind the first word of a line `<3*piece>` is three times the piece.
 //!
 //! | line | what is said |
 //! |---|---|

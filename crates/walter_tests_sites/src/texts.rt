@@ -6,8 +6,8 @@ use walter_base::Mem;
 /// How many bytes of a long text are said, of its front and of its end.
 const SHOWN: usize = 100;
 
-// The piece: what stands before its `#` is said, then the number as twelve hex digits, then the rest; or the same of `%`
-// and the number as it is written.
+// The piece, with the number as twelve hex digits in the place of its first `#`, or as it is written in that of its
+// first `%`.
 fn push_piece(alloc: Global, text: &mut String, piece: &str, number: u64) -> Mem<()> {
     if let Some((front, rest)) = piece.split_once('#') {
         text.push_str(&format!(in alloc; "{front}{number:012x}{rest}")?)?;

@@ -3,7 +3,7 @@ ghost use Rattle.std.specs.Prelude.{◌<◌};
 use walter_base::SiteId;
 use walter_spread::Spread;
 
-/// A window, and how many of five own commits a peer has acknowledged; and those that it is to be sent, from the first to
+/// A window, and how many of five own commits a peer has acknowledged; and those that it is to be sent, the first and
 /// the last.
 static NEEDED: [(u64, u64, Option<(u64, u64)>); 4] = [
     (1, 0, Some((1, 1))),
