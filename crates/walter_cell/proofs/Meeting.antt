@@ -1,24 +1,21 @@
 -- The ends of two sites' lanes where all that one has put for the other arrives.
-use Rattle.std.proofs.Common.{◌≡◌, ◌≢◌, ◌<◌, ℕ, List, [], length, reverse, get_or, slice_set, ap, sym, ◌∙◌, subst, arith, inl, inr}
-use Rattle.std.specs.Prelude.{zero, suc, ◌+◌, Result, Ok, Err, OnOk, OnErr, Some, slice_get}
+use Rattle.std.proofs.Common.{◌≡◌, ◌≢◌, ◌<◌, ℕ, List, [], length, map, reverse, get_or, slice_set, refl, ap, sym, ◌∙◌, subst, arith, inl, inr}
+use Rattle.std.specs.Prelude.{zero, suc, max, ◌+◌, ◌-◌, ◌⊎◌, ◌↔◌, Result, Ok, Err, OnOk, OnErr, Option, Some, None, IsNone, IfSome, option_map, slice_get}
+use Rattle.std.proofs.lemmas.Option.{slice_get_past}
 use Rattle.std.proofs.lemmas.Bool.{cases_eq}
 use Rattle.std.proofs.lemmas.List.{append-nil, length-set, set-get_or}
 use mathlib.Core.List.{IsPrefix}
-use Rattle.walter_base.specs.declared.catalog.Catalog.{Catalog}
 use Rattle.walter_base.specs.declared.names.SiteId.{SiteId}
-use Rattle.walter_disk.specs.declared.disk.Disk.{Ghosts}
 use Rattle.walter_lane.specs.Lanes.{Sending, Receiving}
 use Rattle.walter_lane.specs.declared.posted.Posted.{Posted}
-use Rattle.walter_outbox.specs.Lanes.{put_to, met_to, arrived_from, in_rings, out_rings, HavePut, AreNext}
+use Rattle.walter_outbox.specs.Lanes.{posted, put_to, met_to, arrived_from, in_rings, out_rings, HavePut}
 use Rattle.walter_outbox.proofs.Fields.{field_read, field_set_same, field_set_other, field_kept}
 use Rattle.walter_outbox.proofs.Linked.{next_more}
-use Rattle.walter_stream.specs.declared.sink.Sink.{Ghosts as SinkGhosts}
-use Rattle.walter_stream.specs.declared.source.Source.{Ghosts as SourceGhosts}
-use Rattle.walter_cell.specs.declared.cell.Cell.{Cell}
-use Rattle.walter_cell.specs.declared.node.Node.{Node}
-use Rattle.walter_cell.specs.Cells.{IsCell, arrival}
-use Rattle.walter_cell.specs.Nodes.{IsNode}
-use Rattle.walter_cell.proofs.Nodes.{node_kept}
+use Rattle.walter_rules.specs.declared.entry.Entry.{Entry}
+use Rattle.walter_rules.specs.Merges.{put_out_to}
+use Rattle.walter_disk.specs.declared.disk.Disk.{Ghosts}
+use Rattle.walter_cell.specs.Cells.{CellValue, IsCell, arrival, stamp_behind}
+use Rattle.walter_cell.specs.Nodes.{NodeValue, IsSound}
 
 -- a list into which its own element was written
 pub set_back : {X : Type 0} (xs : List X) (k : ℕ) (x y : X) → x ≡ get_or xs k x → y ≡ x → slice_set xs k y ≡ xs
@@ -52,18 +49,13 @@ module _ (outs : List Sending) (to : ℕ) (out met : Sending) (at : out ≡ get_
   pub put_here : to < length outs → put_to outs to ≡ out.put
   put_here within = field_read (λ (s : Sending). s.put) outs to out [] within at
 
-pub sender_met : {D : Type 0} {g : Ghosts D} (catalog : Catalog) (capacity : ℕ) (i : SiteId) (old new : Node D g)
-    (to : ℕ) (out met : Sending) → out ≡ get_or old.outs.items to out → met.put ≡ out.put
-    → new.engine ≡ old.engine → new.entries.items ≡ old.entries.items → new.clock ≡ old.clock
-    → new.outs.items ≡ slice_set old.outs.items to met
-    → IsNode catalog capacity i old → IsNode catalog capacity i new
-sender_met catalog capacity i old new to out met at same engine entries clock_is is node =
-    node_kept catalog capacity i old new engine entries clock_is
-    (subst (λ (os : List Sending). HavePut catalog.sites old.entries.items os) (sym is) (record {
-      long = length-set old.outs.items to met ∙ node.put.long;
-      each = λ k below. put_met old.outs.items to out met at same k ∙ node.put.each k below;
-    }))
-    node
+-- what was put stays put
+pub put_kept : (sites : ℕ) (trail : List Entry) (outs : List Sending) (to : ℕ) (out met : Sending) → out ≡ get_or outs to out
+    → met.put ≡ out.put → HavePut sites trail outs → HavePut sites trail (slice_set outs to met)
+put_kept sites trail outs to out met at same put = record {
+  long = length-set outs to met ∙ put.long;
+  each = λ k below. put_met outs to out met at same k ∙ put.each k below;
+}
 
 -- ---- the receiver
 
@@ -92,18 +84,16 @@ module _ (ins : List Receiving) (from : ℕ) (inbound met : Receiving) (at : inb
     | inr apart ↦ ([], append-nil (arrived_from ins j) ∙ sym (others_met j apart))
   ]
 
-pub receiver_met : {D S K : Type 0} {g : Ghosts D} {s : SourceGhosts S} {k : SinkGhosts K} (catalog : Catalog) (capacity : ℕ)
-    (i : SiteId) (old new : Cell D S K g s k)
-    (from : ℕ) (inbound met : Receiving) → inbound ≡ get_or old.ins.items from inbound → from < length old.ins.items
-    → IsPrefix inbound.arrived met.arrived → new.node ≡ old.node → new.ins.items ≡ slice_set old.ins.items from met
-    → IsCell catalog capacity i old → IsCell catalog capacity i new
-receiver_met {D = D} {g = g} catalog capacity i old new from inbound met at within more node is cell = record {
-  node = subst (λ (n : Node D g). IsNode catalog capacity i n) (sym node) cell.node;
-  ins = ap length is ∙ (length-set old.ins.items from met ∙ cell.ins);
-  next = subst (λ (n : Node D g). AreNext i new.ins.items (reverse n.entries.items)) (sym node)
-      (next_more i old.ins.items new.ins.items
-      (λ j. subst (λ (l : List Receiving). IsPrefix (arrived_from old.ins.items j) (arrived_from l j)) (sym is)
-      (grows_met old.ins.items from inbound met at within more j)) (reverse old.node.entries.items) cell.next);
+-- a cell at which more has arrived
+pub receiver_met : {D : Type 0} (cell : CellValue D)
+    (from : ℕ) (inbound met : Receiving) → inbound ≡ get_or cell.ins from inbound → from < length cell.ins
+    → IsPrefix inbound.arrived met.arrived → IsCell cell → IsCell (record cell { ins = slice_set cell.ins from met })
+receiver_met cell from inbound met at within more is = record {
+  ins = length-set cell.ins from met ∙ is.ins;
+  next = next_more cell.node.site cell.ins (slice_set cell.ins from met)
+      (λ j. grows_met cell.ins from inbound met at within more j) (reverse cell.node.trail) is.next;
+  clients = is.clients;
+  calls = is.calls;
 }
 
 -- the packet that is delivered
@@ -113,3 +103,33 @@ arrival_at ins j zero before post is there = absurd (omega (arith, is))
 arrival_at ins j (suc n) before post is there =
     let same : n ≡ before = omega (arith, is) in
     ap (λ k. slice_get (arrived_from ins j.0) k) same ∙ there
+
+-- what was put for a site is what the trail puts out to it
+pub put_by_trail : {D : Type 0} (g : Ghosts D) (node : NodeValue D) (to : SiteId) → IsSound g node → to.0 < length node.outs
+    → put_to node.outs to.0 ≡ map (posted node.catalog.sites) (put_out_to to node.trail)
+put_by_trail g node to sound within = sound.put.each to.0 (let l = sound.put.long in omega (arith, within, l))
+
+arrival_none : (ins : List Receiving) (j : SiteId) (number : ℕ) → (number ≡ 0) ⊎ (length (arrived_from ins j.0) < number)
+    → arrival ins j number ≡ None
+arrival_none ins j zero none = refl
+arrival_none ins j (suc before) (inl none) = absurd (omega (arith, none))
+arrival_none ins j (suc before) (inr past) = slice_get_past (arrived_from ins j.0) before (omega (arith, past))
+
+-- what was read of a number is what has arrived of it
+pub arrival_read : {X : Type 0} (now : X → Posted) (read : Option X) (ins : List Receiving) (j : SiteId) (number : ℕ) (arrived : List Posted)
+    → arrived_from ins j.0 ≡ arrived → (IsNone read ↔ ((number ≡ 0) ⊎ (length arrived < number)))
+    → IfSome read (λ p. (0 < number) × (slice_get arrived (number - 1) ≡ Some (now p)))
+    → arrival ins j number ≡ option_map now read
+arrival_read now None ins j number arrived is none some =
+    arrival_none ins j number (subst (λ (l : List Posted). (number ≡ 0) ⊎ (length l < number)) (sym is) (none.0 refl))
+arrival_read now (Some p) ins j number arrived is none some =
+    arrival_at ins j number (number - 1) (now p) (let l = some.0 in omega (arith, l)) (ap (λ (l : List Posted). slice_get l (number - 1)) is ∙ some.1)
+
+-- the stamp of the packet that is delivered, or 0
+abbrev pub put_in : Option Posted → ℕ
+put_in None = 0
+put_in (Some post) = post.stamp
+
+pub stamp_put : (clock : ℕ) (post : Option Posted) → max clock (put_in post) + 1 ≡ stamp_behind clock post
+stamp_put clock None = omega arith
+stamp_put clock (Some post) = refl

@@ -24,11 +24,10 @@ use Rattle.walter_rules.specs.Sending.{Send}
 use Rattle.walter_rules.specs.Standing.{Standing, settled, stands_after, carried_after}
 use Rattle.walter_rules.specs.Trails.{IsPutOut, IsNextStamp, AreRight, IsRightTrail, clock, standing}
 use Rattle.walter_session.specs.Sessions.{Table}
-use Rattle.walter_cell.specs.declared.node.Node.{Node}
 use Rattle.walter_cell.specs.Debts.{AreOwed, AreAfter}
 use Rattle.walter_cell.specs.Entries.{HaveRisingStamps}
 use Rattle.walter_cell.specs.Handled.{IsSized, is_faulty, RisesIf, IsFaulty, HasCome}
-use Rattle.walter_cell.specs.Nodes.{entry_by, IsNode, IsKnownNode, MayDrop}
+use Rattle.walter_cell.specs.Nodes.{NodeParts, entry_by, IsNode, IsKnownNode, MayDrop}
 use Rattle.walter_cell.proofs.Asked.{stands_owing}
 use Rattle.walter_cell.proofs.Owing.{debts_after}
 
@@ -66,13 +65,13 @@ module _ {D : Type 0} {g : Ghosts D} where
       both (Some d) None there most rises = tt
       both (Some d) (Some e) there most rises = rises_more n (g.known d).faults (g.known e).faults b most rises
 
-  module _ (catalog : Catalog) (capacity : ℕ) (i : SiteId) (old new : Node D g) (stamp : ℕ) (event : Event) (came : Came)
+  module _ (catalog : Catalog) (capacity : ℕ) (i : SiteId) (old new : NodeParts D g) (stamp : ℕ) (event : Event) (came : Came)
       (sends : List Send) (dropped : ℕ)
-      (grown : new.entries.items ≡ old.entries.items ++ entry_by stamp event (with_sends sends dropped came) ∷ [])
-      (free : IsPutWhereFree (met_to old.outs.items) (carried_by old.outs.items) came.sends sends dropped)
+      (grown : new.trail ≡ old.trail ++ entry_by stamp event (with_sends sends dropped came) ∷ [])
+      (free : IsPutWhereFree (met_to old.outs) (carried_by old.outs) came.sends sends dropped)
       (node : IsNode catalog capacity i old) where
     abbrev trail : List Entry
-    trail = old.entries.items
+    trail = old.trail
 
     abbrev own : Entry
     own = entry_by stamp event (with_sends sends dropped came)
@@ -80,14 +79,14 @@ module _ {D : Type 0} {g : Ghosts D} where
     abbrev S : Standing
     S = standing catalog i (reverse trail)
 
-    out : IsPutOut (carried_by old.outs.items) came.sends sends dropped
-    out = out_as_ruled (met_to old.outs.items) (carried_by old.outs.items) came.sends sends dropped free
+    out : IsPutOut (carried_by old.outs) came.sends sends dropped
+    out = out_as_ruled (met_to old.outs) (carried_by old.outs) came.sends sends dropped free
 
-    back : reverse new.entries.items ≡ own ∷ reverse trail
+    back : reverse new.trail ≡ own ∷ reverse trail
     back = ap reverse grown ∙ reverse-append trail (own ∷ [])
 
     pub node_more : new.clock ≡ stamp → IsSameEngine old.engine new.engine → IsSized catalog.sites came
-        → HavePutMore catalog.sites stamp old.outs.items new.outs.items sends
+        → HavePutMore catalog.sites stamp old.outs new.outs sends
         → OfDisks old.engine new.engine (λ x y. IsFaulty came (g.known x).faults (g.known y).faults)
         → old.clock < stamp → stamp < 2 ^ 62 → IsNode catalog capacity i new
     node_more clock_is same sized put rises later early = record {
@@ -104,28 +103,28 @@ module _ {D : Type 0} {g : Ghosts D} where
             kept = sized.kept;
             wrote = sized.wrote;
             flight = sized.flight;
-            sends = all_put (λ (s : Send). HasPacketSpelling catalog.sites s.1) (carried_by old.outs.items) came.sends sends dropped out sized.sends;
+            sends = all_put (λ (s : Send). HasPacketSpelling catalog.sites s.1) (carried_by old.outs) came.sends sends dropped out sized.sends;
           }));
-      put = subst (λ (es : List Entry). HavePut catalog.sites es new.outs.items) (sym grown)
-          (put_grown catalog.sites trail old.outs.items new.outs.items own node.put put);
+      put = subst (λ (es : List Entry). HavePut catalog.sites es new.outs) (sym grown)
+          (put_grown catalog.sites trail old.outs new.outs own node.put put);
       faults =
           let n : ℕ = count_by (λ (x : Entry). is_faulty x.came.outcome) trail in
-          let all : count_by (λ (x : Entry). is_faulty x.came.outcome) new.entries.items ≡ n + (if is_faulty came.outcome then 1 else 0) =
+          let all : count_by (λ (x : Entry). is_faulty x.came.outcome) new.trail ≡ n + (if is_faulty came.outcome then 1 else 0) =
           ap (λ es. count_by (λ (x : Entry). is_faulty x.came.outcome) es) grown ∙ count_more (λ (x : Entry). is_faulty x.came.outcome) trail own in
           subst (λ (k : ℕ). OfDisk new.engine (λ d. k ≤ (g.known d).faults)) (sym all)
           (faults_more old.engine new.engine n (is_faulty came.outcome) node.faults rises);
     }
 
     pub known_more : (lost : Option Table) → came.dropped ≡ 0 → HasCome catalog capacity i S event came lost new.engine
-        → AreAfter event came.outcome lost old.debts.items new.debts.items → IsNextStamp event old.clock stamp
+        → AreAfter event came.outcome lost old.debts new.debts → IsNextStamp event old.clock stamp
         → IsKnownNode catalog capacity i old → IsKnownNode catalog capacity i new
     known_more lost none has after next known =
         let T : Standing = settled catalog i came.kept S in
         let carried : IsPutOut T.carried came.sends sends dropped =
-        carried_more (carried_by old.outs.items) T.carried came.sends sends dropped
-        (λ k. let less = carried_less catalog i catalog.sites trail old.outs.items node.put k in
+        carried_more (carried_by old.outs) T.carried came.sends sends dropped
+        (λ k. let less = carried_less catalog i catalog.sites trail old.outs node.put k in
         let same = settled_carried catalog i came.kept S k in omega (arith, less, same)) out in
-        let stands_ : standing catalog i (reverse new.entries.items) ≡ stands_after catalog i T event (with_sends sends dropped came) =
+        let stands_ : standing catalog i (reverse new.trail) ≡ stands_after catalog i T event (with_sends sends dropped came) =
         ap (λ es. standing catalog i es) back in
         let behind : Standing = stands_after catalog i T event came in
         record {
@@ -144,43 +143,42 @@ module _ {D : Type 0} {g : Ghosts D} where
               },
             );
           };
-          owed = subst (λ (U : Standing). AreOwed U new.debts.items) (sym stands_)
-              (debts_after catalog i S came.kept event came lost old.debts.items new.debts.items known.owed has.owes after);
+          owed = subst (λ (U : Standing). AreOwed U new.debts) (sym stands_)
+              (debts_after catalog i S came.kept event came lost old.debts new.debts known.owed has.owes after);
         }
 
     -- what it drops has found its lane full
     pub drops_more : (lost : Option Table) → came.dropped ≡ 0 → HasCome catalog capacity i S event came lost new.engine
-        → MayDrop catalog i (met_to old.outs.items) trail new.entries.items
+        → MayDrop catalog i (met_to old.outs) trail new.trail
     drops_more lost none has =
         let T : Standing = settled catalog i came.kept S in
         inr (
           own,
           grown,
-          drops_where_full catalog capacity i T event came (met_to old.outs.items) sends dropped none
-              (agree_out (met_to old.outs.items) (carried_by old.outs.items) T.carried came.sends sends dropped agree free) has.comes,
+          drops_where_full catalog capacity i T event came (met_to old.outs) sends dropped none
+              (agree_out (met_to old.outs) (carried_by old.outs) T.carried came.sends sends dropped agree free) has.comes,
         )
       where
-        agree : AgreeOnLanes (met_to old.outs.items) (carried_by old.outs.items) (settled catalog i came.kept S).carried
-        agree k = elim (carried_agrees catalog i catalog.sites trail old.outs.items node.put k) [
+        agree : AgreeOnLanes (met_to old.outs) (carried_by old.outs) (settled catalog i came.kept S).carried
+        agree k = elim (carried_agrees catalog i catalog.sites trail old.outs node.put k) [
           | inl same ↦ inl (same ∙ sym (settled_carried catalog i came.kept S k))
           | inr less ↦ inr (less.0, (let l = less.1 in let same = settled_carried catalog i came.kept S k in omega (arith, l, same)))
         ]
 
-  -- the same but for its room
-  pub known_same : (catalog : Catalog) (capacity : ℕ) (i : SiteId) (old new : Node D g) → new.engine ≡ old.engine
-      → new.entries.items ≡ old.entries.items → new.debts.items ≡ old.debts.items
+  -- the same but for its room, and for what its lanes know
+  pub known_same : (catalog : Catalog) (capacity : ℕ) (i : SiteId) (old new : NodeParts D g) → new.engine ≡ old.engine
+      → new.trail ≡ old.trail → new.debts ≡ old.debts
       → IsKnownNode catalog capacity i old → IsKnownNode catalog capacity i new
   known_same catalog capacity i old new engine entries debts known = record {
     stands = subst (λ (es : List Entry). Stands new.engine (standing catalog i (reverse es))) (sym entries)
-        (subst (λ (n : Engine D g). Stands n (standing catalog i (reverse old.entries.items))) (sym engine) known.stands);
+        (subst (λ (n : Engine D g). Stands n (standing catalog i (reverse old.trail))) (sym engine) known.stands);
     right = subst (λ (es : List Entry). IsRightTrail catalog capacity i es) (sym entries) known.right;
-    owed = subst (λ (es : List Entry). AreOwed (standing catalog i (reverse es)) new.debts.items) (sym entries)
-        (subst (λ (ds : List (Option Tid)). AreOwed (standing catalog i (reverse old.entries.items)) ds) (sym debts) known.owed);
+    owed = subst (λ (es : List Entry). AreOwed (standing catalog i (reverse es)) new.debts) (sym entries)
+        (subst (λ (ds : List (Option Tid)). AreOwed (standing catalog i (reverse old.trail)) ds) (sym debts) known.owed);
   }
 
-  -- the same but for its room, and for what its lanes know
-  pub node_kept : (catalog : Catalog) (capacity : ℕ) (i : SiteId) (old new : Node D g) → new.engine ≡ old.engine
-      → new.entries.items ≡ old.entries.items → new.clock ≡ old.clock → HavePut catalog.sites old.entries.items new.outs.items
+  pub node_kept : (catalog : Catalog) (capacity : ℕ) (i : SiteId) (old new : NodeParts D g) → new.engine ≡ old.engine
+      → new.trail ≡ old.trail → new.clock ≡ old.clock → HavePut catalog.sites old.trail new.outs
       → IsNode catalog capacity i old → IsNode catalog capacity i new
   node_kept catalog capacity i old new engine entries clock_is put node = record {
     catalog_is = ap (λ (n : Engine D g). n.catalog) engine ∙ node.catalog_is;
@@ -191,14 +189,7 @@ module _ {D : Type 0} {g : Ghosts D} where
     early = subst (λ n. n < 2 ^ 62) (sym clock_is) node.early;
     rise = subst (λ (es : List Entry). HaveRisingStamps (reverse es)) (sym entries) node.rise;
     sized = subst (λ es. All (λ (x : Entry). IsSized catalog.sites x.came) es) (sym entries) node.sized;
-    put = subst (λ (es : List Entry). HavePut catalog.sites es new.outs.items) (sym entries) put;
-    faults = subst (λ (n : Engine D g). OfDisk n (λ d. count_by (λ (x : Entry). is_faulty x.came.outcome) new.entries.items ≤ (g.known d).faults)) (sym engine)
+    put = subst (λ (es : List Entry). HavePut catalog.sites es new.outs) (sym entries) put;
+    faults = subst (λ (n : Engine D g). OfDisk n (λ d. count_by (λ (x : Entry). is_faulty x.came.outcome) new.trail ≤ (g.known d).faults)) (sym engine)
         (subst (λ (es : List Entry). OfDisk old.engine (λ d. count_by (λ (x : Entry). is_faulty x.came.outcome) es ≤ (g.known d).faults)) (sym entries) node.faults);
   }
-
-  pub node_same : (catalog : Catalog) (capacity : ℕ) (i : SiteId) (old new : Node D g) → new.engine ≡ old.engine
-      → new.entries.items ≡ old.entries.items → new.clock ≡ old.clock → new.outs.items ≡ old.outs.items
-      → IsNode catalog capacity i old → IsNode catalog capacity i new
-  node_same catalog capacity i old new engine entries clock_is outs node =
-      node_kept catalog capacity i old new engine entries clock_is
-      (subst (λ os. HavePut catalog.sites old.entries.items os) (sym outs) node.put) node

@@ -1,5 +1,5 @@
 -- A site with its trail and its lanes that has come up for the first time.
-use Rattle.std.proofs.Common.{◌≡◌, ◌<◌, ◌≤◌, ◌-◌, ℕ, List, [], ◌∷◌, length, refl, ap, sym, ◌∙◌, subst, arith, Option, Some, None, slice_get}
+use Rattle.std.proofs.Common.{◌≡◌, ◌<◌, ◌≤◌, ◌-◌, ℕ, List, [], ◌∷◌, length, refl, ap, sym, ◌∙◌, subst, arith, Option, Some, None, Result, slice_get}
 use Rattle.std.specs.Prelude.{All, IfSome, replicate, reverse, count_by}
 use Rattle.std.proofs.lemmas.List.{length-replicate, get_or-replicate}
 use Rattle.std.proofs.lemmas.List.Elements.{All-nil, All-push}
@@ -15,12 +15,13 @@ use Rattle.walter_outbox.specs.Lanes.{put_to, HavePut}
 use Rattle.walter_rules.specs.declared.entry.Entry.{Entry}
 use Rattle.walter_rules.specs.Standing.{unmade}
 use Rattle.walter_rules.specs.Trails.{ruled, standing, clock, all_out, IsRightTrail}
-use Rattle.walter_cell.specs.declared.node.Node.{Node}
-use Rattle.walter_cell.specs.Builds.{AreFree}
+use Rattle.walter_engine.specs.Begins.{HasOnly, IsBegun, IsFaultOfBegin, MayHaveBegun}
+use Rattle.walter_engine.specs.declared.answers.Unbegun.{Unbegun}
+use Rattle.walter_cell.specs.Builds.{AreFree, Begins, OfBuilt, begun_by}
 use Rattle.walter_cell.specs.Entries.{HaveRisingStamps}
 use Rattle.walter_cell.specs.Handled.{IsSized, is_faulty}
 use Rattle.walter_cell.specs.Debts.{AreOwed}
-use Rattle.walter_cell.specs.Nodes.{IsNode, IsKnownNode}
+use Rattle.walter_cell.specs.Nodes.{NodeParts, IsNode, IsKnownNode}
 use Rattle.walter_cell.proofs.Sizes.{none_sent}
 
 one_of_all : {X : Type 0} (P : X → Type 0) (x : X) → P x → All P (x ∷ [])
@@ -80,35 +81,60 @@ module _ {X : Type 0} (P : List X → Type 0) where
   of_one : (xs : List X) (x : X) → xs ≡ x ∷ [] → P (x ∷ []) → P xs
   of_one xs x is holds = subst P (sym is) holds
 
-module _ {D : Type 0} {g : Ghosts D} (catalog : Catalog) (capacity : ℕ) (i : SiteId) (node : Node D g)
-    (is : node.entries.items ≡ opening ∷ []) where
+module _ {D : Type 0} {g : Ghosts D} (catalog : Catalog) (capacity : ℕ) (i : SiteId) (node : NodeParts D g)
+    (is : node.trail ≡ opening ∷ []) where
   -- where the engine stands as the opening says
   pub known_built : (clients : ℕ) → 19 ≤ capacity → Stands node.engine (standing catalog i (opening ∷ []))
-      → AreFree clients node.debts.items → IsKnownNode catalog capacity i node
+      → AreFree clients node.debts → IsKnownNode catalog capacity i node
   known_built clients fits stands free = record {
-    stands = of_one (λ (es : List Entry). Stands node.engine (standing catalog i (reverse es))) node.entries.items opening is stands;
-    right = of_one (λ (es : List Entry). IsRightTrail catalog capacity i es) node.entries.items opening is (opening_right catalog capacity i fits);
-    owed = of_one (λ (es : List Entry). AreOwed (standing catalog i (reverse es)) node.debts.items) node.entries.items opening is
-        (free_owed catalog i clients node.debts.items free);
+    stands = of_one (λ (es : List Entry). Stands node.engine (standing catalog i (reverse es))) node.trail opening is stands;
+    right = of_one (λ (es : List Entry). IsRightTrail catalog capacity i es) node.trail opening is (opening_right catalog capacity i fits);
+    owed = of_one (λ (es : List Entry). AreOwed (standing catalog i (reverse es)) node.debts) node.trail opening is
+        (free_owed catalog i clients node.debts free);
   }
 
   -- whatever its disk tells
   pub node_built : catalog_in node.engine ≡ catalog → site_in node.engine ≡ i → capacity_in node.engine ≡ capacity
-      → node.clock ≡ 1 → length node.outs.items ≡ catalog.sites
-      → ((k : ℕ) → k < catalog.sites → put_to node.outs.items k ≡ []) → IsNode catalog capacity i node
+      → node.clock ≡ 1 → length node.outs ≡ catalog.sites
+      → ((k : ℕ) → k < catalog.sites → put_to node.outs k ≡ []) → IsNode catalog capacity i node
   node_built catalog_is site capacity_is one long empty = record {
     catalog_is = catalog_is;
     site = site;
     capacity_is = capacity_is;
     begins = ap (λ es. slice_get es 0) is;
-    last = one ∙ of_one (λ (es : List Entry). 1 ≡ clock (reverse es)) node.entries.items opening is refl;
+    last = one ∙ of_one (λ (es : List Entry). 1 ≡ clock (reverse es)) node.trail opening is refl;
     early = omega (arith, one);
-    rise = of_one (λ (es : List Entry). HaveRisingStamps (reverse es)) node.entries.items opening is (omega arith, tt);
-    sized = of_one (λ (es : List Entry). All (λ (e : Entry). IsSized catalog.sites e.came) es) node.entries.items opening is
+    rise = of_one (λ (es : List Entry). HaveRisingStamps (reverse es)) node.trail opening is (omega arith, tt);
+    sized = of_one (λ (es : List Entry). All (λ (e : Entry). IsSized catalog.sites e.came) es) node.trail opening is
         (one_of_all (λ (e : Entry). IsSized catalog.sites e.came) opening
         (record { outcome = tt; kept = tt; wrote = omega arith; flight = tt; sends = none_sent catalog.sites }));
-    put = of_one (λ (es : List Entry). HavePut catalog.sites es node.outs.items) node.entries.items opening is
+    put = of_one (λ (es : List Entry). HavePut catalog.sites es node.outs) node.trail opening is
         (record { long = long; each = λ k below. empty k below });
-    faults = of_some (disk_in node.engine) (λ disk. count_by (λ (e : Entry). is_faulty e.came.outcome) node.entries.items ≤ (g.known disk).faults)
+    faults = of_some (disk_in node.engine) (λ disk. count_by (λ (e : Entry). is_faulty e.came.outcome) node.trail ≤ (g.known disk).faults)
         (λ disk. let none = ap (λ (es : List Entry). count_by (λ (e : Entry). is_faulty e.came.outcome) es) is in omega (arith, none));
+  }
+
+-- what a first restart comes to, told of the disk that the site was given
+module _ {D N : Type 0} (g : Ghosts D)
+    (counts_now : (disk : D) (t : ℕ) (image : List ℕ) → t ≤ g.moment disk → g.may_leave disk image → g.left_since disk t image)
+    (disk_of : N → Option D) (disk : D) (r : Result N (D × Unbegun)) (answer : Result (Unit {0}) Unbegun) (old new : Option D)
+    (old_is : old ≡ Some disk) (answered : begun_by r ≡ answer) (now_of : (P : D → Type 0) → IfSome new P → OfBuilt disk_of r P) where
+  of_given : (R : D → D → Type 0) → IfSome old (λ x. IfSome new (λ y. R x y)) → IfSome new (λ y. R disk y)
+  of_given R both = from_found old disk (λ x. IfSome new (λ y. R x y)) old_is both
+
+  pub begins_by : ((bytes : List ℕ) → IfSome old (HasOnly g bytes) → IsBegun bytes answer)
+      → ((bytes : List ℕ) → IfSome old (HasOnly g bytes)
+      → IfSome old (λ x. IfSome new (λ y. LeavesOnly g.moment g.left_since x y (MayHaveBegun bytes))))
+      → IfSome old (λ x. IfSome new (λ y. IsFaultOfBegin answer (g.known x).faults (g.known y).faults))
+      → IfSome old (λ x. IfSome new (λ y. (g.known y).arms ≡ (g.known x).arms))
+      → Begins g disk_of disk r
+  begins_by begins any_moment faults arms = record {
+    begins = λ bytes only.
+        subst (λ (a : Result (Unit {0}) Unbegun). IsBegun bytes a) (sym answered) (begins bytes (to_found old disk (HasOnly g bytes) old_is only));
+    leaves = λ bytes only.
+        now_of _ (leaves_now g counts_now old new disk (MayHaveBegun bytes) old_is (any_moment bytes (to_found old disk (HasOnly g bytes) old_is only)));
+    faults = now_of _
+        (subst (λ (a : Result (Unit {0}) Unbegun). IfSome new (λ y. IsFaultOfBegin a (g.known disk).faults (g.known y).faults)) (sym answered)
+        (of_given (λ x y. IsFaultOfBegin answer (g.known x).faults (g.known y).faults) faults));
+    arms = now_of _ (of_given (λ x y. (g.known y).arms ≡ (g.known x).arms) arms);
   }

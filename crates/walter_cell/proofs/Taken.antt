@@ -1,24 +1,26 @@
 -- A cell behind one more entry.
-use Rattle.std.proofs.Common.{◌≡◌, ◌<◌, ◌+◌, ℕ, List, [], ◌∷◌, ◌++◌, length, reverse, refl, ap, sym, ◌∙◌, subst, arith}
-use Rattle.std.proofs.lemmas.List.{reverse-append}
-use Rattle.walter_base.specs.declared.catalog.Catalog.{Catalog}
+use Rattle.std.proofs.Common.{◌≡◌, ◌+◌, max, ℕ, List, [], ◌∷◌, ◌++◌, true, length, reverse, refl, ap, sym, ◌∙◌, subst, arith, inl, inr, Option}
+use Rattle.std.specs.Prelude.{All}
+use Rattle.std.proofs.lemmas.List.{reverse-append, append-nil}
+use Rattle.std.proofs.lemmas.List.Concat.{flat_map-append}
+use Rattle.std.proofs.lemmas.List.Elements.{All-push, All-weaker}
 use Rattle.walter_base.specs.declared.names.SiteId.{SiteId}
+use Rattle.walter_conn.specs.Frames.{Call as Called}
 use Rattle.walter_disk.specs.declared.disk.Disk.{Ghosts}
-use Rattle.walter_engine.specs.declared.engine.Engine.{Engine}
-use Rattle.walter_lane.specs.Lanes.{Receiving, Sending}
-use Rattle.walter_outbox.specs.Lanes.{out_rings, in_rings, mets, met_to, IsNext, AreNext}
+use Rattle.walter_lane.specs.Lanes.{Receiving}
+use Rattle.walter_outbox.specs.Lanes.{in_rings, out_rings, mets, IsNext, AreNext}
 use Rattle.walter_rules.specs.declared.entry.Entry.{Entry}
 use Rattle.walter_rules.specs.declared.event.Event.{Event}
 use Rattle.walter_rules.specs.declared.event.Event.TheVariants.{Given, Stop, Restart}
 use Rattle.walter_rules.specs.declared.event.Input.TheVariants.{Call, Deliver, Advance, Tick}
+use Rattle.walter_rules.specs.declared.outcome.Outcome.{Outcome}
 use Rattle.walter_rules.specs.Trails.{IsNextStamp}
-use Rattle.walter_stream.specs.declared.sink.Sink.{Ghosts as SinkGhosts}
-use Rattle.walter_stream.specs.declared.source.Source.{Ghosts as SourceGhosts}
-use Rattle.walter_cell.specs.declared.cell.Cell.{Cell}
-use Rattle.walter_cell.specs.declared.node.Node.{Node}
-use Rattle.walter_cell.specs.Cells.{IsCell, IsSameCell}
-use Rattle.walter_cell.specs.Entries.{IsPlain, IsOfClients, IsSizedEvent, Grows}
-use Rattle.walter_cell.specs.Nodes.{entry_by, IsNode, IsSameNode, Takes, MayDrop}
+use Rattle.walter_trail.specs.Calls.{call_by, calls_of}
+use Rattle.walter_cell.specs.Cells.{CellValue, IsCell, Keeps, Proceeds}
+use Rattle.walter_cell.specs.Entries.{IsPlain, IsOfClients, IsSizedEvent, IsSpent, IfCalled, Grows}
+use Rattle.walter_cell.specs.Lines.{LineValue, is_here, IsLineAt}
+use Rattle.walter_cell.specs.Nodes.{NodeValue, IsSameButRoom, IsSameButDisk, IsSameButLanes, KeepsNode, Takes, entry_by, clock_in, arms_under, is_told}
+use Rattle.walter_cell.specs.Written.{AreWritten, AreWrittenAt, framed_for, replies_to}
 
 -- ---- events that bring nothing
 
@@ -57,66 +59,235 @@ stamp_next i ins (Given Tick) last stamp is = is
 stamp_next i ins Stop last stamp is = is
 stamp_next i ins Restart last stamp is = is
 
+-- an event that brings nothing, or a packet, is no client's
+pub plain_calls_none : (event : Event) → IsPlain event → IfCalled (λ client. ⊥) event
+plain_calls_none (Given (Call client call)) plain = absurd plain
+plain_calls_none (Given (Deliver from number packet)) plain = absurd plain
+plain_calls_none (Given (Advance from)) plain = tt
+plain_calls_none (Given Tick) plain = tt
+plain_calls_none Stop plain = tt
+plain_calls_none Restart plain = tt
+
+pub if_called : (P Q : ℕ → Type 0) (event : Event) → ((client : ℕ) → P client → Q client) → IfCalled P event → IfCalled Q event
+if_called P Q (Given (Call client call)) by holds = by client holds
+if_called P Q (Given (Deliver from number packet)) by holds = tt
+if_called P Q (Given (Advance from)) by holds = tt
+if_called P Q (Given Tick) by holds = tt
+if_called P Q Stop by holds = tt
+if_called P Q Restart by holds = tt
+
+no_call : (client : ℕ) (event : Event) → IfCalled (λ c. ⊥) event → call_by client event ≡ []
+no_call client (Given (Call c call)) none = absurd none
+no_call client (Given (Deliver from number packet)) none = refl
+no_call client (Given (Advance from)) none = refl
+no_call client (Given Tick) none = refl
+no_call client Stop none = refl
+no_call client Restart none = refl
+
+no_reply : (client : ℕ) (event : Event) (outcome : Outcome) → IfCalled (λ c. ⊥) event → framed_for client event outcome ≡ []
+no_reply client (Given (Call c call)) outcome none = absurd none
+no_reply client (Given (Deliver from number packet)) outcome none = refl
+no_reply client (Given (Advance from)) outcome none = refl
+no_reply client (Given Tick) outcome none = refl
+no_reply client Stop outcome none = refl
+no_reply client Restart outcome none = refl
+
+-- the calls of a client, and the replies to them, behind an entry that is of no client
+pub calls_stay : (client : ℕ) (entries : List Entry) (e : Entry) → IfCalled (λ c. ⊥) e.event
+    → calls_of client (entries ++ e ∷ []) ≡ calls_of client entries
+calls_stay client entries e none =
+    flat_map-append (λ (z : Entry). call_by client z.event) entries (e ∷ [])
+    ∙ (ap (λ xs. calls_of client entries ++ xs) (append-nil (call_by client e.event) ∙ no_call client e.event none)
+    ∙ append-nil (calls_of client entries))
+
+pub replies_stay : (client : ℕ) (entries : List Entry) (e : Entry) → IfCalled (λ c. ⊥) e.event
+    → replies_to client (entries ++ e ∷ []) ≡ replies_to client entries
+replies_stay client entries e none =
+    flat_map-append (λ (z : Entry). framed_for client z.event z.came.outcome) entries (e ∷ [])
+    ∙ (ap (λ xs. replies_to client entries ++ xs)
+    (append-nil (framed_for client e.event e.came.outcome) ∙ no_reply client e.event e.came.outcome none)
+    ∙ append-nil (replies_to client entries))
+
+-- ---- sites with their trails and lanes
+
+module _ {D : Type 0} (g : Ghosts D) where
+  pub keeps_room : (old new : NodeValue D) → IsSameButRoom old new → KeepsNode g old new
+  keeps_room old new same = subst (λ (n : NodeValue D). KeepsNode g old n) (sym same)
+      (record { catalog = refl; site = refl; capacity = refl; told = refl; rings = refl; clients = refl })
+
+  -- what was made ready for an entry takes it as it stood before
+  pub ready_takes : (stamp : ℕ) (event : Event) (old mid new : NodeValue D) → IsSameButRoom old mid
+      → Takes g stamp event mid new → Takes g stamp event old new
+  ready_takes stamp event old mid new same takes =
+      let t = subst (λ (m : NodeValue D). Takes g stamp event m new) same takes in
+      record {
+        came = t.came;
+        trail = t.trail;
+        short = t.short;
+        keeps = record {
+          catalog = t.keeps.catalog;
+          site = t.keeps.site;
+          capacity = t.keeps.capacity;
+          told = t.keeps.told;
+          rings = t.keeps.rings;
+          clients = t.keeps.clients;
+        };
+        same_mets = t.same_mets;
+        arms = t.arms;
+        drops = t.drops;
+      }
+
 -- ---- cells
 
-module _ {D S K : Type 0} {g : Ghosts D} {s : SourceGhosts S} {k : SinkGhosts K} (old : Cell D S K g s k) (mid : Node D g)
-    (new : Cell D S K g s k) (stamp : ℕ) (event : Event)
-    (ready : IsSameNode old.node mid) (takes : Takes stamp event mid new.node) where
-  abbrev own : Entry
-  own = entry_by stamp event takes.came
+module _ {D : Type 0} (old : CellValue D) (node : NodeValue D)
+    (lines : List (Option LineValue)) where
+  abbrev pub with_node : CellValue D
+  with_node = record { node = node; ins = old.ins; lines = lines }
 
-  grown : new.node.entries.items ≡ old.node.entries.items ++ own ∷ []
-  grown = takes.entries ∙ ap (λ (es : List Entry). es ++ own ∷ []) ready.entries
-
-  -- the trail has the entry of the event
-  pub grows_taken : Grows event old.node.entries.items new.node.entries.items
-  grows_taken = (own, grown, refl)
-
-  pub same_taken : new.ins ≡ old.ins → length new.lines.items ≡ length old.lines.items → IsSameCell old new
-  same_taken ins lines = record {
-    engine = record {
-      catalog = takes.engine.catalog ∙ ap (λ (n : Engine D g). n.catalog) ready.engine;
-      site = takes.engine.site ∙ ap (λ (n : Engine D g). n.site) ready.engine;
-      capacity = takes.engine.capacity ∙ ap (λ (n : Engine D g). n.capacity) ready.engine;
-    };
-    outs = takes.rings ∙ ap (λ os. out_rings os.items) ready.outs;
-    ins = ap (λ is. in_rings is.items) ins;
-    lines = lines;
-    debts = takes.debts ∙ ap (λ ds. length ds.items) ready.debts;
+  -- with the same trail
+  pub cell_kept : node.catalog ≡ old.node.catalog → node.site ≡ old.node.site → node.clients ≡ old.node.clients
+      → node.trail ≡ old.node.trail → length lines ≡ length old.lines
+      → ((client : ℕ) → is_here lines client ≡ is_here old.lines client) → IsCell old → IsCell with_node
+  cell_kept catalog site clients trail long here cell = record {
+    ins = cell.ins ∙ sym (ap (λ c. c.sites) catalog);
+    next = subst (λ i. AreNext i old.ins (reverse node.trail)) (sym site)
+        (subst (λ (es : List Entry). AreNext old.node.site old.ins (reverse es)) (sym trail) cell.next);
+    clients = clients ∙ (cell.clients ∙ sym long);
+    calls = subst (λ (es : List Entry). All (λ (e : Entry). IfCalled (λ client. is_here lines client ≡ true) e.event) es) (sym trail)
+        (All-weaker (λ (e : Entry). IfCalled (λ client. is_here old.lines client ≡ true) e.event)
+        (λ (e : Entry). IfCalled (λ client. is_here lines client ≡ true) e.event)
+        (λ e called. if_called _ _ e.event (λ client was. here client ∙ was) called) old.node.trail cell.calls);
   }
 
-  pub mets_taken : mets new.node.outs.items ≡ mets old.node.outs.items
-  mets_taken = takes.same_mets ∙ ap (λ os. mets os.items) ready.outs
+  module _ (g : Ghosts D) (stamp : ℕ) (event : Event) (takes : Takes g stamp event old.node node) where
+    abbrev own : Entry
+    own = entry_by stamp event takes.came
 
-  -- what the entry puts out, told of the cell before it was made ready
-  pub drops_taken : (catalog : Catalog) (i : SiteId)
-      → MayDrop catalog i (met_to mid.outs.items) mid.entries.items new.node.entries.items
-      → MayDrop catalog i (met_to old.node.outs.items) old.node.entries.items new.node.entries.items
-  drops_taken catalog i drops =
-      subst (λ (es : List Entry). MayDrop catalog i (met_to old.node.outs.items) es new.node.entries.items) ready.entries
-      (subst (λ (os : List Sending). MayDrop catalog i (met_to os) mid.entries.items new.node.entries.items) (ap (λ os. os.items) ready.outs) drops)
+    -- the trail has the entry of the event
+    pub grows_taken : Grows event old.node.trail node.trail
+    grows_taken = (own, takes.trail, refl)
 
-  module _ (catalog : Catalog) (capacity : ℕ) (i : SiteId) (cell : IsCell catalog capacity i old) where
-    pub cell_taken : IsNode catalog capacity i new.node → new.ins ≡ old.ins
-        → IsNext i old.ins.items event old.node.clock stamp → IsCell catalog capacity i new
-    cell_taken node ins next =
-        let back : reverse new.node.entries.items ≡ own ∷ reverse old.node.entries.items =
-        ap reverse grown ∙ reverse-append old.node.entries.items (own ∷ []) in
+    pub cell_taken : length lines ≡ length old.lines → ((client : ℕ) → is_here lines client ≡ is_here old.lines client)
+        → IsNext old.node.site old.ins event (clock_in old.node) stamp
+        → IfCalled (λ client. is_here old.lines client ≡ true) event → IsCell old → IsCell with_node
+    cell_taken long here next called cell =
+        let back : reverse node.trail ≡ own ∷ reverse old.node.trail =
+        ap reverse takes.trail ∙ reverse-append old.node.trail (own ∷ []) in
         record {
-          node = node;
-          ins = ap (λ is. length is.items) ins ∙ cell.ins;
-          next = subst (λ (es : List Entry). AreNext i new.ins.items es) (sym back)
-              (subst (λ (is : List Receiving). AreNext i is (own ∷ reverse old.node.entries.items)) (sym (ap (λ is. is.items) ins))
-              (cell.next, subst (λ n. IsNext i old.ins.items event n stamp) cell.node.last next));
+          ins = cell.ins ∙ sym (ap (λ c. c.sites) takes.keeps.catalog);
+          next = subst (λ i. AreNext i old.ins (reverse node.trail)) (sym takes.keeps.site)
+              (subst (λ (es : List Entry). AreNext old.node.site old.ins es) (sym back) (cell.next, next));
+          clients = takes.keeps.clients ∙ (cell.clients ∙ sym long);
+          calls = subst (λ (es : List Entry). All (λ (e : Entry). IfCalled (λ client. is_here lines client ≡ true) e.event) es) (sym takes.trail)
+              (All-push (λ (e : Entry). IfCalled (λ client. is_here lines client ≡ true) e.event) old.node.trail own
+              (All-weaker (λ (e : Entry). IfCalled (λ client. is_here old.lines client ≡ true) e.event)
+              (λ (e : Entry). IfCalled (λ client. is_here lines client ≡ true) e.event)
+              (λ e was. if_called _ _ e.event (λ client is. here client ∙ is) was) old.node.trail cell.calls)
+              (if_called _ _ event (λ client is. here client ∙ is) called));
         }
 
--- with the same entries
-pub cell_same : {D S K : Type 0} {g : Ghosts D} {s : SourceGhosts S} {k : SinkGhosts K} (catalog : Catalog) (capacity : ℕ)
-    (i : SiteId) (old new : Cell D S K g s k) → IsNode catalog capacity i new.node → new.node.entries.items ≡ old.node.entries.items → new.ins ≡ old.ins
-    → IsCell catalog capacity i old → IsCell catalog capacity i new
-cell_same catalog capacity i old new node entries ins cell = record {
+    -- what an event keeps whose connections are kept
+    pub proceeds_taken : ((client : ℕ) → is_here lines client ≡ is_here old.lines client)
+        → ((client : ℕ) (bytes : List ℕ) → IsLineAt bytes (calls_of client old.node.trail) old.lines client
+        → IsLineAt bytes (calls_of client node.trail) lines client)
+        → ((client : ℕ) (first : List ℕ) → AreWrittenAt first client old.node.trail old.lines
+        → AreWrittenAt first client node.trail lines)
+        → Proceeds g old with_node
+    proceeds_taken here connected answered = record {
+      keeps = record { node = takes.keeps; ins = refl; here = here; connected = connected; answered = answered };
+      ins = refl;
+      same_mets = takes.same_mets;
+      arms = takes.arms;
+      drops = takes.drops;
+    }
+
+-- what a call keeps that leaves the trail and the connections as they were
+pub keeps_trail : {D : Type 0} (g : Ghosts D) (old new : CellValue D) → KeepsNode g old.node new.node → in_rings new.ins ≡ in_rings old.ins
+    → new.lines ≡ old.lines → new.node.trail ≡ old.node.trail → Keeps g old new
+keeps_trail g old new node ins lines trail = record {
   node = node;
-  ins = ap (λ is. length is.items) ins ∙ cell.ins;
-  next = subst (λ (es : List Entry). AreNext i new.ins.items (reverse es)) (sym entries)
-      (subst (λ (is : List Receiving). AreNext i is (reverse old.node.entries.items)) (sym (ap (λ is. is.items) ins)) cell.next);
+  ins = ins;
+  here = λ client. ap (λ (ls : List (Option LineValue)). is_here ls client) lines;
+  connected = λ client bytes is.
+      subst (λ (ls : List (Option LineValue)). IsLineAt bytes (calls_of client new.node.trail) ls client) (sym lines)
+      (subst (λ (es : List Entry). IsLineAt bytes (calls_of client es) old.lines client) (sym trail) is);
+  answered = λ client first are.
+      subst (λ (ls : List (Option LineValue)). AreWrittenAt first client new.node.trail ls) (sym lines)
+      (subst (λ (es : List Entry). AreWrittenAt first client es old.lines) (sym trail) are);
 }
+
+-- a cell whose disk or whose lanes' ends have changed, and nothing else
+module _ {D : Type 0} (old : CellValue D) (node : NodeValue D) where
+  pub cell_disk : IsSameButDisk old.node node → IsCell old → IsCell (record { node = node; ins = old.ins; lines = old.lines })
+  cell_disk same cell = cell_kept old node old.lines (ap (λ (n : NodeValue D). n.catalog) same) (ap (λ (n : NodeValue D). n.site) same)
+      (ap (λ (n : NodeValue D). n.clients) same) (ap (λ (n : NodeValue D). n.trail) same) refl (λ client. refl) cell
+
+  pub cell_lanes : IsSameButLanes old.node node → IsCell old → IsCell (record { node = node; ins = old.ins; lines = old.lines })
+  cell_lanes same cell = cell_kept old node old.lines (ap (λ (n : NodeValue D). n.catalog) same) (ap (λ (n : NodeValue D). n.site) same)
+      (ap (λ (n : NodeValue D). n.clients) same) (ap (λ (n : NodeValue D). n.trail) same) refl (λ client. refl) cell
+
+  pub keeps_disk : (g : Ghosts D) → IsSameButDisk old.node node → is_told g node.disk ≡ is_told g old.node.disk
+      → Keeps g old (record { node = node; ins = old.ins; lines = old.lines })
+  keeps_disk g same told = keeps_trail g old (record { node = node; ins = old.ins; lines = old.lines })
+      (record {
+        catalog = ap (λ (n : NodeValue D). n.catalog) same;
+        site = ap (λ (n : NodeValue D). n.site) same;
+        capacity = ap (λ (n : NodeValue D). n.capacity) same;
+        told = told;
+        rings = ap (λ (n : NodeValue D). out_rings n.outs) same;
+        clients = ap (λ (n : NodeValue D). n.clients) same;
+      }) refl refl (ap (λ (n : NodeValue D). n.trail) same)
+
+  pub keeps_lanes : (g : Ghosts D) → IsSameButLanes old.node node → out_rings node.outs ≡ out_rings old.node.outs
+      → Keeps g old (record { node = node; ins = old.ins; lines = old.lines })
+  keeps_lanes g same rings = keeps_trail g old (record { node = node; ins = old.ins; lines = old.lines })
+      (record {
+        catalog = ap (λ (n : NodeValue D). n.catalog) same;
+        site = ap (λ (n : NodeValue D). n.site) same;
+        capacity = ap (λ (n : NodeValue D). n.capacity) same;
+        told = ap (λ (n : NodeValue D). is_told g n.disk) same;
+        rings = rings;
+        clients = ap (λ (n : NodeValue D). n.clients) same;
+      }) refl refl (ap (λ (n : NodeValue D). n.trail) same)
+
+-- an event of no client comes to a cell, whose connections stay
+module _ {D : Type 0} (g : Ghosts D) (old : CellValue D) (node : NodeValue D)
+    (stamp : ℕ) (event : Event) (takes : Takes g stamp event old.node node) (none : IfCalled (λ c. ⊥) event) where
+  calls : (client : ℕ) → calls_of client node.trail ≡ calls_of client old.node.trail
+  calls client = ap (λ es. calls_of client es) takes.trail ∙ calls_stay client old.node.trail (entry_by stamp event takes.came) none
+
+  replies : (client : ℕ) → replies_to client node.trail ≡ replies_to client old.node.trail
+  replies client = ap (λ es. replies_to client es) takes.trail ∙ replies_stay client old.node.trail (entry_by stamp event takes.came) none
+
+  pub proceeds_alone : Proceeds g old (record { node = node; ins = old.ins; lines = old.lines })
+  proceeds_alone =
+      proceeds_taken old node old.lines g stamp event takes (λ client. refl)
+      (λ client bytes is. subst (λ (cs : List Called). IsLineAt bytes cs old.lines client) (sym (calls client)) is)
+      (λ client first are. (are.0, are.1, subst (λ rs. AreWritten first rs are.0.incoming.state are.0.sent) (sym (replies client)) are.2))
+
+  pub cell_alone : IsNext old.node.site old.ins event (clock_in old.node) stamp → IsCell old
+      → IsCell (record { node = node; ins = old.ins; lines = old.lines })
+  cell_alone next cell = cell_taken old node old.lines g stamp event takes refl (λ client. refl) next
+      (if_called _ _ event (λ client never. absurd never) none) cell
+
+-- nothing came, and nothing but the memory changed
+module _ {D : Type 0} (g : Ghosts D) (old : CellValue D) (node : NodeValue D)
+    (same : IsSameButRoom old.node node) where
+  pub cell_room : IsCell old → IsCell (record { node = node; ins = old.ins; lines = old.lines })
+  cell_room cell = cell_kept old node old.lines (ap (λ (n : NodeValue D). n.catalog) same) (ap (λ (n : NodeValue D). n.site) same) (ap (λ (n : NodeValue D). n.clients) same)
+      (ap (λ (n : NodeValue D). n.trail) same) refl (λ client. refl) cell
+
+  pub proceeds_room : Proceeds g old (record { node = node; ins = old.ins; lines = old.lines })
+  proceeds_room = record {
+    keeps = keeps_trail g old (record { node = node; ins = old.ins; lines = old.lines }) (keeps_room g old.node node same) refl refl
+        (ap (λ (n : NodeValue D). n.trail) same);
+    ins = refl;
+    same_mets = ap (λ (n : NodeValue D). mets n.outs) same;
+    arms = ap (λ (n : NodeValue D). arms_under g n.disk) same;
+    drops = λ told. inl (ap (λ (n : NodeValue D). n.trail) same);
+  }
+
+-- a trail that is spent for an entry that brings no packet
+pub spent_next : (last : ℕ) (trail : List Entry) → IsSpent (max last 0 + 1) trail → IsSpent (last + 1) trail
+spent_next last trail (inl many) = inl many
+spent_next last trail (inr late) = inr (omega (arith, late))

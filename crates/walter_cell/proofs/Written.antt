@@ -4,18 +4,16 @@ use Rattle.std.proofs.Common.{take, slice_get, slice_set, get_or, if◌then◌el
 use Rattle.std.proofs.Common.{refl, ap, sym, subst, arith, inl, inr}
 use Rattle.std.specs.List.{concat}
 use Rattle.std.specs.Prelude.{IfSome, OnOk, OnErr, length}
-use Rattle.std.proofs.lemmas.Bool.{eq-eqb}
+use Rattle.std.proofs.lemmas.Bool.{eq-eqb, ne_eqb}
 use Rattle.std.proofs.lemmas.List.{append-nil, append_assoc, length-append}
 use Rattle.std.proofs.lemmas.List.Concat.{flat_map-append}
 use Rattle.std.proofs.lemmas.Option.{slice_get_within}
 use Rattle.walter_conn.specs.Calls.{Incoming, Answers, before, fault, cut}
-use Rattle.walter_conn.specs.Connections.{incoming, sink_of}
 use Rattle.walter_conn.specs.Frames.{Call, frame}
 use Rattle.walter_conn.specs.Outputs.{IsLost}
 use Rattle.walter_conn.specs.Outputs as outputs
 use Rattle.walter_reply.specs.Replies.{reply_spelled}
 use Rattle.walter_base.specs.declared.message.Reply.{Reply}
-use Rattle.walter_conn.specs.declared.conn.Conn.{Conn}
 use Rattle.walter_conn.specs.declared.next.Next.{Next}
 use Rattle.walter_conn.specs.declared.next.Next.TheVariants.{Frame, Ended, Broken}
 use Rattle.walter_conn.specs.declared.state.State.TheVariants as state
@@ -26,8 +24,7 @@ use Rattle.walter_rules.specs.declared.event.Input.TheVariants.{Call as CallInpu
 use Rattle.walter_rules.specs.declared.outcome.Outcome.{Outcome}
 use Rattle.walter_rules.specs.declared.outcome.Outcome.TheVariants.{Replied}
 use Rattle.walter_stream.specs.Streams.{Appends}
-use Rattle.walter_stream.specs.declared.sink.Sink.{Ghosts as SinkGhosts}
-use Rattle.walter_stream.specs.declared.source.Source.{Ghosts as SourceGhosts}
+use Rattle.walter_cell.specs.Lines.{Sent, LineValue}
 use Rattle.walter_cell.specs.Written.{framed_reply, framed_for, replies_to, IsHeld, AreWritten, AreWrittenAt}
 use Rattle.walter_cell.specs.Written.{IsCutOff}
 use Rattle.walter_psi.proofs.Lists.{slice_get-push}
@@ -49,33 +46,38 @@ appends_none None = refl
 appends_none (Some held) = ap (λ (l : List ℕ). Some l) (sym (append-nil held))
 
 -- the entry that came stands last
+pub last_there : (entries more : List Entry) (e : Entry) → more ≡ entries ++ e ∷ []
+    → slice_get more (length more - 1) ≡ Some e
+last_there entries more e grown =
+    let long : length more ≡ length entries + 1 = ap length grown ∙ length-append entries (e ∷ []) in
+    let at : length more - 1 ≡ length entries = omega (arith, long) in
+    ap (λ n. slice_get more n) at
+    ∙ (ap (λ (es : List Entry). slice_get es (length entries)) grown ∙ slice_get-push entries e)
+
 pub last_came : (entries more : List Entry) (e x : Entry) → more ≡ entries ++ e ∷ []
     → slice_get more (length more - 1) ≡ Some x → x ≡ e
 last_came entries more e x grown found =
-    let long : length more ≡ length entries + 1 = ap length grown ∙ length-append entries (e ∷ []) in
-    let at : length more - 1 ≡ length entries = omega (arith, long) in
-    let same : Some x ≡ Some e = sym found ∙ (ap (λ n. slice_get more n) at
-    ∙ (ap (λ (es : List Entry). slice_get es (length entries)) grown ∙ slice_get-push entries e)) in
+    let same : Some x ≡ Some e = sym found ∙ last_there entries more e grown in
     cc
 
 -- a reply that a connection was given: all of it was written, or it was cut off
-module _ {S K : Type 0} {s : SourceGhosts S} {k : SinkGhosts K} (old new : Conn S K s k)
-    (unbroken : (incoming old).state ≢ state.Broken) (outcome : Outcome) (reply : Reply) (is : outcome ≡ Replied reply) where
+module _ (old new : LineValue)
+    (unbroken : old.incoming.state ≢ state.Broken) (outcome : Outcome) (reply : Reply) (is : outcome ≡ Replied reply) where
   framed : framed_reply outcome ≡ frame (reply_spelled reply) ∷ []
   framed = ap (λ (o : Outcome). framed_reply o) is
 
   pub put_whole : {X E : Type 0} (r : Result X E)
-      → OnOk r (Appends (k.holds (sink_of old)) (k.holds (sink_of new)) (frame (reply_spelled reply)))
-      → OnOk r (incoming new ≡ incoming old)
-      → OnOk r (Appends (k.holds (sink_of old)) (k.holds (sink_of new)) (concat (framed_reply outcome)) × (incoming new ≡ incoming old))
+      → OnOk r (Appends (old.sent.held) (new.sent.held) (frame (reply_spelled reply)))
+      → OnOk r (new.incoming ≡ old.incoming)
+      → OnOk r (Appends (old.sent.held) (new.sent.held) (concat (framed_reply outcome)) × (new.incoming ≡ old.incoming))
   put_whole (Ok done) whole same =
       let all : concat (framed_reply outcome) ≡ frame (reply_spelled reply) =
       ap (λ (l : List (List ℕ)). concat l) framed ∙ append-nil (frame (reply_spelled reply)) in
-      (subst (λ (l : List ℕ). Appends (k.holds (sink_of old)) (k.holds (sink_of new)) l) (sym all) whole, same)
+      (subst (λ (l : List ℕ). Appends (old.sent.held) (new.sent.held) l) (sym all) whole, same)
   put_whole (Err e) whole same = tt
 
-  cut_off : IsLost k.holds k.faults (sink_of old) (sink_of new) (frame (reply_spelled reply)) (incoming old).state
-      → (incoming new).state ≡ state.Broken → IsCutOff k outcome (incoming new).state (sink_of old) (sink_of new)
+  cut_off : IsLost (λ (x : Sent). x.held) (λ (x : Sent). x.faults) old.sent new.sent (frame (reply_spelled reply)) old.incoming.state
+      → new.incoming.state ≡ state.Broken → IsCutOff outcome new.incoming.state old.sent new.sent
   cut_off (outputs.before broken same) now = absurd (unbroken broken)
   cut_off (outputs.fault open_ front rose) now = record {
     reply = frame (reply_spelled reply);
@@ -86,9 +88,9 @@ module _ {S K : Type 0} {s : SourceGhosts S} {k : SinkGhosts K} (old new : Conn 
   }
 
   pub put_cut : {X E : Type 0} (r : Result X E)
-      → OnErr r (IsLost k.holds k.faults (sink_of old) (sink_of new) (frame (reply_spelled reply)) (incoming old).state)
-      → OnErr r (incoming new ≡ record (incoming old) { state = state.Broken })
-      → OnErr r (IsCutOff k outcome (incoming new).state (sink_of old) (sink_of new))
+      → OnErr r (IsLost (λ (x : Sent). x.held) (λ (x : Sent). x.faults) old.sent new.sent (frame (reply_spelled reply)) old.incoming.state)
+      → OnErr r (new.incoming ≡ record old.incoming { state = state.Broken })
+      → OnErr r (IsCutOff outcome new.incoming.state old.sent new.sent)
   put_cut (Ok done) lost broken = tt
   put_cut (Err e) lost broken = cut_off lost (ap (λ (x : Incoming). x.state) broken)
 
@@ -106,6 +108,17 @@ replies_more client entries e call is =
     ∙ (ap (λ (v : Event). framed_for client v e.came.outcome) is
     ∙ ap (λ b. if b then framed_reply e.came.outcome else []) (eq-eqb client client refl)))
 
+-- the replies to a client with a call of another
+pub replies_same : (client other : ℕ) (entries : List Entry) (e : Entry) (call : Call) → client ≢ other
+    → e.event ≡ Given (CallInput other call) → replies_to client (entries ++ e ∷ []) ≡ replies_to client entries
+replies_same client other entries e call apart is =
+    flat_map-append (λ (z : Entry). framed_for client z.event z.came.outcome) entries (e ∷ [])
+    ∙ (ap (λ xs. replies_to client entries ++ xs)
+    (append-nil (framed_for client e.event e.came.outcome)
+    ∙ (ap (λ (v : Event). framed_for client v e.came.outcome) is
+    ∙ ap (λ b. if b then framed_reply e.came.outcome else []) (ne_eqb other client (λ same. apart (sym same)))))
+    ∙ append-nil (replies_to client entries))
+
 -- a connection that is broken stays so
 pub stays_broken : (old new : Incoming) (next : Next) → Answers old new next → old.state ≡ state.Broken → new.state ≡ state.Broken
 stays_broken old new (Frame call) takes broken = let was = takes.was_open in absurd cc
@@ -114,34 +127,34 @@ stays_broken old new Broken (before was same) broken = ap (λ (x : Incoming). x.
 stays_broken old new Broken (fault was rose same now) broken = now
 stays_broken old new Broken (cut was ends now) broken = ap (λ (x : Incoming). x.state) now
 
-module _ {S K : Type 0} {s : SourceGhosts S} {k : SinkGhosts K} (first : List ℕ) (replies : List (List ℕ)) (old new : Conn S K s k)
-    (are : AreWritten k first replies (incoming old).state (sink_of old)) where
+module _ (first : List ℕ) (replies : List (List ℕ)) (old new : LineValue)
+    (are : AreWritten first replies old.incoming.state old.sent) where
   -- nothing was written to it
-  pub written_kept : ((incoming old).state ≡ state.Broken → (incoming new).state ≡ state.Broken) → sink_of new ≡ sink_of old
-      → AreWritten k first replies (incoming new).state (sink_of new)
+  pub written_kept : (old.incoming.state ≡ state.Broken → new.incoming.state ≡ state.Broken) → new.sent ≡ old.sent
+      → AreWritten first replies new.incoming.state new.sent
   written_kept stays sinks =
-      subst (λ (x : K). AreWritten k first replies (incoming new).state x) (sym sinks)
-      (if_some (k.holds (sink_of old)) _ _ by are)
+      subst (λ (x : Sent). AreWritten first replies new.incoming.state x) (sym sinks)
+      (if_some (old.sent.held) _ _ by are)
     where
       by : (held : List ℕ)
-          → IsHeld k first replies (incoming old).state (sink_of old) held
-          → IsHeld k first replies (incoming new).state (sink_of old) held
+          → IsHeld first replies old.incoming.state old.sent held
+          → IsHeld first replies new.incoming.state old.sent held
       by held (inl whole) = inl whole
       by held (inr short) = inr (stays short.0, short.1, short.2)
 
-  pub written_next : (next : Next) → Answers (incoming old) (incoming new) next → sink_of new ≡ sink_of old
-      → AreWritten k first replies (incoming new).state (sink_of new)
-  written_next next answers sinks = written_kept (stays_broken (incoming old) (incoming new) next answers) sinks
+  pub written_next : (next : Next) → Answers old.incoming new.incoming next → new.sent ≡ old.sent
+      → AreWritten first replies new.incoming.state new.sent
+  written_next next answers sinks = written_kept (stays_broken old.incoming new.incoming next answers) sinks
 
-  module _ (unbroken : (incoming old).state ≢ state.Broken) (outcome : Outcome) where
+  module _ (unbroken : old.incoming.state ≢ state.Broken) (outcome : Outcome) where
     -- a reply was written to it, where an outcome is one
-    pub written_more : Appends (k.holds (sink_of old)) (k.holds (sink_of new)) (concat (framed_reply outcome))
-        → AreWritten k first (replies ++ framed_reply outcome) (incoming new).state (sink_of new)
-    written_more appends = behind_bytes (k.holds (sink_of old)) (k.holds (sink_of new)) (concat (framed_reply outcome)) _ _ appends by are
+    pub written_more : Appends (old.sent.held) (new.sent.held) (concat (framed_reply outcome))
+        → AreWritten first (replies ++ framed_reply outcome) new.incoming.state new.sent
+    written_more appends = behind_bytes (old.sent.held) (new.sent.held) (concat (framed_reply outcome)) _ _ appends by are
       where
         by : (held : List ℕ)
-            → IsHeld k first replies (incoming old).state (sink_of old) held
-            → IsHeld k first (replies ++ framed_reply outcome) (incoming new).state (sink_of new)
+            → IsHeld first replies old.incoming.state old.sent held
+            → IsHeld first (replies ++ framed_reply outcome) new.incoming.state new.sent
             (held ++ concat (framed_reply outcome))
         by held (inl whole) =
             inl (ap (λ (l : List ℕ). l ++ concat (framed_reply outcome)) whole
@@ -150,14 +163,14 @@ module _ {S K : Type 0} {s : SourceGhosts S} {k : SinkGhosts K} (first : List �
         by held (inr short) = absurd (unbroken short.0)
 
     -- or it was cut off
-    pub written_short : IsCutOff k outcome (incoming new).state (sink_of old) (sink_of new)
-        → AreWritten k first (replies ++ framed_reply outcome) (incoming new).state (sink_of new)
+    pub written_short : IsCutOff outcome new.incoming.state old.sent new.sent
+        → AreWritten first (replies ++ framed_reply outcome) new.incoming.state new.sent
     written_short off =
-        behind_bytes (k.holds (sink_of old)) (k.holds (sink_of new)) (take off.front.0 off.reply) _ _ off.front.2 by are
+        behind_bytes (old.sent.held) (new.sent.held) (take off.front.0 off.reply) _ _ off.front.2 by are
       where
         by : (held : List ℕ)
-            → IsHeld k first replies (incoming old).state (sink_of old) held
-            → IsHeld k first (replies ++ framed_reply outcome) (incoming new).state (sink_of new)
+            → IsHeld first replies old.incoming.state old.sent held
+            → IsHeld first (replies ++ framed_reply outcome) new.incoming.state new.sent
             (held ++ take off.front.0 off.reply)
         by held (inl whole) = inr (
           off.broken,
@@ -175,60 +188,60 @@ module _ {S K : Type 0} {s : SourceGhosts S} {k : SinkGhosts K} (first : List �
 
     -- the one or the other
     pub written_put : {X E : Type 0} (r : Result X E)
-        → OnOk r (Appends (k.holds (sink_of old)) (k.holds (sink_of new)) (concat (framed_reply outcome)) × (incoming new ≡ incoming old))
-        → OnErr r (IsCutOff k outcome (incoming new).state (sink_of old) (sink_of new))
-        → AreWritten k first (replies ++ framed_reply outcome) (incoming new).state (sink_of new)
+        → OnOk r (Appends (old.sent.held) (new.sent.held) (concat (framed_reply outcome)) × (new.incoming ≡ old.incoming))
+        → OnErr r (IsCutOff outcome new.incoming.state old.sent new.sent)
+        → AreWritten first (replies ++ framed_reply outcome) new.incoming.state new.sent
     written_put (Ok done) whole off = written_more whole.0
     written_put (Err e) whole off = written_short off
 
 -- with a trail that is the same
-pub written_entries : {S K : Type 0} {s : SourceGhosts S} {k : SinkGhosts K} (first : List ℕ) (number : ℕ)
-    (entries more : List Entry) (lines : List (Option (Conn S K s k))) → more ≡ entries
+pub written_entries : (first : List ℕ) (number : ℕ)
+    (entries more : List Entry) (lines : List (Option LineValue)) → more ≡ entries
     → AreWrittenAt first number entries lines → AreWrittenAt first number more lines
-written_entries {S = S} {K = K} {s = s} {k = k} first number entries more lines same are =
-    subst (λ (es : List Entry). AreWrittenAt {S = S} {K = K} {s = s} {k = k} first number es lines) (sym same) are
+written_entries first number entries more lines same are =
+    subst (λ (es : List Entry). AreWrittenAt first number es lines) (sym same) are
 
 -- a client's turn
-module _ {S K : Type 0} {s : SourceGhosts S} {k : SinkGhosts K} (first : List ℕ) (number : ℕ) (entries more : List Entry)
-    (lines : List (Option (Conn S K s k))) (found : Option (Conn S K s k)) (line : Conn S K s k)
+module _ (first : List ℕ) (number : ℕ) (entries more : List Entry)
+    (lines : List (Option LineValue)) (found : Option (LineValue)) (line : LineValue)
     (are : AreWrittenAt first number entries lines) (at : found ≡ get_or lines number found) (some : found ≡ Some line) where
   within : number < length lines
   within = slice_get_within lines number _ are.1
 
   -- the replies that were written to its connection
-  here : AreWritten k first (replies_to number entries) (incoming line).state (sink_of line)
+  here : AreWritten first (replies_to number entries) line.incoming.state line.sent
   here =
       let same : Some are.0 ≡ Some line = at_place lines number (Some are.0) found are.1 at ∙ some in
       let e : are.0 ≡ line = cc in
-      subst (λ (l : Conn S K s k). AreWritten k first (replies_to number entries) (incoming l).state (sink_of l)) e are.2
+      subst (λ (l : LineValue). AreWritten first (replies_to number entries) l.incoming.state l.sent) e are.2
 
   -- it was not answered
-  pub written_same : (new : Conn S K s k) → more ≡ entries
-      → ((incoming line).state ≡ state.Broken → (incoming new).state ≡ state.Broken) → sink_of new ≡ sink_of line
+  pub written_same : (new : LineValue) → more ≡ entries
+      → (line.incoming.state ≡ state.Broken → new.incoming.state ≡ state.Broken) → new.sent ≡ line.sent
       → AreWrittenAt first number more (slice_set lines number (Some new))
   written_same new same stays sinks =
-      subst (λ (es : List Entry). AreWrittenAt {S = S} {K = K} {s = s} {k = k} first number es (slice_set lines number (Some new))) (sym same)
-      (line_set (λ l. AreWritten k first (replies_to number entries) (incoming l).state (sink_of l)) lines number new within
+      subst (λ (es : List Entry). AreWrittenAt first number es (slice_set lines number (Some new))) (sym same)
+      (line_set (λ l. AreWritten first (replies_to number entries) l.incoming.state l.sent) lines number new within
       (written_kept first (replies_to number entries) line new here stays sinks))
 
   -- no call followed
-  pub written_left : (new : Conn S K s k) → more ≡ entries → (next : Next) → Answers (incoming line) (incoming new) next
-      → sink_of new ≡ sink_of line → AreWrittenAt first number more (slice_set lines number (Some new))
+  pub written_left : (new : LineValue) → more ≡ entries → (next : Next) → Answers line.incoming new.incoming next
+      → new.sent ≡ line.sent → AreWrittenAt first number more (slice_set lines number (Some new))
   written_left new same next answers sinks =
-      written_same new same (stays_broken (incoming line) (incoming new) next answers) sinks
+      written_same new same (stays_broken line.incoming new.incoming next answers) sinks
 
   -- its call was answered
-  pub written_call : (mid new : Conn S K s k) (call : Call) (e : Entry) (outcome : Outcome) → more ≡ entries ++ e ∷ []
-      → e.event ≡ Given (CallInput number call) → outcome ≡ e.came.outcome → Answers (incoming line) (incoming mid) (Frame call)
-      → sink_of mid ≡ sink_of line → (incoming mid).state ≢ state.Broken → {X E : Type 0} (r : Result X E)
-      → OnOk r (Appends (k.holds (sink_of mid)) (k.holds (sink_of new)) (concat (framed_reply outcome)) × (incoming new ≡ incoming mid))
-      → OnErr r (IsCutOff k outcome (incoming new).state (sink_of mid) (sink_of new))
+  pub written_call : (mid new : LineValue) (call : Call) (e : Entry) (outcome : Outcome) → more ≡ entries ++ e ∷ []
+      → e.event ≡ Given (CallInput number call) → outcome ≡ e.came.outcome → Answers line.incoming mid.incoming (Frame call)
+      → mid.sent ≡ line.sent → mid.incoming.state ≢ state.Broken → {X E : Type 0} (r : Result X E)
+      → OnOk r (Appends (mid.sent.held) (new.sent.held) (concat (framed_reply outcome)) × (new.incoming ≡ mid.incoming))
+      → OnErr r (IsCutOff outcome new.incoming.state mid.sent new.sent)
       → AreWrittenAt first number more (slice_set lines number (Some new))
   written_call mid new call e outcome grown is came answers sinks unbroken r whole off =
       let replies : replies_to number more ≡ replies_to number entries ++ framed_reply outcome =
       ap (λ es. replies_to number es) grown ∙ (replies_more number entries e call is
       ∙ ap (λ (o : Outcome). replies_to number entries ++ framed_reply o) (sym came)) in
-      line_set (λ l. AreWritten k first (replies_to number more) (incoming l).state (sink_of l)) lines number new within
-      (subst (λ (rs : List (List ℕ)). AreWritten k first rs (incoming new).state (sink_of new)) (sym replies)
+      line_set (λ l. AreWritten first (replies_to number more) l.incoming.state l.sent) lines number new within
+      (subst (λ (rs : List (List ℕ)). AreWritten first rs new.incoming.state new.sent) (sym replies)
       (written_put first (replies_to number entries) mid new
       (written_next first (replies_to number entries) line mid here (Frame call) answers sinks) unbroken outcome r whole off))

@@ -1,13 +1,16 @@
 -- What the first restart of a site comes to.
-use Rattle.std.specs.Prelude.{◌≡◌, ℕ, List, Option, None, Result, Ok, Err, replicate}
+use Rattle.std.specs.Prelude.{◌≡◌, ℕ, List, [], ◌∷◌, Option, Some, None, true, false, Result, Ok, Err, IfSome, is_some, replicate}
+use Rattle.walter_base.specs.declared.catalog.Catalog.{Catalog}
+use Rattle.walter_base.specs.declared.names.SiteId.{SiteId}
 use Rattle.walter_base.specs.declared.names.Tid.{Tid}
 use Rattle.walter_disk.specs.declared.disk.Disk.{Ghosts}
-use Rattle.walter_engine.specs.Engines.{OfDisk}
 use Rattle.walter_engine.specs.declared.answers.Unbegun.{Unbegun}
-use Rattle.walter_stream.specs.declared.sink.Sink.{Ghosts as SinkGhosts}
-use Rattle.walter_stream.specs.declared.source.Source.{Ghosts as SourceGhosts}
-use Rattle.walter_cell.specs.declared.cell.Cell.{Cell}
-use Rattle.walter_cell.specs.declared.node.Node.{Node}
+use Rattle.walter_engine.specs.Begins.{HasOnly, IsBegun, IsFaultOfBegin, MayHaveBegun}
+use Rattle.walter_engine.specs.Engines.{catalog_in, site_in, capacity_in, disk_in, is_up}
+use Rattle.walter_engine.specs.Steps.{opening}
+use Rattle.walter_engine.specs.declared.engine.Engine.{Engine}
+use Rattle.walter_lane.specs.Lanes.{Sending}
+use Rattle.walter_cell.specs.Nodes.{NodeValue, is_told}
 
 -- so many clients, that are owed nothing
 abbrev pub AreFree : ℕ → List (Option Tid) → Type 0
@@ -19,11 +22,38 @@ begun_by (Ok node) = Ok tt
 begun_by (Err back) = Err back.1
 
 -- of the disk behind a building P holds, under the site or beside the fault
-abbrev pub OfBuilt : {D : Type 0} {g : Ghosts D} → Result (Node D g) (D × Unbegun) → (D → Type 0) → Type 0
-OfBuilt (Ok node) P = OfDisk node.engine P
-OfBuilt (Err back) P = P back.0
+abbrev pub OfBuilt : {N D : Type 0} → (N → Option D) → Result N (D × Unbegun) → (D → Type 0) → Type 0
+OfBuilt disk_of (Ok node) P = IfSome (disk_of node) P
+OfBuilt disk_of (Err back) P = P back.0
 
-abbrev pub OfCell : {D S K : Type 0} {g : Ghosts D} {s : SourceGhosts S} {k : SinkGhosts K}
-    → Result (Cell D S K g s k) (D × Unbegun) → (D → Type 0) → Type 0
-OfCell (Ok cell) P = OfDisk cell.node.engine P
-OfCell (Err back) P = P back.0
+module _ {D : Type 0} (g : Ghosts D) where
+  -- what is answered, by the bytes that the disk had, where a crash left nothing else; and what one leaves then. The disk's
+  -- faults rise exactly where a call of it failed, and nothing is armed.
+  pub record Begins {N : Type 0} (disk_of : N → Option D) (disk : D) (result : Result N (D × Unbegun)) : Type 0 where
+    pub begins : (bytes : List ℕ) → HasOnly g bytes disk → IsBegun bytes (begun_by result)
+    pub leaves : (bytes : List ℕ) → HasOnly g bytes disk
+        → OfBuilt disk_of result (λ now. (image : List ℕ) → g.may_leave now image → MayHaveBegun bytes image)
+    pub faults : OfBuilt disk_of result (λ now.
+        IsFaultOfBegin (begun_by result) (g.known disk).faults (g.known now).faults)
+    pub arms : OfBuilt disk_of result (λ now. (g.known now).arms ≡ (g.known disk).arms)
+
+  -- a site over this disk, up in its first epoch: its trail is the opening
+  pub record HasOpened (catalog : Catalog) (capacity : ℕ) (i : SiteId) (disk : D) (outs : List Sending) (clients : ℕ)
+      (node : NodeValue D) : Type 0 where
+    pub catalog_is : node.catalog ≡ catalog
+    pub capacity_is : node.capacity ≡ capacity
+    pub site : node.site ≡ i
+    pub trail : node.trail ≡ opening ∷ []
+    pub outs_are : node.outs ≡ outs
+    pub clients_are : node.clients ≡ clients
+    pub there : is_some node.disk ≡ true
+    pub told : is_told g node.disk ≡ is_some (g.known disk).reads
+
+-- a site that is down over this disk
+pub record IsNewEngine {D : Type 0} {g : Ghosts D} (catalog : Catalog) (capacity : ℕ) (i : SiteId) (disk : D)
+    (engine : Engine D g) : Type 0 where
+  pub disk_is : disk_in engine ≡ Some disk
+  pub down : is_up engine ≡ false
+  pub catalog_is : catalog_in engine ≡ catalog
+  pub site : site_in engine ≡ i
+  pub capacity_is : capacity_in engine ≡ capacity

@@ -1,28 +1,19 @@
--- What holds of a cell between two events, and what its calls come to.
-use Rattle.std.specs.Prelude.{◌≡◌, ◌≢◌, ◌<◌, ◌+◌, ◌⊎◌, ◌^◌, max, ℕ, zero, suc, Option, Some, None}
-use Rattle.std.specs.Prelude.{List, [], ◌∷◌, ◌++◌, length, reverse, slice_get}
+-- What contracts see of a cell, what holds of it between two events, and what its calls come to.
+use Rattle.std.specs.Prelude.{◌≡◌, ◌≢◌, ◌+◌, ◌⊎◌, max, ℕ, zero, suc, true, Option, Some, None, All}
+use Rattle.std.specs.Prelude.{List, length, reverse, slice_get}
 use Rattle.walter_base.specs.declared.catalog.Catalog.{Catalog}
 use Rattle.walter_base.specs.declared.names.SiteId.{SiteId}
 use Rattle.walter_base.specs.declared.packet.Packet.{Packet}
-use Rattle.walter_conn.specs.Calls.{Incoming}
-use Rattle.walter_conn.specs.Connections.{incoming, source_of, sink_of}
 use Rattle.walter_conn.specs.Frames.{Call}
-use Rattle.walter_conn.specs.Sequences.{AreCalls, AreAllCalls, HasCalled}
-use Rattle.walter_conn.specs.declared.conn.Conn.{Conn}
-use Rattle.walter_conn.specs.declared.next.Next.{Next}
-use Rattle.walter_conn.specs.declared.next.Next.TheVariants.{Frame, Ended, Broken}
-use Rattle.walter_conn.specs.declared.state.State.TheVariants as state
+use Rattle.walter_conn.specs.Sequences.{AreCalls, AreAllCalls}
 use Rattle.walter_disk.specs.declared.disk.Disk.{Ghosts}
-use Rattle.walter_engine.specs.Engines.{IsSameEngine}
-use Rattle.walter_lane.specs.Lanes.{Receiving}
+use Rattle.walter_lane.specs.Lanes.{Sending, Receiving}
 use Rattle.walter_lane.specs.declared.posted.Posted.{Posted}
 use Rattle.walter_packet.specs.Framed.{IsFramed}
 use Rattle.walter_rules.specs.declared.entry.Entry.{Entry}
 use Rattle.walter_rules.specs.declared.event.Event.{Event}
 use Rattle.walter_rules.specs.declared.event.Event.TheVariants as event
 use Rattle.walter_rules.specs.declared.event.Input.TheVariants as input
-use Rattle.walter_stream.specs.declared.sink.Sink.{Ghosts as SinkGhosts}
-use Rattle.walter_stream.specs.declared.source.Source.{Ghosts as SourceGhosts}
 use Rattle.walter_trail.specs.Calls.{calls_of}
 use Rattle.walter_cell.specs.declared.answers.Acted.{Acted}
 use Rattle.walter_cell.specs.declared.answers.Acted.TheVariants as acted
@@ -30,94 +21,79 @@ use Rattle.walter_cell.specs.declared.answers.Moved.{Moved}
 use Rattle.walter_cell.specs.declared.answers.Moved.TheVariants as moved
 use Rattle.walter_cell.specs.declared.answers.Serve.{Serve}
 use Rattle.walter_cell.specs.declared.answers.Serve.TheVariants as serve
-use Rattle.walter_cell.specs.declared.cell.Cell.{Cell}
-use Rattle.walter_cell.specs.Entries.{IsSpent, Grows}
-use Rattle.walter_outbox.specs.Lanes.{arrived_from, in_rings, out_rings, AreNext}
-use Rattle.walter_cell.specs.Nodes.{IsNode, IsKnownNode, IsSameButLanes}
-
--- ---- connections
-
--- the source of a connection or its sink has failed
-abbrev pub HasFault : {S K : Type 0} {s : SourceGhosts S} {k : SinkGhosts K} → Conn S K s k → Type 0
-HasFault {s = s} {k = k} line = (0 < s.faults (source_of line)) ⊎ (0 < k.faults (sink_of line))
-
--- of the bytes of a client these calls were read; a connection that is broken has failed, or has read all there are
-pub record IsLine {S K : Type 0} {s : SourceGhosts S} {k : SinkGhosts K} (bytes : List ℕ) (calls : List Call)
-    (line : Conn S K s k) : Type 0 where
-  pub stands : HasCalled bytes calls (incoming line)
-  pub broken : (incoming line).state ≡ state.Broken → HasFault line ⊎ AreAllCalls bytes calls
-
--- P holds of the connection of the client of this number, which is here
-abbrev pub OfLine : {S K : Type 0} {s : SourceGhosts S} {k : SinkGhosts K} → List (Option (Conn S K s k)) → ℕ
-    → (Conn S K s k → Type 0) → Type 0
-OfLine {S = S} {K = K} {s = s} {k = k} lines number P =
-    (line : Conn S K s k) × (slice_get lines number ≡ Some (Some line)) × P line
-
--- the client of this number has its connection here, of which so much was read
-abbrev pub IsLineAt : {S K : Type 0} {s : SourceGhosts S} {k : SinkGhosts K} → List ℕ → List Call
-    → List (Option (Conn S K s k)) → ℕ → Type 0
-IsLineAt bytes calls lines number = OfLine lines number (λ line. IsLine bytes calls line)
-
--- and it has failed
-abbrev pub HasFaultAt : {S K : Type 0} {s : SourceGhosts S} {k : SinkGhosts K} → List (Option (Conn S K s k)) → ℕ
-    → Type 0
-HasFaultAt lines number = OfLine lines number (λ line. HasFault line)
-
--- behind a call the connection isn't broken
-abbrev pub IsUnbroken : Incoming → Next → Type 0
-IsUnbroken now (Frame call) = now.state ≢ state.Broken
-IsUnbroken now Ended = Unit {0}
-IsUnbroken now Broken = Unit {0}
-
--- what the next answer of a connection leaves
-abbrev pub Leaves : {S K : Type 0} {s : SourceGhosts S} {k : SinkGhosts K} → List ℕ → List Call → Conn S K s k → Next
-    → Type 0
-Leaves bytes calls line (Frame call) = IsLine bytes (calls ++ call ∷ []) line
-Leaves bytes calls line Ended = IsLine bytes calls line × AreAllCalls bytes calls
-Leaves bytes calls line Broken = IsLine bytes calls line × (HasFault line ⊎ AreAllCalls bytes calls)
+use Rattle.walter_cell.specs.Entries.{IsSpent, HasPlace, Grows, IfCalled}
+use Rattle.walter_outbox.specs.Lanes.{arrived_from, put_to, in_rings, mets, met_to, AreNext}
+use Rattle.walter_cell.specs.Builds.{HasOpened}
+use Rattle.walter_cell.specs.Nodes.{NodeValue, KeepsNode, IsSameButLanes, MayDrop, arms_under, is_told}
+use Rattle.walter_cell.specs.Lines.{LineValue, is_here, IsLineAt}
+use Rattle.walter_cell.specs.Written.{AreWrittenAt}
 
 -- ---- cells
 
--- whatever its disk tells: its site with the trail and the lanes to the others is in order, and each packet that was
--- delivered had arrived
-pub record IsCell {D S K : Type 0} {g : Ghosts D} {s : SourceGhosts S} {k : SinkGhosts K} (catalog : Catalog)
-    (capacity : ℕ) (i : SiteId) (cell : Cell D S K g s k) : Type 0 where
-  pub node : IsNode catalog capacity i cell.node
-  pub ins : length cell.ins.items ≡ catalog.sites
-  pub next : AreNext i cell.ins.items (reverse cell.node.entries.items)
+-- the site with its trail and its lanes to all sites; the ends of the lanes from them; and the connections of its
+-- clients, by the clients' numbers
+pub record CellValue (D : Type 0) : Type 0 where
+  pub node : NodeValue D
+  pub ins : List Receiving
+  pub lines : List (Option LineValue)
 
--- where its disk tells what it holds
-abbrev pub IsKnown : {D S K : Type 0} {g : Ghosts D} {s : SourceGhosts S} {k : SinkGhosts K} → Catalog → ℕ → SiteId
-    → Cell D S K g s k → Type 0
-IsKnown catalog capacity i cell = IsKnownNode catalog capacity i cell.node
+module _ {D : Type 0} where
+  -- There is a lane from each site, and each packet that was delivered had arrived; each call in the trail is of a client
+  -- that is here.
+  pub record IsCell (cell : CellValue D) : Type 0 where
+    pub ins : length cell.ins ≡ cell.node.catalog.sites
+    pub next : AreNext cell.node.site cell.ins (reverse cell.node.trail)
+    pub clients : cell.node.clients ≡ length cell.lines
+    pub calls : All (λ e. IfCalled (λ client. is_here cell.lines client ≡ true) e.event) cell.node.trail
 
--- what each call leaves as it was: the site, the lanes, and how many clients there are
-pub record IsSameCell {D S K : Type 0} {g : Ghosts D} {s : SourceGhosts S} {k : SinkGhosts K}
-    (old new : Cell D S K g s k) : Type 0 where
-  pub engine : IsSameEngine old.node.engine new.node.engine
-  pub outs : out_rings new.node.outs.items ≡ out_rings old.node.outs.items
-  pub ins : in_rings new.ins.items ≡ in_rings old.ins.items
-  pub lines : length new.lines.items ≡ length old.lines.items
-  pub debts : length new.node.debts.items ≡ length old.node.debts.items
+  -- its trail is as before
+  abbrev pub HasSameTrail : (old new : CellValue D) → Type 0
+  HasSameTrail old new = new.node.trail ≡ old.node.trail
 
--- all is as before
-pub record IsUnchanged {D S K : Type 0} {g : Ghosts D} {s : SourceGhosts S} {k : SinkGhosts K}
-    (old new : Cell D S K g s k) : Type 0 where
-  pub node : IsSameButLanes old.node new.node
-  pub outs : new.node.outs.items ≡ old.node.outs.items
-  pub ins : new.ins.items ≡ old.ins.items
-  pub lines : new.lines ≡ old.lines
+  module _ (g : Ghosts D) where
+    -- What each call keeps: the site, its lanes and its clients. Of the bytes of a client the calls in the trail were
+    -- read, where they were; and what it is sent are the replies to its calls in the trail, behind what was there.
+    pub record Keeps (old new : CellValue D) : Type 0 where
+      pub node : KeepsNode g old.node new.node
+      pub ins : in_rings new.ins ≡ in_rings old.ins
+      pub here : (client : ℕ) → is_here new.lines client ≡ is_here old.lines client
+      pub connected : (client : ℕ) (bytes : List ℕ) → IsLineAt bytes (calls_of client old.node.trail) old.lines client
+          → IsLineAt bytes (calls_of client new.node.trail) new.lines client
+      pub answered : (client : ℕ) (first : List ℕ) → AreWrittenAt first client old.node.trail old.lines
+          → AreWrittenAt first client new.node.trail new.lines
 
--- its trail is as before
-abbrev pub HasSameTrail : {D S K : Type 0} {g : Ghosts D} {s : SourceGhosts S} {k : SinkGhosts K}
-    → (old new : Cell D S K g s k) → Type 0
-HasSameTrail old new = new.node.entries.items ≡ old.node.entries.items
+    -- What a call keeps that may let an event come: nothing arrives, nothing is armed, and only what finds its lane full is
+    -- dropped, where the disk tells what it holds.
+    pub record Proceeds (old new : CellValue D) : Type 0 where
+      pub keeps : Keeps old new
+      pub ins : new.ins ≡ old.ins
+      pub same_mets : mets new.node.outs ≡ mets old.node.outs
+      pub arms : arms_under g new.node.disk ≡ arms_under g old.node.disk
+      pub drops : is_told g old.node.disk ≡ true
+          → MayDrop old.node.catalog old.node.site (met_to old.node.outs) old.node.trail new.node.trail
+
+  -- a site began over this disk with these ends of its lanes and these connections
+  pub record HasBegun (g : Ghosts D) (catalog : Catalog) (capacity : ℕ) (i : SiteId) (disk : D) (outs : List Sending)
+      (ins : List Receiving) (lines : List (Option LineValue)) (cell : CellValue D) : Type 0 where
+    pub node : HasOpened g catalog capacity i disk outs (length lines) cell.node
+    pub ins_are : cell.ins ≡ ins
+    pub lines_are : cell.lines ≡ lines
+
+  -- All that the sender has put for the receiver may have arrived, and nothing else changed. Where what had arrived was
+  -- all that had been put when the ends of the lane last met, it is so again.
+  pub record HaveMet (to from : ℕ) (old sender new sender' : CellValue D) : Type 0 where
+    pub node : new.node ≡ old.node
+    pub lines : new.lines ≡ old.lines
+    pub other : (j : ℕ) → j ≢ from → arrived_from new.ins j ≡ arrived_from old.ins j
+    pub sender_node : IsSameButLanes sender.node sender'.node
+    pub sender_ins : sender'.ins ≡ sender.ins
+    pub sender_lines : sender'.lines ≡ sender.lines
+    pub put : (k : ℕ) → put_to sender'.node.outs k ≡ put_to sender.node.outs k
+    pub other_mets : (k : ℕ) → k ≢ to → met_to sender'.node.outs k ≡ met_to sender.node.outs k
+    pub met : met_to sender.node.outs to ≡ length (arrived_from old.ins from)
+        → met_to sender'.node.outs to ≡ length (arrived_from new.ins from)
 
 -- ---- what calls of a cell come to
-
--- a trail has place for an entry with this stamp
-abbrev pub HasPlace : ℕ → List Entry → Type 0
-HasPlace stamp trail = (length trail < 100000) × (stamp < 2 ^ 62)
 
 -- the next call of a client comes to the trail
 abbrev pub CallComes : ℕ → List ℕ → List Entry → List Entry → Type 0

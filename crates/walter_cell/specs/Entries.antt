@@ -12,22 +12,30 @@ use Rattle.walter_rules.specs.Trails.{clock}
 abbrev pub IsSpent : ℕ → List Entry → Type 0
 IsSpent stamp trail = (100000 ≤ length trail) ⊎ (2 ^ 62 ≤ stamp)
 
+-- a trail has place for an entry with this stamp
+abbrev pub HasPlace : ℕ → List Entry → Type 0
+HasPlace stamp trail = (length trail < 100000) × (stamp < 2 ^ 62)
+
 -- each entry has a greater stamp than those before it; the newest comes first
 abbrev pub HaveRisingStamps : List Entry → Type 0
 HaveRisingStamps [] = Unit {0}
 HaveRisingStamps (e ∷ older) = (clock older < e.stamp) × HaveRisingStamps older
 
--- a call is of one of so many clients
-abbrev pub IsOfInputs : ℕ → Input → Type 0
-IsOfInputs clients (Call client call) = client < clients
-IsOfInputs clients (Deliver from number packet) = Unit {0}
-IsOfInputs clients (Advance from) = Unit {0}
-IsOfInputs clients Tick = Unit {0}
+-- of the client of an event, if it has one, P holds
+abbrev pub IfCalledInput : (ℕ → Type 0) → Input → Type 0
+IfCalledInput P (Call client call) = P client
+IfCalledInput P (Deliver from number packet) = Unit {0}
+IfCalledInput P (Advance from) = Unit {0}
+IfCalledInput P Tick = Unit {0}
 
+abbrev pub IfCalled : (ℕ → Type 0) → Event → Type 0
+IfCalled P (Given input) = IfCalledInput P input
+IfCalled P Stop = Unit {0}
+IfCalled P Restart = Unit {0}
+
+-- a call is of one of so many clients
 abbrev pub IsOfClients : ℕ → Event → Type 0
-IsOfClients clients (Given input) = IsOfInputs clients input
-IsOfClients clients Stop = Unit {0}
-IsOfClients clients Restart = Unit {0}
+IsOfClients clients event = IfCalled (λ client. client < clients) event
 
 -- a packet that comes can be spelled among so many sites
 abbrev pub IsSizedEvent : ℕ → Event → Type 0

@@ -1,11 +1,15 @@
--- What holds of a site with its trail and its lanes between two events.
-use Rattle.std.specs.Prelude.{◌≡◌, ◌<◌, ◌≤◌, ◌⊎◌, ◌^◌, ℕ, List, [], ◌∷◌, ◌++◌, Some, All}
-use Rattle.std.specs.Prelude.{length, reverse, slice_get, count_by, vec_len, vec_capacity}
+-- What contracts see of a site with its trail and its lanes, and what holds of it between two events.
+use Rattle.std.specs.Prelude.{◌≡◌, ◌<◌, ◌≤◌, ◌⊎◌, ◌^◌, ℕ, Bool, true, false, List, [], ◌∷◌, ◌++◌, Option, Some, None, IfSome, All}
+use Rattle.std.specs.Prelude.{length, reverse, slice_get, count_by, is_some}
 use Rattle.walter_base.specs.declared.catalog.Catalog.{Catalog}
 use Rattle.walter_base.specs.declared.names.SiteId.{SiteId}
+use Rattle.walter_base.specs.declared.names.Tid.{Tid}
 use Rattle.walter_disk.specs.declared.disk.Disk.{Ghosts}
-use Rattle.walter_engine.specs.Engines.{catalog_in, site_in, capacity_in, OfDisk, IsSameEngine, Stands}
+use Rattle.walter_engine.specs.Contents.{MayHaveRecords}
+use Rattle.walter_engine.specs.Engines.{catalog_in, site_in, capacity_in, disk_in, Stands}
 use Rattle.walter_engine.specs.Steps.{opening}
+use Rattle.walter_engine.specs.declared.engine.Engine.{Engine}
+use Rattle.walter_lane.specs.Lanes.{Sending}
 use Rattle.walter_rules.specs.declared.entry.Came.{Came}
 use Rattle.walter_rules.specs.declared.entry.Entry.{Entry}
 use Rattle.walter_rules.specs.declared.event.Event.{Event}
@@ -13,70 +17,48 @@ use Rattle.walter_rules.specs.Rule.{rule}
 use Rattle.walter_rules.specs.Standing.{settled}
 use Rattle.walter_rules.specs.Trails.{standing, clock, IsRightTrail}
 use Rattle.walter_site.specs.Members.{IsShortOutcome}
-use Rattle.walter_cell.specs.declared.node.Node.{Node}
 use Rattle.walter_cell.specs.Debts.{AreOwed}
 use Rattle.walter_cell.specs.Entries.{HaveRisingStamps}
 use Rattle.walter_cell.specs.Handled.{IsSized, is_faulty}
-use Rattle.walter_outbox.specs.Lanes.{HavePut, out_rings, mets, IsPutWhereFree}
+use Rattle.walter_outbox.specs.Lanes.{HavePut, out_rings, mets, met_to, IsPutWhereFree}
+
+-- the site with its disk and its trail, the ends of its lanes to all sites, and how many clients it may owe a Gone; and
+-- for how many more entries, and how many of their records, there is memory
+pub record NodeValue (D : Type 0) : Type 0 where
+  pub catalog : Catalog
+  pub site : SiteId
+  pub capacity : ℕ
+  pub disk : Option D
+  pub trail : List Entry
+  pub outs : List Sending
+  pub clients : ℕ
+  pub room : ℕ
+  pub places : ℕ
+
+-- the stamp of its last entry
+abbrev pub clock_in : {D : Type 0} → NodeValue D → ℕ
+clock_in node = clock (reverse node.trail)
+
+-- there is memory for one more entry
+pub record IsReady {D : Type 0} (node : NodeValue D) : Type 0 where
+  pub place : 0 < node.room
+  pub records : 2 ≤ node.places
+
+-- but for the memory that it has it is as before
+abbrev pub IsSameButRoom : {D : Type 0} → (old new : NodeValue D) → Type 0
+IsSameButRoom old new = new ≡ record old { room = new.room; places = new.places }
+
+-- but for the ends of its lanes
+abbrev pub IsSameButLanes : {D : Type 0} → (old new : NodeValue D) → Type 0
+IsSameButLanes old new = new ≡ record old { outs = new.outs }
+
+-- but for its disk
+abbrev pub IsSameButDisk : {D : Type 0} → (old new : NodeValue D) → Type 0
+IsSameButDisk old new = new ≡ record old { disk = new.disk }
 
 -- the entry of an event that came to this
 abbrev pub entry_by : ℕ → Event → Came → Entry
 entry_by stamp event came = record { stamp = stamp; event = event; came = came }
-
--- whatever its disk tells: it is of this site, its trail begins with the opening and has rising stamps, its lanes have
--- put what the trail puts out, and its disk failed at least as often as the trail says
-pub record IsNode {D : Type 0} {g : Ghosts D} (catalog : Catalog) (capacity : ℕ) (i : SiteId)
-    (node : Node D g) : Type 0 where
-  pub catalog_is : catalog_in node.engine ≡ catalog
-  pub site : site_in node.engine ≡ i
-  pub capacity_is : capacity_in node.engine ≡ capacity
-  pub begins : slice_get node.entries.items 0 ≡ Some opening
-  pub last : node.clock ≡ clock (reverse node.entries.items)
-  pub early : node.clock < 2 ^ 62
-  pub rise : HaveRisingStamps (reverse node.entries.items)
-  pub sized : All (λ e. IsSized catalog.sites e.came) node.entries.items
-  pub put : HavePut catalog.sites node.entries.items node.outs.items
-  pub faults : OfDisk node.engine (λ disk.
-      count_by (λ e. is_faulty e.came.outcome) node.entries.items ≤ (g.known disk).faults)
-
--- where its disk tells what it holds: the site stands as its trail says, the trail is right, and the clients are owed
--- so
-pub record IsKnownNode {D : Type 0} {g : Ghosts D} (catalog : Catalog) (capacity : ℕ) (i : SiteId)
-    (node : Node D g) : Type 0 where
-  pub stands : Stands node.engine (standing catalog i (reverse node.entries.items))
-  pub right : IsRightTrail catalog capacity i node.entries.items
-  pub owed : AreOwed (standing catalog i (reverse node.entries.items)) node.debts.items
-
--- there is memory for one more entry
-pub record IsReady {D : Type 0} {g : Ghosts D} (node : Node D g) : Type 0 where
-  pub place : vec_len node.entries < vec_capacity node.entries
-  pub records : 2 ≤ vec_len node.places
-
--- but for its room it is as before
-pub record IsSameNode {D : Type 0} {g : Ghosts D} (old new : Node D g) : Type 0 where
-  pub engine : new.engine ≡ old.engine
-  pub entries : new.entries.items ≡ old.entries.items
-  pub clock_is : new.clock ≡ old.clock
-  pub outs : new.outs ≡ old.outs
-  pub debts : new.debts ≡ old.debts
-
--- the event came to it: its entry stands last in the trail. Lanes and clients are the same.
-pub record Takes {D : Type 0} {g : Ghosts D} (stamp : ℕ) (event : Event) (old new : Node D g) : Type 0 where
-  pub came : Came
-  pub entries : new.entries.items ≡ old.entries.items ++ entry_by stamp event came ∷ []
-  pub short : IsShortOutcome came.outcome
-  pub clock_is : new.clock ≡ stamp
-  pub engine : IsSameEngine old.engine new.engine
-  pub rings : out_rings new.outs.items ≡ out_rings old.outs.items
-  pub same_mets : mets new.outs.items ≡ mets old.outs.items
-  pub debts : length new.debts.items ≡ length old.debts.items
-
--- but for what its lanes know it is as before
-pub record IsSameButLanes {D : Type 0} {g : Ghosts D} (old new : Node D g) : Type 0 where
-  pub engine : new.engine ≡ old.engine
-  pub entries : new.entries ≡ old.entries
-  pub clock_is : new.clock ≡ old.clock
-  pub debts : new.debts ≡ old.debts
 
 -- what this entry puts out is all that the rule says, but for what finds its lane full, which is dropped; or it puts
 -- out nothing, and drops nothing. So many packets had been put for each site when the ends of its lane last met
@@ -91,3 +73,105 @@ DropsWhereFull catalog i met older e =
 abbrev pub MayDrop : Catalog → SiteId → (ℕ → ℕ) → List Entry → List Entry → Type 0
 MayDrop catalog i met old new =
     (new ≡ old) ⊎ ((e : Entry) × (new ≡ old ++ e ∷ []) × DropsWhereFull catalog i met (reverse old) e)
+
+module _ {D : Type 0} (g : Ghosts D) where
+  -- whether a disk tells what it holds
+  abbrev pub is_told : Option D → Bool
+  is_told None = false
+  is_told (Some disk) = is_some (g.known disk).reads
+
+  -- the arms of a disk, where it tells them
+  abbrev pub arms_under : Option D → Option (List (ℕ × ℕ))
+  arms_under None = None
+  arms_under (Some disk) = (g.known disk).arms
+
+  -- the records of a site that stands as the trail says are all that a crash may leave of the disk
+  abbrev pub LeavesRecords : Catalog → SiteId → List Entry → D → Type 0
+  LeavesRecords catalog i trail disk = (image : List ℕ) → g.may_leave disk image
+      → MayHaveRecords (standing catalog i (reverse trail)).records (standing catalog i (reverse trail)).flight image
+
+  -- Its trail begins with the opening and has rising stamps, its lanes have put what the trail puts out, and its disk
+  -- failed at least as often as the trail says. Where the disk tells what it holds the trail is right, and a crash leaves
+  -- its records.
+  pub record IsSound (node : NodeValue D) : Type 0 where
+    pub begins : slice_get node.trail 0 ≡ Some opening
+    pub early : clock_in node < 2 ^ 62
+    pub rise : HaveRisingStamps (reverse node.trail)
+    pub sized : All (λ e. IsSized node.catalog.sites e.came) node.trail
+    pub put : HavePut node.catalog.sites node.trail node.outs
+    pub faults : IfSome node.disk (λ disk. count_by (λ e. is_faulty e.came.outcome) node.trail ≤ (g.known disk).faults)
+    pub right : is_told node.disk ≡ true → IsRightTrail node.catalog node.capacity node.site node.trail
+    pub leaves : is_told node.disk ≡ true → IfSome node.disk (LeavesRecords node.catalog node.site node.trail)
+
+  -- what each call keeps: which site it is, among which and over which kind of disk; its lanes, and how many clients there
+  -- are
+  pub record KeepsNode (old new : NodeValue D) : Type 0 where
+    pub catalog : new.catalog ≡ old.catalog
+    pub site : new.site ≡ old.site
+    pub capacity : new.capacity ≡ old.capacity
+    pub told : is_told new.disk ≡ is_told old.disk
+    pub rings : out_rings new.outs ≡ out_rings old.outs
+    pub clients : new.clients ≡ old.clients
+
+  -- an event came to it: its entry stands last in the trail. Nothing else arms the disk or makes lanes' ends meet; of what
+  -- is to be put out only what finds its lane full is dropped, where the disk tells what it holds.
+  pub record Takes (stamp : ℕ) (event : Event) (old new : NodeValue D) : Type 0 where
+    pub came : Came
+    pub trail : new.trail ≡ old.trail ++ entry_by stamp event came ∷ []
+    pub short : IsShortOutcome came.outcome
+    pub keeps : KeepsNode old new
+    pub same_mets : mets new.outs ≡ mets old.outs
+    pub arms : arms_under new.disk ≡ arms_under old.disk
+    pub drops : is_told old.disk ≡ true → MayDrop old.catalog old.site (met_to old.outs) old.trail new.trail
+
+-- ---- a site with its trail and its lanes, by its parts
+
+pub record NodeParts (D : Type 0) (g : Ghosts D) : Type 0 where
+  pub engine : Engine D g
+  pub trail : List Entry
+  pub clock : ℕ
+  pub outs : List Sending
+  pub debts : List (Option Tid)
+
+-- whatever its disk tells
+pub record IsNode {D : Type 0} {g : Ghosts D} (catalog : Catalog) (capacity : ℕ) (i : SiteId)
+    (node : NodeParts D g) : Type 0 where
+  pub catalog_is : catalog_in node.engine ≡ catalog
+  pub site : site_in node.engine ≡ i
+  pub capacity_is : capacity_in node.engine ≡ capacity
+  pub begins : slice_get node.trail 0 ≡ Some opening
+  pub last : node.clock ≡ clock (reverse node.trail)
+  pub early : node.clock < 2 ^ 62
+  pub rise : HaveRisingStamps (reverse node.trail)
+  pub sized : All (λ e. IsSized catalog.sites e.came) node.trail
+  pub put : HavePut catalog.sites node.trail node.outs
+  pub faults : IfSome (disk_in node.engine) (λ disk.
+      count_by (λ e. is_faulty e.came.outcome) node.trail ≤ (g.known disk).faults)
+
+-- where its disk tells what it holds: the site stands as its trail says, the trail is right, and the clients are owed
+-- so
+pub record IsKnownNode {D : Type 0} {g : Ghosts D} (catalog : Catalog) (capacity : ℕ) (i : SiteId)
+    (node : NodeParts D g) : Type 0 where
+  pub stands : Stands node.engine (standing catalog i (reverse node.trail))
+  pub right : IsRightTrail catalog capacity i node.trail
+  pub owed : AreOwed (standing catalog i (reverse node.trail)) node.debts
+
+-- so it is of the node's own site
+pub record IsWhole {D : Type 0} (g : Ghosts D) (node : NodeParts D g) : Type 0 where
+  pub is : IsNode (catalog_in node.engine) (capacity_in node.engine) (site_in node.engine) node
+  pub known : is_told g (disk_in node.engine) ≡ true
+      → IsKnownNode (catalog_in node.engine) (capacity_in node.engine) (site_in node.engine) node
+
+-- what contracts see of it
+abbrev pub seen : {D : Type 0} {g : Ghosts D} → (room places : ℕ) → NodeParts D g → NodeValue D
+seen room places node = record {
+  catalog = catalog_in node.engine;
+  site = site_in node.engine;
+  capacity = capacity_in node.engine;
+  disk = disk_in node.engine;
+  trail = node.trail;
+  outs = node.outs;
+  clients = length node.debts;
+  room = room;
+  places = places;
+}

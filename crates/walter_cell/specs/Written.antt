@@ -2,9 +2,7 @@
 use Rattle.std.specs.Prelude.{◌≡◌, ◌<◌, ◌⊎◌, ℕ, nat_eq, List, [], ◌∷◌, ◌++◌, flat_map, take, Option, IfSome}
 use Rattle.std.specs.Prelude.{if◌then◌else◌}
 use Rattle.std.specs.List.{concat}
-use Rattle.walter_conn.specs.Connections.{incoming, sink_of}
 use Rattle.walter_conn.specs.Frames.{frame}
-use Rattle.walter_conn.specs.declared.conn.Conn.{Conn}
 use Rattle.walter_conn.specs.declared.state.State.{State}
 use Rattle.walter_conn.specs.declared.state.State.TheVariants as state
 use Rattle.walter_reply.specs.Replies.{reply_spelled}
@@ -15,9 +13,7 @@ use Rattle.walter_rules.specs.declared.event.Input.TheVariants.{Call}
 use Rattle.walter_rules.specs.declared.outcome.Outcome.{Outcome}
 use Rattle.walter_rules.specs.declared.outcome.Outcome.TheVariants.{Replied}
 use Rattle.walter_stream.specs.Streams.{AppendsFront}
-use Rattle.walter_stream.specs.declared.sink.Sink.{Ghosts as SinkGhosts}
-use Rattle.walter_stream.specs.declared.source.Source.{Ghosts as SourceGhosts}
-use Rattle.walter_cell.specs.Cells.{OfLine}
+use Rattle.walter_cell.specs.Lines.{Sent, LineValue, OfLine}
 
 -- the frame of a reply, where an outcome is one
 abbrev pub framed_reply : Outcome → List (List ℕ)
@@ -43,25 +39,24 @@ pub record IsCutShort (before : List ℕ) (replies : List (List ℕ)) (held : Li
 
 -- a sink that holds so much holds all the replies behind these bytes; or the last was cut short where the sink failed,
 -- and the connection is broken
-abbrev pub IsHeld : {K : Type 0} (k : SinkGhosts K) → List ℕ → List (List ℕ) → State → K → List ℕ → Type 0
-IsHeld k before replies now sink held =
+abbrev pub IsHeld : List ℕ → List (List ℕ) → State → Sent → List ℕ → Type 0
+IsHeld before replies now sent held =
     (held ≡ before ++ concat replies)
-    ⊎ ((now ≡ state.Broken) × (0 < k.faults sink) × IsCutShort before replies held)
+    ⊎ ((now ≡ state.Broken) × (0 < sent.faults) × IsCutShort before replies held)
 
 -- so were the replies written to a sink, where it tells what it holds
-abbrev pub AreWritten : {K : Type 0} (k : SinkGhosts K) → List ℕ → List (List ℕ) → State → K → Type 0
-AreWritten k before replies now sink = IfSome (k.holds sink) (λ held. IsHeld k before replies now sink held)
+abbrev pub AreWritten : List ℕ → List (List ℕ) → State → Sent → Type 0
+AreWritten before replies now sent = IfSome sent.held (λ held. IsHeld before replies now sent held)
 
 -- the replies to the calls of a client were written so to its connection
-abbrev pub AreWrittenAt : {S K : Type 0} {s : SourceGhosts S} {k : SinkGhosts K} → List ℕ → ℕ → List Entry
-    → List (Option (Conn S K s k)) → Type 0
-AreWrittenAt {k = k} before number trail lines =
-    OfLine lines number (λ line. AreWritten k before (replies_to number trail) (incoming line).state (sink_of line))
+abbrev pub AreWrittenAt : List ℕ → ℕ → List Entry → List (Option LineValue) → Type 0
+AreWrittenAt before number trail lines =
+    OfLine lines number (λ line. AreWritten before (replies_to number trail) line.incoming.state line.sent)
 
 -- of a reply a front was written, and behind it the sink failed
-pub record IsCutOff {K : Type 0} (k : SinkGhosts K) (outcome : Outcome) (now : State) (old new : K) : Type 0 where
+pub record IsCutOff (outcome : Outcome) (now : State) (old new : Sent) : Type 0 where
   pub reply : List ℕ
   pub is : framed_reply outcome ≡ reply ∷ []
-  pub front : AppendsFront (k.holds old) (k.holds new) reply
+  pub front : AppendsFront old.held new.held reply
   pub broken : now ≡ state.Broken
-  pub failed : 0 < k.faults new
+  pub failed : 0 < new.faults

@@ -1,31 +1,28 @@
-ghost use Rattle.std.specs.Prelude.{◌⊎◌, ◌≡◌, ◌≢◌, ◌<◌, ◌≤◌, ◌++◌, ◌∷◌, ◌+◌, ◌↔◌, [], ℕ, List, Option};
-ghost use Rattle.std.specs.Prelude.{slice_get, length, option_map, Some, IsSome, OnErr, OnOk, IfOk, IsTrue};
+ghost use Rattle.std.specs.Prelude.{◌⊎◌, ◌≡◌, ◌≢◌, ◌<◌, ◌≤◌, ◌++◌, ◌∷◌, ◌+◌, ◌↔◌, [], ℕ, List, Option, true};
+ghost use Rattle.std.specs.Prelude.{is_ok, if◌then◌else◌, length, map, option_map, Some, OnErr, OnOk, IfOk, IsTrue};
 ghost use mathlib.Core.List.{IsPrefix};
 ghost use Rattle.walter_base.specs.Vectors.{most_sites};
-ghost use Rattle.walter_base.specs.declared.catalog.Catalog.{Catalog};
-ghost use Rattle.walter_base.specs.declared.names.SiteId.{SiteId};
-ghost use Rattle.walter_engine.specs.Begins.{HasOnly, IsBegun, IsFaultOfBegin, MayHaveBegun};
-ghost use Rattle.walter_engine.specs.Engines.{catalog_in, site_in, OfDisks};
-ghost use Rattle.walter_engine.specs.Steps.{opening};
 ghost use Rattle.walter_rules.specs.declared.event.Event.TheVariants as event;
 ghost use Rattle.walter_rules.specs.declared.event.Input.TheVariants as input;
 ghost use Rattle.walter_trail.specs.Calls.{calls_of};
-ghost use Rattle.walter_cell.specs.Cells.{IsCell, IsKnown};
-ghost use Rattle.walter_cell.specs.Builds.{OfCell, begun_by};
-ghost use Rattle.walter_cell.specs.Entries.{IsPlain, IsSpent, Grows};
-ghost use Rattle.walter_conn.specs.Frames.{Call};
-ghost use Rattle.walter_outbox.specs.Lanes.{put_to, arrived_from, mets, met_to, ring_to, ring_from};
-ghost use Rattle.walter_cell.specs.Nodes.{IsSameButLanes, MayDrop};
+ghost use Rattle.walter_cell.specs.declared.answers.Serve.TheVariants as answers;
+ghost use Rattle.walter_cell.specs.Builds.{Begins};
+ghost use Rattle.walter_cell.specs.Entries.{IsPlain, IsSpent};
+ghost use Rattle.walter_cell.specs.Lines.{is_here, IsLineAt, CanFail, HasFaultAt};
+ghost use Rattle.walter_cell.specs.Nodes.{clock_in, IsSound};
+ghost use Rattle.walter_outbox.specs.Lanes.{put_to, arrived_from, posted, ring_to, ring_from};
+ghost use Rattle.walter_rules.specs.Merges.{put_out_to};
 
 use crate::answers::{Acted, Moved, Serve};
-use crate::line::{next_call, put_reply};
+use crate::line::Line;
 use crate::node::Node;
 use std::alloc::Global;
+use std::marker::Model;
 use walter_base::{Catalog, Mem, SiteId};
-use walter_conn::{Conn, Next};
+use walter_conn::{BrokenConn, Next};
 use walter_disk::Disk;
 use walter_engine::Unbegun;
-use walter_lane::{Inbound, Outbound, compare, meet};
+use walter_lane::{Inbound, Outbound};
 use walter_rules::{Event, Input};
 use walter_stream::{Sink, Source};
 use walter_trail::Trail;
@@ -34,16 +31,31 @@ use walter_trail::Trail;
 /// clients, by the clients' numbers: there is none where a client is another site's.
 #[derive(Drop)]
 pub struct Cell<D: Disk, S: Source + Drop, K: Sink + Drop> {
-    pub node: Node<D>,
-    pub ins: Vec<Inbound>,
-    pub lines: Vec<Option<Conn<S, K>>>,
+    node: Node<D>,
+    ins: Vec<Inbound>,
+    lines: Vec<Option<Line<S, K>>>,
+}
+
+impl<D: Disk, S: Source + Drop, K: Sink + Drop> Model for Cell<D, S, K> {
+    ghost use Rattle.std.specs.Coded.{codes};
+    ghost use Rattle.walter_base.specs.contracts.catalog.Catalog as coded_catalog;
+    ghost use Rattle.walter_lane.specs.Lanes.{sending_code, receiving_code};
+    ghost use Rattle.walter_rules.specs.contracts.entry.Entry as coded_entry;
+    ghost use Rattle.walter_cell.specs.Cells.{CellValue, IsCell};
+
+    ghost Value = { CellValue D };
+
+    ghost coded = { Prim.hlevel (codes, coded_catalog.the_row.coded, coded_entry.the_row.coded, sending_code, receiving_code) };
+
+    ghost view = { λ c. record { node = c.node; ins = c.ins.items; lines = c.lines.items } };
+
+    ghost invariant = { λ c. IsCell (record { node = c.node; ins = c.ins.items; lines = c.lines.items }) };
 }
 
 impl<D: Disk + Drop, S: Source + Drop, K: Sink + Drop> Cell<D, S, K> {
-    ghost use Rattle.walter_engine.specs.Engines.{disk_in};
-    ghost use Rattle.walter_cell.specs.Cells.{IsSameCell, IsUnchanged, HasSameTrail, OfLine, IsLineAt, HasFaultAt};
+    ghost use Rattle.walter_cell.specs.Cells.{CellValue, IsCell, Keeps, Proceeds, HasBegun, HaveMet, HasSameTrail};
     ghost use Rattle.walter_cell.specs.Cells.{TurnsTo, Acts, MovesTo, arrival};
-    ghost use Rattle.walter_cell.specs.Written.{AreWrittenAt};
+    ghost use Rattle.walter_cell.specs.Nodes.{arms_under};
 
     /// A site over its disk, up in its first epoch. Where it doesn't begin the disk comes back.
     pub fn begin(
@@ -54,7 +66,7 @@ impl<D: Disk + Drop, S: Source + Drop, K: Sink + Drop> Cell<D, S, K> {
         capacity: u64,
         outs: Vec<Outbound>,
         ins: Vec<Inbound>,
-        lines: Vec<Option<Conn<S, K>>>,
+        lines: Vec<Option<Line<S, K>>>,
     ) -> Result<Cell<D, S, K>, (D, Unbegun)>
         requires here { site.0 < catalog.now.sites }
         requires most { catalog.now.sites ≤ most_sites }
@@ -63,61 +75,44 @@ impl<D: Disk + Drop, S: Source + Drop, K: Sink + Drop> Cell<D, S, K> {
         requires outs { length outs.items ≡ catalog.now.sites }
         requires ins { length ins.items ≡ catalog.now.sites }
         requires empty { (k : ℕ) → k < catalog.now.sites → put_to outs.items k ≡ [] }
-        ensures cell { IfOk result (IsCell catalog.now capacity site) }
-        ensures known { IsSome (D.known disk).reads → IfOk result (IsKnown catalog.now capacity site) }
-        ensures opening { IfOk result (λ cell. cell.node.entries.items ≡ opening ∷ []) }
-        ensures parts { IfOk result (λ cell. (cell.node.outs.items ≡ outs.items) × (cell.ins ≡ ins)
-            × (cell.lines ≡ lines) × (length cell.node.debts.items ≡ length lines.items)) }
-        ensures begins { (bytes : List ℕ) → HasOnly D.Disk bytes disk → IsBegun bytes (begun_by result) }
-        ensures leaves { (bytes : List ℕ) → HasOnly D.Disk bytes disk
-            → OfCell result (λ now. (image : List ℕ) → D.may_leave now image → MayHaveBegun bytes image) }
-        ensures faults { OfCell result (λ now.
-            IsFaultOfBegin (begun_by result) (D.known disk).faults (D.known now).faults) }
-        ensures arms { OfCell result (λ now. (D.known now).arms ≡ (D.known disk).arms) }
+        ensures opens { IfOk result
+            (HasBegun D.Disk catalog.now capacity site disk outs.items ins.items lines.items) }
+        ensures begins { Begins D.Disk (λ cell. cell.node.disk) disk result }
     {
         let node = Node::begin(alloc, disk, catalog, site, capacity, lines.len(), outs)?;
         Ok(Cell { node, ins, lines })
     }
 
     /// The disk, the trail so far, and the connections.
-    pub fn into_parts(self) -> (D, Trail, Vec<Option<Conn<S, K>>>)
-        ensures disk { Some result.0 ≡ disk_in self.node.engine }
-        ensures trail { result.1 ≡ self.node.entries.items }
-        ensures lines { result.2 ≡ self.lines }
+    pub fn into_parts(self) -> (D, Trail, Vec<Option<Line<S, K>>>)
+        ensures disk { Some result.0 ≡ self.node.disk }
+        ensures trail { result.1 ≡ self.node.trail }
+        ensures lines { result.2.items ≡ self.lines }
+        ensures sound { IsSound D.Disk self.node }
+        ensures cell { IsCell self }
     {
         let Cell { node, lines, .. } = self;
-        let Node {
-            engine,
-            entries,
-            ..
-        } = node;
-        (engine.into_disk(), Trail::from(entries), lines)
+        let (disk, trail) = node.into_parts();
+        (disk, trail, lines)
     }
 
     /// Does to the disk what `Disk::arm` does.
     pub fn arm(&mut self, nth: u64, choice: u64) -> Mem<()>
         requires { 0 < nth }
-        ensures armed { OnOk result (OfDisks self.old.node.engine self.new.node.engine (λ old new.
-            D.known new
-            ≡ record (D.known old) { arms = option_map (λ arms. arms ++ (nth, choice) ∷ []) (D.known old).arms })) }
-        ensures unarmed { OnErr result
-            (OfDisks self.old.node.engine self.new.node.engine (λ old new. D.known new ≡ D.known old)) }
-        ensures cell { (catalog : Catalog) (capacity : ℕ) (i : SiteId) → IsCell catalog capacity i self.old
-            → IsCell catalog capacity i self.new }
-        ensures known { (catalog : Catalog) (capacity : ℕ) (i : SiteId) → IsKnown catalog capacity i self.old
-            → IsKnown catalog capacity i self.new }
-        ensures same { IsSameCell self.old self.new }
+        ensures keeps { Keeps D.Disk self.old self.new }
+        ensures armed { OnOk result (arms_under D.Disk self.new.node.disk
+            ≡ option_map (λ arms. arms ++ (nth, choice) ∷ []) (arms_under D.Disk self.old.node.disk)) }
+        ensures unarmed { OnErr result (arms_under D.Disk self.new.node.disk ≡ arms_under D.Disk self.old.node.disk) }
         ensures trail { HasSameTrail self.old self.new }
         ensures outs { self.new.node.outs ≡ self.old.node.outs }
         ensures ins { self.new.ins ≡ self.old.ins }
-        ensures lines { self.new.lines ≡ self.old.lines }
     {
         self.node.arm(nth, choice)
     }
 
     /// Whether the trail has no place for another entry, of an event that brings no packet.
     pub fn is_spent(&self) -> bool
-        ensures { IsTrue result ↔ IsSpent (self.now.node.clock + 1) self.now.node.entries.items }
+        ensures { IsTrue result ↔ IsSpent (clock_in self.now.node + 1) self.now.node.trail }
     {
         self.node.next_stamp(0).is_none()
     }
@@ -125,38 +120,14 @@ impl<D: Disk + Drop, S: Source + Drop, K: Sink + Drop> Cell<D, S, K> {
     /// Gives a client of this site its turn: one entry comes to the trail, or none where no call follows, where the
     /// trail is spent, or where memory runs out before the call is read.
     pub fn serve(&mut self, alloc: Global, number: u32) -> Mem<Serve>
-        requires there { OfLine self.old.lines.items number (λ line. Unit {0}) }
-        requires owed { number < length self.old.node.debts.items }
-        ensures cell { (catalog : Catalog) (capacity : ℕ) (i : SiteId) → IsCell catalog capacity i self.old
-            → IsCell catalog capacity i self.new }
-        ensures known { (catalog : Catalog) (capacity : ℕ) (i : SiteId) → IsCell catalog capacity i self.old
-            → IsKnown catalog capacity i self.old → IsKnown catalog capacity i self.new }
-        ensures same { IsSameCell self.old self.new }
-        ensures kept { OnErr result (HasSameTrail self.old self.new) }
+        requires { is_here self.old.lines number ≡ true }
+        ensures proceeds { Proceeds D.Disk self.old self.new }
         ensures turn { (bytes : List ℕ)
-            → IsLineAt bytes (calls_of number self.old.node.entries.items) self.old.lines.items number
-            → IfOk result (TurnsTo number bytes self.old.node.clock (HasFaultAt self.new.lines.items number)
-            self.old.node.entries.items self.new.node.entries.items) }
-        ensures comes { HasSameTrail self.old self.new
-            ⊎ ((call : Call) × Grows (event.Given (input.Call number call)) self.old.node.entries.items
-            self.new.node.entries.items) }
-        ensures stays { OfLine self.new.lines.items number (λ line. Unit {0}) }
-        ensures line { (bytes : List ℕ)
-            → IsLineAt bytes (calls_of number self.old.node.entries.items) self.old.lines.items number
-            → IsLineAt bytes (calls_of number self.new.node.entries.items) self.new.lines.items number }
-        // What a client is sent are the replies to its calls in the trail, in order.
-        ensures written { (first : List ℕ) → AreWrittenAt first number self.old.node.entries.items self.old.lines.items
-            → AreWrittenAt first number self.new.node.entries.items self.new.lines.items }
-        ensures others { (other : ℕ) → other ≢ number
-            → slice_get self.new.lines.items other ≡ slice_get self.old.lines.items other }
-        ensures ins { self.new.ins ≡ self.old.ins }
-        ensures drops { (catalog : Catalog) (capacity : ℕ) (i : SiteId) → IsCell catalog capacity i self.old
-            → IsKnown catalog capacity i self.old
-            → MayDrop catalog i (met_to self.old.node.outs.items) self.old.node.entries.items
-            self.new.node.entries.items }
-        ensures mets { mets self.new.node.outs.items ≡ mets self.old.node.outs.items }
-        ensures arms { OfDisks self.old.node.engine self.new.node.engine (λ old new.
-            (D.known new).arms ≡ (D.known old).arms) }
+            → IsLineAt bytes (calls_of number self.old.node.trail) self.old.lines number
+            → IfOk result (TurnsTo number bytes (clock_in self.old.node)
+            (HasFaultAt self.new.lines number × CanFail S.Source K.Sink)
+            self.old.node.trail self.new.node.trail) }
+        ensures kept { OnErr result (HasSameTrail self.old self.new) }
     {
         let Some(stamp) = self.node.next_stamp(0) else {
             return Ok(Serve::Spent);
@@ -165,7 +136,7 @@ impl<D: Disk + Drop, S: Source + Drop, K: Sink + Drop> Cell<D, S, K> {
         let Some(line) = &mut self.lines[number as usize] else {
             unreachable!()
         };
-        let call = match next_call(line, alloc)? {
+        let call = match line.next_call(alloc)? {
             Next::Ended => return Ok(Serve::Ended),
             Next::Broken => return Ok(Serve::Broken),
             Next::Frame(call) => call,
@@ -173,34 +144,20 @@ impl<D: Disk + Drop, S: Source + Drop, K: Sink + Drop> Cell<D, S, K> {
         let client = number;
         self.node
             .take(alloc, stamp, Event::Given(Input::Call { client, call }));
-        match self.node.entries.last() {
-            Some(entry) if put_reply(line, &entry.came.outcome).is_err() => Ok(Serve::Broken),
-            _ => Ok(Serve::Served),
-        }
+        let Some(entry) = self.node.last() else {
+            unreachable!()
+        };
+        Ok(served(line.put_reply(&entry.came.outcome)))
     }
 
     /// Delivers the packet of this number among those that have arrived from another site, from 1.
     pub fn deliver(&mut self, alloc: Global, from: SiteId, number: u32) -> Mem<Moved>
-        requires from { from.0 < length self.old.ins.items }
-        requires apart { (i : SiteId) → i ≡ site_in self.old.node.engine → from ≢ i }
-        requires ins { length self.old.ins.items ≡ (catalog_in self.old.node.engine).sites }
-        ensures cell { (catalog : Catalog) (capacity : ℕ) (i : SiteId) → IsCell catalog capacity i self.old
-            → IsCell catalog capacity i self.new }
-        ensures known { (catalog : Catalog) (capacity : ℕ) (i : SiteId) → IsCell catalog capacity i self.old
-            → IsKnown catalog capacity i self.old → IsKnown catalog capacity i self.new }
-        ensures same { IsSameCell self.old self.new }
+        requires from { from.0 < length self.old.ins }
+        requires apart { from ≢ self.old.node.site }
+        ensures proceeds { Proceeds D.Disk self.old self.new }
+        ensures moves { IfOk result (MovesTo from number (arrival self.old.ins from number) (length self.old.ins)
+            (clock_in self.old.node) self.old.node.trail self.new.node.trail) }
         ensures kept { OnErr result (HasSameTrail self.old self.new) }
-        ensures moves { IfOk result (MovesTo from number (arrival self.old.ins.items from number)
-            (length self.old.ins.items) self.old.node.clock self.old.node.entries.items self.new.node.entries.items) }
-        ensures ins { self.new.ins ≡ self.old.ins }
-        ensures lines { self.new.lines ≡ self.old.lines }
-        ensures drops { (catalog : Catalog) (capacity : ℕ) (i : SiteId) → IsCell catalog capacity i self.old
-            → IsKnown catalog capacity i self.old
-            → MayDrop catalog i (met_to self.old.node.outs.items) self.old.node.entries.items
-            self.new.node.entries.items }
-        ensures mets { mets self.new.node.outs.items ≡ mets self.old.node.outs.items }
-        ensures arms { OfDisks self.old.node.engine self.new.node.engine (λ old new.
-            (D.known new).arms ≡ (D.known old).arms) }
     {
         let post = self.ins[usize::from(from.0)].arrived(number as usize);
         let put = match post {
@@ -229,116 +186,51 @@ impl<D: Disk + Drop, S: Source + Drop, K: Sink + Drop> Cell<D, S, K> {
 
     /// The next commit of another site is to be committed here.
     pub fn advance(&mut self, alloc: Global, from: SiteId) -> Mem<Acted>
-        ensures cell { (catalog : Catalog) (capacity : ℕ) (i : SiteId) → IsCell catalog capacity i self.old
-            → IsCell catalog capacity i self.new }
-        ensures known { (catalog : Catalog) (capacity : ℕ) (i : SiteId) → IsCell catalog capacity i self.old
-            → IsKnown catalog capacity i self.old → IsKnown catalog capacity i self.new }
-        ensures same { IsSameCell self.old self.new }
+        ensures proceeds { Proceeds D.Disk self.old self.new }
+        ensures acts { IfOk result (Acts (event.Given (input.Advance from)) (clock_in self.old.node)
+            self.old.node.trail self.new.node.trail) }
         ensures kept { OnErr result (HasSameTrail self.old self.new) }
-        ensures acts { IfOk result (Acts (event.Given (input.Advance from)) self.old.node.clock
-            self.old.node.entries.items self.new.node.entries.items) }
-        ensures ins { self.new.ins ≡ self.old.ins }
-        ensures lines { self.new.lines ≡ self.old.lines }
-        ensures drops { (catalog : Catalog) (capacity : ℕ) (i : SiteId) → IsCell catalog capacity i self.old
-            → IsKnown catalog capacity i self.old
-            → MayDrop catalog i (met_to self.old.node.outs.items) self.old.node.entries.items
-            self.new.node.entries.items }
-        ensures mets { mets self.new.node.outs.items ≡ mets self.old.node.outs.items }
-        ensures arms { OfDisks self.old.node.engine self.new.node.engine (λ old new.
-            (D.known new).arms ≡ (D.known old).arms) }
     {
         self.act(alloc, Event::Given(Input::Advance { from }))
     }
 
     /// The site says again what its peers may have missed.
     pub fn tick(&mut self, alloc: Global) -> Mem<Acted>
-        ensures cell { (catalog : Catalog) (capacity : ℕ) (i : SiteId) → IsCell catalog capacity i self.old
-            → IsCell catalog capacity i self.new }
-        ensures known { (catalog : Catalog) (capacity : ℕ) (i : SiteId) → IsCell catalog capacity i self.old
-            → IsKnown catalog capacity i self.old → IsKnown catalog capacity i self.new }
-        ensures same { IsSameCell self.old self.new }
+        ensures proceeds { Proceeds D.Disk self.old self.new }
+        ensures acts { IfOk result (Acts (event.Given input.Tick) (clock_in self.old.node)
+            self.old.node.trail self.new.node.trail) }
         ensures kept { OnErr result (HasSameTrail self.old self.new) }
-        ensures acts { IfOk result (Acts (event.Given input.Tick) self.old.node.clock
-            self.old.node.entries.items self.new.node.entries.items) }
-        ensures ins { self.new.ins ≡ self.old.ins }
-        ensures lines { self.new.lines ≡ self.old.lines }
-        ensures drops { (catalog : Catalog) (capacity : ℕ) (i : SiteId) → IsCell catalog capacity i self.old
-            → IsKnown catalog capacity i self.old
-            → MayDrop catalog i (met_to self.old.node.outs.items) self.old.node.entries.items
-            self.new.node.entries.items }
-        ensures mets { mets self.new.node.outs.items ≡ mets self.old.node.outs.items }
-        ensures arms { OfDisks self.old.node.engine self.new.node.engine (λ old new.
-            (D.known new).arms ≡ (D.known old).arms) }
     {
         self.act(alloc, Event::Given(Input::Tick))
     }
 
     /// The site loses its memory.
     pub fn stop(&mut self, alloc: Global) -> Mem<Acted>
-        ensures cell { (catalog : Catalog) (capacity : ℕ) (i : SiteId) → IsCell catalog capacity i self.old
-            → IsCell catalog capacity i self.new }
-        ensures known { (catalog : Catalog) (capacity : ℕ) (i : SiteId) → IsCell catalog capacity i self.old
-            → IsKnown catalog capacity i self.old → IsKnown catalog capacity i self.new }
-        ensures same { IsSameCell self.old self.new }
+        ensures proceeds { Proceeds D.Disk self.old self.new }
+        ensures acts { IfOk result (Acts event.Stop (clock_in self.old.node)
+            self.old.node.trail self.new.node.trail) }
         ensures kept { OnErr result (HasSameTrail self.old self.new) }
-        ensures acts { IfOk result (Acts event.Stop self.old.node.clock
-            self.old.node.entries.items self.new.node.entries.items) }
-        ensures ins { self.new.ins ≡ self.old.ins }
-        ensures lines { self.new.lines ≡ self.old.lines }
-        ensures drops { (catalog : Catalog) (capacity : ℕ) (i : SiteId) → IsCell catalog capacity i self.old
-            → IsKnown catalog capacity i self.old
-            → MayDrop catalog i (met_to self.old.node.outs.items) self.old.node.entries.items
-            self.new.node.entries.items }
-        ensures mets { mets self.new.node.outs.items ≡ mets self.old.node.outs.items }
-        ensures arms { OfDisks self.old.node.engine self.new.node.engine (λ old new.
-            (D.known new).arms ≡ (D.known old).arms) }
     {
         self.act(alloc, Event::Stop)
     }
 
     /// The site is made anew from its journal, if it is down.
     pub fn restart(&mut self, alloc: Global) -> Mem<Acted>
-        ensures cell { (catalog : Catalog) (capacity : ℕ) (i : SiteId) → IsCell catalog capacity i self.old
-            → IsCell catalog capacity i self.new }
-        ensures known { (catalog : Catalog) (capacity : ℕ) (i : SiteId) → IsCell catalog capacity i self.old
-            → IsKnown catalog capacity i self.old → IsKnown catalog capacity i self.new }
-        ensures same { IsSameCell self.old self.new }
+        ensures proceeds { Proceeds D.Disk self.old self.new }
+        ensures acts { IfOk result (Acts event.Restart (clock_in self.old.node)
+            self.old.node.trail self.new.node.trail) }
         ensures kept { OnErr result (HasSameTrail self.old self.new) }
-        ensures acts { IfOk result (Acts event.Restart self.old.node.clock
-            self.old.node.entries.items self.new.node.entries.items) }
-        ensures ins { self.new.ins ≡ self.old.ins }
-        ensures lines { self.new.lines ≡ self.old.lines }
-        ensures drops { (catalog : Catalog) (capacity : ℕ) (i : SiteId) → IsCell catalog capacity i self.old
-            → IsKnown catalog capacity i self.old
-            → MayDrop catalog i (met_to self.old.node.outs.items) self.old.node.entries.items
-            self.new.node.entries.items }
-        ensures mets { mets self.new.node.outs.items ≡ mets self.old.node.outs.items }
-        ensures arms { OfDisks self.old.node.engine self.new.node.engine (λ old new.
-            (D.known new).arms ≡ (D.known old).arms) }
     {
         self.act(alloc, Event::Restart)
     }
 
-    // An event that brings nothing comes to the site.
-    fn act(&mut self, alloc: Global, event: Event) -> Mem<Acted>
+    /// An event that brings nothing comes to the site.
+    pub fn act(&mut self, alloc: Global, event: Event) -> Mem<Acted>
         requires { IsPlain event }
-        ensures cell { (catalog : Catalog) (capacity : ℕ) (i : SiteId) → IsCell catalog capacity i self.old
-            → IsCell catalog capacity i self.new }
-        ensures known { (catalog : Catalog) (capacity : ℕ) (i : SiteId) → IsCell catalog capacity i self.old
-            → IsKnown catalog capacity i self.old → IsKnown catalog capacity i self.new }
-        ensures same { IsSameCell self.old self.new }
+        ensures proceeds { Proceeds D.Disk self.old self.new }
+        ensures acts { IfOk result (Acts event (clock_in self.old.node)
+            self.old.node.trail self.new.node.trail) }
         ensures kept { OnErr result (HasSameTrail self.old self.new) }
-        ensures acts { IfOk result (Acts event self.old.node.clock
-            self.old.node.entries.items self.new.node.entries.items) }
-        ensures ins { self.new.ins ≡ self.old.ins }
-        ensures lines { self.new.lines ≡ self.old.lines }
-        ensures drops { (catalog : Catalog) (capacity : ℕ) (i : SiteId) → IsCell catalog capacity i self.old
-            → IsKnown catalog capacity i self.old
-            → MayDrop catalog i (met_to self.old.node.outs.items) self.old.node.entries.items
-            self.new.node.entries.items }
-        ensures mets { mets self.new.node.outs.items ≡ mets self.old.node.outs.items }
-        ensures arms { OfDisks self.old.node.engine self.new.node.engine (λ old new.
-            (D.known new).arms ≡ (D.known old).arms) }
     {
         let Some(stamp) = self.node.next_stamp(0) else {
             return Ok(Acted::Spent);
@@ -350,44 +242,38 @@ impl<D: Disk + Drop, S: Source + Drop, K: Sink + Drop> Cell<D, S, K> {
 
     /// All that another site has put for this one arrives. The two are these sites.
     pub fn meet(&mut self, to: SiteId, sender: &mut Cell<D, S, K>, from: SiteId) -> Mem<()>
-        requires from { from.0 < length self.old.ins.items }
-        requires to { to.0 < length sender.old.node.outs.items }
-        requires ring { ring_to sender.old.node.outs.items to.0 ≡ ring_from self.old.ins.items from.0 }
-        ensures cell { (catalog : Catalog) (capacity : ℕ) (i : SiteId) → IsCell catalog capacity i self.old
-            → IsCell catalog capacity i self.new }
-        ensures sender { (catalog : Catalog) (capacity : ℕ) (i : SiteId) → IsCell catalog capacity i sender.old
-            → IsCell catalog capacity i sender.new }
-        ensures same { IsSameCell self.old self.new × IsSameCell sender.old sender.new }
-        ensures node { self.new.node ≡ self.old.node }
-        ensures lines { (self.new.lines ≡ self.old.lines) × (sender.new.lines ≡ sender.old.lines) }
-        ensures arrived { OnOk result
-            (arrived_from self.new.ins.items from.0 ≡ put_to sender.old.node.outs.items to.0) }
-        ensures other { (j : ℕ) → j ≢ from.0 → arrived_from self.new.ins.items j ≡ arrived_from self.old.ins.items j }
-        ensures sends { (k : ℕ) → put_to sender.new.node.outs.items k ≡ put_to sender.old.node.outs.items k }
-        ensures known_sender { (catalog : Catalog) (capacity : ℕ) (i : SiteId) → IsKnown catalog capacity i sender.old
-            → IsKnown catalog capacity i sender.new }
-        ensures rest { IsSameButLanes sender.old.node sender.new.node × (sender.new.ins ≡ sender.old.ins) }
-        ensures met { OnOk result
-            (met_to sender.new.node.outs.items to.0 ≡ length (put_to sender.old.node.outs.items to.0)) }
-        ensures other_mets { (k : ℕ) → k ≢ to.0
-            → met_to sender.new.node.outs.items k ≡ met_to sender.old.node.outs.items k }
-        // For want of memory nothing arrives.
-        ensures unmet { OnErr result ((mets sender.new.node.outs.items ≡ mets sender.old.node.outs.items)
-            × (arrived_from self.new.ins.items from.0 ≡ arrived_from self.old.ins.items from.0)) }
+        requires from { from.0 < length self.old.ins }
+        requires to { to.0 < length sender.old.node.outs }
+        requires ring { ring_to sender.old.node.outs to.0 ≡ ring_from self.old.ins from.0 }
+        ensures keeps { Keeps D.Disk self.old self.new × Keeps D.Disk sender.old sender.new }
+        ensures met { HaveMet to.0 from.0 self.old sender.old self.new sender.new }
+        ensures arrives { OnOk result (arrived_from self.new.ins from.0
+            ≡ map (posted sender.old.node.catalog.sites) (put_out_to to sender.old.node.trail)) }
+        ensures sound { IsSound D.Disk sender.old.node }
     {
-        let outbound = &mut sender.node.outs[usize::from(to.0)];
-        meet(outbound, &mut self.ins[usize::from(from.0)])
+        sender.node.meet(to, &mut self.ins[usize::from(from.0)])
     }
 
     /// What has arrived from another site is a beginning of what that one has put for this one.
     pub fn compare(&mut self, to: SiteId, sender: &mut Cell<D, S, K>, from: SiteId)
-        requires from { from.0 < length self.old.ins.items }
-        requires to { to.0 < length sender.old.node.outs.items }
-        requires ring { ring_to sender.old.node.outs.items to.0 ≡ ring_from self.old.ins.items from.0 }
-        ensures same { IsUnchanged self.old self.new × IsUnchanged sender.old sender.new }
-        ensures begins { IsPrefix (arrived_from self.old.ins.items from.0) (put_to sender.old.node.outs.items to.0) }
+        requires from { from.0 < length self.old.ins }
+        requires to { to.0 < length sender.old.node.outs }
+        requires ring { ring_to sender.old.node.outs to.0 ≡ ring_from self.old.ins from.0 }
+        ensures same { (self.new ≡ self.old) × (sender.new ≡ sender.old) }
+        ensures begins { IsPrefix (arrived_from self.old.ins from.0)
+            (map (posted sender.old.node.catalog.sites) (put_out_to to sender.old.node.trail)) }
     {
-        let outbound = &mut sender.node.outs[usize::from(to.0)];
-        compare(outbound, &mut self.ins[usize::from(from.0)]);
+        sender.node.compare(to, &mut self.ins[usize::from(from.0)]);
+    }
+}
+
+// What a turn came to whose reply was written, or was cut off.
+fn served(put: Result<(), BrokenConn>) -> Serve
+    ensures { result ≡ (if is_ok put then answers.Served else answers.Broken) }
+{
+    if put.is_ok() {
+        Serve::Served
+    } else {
+        Serve::Broken
     }
 }

@@ -50,6 +50,8 @@ pub fn handle<D: Disk + Drop>(
     ensures faults { OfDisks engine.old engine.new (λ old new.
         IsFaulty result.came (D.known old).faults (D.known new).faults) }
     ensures arms { OfDisks engine.old engine.new (λ old new. (D.known new).arms ≡ (D.known old).arms) }
+    ensures tells { OfDisks engine.old engine.new (λ old new.
+        is_some (D.known new).reads ≡ is_some (D.known old).reads) }
     ensures engine { IsSameEngine engine.old engine.new }
 {
     match event {
@@ -89,6 +91,8 @@ fn give<D: Disk + Drop>(
     ensures faults { OfDisks engine.old engine.new (λ old new.
         IsFaulty result.came (D.known old).faults (D.known new).faults) }
     ensures arms { OfDisks engine.old engine.new (λ old new. (D.known new).arms ≡ (D.known old).arms) }
+    ensures tells { OfDisks engine.old engine.new (λ old new.
+        is_some (D.known new).reads ≡ is_some (D.known old).reads) }
     ensures engine { IsSameEngine engine.old engine.new }
 {
     match refusal(engine.is_up(), debt, input) {

@@ -12,3 +12,4 @@ mod places;
 
 pub use answers::{Acted, Moved, Serve};
 pub use cell::Cell;
+pub use line::Line;

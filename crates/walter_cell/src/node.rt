@@ -1,25 +1,25 @@
-ghost use Rattle.std.specs.Prelude.{◌≡◌, ◌<◌, ◌≤◌, ◌⊎◌, ◌^◌, ◌++◌, ◌+◌, ◌∷◌, [], ℕ, List, max, slice_get, length};
-ghost use Rattle.std.specs.Prelude.{vec_len, vec_capacity, option_map, Some, IsSome, OnErr, OnOk, IfOk, IfSome, IfNone};
+ghost use Rattle.std.specs.Prelude.{◌≡◌, ◌<◌, ◌≤◌, ◌-◌, ◌⊎◌, ◌^◌, ◌++◌, ◌+◌, ◌≢◌, ◌∷◌, [], ℕ, List, max, slice_get, length};
+ghost use Rattle.std.specs.Prelude.{vec_len, vec_capacity, option_map, is_some, Some, IsSome, OnErr, OnOk, IfOk, IfErr, IfSome, IfNone};
+ghost use mathlib.Core.List.{IsPrefix};
 ghost use Rattle.walter_base.specs.Vectors.{most_sites};
-ghost use Rattle.walter_base.specs.declared.catalog.Catalog.{Catalog};
-ghost use Rattle.walter_base.specs.declared.names.SiteId.{SiteId};
-ghost use Rattle.walter_engine.specs.Begins.{HasOnly, IsBegun, IsFaultOfBegin, MayHaveBegun};
 ghost use Rattle.walter_engine.specs.Steps.{opening};
-ghost use Rattle.walter_cell.specs.Builds.{AreFree, OfBuilt, begun_by};
-ghost use Rattle.walter_cell.specs.Entries.{IsSpent, IsOfClients, IsSizedEvent};
-ghost use Rattle.walter_outbox.specs.Lanes.{put_to, met_to};
-ghost use Rattle.walter_cell.specs.Nodes.{IsNode, IsKnownNode, MayDrop};
+ghost use Rattle.walter_engine.specs.declared.answers.Unbegun.TheVariants as unbegun;
+ghost use Rattle.walter_cell.specs.Builds.{AreFree, Begins, HasOpened, IsNewEngine};
+ghost use Rattle.walter_cell.specs.Entries.{IsSpent, HasPlace, IsOfClients, IsSizedEvent};
+ghost use Rattle.walter_outbox.specs.Lanes.{put_to, met_to, mets, ring_to, out_rings};
 
 use crate::debt::{debt_of, settle};
 use crate::handling::{Handled, handle};
-use crate::places::{make_places, place_any};
+use crate::places::make_places;
 use std::alloc::Global;
+use std::marker::Model;
 use walter_base::{Catalog, Mem, Record, RecordPlace, SiteId, Tid};
 use walter_disk::Disk;
 use walter_engine::{Engine, Unbegun};
-use walter_lane::Outbound;
+use walter_lane::{Inbound, Outbound, compare, meet};
 use walter_outbox::put_out;
 use walter_rules::{Came, Entry, Event, Outcome};
+use walter_trail::Trail;
 
 /// The most entries that a trail may have.
 const MOST_ENTRIES: usize = 100_000;
@@ -31,21 +31,52 @@ const END_OF_STAMPS: u64 = 1 << 62;
 /// of which a client wasn't told yet. All but the site outlives a stop.
 #[derive(Drop)]
 pub struct Node<D: Disk> {
-    pub engine: Engine<D>,
-    pub entries: Vec<Entry>,
-    /// The stamp of the last entry.
-    pub clock: u64,
-    pub outs: Vec<Outbound>,
-    pub debts: Vec<Option<Tid>>,
-    pub places: Vec<RecordPlace>,
+    // Behind a box, so that the size of what has a node doesn't depend on the disk's.
+    engine: Box<Engine<D>>,
+    entries: Vec<Entry>,
+    // The stamp of the last entry.
+    clock: u64,
+    outs: Vec<Outbound>,
+    debts: Vec<Option<Tid>>,
+    places: Vec<RecordPlace>,
+}
+
+impl<D: Disk> Model for Node<D> {
+    ghost use Rattle.std.specs.Prelude.{◌-◌, vec_len, vec_capacity};
+    ghost use Rattle.std.specs.Coded.{codes};
+    ghost use Rattle.walter_base.specs.contracts.catalog.Catalog as coded_catalog;
+    ghost use Rattle.walter_lane.specs.Lanes.{sending_code};
+    ghost use Rattle.walter_rules.specs.contracts.entry.Entry as coded_entry;
+    ghost use Rattle.walter_cell.specs.Nodes.{NodeValue, IsWhole, seen};
+
+    ghost Value = { NodeValue D };
+
+    ghost coded = { Prim.hlevel (codes, coded_catalog.the_row.coded, coded_entry.the_row.coded, sending_code) };
+
+    ghost view = { λ n. seen (vec_capacity n.entries - vec_len n.entries) (vec_len n.places) (record {
+      engine = n.engine.value;
+      trail = n.entries.items;
+      clock = n.clock;
+      outs = n.outs.items;
+      debts = n.debts.items;
+    }) };
+
+    ghost invariant = { λ n. IsWhole D.Disk (record {
+      engine = n.engine.value;
+      trail = n.entries.items;
+      clock = n.clock;
+      outs = n.outs.items;
+      debts = n.debts.items;
+    }) };
 }
 
 impl<D: Disk + Drop> Node<D> {
-    ghost use Rattle.walter_engine.specs.Engines.{catalog_in, OfDisks, IsSameEngine};
     ghost use Rattle.walter_rules.specs.Trails.{IsNextStamp};
-    ghost use Rattle.walter_cell.specs.Nodes.{Takes, IsSameNode, IsReady};
+    ghost use Rattle.walter_cell.specs.Nodes.{clock_in, IsReady, IsSameButRoom, IsSameButLanes, IsSameButDisk};
+    ghost use Rattle.walter_cell.specs.Nodes.{IsSound, KeepsNode, Takes, arms_under, is_told};
 
     /// A site over its disk, up in its first epoch, for so many clients. Where it doesn't begin the disk comes back.
+    #[tactic(auto, using(crate::proofs::Wholes::has_disk))]
     pub fn begin(
         alloc: Global,
         disk: D,
@@ -61,29 +92,15 @@ impl<D: Disk + Drop> Node<D> {
         requires place { 19 ≤ capacity }
         requires lanes { length outs.items ≡ catalog.now.sites }
         requires empty { (k : ℕ) → k < catalog.now.sites → put_to outs.items k ≡ [] }
-        ensures node { IfOk result (IsNode catalog.now capacity site) }
-        ensures known { IsSome (D.known disk).reads → IfOk result (IsKnownNode catalog.now capacity site) }
-        ensures opening { IfOk result (λ node. node.entries.items ≡ opening ∷ []) }
-        ensures lanes { IfOk result (λ node. node.outs.items ≡ outs.items) }
-        ensures debts { IfOk result (λ node. length node.debts.items ≡ clients) }
-
-        // What is answered, by the bytes that the disk has, where a crash leaves nothing else; and what one leaves.
-        ensures begins { (bytes : List ℕ) → HasOnly D.Disk bytes disk → IsBegun bytes (begun_by result) }
-        ensures leaves { (bytes : List ℕ) → HasOnly D.Disk bytes disk
-            → OfBuilt result (λ now. (image : List ℕ) → D.may_leave now image → MayHaveBegun bytes image) }
-        ensures faults { OfBuilt result (λ now.
-            IsFaultOfBegin (begun_by result) (D.known disk).faults (D.known now).faults) }
-        ensures arms { OfBuilt result (λ now. (D.known now).arms ≡ (D.known disk).arms) }
+        ensures opens { IfOk result (HasOpened D.Disk catalog.now capacity site disk outs.items clients) }
+        ensures begins { Begins D.Disk (λ node. node.disk) disk result }
     {
         let Ok((debts, mut entries, place)) = open(alloc, clients) else {
             return Err((disk, Unbegun::NoMemory));
         };
-        let mut engine = match Engine::new(alloc, disk, catalog, site, capacity) {
-            Ok(engine) => engine,
-            Err(disk) => return Err((disk, Unbegun::NoMemory)),
-        };
+        let mut engine = new_engine(alloc, disk, catalog, site, capacity)?;
         if let Err(why) = engine.begin() {
-            return Err((engine.into_disk(), why));
+            return Err((Box::into_inner(engine).into_disk(), why));
         }
         entries.push_reserved(opening_of(alloc, place));
         Ok(Node {
@@ -96,12 +113,33 @@ impl<D: Disk + Drop> Node<D> {
         })
     }
 
+    /// The disk, and the trail so far.
+    pub fn into_parts(self) -> (D, Trail)
+        ensures disk { Some result.0 ≡ self.disk }
+        ensures trail { result.1 ≡ self.trail }
+        ensures sound { IsSound D.Disk self }
+    {
+        let Node {
+            engine,
+            entries,
+            ..
+        } = self;
+        (Box::into_inner(engine).into_disk(), Trail::from(entries))
+    }
+
+    /// The last entry of the trail.
+    pub fn last(&self) -> Option<&Entry>
+        ensures { option_map (λ e. e.now) result ≡ slice_get self.now.trail (length self.now.trail - 1) }
+    {
+        self.entries.last()
+    }
+
     /// The stamp of the next entry, which brings a packet that was put out with this stamp, or none, where the stamp is
     /// 0. None where the trail is spent.
     pub fn next_stamp(&self, put: u64) -> Option<u64>
-        ensures some { IfSome result (λ stamp. (stamp ≡ max self.now.clock put + 1)
-            × (length self.now.entries.items < 100000) × (stamp < 2 ^ 62)) }
-        ensures none { IfNone result (IsSpent (max self.now.clock put + 1) self.now.entries.items) }
+        ensures some { IfSome result (λ stamp. (stamp ≡ max (clock_in self.now) put + 1)
+            × HasPlace stamp self.now.trail) }
+        ensures none { IfNone result (IsSpent (max (clock_in self.now) put + 1) self.now.trail) }
     {
         let last = self.clock.max(put);
         if self.entries.len() >= MOST_ENTRIES || last >= END_OF_STAMPS - 1 {
@@ -113,7 +151,7 @@ impl<D: Disk + Drop> Node<D> {
     /// Takes the memory for one more entry.
     pub fn make_ready(&mut self, alloc: Global) -> Mem<()>
         ensures ready { OnOk result (IsReady self.new) }
-        ensures same { IsSameNode self.old self.new }
+        ensures same { IsSameButRoom self.old self.new }
     {
         self.entries.reserve(1)?;
         make_places(alloc, &mut self.places)
@@ -122,18 +160,11 @@ impl<D: Disk + Drop> Node<D> {
     /// An event comes to the site, with this stamp: its entry comes to the trail, and what it puts out to the lanes.
     pub fn take(&mut self, alloc: Global, stamp: u64, event: Event)
         requires ready { IsReady self.old }
-        requires sized { IsSizedEvent (catalog_in self.old.engine).sites event }
-        requires owed { IsOfClients (length self.old.debts.items) event }
-        ensures takes { Takes stamp event self.old self.new }
-        ensures node { (catalog : Catalog) (capacity : ℕ) (i : SiteId) → IsNode catalog capacity i self.old
-            → self.old.clock < stamp → stamp < 2 ^ 62 → IsNode catalog capacity i self.new }
-        ensures known { (catalog : Catalog) (capacity : ℕ) (i : SiteId) → IsNode catalog capacity i self.old
-            → length self.old.entries.items < 100000 → IsNextStamp event self.old.clock stamp
-            → IsKnownNode catalog capacity i self.old → IsKnownNode catalog capacity i self.new }
-        ensures drops { (catalog : Catalog) (capacity : ℕ) (i : SiteId) → IsNode catalog capacity i self.old
-            → length self.old.entries.items < 100000 → IsKnownNode catalog capacity i self.old
-            → MayDrop catalog i (met_to self.old.outs.items) self.old.entries.items self.new.entries.items }
-        ensures arms { OfDisks self.old.engine self.new.engine (λ old new. (D.known new).arms ≡ (D.known old).arms) }
+        requires place { HasPlace stamp self.old.trail }
+        requires next { IsNextStamp event (clock_in self.old) stamp }
+        requires sized { IsSizedEvent self.old.catalog.sites event }
+        requires owed { IsOfClients self.old.clients event }
+        ensures { Takes D.Disk stamp event self.old self.new }
     {
         let debt = debt_of(&self.debts, &event);
         let Handled { came, frames, lost } = handle(
@@ -163,22 +194,65 @@ impl<D: Disk + Drop> Node<D> {
     /// Does to the disk what `Disk::arm` does.
     pub fn arm(&mut self, nth: u64, choice: u64) -> Mem<()>
         requires { 0 < nth }
-        ensures armed { OnOk result (OfDisks self.old.engine self.new.engine (λ old new.
-            D.known new
-            ≡ record (D.known old) { arms = option_map (λ arms. arms ++ (nth, choice) ∷ []) (D.known old).arms })) }
-        ensures unarmed { OnErr result
-            (OfDisks self.old.engine self.new.engine (λ old new. D.known new ≡ D.known old)) }
-        ensures node { (catalog : Catalog) (capacity : ℕ) (i : SiteId) → IsNode catalog capacity i self.old
-            → IsNode catalog capacity i self.new }
-        ensures known { (catalog : Catalog) (capacity : ℕ) (i : SiteId) → IsKnownNode catalog capacity i self.old
-            → IsKnownNode catalog capacity i self.new }
-        ensures entries { self.new.entries ≡ self.old.entries }
-        ensures clock { self.new.clock ≡ self.old.clock }
-        ensures outs { self.new.outs ≡ self.old.outs }
-        ensures debts { self.new.debts ≡ self.old.debts }
-        ensures engine { IsSameEngine self.old.engine self.new.engine }
+        ensures armed { OnOk result (arms_under D.Disk self.new.disk
+            ≡ option_map (λ arms. arms ++ (nth, choice) ∷ []) (arms_under D.Disk self.old.disk)) }
+        ensures unarmed { OnErr result (arms_under D.Disk self.new.disk ≡ arms_under D.Disk self.old.disk) }
+        ensures told { is_told D.Disk self.new.disk ≡ is_told D.Disk self.old.disk }
+        ensures same { IsSameButDisk self.old self.new }
     {
         self.engine.arm(nth, choice)
+    }
+
+    /// All that was put for a site arrives at the other end of its lane.
+    pub fn meet(&mut self, to: SiteId, inbound: &mut Inbound) -> Mem<()>
+        requires to { to.0 < length self.old.outs }
+        requires ring { ring_to self.old.outs to.0 ≡ inbound.old.ring }
+        ensures same { IsSameButLanes self.old self.new }
+        ensures rings { (out_rings self.new.outs ≡ out_rings self.old.outs) × (inbound.new.ring ≡ inbound.old.ring) }
+        ensures put { (k : ℕ) → put_to self.new.outs k ≡ put_to self.old.outs k }
+        ensures more { IsPrefix inbound.old.arrived inbound.new.arrived }
+        ensures met { OnOk result ((inbound.new.arrived ≡ put_to self.old.outs to.0)
+            × (met_to self.new.outs to.0 ≡ length (put_to self.old.outs to.0))) }
+        ensures other_mets { (k : ℕ) → k ≢ to.0 → met_to self.new.outs k ≡ met_to self.old.outs k }
+        ensures unmet { OnErr result ((inbound.new ≡ inbound.old) × (mets self.new.outs ≡ mets self.old.outs)) }
+        ensures sound { IsSound D.Disk self.old }
+    {
+        meet(&mut self.outs[usize::from(to.0)], inbound)
+    }
+
+    /// What has arrived at the other end of the lane to a site is a beginning of what was put for that one.
+    pub fn compare(&mut self, to: SiteId, inbound: &mut Inbound)
+        requires to { to.0 < length self.old.outs }
+        requires ring { ring_to self.old.outs to.0 ≡ inbound.old.ring }
+        ensures same { (self.new ≡ self.old) × (inbound.new ≡ inbound.old) }
+        ensures begins { IsPrefix inbound.old.arrived (put_to self.old.outs to.0) }
+        ensures sound { IsSound D.Disk self.old }
+    {
+        compare(&mut self.outs[usize::from(to.0)], inbound);
+    }
+}
+
+// The site, down over its disk. Where there is no memory the disk comes back.
+fn new_engine<D: Disk + Drop>(
+    alloc: Global,
+    disk: D,
+    catalog: &Catalog,
+    site: SiteId,
+    capacity: u64,
+) -> Result<Box<Engine<D>>, (D, Unbegun)>
+    requires here { site.0 < catalog.now.sites }
+    requires most { catalog.now.sites ≤ most_sites }
+    requires fewer { catalog.now.tolerated < catalog.now.sites }
+    ensures ok { IfOk result (λ engine. IsNewEngine catalog.now capacity site disk engine.value) }
+    ensures back { IfErr result (λ back. (back.0 ≡ disk) × (back.1 ≡ unbegun.NoMemory)) }
+{
+    let engine = match Engine::new(alloc, disk, catalog, site, capacity) {
+        Ok(engine) => engine,
+        Err(disk) => return Err((disk, Unbegun::NoMemory)),
+    };
+    match Box::new(alloc, engine) {
+        Ok(engine) => Ok(engine),
+        Err(failed) => Err((failed.value.into_disk(), Unbegun::NoMemory)),
     }
 }
 

@@ -10,7 +10,7 @@ use Rattle.walter_disk.specs.declared.disk.Disk.{Ghosts}
 use Rattle.walter_engine.specs.Begins.{HasOnly, IsBegun, IsFaultOfBegin, MayHaveBegun, HasNoRecord}
 use Rattle.walter_engine.specs.declared.answers.Unbegun.{Unbegun}
 use Rattle.walter_engine.specs.declared.answers.Unbegun.TheVariants as unbegun
-use Rattle.walter_play.proofs.Steps.{there_is}
+use Rattle.walter_cluster.proofs.Changes.{there_is}
 use Rattle.walter_cli.specs.Ending.{EndsEarly, IsUnbuilt, fault_of}
 use Rattle.walter_cli.specs.Racks.{RackAt, Racked, OfADisk, AreSo, Holds, IsUntouched, IsUnarmed, HasFailed, IsFaultlessBefore, HasCause, racked}
 use Rattle.walter_cli.specs.declared.ended.Fault.{Fault}

@@ -9,7 +9,7 @@ use Rattle.walter_cluster.specs.Builds.{LeavesDisk}
 use Rattle.walter_disk.specs.Racks.{IsFresh}
 use Rattle.walter_disk.specs.declared.disk.Disk.{Ghosts}
 use Rattle.walter_psi.proofs.Lists.{slice_get-push_cases, slice_get-append_left, slice_get-push}
-use Rattle.walter_play.proofs.Steps.{there_is}
+use Rattle.walter_cluster.proofs.Changes.{there_is}
 use Rattle.walter_cli.specs.Disks.{AreTaken, AreGiven, IsFirstLost, lost_after}
 use Rattle.walter_cli.specs.Racks.{RackAt, numbered}
 use Rattle.walter_cli.proofs.Giving.{numbered_has}

@@ -6,7 +6,8 @@ use Rattle.std.specs.Global.{Global}
 use Rattle.std.proofs.lemmas.List.Elements.{All-contains}
 use Rattle.walter_disk.specs.declared.disk.Disk.{Ghosts}
 use Rattle.walter_engine.specs.Begins.{HasNoRecord}
-use Rattle.walter_play.proofs.Steps.{there_is, plays_told}
+use Rattle.walter_cluster.proofs.Changes.{there_is}
+use Rattle.walter_play.proofs.Steps.{plays_told}
 use Rattle.walter_play.specs.Scripts.{all_arms}
 use Rattle.walter_scenario.specs.declared.scenario.Scenario.{Scenario}
 use Rattle.walter_stream.specs.Streams.{Appends, AppendsFront}

@@ -1,25 +1,28 @@
 -- What the trails of a bench are, cell by cell.
-use Rattle.std.proofs.Common.{◌≡◌, ℕ, ◌<◌, zero, suc, List, [], ◌∷◌, length, map, slice_get, get_or, reverse, Some, option_map, refl, ap, sym, ◌∙◌, subst, arith}
+use Rattle.std.proofs.Common.{◌≡◌, ℕ, ◌<◌, zero, suc, List, [], ◌∷◌, length, map, slice_get, get_or, reverse, true, Option, Some, None, option_map, refl, ap, sym, ◌∙◌, subst, arith}
 use Rattle.std.specs.Prelude.{All}
 use Rattle.std.proofs.lemmas.List.{length-map}
 use Rattle.std.proofs.lemmas.List.Elements.{All-weaker, All-push}
-use Rattle.std.proofs.lemmas.Option.{slice_get-map, slice_get_within, slice_get-get_or, get_or_from_slice_get}
+use Rattle.std.proofs.lemmas.Option.{slice_get-map, slice_get-get_or, get_or_from_slice_get}
 use Rattle.walter_base.specs.declared.catalog.Catalog.{Catalog}
+use Rattle.walter_base.proofs.NameTests.{same_site-true}
 use Rattle.walter_base.specs.declared.names.SiteId.{SiteId}
 use Rattle.walter_alone.proofs.Promised.{entry_answered, entry_received, entry_seen, entry_locked, entry_hindered}
-use Rattle.walter_cell.specs.declared.cell.Cell.{Cell}
-use Rattle.walter_cell.specs.Entries.{HaveRisingStamps}
+use Rattle.walter_cell.specs.Cells.{CellValue, IsCell}
+use Rattle.walter_cell.specs.Entries.{HaveRisingStamps, IfCalled}
 use Rattle.walter_cell.specs.Handled.{IsSized}
-use Rattle.walter_cluster.specs.declared.bench.Bench.{Bench}
-use Rattle.walter_cluster.specs.Benches.{trails_of, IsOfSite, IsBench, IsKnownAt, AreAllConnected}
+use Rattle.walter_cell.specs.Lines.{is_here}
+use Rattle.walter_cell.specs.Nodes.{IsSound}
+use Rattle.walter_cell.proofs.Taken.{if_called}
+use Rattle.walter_cluster.specs.Benches.{BenchValue, IsOf, IsBench, IsToldAt, AreAllConnected, AtEach, trails_of, is_site, is_home}
+use Rattle.walter_cluster.proofs.Changes.{there_is}
+use Rattle.walter_cluster.proofs.Keeping.{home_within}
 use Rattle.walter_conn.proofs.Standings.{calls_of as calls_told}
-use Rattle.walter_conn.specs.Connections.{incoming}
 use Rattle.walter_conn.specs.Sequences.{HasCalled}
 use Rattle.walter_disk.specs.declared.disk.Disk.{Ghosts}
 use Rattle.walter_engine.specs.Steps.{opening}
 use Rattle.walter_linked.specs.Catalogs.{IsWhole}
 use Rattle.walter_linked.proofs.Whole.{trails_got, trails_marks}
-use Rattle.walter_play.proofs.Steps.{there_is}
 use Rattle.walter_refinement.proofs.Trails.{trails_legal, trails_once, trails_named}
 use Rattle.walter_reply.specs.Replies.{FitsFrame}
 use Rattle.walter_reply.proofs.Lengths.{short_fits}
@@ -35,10 +38,8 @@ use Rattle.walter_runs.specs.Runs.{AreRightTrails}
 use Rattle.walter_scenario.specs.declared.scenario.Client.{Client}
 use Rattle.walter_scenario.specs.declared.scenario.Scenario.{Scenario}
 use Rattle.walter_site.specs.Members.{IsShortOutcome}
-use Rattle.walter_stream.specs.declared.sink.Sink.{Ghosts as SinkGhosts}
-use Rattle.walter_stream.specs.declared.source.Source.{Ghosts as SourceGhosts}
 use Rattle.walter_trail.specs.Calls.{calls_of}
-use Rattle.walter_cli.specs.Headline.{AreCallsOf, AreTold, trail_at}
+use Rattle.walter_cli.specs.Headline.{IsOfSite, AreCallsOf, AreTold, trail_at}
 use Rattle.walter_cli.specs.Promises.{AreKept, KeepAllPromises}
 
 -- ---- lists
@@ -94,69 +95,103 @@ outcome_frames IsRefused fits = λ k d within. absurd (omega (arith, within))
 
 -- ---- benches
 
-module _ {D S K : Type 0} {g : Ghosts D} {s : SourceGhosts S} {k : SinkGhosts K} (t : Scenario) (bench : Bench D S K g s k)
-    (is : IsBench t bench) where
-  abbrev trails : List (List Entry)
-  trails = trails_of bench.cells.items
+-- the client that is at home at a site
+client_at : (clients : List Client) (number : ℕ) (i : SiteId) → is_home (map (λ (c : Client). c.site) clients) number i ≡ true
+    → (client : Client) × (slice_get clients number ≡ Some client) × (client.site ≡ i)
+client_at clients number i home =
+    go (slice_get clients number) refl
+    (sym (ap (λ (o : Option SiteId). is_site o i) (slice_get-map (λ (c : Client). c.site) clients number)) ∙ home)
+  where
+    go : (o : Option Client) → slice_get clients number ≡ o → is_site (option_map (λ (c : Client). c.site) o) i ≡ true
+        → (client : Client) × (slice_get clients number ≡ Some client) × (client.site ≡ i)
+    go None at none = absurd cc
+    go (Some client) at same = (client, at, same_site-true client.site i same)
 
-  pub trail_is : (i : ℕ) (cell : Cell D S K g s k) → slice_get bench.cells.items i ≡ Some cell
-      → trail_at trails i ≡ cell.node.entries.items
-  trail_is i cell at = field_at (λ (c : Cell D S K g s k). c.node.entries.items) bench.cells.items i cell [] at
+module _ {D : Type 0} (g : Ghosts D) (t : Scenario) (bench : BenchValue D) (of : IsOf t bench) (is : IsBench bench)
+    (sound : AtEach bench.cells (λ i c. IsSound g c.node × IsCell c)) where
+  abbrev trails : List (List Entry)
+  trails = trails_of bench.cells
+
+  pub trail_is : (i : ℕ) (cell : CellValue D) → slice_get bench.cells i ≡ Some cell → trail_at trails i ≡ cell.node.trail
+  trail_is i cell at = field_at (λ (c : CellValue D). c.node.trail) bench.cells i cell [] at
 
   -- the cell of a site
-  pub cell_at : (i : ℕ) → i < t.catalog.sites → (cell : Cell D S K g s k) × (slice_get bench.cells.items i ≡ Some cell)
-  cell_at i below = there_is bench.cells.items i (let l = is.sites in omega (arith, below, l))
+  pub cell_at : (i : ℕ) → i < t.catalog.sites → (cell : CellValue D) × (slice_get bench.cells i ≡ Some cell)
+  cell_at i below = there_is bench.cells i (let l = of.sites in omega (arith, below, l))
 
   pub one_each : length trails ≡ t.catalog.sites
-  one_each = length-map bench.cells.items (λ (c : Cell D S K g s k). c.node.entries.items) ∙ is.sites
+  one_each = length-map bench.cells (λ (c : CellValue D). c.node.trail) ∙ of.sites
 
   -- what is so of the trail of each cell, is so of that of each site
   at_each : (P : ℕ → List Entry → Type 0)
-      → ((i : ℕ) (cell : Cell D S K g s k) → slice_get bench.cells.items i ≡ Some cell → P i cell.node.entries.items)
+      → ((i : ℕ) (cell : CellValue D) → slice_get bench.cells i ≡ Some cell → P i cell.node.trail)
       → (i : ℕ) → i < t.catalog.sites → P i (trail_at trails i)
   at_each P so i below =
       let there = cell_at i below in
       subst (λ (es : List Entry). P i es) (sym (trail_is i there.0 there.1)) (so i there.0 there.1)
 
   pub begins : (i : ℕ) → i < t.catalog.sites → slice_get (trail_at trails i) 0 ≡ Some opening
-  begins = at_each (λ i es. slice_get es 0 ≡ Some opening) (λ i cell at. (is.cells i cell at).cell_is.node.begins)
+  begins = at_each (λ i es. slice_get es 0 ≡ Some opening) (λ i cell at. (sound i cell at).0.begins)
 
   pub stamps_rise : (i : ℕ) → i < t.catalog.sites → HaveRisingStamps (reverse (trail_at trails i))
-  stamps_rise = at_each (λ i es. HaveRisingStamps (reverse es)) (λ i cell at. (is.cells i cell at).cell_is.node.rise)
+  stamps_rise = at_each (λ i es. HaveRisingStamps (reverse es)) (λ i cell at. (sound i cell at).0.rise)
+
+  -- a call is of a client that is at home there
+  call_is : (i : ℕ) (cell : CellValue D) → slice_get bench.cells i ≡ Some cell → (number : ℕ) → is_here cell.lines number ≡ true
+      → (client : Client) × (slice_get t.clients number ≡ Some client) × (client.site ≡ site_at i)
+  call_is i cell at number here =
+      client_at t.clients number (site_at i)
+      (sym (ap (λ homes. is_home homes number (site_at i)) of.homes) ∙ (sym ((is.cells i cell at).here number) ∙ here))
+
+  -- the site of a client is one of the sites
+  site_of : (number : ℕ) (client : Client) → slice_get t.clients number ≡ Some client → client.site.0 < t.catalog.sites
+  site_of number client at =
+      let home : slice_get bench.homes number ≡ Some client.site =
+      ap (λ hs. slice_get hs number) of.homes
+      ∙ (slice_get-map (λ (c : Client). c.site) t.clients number ∙ ap (λ o. option_map (λ (c : Client). c.site) o) at) in
+      let within = home_within bench.homes (length bench.cells) number client.site home is.within in
+      let l = of.sites in
+      omega (arith, within, l)
 
   pub calls_are : AreAllConnected t bench → AreCallsOf t.clients trails
   calls_are connected = record {
     within = λ i below.
-        at_each (λ i es. All (λ e. IsOfSite t.clients (site_at i) e.event) es) (λ i cell at. (is.cells i cell at).whose_calls)
+        at_each (λ i es. All (λ e. IsOfSite t.clients (site_at i) e.event) es)
+        (λ i cell at.
+        All-weaker (λ (e : Entry). IfCalled (λ number. is_here cell.lines number ≡ true) e.event)
+        (λ (e : Entry). IsOfSite t.clients (site_at i) e.event)
+        (λ e called. if_called (λ number. is_here cell.lines number ≡ true) _ e.event (λ number here. call_is i cell at number here) called)
+        cell.node.trail (sound i cell at).1.calls)
         i (let l = one_each in omega (arith, below, l));
     front = λ number client at.
-        let below : client.site.0 < t.catalog.sites =
-        is_of_all number client at in
-        let there = cell_at client.site.0 below in
+        let there = cell_at client.site.0 (site_of number client at) in
         let line = connected client.site.0 there.0 there.1 number client at refl in
         let stands = line.2.stands in (
           stands.rest,
           calls_told client.bytes (calls_of number (trail_of trails client.site)) _ stands.rest
-              (subst (λ (es : List Entry). HasCalled client.bytes (calls_of number es) (incoming line.0))
+              (subst (λ (es : List Entry). HasCalled client.bytes (calls_of number es) line.0.incoming)
               (sym (trail_is client.site.0 there.0 there.1)) stands) stands.unread,
         );
   }
-    where
-      is_of_all : (number : ℕ) (client : Client) → slice_get t.clients number ≡ Some client → client.site.0 < t.catalog.sites
-      is_of_all number client at =
-          let within = slice_get_within t.clients number client at in
-          subst (λ (c : Client). c.site.0 < t.catalog.sites) (get_or_from_slice_get t.clients number client client at)
-          (is.within number client within)
+
+  -- a trail that is right of its node, is right of its site
+  right_of : (i : ℕ) (cell : CellValue D) → slice_get bench.cells i ≡ Some cell
+      → IsRightTrail cell.node.catalog cell.node.capacity cell.node.site cell.node.trail
+      → IsRightTrail t.catalog t.capacity (site_at i) cell.node.trail
+  right_of i cell at right =
+      subst (λ (k : Catalog). IsRightTrail k t.capacity (site_at i) cell.node.trail) (of.catalogs i cell at)
+      (subst (λ (n : ℕ). IsRightTrail cell.node.catalog n (site_at i) cell.node.trail) (of.capacities i cell at)
+      (subst (λ (n : SiteId). IsRightTrail cell.node.catalog cell.node.capacity n cell.node.trail) (is.cells i cell at).site right))
 
   -- where all disks are told
-  pub told_trails : ((i : ℕ) → i < t.catalog.sites → IsKnownAt t i bench) → IsWhole t.catalog → AreLinked trails → AreTold t trails
-  told_trails known whole linked =
+  pub told_trails : ((i : ℕ) → i < t.catalog.sites → IsToldAt g i bench) → IsWhole t.catalog → AreLinked trails → AreTold t trails
+  told_trails told whole linked =
       let are : AreRightTrails t.catalog t.capacity trails = record {
         one_each = one_each;
         right = λ i below.
             let there = cell_at i.0 below in
             subst (λ (es : List Entry). IsRightTrail t.catalog t.capacity i es) (sym (trail_is i.0 there.0 there.1))
-            (known i.0 below there.0 there.1).right;
+            (right_of i.0 there.0 there.1 ((sound i.0 there.0 there.1).0.right (told i.0 below there.0 there.1)));
         linked = linked;
       } in
       record {
@@ -171,16 +206,15 @@ module _ {D S K : Type 0} {g : Ghosts D} {s : SourceGhosts S} {k : SinkGhosts K}
 
   pub frames : HaveFrames trails
   frames = all_there trails (λ trail. All (λ (e : Entry). All FitsFrame (reply_in e.came.outcome)) trail) (λ i trail at.
-      let there = field_of (λ (c : Cell D S K g s k). c.node.entries.items) bench.cells.items i trail at in
+      let there = field_of (λ (c : CellValue D). c.node.trail) bench.cells i trail at in
       subst (λ (es : List Entry). All (λ (e : Entry). All FitsFrame (reply_in e.came.outcome)) es) there.2
-      (All-weaker (λ (e : Entry). IsSized t.catalog.sites e.came) (λ (e : Entry). All FitsFrame (reply_in e.came.outcome))
-      (λ e sized. outcome_frames e.came.outcome sized.outcome) there.0.node.entries.items
-      (is.cells i there.0 there.1).cell_is.node.sized))
+      (All-weaker (λ (e : Entry). IsSized there.0.node.catalog.sites e.came) (λ (e : Entry). All FitsFrame (reply_in e.came.outcome))
+      (λ e sized. outcome_frames e.came.outcome sized.outcome) there.0.node.trail (sound i there.0 there.1).0.sized))
 
   pub spellings : HaveSpellings trails
   spellings = all_there trails (λ trail. All HasSpellings trail) (λ i trail at.
-      let there = field_of (λ (c : Cell D S K g s k). c.node.entries.items) bench.cells.items i trail at in
+      let there = field_of (λ (c : CellValue D). c.node.trail) bench.cells i trail at in
       subst (λ (es : List Entry). All HasSpellings es) there.2
-      (All-weaker (λ (e : Entry). IsSized t.catalog.sites e.came) HasSpellings
-      (λ e sized. record { kept = sized.kept; wrote = sized.wrote; flight = sized.flight }) there.0.node.entries.items
-      (is.cells i there.0 there.1).cell_is.node.sized))
+      (All-weaker (λ (e : Entry). IsSized there.0.node.catalog.sites e.came) HasSpellings
+      (λ e sized. record { kept = sized.kept; wrote = sized.wrote; flight = sized.flight }) there.0.node.trail
+      (sound i there.0 there.1).0.sized))

@@ -1,7 +1,6 @@
 -- What the parts of a call of the program come to.
 use Rattle.std.specs.Prelude.{◌≡◌, ◌<◌, ◌⊎◌, ℕ, Bool, List, [], Option, Some, None, IsSome, IfSome, length, slice_get}
-use Rattle.walter_cluster.specs.declared.bench.Bench.{Bench}
-use Rattle.walter_cluster.specs.Benches.{IsBench, IsKnownAt, AreAllConnected, AreMet, arms_at}
+use Rattle.walter_cluster.specs.Benches.{BenchValue, IsOf, IsToldAt, AreAllConnected, AreMet, arms_at}
 use Rattle.walter_cluster.specs.Moments.{IsFirst, moment_of}
 use Rattle.walter_disk.specs.declared.disk.Disk.{Ghosts}
 use Rattle.walter_engine.specs.Begins.{HasNoRecord}
@@ -10,8 +9,6 @@ use Rattle.walter_engine.specs.declared.answers.Unbegun.TheVariants as unbegun
 use Rattle.walter_rules.specs.declared.entry.Entry.{Entry}
 use Rattle.walter_scenario.specs.declared.scenario.Scenario.{Scenario}
 use Rattle.walter_scenario.specs.Scenarios.{IsReading}
-use Rattle.walter_stream.specs.declared.sink.Sink.{Ghosts as SinkGhosts}
-use Rattle.walter_stream.specs.declared.source.Source.{Ghosts as SourceGhosts}
 use Rattle.walter_stream.specs.Streams.{Appends, AppendsFront}
 use Rattle.walter_cli.specs.declared.ended.Fault.{Fault}
 use Rattle.walter_cli.specs.declared.ended.Fault.TheVariants.{Usage, Scenario as ScenarioFault, Read, Write, Memory, Rack, Journal}
@@ -43,19 +40,18 @@ fault_of site unbegun.Used = Journal site Used 8
 fault_of site unbegun.NoMemory = Memory
 
 -- the sites were built over the disks that were taken from the rack
-pub record IsBuilt {D S K : Type 0} {g : Ghosts D} {s : SourceGhosts S} {k : SinkGhosts K}
-    (before after : RackAt D) (t : Scenario) (bench : Bench D S K g s k) : Type 0 where
+pub record IsBuilt {D : Type 0} (g : Ghosts D) (before after : RackAt D) (t : Scenario) (bench : BenchValue D) : Type 0 where
   pub disks : List D
   pub many : length disks ≡ t.catalog.sites
   pub taken : AreTaken g before after disks
   pub no_records : (i : ℕ) (disk : D) → slice_get disks i ≡ Some disk → IfSome (g.known disk).reads HasNoRecord
-  pub is : IsBench t bench
-  pub known : (i : ℕ) (disk : D) → slice_get disks i ≡ Some disk → IsSome (g.known disk).reads → IsKnownAt t i bench
+  pub of : IsOf t bench
+  pub told : (i : ℕ) (disk : D) → slice_get disks i ≡ Some disk → IsSome (g.known disk).reads → IsToldAt g i bench
   pub connected : AreAllConnected t bench
   pub met : AreMet bench
-  pub first : IsFirst t.catalog.sites (moment_of bench.cells.items)
+  pub first : IsFirst t.catalog.sites (moment_of bench.cells)
   pub arms : (i : ℕ) (disk : D) → slice_get disks i ≡ Some disk
-      → arms_at bench.cells.items i ≡ (g.known disk).arms
+      → arms_at g bench.cells i ≡ (g.known disk).arms
 
 -- why so many sites were not built over the disks of a rack: one could not be taken, or failed, or it has what no site can
 -- begin with; or memory ran out

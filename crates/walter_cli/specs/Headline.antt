@@ -1,9 +1,9 @@
 -- What a run of the program promises, on one page.
 use Rattle.std.specs.Prelude.{◌≡◌, ◌≢◌, ◌<◌, ◌≤◌, ◌↔◌, ◌⊎◌, ℕ, Bool, List, [], ◌∷◌, length, reverse, count_by, ◌++◌, slice_get, Option, Some, IfSome, String, All}
 use Rattle.std.specs.Global.{Global}
-use Rattle.walter_cell.specs.Entries.{HaveRisingStamps}
+use Rattle.walter_base.specs.declared.names.SiteId.{SiteId}
+use Rattle.walter_cell.specs.Entries.{HaveRisingStamps, IfCalled}
 use Rattle.walter_cell.specs.Handled.{is_faulty}
-use Rattle.walter_cluster.specs.Benches.{IsOfSite}
 use Rattle.walter_conn.specs.Sequences.{AreCalls}
 use Rattle.walter_disk.specs.Disks.{DiskState}
 use Rattle.walter_engine.specs.Begins.{HasNoRecord}
@@ -16,6 +16,7 @@ use Rattle.walter_refinement.specs.Named.{AreNamed}
 use Rattle.walter_refinement.specs.Once.{StandsOnce}
 use Rattle.walter_refinement.specs.Spelled.{psi_of}
 use Rattle.walter_rules.specs.declared.entry.Entry.{Entry}
+use Rattle.walter_rules.specs.declared.event.Event.{Event}
 use Rattle.walter_rules.specs.Knowledge.{site_at}
 use Rattle.walter_rules.specs.Merges.{Named, merge, trail_of, AreLinked}
 use Rattle.walter_rules.specs.Trails.{standing}
@@ -75,6 +76,11 @@ pub record HasNoReading (before after : Option (List ℕ)) (place : Place) : Typ
 -- the trail of the site of this number
 abbrev pub trail_at : List (List Entry) → ℕ → List Entry
 trail_at trails i = trail_of trails (site_at i)
+
+-- a call is of a client of this site
+abbrev pub IsOfSite : List Client → SiteId → Event → Type 0
+IsOfSite clients i event =
+    IfCalled (λ number. (client : Client) × (slice_get clients number ≡ Some client) × (client.site ≡ i)) event
 
 -- each call in the trail of a site is of one of its clients, and the calls of each client are the first ones of its
 -- bytes

@@ -78,9 +78,7 @@ fn build_over<R: Rack>(
     requires fewer { scenario.now.catalog.tolerated < scenario.now.catalog.sites }
     requires within { All (λ (client : Client). client.site.0 < scenario.now.catalog.sites) scenario.now.clients }
     requires capacity { IsCapacity scenario.now.capacity }
-    ensures built { IfOk result (IsBuilt
-        (rack_at R.Rack rack.old) (rack_at R.Rack rack.new)
-        scenario.now) }
+    ensures built { IfOk result (IsBuilt R.D.Disk (rack_at R.Rack rack.old) (rack_at R.Rack rack.new) scenario.now) }
     ensures unbuilt { IfErr result (EndsEarly (racked R.D.Disk (rack_at R.Rack rack.old) (rack_at R.Rack rack.new))
         scenario.now.catalog.sites) }
 {

@@ -1,159 +1,221 @@
 -- A bench whose sites have all begun.
-use Rattle.std.proofs.Common.{◌≡◌, ℕ, ◌<◌, ◌≤◌, ◌∷◌, List, [], Some, length, get_or, map, replicate, slice_get, vec_capacity, ap, sym, ◌∙◌, subst, arith}
-use Rattle.std.specs.Prelude.{IsSome, All}
+use Rattle.std.proofs.Common.{◌≡◌, ℕ, ◌<◌, ◌≤◌, ◌∷◌, List, [], Bool, true, false, Option, Some, None, length, get_or, map, replicate, slice_get, vec_capacity, refl, ap, sym, ◌∙◌, subst, arith}
+use Rattle.std.specs.Prelude.{IsSome, All, Vec, option_map}
+use Rattle.std.specs.declared.alloc.Global.{Global}
+use Rattle.std.proofs.lemmas.Bool.{eqb-true, eq-eqb}
 use Rattle.std.proofs.lemmas.List.{get_or-replicate, length-replicate}
-use Rattle.std.proofs.lemmas.List.Elements.{All-push, All-nil}
-use Rattle.std.proofs.lemmas.Option.{slice_get_within}
+use Rattle.std.proofs.lemmas.List.Elements.{All-map, All-same}
+use Rattle.std.proofs.lemmas.Option.{slice_get_within, slice_get-map}
 use Rattle.walter_base.specs.declared.names.SiteId.{SiteId}
 use Rattle.walter_base.specs.Vectors.{most_sites}
-use Rattle.walter_cell.specs.declared.cell.Cell.{Cell}
-use Rattle.walter_cell.specs.Cells.{IsLine}
+use Rattle.walter_cell.specs.Cells.{CellValue}
+use Rattle.walter_cell.specs.Lines.{LineValue, IsLine, is_here, is_there}
 use Rattle.walter_cell.specs.Written.{replies_to, AreWritten}
-use Rattle.walter_conn.specs.Connections.{incoming, sink_of}
-use Rattle.walter_conn.specs.declared.conn.Conn.{Conn}
 use Rattle.walter_disk.specs.declared.disk.Disk.{Ghosts}
 use Rattle.walter_engine.specs.Steps.{opening}
+use Rattle.walter_lane.specs.Lanes.{Sending, Receiving}
 use Rattle.walter_outbox.specs.Lanes.{met_to, arrived_from, ring_to, ring_from}
 use Rattle.walter_rules.specs.declared.entry.Entry.{Entry}
 use Rattle.walter_rules.specs.Knowledge.{site_at}
 use Rattle.walter_scenario.specs.declared.scenario.Client.{Client}
 use Rattle.walter_scenario.specs.declared.scenario.Scenario.{Scenario}
-use Rattle.walter_stream.specs.declared.sink.Sink.{Ghosts as SinkGhosts}
-use Rattle.walter_stream.specs.declared.source.Source.{Ghosts as SourceGhosts}
 use Rattle.walter_trail.specs.Calls.{calls_of}
-use Rattle.walter_cluster.specs.declared.bench.Bench.{Bench}
 use Rattle.walter_cluster.specs.declared.opening.Parts.{Parts}
-use Rattle.walter_cluster.specs.Benches.{outs_at, ins_at, IsOfSite, IsCellOf, IsBench, IsKnownAt, AreAllConnected, AreAllAnswered, AreMet, HasRoom}
+use Rattle.walter_cluster.specs.Benches.{outs_at, ins_at, is_site, is_home, IsCellAt, IsBench, IsOf, IsToldAt, AreAllConnected, AreAllAnswered, AreMet, HasRoom}
 use Rattle.walter_cluster.specs.Builds.{AreUnread, AreUnwritten, HadNoRecords}
 use Rattle.walter_cluster.specs.Lanes.{AreJoined, rows_in, columns_in, row_of, column_of}
 use Rattle.walter_cluster.specs.Moments.{IsFirst, moment_of}
-use Rattle.walter_cluster.specs.Openings.{HasPlaces, HasBegun, ArePrepared, IsBegunBench}
-use Rattle.walter_cluster.specs.Seats.{lists_in, list_of, HavePlaces, AreSeated}
+use Rattle.walter_cluster.specs.Openings.{HasPlaces, HasBegunAt, HaveBegun, ArePrepared}
+use Rattle.walter_cluster.specs.Seats.{lists_in, list_of, HavePlaces, AreSeated, AreAtHome}
 use Rattle.walter_cluster.proofs.Opened.{none_had}
 use Rattle.walter_cluster.proofs.Places.{at_place, all_same}
 
 -- what was made for so many sites and these clients is what a scenario asks for
-pub prepared_for : {D S K : Type 0} {g : Ghosts D} {s : SourceGhosts S} {k : SinkGhosts K} (t : Scenario) (conns : List (Conn S K s k)) (parts : Parts D S K g s k) (sites : ℕ) (clients : List Client) → sites ≡ t.catalog.sites → clients ≡ t.clients
-    → AreJoined sites sites (rows_in parts.rows.items) (columns_in parts.columns.items) → HavePlaces sites (length clients) (lists_in parts.lists.items) → AreSeated (length clients) clients conns (lists_in parts.lists.items)
-    → parts.bench.homes.items ≡ map (λ (client : Client). client.site) clients → HasPlaces sites parts.bench → ArePrepared t conns parts
-prepared_for t conns parts sites clients at who joined places seated homes room =
+pub prepared_for : {D S K : Type 0} (t : Scenario) (conns : List LineValue) (parts : Parts D S K) (sites : ℕ) (clients : List Client) → sites ≡ t.catalog.sites → clients ≡ t.clients
+    → length conns ≡ length t.clients
+    → AreJoined sites sites (rows_in parts.rows.items) (columns_in parts.columns.items) → HavePlaces sites (length clients) (lists_in parts.lists.items)
+    → AreSeated (length clients) clients conns (lists_in parts.lists.items) → AreAtHome clients (lists_in parts.lists.items)
+    → parts.homes.items ≡ map (λ (client : Client). client.site) clients → HasPlaces sites parts.room → ArePrepared t conns parts
+prepared_for t conns parts sites clients at who long joined places seated alone homes room =
     let Joined : ℕ → Type 0 = λ n. AreJoined n n (rows_in parts.rows.items) (columns_in parts.columns.items) in
     let Places : ℕ → Type 0 = λ n. HavePlaces n (length t.clients) (lists_in parts.lists.items) in
     let PlacesOf : List Client → Type 0 = λ cs. HavePlaces sites (length cs) (lists_in parts.lists.items) in
     let Seated : List Client → Type 0 = λ cs. AreSeated (length cs) cs conns (lists_in parts.lists.items) in
-    let Room : ℕ → Type 0 = λ n. HasPlaces n parts.bench in
+    let Alone : List Client → Type 0 = λ cs. AreAtHome cs (lists_in parts.lists.items) in
+    let Room : ℕ → Type 0 = λ n. HasPlaces n parts.room in
     record {
-      ready = record {
-        joined = subst Joined at joined;
-        places = subst Places at (subst PlacesOf who places);
-        room = subst Room at room;
-      };
+      conns_long = long;
+      joined = subst Joined at joined;
+      places = subst Places at (subst PlacesOf who places);
       seated = subst Seated who seated;
+      alone = subst Alone who alone;
       homes = homes ∙ ap (map (λ (client : Client). client.site)) who;
+      room = subst Room at room;
     }
 
-module _ {D S K : Type 0} {g : Ghosts D} {s : SourceGhosts S} {k : SinkGhosts K} (t : Scenario) (disks : List D) (conns : List (Conn S K s k)) (parts : Parts D S K g s k) (bench : Bench D S K g s k)
-    (prepared : ArePrepared t conns parts) (h : IsBegunBench t disks parts bench) (disks_long : length disks ≡ t.catalog.sites) (conns_long : length conns ≡ length t.clients) where
-  begun_at : (i : ℕ) (cell : Cell D S K g s k) → slice_get bench.cells.items i ≡ Some cell
-      → (disk : D) × (slice_get disks i ≡ Some disk) × HasBegun t i disk (row_of (rows_in parts.rows.items) i) (column_of (columns_in parts.columns.items) i) (list_of (lists_in parts.lists.items) i) cell
-  begun_at i cell at =
-      let lt = slice_get_within bench.cells.items i cell at in
-      let there = at_place disks i (omega (arith, lt, disks_long, h.begun.long)) in
-      (there.0, there.1, h.begun.each i there.0 cell there.1 at)
+-- ---- whose connection is where
 
-  within_at : (i : ℕ) (cell : Cell D S K g s k) → slice_get bench.cells.items i ≡ Some cell → i < t.catalog.sites
-  within_at i cell at = let lt = slice_get_within bench.cells.items i cell at in omega (arith, lt, h.begun.long)
+-- a connection is here just where b is so
+there_is_so : (found : Option (Option LineValue)) (b : Bool) → ((line : LineValue) → found ≡ Some (Some line) → b ≡ true)
+    → (b ≡ true → (line : LineValue) × (found ≡ Some (Some line))) → is_there found ≡ b
+there_is_so None false to from = refl
+there_is_so None true to from =
+    let one = from refl in
+    let e : None ≡ Some (Some one.0) = one.1 in
+    absurd cc
+there_is_so (Some None) false to from = refl
+there_is_so (Some None) true to from =
+    let one = from refl in
+    let e : Some None ≡ Some (Some one.0) = one.1 in
+    absurd cc
+there_is_so (Some (Some line)) b to from = sym (to line refl)
 
-  outs_are : map (λ (c : Cell D S K g s k). c.node.outs.items) bench.cells.items ≡ rows_in parts.rows.items
-  outs_are = all_same (λ (c : Cell D S K g s k). c.node.outs.items) bench.cells.items (rows_in parts.rows.items) [] (h.begun.long ∙ sym prepared.ready.joined.rows_long) (λ i cell lt at. (begun_at i cell at).2.outs)
+home_of : (found : Option Client) (i : SiteId) → is_site (option_map (λ (client : Client). client.site) found) i ≡ true
+    → (client : Client) × (found ≡ Some client) × (client.site.0 ≡ i.0)
+home_of None i is = absurd cc
+home_of (Some client) i is = (client, refl, eqb-true client.site.0 i.0 is)
 
-  ins_are : map (λ (c : Cell D S K g s k). c.ins.items) bench.cells.items ≡ columns_in parts.columns.items
-  ins_are = all_same (λ (c : Cell D S K g s k). c.ins.items) bench.cells.items (columns_in parts.columns.items) [] (h.begun.long ∙ sym prepared.ready.joined.columns_long) (λ i cell lt at. (begun_at i cell at).2.ins)
-
-  outs_is : (i : ℕ) → outs_at bench.cells.items i ≡ row_of (rows_in parts.rows.items) i
-  outs_is i = ap (λ rows. get_or rows i []) outs_are
-
-  ins_is : (i : ℕ) → ins_at bench.cells.items i ≡ column_of (columns_in parts.columns.items) i
-  ins_is i = ap (λ columns. get_or columns i []) ins_are
-
-  -- the connection of a client, in the cell of its site
-  line_at : (i : ℕ) (cell : Cell D S K g s k) → slice_get bench.cells.items i ≡ Some cell → (number : ℕ) (client : Client) → slice_get t.clients number ≡ Some client → client.site ≡ site_at i
-      → (line : Conn S K s k) × (slice_get conns number ≡ Some line) × (slice_get cell.lines.items number ≡ Some (Some line))
-  line_at i cell at number client there home =
+module _ (t : Scenario) (conns : List LineValue) (lists : List (List (Option LineValue))) (conns_long : length conns ≡ length t.clients)
+    (seated : AreSeated (length t.clients) t.clients conns lists) where
+  -- the connection of a client, in the list of its site
+  pub line_of_client : (number : ℕ) (client : Client) → slice_get t.clients number ≡ Some client
+      → (line : LineValue) × (slice_get conns number ≡ Some line) × (slice_get (list_of lists client.site.0) number ≡ Some (Some line))
+  line_of_client number client there =
       let lt = slice_get_within t.clients number client there in
-      let conn = at_place conns number (omega (arith, lt, conns_long)) in (
-        conn.0,
-        conn.1,
-        ap (λ list. slice_get list number) ((begun_at i cell at).2.lines ∙ ap (list_of (lists_in parts.lists.items)) (sym (ap (λ (site : SiteId). site.0) home)))
-            ∙ prepared.seated number client conn.0 lt there conn.1,
-      )
+      let conn = at_place conns number (omega (arith, lt, conns_long)) in
+      (conn.0, conn.1, seated number client conn.0 lt there conn.1)
 
-  opening_of_site : (i : SiteId) → All (λ (e : Entry). IsOfSite t.clients i e.event) (opening ∷ [])
-  opening_of_site i = All-push (λ (e : Entry). IsOfSite t.clients i e.event) [] opening (All-nil (λ (e : Entry). IsOfSite t.clients i e.event)) tt
+  module _ (homes : List SiteId) (alone : AreAtHome t.clients lists) (homes_are : homes ≡ map (λ (client : Client). client.site) t.clients) where
+    home_at : (number : ℕ) → slice_get homes number ≡ option_map (λ (client : Client). client.site) (slice_get t.clients number)
+    home_at number = ap (λ (hs : List SiteId). slice_get hs number) homes_are ∙ slice_get-map (λ (client : Client). client.site) t.clients number
 
-  cell_of : (i : ℕ) (cell : Cell D S K g s k) → slice_get bench.cells.items i ≡ Some cell → IsCellOf t (site_at i) cell
-  cell_of i cell at =
-      let begun = (begun_at i cell at).2 in
-      let long = prepared.ready.places.list_long i (within_at i cell at) in
-      let Whose : List Entry → Type 0 = λ es. All (λ (e : Entry). IsOfSite t.clients (site_at i) e.event) es in
-      record {
-        cell_is = begun.cell_is;
-        lines = ap length begun.lines ∙ long;
-        debts = begun.debts ∙ long;
-        there = λ number client there home. let line = line_at i cell at number client there home in (line.0, line.2, tt);
-        whose_calls = subst Whose (sym begun.opens) (opening_of_site (site_at i));
-      }
+    -- in the list of a site are the connections of just the clients that are at home there
+    pub here_is_home : (i number : ℕ) → is_here (list_of lists i) number ≡ is_home homes number (site_at i)
+    here_is_home i number =
+        there_is_so (slice_get (list_of lists i) number) (is_home homes number (site_at i))
+        (λ line at.
+        let one = alone i number line at in
+        ap (λ (o : Option SiteId). is_site o (site_at i)) (home_at number ∙ ap (option_map (λ (client : Client). client.site)) one.1)
+        ∙ eq-eqb one.0.site.0 i one.2)
+        (λ home.
+        let one = home_of (slice_get t.clients number) (site_at i) (sym (ap (λ (o : Option SiteId). is_site o (site_at i)) (home_at number)) ∙ home) in
+        let line = line_of_client number one.0 one.1 in
+        (line.0, ap (λ (j : ℕ). slice_get (list_of lists j) number) (sym one.2) ∙ line.2))
 
-  room_of : HasRoom bench
-  room_of =
-      let room = prepared.ready.room in
-      record {
-        no_trails = ap (λ v. v.items) h.trails ∙ room.no_trails;
-        no_disks = ap (λ v. v.items) h.disks_are ∙ room.no_disks;
-        no_conns = ap (λ v. v.items) h.conns ∙ room.no_conns;
-        for_trails = omega (arith, h.begun.long, ap (λ v. vec_capacity v) h.trails, room.for_trails);
-        for_disks = omega (arith, h.begun.long, ap (λ v. vec_capacity v) h.disks_are, room.for_disks);
-        for_conns = omega (arith, h.begun.long, ap (λ v. vec_capacity v) h.conns, room.for_conns);
-      }
+-- ---- the cells
 
-  pub bench_built : t.catalog.sites ≤ most_sites → All (λ (client : Client). client.site.0 < t.catalog.sites) t.clients → IsBench t bench
-  bench_built few within = record {
-    sites = h.begun.long;
-    few = few;
-    cells = cell_of;
-    lanes = λ to from in_to in_from. ap (λ row. ring_to row to) (outs_is from) ∙ prepared.ready.joined.joined from to in_from in_to ∙ sym (ap (λ column. ring_from column from) (ins_is to));
-    homes = ap (λ v. v.items) h.homes ∙ prepared.homes;
-    within = within;
-    room = room_of;
+module _ {D : Type 0} (g : Ghosts D) (t : Scenario) (disks : List D) (rows : List (List Sending)) (columns : List (List Receiving)) (lists : List (List (Option LineValue)))
+    (cells : List (CellValue D)) (begun : HaveBegun g t disks rows columns lists t.catalog.sites cells) (disks_long : length disks ≡ t.catalog.sites) where
+  begun_at : (i : ℕ) (c : CellValue D) → slice_get cells i ≡ Some c
+      → (disk : D) × (slice_get disks i ≡ Some disk) × HasBegunAt g t i disk (row_of rows i) (column_of columns i) (list_of lists i) c
+  begun_at i c at =
+      let lt = slice_get_within cells i c at in
+      let there = at_place disks i (omega (arith, lt, disks_long, begun.long)) in
+      (there.0, there.1, begun.each i there.0 c there.1 at)
+
+  within_at : (i : ℕ) (c : CellValue D) → slice_get cells i ≡ Some c → i < t.catalog.sites
+  within_at i c at = let lt = slice_get_within cells i c at in omega (arith, lt, begun.long)
+
+  -- the bench is the scenario's
+  pub of_built : (homes : List SiteId) → homes ≡ map (λ (client : Client). client.site) t.clients → IsOf t (record { cells = cells; homes = homes })
+  of_built homes homes_are = record {
+    sites = begun.long;
+    catalogs = λ i c at. (begun_at i c at).2.begun.node.catalog_is;
+    capacities = λ i c at. (begun_at i c at).2.begun.node.capacity_is;
+    homes = homes_are;
   }
 
-  pub known_built : (i : ℕ) (disk : D) → slice_get disks i ≡ Some disk → IsSome (g.known disk).reads → IsKnownAt t i bench
-  known_built i disk at told cell here = (h.begun.each i disk cell at here).known told
-
-  pub connected_built : AreUnread t.clients conns → AreAllConnected t bench
-  connected_built unread i cell at number client there home =
-      let line = line_at i cell at number client there home in
-      let Read : List Entry → Type 0 = λ es. IsLine client.bytes (calls_of number es) line.0 in
-      (line.0, line.2, subst Read (sym (begun_at i cell at).2.opens) (unread number client line.0 there line.1))
-
-  pub answered_built : (before : ℕ → List ℕ) → AreUnwritten before conns → AreAllAnswered t before bench
-  answered_built before unwritten i cell at number client there home =
-      let line = line_at i cell at number client there home in
-      let Answered : List Entry → Type 0 = λ es. AreWritten k (before number) (replies_to number es) (incoming line.0).state (sink_of line.0) in
-      (line.0, line.2, subst Answered (sym (begun_at i cell at).2.opens) (unwritten number line.0 line.1))
-
-  none_came : (to from : ℕ) → arrived_from (ins_at bench.cells.items to) from ≡ []
-  none_came to from = ap (λ column. arrived_from column from) (ins_is to) ∙ prepared.ready.joined.none_arrived to from
-
-  pub met_built : AreMet bench
-  met_built to from = ap (λ row. met_to row to) (outs_is from) ∙ prepared.ready.joined.none_met from to ∙ sym (ap length (none_came to from))
-
-  pub first_built : IsFirst t.catalog.sites (moment_of bench.cells.items)
-  first_built = record {
-    openings = all_same (λ (c : Cell D S K g s k). c.node.entries.items) bench.cells.items (replicate t.catalog.sites (opening ∷ [])) [] (h.begun.long ∙ sym (length-replicate t.catalog.sites (opening ∷ [])))
-        (λ i cell lt at. (begun_at i cell at).2.opens ∙ sym (get_or-replicate t.catalog.sites i (opening ∷ []) [] (within_at i cell at)));
-    none_arrived = λ to from. ap length (none_came to from);
-  }
+  pub told_built : (homes : List SiteId) (i : ℕ) (disk : D) → slice_get disks i ≡ Some disk → IsSome (g.known disk).reads → IsToldAt g i (record { cells = cells; homes = homes })
+  told_built homes i disk at told c here = (begun.each i disk c at here).begun.node.told ∙ told
 
   pub none_had_built : HadNoRecords g disks
-  none_had_built = none_had t disks (rows_in parts.rows.items) (columns_in parts.columns.items) (lists_in parts.lists.items) t.catalog.sites bench.cells.items h.begun (sym disks_long)
+  none_had_built = none_had g t disks rows columns lists t.catalog.sites cells begun (sym disks_long)
+
+  -- ---- their lanes
+
+  module _ (joined : AreJoined t.catalog.sites t.catalog.sites rows columns) where
+    outs_are : map (λ (c : CellValue D). c.node.outs) cells ≡ rows
+    outs_are = all_same (λ (c : CellValue D). c.node.outs) cells rows [] (begun.long ∙ sym joined.rows_long) (λ i c lt at. (begun_at i c at).2.begun.node.outs_are)
+
+    ins_are : map (λ (c : CellValue D). c.ins) cells ≡ columns
+    ins_are = all_same (λ (c : CellValue D). c.ins) cells columns [] (begun.long ∙ sym joined.columns_long) (λ i c lt at. (begun_at i c at).2.begun.ins_are)
+
+    outs_is : (i : ℕ) → outs_at cells i ≡ row_of rows i
+    outs_is i = ap (λ (rs : List (List Sending)). get_or rs i []) outs_are
+
+    ins_is : (i : ℕ) → ins_at cells i ≡ column_of columns i
+    ins_is i = ap (λ (cs : List (List Receiving)). get_or cs i []) ins_are
+
+    none_came : (to from : ℕ) → arrived_from (ins_at cells to) from ≡ []
+    none_came to from = ap (λ (column : List Receiving). arrived_from column from) (ins_is to) ∙ joined.none_arrived to from
+
+    pub met_built : (homes : List SiteId) → AreMet (record { cells = cells; homes = homes })
+    met_built homes to from = ap (λ (row : List Sending). met_to row to) (outs_is from) ∙ joined.none_met from to ∙ sym (ap length (none_came to from))
+
+    pub first_built : IsFirst t.catalog.sites (moment_of cells)
+    first_built = record {
+      openings = all_same (λ (c : CellValue D). c.node.trail) cells (replicate t.catalog.sites (opening ∷ [])) [] (begun.long ∙ sym (length-replicate t.catalog.sites (opening ∷ [])))
+          (λ i c lt at. (begun_at i c at).2.begun.node.trail ∙ sym (get_or-replicate t.catalog.sites i (opening ∷ []) [] (within_at i c at)));
+      none_arrived = λ to from. ap length (none_came to from);
+    }
+
+    lanes_built : (to from : ℕ) → to < length cells → from < length cells → ring_to (outs_at cells from) to ≡ ring_from (ins_at cells to) from
+    lanes_built to from in_to in_from =
+        ap (λ (row : List Sending). ring_to row to) (outs_is from)
+        ∙ joined.joined from to (omega (arith, in_from, begun.long)) (omega (arith, in_to, begun.long))
+        ∙ sym (ap (λ (column : List Receiving). ring_from column from) (ins_is to))
+
+    -- ---- the bench
+
+    module _ (homes : List SiteId) (conns : List LineValue) (conns_long : length conns ≡ length t.clients) (seated : AreSeated (length t.clients) t.clients conns lists)
+        (alone : AreAtHome t.clients lists) (homes_are : homes ≡ map (λ (client : Client). client.site) t.clients) where
+      cell_at : (i : ℕ) (c : CellValue D) → slice_get cells i ≡ Some c → IsCellAt (length cells) homes (site_at i) c
+      cell_at i c at =
+          let one = (begun_at i c at).2.begun in
+          let lt = within_at i c at in
+          record {
+            site = one.node.site;
+            sites_are = ap (λ k. k.sites) one.node.catalog_is ∙ sym begun.long;
+            outs = ap length one.node.outs_are ∙ (joined.row_long i lt ∙ sym begun.long);
+            ins = ap length one.ins_are ∙ (joined.column_long i lt ∙ sym begun.long);
+            here = λ client. ap (λ (ls : List (Option LineValue)). is_here ls client) one.lines_are ∙ here_is_home t conns lists conns_long seated homes alone homes_are i client;
+          }
+
+      pub bench_built : t.catalog.sites ≤ most_sites → All (λ (client : Client). client.site.0 < t.catalog.sites) t.clients → IsBench (record { cells = cells; homes = homes })
+      bench_built few within = record {
+        few = omega (arith, few, begun.long);
+        cells = cell_at;
+        lanes = lanes_built;
+        within = subst (λ (n : ℕ). All (λ (home : SiteId). home.0 < n) homes) (sym begun.long)
+            (All-same (λ (home : SiteId). home.0 < t.catalog.sites) homes (map (λ (client : Client). client.site) t.clients) homes_are
+            (All-map (λ (home : SiteId). home.0 < t.catalog.sites) (λ (client : Client). client.site) t.clients within));
+      }
+
+  pub room_built : {X : Type 0} (list : Vec X Global) → list.items ≡ [] → t.catalog.sites ≤ vec_capacity list → HasRoom (length cells) list
+  room_built list none room = record { none = none; room = omega (arith, begun.long, room) }
+
+  -- ---- their connections
+
+  module _ (conns : List LineValue) (conns_long : length conns ≡ length t.clients) (seated : AreSeated (length t.clients) t.clients conns lists) where
+    -- the connection of a client, in the cell of its site
+    line_at : (i : ℕ) (c : CellValue D) → slice_get cells i ≡ Some c → (number : ℕ) (client : Client) → slice_get t.clients number ≡ Some client → client.site ≡ site_at i
+        → (line : LineValue) × (slice_get conns number ≡ Some line) × (slice_get c.lines number ≡ Some (Some line))
+    line_at i c at number client there home =
+        let line = line_of_client t conns lists conns_long seated number client there in (
+          line.0,
+          line.1,
+          ap (λ (list : List (Option LineValue)). slice_get list number) ((begun_at i c at).2.begun.lines_are ∙ ap (list_of lists) (sym (ap (λ (site : SiteId). site.0) home)))
+              ∙ line.2,
+        )
+
+    pub connected_built : (homes : List SiteId) → AreUnread t.clients conns → AreAllConnected t (record { cells = cells; homes = homes })
+    connected_built homes unread i c at number client there home =
+        let line = line_at i c at number client there home in
+        let Read : List Entry → Type 0 = λ es. IsLine client.bytes (calls_of number es) line.0 in
+        (line.0, line.2, subst Read (sym (begun_at i c at).2.begun.node.trail) (unread number client line.0 there line.1))
+
+    pub answered_built : (homes : List SiteId) (before : ℕ → List ℕ) → AreUnwritten before conns → AreAllAnswered t before (record { cells = cells; homes = homes })
+    answered_built homes before unwritten i c at number client there home =
+        let line = line_at i c at number client there home in
+        let Answered : List Entry → Type 0 = λ es. AreWritten (before number) (replies_to number es) line.0.incoming.state line.0.sent in
+        (line.0, line.2, subst Answered (sym (begun_at i c at).2.begun.node.trail) (unwritten number line.0 line.1))

@@ -132,6 +132,22 @@ module _ {X : Type 0} (old new : List X) (i j : ℕ) (a b x y : X) (two : Change
   pub rest_same : (k : ℕ) → k ≢ i → k ≢ j → slice_get new k ≡ slice_get old k
   rest_same k not_i not_j = two.second.others k not_j ∙ two.first.others k not_i
 
+-- where the two are as before, all is
+pub two_same : {X : Type 0} (old new : List X) (i j : ℕ) (a b x y : X) → ChangesTwo old new i j a b x y → x ≡ a → y ≡ b → new ≡ old
+two_same old new i j a b x y two first second = same_places new old (λ k. elim (cases_eq k i) [
+  | inl here ↦
+      ap (slice_get new) here
+      ∙ (first_now old new i j a b x y two
+      ∙ (ap (λ z. Some z) first ∙ (sym two.first.was ∙ ap (slice_get old) (sym here))))
+  | inr not_i ↦ elim (cases_eq k j) [
+    | inl here ↦
+        ap (slice_get new) here
+        ∙ (two.second.now
+        ∙ (ap (λ z. Some z) second ∙ (sym (second_was old new i j a b x y two) ∙ ap (slice_get old) (sym here))))
+    | inr not_j ↦ rest_same old new i j a b x y two k not_i not_j
+  ]
+])
+
 -- ---- two writes to the halves of a list
 
 module _ {X : Type 0} (low high : List X) (i j : ℕ) (a b x y : X) (before : i < length low) (len : length low ≡ j)

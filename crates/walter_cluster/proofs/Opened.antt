@@ -1,31 +1,25 @@
 -- Sites that begin one after another, each with what is first of what is left.
-use Rattle.std.proofs.Common.{◌≡◌, ℕ, suc, ◌<◌, ◌≤◌, ◌+◌, ◌-◌, ◌++◌, ◌∷◌, ◌⊎◌, List, [], Option, Some, None, Err, length, drop, map, slice_get, refl, ap, sym, ◌∙◌, subst, inl, inr, arith, length-append}
-use Rattle.std.specs.Prelude.{IsSome, IfSome, option_map, is_some, true}
+use Rattle.std.proofs.Common.{◌≡◌, ℕ, suc, ◌<◌, ◌≤◌, ◌+◌, ◌-◌, ◌++◌, ◌∷◌, ◌⊎◌, List, [], Option, Some, None, Ok, Err, length, drop, map, slice_get, refl, ap, sym, ◌∙◌, subst, inl, inr, arith, length-append}
+use Rattle.std.specs.Prelude.{IfSome, option_map, is_some, true}
 use Rattle.std.proofs.lemmas.Bool.{cases_lt, cases_eq}
 use Rattle.std.proofs.lemmas.List.{length-map, length-drop}
 use Rattle.std.proofs.lemmas.Option.{same_Some, slice_get-map, slice_get_within}
-use Rattle.walter_cell.specs.declared.cell.Cell.{Cell}
-use Rattle.walter_cell.specs.Cells.{IsCell, IsKnown}
-use Rattle.walter_conn.specs.declared.conn.Conn.{Conn}
+use Rattle.walter_cell.specs.Builds.{Begins}
+use Rattle.walter_cell.specs.Cells.{CellValue, HasBegun}
+use Rattle.walter_cell.specs.Lines.{LineValue}
 use Rattle.walter_disk.specs.declared.disk.Disk.{Ghosts}
 use Rattle.walter_engine.specs.Begins.{HasOnly, HasNoRecord, MayHaveBegun, IsBegun, IsFaultOfBegin}
-use Rattle.walter_engine.specs.Engines.{disk_in, OfDisk}
-use Rattle.walter_engine.specs.States.{disk_under}
-use Rattle.walter_engine.specs.Steps.{opening}
-use Rattle.walter_engine.specs.declared.engine.Engine.{Engine}
-use Rattle.walter_engine.specs.declared.engine.State.{State}
 use Rattle.walter_engine.specs.declared.answers.Unbegun.{Unbegun}
 use Rattle.walter_engine.specs.declared.answers.Unbegun.TheVariants.{Failed, Foreign, Damaged, Used, NoMemory}
 use Rattle.walter_lane.specs.Lanes.{Sending, Receiving}
 use Rattle.walter_psi.proofs.Lists.{slice_get-push_cases, slice_get-append_left}
 use Rattle.walter_rules.specs.Knowledge.{site_at}
 use Rattle.walter_scenario.specs.declared.scenario.Scenario.{Scenario}
-use Rattle.walter_stream.specs.declared.sink.Sink.{Ghosts as SinkGhosts}
-use Rattle.walter_stream.specs.declared.source.Source.{Ghosts as SourceGhosts}
 use Rattle.walter_cluster.specs.declared.opening.Unbuilt.{Unbuilt}
+use Rattle.walter_cluster.specs.Benches.{disks_of}
 use Rattle.walter_cluster.specs.Builds.{LeavesDisk, LeavesDisks, HadNoRecords, IsWhyNone}
 use Rattle.walter_cluster.specs.Lanes.{row_of, column_of}
-use Rattle.walter_cluster.specs.Openings.{HasBegun, HaveBegun, disks_of}
+use Rattle.walter_cluster.specs.Openings.{HasBegunAt, HaveBegun}
 use Rattle.walter_cluster.specs.Seats.{list_of}
 use Rattle.walter_cluster.proofs.Places.{at_place, slice_get_behind, slice_get-drop}
 
@@ -47,81 +41,66 @@ module _ {D : Type 0} (g : Ghosts D) where
   faults_grow Used old new h = omega (arith, h)
   faults_grow NoMemory old new h = omega (arith, h)
 
--- an engine has a disk
-module _ {D : Type 0} {g : Ghosts D} where
-  under_state : (state : Option (State D g)) → is_some state ≡ true → (now : D) × (disk_under state ≡ Some now)
-  under_state None there = absurd cc
-  under_state (Some state) there = (_, refl)
+-- a disk that is there
+module _ {D : Type 0} where
+  one_is : (found : Option D) → is_some found ≡ true → (now : D) × (found ≡ Some now)
+  one_is None there = absurd cc
+  one_is (Some now) there = (now, refl)
 
-  pub disk_there : (engine : Engine D g) → (now : D) × (disk_in engine ≡ Some now)
-  disk_there engine = under_state engine.state engine.there
-
-  pub of_disk : (engine : Engine D g) (now : D) (P : D → Type 0) → disk_in engine ≡ Some now → OfDisk engine P → P now
-  of_disk engine now P is holds = let Q : Option D → Type 0 = λ o. IfSome o P in subst Q is holds
+  of_one : (found : Option D) (now : D) (P : D → Type 0) → found ≡ Some now → IfSome found P → P now
+  of_one found now P is holds = subst (λ (o : Option D). IfSome o P) is holds
 
 -- ---- cells
 
-module _ {D S K : Type 0} {g : Ghosts D} {s : SourceGhosts S} {k : SinkGhosts K} (t : Scenario) where
+module _ {D : Type 0} (g : Ghosts D) (t : Scenario) where
   -- a cell that began
-  pub cell_begins : (i : ℕ) (disk : D) (row : List Sending) (column : List Receiving) (list : List (Option (Conn S K s k))) (cell : Cell D S K g s k)
-      → IsCell t.catalog t.capacity (site_at i) cell
-      → (IsSome (g.known disk).reads → IsKnown t.catalog t.capacity (site_at i) cell)
-      → cell.node.entries.items ≡ opening ∷ []
-      → cell.node.outs.items ≡ row → cell.ins.items ≡ column → cell.lines.items ≡ list
-      → length cell.node.debts.items ≡ length list
-      → ((bytes : List ℕ) → HasOnly g bytes disk → HasNoRecord bytes)
-      → ((bytes : List ℕ) → HasOnly g bytes disk → OfDisk cell.node.engine (λ now. (image : List ℕ) → g.may_leave now image → MayHaveBegun bytes image))
-      → OfDisk cell.node.engine (λ now. (g.known now).faults ≡ (g.known disk).faults)
-      → OfDisk cell.node.engine (λ now. (g.known now).arms ≡ (g.known disk).arms)
-      → HasBegun t i disk row column list cell
-  cell_begins i disk row column list cell is known opens outs ins lines debts had_none images faults arms =
-      let there = disk_there cell.node.engine in
-      let same = of_disk cell.node.engine there.0 (λ now. (g.known now).faults ≡ (g.known disk).faults) there.1 faults in
+  pub cell_begins : (i : ℕ) (disk : D) (row : List Sending) (column : List Receiving) (list : List (Option LineValue)) (c : CellValue D)
+      → HasBegun g t.catalog t.capacity (site_at i) disk row column list c
+      → Begins g {N = CellValue D} (λ (x : CellValue D). x.node.disk) disk (Ok c)
+      → HasBegunAt g t i disk row column list c
+  cell_begins i disk row column list c begun begins =
+      let there = one_is c.node.disk begun.node.there in
+      let same : (g.known there.0).faults ≡ (g.known disk).faults = of_one c.node.disk there.0 (λ (now : D). (g.known now).faults ≡ (g.known disk).faults) there.1 begins.faults in
       record {
-        cell_is = is;
-        known = known;
-        opens = opens;
-        outs = outs;
-        ins = ins;
-        lines = lines;
-        debts = debts;
-        had_none = had_none;
+        begun = begun;
+        had_none = λ bytes has. begins.begins bytes has;
         now = there.0;
         now_is = there.1;
         leaves = record {
-          images = λ bytes has. of_disk cell.node.engine there.0 (λ now. (image : List ℕ) → g.may_leave now image → MayHaveBegun bytes image) there.1 (images bytes has);
+          images = λ bytes has. of_one c.node.disk there.0 (λ (now : D). (image : List ℕ) → g.may_leave now image → MayHaveBegun bytes image) there.1 (begins.leaves bytes has);
           faults = omega (arith, same);
-          arms = of_disk cell.node.engine there.0 (λ now. (g.known now).arms ≡ (g.known disk).arms) there.1 arms;
+          arms = of_one c.node.disk there.0 (λ (now : D). (g.known now).arms ≡ (g.known disk).arms) there.1 begins.arms;
         };
         faultless = same;
       }
 
-  module _ (disks : List D) (rows : List (List Sending)) (columns : List (List Receiving)) (lists : List (List (Option (Conn S K s k)))) where
-    pub begun_none : (cells : List (Cell D S K g s k)) → cells ≡ [] → HaveBegun t disks rows columns lists 0 cells
+  module _ (disks : List D) (rows : List (List Sending)) (columns : List (List Receiving)) (lists : List (List (Option LineValue))) where
+    pub begun_none : (cells : List (CellValue D)) → cells ≡ [] → HaveBegun g t disks rows columns lists 0 cells
     begun_none cells none = record {
       long = ap length none;
-      each = λ i disk cell at here. absurd (cc (sym here ∙ ap (λ cs. slice_get cs i) none));
+      each = λ i disk c at here. absurd (cc (sym here ∙ ap (λ (cs : List (CellValue D)). slice_get cs i) none));
     }
 
-    pub begun_more : (n : ℕ) (cells : List (Cell D S K g s k)) (disk : D) (cell : Cell D S K g s k) → HaveBegun t disks rows columns lists n cells
-        → slice_get disks n ≡ Some disk → HasBegun t n disk (row_of rows n) (column_of columns n) (list_of lists n) cell → HaveBegun t disks rows columns lists (n + 1) (cells ++ cell ∷ [])
-    begun_more n cells disk cell h at one = record {
-      long = length-append cells (cell ∷ []) ∙ omega (arith, h.long);
-      each = λ i d c there here. step i d c there (slice_get-push_cases cells cell c i here);
+    pub begun_more : (n : ℕ) (cells : List (CellValue D)) (disk : D) (c : CellValue D) → HaveBegun g t disks rows columns lists n cells
+        → slice_get disks n ≡ Some disk → HasBegunAt g t n disk (row_of rows n) (column_of columns n) (list_of lists n) c
+        → HaveBegun g t disks rows columns lists (n + 1) (cells ++ c ∷ [])
+    begun_more n cells disk c h at one = record {
+      long = length-append cells (c ∷ []) ∙ omega (arith, h.long);
+      each = λ i d x there here. step i d x there (slice_get-push_cases cells c x i here);
     }
       where
-        step : (i : ℕ) (d : D) (c : Cell D S K g s k) → slice_get disks i ≡ Some d → ((i < length cells) × (slice_get cells i ≡ Some c)) ⊎ ((i ≡ length cells) × (cell ≡ c))
-            → HasBegun t i d (row_of rows i) (column_of columns i) (list_of lists i) c
-        step i d c there (inl before) = h.each i d c there before.1
-        step i d c there (inr last) =
+        step : (i : ℕ) (d : D) (x : CellValue D) → slice_get disks i ≡ Some d → ((i < length cells) × (slice_get cells i ≡ Some x)) ⊎ ((i ≡ length cells) × (c ≡ x))
+            → HasBegunAt g t i d (row_of rows i) (column_of columns i) (list_of lists i) x
+        step i d x there (inl before) = h.each i d x there before.1
+        step i d x there (inr last) =
             let is : i ≡ n = last.0 ∙ h.long in
             let same : disk ≡ d = same_Some disk d (sym at ∙ ap (slice_get disks) (sym is) ∙ there) in
-            let Here : ℕ → Type 0 = λ j. HasBegun t j disk (row_of rows j) (column_of columns j) (list_of lists j) cell in
-            let Over : D → Type 0 = λ e. HasBegun t i e (row_of rows i) (column_of columns i) (list_of lists i) cell in
-            let By : Cell D S K g s k → Type 0 = λ e. HasBegun t i d (row_of rows i) (column_of columns i) (list_of lists i) e in
+            let Here : ℕ → Type 0 = λ j. HasBegunAt g t j disk (row_of rows j) (column_of columns j) (list_of lists j) c in
+            let Over : D → Type 0 = λ e. HasBegunAt g t i e (row_of rows i) (column_of columns i) (list_of lists i) c in
+            let By : CellValue D → Type 0 = λ e. HasBegunAt g t i d (row_of rows i) (column_of columns i) (list_of lists i) e in
             subst By last.1 (subst Over same (subst Here (sym is) one))
 
-    module _ (n : ℕ) (cells : List (Cell D S K g s k)) (h : HaveBegun t disks rows columns lists n cells) where
+    module _ (n : ℕ) (cells : List (CellValue D)) (h : HaveBegun g t disks rows columns lists n cells) where
       -- the disk of a site that began
       begun_of : (i : ℕ) (disk : D) → i < n → slice_get disks i ≡ Some disk
           → (now : D) × (slice_get (disks_of cells) i ≡ Some (Some now)) × LeavesDisk g disk now × ((g.known now).faults ≡ (g.known disk).faults)
@@ -129,7 +108,7 @@ module _ {D S K : Type 0} {g : Ghosts D} {s : SourceGhosts S} {k : SinkGhosts K}
           let there = at_place cells i (omega (arith, lt, h.long)) in
           let begun = h.each i disk there.0 at there.1 in (
             begun.now,
-            slice_get-map (λ (c : Cell D S K g s k). disk_in c.node.engine) cells i ∙ ap (option_map (λ (c : Cell D S K g s k). disk_in c.node.engine)) there.1 ∙ ap (λ o. Some o) begun.now_is,
+            slice_get-map (λ (c : CellValue D). c.node.disk) cells i ∙ ap (option_map (λ (c : CellValue D). c.node.disk)) there.1 ∙ ap (λ o. Some o) begun.now_is,
             begun.leaves,
             begun.faultless,
           )
@@ -151,7 +130,7 @@ module _ {D S K : Type 0} {g : Ghosts D} {s : SourceGhosts S} {k : SinkGhosts K}
       module _ (disk failed : D) (rest : List D) (unbuilt : Unbuilt D) (next : slice_get disks n ≡ Some disk) (rest_is : rest ≡ drop (n + 1) disks)
           (is : map (λ (d : D). Some d) unbuilt.disks.items ≡ disks_of cells ++ map (λ (d : D). Some d) (failed ∷ rest)) where
         count : length (disks_of cells) ≡ n
-        count = length-map cells (λ (c : Cell D S K g s k). disk_in c.node.engine) ∙ h.long
+        count = length-map cells (λ (c : CellValue D). c.node.disk) ∙ h.long
 
         failed_at : slice_get (disks_of cells ++ map (λ (d : D). Some d) (failed ∷ rest)) n ≡ Some (Some failed)
         failed_at = slice_get_behind (disks_of cells) (map (λ (d : D). Some d) (failed ∷ rest)) n 0 (omega (arith, count))
@@ -172,7 +151,7 @@ module _ {D S K : Type 0} {g : Ghosts D} {s : SourceGhosts S} {k : SinkGhosts K}
             (failed, ap (slice_get (disks_of cells ++ map (λ (d : D). Some d) (failed ∷ rest))) here ∙ failed_at, subst (λ e. LeavesDisk g e failed) same leaves)
         back_at leaves i d at (inr past) (inr apart) = (d, rest_at i d (omega (arith, past, apart)) at, untouched g d)
 
-        pub all_back : LeavesDisk g disk failed → LeavesDisks {S = S} {K = K} {g = g} {s = s} {k = k} disks (Err unbuilt)
+        pub all_back : LeavesDisk g disk failed → LeavesDisks g disks (Err unbuilt)
         all_back leaves i d at =
             let left = back_at leaves i d at (cases_lt i n) (cases_eq i n) in
             (left.0, ap (λ ds. slice_get ds i) is ∙ left.1, left.2)

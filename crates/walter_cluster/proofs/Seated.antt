@@ -1,11 +1,13 @@
 -- Connections come to their places, one after another.
-use Rattle.std.proofs.Common.{◌≡◌, ℕ, ◌<◌, ◌≤◌, ◌+◌, ◌⊎◌, List, [], Vec, Option, Some, length, get_or, set, slice_get, ap, sym, ◌∙◌, inl, inr, arith}
+use Rattle.std.proofs.Common.{◌≡◌, ◌≢◌, ℕ, zero, suc, ◌<◌, ◌≤◌, ◌+◌, ◌⊎◌, List, [], ◌∷◌, ◌++◌, Vec, Option, Some, None, length, get_or, replicate, set, slice_get, ap, sym, ◌∙◌, inl, inr, arith, length-append}
 use Rattle.std.specs.declared.alloc.Global.{Global}
 use Rattle.std.proofs.lemmas.Bool.{cases_lt, cases_eq}
-use Rattle.std.proofs.lemmas.List.{get_or-set_same, get_or-set_other, length-set, map-set, get_or-map}
+use Rattle.std.proofs.lemmas.List.{get_or-set_same, get_or-set_other, get_or_append_left, get_or_at, length-replicate, length-set, map-append, map-set, get_or-map}
 use Rattle.std.proofs.lemmas.Option.{same_Some, slice_get-get_or, slice_get_within, get_or_from_slice_get}
 use Rattle.walter_scenario.specs.declared.scenario.Client.{Client}
-use Rattle.walter_cluster.specs.Seats.{lists_in, list_of, HavePlaces, AreSeated}
+use Rattle.walter_cluster.specs.Seats.{lists_in, list_of, HavePlaces, AreSeated, AreEmpty, AreAtHome}
+use Rattle.walter_cluster.proofs.Changes.{set_there}
+use Rattle.walter_cluster.proofs.Joining.{each_more}
 
 module _ {X : Type 0} where
   slice_get-set_same : (xs : List X) (i : ℕ) (x : X) → i < length xs → slice_get (set xs i x) i ≡ Some x
@@ -63,6 +65,61 @@ module _ {X : Type 0} (lists : List (List (Option X))) (home number : ℕ) (line
           ap (λ (c : Client). slice_get (list_of (set lists home (set (list_of lists home) number (Some line))) c.site.0) n) who
           ∙ ap (λ j. slice_get (list_of (set lists home (set (list_of lists home) number (Some line))) j) n) is
           ∙ seated_here n same ∙ ap (λ x. Some (Some x)) what
+
+  home_at : (clients : List Client) (client : Client) → slice_get clients number ≡ Some client → client.site.0 ≡ home → AreAtHome clients lists
+      → (i n : ℕ) (other : X) → (i ≡ home) ⊎ (i ≢ home) → (n ≡ number) ⊎ (n ≢ number)
+      → slice_get (list_of (set lists home (set (list_of lists home) number (Some line))) i) n ≡ Some (Some other)
+      → (c : Client) × (slice_get clients n ≡ Some c) × (c.site.0 ≡ i)
+  home_at clients client there his had i n other (inl is) (inl same) at = (client, ap (slice_get clients) same ∙ there, his ∙ sym is)
+  home_at clients client there his had i n other (inl is) (inr apart) at =
+      had i n other (
+      ap (λ (j : ℕ). slice_get (list_of lists j) n) is
+      ∙ (sym (set_there (list_of lists home) number n (Some line) apart)
+      ∙ (sym (ap (λ (l : List (Option X)). slice_get l n) here)
+      ∙ (sym (ap (λ (j : ℕ). slice_get (list_of (set lists home (set (list_of lists home) number (Some line))) j) n) is)
+      ∙ at)))
+      )
+  home_at clients client there his had i n other (inr apart) _ at =
+      had i n other (sym (ap (λ (l : List (Option X)). slice_get l n) (elsewhere i apart)) ∙ at)
+
+  pub home_more : (clients : List Client) (client : Client) → slice_get clients number ≡ Some client → client.site.0 ≡ home
+      → AreAtHome clients lists → AreAtHome clients (set lists home (set (list_of lists home) number (Some line)))
+  home_more clients client there his had i n other at = home_at clients client there his had i n other (cases_eq i home) (cases_eq n number) at
+
+-- lists without connections, one after another
+module _ {X : Type 0} where
+  none_there : (n k : ℕ) (line : X) → slice_get (replicate n None) k ≢ Some (Some line)
+  none_there zero k line at = absurd cc
+  none_there (suc n) zero line at = absurd cc
+  none_there (suc n) (suc k) line at = none_there n k line at
+
+  pub empty_begins : (vs : List (Vec (Option X) Global)) → vs ≡ [] → AreEmpty (lists_in vs)
+  empty_begins vs none i k line at =
+      let e : None ≡ Some (Some line) = sym (ap (λ (us : List (Vec (Option X) Global)). slice_get (list_of (lists_in us) i) k) none) ∙ at in
+      absurd cc
+
+  -- a list more
+  module _ (vs us : List (Vec (Option X) Global)) (v : Vec (Option X) Global) (is : us ≡ vs ++ v ∷ []) (count : ℕ) (none : v.items ≡ replicate count None) where
+    more : lists_in us ≡ lists_in vs ++ v.items ∷ []
+    more = ap (λ (ws : List (Vec (Option X) Global)). lists_in ws) is ∙ map-append (λ (u : Vec (Option X) Global). u.items) vs (v ∷ [])
+
+    pub empty_more : AreEmpty (lists_in vs) → AreEmpty (lists_in us)
+    empty_more empty i k line at =
+        each_more (λ (l : List (Option X)). (n : ℕ) (x : X) → slice_get l n ≢ Some (Some x)) [] v.items (lists_in vs) empty
+        (λ n x here. none_there count n x (ap (λ (l : List (Option X)). slice_get l n) (sym none) ∙ here)) i k line
+        (ap (λ (ls : List (List (Option X))). slice_get (list_of ls i) k) (sym more) ∙ at)
+
+    long_by : (n : ℕ) → HavePlaces n count (lists_in vs) → (i : ℕ) → (i < n) ⊎ (n ≤ i) → i < n + 1 → length (list_of (lists_in vs ++ v.items ∷ []) i) ≡ count
+    long_by n h i (inl before) lt =
+        ap length (get_or_append_left (lists_in vs) (v.items ∷ []) [] i (omega (arith, before, h.lists_long))) ∙ h.list_long i before
+    long_by n h i (inr past) lt =
+        ap length (get_or_at (lists_in vs) v.items [] [] i (omega (arith, past, lt, h.lists_long))) ∙ (ap length none ∙ length-replicate count None)
+
+    pub places_more : (n : ℕ) → HavePlaces n count (lists_in vs) → HavePlaces (n + 1) count (lists_in us)
+    places_more n h = record {
+      lists_long = ap length more ∙ omega (arith, h.lists_long, length-append (lists_in vs) (v.items ∷ []));
+      list_long = λ i lt. ap (λ (ls : List (List (Option X))). length (list_of ls i)) more ∙ long_by n h i (cases_lt i n) lt;
+    }
 
 -- a write to a place of one of the vectors
 pub lists_set : {X : Type 0} (vs : List (Vec (Option X) Global)) (i : ℕ) (v w : Vec (Option X) Global) (number : ℕ) (x : Option X) → i < length vs → v ≡ get_or vs i v → w.items ≡ set v.items number x

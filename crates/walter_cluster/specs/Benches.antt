@@ -1,132 +1,133 @@
--- What holds of the cells of all sites between two events.
-use Rattle.std.specs.Prelude.{◌≡◌, ◌<◌, ◌≤◌, ℕ, List, [], length, map, slice_get, slice_index_or, vec_capacity, Option, Some, None, All}
+-- What contracts see of the cells of all sites, and what holds of them between two events.
+use Rattle.std.specs.Prelude.{◌≡◌, ◌<◌, ◌≤◌, ℕ, Bool, true, false, List, [], length, map, slice_get, slice_index_or, Vec, vec_capacity, Option, Some, None, All}
+use Rattle.std.specs.declared.alloc.Global.{Global}
 use Rattle.walter_base.specs.declared.names.SiteId.{SiteId}
+use Rattle.walter_base.specs.Names.{same_site}
 use Rattle.walter_base.specs.Vectors.{most_sites}
-use Rattle.walter_cell.specs.declared.cell.Cell.{Cell}
-use Rattle.walter_cell.specs.Cells.{IsCell, IsKnown, OfLine, IsLineAt}
+use Rattle.walter_cell.specs.Cells.{CellValue}
+use Rattle.walter_cell.specs.Cells as cell
+use Rattle.walter_cell.specs.Lines.{LineValue, is_here, IsLineAt}
+use Rattle.walter_cell.specs.Nodes.{arms_under, is_told}
 use Rattle.walter_cell.specs.Written.{AreWrittenAt}
-use Rattle.walter_conn.specs.declared.conn.Conn.{Conn}
 use Rattle.walter_disk.specs.declared.disk.Disk.{Ghosts}
-use Rattle.walter_engine.specs.Engines.{disk_in}
 use Rattle.walter_lane.specs.Lanes.{Sending, Receiving}
 use Rattle.walter_outbox.specs.Lanes.{arrived_from, met_to, ring_to, ring_from}
 use Rattle.walter_rules.specs.declared.entry.Entry.{Entry}
-use Rattle.walter_rules.specs.declared.event.Event.{Event}
-use Rattle.walter_rules.specs.declared.event.Event.TheVariants.{Given, Stop, Restart}
-use Rattle.walter_rules.specs.declared.event.Input.{Input}
-use Rattle.walter_rules.specs.declared.event.Input.TheVariants.{Call, Deliver, Advance, Tick}
 use Rattle.walter_rules.specs.Knowledge.{site_at}
 use Rattle.walter_scenario.specs.declared.scenario.Client.{Client}
 use Rattle.walter_scenario.specs.declared.scenario.Scenario.{Scenario}
-use Rattle.walter_stream.specs.declared.sink.Sink.{Ghosts as SinkGhosts}
-use Rattle.walter_stream.specs.declared.source.Source.{Ghosts as SourceGhosts}
 use Rattle.walter_trail.specs.Calls.{calls_of}
-use Rattle.walter_cluster.specs.declared.bench.Bench.{Bench}
 
--- a call is of a client of this site
-abbrev pub IsOfSiteInput : List Client → SiteId → Input → Type 0
-IsOfSiteInput clients i (Call number call) =
-    (client : Client) × (slice_get clients number ≡ Some client) × (client.site ≡ i)
-IsOfSiteInput clients i (Deliver from number packet) = Unit {0}
-IsOfSiteInput clients i (Advance from) = Unit {0}
-IsOfSiteInput clients i Tick = Unit {0}
+-- whether a client's home is this site
+abbrev pub is_site : Option SiteId → SiteId → Bool
+is_site None i = false
+is_site (Some home) i = same_site home i
 
-abbrev pub IsOfSite : List Client → SiteId → Event → Type 0
-IsOfSite clients i (Given input) = IsOfSiteInput clients i input
-IsOfSite clients i Stop = Unit {0}
-IsOfSite clients i Restart = Unit {0}
+abbrev pub is_home : List SiteId → ℕ → SiteId → Bool
+is_home homes client i = is_site (slice_get homes client) i
 
--- the arms of an engine's disk, where it tells them
-abbrev pub arms_under : {D : Type 0} (g : Ghosts D) → Option D → Option (List (ℕ × ℕ))
-arms_under g None = None
-arms_under g (Some disk) = (g.known disk).arms
+-- the cells, by the numbers of their sites, and the site of each client
+pub record BenchValue (D : Type 0) : Type 0 where
+  pub cells : List (CellValue D)
+  pub homes : List SiteId
 
-module _ {D S K : Type 0} {g : Ghosts D} {s : SourceGhosts S} {k : SinkGhosts K} where
-  -- ---- the cells, by the numbers of their sites
+module _ {D : Type 0} where
+  abbrev pub trails_of : List (CellValue D) → List (List Entry)
+  trails_of cells = map (λ (c : CellValue D). c.node.trail) cells
 
-  abbrev pub trails_of : List (Cell D S K g s k) → List (List Entry)
-  trails_of cells = map (λ (c : Cell D S K g s k). c.node.entries.items) cells
+  abbrev pub outs_at : List (CellValue D) → ℕ → List Sending
+  outs_at cells i = slice_index_or (map (λ (c : CellValue D). c.node.outs) cells) i []
 
-  abbrev pub outs_at : List (Cell D S K g s k) → ℕ → List Sending
-  outs_at cells i = slice_index_or (map (λ (c : Cell D S K g s k). c.node.outs.items) cells) i []
+  abbrev pub ins_at : List (CellValue D) → ℕ → List Receiving
+  ins_at cells i = slice_index_or (map (λ (c : CellValue D). c.ins) cells) i []
 
-  abbrev pub ins_at : List (Cell D S K g s k) → ℕ → List Receiving
-  ins_at cells i = slice_index_or (map (λ (c : Cell D S K g s k). c.ins.items) cells) i []
+  abbrev pub lines_at : List (CellValue D) → ℕ → List (Option LineValue)
+  lines_at cells i = slice_index_or (map (λ (c : CellValue D). c.lines) cells) i []
 
-  abbrev pub lines_at : List (Cell D S K g s k) → ℕ → List (Option (Conn S K s k))
-  lines_at cells i = slice_index_or (map (λ (c : Cell D S K g s k). c.lines.items) cells) i []
-
-  -- the arms of a site's disk, where it tells them
-  abbrev pub arms_at : List (Cell D S K g s k) → ℕ → Option (List (ℕ × ℕ))
-  arms_at cells i = slice_index_or (map (λ (c : Cell D S K g s k). arms_under g (disk_in c.node.engine)) cells) i None
+  -- the disks of cells
+  abbrev pub disks_of : List (CellValue D) → List (Option D)
+  disks_of cells = map (λ (c : CellValue D). c.node.disk) cells
 
   -- P holds of each cell, with its site
-  abbrev pub AtEach : List (Cell D S K g s k) → (SiteId → Cell D S K g s k → Type 0) → Type 0
-  AtEach cells P = (i : ℕ) (cell : Cell D S K g s k) → slice_get cells i ≡ Some cell → P (site_at i) cell
+  abbrev pub AtEach : List (CellValue D) → (SiteId → CellValue D → Type 0) → Type 0
+  AtEach cells P = (i : ℕ) (c : CellValue D) → slice_get cells i ≡ Some c → P (site_at i) c
 
-  -- ---- a cell of a scenario
+  -- a cell stands at its site, with a lane to and from each, and with the connections of just the clients that are at home
+  -- there
+  pub record IsCellAt (sites : ℕ) (homes : List SiteId) (i : SiteId) (c : CellValue D) : Type 0 where
+    pub site : c.node.site ≡ i
+    pub sites_are : c.node.catalog.sites ≡ sites
+    pub outs : length c.node.outs ≡ sites
+    pub ins : length c.ins ≡ sites
+    pub here : (client : ℕ) → is_here c.lines client ≡ is_home homes client i
 
-  -- whatever its disk tells: it is the cell of its site, with a connection for each client of the site, and each call
-  -- in its trail is of one of these
-  pub record IsCellOf (t : Scenario) (i : SiteId) (cell : Cell D S K g s k) : Type 0 where
-    pub cell_is : IsCell t.catalog t.capacity i cell
-    pub lines : length cell.lines.items ≡ length t.clients
-    pub debts : length cell.node.debts.items ≡ length t.clients
-    pub there : (number : ℕ) (client : Client) → slice_get t.clients number ≡ Some client → client.site ≡ i
-        → OfLine cell.lines.items number (λ line. Unit {0})
-    pub whose_calls : All (λ e. IsOfSite t.clients i e.event) cell.node.entries.items
-
-  -- of the bytes of each client of the site the calls in the trail were read
-  abbrev pub AreConnected : Scenario → SiteId → Cell D S K g s k → Type 0
-  AreConnected t i cell = (number : ℕ) (client : Client) → slice_get t.clients number ≡ Some client → client.site ≡ i
-      → IsLineAt client.bytes (calls_of number cell.node.entries.items) cell.lines.items number
-
-  -- the replies to the calls of each client of the site were written to its connection, behind the bytes from before
-  abbrev pub AreAnswered : Scenario → (ℕ → List ℕ) → SiteId → Cell D S K g s k → Type 0
-  AreAnswered t before i cell = (number : ℕ) (client : Client) → slice_get t.clients number ≡ Some client
-      → client.site ≡ i → AreWrittenAt (before number) number cell.node.entries.items cell.lines.items
-
-  -- ---- a bench
-
-  -- there is room for what closing it takes
-  pub record HasRoom (bench : Bench D S K g s k) : Type 0 where
-    pub no_trails : bench.trails.items ≡ []
-    pub no_disks : bench.disks.items ≡ []
-    pub no_conns : bench.conns.items ≡ []
-    pub for_trails : length bench.cells.items ≤ vec_capacity bench.trails
-    pub for_disks : length bench.cells.items ≤ vec_capacity bench.disks
-    pub for_conns : length bench.cells.items ≤ vec_capacity bench.conns
-
-  -- the bench has the cells of a scenario's sites, in order; between each two sites lies one lane, which has both its
-  -- ends there; and it knows at which site each client is
-  pub record IsBench (t : Scenario) (bench : Bench D S K g s k) : Type 0 where
-    pub sites : length bench.cells.items ≡ t.catalog.sites
-    pub few : t.catalog.sites ≤ most_sites
-    pub cells : AtEach bench.cells.items (λ i cell. IsCellOf t i cell)
-    pub lanes : (to from : ℕ) → to < t.catalog.sites → from < t.catalog.sites
-        → ring_to (outs_at bench.cells.items from) to ≡ ring_from (ins_at bench.cells.items to) from
-    pub homes : bench.homes.items ≡ map (λ (client : Client). client.site) t.clients
-    pub within : All (λ (client : Client). client.site.0 < t.catalog.sites) t.clients
-    pub room : HasRoom bench
-
-  -- where the disk of a site tells what it holds
-  abbrev pub IsKnownAt : Scenario → ℕ → Bench D S K g s k → Type 0
-  IsKnownAt t i bench = (cell : Cell D S K g s k) → slice_get bench.cells.items i ≡ Some cell
-      → IsKnown t.catalog t.capacity (site_at i) cell
-
-  -- where the sources of all clients tell their bytes
-  abbrev pub AreAllConnected : Scenario → Bench D S K g s k → Type 0
-  AreAllConnected t bench = AtEach bench.cells.items (λ i cell. AreConnected t i cell)
-
-  -- so were the replies to all clients, where their sinks tell what they hold
-  abbrev pub AreAllAnswered : Scenario → (ℕ → List ℕ) → Bench D S K g s k → Type 0
-  AreAllAnswered t before bench = AtEach bench.cells.items (λ i cell. AreAnswered t before i cell)
+  -- the cells are those of sites 0, 1 and so on; between each two sites lies one lane, which has both its ends there; and
+  -- each client is at home at one of the sites
+  pub record IsBench (bench : BenchValue D) : Type 0 where
+    pub few : length bench.cells ≤ most_sites
+    pub cells : AtEach bench.cells (λ i c. IsCellAt (length bench.cells) bench.homes i c)
+    pub lanes : (to from : ℕ) → to < length bench.cells → from < length bench.cells
+        → ring_to (outs_at bench.cells from) to ≡ ring_from (ins_at bench.cells to) from
+    pub within : All (λ (home : SiteId). home.0 < length bench.cells) bench.homes
 
   -- what has arrived at a site is what had been put for it when the ends of the lane last met: nothing arrives but so
-  abbrev pub AreMet : Bench D S K g s k → Type 0
+  abbrev pub AreMet : BenchValue D → Type 0
   AreMet bench = (to from : ℕ)
-      → met_to (outs_at bench.cells.items from) to ≡ length (arrived_from (ins_at bench.cells.items to) from)
+      → met_to (outs_at bench.cells from) to ≡ length (arrived_from (ins_at bench.cells to) from)
 
-  -- no disk was armed
-  abbrev pub HasSameArms : (old new : Bench D S K g s k) → Type 0
-  HasSameArms old new = (i : ℕ) → arms_at new.cells.items i ≡ arms_at old.cells.items i
+  -- ---- a bench of a scenario
+
+  -- its sites and its clients are the scenario's
+  pub record IsOf (t : Scenario) (bench : BenchValue D) : Type 0 where
+    pub sites : length bench.cells ≡ t.catalog.sites
+    pub catalogs : AtEach bench.cells (λ i c. c.node.catalog ≡ t.catalog)
+    pub capacities : AtEach bench.cells (λ i c. c.node.capacity ≡ t.capacity)
+    pub homes : bench.homes ≡ map (λ (client : Client). client.site) t.clients
+
+  -- of the bytes of each client of the site the calls in the trail were read
+  abbrev pub AreConnected : Scenario → SiteId → CellValue D → Type 0
+  AreConnected t i c = (number : ℕ) (client : Client) → slice_get t.clients number ≡ Some client → client.site ≡ i
+      → IsLineAt client.bytes (calls_of number c.node.trail) c.lines number
+
+  -- where the sources of all clients tell their bytes
+  abbrev pub AreAllConnected : Scenario → BenchValue D → Type 0
+  AreAllConnected t bench = AtEach bench.cells (λ i c. AreConnected t i c)
+
+  -- the replies to the calls of each client of the site were written to its connection, behind the bytes from before
+  abbrev pub AreAnswered : Scenario → (ℕ → List ℕ) → SiteId → CellValue D → Type 0
+  AreAnswered t before i c = (number : ℕ) (client : Client) → slice_get t.clients number ≡ Some client
+      → client.site ≡ i → AreWrittenAt (before number) number c.node.trail c.lines
+
+  -- so were the replies to all clients, where their sinks tell what they hold
+  abbrev pub AreAllAnswered : Scenario → (ℕ → List ℕ) → BenchValue D → Type 0
+  AreAllAnswered t before bench = AtEach bench.cells (λ i c. AreAnswered t before i c)
+
+  module _ (g : Ghosts D) where
+    -- the arms of a site's disk, where it tells them
+    abbrev pub arms_at : List (CellValue D) → ℕ → Option (List (ℕ × ℕ))
+    arms_at cells i = slice_index_or (map (λ (c : CellValue D). arms_under g c.node.disk) cells) i None
+
+    -- no disk was armed
+    abbrev pub HasSameArms : (old new : BenchValue D) → Type 0
+    HasSameArms old new = (i : ℕ) → arms_at new.cells i ≡ arms_at old.cells i
+
+    -- the disk of a site tells what it holds
+    abbrev pub IsToldAt : ℕ → BenchValue D → Type 0
+    IsToldAt i bench = (c : CellValue D) → slice_get bench.cells i ≡ Some c → is_told g c.node.disk ≡ true
+
+    -- each cell keeps what a call of a cell keeps
+    pub record EachKeeps (old new : List (CellValue D)) : Type 0 where
+      pub long : length new ≡ length old
+      pub each : (i : ℕ) (before after : CellValue D) → slice_get old i ≡ Some before → slice_get new i ≡ Some after
+          → cell.Keeps g before after
+
+    -- what each call keeps: the cells so, the homes of clients, and that nothing arrives but where the ends of a lane meet
+    pub record Keeps (old new : BenchValue D) : Type 0 where
+      pub cells : EachKeeps old.cells new.cells
+      pub homes : new.homes ≡ old.homes
+      pub met : AreMet old → AreMet new
+
+-- a list without elements has room for so many
+pub record HasRoom {X : Type 0} (count : ℕ) (list : Vec X Global) : Type 0 where
+  pub none : list.items ≡ []
+  pub room : count ≤ vec_capacity list

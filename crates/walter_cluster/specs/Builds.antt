@@ -1,31 +1,24 @@
 -- What the building of a bench comes to, and what closing it gives.
 use Rattle.std.specs.Prelude.{◌≡◌, ◌<◌, ◌≤◌, ℕ, List, [], length, map, slice_get, Option, Some, Result, Ok, Err}
-use Rattle.walter_cell.specs.declared.cell.Cell.{Cell}
-use Rattle.walter_cell.specs.Cells.{IsLine}
+use Rattle.walter_cell.specs.Cells.{CellValue}
+use Rattle.walter_cell.specs.Lines.{LineValue, IsLine}
 use Rattle.walter_cell.specs.Written.{AreWritten}
-use Rattle.walter_conn.specs.Connections.{incoming, sink_of}
-use Rattle.walter_conn.specs.declared.conn.Conn.{Conn}
 use Rattle.walter_disk.specs.declared.disk.Disk.{Ghosts}
 use Rattle.walter_engine.specs.Begins.{HasOnly, IsBegun, IsFaultOfBegin, MayHaveBegun, HasNoRecord}
-use Rattle.walter_engine.specs.Engines.{disk_in}
 use Rattle.walter_scenario.specs.declared.scenario.Client.{Client}
-use Rattle.walter_stream.specs.declared.sink.Sink.{Ghosts as SinkGhosts}
-use Rattle.walter_stream.specs.declared.source.Source.{Ghosts as SourceGhosts}
-use Rattle.walter_cluster.specs.declared.bench.Bench.{Bench}
+use Rattle.walter_cluster.specs.Benches.{BenchValue, disks_of, trails_of}
 use Rattle.walter_cluster.specs.declared.closing.Closed.{Closed}
 use Rattle.walter_cluster.specs.declared.opening.Unbuilt.{Unbuilt}
 
 -- each client's connection has read nothing of its bytes
-abbrev pub AreUnread : {S K : Type 0} {s : SourceGhosts S} {k : SinkGhosts K} → List Client → List (Conn S K s k)
-    → Type 0
-AreUnread {S = S} {K = K} {s = s} {k = k} clients conns = (number : ℕ) (client : Client) (line : Conn S K s k)
+abbrev pub AreUnread : List Client → List LineValue → Type 0
+AreUnread clients conns = (number : ℕ) (client : Client) (line : LineValue)
     → slice_get clients number ≡ Some client → slice_get conns number ≡ Some line → IsLine client.bytes [] line
 
 -- nothing was written to a client's connection but the bytes from before, where its sink tells what it holds
-abbrev pub AreUnwritten : {S K : Type 0} {s : SourceGhosts S} {k : SinkGhosts K} → (ℕ → List ℕ) → List (Conn S K s k)
-    → Type 0
-AreUnwritten {S = S} {K = K} {s = s} {k = k} before conns = (number : ℕ) (line : Conn S K s k)
-    → slice_get conns number ≡ Some line → AreWritten k (before number) [] (incoming line).state (sink_of line)
+abbrev pub AreUnwritten : (ℕ → List ℕ) → List LineValue → Type 0
+AreUnwritten before conns = (number : ℕ) (line : LineValue)
+    → slice_get conns number ≡ Some line → AreWritten (before number) [] line.incoming.state line.sent
 
 module _ {D : Type 0} (g : Ghosts D) where
   -- what the building leaves of the disk of a site, which it was given so
@@ -55,19 +48,18 @@ module _ {D : Type 0} (g : Ghosts D) where
         → slice_get unbuilt.disks.items i ≡ Some now → (g.known now).faults ≡ (g.known disk).faults
     pub all_back : length unbuilt.disks.items ≡ length disks
 
-module _ {D S K : Type 0} {g : Ghosts D} {s : SourceGhosts S} {k : SinkGhosts K} where
+module _ {D : Type 0} where
   -- the disks of all sites, in the cells or given back
-  abbrev pub disks_after : Result (Bench D S K g s k) (Unbuilt D) → List (Option D)
-  disks_after (Ok bench) = map (λ (c : Cell D S K g s k). disk_in c.node.engine) bench.cells.items
+  abbrev pub disks_after : Result (BenchValue D) (Unbuilt D) → List (Option D)
+  disks_after (Ok bench) = disks_of bench.cells
   disks_after (Err unbuilt) = map (λ (d : D). Some d) unbuilt.disks.items
 
-  abbrev pub LeavesDisks : List D → Result (Bench D S K g s k) (Unbuilt D) → Type 0
-  LeavesDisks disks result = (i : ℕ) (disk : D) → slice_get disks i ≡ Some disk
+  abbrev pub LeavesDisks : Ghosts D → List D → Result (BenchValue D) (Unbuilt D) → Type 0
+  LeavesDisks g disks result = (i : ℕ) (disk : D) → slice_get disks i ≡ Some disk
       → (now : D) × (slice_get (disks_after result) i ≡ Some (Some now)) × LeavesDisk g disk now
 
-  -- the disk, the trail and the connections of each cell, in order
-  pub record GivesBack (cells : List (Cell D S K g s k)) (closed : Closed D S K s k) : Type 0 where
-    pub trails : closed.trails.items ≡ map (λ (c : Cell D S K g s k). c.node.entries.items) cells
-    pub disks : map (λ (d : D). Some d) closed.disks.items
-        ≡ map (λ (c : Cell D S K g s k). disk_in c.node.engine) cells
-    pub conns : map (λ v. v.items) closed.conns.items ≡ map (λ (c : Cell D S K g s k). c.lines.items) cells
+-- the disk, the trail and the connections of each cell, in order
+pub record GivesBack {D S K : Type 0} (cells : List (CellValue D)) (closed : Closed D S K) : Type 0 where
+  pub trails : closed.trails.items ≡ trails_of cells
+  pub disks : map (λ (d : D). Some d) closed.disks.items ≡ disks_of cells
+  pub conns : map (λ v. v.items) closed.conns.items ≡ map (λ (c : CellValue D). c.lines) cells

@@ -1,6 +1,6 @@
 pub mod Benches
-pub mod Meetings
 pub mod Moments
+pub mod Meetings
 pub mod Lanes
 pub mod Builds
 pub mod Seats

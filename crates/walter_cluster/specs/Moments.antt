@@ -6,9 +6,8 @@ use Rattle.walter_cell.specs.declared.answers.Acted.{Acted}
 use Rattle.walter_cell.specs.declared.answers.Moved.{Moved}
 use Rattle.walter_cell.specs.declared.answers.Moved.TheVariants as moved
 use Rattle.walter_cell.specs.declared.answers.Serve.{Serve}
-use Rattle.walter_cell.specs.declared.cell.Cell.{Cell}
-use Rattle.walter_cell.specs.Cells.{HasPlace, TurnsTo, Acts}
-use Rattle.walter_cell.specs.Entries.{IsSpent, Grows}
+use Rattle.walter_cell.specs.Cells.{CellValue, TurnsTo, Acts}
+use Rattle.walter_cell.specs.Entries.{IsSpent, HasPlace, Grows}
 use Rattle.walter_cell.specs.Nodes.{MayDrop}
 use Rattle.walter_disk.specs.declared.disk.Disk.{Ghosts}
 use Rattle.walter_engine.specs.Steps.{opening}
@@ -19,17 +18,14 @@ use Rattle.walter_rules.specs.declared.event.Event.TheVariants as event
 use Rattle.walter_rules.specs.declared.event.Input.TheVariants as input
 use Rattle.walter_rules.specs.Merges.{Stamped, put_out_to, trail_of}
 use Rattle.walter_rules.specs.Trails.{clock}
-use Rattle.walter_stream.specs.declared.sink.Sink.{Ghosts as SinkGhosts}
-use Rattle.walter_stream.specs.declared.source.Source.{Ghosts as SourceGhosts}
-use Rattle.walter_cluster.specs.Benches.{trails_of, ins_at}
+use Rattle.walter_cluster.specs.Benches.{BenchValue, AreMet, IsToldAt, trails_of, ins_at}
 
 -- the trails of all sites, in order; and how many packets have arrived at a site from another
 pub record Moment : Type 0 where
   pub trails : List (List Entry)
   pub arrived : (to from : ℕ) → ℕ
 
-abbrev pub moment_of : {D S K : Type 0} {g : Ghosts D} {s : SourceGhosts S} {k : SinkGhosts K}
-    → List (Cell D S K g s k) → Moment
+abbrev pub moment_of : {D : Type 0} → List (CellValue D) → Moment
 moment_of cells = record { trails = trails_of cells; arrived = λ to from. length (arrived_from (ins_at cells to) from) }
 
 -- before the first step: each trail has its opening alone, and nothing has arrived
@@ -60,9 +56,21 @@ pub record AllArrive (to : SiteId) (old new : Moment) : Type 0 where
 
 -- of what the entry that comes to a site's trail is to put out, only what finds 1,024 packets on its lane that haven't
 -- arrived is dropped, or what is behind all that a lane carries
-abbrev pub Drops : Catalog → SiteId → (old new : Moment) → Type 0
-Drops catalog i old new =
+abbrev pub DropsAt : Catalog → SiteId → (old new : Moment) → Type 0
+DropsAt catalog i old new =
     MayDrop catalog i (λ k. old.arrived k i.0) (trail_of old.trails i) (trail_of new.trails i)
+
+-- the trail of a site
+abbrev pub trail_at : {D : Type 0} → List (CellValue D) → SiteId
+    → List Entry
+trail_at cells i = trail_of (trails_of cells) i
+
+-- so it is, where nothing arrives but where the ends of a lane meet, and the site's disk tells what it holds
+abbrev pub Drops : {D : Type 0} → Ghosts D → SiteId
+    → (old new : BenchValue D) → Type 0
+Drops {D = D} g i old new =
+    AreMet old → IsToldAt g i.0 old → (c : CellValue D) → slice_get old.cells i.0 ≡ Some c
+    → DropsAt c.node.catalog i (moment_of old.cells) (moment_of new.cells)
 
 -- ---- what calls of a bench come to
 

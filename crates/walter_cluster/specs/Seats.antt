@@ -1,5 +1,5 @@
 -- The connections of all clients, in lists by site and in each by the clients' numbers.
-use Rattle.std.specs.Prelude.{◌≡◌, ◌<◌, ℕ, List, [], Vec, length, map, slice_get, slice_index_or, Option, Some}
+use Rattle.std.specs.Prelude.{◌≡◌, ◌≢◌, ◌<◌, ℕ, List, [], Vec, length, map, slice_get, slice_index_or, Option, Some}
 use Rattle.std.specs.declared.alloc.Global.{Global}
 use Rattle.walter_scenario.specs.declared.scenario.Client.{Client}
 
@@ -19,3 +19,12 @@ abbrev pub AreSeated : {X : Type 0} → ℕ → List Client → List X → List 
 AreSeated {X = X} count clients conns lists = (number : ℕ) (client : Client) (line : X) → number < count
     → slice_get clients number ≡ Some client → slice_get conns number ≡ Some line
     → slice_get (list_of lists client.site.0) number ≡ Some (Some line)
+
+-- no connection is in them
+abbrev pub AreEmpty : {X : Type 0} → List (List (Option X)) → Type 0
+AreEmpty {X = X} lists = (i number : ℕ) (line : X) → slice_get (list_of lists i) number ≢ Some (Some line)
+
+-- whose connection is in the list of a site is of a client of that site
+abbrev pub AreAtHome : {X : Type 0} → List Client → List (List (Option X)) → Type 0
+AreAtHome {X = X} clients lists = (i number : ℕ) (line : X) → slice_get (list_of lists i) number ≡ Some (Some line)
+    → (client : Client) × (slice_get clients number ≡ Some client) × (client.site.0 ≡ i)

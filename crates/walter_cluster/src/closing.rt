@@ -1,15 +1,15 @@
 ghost use Rattle.std.specs.Prelude.{◌≡◌, ◌≢◌, ◌<◌, ◌≤◌, ℕ, length};
 ghost use Rattle.walter_base.specs.Vectors.{most_sites};
 ghost use Rattle.walter_rules.specs.Merges.{AreLinked};
-ghost use Rattle.walter_scenario.specs.declared.scenario.Scenario.{Scenario};
-ghost use Rattle.walter_cluster.specs.Benches.{IsBench};
+ghost use Rattle.walter_cell.specs.Cells.{IsCell};
+ghost use Rattle.walter_cell.specs.Nodes.{IsSound};
+ghost use Rattle.walter_cluster.specs.Benches.{AtEach, IsBench};
 ghost use Rattle.walter_cluster.specs.Builds.{GivesBack};
-ghost use Rattle.walter_cluster.specs.Meetings.{HaveLanes, AreUnchanged, Begins};
+ghost use Rattle.walter_cluster.specs.Meetings.{HaveLanes, Begins};
 
 use crate::bench::Bench;
 use walter_base::SiteId;
-use walter_cell::Cell;
-use walter_conn::Conn;
+use walter_cell::{Cell, Line};
 use walter_disk::Disk;
 use walter_stream::{Sink, Source};
 use walter_trail::Trail;
@@ -20,15 +20,16 @@ use walter_trail::Trail;
 pub struct Closed<D: Disk, S: Source + Drop, K: Sink + Drop> {
     pub trails: Vec<Trail>,
     pub disks: Vec<D>,
-    pub conns: Vec<Vec<Option<Conn<S, K>>>>,
+    pub conns: Vec<Vec<Option<Line<S, K>>>>,
 }
 
 impl<D: Disk + Drop, S: Source + Drop, K: Sink + Drop> Bench<D, S, K> {
     /// Takes a bench apart. It takes no memory. What was delivered anywhere had been put out by its sender.
     pub fn close(self) -> Closed<D, S, K>
-        requires { (t : Scenario) × IsBench t self }
-        ensures gives { GivesBack self.cells.items result }
+        ensures gives { GivesBack self.cells result }
         ensures linked { AreLinked result.trails.items }
+        ensures bench { IsBench self }
+        ensures sound { AtEach self.cells (λ i c. IsSound D.Disk c.node × IsCell c) }
     {
         let Bench {
             mut cells,
@@ -57,7 +58,7 @@ impl<D: Disk + Drop, S: Source + Drop, K: Sink + Drop> Bench<D, S, K> {
 fn compare_all<D: Disk + Drop, S: Source + Drop, K: Sink + Drop>(cells: &mut [Cell<D, S, K>])
     requires few { length cells.old ≤ most_sites }
     requires lanes { HaveLanes cells.old }
-    ensures same { AreUnchanged cells.old cells.new }
+    ensures same { cells.new ≡ cells.old }
     ensures begins { (to from : ℕ) → to < length cells.old → from < length cells.old → to ≢ from
         → Begins cells.old to from }
 {
@@ -74,7 +75,7 @@ fn compare_with_all<D: Disk + Drop, S: Source + Drop, K: Sink + Drop>(
     requires few { length cells.old ≤ most_sites }
     requires lanes { HaveLanes cells.old }
     requires to { to < length cells.old }
-    ensures same { AreUnchanged cells.old cells.new }
+    ensures same { cells.new ≡ cells.old }
     ensures begins { (from : ℕ) → from < length cells.old → to ≢ from → Begins cells.old to from }
 {
     for from in 0..cells.len() {
@@ -92,7 +93,7 @@ fn compare_one<D: Disk + Drop, S: Source + Drop, K: Sink + Drop>(
     requires lanes { HaveLanes cells.old }
     requires to { to < length cells.old }
     requires from { from < length cells.old }
-    ensures same { AreUnchanged cells.old cells.new }
+    ensures same { cells.new ≡ cells.old }
     ensures begins { to ≢ from → Begins cells.old to from }
 {
     let (receiver, sender) = (SiteId(to as u8), SiteId(from as u8));

@@ -1,23 +1,26 @@
 ghost use Rattle.std.specs.Prelude.{◌≡◌, ◌<◌, ◌≤◌, ◌+◌, ◌∷◌, ◌++◌, ℕ, List, [], length, map, slice_get, vec_capacity, Option, Some, IsSome, IfOk, IfErr, OnOk, All};
 ghost use Rattle.walter_base.specs.Vectors.{most_sites};
 ghost use Rattle.walter_scenario.specs.declared.scenario.Client.{Client};
-ghost use Rattle.walter_cluster.specs.Benches.{IsBench, IsKnownAt, AreAllConnected, AreAllAnswered, AreMet};
+ghost use Rattle.walter_cell.specs.Lines.{LineValue};
+ghost use Rattle.walter_cluster.specs.Benches.{IsOf, IsToldAt, AreAllConnected, AreAllAnswered, AreMet, disks_of};
+ghost use Rattle.walter_cluster.specs.Lanes.{rows_in, columns_in};
+ghost use Rattle.walter_cluster.specs.Seats.{lists_in};
 ghost use Rattle.walter_cluster.specs.Builds.{AreUnread, AreUnwritten, LeavesDisks, HadNoRecords, IsWhyNone};
 ghost use Rattle.walter_cluster.specs.Moments.{IsFirst, moment_of};
-ghost use Rattle.walter_cluster.specs.Openings.{HasPlaces, AreReady, ArePrepared, IsBegunBench, disks_of};
+ghost use Rattle.walter_cluster.specs.Openings.{HasPlaces, ArePrepared, IsBegunBench};
 
 use crate::bench::Bench;
 use crate::connecting::connect;
 use crate::seating::seat_all;
 use std::alloc::Global;
 use walter_base::{Mem, SiteId};
-use walter_cell::Cell;
-use walter_conn::Conn;
+use walter_cell::{Cell, Line};
 use walter_disk::Disk;
 use walter_engine::Unbegun;
 use walter_lane::{Inbound, Outbound};
 use walter_scenario::{Client, Scenario};
 use walter_stream::{Sink, Source};
+use walter_trail::Trail;
 
 /// Why no bench was built: the first site that doesn't begin with its disk, and why; or memory ran out. The disks come
 /// back, in order.
@@ -28,13 +31,23 @@ pub struct Unbuilt<D> {
     pub why: Unbegun,
 }
 
-// What the cells are made of beside their disks, by the sites' numbers, and the bench that takes them.
+// Lists without elements, with room for what a bench has.
+#[derive(Drop)]
+pub(crate) struct Room<D: Disk, S: Source + Drop, K: Sink + Drop> {
+    pub(crate) cells: Vec<Cell<D, S, K>>,
+    pub(crate) trails: Vec<Trail>,
+    pub(crate) disks: Vec<D>,
+    pub(crate) conns: Vec<Vec<Option<Line<S, K>>>>,
+}
+
+// What the cells are made of beside their disks, by the sites' numbers, the site of each client, and room.
 #[derive(Drop)]
 pub(crate) struct Parts<D: Disk, S: Source + Drop, K: Sink + Drop> {
     pub(crate) rows: Vec<Vec<Outbound>>,
     pub(crate) columns: Vec<Vec<Inbound>>,
-    pub(crate) lists: Vec<Vec<Option<Conn<S, K>>>>,
-    pub(crate) bench: Bench<D, S, K>,
+    pub(crate) lists: Vec<Vec<Option<Line<S, K>>>>,
+    pub(crate) homes: Vec<SiteId>,
+    pub(crate) room: Room<D, S, K>,
 }
 
 /// The sites of a scenario over these disks, in order, each up in its first epoch, with a lane from each to each, and
@@ -43,7 +56,7 @@ pub fn build<D: Disk + Drop, S: Source + Drop, K: Sink + Drop>(
     alloc: Global,
     scenario: &Scenario,
     disks: Vec<D>,
-    conns: Vec<Conn<S, K>>,
+    conns: Vec<Line<S, K>>,
 ) -> Result<Bench<D, S, K>, Unbuilt<D>>
     requires some { 0 < scenario.now.catalog.sites }
     requires few { scenario.now.catalog.sites ≤ most_sites }
@@ -52,16 +65,15 @@ pub fn build<D: Disk + Drop, S: Source + Drop, K: Sink + Drop>(
     requires within { All (λ (client : Client). client.site.0 < scenario.now.catalog.sites) scenario.now.clients }
     requires disks { length disks.items ≡ scenario.now.catalog.sites }
     requires conns { length conns.items ≡ length scenario.now.clients }
-    ensures bench { IfOk result (λ bench. IsBench scenario.now bench) }
-    ensures known { (i : ℕ) (disk : D) → slice_get disks.items i ≡ Some disk → IsSome (D.known disk).reads
-        → IfOk result (λ bench. IsKnownAt scenario.now i bench) }
-    ensures connected { AreUnread scenario.now.clients conns.items
-        → IfOk result (λ bench. AreAllConnected scenario.now bench) }
+    ensures of { IfOk result (IsOf scenario.now) }
+    ensures told { (i : ℕ) (disk : D) → slice_get disks.items i ≡ Some disk → IsSome (D.known disk).reads
+        → IfOk result (IsToldAt D.Disk i) }
+    ensures connected { AreUnread scenario.now.clients conns.items → IfOk result (AreAllConnected scenario.now) }
     ensures answered { (before : ℕ → List ℕ) → AreUnwritten before conns.items
-        → IfOk result (λ bench. AreAllAnswered scenario.now before bench) }
-    ensures met { IfOk result (λ bench. AreMet bench) }
-    ensures first { IfOk result (λ bench. IsFirst scenario.now.catalog.sites (moment_of bench.cells.items)) }
-    ensures leaves { LeavesDisks disks.items result }
+        → IfOk result (AreAllAnswered scenario.now before) }
+    ensures met { IfOk result AreMet }
+    ensures first { IfOk result (λ bench. IsFirst scenario.now.catalog.sites (moment_of bench.cells)) }
+    ensures leaves { LeavesDisks D.Disk disks.items result }
     ensures had_none { OnOk result (HadNoRecords D.Disk disks.items) }
     ensures why { IfErr result (λ unbuilt. IsWhyNone D.Disk disks.items unbuilt) }
 {
@@ -79,7 +91,7 @@ pub fn build<D: Disk + Drop, S: Source + Drop, K: Sink + Drop>(
 fn prepare<D: Disk + Drop, S: Source + Drop, K: Sink + Drop>(
     alloc: Global,
     scenario: &Scenario,
-    conns: Vec<Conn<S, K>>,
+    conns: Vec<Line<S, K>>,
 ) -> Mem<Parts<D, S, K>>
     requires within { All (λ (client : Client). client.site.0 < scenario.now.catalog.sites) scenario.now.clients }
     requires conns { length conns.items ≡ length scenario.now.clients }
@@ -89,27 +101,24 @@ fn prepare<D: Disk + Drop, S: Source + Drop, K: Sink + Drop>(
     let clients = scenario.clients.as_slice();
     let (rows, columns) = connect(alloc, sites)?;
     let lists = seat_all(alloc, clients, conns, sites)?;
-    let bench = make_bench(alloc, clients, sites)?;
     Ok(Parts {
         rows,
         columns,
         lists,
-        bench,
+        homes: find_homes(alloc, clients)?,
+        room: make_room(alloc, sites)?,
     })
 }
 
-// A bench without cells, with room for those of so many sites.
-fn make_bench<D: Disk + Drop, S: Source + Drop, K: Sink + Drop>(
+// Room for what so many sites have.
+fn make_room<D: Disk + Drop, S: Source + Drop, K: Sink + Drop>(
     alloc: Global,
-    clients: &[Client],
     sites: usize,
-) -> Mem<Bench<D, S, K>>
-    ensures homes { IfOk result (λ bench. bench.homes.items ≡ map (λ (client : Client). client.site) clients.now) }
-    ensures room { IfOk result (λ bench. HasPlaces sites bench) }
+) -> Mem<Room<D, S, K>>
+    ensures { IfOk result (HasPlaces sites) }
 {
-    Ok(Bench {
+    Ok(Room {
         cells: Vec::with_capacity(alloc, sites)?,
-        homes: find_homes(alloc, clients)?,
         trails: Vec::with_capacity(alloc, sites)?,
         disks: Vec::with_capacity(alloc, sites)?,
         conns: Vec::with_capacity(alloc, sites)?,
@@ -137,25 +146,27 @@ fn begin_all<D: Disk + Drop, S: Source + Drop, K: Sink + Drop>(
     requires few { scenario.now.catalog.sites ≤ most_sites }
     requires fewer { scenario.now.catalog.tolerated < scenario.now.catalog.sites }
     requires place { 19 ≤ scenario.now.capacity }
+    requires within { All (λ (client : Client). client.site.0 < scenario.now.catalog.sites) scenario.now.clients }
     requires disks { length disks.items ≡ scenario.now.catalog.sites }
-    requires ready { AreReady scenario.now parts }
-    ensures begun { IfOk result (λ bench. IsBegunBench scenario.now disks.items parts bench) }
-    ensures leaves { LeavesDisks disks.items result }
+    requires ready { (conns : List LineValue) × ArePrepared scenario.now conns parts }
+    ensures begun { IfOk result (IsBegunBench D.Disk scenario.now disks.items (rows_in parts.rows.items)
+        (columns_in parts.columns.items) (lists_in parts.lists.items) parts.homes.items) }
+    ensures leaves { LeavesDisks D.Disk disks.items result }
     ensures why { IfErr result (λ unbuilt. IsWhyNone D.Disk disks.items unbuilt) }
 {
     let Parts {
         mut rows,
         mut columns,
         mut lists,
-        bench,
-    } = parts;
-    let Bench {
-        mut cells,
         homes,
+        room,
+    } = parts;
+    let Room {
+        mut cells,
         trails,
         disks: back,
         conns,
-    } = bench;
+    } = room;
     for number in 0..scenario.catalog.sites {
         let disk = disks.remove(0);
         let outs = rows.remove(0);

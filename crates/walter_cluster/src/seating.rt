@@ -1,6 +1,6 @@
-ghost use Rattle.std.specs.Prelude.{◌≡◌, ◌<◌, length, IfOk, All};
+ghost use Rattle.std.specs.Prelude.{◌≡◌, ◌<◌, length, replicate, None, IfOk, All};
 ghost use Rattle.walter_scenario.specs.declared.scenario.Client.{Client};
-ghost use Rattle.walter_cluster.specs.Seats.{lists_in, HavePlaces, AreSeated};
+ghost use Rattle.walter_cluster.specs.Seats.{lists_in, HavePlaces, AreSeated, AreEmpty, AreAtHome};
 
 use std::alloc::Global;
 use walter_base::Mem;
@@ -18,6 +18,7 @@ pub fn seat_all<C: Drop>(
     ensures places { IfOk result (λ lists. HavePlaces sites (length clients.now) (lists_in lists.items)) }
     ensures seated { IfOk result (λ lists.
         AreSeated (length clients.now) clients.now conns.items (lists_in lists.items)) }
+    ensures alone { IfOk result (λ lists. AreAtHome clients.now (lists_in lists.items)) }
 {
     let mut lists = make_lists(alloc, sites, clients.len())?;
     let mut number = 0;
@@ -31,7 +32,8 @@ pub fn seat_all<C: Drop>(
 
 // A list for each site, with a place for each client.
 fn make_lists<C: Drop>(alloc: Global, sites: usize, clients: usize) -> Mem<Vec<Vec<Option<C>>>>
-    ensures { IfOk result (λ lists. HavePlaces sites clients (lists_in lists.items)) }
+    ensures places { IfOk result (λ lists. HavePlaces sites clients (lists_in lists.items)) }
+    ensures empty { IfOk result (λ lists. AreEmpty (lists_in lists.items)) }
 {
     let mut lists = Vec::new(alloc);
     for _ in 0..sites {
@@ -41,7 +43,7 @@ fn make_lists<C: Drop>(alloc: Global, sites: usize, clients: usize) -> Mem<Vec<V
 }
 
 fn make_list<C: Drop>(alloc: Global, clients: usize) -> Mem<Vec<Option<C>>>
-    ensures { IfOk result (λ list. length list.items ≡ clients) }
+    ensures { IfOk result (λ list. list.items ≡ replicate clients None) }
 {
     let mut list = Vec::new(alloc);
     for _ in 0..clients {

@@ -1,4 +1,4 @@
-ghost use Rattle.std.specs.Prelude.{◌≡◌, ◌≢◌, ◌+◌, ◌<◌, ◌≤◌, [], ℕ, List, map, is_ok, IsSome, OnOk};
+ghost use Rattle.std.specs.Prelude.{◌≡◌, ◌≢◌, ◌+◌, ◌<◌, ◌≤◌, [], ℕ, List, map, is_ok, is_some, IsSome, OnOk};
 ghost use Rattle.walter_disk.specs.Images.{LeavesOnly};
 ghost use Rattle.walter_journal.specs.Journals.{calls_of_load, disk_of, capacity_of, left_of, StandsFor};
 ghost use Rattle.walter_engine.specs.Begins.{HasOnly, MayHaveBegun, IsBegun, IsFaultOfBegin};
@@ -49,6 +49,7 @@ pub(crate) fn begin_on<D: Disk>(
     ensures at_most { D.device_calls (disk_of_state result.state)
         ≤ D.device_calls disk + calls_of_load (D.known disk).size + 4 }
     ensures arms { (D.known (disk_of_state result.state)).arms ≡ (D.known disk).arms }
+    ensures tells { is_some (D.known (disk_of_state result.state)).reads ≡ is_some (D.known disk).reads }
 {
     match load(alloc, disk, capacity) {
         Ok((journal, bodies)) => {
@@ -89,6 +90,8 @@ fn begin_over<D: Disk>(
         (D.device_calls (disk_of_state result.state) ≡ D.device_calls (disk_of journal) + 4) }
     ensures at_most { D.device_calls (disk_of_state result.state) ≤ D.device_calls (disk_of journal) + 4 }
     ensures arms { (D.known (disk_of_state result.state)).arms ≡ (D.known (disk_of journal)).arms }
+    ensures tells { is_some (D.known (disk_of_state result.state)).reads
+        ≡ is_some (D.known (disk_of journal)).reads }
 {
     if !bodies.is_empty() {
         return AfterBegin {

@@ -186,6 +186,8 @@ impl<D: Disk + Drop> Engine<D> {
         ensures device { OfDisks self.old self.new (λ old new.
             AreCallsOfStep result (D.device_calls old) (D.device_calls new)) }
         ensures arms { OfDisks self.old self.new (λ old new. (D.known new).arms ≡ (D.known old).arms) }
+        ensures tells { OfDisks self.old self.new (λ old new.
+            is_some (D.known new).reads ≡ is_some (D.known old).reads) }
         ensures engine { IsSameEngine self.old self.new }
     {
         let Some(state) = mem::replace(&mut self.state, None) else {
@@ -243,6 +245,8 @@ impl<D: Disk + Drop> Engine<D> {
         ensures at_most { OfDisks self.old self.new (λ old new.
             D.device_calls new ≤ D.device_calls old + calls_of_load (D.known old).size + 4) }
         ensures arms { OfDisks self.old self.new (λ old new. (D.known new).arms ≡ (D.known old).arms) }
+        ensures tells { OfDisks self.old self.new (λ old new.
+            is_some (D.known new).reads ≡ is_some (D.known old).reads) }
         ensures engine { IsSameEngine self.old self.new }
     {
         let Some(state) = mem::replace(&mut self.state, None) else {
@@ -288,6 +292,8 @@ impl<D: Disk + Drop> Engine<D> {
         ensures at_most { OfDisks self.old self.new (λ old new.
             D.device_calls new ≤ D.device_calls old + calls_of_load (D.known old).size + 4) }
         ensures arms { OfDisks self.old self.new (λ old new. (D.known new).arms ≡ (D.known old).arms) }
+        ensures tells { OfDisks self.old self.new (λ old new.
+            is_some (D.known new).reads ≡ is_some (D.known old).reads) }
         ensures engine { IsSameEngine self.old self.new }
     {
         // What is loaded is then what the site left.

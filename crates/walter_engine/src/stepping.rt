@@ -83,6 +83,8 @@ pub(crate) fn take<D: Disk>(
     ensures faults { IsFaultOfStep result.stepped
         (D.known (disk_of_state state)).faults (D.known (disk_of_state result.state)).faults }
     ensures arms { (D.known (disk_of_state result.state)).arms ≡ (D.known (disk_of_state state)).arms }
+    ensures tells { is_some (D.known (disk_of_state result.state)).reads
+        ≡ is_some (D.known (disk_of_state state)).reads }
     ensures device { AreCallsOfStep result.stepped
         (D.device_calls (disk_of_state state)) (D.device_calls (disk_of_state result.state)) }
 {

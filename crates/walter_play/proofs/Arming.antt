@@ -8,10 +8,7 @@ use Rattle.std.specs.List.{cons_option}
 use Rattle.walter_disk.specs.declared.disk.Disk.{Ghosts}
 use Rattle.walter_scenario.specs.declared.scenario.Arm.{Arm}
 use Rattle.walter_scenario.specs.declared.scenario.Step.{Step}
-use Rattle.walter_stream.specs.declared.sink.Sink.{Ghosts as SinkGhosts}
-use Rattle.walter_stream.specs.declared.source.Source.{Ghosts as SourceGhosts}
-use Rattle.walter_cluster.specs.declared.bench.Bench.{Bench}
-use Rattle.walter_cluster.specs.Benches.{arms_at, HasSameArms}
+use Rattle.walter_cluster.specs.Benches.{BenchValue, arms_at, HasSameArms}
 use Rattle.walter_play.specs.Scripts.{arms_for, arms_by, arms_of, AreArmed, ArmsMore}
 
 told_more : (before : Option (List (ℕ × ℕ))) (a b : List (ℕ × ℕ))
@@ -38,45 +35,45 @@ for_other : (arm : Arm) (i : ℕ) → i ≢ arm.site.0 → arms_for i (arm ∷ [
 for_other arm i apart =
     ap (λ b. cons_option (if b then Some (arm.nth, arm.choice) else None) []) (ne_eqb arm.site.0 i (λ e. apart (sym e)))
 
-module _ {D S K : Type 0} {g : Ghosts D} {s : SourceGhosts S} {k : SinkGhosts K} where
-  pub armed_on : (old mid new : Bench D S K g s k) (xs ys : List Arm) → AreArmed old mid xs → AreArmed mid new ys
-      → AreArmed old new (xs ++ ys)
+module _ {D : Type 0} (g : Ghosts D) where
+  pub armed_on : (old mid new : BenchValue D) (xs ys : List Arm) → AreArmed g old mid xs → AreArmed g mid new ys
+      → AreArmed g old new (xs ++ ys)
   armed_on old mid new xs ys first second = λ i.
       second i
       ∙ (ap (λ o. option_map (λ told. told ++ arms_for i ys) o) (first i)
-      ∙ (told_more (arms_at old.cells.items i) (arms_for i xs) (arms_for i ys)
-      ∙ ap (λ m. option_map (λ told. told ++ m) (arms_at old.cells.items i)) (sym (for_more i xs ys))))
+      ∙ (told_more (arms_at g old.cells i) (arms_for i xs) (arms_for i ys)
+      ∙ ap (λ m. option_map (λ told. told ++ m) (arms_at g old.cells i)) (sym (for_more i xs ys))))
 
   -- where the arms are as before
-  pub armed_none : (old new : Bench D S K g s k) → HasSameArms old new → AreArmed old new []
-  armed_none old new same = λ i. same i ∙ sym (told_same (arms_at old.cells.items i))
+  pub armed_none : (old new : BenchValue D) → HasSameArms g old new → AreArmed g old new []
+  armed_none old new same = λ i. same i ∙ sym (told_same (arms_at g old.cells i))
 
-  pub armed_one : (old new : Bench D S K g s k) (arm : Arm)
-      → arms_at new.cells.items arm.site.0
-      ≡ option_map (λ arms. arms ++ (arm.nth, arm.choice) ∷ []) (arms_at old.cells.items arm.site.0)
-      → ((i : ℕ) → i ≢ arm.site.0 → arms_at new.cells.items i ≡ arms_at old.cells.items i)
-      → AreArmed old new (arm ∷ [])
+  pub armed_one : (old new : BenchValue D) (arm : Arm)
+      → arms_at g new.cells arm.site.0
+      ≡ option_map (λ arms. arms ++ (arm.nth, arm.choice) ∷ []) (arms_at g old.cells arm.site.0)
+      → ((i : ℕ) → i ≢ arm.site.0 → arms_at g new.cells i ≡ arms_at g old.cells i)
+      → AreArmed g old new (arm ∷ [])
   armed_one old new arm here others = λ i. elim (cases_eq i arm.site.0) [
     | inl same ↦
-        ap (λ n. arms_at new.cells.items n) same
+        ap (λ n. arms_at g new.cells n) same
         ∙ (here
-        ∙ (ap (λ n. option_map (λ arms. arms ++ (arm.nth, arm.choice) ∷ []) (arms_at old.cells.items n)) (sym same)
-        ∙ ap (λ m. option_map (λ told. told ++ m) (arms_at old.cells.items i)) (sym (for_here arm i (sym same)))))
+        ∙ (ap (λ n. option_map (λ arms. arms ++ (arm.nth, arm.choice) ∷ []) (arms_at g old.cells n)) (sym same)
+        ∙ ap (λ m. option_map (λ told. told ++ m) (arms_at g old.cells i)) (sym (for_here arm i (sym same)))))
     | inr apart ↦
         others i apart
-        ∙ (sym (told_same (arms_at old.cells.items i))
-        ∙ ap (λ m. option_map (λ told. told ++ m) (arms_at old.cells.items i)) (sym (for_other arm i apart)))
+        ∙ (sym (told_same (arms_at g old.cells i))
+        ∙ ap (λ m. option_map (λ told. told ++ m) (arms_at g old.cells i)) (sym (for_other arm i apart)))
   ]
 
-  pub more_none : (old new : Bench D S K g s k) (all : List Arm) → AreArmed old new [] → ArmsMore old new all
+  pub more_none : (old new : BenchValue D) (all : List Arm) → AreArmed g old new [] → ArmsMore g old new all
   more_none old new all armed = ([], all, refl, armed)
 
-  pub more_all : (old new : Bench D S K g s k) (all : List Arm) → AreArmed old new all → ArmsMore old new all
+  pub more_all : (old new : BenchValue D) (all : List Arm) → AreArmed g old new all → ArmsMore g old new all
   more_all old new all armed = (all, [], sym (append-nil all), armed)
 
   -- those of what came before, with the first ones of what comes
-  pub more_on : (old mid new : Bench D S K g s k) (done some rest : List Arm) → AreArmed old mid done
-      → ArmsMore mid new some → ArmsMore old new (done ++ (some ++ rest))
+  pub more_on : (old mid new : BenchValue D) (done some rest : List Arm) → AreArmed g old mid done
+      → ArmsMore g mid new some → ArmsMore g old new (done ++ (some ++ rest))
   more_on old mid new done some rest armed more = (
     done ++ more.0,
     more.1 ++ rest,
@@ -85,20 +82,20 @@ module _ {D S K : Type 0} {g : Ghosts D} {s : SourceGhosts S} {k : SinkGhosts K}
     armed_on old mid new done more.0 armed more.3,
   )
 
-  pub armed_next : (old mid new : Bench D S K g s k) (all : List Arm) (i : ℕ) (d : Arm) → i < length all
-      → AreArmed old mid (take i all) → AreArmed mid new (get_or all i d ∷ []) → AreArmed old new (take (i + 1) all)
+  pub armed_next : (old mid new : BenchValue D) (all : List Arm) (i : ℕ) (d : Arm) → i < length all
+      → AreArmed g old mid (take i all) → AreArmed g mid new (get_or all i d ∷ []) → AreArmed g old new (take (i + 1) all)
   armed_next old mid new all i d within before armed =
-      subst (λ front. AreArmed old new front) (sym (take_more all i d within))
+      subst (λ front. AreArmed g old new front) (sym (take_more all i d within))
       (armed_on old mid new (take i all) (get_or all i d ∷ []) before armed)
 
   -- where an arm isn't told, those before it were
-  pub arms_before : (old mid new : Bench D S K g s k) (all rest : List Arm) (i : ℕ) → AreArmed old mid (take i all)
-      → AreArmed mid new [] → ArmsMore old new (all ++ rest)
+  pub arms_before : (old mid new : BenchValue D) (all rest : List Arm) (i : ℕ) → AreArmed g old mid (take i all)
+      → AreArmed g mid new [] → ArmsMore g old new (all ++ rest)
   arms_before old mid new all rest i armed none = (
     take i all,
     drop i all ++ rest,
     ap (λ xs. xs ++ rest) (sym (take-append-drop i all)) ∙ append_assoc (take i all) (drop i all) rest,
-    subst (λ xs. AreArmed old new xs) (append-nil (take i all)) (armed_on old mid new (take i all) [] armed none),
+    subst (λ xs. AreArmed g old new xs) (append-nil (take i all)) (armed_on old mid new (take i all) [] armed none),
   )
 
 -- what the steps up to one, that one, and the rest arm

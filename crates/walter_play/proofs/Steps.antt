@@ -1,21 +1,26 @@
 -- How steps go on.
-use Rattle.std.proofs.Common.{◌≡◌, ℕ, zero, suc, ◌<◌, List, [], ◌∷◌, ◌++◌, length, slice_get, Some, refl, subst, arith, inl, inr}
+use Rattle.std.proofs.Common.{◌≡◌, ℕ, zero, suc, ◌<◌, List, [], ◌∷◌, ◌++◌, ◌∙◌, length, slice_get, Option, Some, option_map, refl, ap, sym, subst, arith, inl, inr}
+use Rattle.std.specs.Prelude.{All}
+use Rattle.std.proofs.lemmas.List.Elements.{All-contains}
+use Rattle.std.proofs.lemmas.Option.{slice_get-map}
+use Rattle.walter_base.specs.declared.catalog.Catalog.{Catalog}
 use Rattle.walter_base.specs.declared.names.SiteId.{SiteId}
-use Rattle.walter_cell.specs.Cells.{TurnsTo}
+use Rattle.walter_cell.specs.Cells.{CellValue, TurnsTo}
+use Rattle.walter_cell.specs.Lines.{LineValue, IsLineAt}
 use Rattle.walter_cell.specs.declared.answers.Serve.{Serve}
 use Rattle.walter_cell.specs.declared.answers.Serve.TheVariants as serve
-use Rattle.walter_cluster.specs.Moments.{Moment, TurnsAt}
+use Rattle.walter_cluster.specs.Benches.{BenchValue, IsOf, AreMet, AreAllConnected, IsToldAt, lines_at}
+use Rattle.walter_cluster.specs.Moments.{Moment, TurnsAt, Drops, DropsAt, moment_of, trail_at}
+use Rattle.walter_cluster.proofs.Changes.{there_is, field_at}
+use Rattle.walter_disk.specs.declared.disk.Disk.{Ghosts}
+use Rattle.walter_psi.proofs.Lists.{contains_at}
 use Rattle.walter_rules.specs.declared.entry.Entry.{Entry}
+use Rattle.walter_scenario.specs.declared.scenario.Client.{Client}
 use Rattle.walter_scenario.specs.declared.scenario.Scenario.{Scenario}
 use Rattle.walter_scenario.specs.declared.scenario.Step.{Step}
 use Rattle.walter_scenario.specs.declared.scenario.Step.TheVariants as step
+use Rattle.walter_trail.specs.Calls.{calls_of}
 use Rattle.walter_play.specs.Scripts.{IsTurn, IsDelivery, IsEventAt, Takes, Plays}
-
--- there is an element at each place before the end
-pub there_is : {X : Type 0} (xs : List X) (n : ℕ) → n < length xs → (x : X) × (slice_get xs n ≡ Some x)
-there_is [] n within = absurd (omega (arith, within))
-there_is (x ∷ xs) zero within = (x, refl)
-there_is (x ∷ xs) (suc n) within = there_is xs n (omega (arith, within))
 
 -- a turn of a connection that doesn't fail
 sure_turn : (number : ℕ) (bytes : List ℕ) (clock : ℕ) (fault : Type 0) (old new : List Entry) (answer : Serve) → (fault → ⊥)
@@ -69,3 +74,33 @@ plays_more told t [] one old now new plays takes =
     (new, subst (λ (m : Moment). Takes told t one m new) plays takes, refl)
 plays_more told t (first ∷ steps) one old now new plays takes =
     (plays.0, plays.1, plays_more told t steps one plays.0 now new plays.2 takes)
+
+-- ---- a client's turn
+
+-- the site of a client, of which so much was read
+pub turn_of : {D : Type 0} (t : Scenario) (bench : BenchValue D) (number : ℕ) (client : Client) → IsOf t bench
+    → AreAllConnected t bench → All (λ (client : Client). client.site.0 < t.catalog.sites) t.clients
+    → slice_get t.clients number ≡ Some client
+    → (slice_get bench.homes number ≡ Some client.site)
+    × IsLineAt client.bytes (calls_of number (trail_at bench.cells client.site)) (lines_at bench.cells client.site.0) number
+turn_of {D = D} t bench number client is connected within there =
+    let site = All-contains (λ (client : Client). client.site.0 < t.catalog.sites) t.clients client within
+    (contains_at t.clients client number there) in
+    let long = is.sites in
+    let c = there_is bench.cells client.site.0 (omega (arith, site, long)) in
+    let line = connected client.site.0 c.0 c.1 number client there refl in (
+      ap (λ hs. slice_get hs number) is.homes
+          ∙ (slice_get-map (λ (client : Client). client.site) t.clients number ∙ ap (option_map (λ (client : Client). client.site)) there),
+      subst (λ (es : List Entry). IsLineAt client.bytes (calls_of number es) (lines_at bench.cells client.site.0) number)
+          (sym (field_at (λ (c : CellValue D). c.node.trail) bench.cells client.site.0 c.0 [] c.1))
+          (subst (λ (ls : List (Option LineValue)). IsLineAt client.bytes (calls_of number c.0.node.trail) ls number)
+          (sym (field_at (λ (c : CellValue D). c.lines) bench.cells client.site.0 c.0 [] c.1)) line),
+    )
+
+-- what a site drops that is one of the scenario's
+pub drops_of : {D : Type 0} (g : Ghosts D) (t : Scenario) (old new : BenchValue D) (i : SiteId) → IsOf t old → AreMet old
+    → i.0 < t.catalog.sites → Drops g i old new → IsToldAt g i.0 old → DropsAt t.catalog i (moment_of old.cells) (moment_of new.cells)
+drops_of g t old new i is met site drops told =
+    let long = is.sites in
+    let c = there_is old.cells i.0 (omega (arith, site, long)) in
+    subst (λ (k : Catalog). DropsAt k i (moment_of old.cells) (moment_of new.cells)) (is.catalogs i.0 c.0 c.1) (drops met told c.0 c.1)

@@ -4,9 +4,8 @@ use Rattle.walter_base.specs.declared.names.SiteId.{SiteId}
 use Rattle.walter_cell.specs.declared.answers.Acted.{Acted}
 use Rattle.walter_cell.specs.declared.answers.Moved.{Moved}
 use Rattle.walter_cell.specs.declared.answers.Serve.{Serve}
-use Rattle.walter_cluster.specs.declared.bench.Bench.{Bench}
-use Rattle.walter_cluster.specs.Benches.{arms_at}
-use Rattle.walter_cluster.specs.Moments.{Moment, IsFirst, Drops, TurnsAt, ActsAt, MovesAt}
+use Rattle.walter_cluster.specs.Benches.{BenchValue, arms_at}
+use Rattle.walter_cluster.specs.Moments.{Moment, IsFirst, DropsAt, TurnsAt, ActsAt, MovesAt}
 use Rattle.walter_disk.specs.declared.disk.Disk.{Ghosts}
 use Rattle.walter_rules.specs.declared.entry.Entry.{Entry}
 use Rattle.walter_rules.specs.declared.event.Event.{Event}
@@ -17,8 +16,6 @@ use Rattle.walter_scenario.specs.declared.scenario.Client.{Client}
 use Rattle.walter_scenario.specs.declared.scenario.Scenario.{Scenario}
 use Rattle.walter_scenario.specs.declared.scenario.Step.{Step}
 use Rattle.walter_scenario.specs.declared.scenario.Step.TheVariants as step
-use Rattle.walter_stream.specs.declared.sink.Sink.{Ghosts as SinkGhosts}
-use Rattle.walter_stream.specs.declared.source.Source.{Ghosts as SourceGhosts}
 
 -- ---- steps. Of a site that is told, that is whose disk tells what it holds, it is said what it drops.
 
@@ -26,7 +23,7 @@ use Rattle.walter_stream.specs.declared.source.Source.{Ghosts as SourceGhosts}
 pub record IsEventAt (told : ℕ → Type 0) (t : Scenario) (i : SiteId) (happens : Event) (old new : Moment) : Type 0 where
   pub answer : Acted
   pub acts : ActsAt i happens old new answer
-  pub drops : told i.0 → Drops t.catalog i old new
+  pub drops : told i.0 → DropsAt t.catalog i old new
 
 -- the turn of a client, whose connection doesn't fail
 pub record IsTurn (told : ℕ → Type 0) (t : Scenario) (number : ℕ) (old new : Moment) : Type 0 where
@@ -34,14 +31,14 @@ pub record IsTurn (told : ℕ → Type 0) (t : Scenario) (number : ℕ) (old new
   pub there : slice_get t.clients number ≡ Some client
   pub answer : Serve
   pub turns : TurnsAt client.site number client.bytes ⊥ old new answer
-  pub drops : told client.site.0 → Drops t.catalog client.site old new
+  pub drops : told client.site.0 → DropsAt t.catalog client.site old new
 
 -- the packet of a number comes to a site from another
 pub record IsDelivery (told : ℕ → Type 0) (t : Scenario) (to from : SiteId) (number : ℕ)
     (old new : Moment) : Type 0 where
   pub answer : Moved
   pub moves : MovesAt to from number old new answer
-  pub drops : told to.0 → Drops t.catalog to old new
+  pub drops : told to.0 → DropsAt t.catalog to old new
 
 -- what a step is; arming a disk brings nothing to a trail
 abbrev pub Takes : (told : ℕ → Type 0) → Scenario → Step → (old new : Moment) → Type 0
@@ -89,12 +86,12 @@ arms_of steps = flat_map arms_by steps
 abbrev pub all_arms : Scenario → ℕ → List (ℕ × ℕ)
 all_arms t i = arms_for i (t.arms ++ arms_of t.steps)
 
-module _ {D S K : Type 0} {g : Ghosts D} {s : SourceGhosts S} {k : SinkGhosts K} where
+module _ {D : Type 0} (g : Ghosts D) where
   -- the arms of each disk are these behind those from before, where it tells them
-  abbrev pub AreArmed : (old new : Bench D S K g s k) → List Arm → Type 0
+  abbrev pub AreArmed : (old new : BenchValue D) → List Arm → Type 0
   AreArmed old new arms = (i : ℕ)
-      → arms_at new.cells.items i ≡ option_map (λ told. told ++ arms_for i arms) (arms_at old.cells.items i)
+      → arms_at g new.cells i ≡ option_map (λ told. told ++ arms_for i arms) (arms_at g old.cells i)
 
   -- they are the first ones of these
-  abbrev pub ArmsMore : (old new : Bench D S K g s k) → List Arm → Type 0
+  abbrev pub ArmsMore : (old new : BenchValue D) → List Arm → Type 0
   ArmsMore old new arms = (some more : List Arm) × (arms ≡ some ++ more) × AreArmed old new some

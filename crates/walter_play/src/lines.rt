@@ -1,5 +1,5 @@
 ghost use Rattle.std.specs.Prelude.{◌≡◌, [], length, IfOk};
-ghost use Rattle.walter_cell.specs.Cells.{IsLine};
+ghost use Rattle.walter_cell.specs.Lines.{IsLine};
 ghost use Rattle.walter_cluster.specs.Builds.{AreUnread};
 
 use std::alloc::Global;
@@ -10,7 +10,7 @@ use walter_stream::{BytesSource, NullSink};
 
 /// The connection of a client of a scenario, whose bytes are those of the scenario. The frames of its replies are kept
 /// nowhere, since the trail has the replies.
-pub type Line = Conn<BytesSource, NullSink>;
+pub type Line = walter_cell::Line<BytesSource, NullSink>;
 
 /// The connections of the clients, in order.
 pub fn open_lines(alloc: Global, clients: &[Client]) -> Mem<Vec<Line>>
@@ -30,7 +30,7 @@ fn open_line(alloc: Global, bytes: &Bytes) -> Mem<Line>
 {
     let bytes = bytes.clone()?.into_vec();
     match Conn::new(alloc, BytesSource::from(bytes), NullSink) {
-        Ok(line) => Ok(line),
+        Ok(conn) => Ok(Line::new(conn)),
         Err(_) => Err(NoMemory),
     }
 }

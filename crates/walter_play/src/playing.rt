@@ -1,6 +1,7 @@
-ghost use Rattle.std.specs.Prelude.{◌≡◌, ◌++◌, ◌∷◌, [], ℕ, length, All, OnOk};
+ghost use Rattle.std.specs.Prelude.{◌≡◌, ◌<◌, ◌++◌, ◌∷◌, [], ℕ, length, All, OnOk};
 ghost use Rattle.walter_scenario.specs.Parts.{IsArm, IsStep};
-ghost use Rattle.walter_cluster.specs.Benches.{IsBench, IsKnownAt, AreAllConnected, AreMet};
+ghost use Rattle.walter_scenario.specs.declared.scenario.Client.{Client};
+ghost use Rattle.walter_cluster.specs.Benches.{Keeps, IsOf, IsToldAt, AreAllConnected, AreMet};
 ghost use Rattle.walter_cluster.specs.Moments.{moment_of};
 ghost use Rattle.walter_play.specs.Scripts.{Takes, Plays, ArmsMore, AreArmed, arms_of};
 
@@ -17,19 +18,18 @@ pub fn play<D: Disk + Drop>(
     bench: &mut Bench<D, BytesSource, NullSink>,
     scenario: &Scenario,
 ) -> Mem<()>
-    requires bench { IsBench scenario.now bench.old }
+    requires of { IsOf scenario.now bench.old }
+    requires within { All (λ (client : Client). client.site.0 < scenario.now.catalog.sites) scenario.now.clients }
     requires connected { AreAllConnected scenario.now bench.old }
     requires met { AreMet bench.old }
     requires arms { All (IsArm scenario.now.catalog.sites) scenario.now.arms }
     requires steps { All (IsStep scenario.now.catalog.sites (length scenario.now.clients)) scenario.now.steps }
-    ensures bench { IsBench scenario.now bench.new }
-    ensures known { (i : ℕ) → IsKnownAt scenario.now i bench.old → IsKnownAt scenario.now i bench.new }
-    ensures connected { AreAllConnected scenario.now bench.new }
+    ensures keeps { Keeps D.Disk bench.old bench.new }
     // By the script; of a site whose disk tells what it holds also what it drops.
-    ensures played { OnOk result (Plays (λ i. IsKnownAt scenario.now i bench.old) scenario.now scenario.now.steps
-        (moment_of bench.old.cells.items) (moment_of bench.new.cells.items)) }
-    ensures arms { ArmsMore bench.old bench.new (scenario.now.arms ++ arms_of scenario.now.steps) }
-    ensures armed { OnOk result (AreArmed bench.old bench.new (scenario.now.arms ++ arms_of scenario.now.steps)) }
+    ensures played { OnOk result (Plays (λ i. IsToldAt D.Disk i bench.old) scenario.now scenario.now.steps
+        (moment_of bench.old.cells) (moment_of bench.new.cells)) }
+    ensures arms { ArmsMore D.Disk bench.old bench.new (scenario.now.arms ++ arms_of scenario.now.steps) }
+    ensures armed { OnOk result (AreArmed D.Disk bench.old bench.new (scenario.now.arms ++ arms_of scenario.now.steps)) }
 {
     for arm in scenario.arms.as_slice() {
         bench.arm(arm.site, arm.nth, arm.choice)?;
@@ -47,18 +47,16 @@ fn take_step<D: Disk + Drop>(
     scenario: &Scenario,
     step: Step,
 ) -> Mem<()>
-    requires bench { IsBench scenario.now bench.old }
+    requires of { IsOf scenario.now bench.old }
+    requires within { All (λ (client : Client). client.site.0 < scenario.now.catalog.sites) scenario.now.clients }
     requires connected { AreAllConnected scenario.now bench.old }
     requires met { AreMet bench.old }
     requires there { IsStep scenario.now.catalog.sites (length scenario.now.clients) step }
-    ensures bench { IsBench scenario.now bench.new }
-    ensures known { (i : ℕ) → IsKnownAt scenario.now i bench.old → IsKnownAt scenario.now i bench.new }
-    ensures connected { AreAllConnected scenario.now bench.new }
-    ensures met { AreMet bench.new }
-    ensures took { OnOk result (Takes (λ i. IsKnownAt scenario.now i bench.old) scenario.now step
-        (moment_of bench.old.cells.items) (moment_of bench.new.cells.items)) }
-    ensures armed { OnOk result (AreArmed bench.old bench.new (arms_of (step ∷ []))) }
-    ensures arms { ArmsMore bench.old bench.new (arms_of (step ∷ [])) }
+    ensures keeps { Keeps D.Disk bench.old bench.new }
+    ensures took { OnOk result (Takes (λ i. IsToldAt D.Disk i bench.old) scenario.now step
+        (moment_of bench.old.cells) (moment_of bench.new.cells)) }
+    ensures armed { OnOk result (AreArmed D.Disk bench.old bench.new (arms_of (step ∷ []))) }
+    ensures arms { ArmsMore D.Disk bench.old bench.new (arms_of (step ∷ [])) }
 {
     match step {
         Step::Call(client) => {

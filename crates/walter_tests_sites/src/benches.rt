@@ -1,18 +1,17 @@
 //! A bench whose clients' sinks keep what is written to them.
-ghost use Rattle.std.specs.Prelude.{◌<◌, length, IfOk, All};
-ghost use Rattle.walter_cluster.specs.Benches.{IsBench};
+ghost use Rattle.std.specs.Prelude.{◌≡◌, ◌<◌, length, IfOk, All};
 ghost use Rattle.walter_scenario.specs.declared.scenario.Client.{Client};
-ghost use Rattle.walter_scenario.specs.declared.scenario.Scenario.{Scenario};
 
 use anyhow::{Result, bail};
 use std::alloc::Global;
+use walter_cell::Line;
 use walter_cluster::{Bench, Closed, build};
 use walter_conn::Conn;
 use walter_disk_memory::MemoryDisk;
 use walter_scenario::read;
 use walter_stream::{BytesSource, MemorySink};
 
-type Line = Conn<BytesSource, MemorySink>;
+type MemoryLine = Line<BytesSource, MemorySink>;
 
 type MemoryBench = Bench<MemoryDisk, BytesSource, MemorySink>;
 
@@ -22,11 +21,11 @@ const ROOMS: [usize; 2] = [100, 20];
 const TURNS: [u32; 6] = [0, 1, 1, 0, 1, 0];
 
 /// A connection with a client that sends these bytes, to a sink with room for so many.
-fn line(alloc: Global, bytes: &[u8], room: usize) -> Result<Line> {
+fn line(alloc: Global, bytes: &[u8], room: usize) -> Result<MemoryLine> {
     let source = BytesSource::from(bytes.to_vec(alloc)?);
     let sink = MemorySink::with_room(alloc, room, Vec::new(alloc))?;
     match Conn::new(alloc, source, sink) {
-        Ok(line) => Ok(line),
+        Ok(conn) => Ok(Line::new(conn)),
         Err(_) => bail!("no memory for a connection"),
     }
 }
@@ -35,11 +34,11 @@ fn line(alloc: Global, bytes: &[u8], room: usize) -> Result<Line> {
 fn bench_of(
     alloc: Global,
     scenario: &walter_scenario::Scenario,
-    first: Line,
-    second: Line,
+    first: MemoryLine,
+    second: MemoryLine,
 ) -> Result<MemoryBench>
     requires within { All (λ (client : Client). client.site.0 < scenario.now.catalog.sites) scenario.now.clients }
-    ensures { IfOk result (λ bench. (t : Scenario) × IsBench t bench) }
+    ensures { IfOk result (λ bench. length bench.homes ≡ length scenario.now.clients) }
 {
     let catalog = &scenario.catalog;
     let clients = scenario.clients.as_slice().len();
@@ -55,12 +54,11 @@ fn bench_of(
 }
 
 /// Gives each of these clients a turn, in order.
-fn turn_all(alloc: Global, bench: &mut MemoryBench, numbers: &[u32]) -> Result<()>
-    requires { (t : Scenario) × IsBench t bench.old }
-    ensures { (t : Scenario) × IsBench t bench.new }
+fn turn_all(alloc: Global, bench: &mut MemoryBench, clients: usize, numbers: &[u32]) -> Result<()>
+    requires { length bench.old.homes ≡ clients }
 {
     for number in numbers {
-        if *number as usize >= bench.homes.len() {
+        if *number as usize >= clients {
             bail!("no such client");
         }
         bench.turn(alloc, *number)?;
@@ -69,10 +67,10 @@ fn turn_all(alloc: Global, bench: &mut MemoryBench, numbers: &[u32]) -> Result<(
 }
 
 /// What the sinks of a site's clients hold comes behind this, each in a line as hex.
-fn push_held(alloc: Global, held: &mut String, lines: Vec<Option<Line>>) -> Result<()> {
+fn push_held(alloc: Global, held: &mut String, lines: Vec<Option<MemoryLine>>) -> Result<()> {
     for line in lines {
         if let Some(line) = line {
-            let (_, sink) = line.into_parts();
+            let (_, sink) = line.into_conn().into_parts();
             held.push_str(&hex::encode(alloc, sink.as_slice())?)?;
             held.push_str("\n")?;
         }
@@ -85,13 +83,14 @@ pub(crate) fn held_by_sinks(alloc: Global, text: &str) -> Result<String> {
     let Ok(scenario) = read(alloc, text.as_bytes()) else {
         bail!("no scenario");
     };
+    let clients = scenario.clients.as_slice().len();
     let [first, second] = scenario.clients.as_slice() else {
         bail!("the scenario hasn't two clients");
     };
     let first = line(alloc, first.bytes.as_slice(), ROOMS[0])?;
     let second = line(alloc, second.bytes.as_slice(), ROOMS[1])?;
     let mut bench = bench_of(alloc, &scenario, first, second)?;
-    turn_all(alloc, &mut bench, &TURNS)?;
+    turn_all(alloc, &mut bench, clients, &TURNS)?;
     let Closed { conns, .. } = bench.close();
     let mut held = String::new(alloc);
     for lines in conns {

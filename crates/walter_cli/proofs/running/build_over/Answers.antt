@@ -28,13 +28,13 @@ returns-in-Ok-build-clause-built g c =
       no_records = λ i disk at.
           of_reads (g.R.D.Disk.known disk).reads (g.R.D.Disk.may_leave disk) HasNoRecord (was.1.fresh i disk at).durable
           (λ bytes told only. built.had_none i disk bytes at (record { told = told; only = only }));
-      is = built.bench;
-      known = built.known;
+      of = built.of;
+      told = built.told;
       connected = built.connected (subst (λ (clients : List Client). AreUnread clients c.in-Ok.lines.items) c.as_slice.ensures
           c.in-Ok.ensures.unread);
       met = built.met;
       first = built.first;
-      arms = λ i disk at. let left = built.leaves i disk at in arms_built c.in-Ok-build.bench i disk left.0 left.1 left.2;
+      arms = λ i disk at. let left = built.leaves i disk at in arms_built g.R.D.Disk c.in-Ok-build.bench i disk left.0 left.1 left.2;
     }
 
 pub returns-in-Err-clause-unbuilt : goal.returns-in-Err-clause-unbuilt

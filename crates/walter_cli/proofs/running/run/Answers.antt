@@ -1,5 +1,6 @@
 use Rattle.std.proofs.Common.{◌≡◌, ◌≤◌, List, Some, None, Vec, Global, false, inr, subst, ap, sym, refl, ◌∙◌, arith}
 use Rattle.std.specs.Result.{is_err}
+use Rattle.walter_cluster.proofs.Keeping.{of_kept}
 use Rattle.walter_report.specs.Reports.{HaveFrames}
 use Rattle.walter_report.specs.Traces.{HaveSpellings}
 use Rattle.walter_rules.specs.declared.entry.Entry.{Entry}
@@ -35,15 +36,15 @@ module _ (g : Over) (c : After-give_all-given g) where
   abbrev trails : List (List Entry)
   trails = c.close-trails.result.trails.items
 
-  built : IsBuilt before mid c.args.scenario.now c.in-Ok.bench
+  built : IsBuilt g.R.D.Disk before mid c.args.scenario.now c.in-Ok.bench
   built = c.in-Ok.ensures.built
 
   run : IsRun rack c.args.scenario.now trails
   run =
       let played = c.play-played.ensures in
       let closed = c.close-trails.ensures in
-      run_is c.args.scenario.now before mid after c.in-Ok.bench c.play-played.new.bench
-      c.close-trails.result.disks.items trails built played.bench played.known played.connected played.arms
+      run_is g.R.D.Disk c.args.scenario.now before mid after c.in-Ok.bench c.play-played.new.bench
+      c.close-trails.result.disks.items trails built played.keeps closed.bench closed.sound played.arms
       closed.gives.trails closed.gives.disks closed.linked c.give_all-given.ensures.given c.requires.whole
 
   -- where it was driven to its end and the disks were given back, they are those of a whole run
@@ -52,8 +53,8 @@ module _ (g : Over) (c : After-give_all-given g) where
   whole to_end same =
       let played = c.play-played.ensures in
       let closed = c.close-trails.ensures in
-      whole_is c.args.scenario.now before mid after c.in-Ok.bench c.play-played.new.bench
-      c.close-trails.result.disks.items trails built played.bench played.known played.connected played.arms
+      whole_is g.R.D.Disk c.args.scenario.now before mid after c.in-Ok.bench c.play-played.new.bench
+      c.close-trails.result.disks.items trails built played.keeps closed.bench closed.sound played.arms
       closed.gives.trails closed.gives.disks closed.linked c.give_all-given.ensures.given c.requires.whole
       (ok_part c.play-played.result _ played.played to_end) (ok_part c.play-played.result _ played.armed to_end) same
 
@@ -61,8 +62,8 @@ module _ (g : Over) (c : After-give_all-given g) where
   came_back =
       let played = c.play-played.ensures in
       let closed = c.close-trails.ensures in
-      returned c.args.scenario.now before mid after c.in-Ok.bench c.play-played.new.bench
-      c.close-trails.result.disks.items trails built played.bench played.known played.connected played.arms
+      returned g.R.D.Disk c.args.scenario.now before mid after c.in-Ok.bench c.play-played.new.bench
+      c.close-trails.result.disks.items trails built played.keeps closed.bench closed.sound played.arms
       closed.gives.trails closed.gives.disks closed.linked c.give_all-given.ensures.given
 
   back : rack.balanced
@@ -77,11 +78,15 @@ module _ (g : Over) (c : After-give_all-given g) where
 
   short : HaveFrames trails
   short = subst HaveFrames (sym c.close-trails.ensures.gives.trails)
-      (frames c.args.scenario.now c.play-played.new.bench c.play-played.ensures.bench)
+      (frames g.R.D.Disk c.args.scenario.now c.play-played.new.bench
+      (of_kept g.R.D.Disk c.in-Ok.bench c.play-played.new.bench c.play-played.ensures.keeps c.args.scenario.now built.of)
+      c.close-trails.ensures.bench c.close-trails.ensures.sound)
 
   spelled : HaveSpellings trails
   spelled = subst HaveSpellings (sym c.close-trails.ensures.gives.trails)
-      (spellings c.args.scenario.now c.play-played.new.bench c.play-played.ensures.bench)
+      (spellings g.R.D.Disk c.args.scenario.now c.play-played.new.bench
+      (of_kept g.R.D.Disk c.in-Ok.bench c.play-played.new.bench c.play-played.ensures.keeps c.args.scenario.now built.of)
+      c.close-trails.ensures.bench c.close-trails.ensures.sound)
 
 pub returns-then-is_err-clause-given_back : goal.returns-then-is_err-clause-given_back
 returns-then-is_err-clause-given_back g c = back g (goal.at.returns-then-is_err-clause-given_back g c).After-give_all-given

@@ -1,9 +1,9 @@
-use Rattle.std.proofs.Common.{◌≢◌, ◌<◌, ℕ}
-use Rattle.walter_cluster.specs.Meetings.{AreUnchanged, Begins}
+use Rattle.std.proofs.Common.{◌≡◌, ◌≢◌, ◌<◌, ℕ}
+use Rattle.walter_cluster.specs.Meetings.{Begins}
 use Rattle.walter_cluster.proofs.closing.compare_with_all.Given as goal
 
 abbrev pub invariant-loop-from : goal.invariant-loop-from
 invariant-loop-from g l = record {
-  same : AreUnchanged l.initial.cells l.cells;
+  same : l.cells ≡ l.initial.cells;
   begins : (j : ℕ) → j < l.from → l.to ≢ j → Begins l.initial.cells l.to j;
 }

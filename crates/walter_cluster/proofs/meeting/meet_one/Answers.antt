@@ -1,7 +1,7 @@
 use Rattle.std.proofs.Common.{◌++◌, set, get_or}
 use Rattle.std.proofs.lemmas.Result.{on_ok_weaker}
 use Rattle.walter_cluster.proofs.Changes.{both_up, both_down, second_was}
-use Rattle.walter_cluster.proofs.Meetings.{Meets, lane_there, receiver_stays, sender_stays, meet_stays, meet_arrives, meet_elsewhere, meet_met}
+use Rattle.walter_cluster.proofs.Meetings.{Meets, lane_there, meet_stays, meet_arrives, meet_elsewhere, meet_met}
 use Rattle.walter_cluster.proofs.meeting.meet_one.Goals as goal
 
 pub meet-requires-clause-from : goal.meet-requires-clause-from
@@ -13,8 +13,9 @@ meet-requires-clause-from g c =
     let lower = get_or low c.args.from c.index-low-from.result in
     let higher = get_or high 0 c.index-high-0.result in
     let two = both_down cells low high c.args.from c.args.to c.index-low-from.result c.index-high-0.result lower higher split.value c.if-from-to.true split.front_len c.requires.to in
+    let new = set low c.args.from lower ++ set high 0 higher in
     (lane_there cells c.args.to c.args.from higher lower two.first.was
-    (second_was cells (set low c.args.from lower ++ set high 0 higher) c.args.to c.args.from higher lower higher lower two) c.requires.lanes).0
+    (second_was cells new c.args.to c.args.from higher lower higher lower two) c.requires.lanes).0
 
 pub meet-requires-clause-to : goal.meet-requires-clause-to
 meet-requires-clause-to g c =
@@ -25,8 +26,9 @@ meet-requires-clause-to g c =
     let lower = get_or low c.args.from c.index-low-from.result in
     let higher = get_or high 0 c.index-high-0.result in
     let two = both_down cells low high c.args.from c.args.to c.index-low-from.result c.index-high-0.result lower higher split.value c.if-from-to.true split.front_len c.requires.to in
+    let new = set low c.args.from lower ++ set high 0 higher in
     (lane_there cells c.args.to c.args.from higher lower two.first.was
-    (second_was cells (set low c.args.from lower ++ set high 0 higher) c.args.to c.args.from higher lower higher lower two) c.requires.lanes).1
+    (second_was cells new c.args.to c.args.from higher lower higher lower two) c.requires.lanes).1
 
 pub meet-requires-clause-ring : goal.meet-requires-clause-ring
 meet-requires-clause-ring g c =
@@ -37,8 +39,9 @@ meet-requires-clause-ring g c =
     let lower = get_or low c.args.from c.index-low-from.result in
     let higher = get_or high 0 c.index-high-0.result in
     let two = both_down cells low high c.args.from c.args.to c.index-low-from.result c.index-high-0.result lower higher split.value c.if-from-to.true split.front_len c.requires.to in
+    let new = set low c.args.from lower ++ set high 0 higher in
     (lane_there cells c.args.to c.args.from higher lower two.first.was
-    (second_was cells (set low c.args.from lower ++ set high 0 higher) c.args.to c.args.from higher lower higher lower two) c.requires.lanes).2
+    (second_was cells new c.args.to c.args.from higher lower higher lower two) c.requires.lanes).2
 
 pub returns-then-from-to-clause-stays : goal.returns-then-from-to-clause-stays
 returns-then-from-to-clause-stays g c =
@@ -50,21 +53,8 @@ returns-then-from-to-clause-stays g c =
     let higher = get_or high 0 c.index-high-0.result in
     let two = both_down cells low high c.args.from c.args.to c.index-low-from.result c.index-high-0.result c.meet.new.sender c.meet.new.self split.value c.if-from-to.true split.front_len c.requires.to in
     let new = set low c.args.from c.meet.new.sender ++ set high 0 c.meet.new.self in
-    let x = c.meet.new.self in
-    let y = c.meet.new.sender in
-    let m = c.meet.ensures in
-    let meets : Meets c.args.to c.args.from higher lower x y c.meet.result = record {
-      receiver = receiver_stays higher x m.node m.lines.0 m.same.0 m.cell;
-      sender = sender_stays lower y m.rest.0 m.lines.1 m.same.1 m.sends m.sender m.known_sender;
-      node = m.node;
-      ins = m.rest.1;
-      arrived = m.arrived;
-      others = m.other;
-      met = m.met;
-      other_mets = m.other_mets;
-      unmet = m.unmet;
-    } in
-    meet_stays cells new c.args.to c.args.from higher lower x y c.meet.result two meets
+    let meets : Meets g.D.Disk c.args.to c.args.from higher lower c.meet.new.self c.meet.new.sender = record { keeps_receiver = c.meet.ensures.keeps.0; keeps_sender = c.meet.ensures.keeps.1; met = c.meet.ensures.met } in
+    meet_stays g.D.Disk cells new c.args.to c.args.from higher lower c.meet.new.self c.meet.new.sender two meets
 
 pub returns-then-from-to-clause-arrives : goal.returns-then-from-to-clause-arrives
 returns-then-from-to-clause-arrives g c =
@@ -76,21 +66,8 @@ returns-then-from-to-clause-arrives g c =
     let higher = get_or high 0 c.index-high-0.result in
     let two = both_down cells low high c.args.from c.args.to c.index-low-from.result c.index-high-0.result c.meet.new.sender c.meet.new.self split.value c.if-from-to.true split.front_len c.requires.to in
     let new = set low c.args.from c.meet.new.sender ++ set high 0 c.meet.new.self in
-    let x = c.meet.new.self in
-    let y = c.meet.new.sender in
-    let m = c.meet.ensures in
-    let meets : Meets c.args.to c.args.from higher lower x y c.meet.result = record {
-      receiver = receiver_stays higher x m.node m.lines.0 m.same.0 m.cell;
-      sender = sender_stays lower y m.rest.0 m.lines.1 m.same.1 m.sends m.sender m.known_sender;
-      node = m.node;
-      ins = m.rest.1;
-      arrived = m.arrived;
-      others = m.other;
-      met = m.met;
-      other_mets = m.other_mets;
-      unmet = m.unmet;
-    } in
-    on_ok_weaker c.meet.result (λ all apart. meet_arrives cells new c.args.to c.args.from higher lower x y c.meet.result two meets all) m.arrived
+    let meets : Meets g.D.Disk c.args.to c.args.from higher lower c.meet.new.self c.meet.new.sender = record { keeps_receiver = c.meet.ensures.keeps.0; keeps_sender = c.meet.ensures.keeps.1; met = c.meet.ensures.met } in
+    on_ok_weaker c.meet.result (λ all apart. meet_arrives g.D.Disk cells new c.args.to c.args.from higher lower c.meet.new.self c.meet.new.sender two meets c.requires.lanes all c.meet.ensures.sound) c.meet.ensures.arrives
 
 pub returns-then-from-to-clause-elsewhere : goal.returns-then-from-to-clause-elsewhere
 returns-then-from-to-clause-elsewhere g c i j else_ =
@@ -102,21 +79,8 @@ returns-then-from-to-clause-elsewhere g c i j else_ =
     let higher = get_or high 0 c.index-high-0.result in
     let two = both_down cells low high c.args.from c.args.to c.index-low-from.result c.index-high-0.result c.meet.new.sender c.meet.new.self split.value c.if-from-to.true split.front_len c.requires.to in
     let new = set low c.args.from c.meet.new.sender ++ set high 0 c.meet.new.self in
-    let x = c.meet.new.self in
-    let y = c.meet.new.sender in
-    let m = c.meet.ensures in
-    let meets : Meets c.args.to c.args.from higher lower x y c.meet.result = record {
-      receiver = receiver_stays higher x m.node m.lines.0 m.same.0 m.cell;
-      sender = sender_stays lower y m.rest.0 m.lines.1 m.same.1 m.sends m.sender m.known_sender;
-      node = m.node;
-      ins = m.rest.1;
-      arrived = m.arrived;
-      others = m.other;
-      met = m.met;
-      other_mets = m.other_mets;
-      unmet = m.unmet;
-    } in
-    meet_elsewhere cells new c.args.to c.args.from higher lower x y c.meet.result two meets i j else_
+    let meets : Meets g.D.Disk c.args.to c.args.from higher lower c.meet.new.self c.meet.new.sender = record { keeps_receiver = c.meet.ensures.keeps.0; keeps_sender = c.meet.ensures.keeps.1; met = c.meet.ensures.met } in
+    meet_elsewhere g.D.Disk cells new c.args.to c.args.from higher lower c.meet.new.self c.meet.new.sender two meets i j else_
 
 pub returns-then-from-to-clause-met : goal.returns-then-from-to-clause-met
 returns-then-from-to-clause-met g c all =
@@ -128,21 +92,8 @@ returns-then-from-to-clause-met g c all =
     let higher = get_or high 0 c.index-high-0.result in
     let two = both_down cells low high c.args.from c.args.to c.index-low-from.result c.index-high-0.result c.meet.new.sender c.meet.new.self split.value c.if-from-to.true split.front_len c.requires.to in
     let new = set low c.args.from c.meet.new.sender ++ set high 0 c.meet.new.self in
-    let x = c.meet.new.self in
-    let y = c.meet.new.sender in
-    let m = c.meet.ensures in
-    let meets : Meets c.args.to c.args.from higher lower x y c.meet.result = record {
-      receiver = receiver_stays higher x m.node m.lines.0 m.same.0 m.cell;
-      sender = sender_stays lower y m.rest.0 m.lines.1 m.same.1 m.sends m.sender m.known_sender;
-      node = m.node;
-      ins = m.rest.1;
-      arrived = m.arrived;
-      others = m.other;
-      met = m.met;
-      other_mets = m.other_mets;
-      unmet = m.unmet;
-    } in
-    meet_met cells new c.args.to c.args.from higher lower x y c.meet.result two meets all
+    let meets : Meets g.D.Disk c.args.to c.args.from higher lower c.meet.new.self c.meet.new.sender = record { keeps_receiver = c.meet.ensures.keeps.0; keeps_sender = c.meet.ensures.keeps.1; met = c.meet.ensures.met } in
+    meet_met g.D.Disk cells new c.args.to c.args.from higher lower c.meet.new.self c.meet.new.sender two meets all
 
 pub meet-requires-then-to-from-clause-from : goal.meet-requires-then-to-from-clause-from
 meet-requires-then-to-from-clause-from g c =
@@ -153,8 +104,9 @@ meet-requires-then-to-from-clause-from g c =
     let lower = get_or low c.args.to c.index-low-to.result in
     let higher = get_or high 0 c.index-high-0-then-to-from.result in
     let two = both_up cells low high c.args.to c.args.from c.index-low-to.result c.index-high-0-then-to-from.result lower higher split.value c.if-to-from.true split.front_len c.requires.from in
+    let new = set low c.args.to lower ++ set high 0 higher in
     (lane_there cells c.args.to c.args.from lower higher two.first.was
-    (second_was cells (set low c.args.to lower ++ set high 0 higher) c.args.to c.args.from lower higher lower higher two) c.requires.lanes).0
+    (second_was cells new c.args.to c.args.from lower higher lower higher two) c.requires.lanes).0
 
 pub meet-requires-then-to-from-clause-to : goal.meet-requires-then-to-from-clause-to
 meet-requires-then-to-from-clause-to g c =
@@ -165,8 +117,9 @@ meet-requires-then-to-from-clause-to g c =
     let lower = get_or low c.args.to c.index-low-to.result in
     let higher = get_or high 0 c.index-high-0-then-to-from.result in
     let two = both_up cells low high c.args.to c.args.from c.index-low-to.result c.index-high-0-then-to-from.result lower higher split.value c.if-to-from.true split.front_len c.requires.from in
+    let new = set low c.args.to lower ++ set high 0 higher in
     (lane_there cells c.args.to c.args.from lower higher two.first.was
-    (second_was cells (set low c.args.to lower ++ set high 0 higher) c.args.to c.args.from lower higher lower higher two) c.requires.lanes).1
+    (second_was cells new c.args.to c.args.from lower higher lower higher two) c.requires.lanes).1
 
 pub meet-requires-then-to-from-clause-ring : goal.meet-requires-then-to-from-clause-ring
 meet-requires-then-to-from-clause-ring g c =
@@ -177,8 +130,9 @@ meet-requires-then-to-from-clause-ring g c =
     let lower = get_or low c.args.to c.index-low-to.result in
     let higher = get_or high 0 c.index-high-0-then-to-from.result in
     let two = both_up cells low high c.args.to c.args.from c.index-low-to.result c.index-high-0-then-to-from.result lower higher split.value c.if-to-from.true split.front_len c.requires.from in
+    let new = set low c.args.to lower ++ set high 0 higher in
     (lane_there cells c.args.to c.args.from lower higher two.first.was
-    (second_was cells (set low c.args.to lower ++ set high 0 higher) c.args.to c.args.from lower higher lower higher two) c.requires.lanes).2
+    (second_was cells new c.args.to c.args.from lower higher lower higher two) c.requires.lanes).2
 
 pub returns-then-to-from-clause-stays : goal.returns-then-to-from-clause-stays
 returns-then-to-from-clause-stays g c =
@@ -190,21 +144,8 @@ returns-then-to-from-clause-stays g c =
     let higher = get_or high 0 c.index-high-0-then-to-from.result in
     let two = both_up cells low high c.args.to c.args.from c.index-low-to.result c.index-high-0-then-to-from.result c.meet-then-to-from.new.self c.meet-then-to-from.new.sender split.value c.if-to-from.true split.front_len c.requires.from in
     let new = set low c.args.to c.meet-then-to-from.new.self ++ set high 0 c.meet-then-to-from.new.sender in
-    let x = c.meet-then-to-from.new.self in
-    let y = c.meet-then-to-from.new.sender in
-    let m = c.meet-then-to-from.ensures in
-    let meets : Meets c.args.to c.args.from lower higher x y c.meet-then-to-from.result = record {
-      receiver = receiver_stays lower x m.node m.lines.0 m.same.0 m.cell;
-      sender = sender_stays higher y m.rest.0 m.lines.1 m.same.1 m.sends m.sender m.known_sender;
-      node = m.node;
-      ins = m.rest.1;
-      arrived = m.arrived;
-      others = m.other;
-      met = m.met;
-      other_mets = m.other_mets;
-      unmet = m.unmet;
-    } in
-    meet_stays cells new c.args.to c.args.from lower higher x y c.meet-then-to-from.result two meets
+    let meets : Meets g.D.Disk c.args.to c.args.from lower higher c.meet-then-to-from.new.self c.meet-then-to-from.new.sender = record { keeps_receiver = c.meet-then-to-from.ensures.keeps.0; keeps_sender = c.meet-then-to-from.ensures.keeps.1; met = c.meet-then-to-from.ensures.met } in
+    meet_stays g.D.Disk cells new c.args.to c.args.from lower higher c.meet-then-to-from.new.self c.meet-then-to-from.new.sender two meets
 
 pub returns-then-to-from-clause-arrives : goal.returns-then-to-from-clause-arrives
 returns-then-to-from-clause-arrives g c =
@@ -216,21 +157,8 @@ returns-then-to-from-clause-arrives g c =
     let higher = get_or high 0 c.index-high-0-then-to-from.result in
     let two = both_up cells low high c.args.to c.args.from c.index-low-to.result c.index-high-0-then-to-from.result c.meet-then-to-from.new.self c.meet-then-to-from.new.sender split.value c.if-to-from.true split.front_len c.requires.from in
     let new = set low c.args.to c.meet-then-to-from.new.self ++ set high 0 c.meet-then-to-from.new.sender in
-    let x = c.meet-then-to-from.new.self in
-    let y = c.meet-then-to-from.new.sender in
-    let m = c.meet-then-to-from.ensures in
-    let meets : Meets c.args.to c.args.from lower higher x y c.meet-then-to-from.result = record {
-      receiver = receiver_stays lower x m.node m.lines.0 m.same.0 m.cell;
-      sender = sender_stays higher y m.rest.0 m.lines.1 m.same.1 m.sends m.sender m.known_sender;
-      node = m.node;
-      ins = m.rest.1;
-      arrived = m.arrived;
-      others = m.other;
-      met = m.met;
-      other_mets = m.other_mets;
-      unmet = m.unmet;
-    } in
-    on_ok_weaker c.meet-then-to-from.result (λ all apart. meet_arrives cells new c.args.to c.args.from lower higher x y c.meet-then-to-from.result two meets all) m.arrived
+    let meets : Meets g.D.Disk c.args.to c.args.from lower higher c.meet-then-to-from.new.self c.meet-then-to-from.new.sender = record { keeps_receiver = c.meet-then-to-from.ensures.keeps.0; keeps_sender = c.meet-then-to-from.ensures.keeps.1; met = c.meet-then-to-from.ensures.met } in
+    on_ok_weaker c.meet-then-to-from.result (λ all apart. meet_arrives g.D.Disk cells new c.args.to c.args.from lower higher c.meet-then-to-from.new.self c.meet-then-to-from.new.sender two meets c.requires.lanes all c.meet-then-to-from.ensures.sound) c.meet-then-to-from.ensures.arrives
 
 pub returns-then-to-from-clause-elsewhere : goal.returns-then-to-from-clause-elsewhere
 returns-then-to-from-clause-elsewhere g c i j else_ =
@@ -242,21 +170,8 @@ returns-then-to-from-clause-elsewhere g c i j else_ =
     let higher = get_or high 0 c.index-high-0-then-to-from.result in
     let two = both_up cells low high c.args.to c.args.from c.index-low-to.result c.index-high-0-then-to-from.result c.meet-then-to-from.new.self c.meet-then-to-from.new.sender split.value c.if-to-from.true split.front_len c.requires.from in
     let new = set low c.args.to c.meet-then-to-from.new.self ++ set high 0 c.meet-then-to-from.new.sender in
-    let x = c.meet-then-to-from.new.self in
-    let y = c.meet-then-to-from.new.sender in
-    let m = c.meet-then-to-from.ensures in
-    let meets : Meets c.args.to c.args.from lower higher x y c.meet-then-to-from.result = record {
-      receiver = receiver_stays lower x m.node m.lines.0 m.same.0 m.cell;
-      sender = sender_stays higher y m.rest.0 m.lines.1 m.same.1 m.sends m.sender m.known_sender;
-      node = m.node;
-      ins = m.rest.1;
-      arrived = m.arrived;
-      others = m.other;
-      met = m.met;
-      other_mets = m.other_mets;
-      unmet = m.unmet;
-    } in
-    meet_elsewhere cells new c.args.to c.args.from lower higher x y c.meet-then-to-from.result two meets i j else_
+    let meets : Meets g.D.Disk c.args.to c.args.from lower higher c.meet-then-to-from.new.self c.meet-then-to-from.new.sender = record { keeps_receiver = c.meet-then-to-from.ensures.keeps.0; keeps_sender = c.meet-then-to-from.ensures.keeps.1; met = c.meet-then-to-from.ensures.met } in
+    meet_elsewhere g.D.Disk cells new c.args.to c.args.from lower higher c.meet-then-to-from.new.self c.meet-then-to-from.new.sender two meets i j else_
 
 pub returns-then-to-from-clause-met : goal.returns-then-to-from-clause-met
 returns-then-to-from-clause-met g c all =
@@ -268,18 +183,5 @@ returns-then-to-from-clause-met g c all =
     let higher = get_or high 0 c.index-high-0-then-to-from.result in
     let two = both_up cells low high c.args.to c.args.from c.index-low-to.result c.index-high-0-then-to-from.result c.meet-then-to-from.new.self c.meet-then-to-from.new.sender split.value c.if-to-from.true split.front_len c.requires.from in
     let new = set low c.args.to c.meet-then-to-from.new.self ++ set high 0 c.meet-then-to-from.new.sender in
-    let x = c.meet-then-to-from.new.self in
-    let y = c.meet-then-to-from.new.sender in
-    let m = c.meet-then-to-from.ensures in
-    let meets : Meets c.args.to c.args.from lower higher x y c.meet-then-to-from.result = record {
-      receiver = receiver_stays lower x m.node m.lines.0 m.same.0 m.cell;
-      sender = sender_stays higher y m.rest.0 m.lines.1 m.same.1 m.sends m.sender m.known_sender;
-      node = m.node;
-      ins = m.rest.1;
-      arrived = m.arrived;
-      others = m.other;
-      met = m.met;
-      other_mets = m.other_mets;
-      unmet = m.unmet;
-    } in
-    meet_met cells new c.args.to c.args.from lower higher x y c.meet-then-to-from.result two meets all
+    let meets : Meets g.D.Disk c.args.to c.args.from lower higher c.meet-then-to-from.new.self c.meet-then-to-from.new.sender = record { keeps_receiver = c.meet-then-to-from.ensures.keeps.0; keeps_sender = c.meet-then-to-from.ensures.keeps.1; met = c.meet-then-to-from.ensures.met } in
+    meet_met g.D.Disk cells new c.args.to c.args.from lower higher c.meet-then-to-from.new.self c.meet-then-to-from.new.sender two meets all

@@ -11,6 +11,6 @@ invariant-loop-number g l = record {
   rows : l.rows.items ≡ drop l.number l.fn.parts.rows.items;
   columns : l.columns.items ≡ drop l.number l.fn.parts.columns.items;
   lists : l.lists.items ≡ drop l.number l.fn.parts.lists.items;
-  begun : HaveBegun l.scenario l.fn.disks.items (rows_in l.fn.parts.rows.items) (columns_in l.fn.parts.columns.items) (lists_in l.fn.parts.lists.items) l.number l.cells.items;
-  room : vec_capacity l.cells ≡ vec_capacity l.fn.parts.bench.cells;
+  begun : HaveBegun g.D.Disk l.scenario l.fn.disks.items (rows_in l.fn.parts.rows.items) (columns_in l.fn.parts.columns.items) (lists_in l.fn.parts.lists.items) l.number l.cells.items;
+  room : vec_capacity l.cells ≡ vec_capacity l.fn.parts.room.cells;
 }

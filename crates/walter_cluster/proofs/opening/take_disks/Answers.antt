@@ -2,7 +2,7 @@ use Rattle.std.proofs.Common.{◌++◌, Some, map, ap, ◌∙◌, sym, arith, ru
 use Rattle.std.proofs.lemmas.Iterator.Adapters.{YieldsList-from_vec}
 use Rattle.std.proofs.lemmas.Iterator.Consumers.{YieldsList-turn, YieldsList-end}
 use Rattle.std.proofs.lemmas.List.{map-id}
-use Rattle.walter_cluster.specs.Openings.{disks_of}
+use Rattle.walter_cluster.specs.Benches.{disks_of}
 use Rattle.walter_cluster.proofs.Places.{map_lengths}
 use Rattle.walter_cluster.proofs.opening.take_disks.Goals as goal
 

@@ -1,5 +1,5 @@
 use Rattle.std.proofs.Common.{◌≡◌, ◌++◌, Some, map, vec_capacity}
-use Rattle.walter_cluster.specs.Openings.{disks_of}
+use Rattle.walter_cluster.specs.Benches.{disks_of}
 use Rattle.walter_cluster.proofs.opening.take_disks.Given as goal
 
 abbrev pub invariant-loop-cell : goal.invariant-loop-cell

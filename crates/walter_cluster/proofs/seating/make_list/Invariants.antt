@@ -1,5 +1,5 @@
-use Rattle.std.proofs.Common.{◌≡◌, vec_len}
+use Rattle.std.proofs.Common.{◌≡◌, None, replicate}
 use Rattle.walter_cluster.proofs.seating.make_list.Given as goal
 
 abbrev pub invariant-loop : goal.invariant-loop
-invariant-loop g l = vec_len l.list ≡ l.counter
+invariant-loop g l = l.list.items ≡ replicate l.counter None

@@ -5,8 +5,8 @@ use Rattle.std.proofs.lemmas.Iterator.Consumers.{YieldsList-turn}
 use Rattle.std.proofs.lemmas.List.{get_or-map, length-map, length_push}
 use Rattle.std.proofs.lemmas.Option.{slice_get_read}
 use Rattle.walter_scenario.specs.declared.scenario.Client.{Client}
-use Rattle.walter_cluster.specs.Seats.{lists_in, HavePlaces, AreSeated}
-use Rattle.walter_cluster.proofs.Seated.{places_kept, seated_more, lists_set}
+use Rattle.walter_cluster.specs.Seats.{lists_in, HavePlaces, AreSeated, AreAtHome}
+use Rattle.walter_cluster.proofs.Seated.{places_kept, seated_more, home_more, lists_set}
 use Rattle.walter_cluster.proofs.seating.seat_all.Goals as goal
 
 pub index_mut-requires-in-loop-conn : goal.index_mut-requires-in-loop-conn
@@ -51,4 +51,6 @@ loop-conn-preserved g c =
       places = subst (HavePlaces c.args.sites (length clients)) (sym set_to) (places_kept (lists_in vs) home number conn c.args.sites (length clients) is.places at_home there);
       seated = subst (AreSeated (number + 1) clients conns) (sym set_to)
           (seated_more (lists_in vs) home number conn c.args.sites (length clients) is.places at_home there clients conns client at his came is.seated);
+      alone = subst (AreAtHome clients) (sym set_to)
+          (home_more (lists_in vs) home number conn c.args.sites (length clients) is.places at_home there clients client at his is.alone);
     }

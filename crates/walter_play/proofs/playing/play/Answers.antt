@@ -1,6 +1,7 @@
 use Rattle.std.proofs.Common.{◌≡◌, ◌<◌, ◌≤◌, ◌+◌, ◌∷◌, ◌++◌, [], ℕ, List, length, take, drop, get_or, subst, sym, ap, ◌∙◌, refl, arith}
-use Rattle.std.proofs.lemmas.List.{take_more, take_all}
-use Rattle.walter_cluster.specs.Benches.{IsKnownAt}
+use Rattle.std.proofs.lemmas.List.{take_more, take_all, append-nil}
+use Rattle.walter_cluster.specs.Benches.{IsToldAt}
+use Rattle.walter_cluster.proofs.Keeping.{bench_self, bench_on, of_kept, connected_kept, told_kept}
 use Rattle.walter_cluster.specs.Moments.{Moment, moment_of}
 use Rattle.walter_scenario.specs.declared.scenario.Arm.{Arm}
 use Rattle.walter_scenario.specs.declared.scenario.Step.{Step}
@@ -9,24 +10,22 @@ use Rattle.walter_play.proofs.Arming.{armed_on, armed_one, armed_none, armed_nex
 use Rattle.walter_play.proofs.Steps.{plays_more, takes_told}
 use Rattle.walter_play.proofs.playing.play.Goals as goal
 
-pub returns-in_err-arm-clause-known : goal.returns-in_err-arm-clause-known
-returns-in_err-arm-clause-known g c = λ i known.
-    let inv = c.loop-arm.invariant in
-    c.arm.ensures.known c.args.scenario.now i inv.bench (inv.known i known)
+pub loop-arm-init : goal.loop-arm-init
+loop-arm-init g c = record { keeps = bench_self g.D.Disk c.args.bench.now; same = refl; armed = armed_none g.D.Disk c.args.bench.now c.args.bench.now (λ i. refl) }
 
-pub returns-in_err-arm-clause-connected : goal.returns-in_err-arm-clause-connected
-returns-in_err-arm-clause-connected g c =
-    let inv = c.loop-arm.invariant in
-    c.arm.ensures.connected c.args.scenario.now inv.bench inv.connected
+pub returns-in_err-arm-clause-keeps : goal.returns-in_err-arm-clause-keeps
+returns-in_err-arm-clause-keeps g c =
+    bench_on g.D.Disk c.args.bench.now c.loop-arm.bench c.arm.new.self c.loop-arm.invariant.keeps c.arm.ensures.keeps
 
-pub returns-in_err-take_step-clause-known : goal.returns-in_err-take_step-clause-known
-returns-in_err-take_step-clause-known g c = λ i known. c.take_step.ensures.known i (c.loop-step.invariant.known i known)
+pub returns-in_err-take_step-clause-keeps : goal.returns-in_err-take_step-clause-keeps
+returns-in_err-take_step-clause-keeps g c =
+    bench_on g.D.Disk c.args.bench.now c.loop-step.bench c.take_step.new.bench c.loop-step.invariant.keeps c.take_step.ensures.keeps
 
 pub returns-in_err-arm-clause-arms : goal.returns-in_err-arm-clause-arms
 returns-in_err-arm-clause-arms g c =
     let t = c.args.scenario.now in
-    arms_before c.args.bench.now c.loop-arm.bench c.arm.new.self t.arms (arms_of t.steps) c.loop-arm.arm-index
-    c.loop-arm.invariant.armed (armed_none c.loop-arm.bench c.arm.new.self c.in_err-arm.ensures.unarmed)
+    arms_before g.D.Disk c.args.bench.now c.loop-arm.bench c.arm.new.self t.arms (arms_of t.steps) c.loop-arm.arm-index
+    c.loop-arm.invariant.armed (armed_none g.D.Disk c.loop-arm.bench c.arm.new.self c.in_err-arm.ensures.unarmed)
 
 pub loop-arm-preserved : goal.loop-arm-preserved
 loop-arm-preserved g c =
@@ -39,15 +38,31 @@ loop-arm-preserved g c =
     let new = c.arm.new.self in
     let told = c.as_slice-arm-items.ensures in
     let arms = c.as_slice-arm-items.result.now in
-    let before = subst (λ (all : List Arm). AreArmed old mid (take i all)) (sym told) inv.armed in
+    let before = subst (λ (all : List Arm). AreArmed g.D.Disk old mid (take i all)) (sym told) inv.armed in
     record {
-      bench = e.bench t inv.bench;
-      known = λ j known. e.known t j inv.bench (inv.known j known);
-      connected = e.connected t inv.bench inv.connected;
-      met = e.met inv.met;
+      keeps = bench_on g.D.Disk old mid new inv.keeps e.keeps;
       same = e.same ∙ inv.same;
-      armed = subst (λ (all : List Arm). AreArmed old new (take (i + 1) all)) told
-          (armed_next old mid new arms i _ c.loop-arm-test.true before (armed_one mid new (get_or arms i _) e.armed e.others));
+      armed = subst (λ (all : List Arm). AreArmed g.D.Disk old new (take (i + 1) all)) told
+          (armed_next g.D.Disk old mid new arms i _ c.loop-arm-test.true before (armed_one g.D.Disk mid new (get_or arms i _) e.armed e.others));
+    }
+
+pub loop-step-init : goal.loop-step-init
+loop-step-init g c =
+    let t = c.args.scenario.now in
+    let inv = c.loop-arm.invariant in
+    let old = c.args.bench.now in
+    let mid = c.loop-arm.bench in
+    let told = c.as_slice-arm-items.ensures in
+    let i = c.loop-arm.arm-index in
+    let whole : take i t.arms ≡ t.arms ++ [] =
+    ap (λ (all : List Arm). take i all) (sym told) ∙ (take_all i c.as_slice-arm-items.result.now c.loop-arm-test.false ∙ (told ∙ sym (append-nil t.arms))) in
+    record {
+      keeps = inv.keeps;
+      of = of_kept g.D.Disk old mid inv.keeps t c.requires.of;
+      connected = connected_kept g.D.Disk old mid inv.keeps t c.requires.connected;
+      met = inv.keeps.met c.requires.met;
+      played = inv.same;
+      armed = subst (λ (all : List Arm). AreArmed g.D.Disk old mid all) whole inv.armed;
     }
 
 pub returns-in_err-take_step-clause-arms : goal.returns-in_err-take_step-clause-arms
@@ -59,10 +74,10 @@ returns-in_err-take_step-clause-arms g c =
     let new = c.take_step.new.bench in
     let told = c.as_slice-step-items.ensures in
     let steps = c.as_slice-step-items.result.now in
-    let before = subst (λ (all : List Step). AreArmed old mid (t.arms ++ arms_of (take i all))) (sym told) c.loop-step.invariant.armed in
-    subst (λ (all : List Step). ArmsMore old new (t.arms ++ arms_of all)) told
-    (subst (λ (all : List Arm). ArmsMore old new all) (arms_split t.arms steps i _ c.loop-step-test.true)
-    (more_on old mid new (t.arms ++ arms_of (take i steps)) (arms_of (_ ∷ [])) (arms_of (drop (i + 1) steps)) before
+    let before = subst (λ (all : List Step). AreArmed g.D.Disk old mid (t.arms ++ arms_of (take i all))) (sym told) c.loop-step.invariant.armed in
+    subst (λ (all : List Step). ArmsMore g.D.Disk old new (t.arms ++ arms_of all)) told
+    (subst (λ (all : List Arm). ArmsMore g.D.Disk old new all) (arms_split t.arms steps i _ c.loop-step-test.true)
+    (more_on g.D.Disk old mid new (t.arms ++ arms_of (take i steps)) (arms_of (_ ∷ [])) (arms_of (drop (i + 1) steps)) before
     c.take_step.ensures.arms))
 
 pub loop-step-preserved : goal.loop-step-preserved
@@ -76,24 +91,24 @@ loop-step-preserved g c =
     let e = c.take_step.ensures in
     let told = c.as_slice-step-items.ensures in
     let steps = c.as_slice-step-items.result.now in
-    let first : Moment = moment_of old.cells.items in
-    let now : Moment = moment_of mid.cells.items in
-    let next : Moment = moment_of new.cells.items in
-    let known : ℕ → Type 0 = λ j. IsKnownAt t j old in
+    let first : Moment = moment_of old.cells in
+    let now : Moment = moment_of mid.cells in
+    let next : Moment = moment_of new.cells in
+    let known : ℕ → Type 0 = λ j. IsToldAt g.D.Disk j old in
     let played = subst (λ (all : List Step). Plays known t (take i all) first now) (sym told) inv.played in
-    let before = subst (λ (all : List Step). AreArmed old mid (t.arms ++ arms_of (take i all))) (sym told) inv.armed in
+    let before = subst (λ (all : List Step). AreArmed g.D.Disk old mid (t.arms ++ arms_of (take i all))) (sym told) inv.armed in
     record {
-      bench = e.bench;
-      known = λ j known. e.known j (inv.known j known);
-      connected = e.connected;
-      met = e.met;
+      keeps = bench_on g.D.Disk old mid new inv.keeps e.keeps;
+      of = of_kept g.D.Disk mid new e.keeps t inv.of;
+      connected = connected_kept g.D.Disk mid new e.keeps t inv.connected;
+      met = e.keeps.met inv.met;
       played = subst (λ (all : List Step). Plays known t (take (i + 1) all) first next) told
           (subst (λ (front : List Step). Plays known t front first next) (sym (take_more steps i _ c.loop-step-test.true))
           (plays_more known t (take i steps) _ first now next played
-          (takes_told (λ j. IsKnownAt t j mid) known t _ now next inv.known c.in_ok-take_step.ensures.took)));
-      armed = subst (λ (all : List Step). AreArmed old new (t.arms ++ arms_of (take (i + 1) all))) told
-          (subst (λ (all : List Arm). AreArmed old new all) (sym (next_arms t.arms steps i _ c.loop-step-test.true))
-          (armed_on old mid new (t.arms ++ arms_of (take i steps)) (arms_of (_ ∷ [])) before c.in_ok-take_step.ensures.armed));
+          (takes_told (λ j. IsToldAt g.D.Disk j mid) known t _ now next (λ j told. told_kept g.D.Disk old mid inv.keeps j told) c.in_ok-take_step.ensures.took)));
+      armed = subst (λ (all : List Step). AreArmed g.D.Disk old new (t.arms ++ arms_of (take (i + 1) all))) told
+          (subst (λ (all : List Arm). AreArmed g.D.Disk old new all) (sym (next_arms t.arms steps i _ c.loop-step-test.true))
+          (armed_on g.D.Disk old mid new (t.arms ++ arms_of (take i steps)) (arms_of (_ ∷ [])) before c.in_ok-take_step.ensures.armed));
     }
 
 pub returns-clause-arms : goal.returns-clause-arms
@@ -105,6 +120,6 @@ returns-clause-arms g c =
     let steps = c.as_slice-step-items.result.now in
     let whole : take i steps ≡ steps = take_all i steps c.loop-step-test.false in
     let told = c.as_slice-step-items.ensures in
-    let armed = subst (λ (all : List Step). AreArmed old new (t.arms ++ arms_of (take i all))) (sym told) c.loop-step.invariant.armed in
-    more_all old new (t.arms ++ arms_of t.steps)
-    (subst (λ (all : List Step). AreArmed old new (t.arms ++ arms_of all)) (whole ∙ told) armed)
+    let armed = subst (λ (all : List Step). AreArmed g.D.Disk old new (t.arms ++ arms_of (take i all))) (sym told) c.loop-step.invariant.armed in
+    more_all g.D.Disk old new (t.arms ++ arms_of t.steps)
+    (subst (λ (all : List Step). AreArmed g.D.Disk old new (t.arms ++ arms_of all)) (whole ∙ told) armed)

@@ -1,31 +1,41 @@
-use Rattle.std.proofs.Common.{◌≡◌, ℕ, List, Result, Ok, Err, sym, subst, ap}
+use Rattle.std.proofs.Common.{◌≡◌, List, [], Option, Result, Ok, Err, true, reverse, refl, ap, sym, ◌∙◌, subst}
+use Rattle.std.specs.Prelude.{All}
 use Rattle.std.specs.Result.{IsErrAnd}
+use Rattle.std.proofs.lemmas.List.Elements.{All-nil, All-push}
 use Rattle.walter_disk.specs.declared.disk.Disk.{Ghosts}
-use Rattle.walter_engine.specs.Begins.{IsBegun, MayHaveBegun}
+use Rattle.walter_engine.specs.Steps.{opening}
 use Rattle.walter_engine.specs.declared.answers.Unbegun.{Unbegun}
-use Rattle.walter_stream.specs.declared.sink.Sink.{Ghosts as SinkGhosts}
-use Rattle.walter_stream.specs.declared.source.Source.{Ghosts as SourceGhosts}
-use Rattle.walter_cell.specs.Builds.{OfCell, begun_by}
-use Rattle.walter_cell.specs.declared.cell.Cell.{Cell}
+use Rattle.walter_outbox.specs.Lanes.{AreNext}
+use Rattle.walter_rules.specs.declared.entry.Entry.{Entry}
+use Rattle.walter_cell.specs.Builds.{Begins}
+use Rattle.walter_cell.specs.Cells.{CellValue}
+use Rattle.walter_cell.specs.Entries.{IfCalled}
+use Rattle.walter_cell.specs.Lines.{is_here}
+use Rattle.walter_cell.specs.Nodes.{NodeValue}
 use Rattle.walter_cell.proofs.cell.Cell.begin.Goals as goal
 
--- what the first restart answered is what came back with the disk
-begun_back : {X D : Type 0} (bytes : List ℕ) (r : Result X (D × Unbegun)) (back : D × Unbegun) → IsErrAnd r (λ e. e ≡ back)
-    → IsBegun bytes (Err back.1) → IsBegun bytes (begun_by r)
-begun_back bytes (Ok x) back is begun = absurd is
-begun_back bytes (Err e) back is begun = subst (λ (b : Unbegun). IsBegun bytes (Err b)) (sym (ap (λ b. b.1) is)) begun
-
-left_back : {D S K : Type 0} {g : Ghosts D} {s : SourceGhosts S} {k : SinkGhosts K} (r : Result (Cell D S K g s k) (D × Unbegun))
-    (back : D × Unbegun) (P : D → Type 0) → IsErrAnd r (λ e. e ≡ back) → P back.0 → OfCell r P
-left_back (Ok cell) back P is left = absurd is
-left_back (Err e) back P is left = subst P (sym (ap (λ b. b.0) is)) left
+-- what came back with the disk comes back
+begins_back : {D M N : Type 0} (g : Ghosts D) (of_node : M → Option D) (of_cell : N → Option D) (disk : D) (r : Result N (D × Unbegun)) (back : D × Unbegun)
+    → IsErrAnd r (λ e. e ≡ back) → Begins g {N = M} of_node disk (Err back) → Begins g {N = N} of_cell disk r
+begins_back g of_node of_cell disk (Ok x) back is begins = absurd is
+begins_back {D = D} {N = N} g of_node of_cell disk (Err e) back is begins =
+    subst (λ (b : D × Unbegun). Begins g {N = N} of_cell disk (Err b)) (sym is)
+    (record { begins = begins.begins; leaves = begins.leaves; faults = begins.faults; arms = begins.arms })
 
 pub returns-in_err-node-clause-begins : goal.returns-in_err-node-clause-begins
-returns-in_err-node-clause-begins g c = λ bytes only.
-    begun_back bytes c.from_residual.result c.in_err-node.field-0.0 c.from_residual.ensures.1 (c.in_err-node.ensures.begins bytes only)
+returns-in_err-node-clause-begins g c =
+    begins_back {M = NodeValue g.row.D.Denot} {N = CellValue g.row.D.Denot} g.D.Disk (λ node. node.disk) (λ cell. cell.node.disk) c.args.disk
+    c.from_residual.result c.in_err-node.field-0.0 c.from_residual.ensures.1 c.in_err-node.ensures.begins
 
-pub returns-in_err-node-clause-leaves : goal.returns-in_err-node-clause-leaves
-returns-in_err-node-clause-leaves g c = λ bytes only.
-    left_back c.from_residual.result c.in_err-node.field-0.0
-    (λ now. (image : List ℕ) → g.D.Disk.may_leave now image → MayHaveBegun bytes image) c.from_residual.ensures.1
-    (c.in_err-node.ensures.leaves bytes only)
+pub invariant_of-result : goal.invariant_of-result
+invariant_of-result g c =
+    let node = c.in_ok-node.node in
+    let opens = c.in_ok-node.ensures.opens in
+    let lines = c.args.lines.items in
+    record {
+      ins = c.requires.ins ∙ ap (λ k. k.sites) (sym opens.catalog_is);
+      next = subst (λ (es : List Entry). AreNext node.site c.args.ins.items (reverse es)) (sym opens.trail) (tt, refl);
+      clients = opens.clients_are ∙ (c.len.ensures ∙ c.args.lines.ok.0);
+      calls = subst (λ (es : List Entry). All (λ (e : Entry). IfCalled (λ client. is_here lines client ≡ true) e.event) es) (sym opens.trail)
+          (All-push (λ (e : Entry). IfCalled (λ client. is_here lines client ≡ true) e.event) [] opening (All-nil _) tt);
+    }

@@ -1,123 +1,176 @@
-use Rattle.std.proofs.Common.{◌≡◌, ◌<◌, ◌+◌, ◌-◌, ◌^◌, max, ℕ, List, length, refl, ap, sym, ◌∙◌, subst, arith, slice_get, Option, Some}
-use Rattle.walter_base.specs.declared.names.SiteId.{SiteId}
-use Rattle.walter_engine.specs.Engines.{site_in}
+use Rattle.std.proofs.Common.{◌≡◌, ◌<◌, ◌+◌, ◌-◌, ◌^◌, max, ℕ, List, length, refl, ap, sym, ◌∙◌, subst, arith, slice_get, Option, Some, None, Bor}
+use Rattle.std.specs.Prelude.{option_map}
 use Rattle.walter_lane.specs.declared.posted.Posted.{Posted}
-use Rattle.walter_lane.specs.Lanes.{Receiving}
 use Rattle.walter_outbox.specs.Lanes.{arrived_from, IsArrival}
 use Rattle.walter_rules.specs.declared.event.Event.{Event}
 use Rattle.walter_rules.specs.declared.event.Event.TheVariants as event
 use Rattle.walter_rules.specs.declared.event.Input.TheVariants as input
-use Rattle.walter_rules.specs.Trails.{IsNextStamp}
-use Rattle.walter_cell.specs.declared.cell.Cell.{Cell}
-use Rattle.walter_cell.specs.Cells.{arrival, stamp_behind}
-use Rattle.walter_cell.proofs.Meeting.{was_here, arrival_at}
-use Rattle.walter_cell.proofs.Nodes.{node_same, known_same}
-use Rattle.walter_rules.proofs.Staying.{later_next}
-use Rattle.walter_cell.proofs.Taken.{stamp_next, grows_taken, mets_taken, drops_taken, cell_taken}
-use Rattle.walter_cell.proofs.cell.Cell.deliver.Given.{Over}
+use Rattle.walter_site.specs.Members.{IsSizedPacket}
+use Rattle.walter_cell.specs.declared.answers.Moved.TheVariants as moved
+use Rattle.walter_cell.specs.Cells.{CellValue, Proceeds, MovesTo, arrival, stamp_behind, IsMissing}
+use Rattle.walter_cell.specs.Entries.{IsSpent, HasPlace}
+use Rattle.std.proofs.lemmas.Bool.Decides.{nat_tests}
+use Rattle.walter_cell.specs.Nodes.{NodeValue, Takes, clock_in}
+use Rattle.walter_cell.proofs.Meeting.{was_here, arrival_read, put_in, stamp_put}
+use Rattle.walter_cell.proofs.Taken.{ready_takes, grows_taken, cell_room, proceeds_room, cell_alone, proceeds_alone}
 use Rattle.walter_cell.proofs.cell.Cell.deliver.Goals as goal
 use Rattle.walter_cell.proofs.cell.Cell.deliver.Goals.{in-Some, in-None}
 
--- the stamp that is looked at is that of the packet
-put_is : (g : Over) (c : goal.After-take g) → c.match-post.put ≡ c.in-Some-post.post.now.stamp
-put_is g c =
-    elim c.match-post.branch [
-      | in-Some w ↦
-          let same : Some w.in-Some.post ≡ Some c.in-Some-post.post = sym w.in-Some.is ∙ c.in-Some-post.is in
-          let post : w.in-Some.post ≡ c.in-Some-post.post = cc in
-          w.put-is ∙ ap (λ p. p.now.stamp) post
-      | in-None w ↦ let same : Some c.in-Some-post.post ≡ _ = sym c.in-Some-post.is ∙ w.in-None.is in absurd cc
-    ]
+pub invariant_of-self : goal.invariant_of-self
+invariant_of-self g c = cell_room g.D.Disk _ c.make_ready.new.self c.in_err-make_ready.ensures.same c.self.invariant
 
--- the stamp is the next behind the packet's and the clock
-next_is : (g : Over) (c : goal.After-take g) → c.in-Some-next_stamp.stamp ≡ max c.args.self.now.node.clock c.in-Some-post.post.now.stamp + 1
-next_is g c = c.in-Some-next_stamp.ensures.some.0 ∙ ap (λ n. max c.args.self.now.node.clock n + 1) (put_is g c)
+pub invariant_of-self-in_err-packet : goal.invariant_of-self-in_err-packet
+invariant_of-self-in_err-packet g c = cell_room g.D.Disk _ c.make_ready.new.self c.in_ok-make_ready.ensures.same c.self.invariant
 
-number_is : (number : ℕ) → 0 < number → number ≡ (number - 1) + 1
-number_is number some = omega (arith, some)
+pub returns-in_err-make_ready-clause-proceeds : goal.returns-in_err-make_ready-clause-proceeds
+returns-in_err-make_ready-clause-proceeds g c =
+    let old : CellValue g.row.D.Denot = record { node = c.self.inside.node; ins = c.self.inside.ins.items; lines = c.self.inside.lines.items } in
+    subst (λ (v : CellValue g.row.D.Denot). Proceeds g.D.Disk v (record { node = c.make_ready.new.self; ins = old.ins; lines = old.lines })) c.self.view_is
+    (proceeds_room g.D.Disk old c.make_ready.new.self c.in_err-make_ready.ensures.same)
 
--- it has arrived
-there_is : (g : Over) (c : goal.After-take g)
-    → slice_get (arrived_from c.args.self.now.ins.items c.args.from.0) (c.args.number - 1) ≡ Some c.in-Some-post.post.now
-there_is g c =
-    let ins : List Receiving = c.args.self.now.ins.items in
-    let before : ℕ = c.args.number - 1 in
-    let within : c.from.result < length ins = subst (λ n. n < length ins) (sym c.from.ensures) c.requires.from in
-    ap (λ n. slice_get (arrived_from ins n) before) (sym c.from.ensures)
-    ∙ (ap (λ l. slice_get l before) (was_here ins c.from.result c.index.result.now c.index.result.now c.index.ensures within)
-    ∙ c.in-Some-post.ensures.some.1)
+pub returns-in_err-packet-clause-proceeds : goal.returns-in_err-packet-clause-proceeds
+returns-in_err-packet-clause-proceeds g c =
+    let old : CellValue g.row.D.Denot = record { node = c.self.inside.node; ins = c.self.inside.ins.items; lines = c.self.inside.lines.items } in
+    subst (λ (v : CellValue g.row.D.Denot). Proceeds g.D.Disk v (record { node = c.make_ready.new.self; ins = old.ins; lines = old.lines })) c.self.view_is
+    (proceeds_room g.D.Disk old c.make_ready.new.self c.in_ok-make_ready.ensures.same)
 
-arrives : (g : Over) (c : goal.After-take g) (i : SiteId) → i ≡ site_in c.args.self.now.node.engine
-    → IsArrival i c.args.self.now.ins.items c.args.from c.args.number c.in_ok-packet.packet c.args.self.now.node.clock c.in-Some-next_stamp.stamp
-arrives g c i here = record {
-  apart = c.requires.apart i here;
-  before = c.args.number - 1;
-  number_is = number_is c.args.number c.in-Some-post.ensures.some.0;
-  post = c.in-Some-post.post.now;
-  there = there_is g c;
-  framed = c.in_ok-packet.ensures.framed;
-  next = next_is g c;
-}
+pub returns-in_default-clause-moves : goal.returns-in_default-clause-moves
+returns-in_default-clause-moves g c =
+    let old : CellValue g.row.D.Denot = record { node = c.self.inside.node; ins = c.self.inside.ins.items; lines = c.self.inside.lines.items } in
+    let from : c.args.from.0 < length old.ins = rw (← c.self.view_is) at c.requires.from in
+    let within : c.from.result < length old.ins = subst (λ n. n < length old.ins) (sym c.from.ensures) from in
+    let here = ap (λ (n : ℕ). arrived_from old.ins n) (sym c.from.ensures) ∙ was_here old.ins c.from.result c.index.result.now c.index.result.now c.index.ensures within in
+    let read = arrival_read (λ (b : Bor Posted). b.now) c.arrived-post.result old.ins c.args.from c.args.number c.index.result.now.arrived here c.arrived-post.ensures.none c.arrived-post.ensures.some in
+    let put : c.match-post.put ≡ put_in (arrival old.ins c.args.from c.args.number) = elim c.match-post.branch [
+      | in-Some w ↦ w.put-is ∙ sym (ap put_in (read ∙ ap (λ o. option_map (λ (b : Bor Posted). b.now) o) w.in-Some.is))
+      | in-None w ↦ w.put-is ∙ sym (ap put_in (read ∙ ap (λ o. option_map (λ (b : Bor Posted). b.now) o) w.in-None.is))
+    ] in
+    let stamp : max (clock_in old.node) c.match-post.put + 1 ≡ stamp_behind (clock_in old.node) (arrival old.ins c.args.from c.args.number) =
+    ap (λ n. max (clock_in old.node) n + 1) put ∙ stamp_put (clock_in old.node) (arrival old.ins c.args.from c.args.number) in (
+      subst (λ (v : CellValue g.row.D.Denot). IsSpent (stamp_behind (clock_in v.node) (arrival v.ins c.args.from c.args.number)) v.node.trail) c.self.view_is
+          (subst (λ n. IsSpent n old.node.trail) stamp c.in_default.ensures.none),
+      refl,
+    )
 
-pub returns-clause-cell : goal.returns-clause-cell
-returns-clause-cell g c = λ catalog capacity i cell.
-    let old : Cell g.row.D.Denot g.row.S.Denot g.row.K.Denot g.D.Disk g.S.Source g.K.Sink = c.args.self.now in
-    let new : Cell g.row.D.Denot g.row.S.Denot g.row.K.Denot g.D.Disk g.S.Source g.K.Sink = record { node = c.take.new.self; ins = old.ins; lines = old.lines } in
-    let stamp : ℕ = c.in-Some-next_stamp.stamp in
+-- an option that is none of those that there are is none
+none_left : {X : Type 0} (o : Option X) → ((x : X) → o ≡ Some x → ⊥) → o ≡ None
+none_left None never = refl
+none_left (Some x) never = absurd (never x refl)
+
+pub returns-in_default-post-clause-moves : goal.returns-in_default-post-clause-moves
+returns-in_default-post-clause-moves g c =
+    let old : CellValue g.row.D.Denot = record { node = c.self.inside.node; ins = c.self.inside.ins.items; lines = c.self.inside.lines.items } in
+    let from : c.args.from.0 < length old.ins = rw (← c.self.view_is) at c.requires.from in
+    let within : c.from.result < length old.ins = subst (λ n. n < length old.ins) (sym c.from.ensures) from in
+    let here = ap (λ (n : ℕ). arrived_from old.ins n) (sym c.from.ensures) ∙ was_here old.ins c.from.result c.index.result.now c.index.result.now c.index.ensures within in
+    let read = arrival_read (λ (b : Bor Posted). b.now) c.arrived-post.result old.ins c.args.from c.args.number c.index.result.now.arrived here c.arrived-post.ensures.none c.arrived-post.ensures.some in
+    let put : c.match-post.put ≡ put_in (arrival old.ins c.args.from c.args.number) = elim c.match-post.branch [
+      | in-Some w ↦ w.put-is ∙ sym (ap put_in (read ∙ ap (λ o. option_map (λ (b : Bor Posted). b.now) o) w.in-Some.is))
+      | in-None w ↦ w.put-is ∙ sym (ap put_in (read ∙ ap (λ o. option_map (λ (b : Bor Posted). b.now) o) w.in-None.is))
+    ] in
+    let stamp : max (clock_in old.node) c.match-post.put + 1 ≡ stamp_behind (clock_in old.node) (arrival old.ins c.args.from c.args.number) =
+    ap (λ n. max (clock_in old.node) n + 1) put ∙ stamp_put (clock_in old.node) (arrival old.ins c.args.from c.args.number) in
+    let some = c.in-Some-next_stamp.ensures.some in
+    let place : HasPlace (stamp_behind (clock_in old.node) (arrival old.ins c.args.from c.args.number)) old.node.trail =
+    (some.1.0, subst (λ n. n < 2 ^ 62) (some.0 ∙ stamp) some.1.1) in
+    let none : arrival old.ins c.args.from c.args.number ≡ None = read ∙ ap (λ o. option_map (λ (b : Bor Posted). b.now) o) (none_left c.arrived-post.result c.in_default-post.not-Some) in (
+      subst (λ (v : CellValue g.row.D.Denot). HasPlace (stamp_behind (clock_in v.node) (arrival v.ins c.args.from c.args.number)) v.node.trail) c.self.view_is place,
+      subst (λ (v : CellValue g.row.D.Denot). IsMissing (length v.ins) (arrival v.ins c.args.from c.args.number)) c.self.view_is
+          (subst (λ (p : Option Posted). IsMissing (length old.ins) p) (sym none) tt),
+      refl,
+    )
+
+pub returns-then-from-len-clause-moves : goal.returns-then-from-len-clause-moves
+returns-then-from-len-clause-moves g c =
+    let old : CellValue g.row.D.Denot = record { node = c.self.inside.node; ins = c.self.inside.ins.items; lines = c.self.inside.lines.items } in
+    let from : c.args.from.0 < length old.ins = rw (← c.self.view_is) at c.requires.from in
+    let within : c.from.result < length old.ins = subst (λ n. n < length old.ins) (sym c.from.ensures) from in
+    let here = ap (λ (n : ℕ). arrived_from old.ins n) (sym c.from.ensures) ∙ was_here old.ins c.from.result c.index.result.now c.index.result.now c.index.ensures within in
+    let read = arrival_read (λ (b : Bor Posted). b.now) c.arrived-post.result old.ins c.args.from c.args.number c.index.result.now.arrived here c.arrived-post.ensures.none c.arrived-post.ensures.some in
+    let put : c.match-post.put ≡ put_in (arrival old.ins c.args.from c.args.number) = elim c.match-post.branch [
+      | in-Some w ↦ w.put-is ∙ sym (ap put_in (read ∙ ap (λ o. option_map (λ (b : Bor Posted). b.now) o) w.in-Some.is))
+      | in-None w ↦ w.put-is ∙ sym (ap put_in (read ∙ ap (λ o. option_map (λ (b : Bor Posted). b.now) o) w.in-None.is))
+    ] in
+    let stamp : max (clock_in old.node) c.match-post.put + 1 ≡ stamp_behind (clock_in old.node) (arrival old.ins c.args.from c.args.number) =
+    ap (λ n. max (clock_in old.node) n + 1) put ∙ stamp_put (clock_in old.node) (arrival old.ins c.args.from c.args.number) in
+    let some = c.in-Some-next_stamp.ensures.some in
+    let place : HasPlace (stamp_behind (clock_in old.node) (arrival old.ins c.args.from c.args.number)) old.node.trail =
+    (some.1.0, subst (λ n. n < 2 ^ 62) (some.0 ∙ stamp) some.1.1) in
+    let post : Posted = c.in-Some-post.post.now in
+    let at : arrival old.ins c.args.from c.args.number ≡ Some post = read ∙ ap (λ o. option_map (λ (b : Bor Posted). b.now) o) c.in-Some-post.is in (
+      subst (λ (v : CellValue g.row.D.Denot). HasPlace (stamp_behind (clock_in v.node) (arrival v.ins c.args.from c.args.number)) v.node.trail) c.self.view_is place,
+      subst (λ (v : CellValue g.row.D.Denot). IsMissing (length v.ins) (arrival v.ins c.args.from c.args.number)) c.self.view_is
+          (subst (λ (p : Option Posted). IsMissing (length old.ins) p) (sym at) (λ same. let long = c.self.inside.ins.ok.0 in grind (arith, nat_tests))),
+      refl,
+    )
+
+pub take-requires-clause-sized : goal.take-requires-clause-sized
+take-requires-clause-sized g c =
+    let framed = c.in_ok-packet.ensures.framed in
+    let spelled = framed.spelled in
+    let sites : c.in-Some-post.post.now.framed.sites ≡ c.make_ready.new.self.catalog.sites =
+    (let long = c.self.inside.ins.ok.0 in let same : c.in-Some-post.post.now.framed.sites ≡ length c.self.inside.ins.items = grind (arith, nat_tests) in same)
+    ∙ (c.self.invariant.ins ∙ sym (ap (λ (n : NodeValue g.row.D.Denot). n.catalog.sites) c.in_ok-make_ready.ensures.same)) in
+    subst (λ n. IsSizedPacket n c.in_ok-packet.packet) sites (record { sizes = spelled.sizes; among = spelled.among })
+
+pub invariant_of-self-2 : goal.invariant_of-self-2
+invariant_of-self-2 g c =
+    let old : CellValue g.row.D.Denot = record { node = c.self.inside.node; ins = c.self.inside.ins.items; lines = c.self.inside.lines.items } in
+    let from : c.args.from.0 < length old.ins = rw (← c.self.view_is) at c.requires.from in
+    let within : c.from.result < length old.ins = subst (λ n. n < length old.ins) (sym c.from.ensures) from in
+    let here = ap (λ (n : ℕ). arrived_from old.ins n) (sym c.from.ensures) ∙ was_here old.ins c.from.result c.index.result.now c.index.result.now c.index.ensures within in
+    let read = arrival_read (λ (b : Bor Posted). b.now) c.arrived-post.result old.ins c.args.from c.args.number c.index.result.now.arrived here c.arrived-post.ensures.none c.arrived-post.ensures.some in
+    let put : c.match-post.put ≡ put_in (arrival old.ins c.args.from c.args.number) = elim c.match-post.branch [
+      | in-Some w ↦ w.put-is ∙ sym (ap put_in (read ∙ ap (λ o. option_map (λ (b : Bor Posted). b.now) o) w.in-Some.is))
+      | in-None w ↦ w.put-is ∙ sym (ap put_in (read ∙ ap (λ o. option_map (λ (b : Bor Posted). b.now) o) w.in-None.is))
+    ] in
+    let stamp : max (clock_in old.node) c.match-post.put + 1 ≡ stamp_behind (clock_in old.node) (arrival old.ins c.args.from c.args.number) =
+    ap (λ n. max (clock_in old.node) n + 1) put ∙ stamp_put (clock_in old.node) (arrival old.ins c.args.from c.args.number) in
+    let post : Posted = c.in-Some-post.post.now in
+    let at : arrival old.ins c.args.from c.args.number ≡ Some post = read ∙ ap (λ o. option_map (λ (b : Bor Posted). b.now) o) c.in-Some-post.is in
     let ev : Event = event.Given (input.Deliver c.args.from c.args.number c.in_ok-packet.packet) in
-    let ready = c.in_ok-make_ready.ensures.same in
-    let next = arrives g c i (sym cell.node.site) in
-    let later : old.node.clock < stamp = later_next ev old.node.clock stamp (stamp_next i old.ins.items ev old.node.clock stamp next) in
-    let mid = node_same catalog capacity i old.node c.make_ready.new.self ready.engine ready.entries ready.clock_is (ap (λ v. v.items) ready.outs) cell.node in
-    cell_taken old c.make_ready.new.self new stamp ev ready c.take.ensures.takes catalog capacity i cell
-    (c.take.ensures.node catalog capacity i mid (subst (λ n. n < stamp) (sym ready.clock_is) later) c.in-Some-next_stamp.ensures.some.2) refl next
+    let takes : Takes g.D.Disk c.in-Some-next_stamp.stamp ev old.node c.take.new.self =
+    ready_takes g.D.Disk c.in-Some-next_stamp.stamp ev old.node c.make_ready.new.self c.take.new.self c.in_ok-make_ready.ensures.same c.take.ensures in
+    let next : IsArrival old.node.site old.ins c.args.from c.args.number c.in_ok-packet.packet (clock_in old.node) c.in-Some-next_stamp.stamp = record {
+      apart = rw (← c.self.view_is) at c.requires.apart;
+      before = c.args.number - 1;
+      number_is = (let l = c.in-Some-post.ensures.some.0 in omega (arith, l));
+      post = post;
+      there = ap (λ (l : List Posted). slice_get l (c.args.number - 1)) here ∙ c.in-Some-post.ensures.some.1;
+      framed = c.in_ok-packet.ensures.framed;
+      next = c.in-Some-next_stamp.ensures.some.0 ∙ (stamp ∙ ap (λ (p : Option Posted). stamp_behind (clock_in old.node) p) at);
+    } in
+    cell_alone g.D.Disk old c.take.new.self c.in-Some-next_stamp.stamp ev takes tt next c.self.invariant
 
-pub returns-clause-known : goal.returns-clause-known
-returns-clause-known g c = λ catalog capacity i cell known.
-    let old : Cell g.row.D.Denot g.row.S.Denot g.row.K.Denot g.D.Disk g.S.Source g.K.Sink = c.args.self.now in
-    let stamp : ℕ = c.in-Some-next_stamp.stamp in
+pub returns-clause-proceeds : goal.returns-clause-proceeds
+returns-clause-proceeds g c =
+    let old : CellValue g.row.D.Denot = record { node = c.self.inside.node; ins = c.self.inside.ins.items; lines = c.self.inside.lines.items } in
     let ev : Event = event.Given (input.Deliver c.args.from c.args.number c.in_ok-packet.packet) in
-    let ready = c.in_ok-make_ready.ensures.same in
-    let next : IsNextStamp ev old.node.clock stamp = stamp_next i old.ins.items ev old.node.clock stamp (arrives g c i (sym cell.node.site)) in
-    let mid = node_same catalog capacity i old.node c.make_ready.new.self ready.engine ready.entries ready.clock_is (ap (λ v. v.items) ready.outs) cell.node in
-    c.take.ensures.known catalog capacity i mid (let f = c.in-Some-next_stamp.ensures.some.1 in let l = ap length ready.entries in omega (arith, f, l))
-    (subst (λ n. IsNextStamp ev n stamp) (sym ready.clock_is) next)
-    (known_same catalog capacity i old.node c.make_ready.new.self ready.engine ready.entries (ap (λ v. v.items) ready.debts) known)
-
-pub returns-clause-drops : goal.returns-clause-drops
-returns-clause-drops g c = λ catalog capacity i cell known.
-    let old : Cell g.row.D.Denot g.row.S.Denot g.row.K.Denot g.D.Disk g.S.Source g.K.Sink = c.args.self.now in
-    let new : Cell g.row.D.Denot g.row.S.Denot g.row.K.Denot g.D.Disk g.S.Source g.K.Sink = record { node = c.take.new.self; ins = old.ins; lines = old.lines } in
-    let ev : Event = event.Given (input.Deliver c.args.from c.args.number c.in_ok-packet.packet) in
-    let ready = c.in_ok-make_ready.ensures.same in
-    let mid = node_same catalog capacity i old.node c.make_ready.new.self ready.engine ready.entries ready.clock_is (ap (λ v. v.items) ready.outs) cell.node in
-    drops_taken old c.make_ready.new.self new c.in-Some-next_stamp.stamp ev ready c.take.ensures.takes catalog i
-    (c.take.ensures.drops catalog capacity i mid (let f = c.in-Some-next_stamp.ensures.some.1 in let l = ap length ready.entries in omega (arith, f, l))
-    (known_same catalog capacity i old.node c.make_ready.new.self ready.engine ready.entries (ap (λ v. v.items) ready.debts) known))
-
-pub returns-clause-mets : goal.returns-clause-mets
-returns-clause-mets g c =
-    let old : Cell g.row.D.Denot g.row.S.Denot g.row.K.Denot g.D.Disk g.S.Source g.K.Sink = c.args.self.now in
-    let new : Cell g.row.D.Denot g.row.S.Denot g.row.K.Denot g.D.Disk g.S.Source g.K.Sink = record { node = c.take.new.self; ins = old.ins; lines = old.lines } in
-    let ev : Event = event.Given (input.Deliver c.args.from c.args.number c.in_ok-packet.packet) in
-    mets_taken old c.make_ready.new.self new c.in-Some-next_stamp.stamp ev c.in_ok-make_ready.ensures.same c.take.ensures.takes
+    let takes : Takes g.D.Disk c.in-Some-next_stamp.stamp ev old.node c.take.new.self =
+    ready_takes g.D.Disk c.in-Some-next_stamp.stamp ev old.node c.make_ready.new.self c.take.new.self c.in_ok-make_ready.ensures.same c.take.ensures in
+    subst (λ (v : CellValue g.row.D.Denot). Proceeds g.D.Disk v (record { node = c.take.new.self; ins = old.ins; lines = old.lines })) c.self.view_is
+    (proceeds_alone g.D.Disk old c.take.new.self c.in-Some-next_stamp.stamp ev takes tt)
 
 pub returns-clause-moves : goal.returns-clause-moves
 returns-clause-moves g c =
-    let old : Cell g.row.D.Denot g.row.S.Denot g.row.K.Denot g.D.Disk g.S.Source g.K.Sink = c.args.self.now in
-    let new : Cell g.row.D.Denot g.row.S.Denot g.row.K.Denot g.D.Disk g.S.Source g.K.Sink = record { node = c.take.new.self; ins = old.ins; lines = old.lines } in
-    let post : Posted = c.in-Some-post.post.now in
-    let ev : Event = event.Given (input.Deliver c.args.from c.args.number c.in_ok-packet.packet) in
+    let old : CellValue g.row.D.Denot = record { node = c.self.inside.node; ins = c.self.inside.ins.items; lines = c.self.inside.lines.items } in
+    let from : c.args.from.0 < length old.ins = rw (← c.self.view_is) at c.requires.from in
+    let within : c.from.result < length old.ins = subst (λ n. n < length old.ins) (sym c.from.ensures) from in
+    let here = ap (λ (n : ℕ). arrived_from old.ins n) (sym c.from.ensures) ∙ was_here old.ins c.from.result c.index.result.now c.index.result.now c.index.ensures within in
+    let read = arrival_read (λ (b : Bor Posted). b.now) c.arrived-post.result old.ins c.args.from c.args.number c.index.result.now.arrived here c.arrived-post.ensures.none c.arrived-post.ensures.some in
+    let put : c.match-post.put ≡ put_in (arrival old.ins c.args.from c.args.number) = elim c.match-post.branch [
+      | in-Some w ↦ w.put-is ∙ sym (ap put_in (read ∙ ap (λ o. option_map (λ (b : Bor Posted). b.now) o) w.in-Some.is))
+      | in-None w ↦ w.put-is ∙ sym (ap put_in (read ∙ ap (λ o. option_map (λ (b : Bor Posted). b.now) o) w.in-None.is))
+    ] in
+    let stamp : max (clock_in old.node) c.match-post.put + 1 ≡ stamp_behind (clock_in old.node) (arrival old.ins c.args.from c.args.number) =
+    ap (λ n. max (clock_in old.node) n + 1) put ∙ stamp_put (clock_in old.node) (arrival old.ins c.args.from c.args.number) in
     let some = c.in-Some-next_stamp.ensures.some in
-    let at : arrival old.ins.items c.args.from c.args.number ≡ Some post =
-    arrival_at old.ins.items c.args.from c.args.number (c.args.number - 1) post (number_is c.args.number c.in-Some-post.ensures.some.0) (there_is g c) in
-    let small : stamp_behind old.node.clock (Some post) < 2 ^ 62 = subst (λ n. n < 2 ^ 62) (next_is g c) some.2 in (
-      (some.1, subst (λ (p : Option Posted). stamp_behind old.node.clock p < 2 ^ 62) (sym at) small),
-      (
-        post,
-        c.in_ok-packet.packet,
-        at,
-        c.in_ok-packet.ensures.framed,
-        grows_taken old c.make_ready.new.self new c.in-Some-next_stamp.stamp ev c.in_ok-make_ready.ensures.same c.take.ensures.takes,
-      ),
-    )
+    let place : HasPlace (stamp_behind (clock_in old.node) (arrival old.ins c.args.from c.args.number)) old.node.trail =
+    (some.1.0, subst (λ n. n < 2 ^ 62) (some.0 ∙ stamp) some.1.1) in
+    let post : Posted = c.in-Some-post.post.now in
+    let at : arrival old.ins c.args.from c.args.number ≡ Some post = read ∙ ap (λ o. option_map (λ (b : Bor Posted). b.now) o) c.in-Some-post.is in
+    let ev : Event = event.Given (input.Deliver c.args.from c.args.number c.in_ok-packet.packet) in
+    let takes : Takes g.D.Disk c.in-Some-next_stamp.stamp ev old.node c.take.new.self =
+    ready_takes g.D.Disk c.in-Some-next_stamp.stamp ev old.node c.make_ready.new.self c.take.new.self c.in_ok-make_ready.ensures.same c.take.ensures in
+    subst (λ (v : CellValue g.row.D.Denot). MovesTo c.args.from c.args.number (arrival v.ins c.args.from c.args.number) (length v.ins) (clock_in v.node) v.node.trail c.take.new.self.trail moved.Did) c.self.view_is
+    (place, (post, c.in_ok-packet.packet, at, c.in_ok-packet.ensures.framed, grows_taken old c.take.new.self old.lines g.D.Disk c.in-Some-next_stamp.stamp ev takes))

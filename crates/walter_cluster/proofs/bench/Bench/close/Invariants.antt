@@ -1,12 +1,16 @@
 use Rattle.std.proofs.Common.{◌≡◌, map, Some, vec_capacity}
-use Rattle.walter_engine.specs.Engines.{disk_in}
+use Rattle.std.specs.Prelude.{All}
+use Rattle.walter_cell.specs.Cells.{CellValue, IsCell}
+use Rattle.walter_cell.specs.Nodes.{IsSound}
+use Rattle.walter_cluster.specs.Benches.{trails_of, disks_of}
 use Rattle.walter_cluster.proofs.bench.Bench.close.Given as goal
 
 abbrev pub invariant-loop-cell : goal.invariant-loop-cell
 invariant-loop-cell g l = record {
-  trails : l.closed.trails.items ≡ map (λ c. c.node.entries.items) l.yielded;
-  disks : map (λ d. Some d) l.closed.disks.items ≡ map (λ c. disk_in c.node.engine) l.yielded;
-  conns : map (λ v. v.items) l.closed.conns.items ≡ map (λ c. c.lines.items) l.yielded;
+  trails : l.closed.trails.items ≡ trails_of l.yielded;
+  disks : map (λ d. Some d) l.closed.disks.items ≡ disks_of l.yielded;
+  conns : map (λ v. v.items) l.closed.conns.items ≡ map (λ (c : CellValue g.row.D.Denot). c.lines) l.yielded;
+  sound : All (λ (c : CellValue g.row.D.Denot). IsSound g.D.Disk c.node × IsCell c) l.yielded;
   for_trails : vec_capacity l.closed.trails ≡ vec_capacity l.initial.closed.trails;
   for_disks : vec_capacity l.closed.disks ≡ vec_capacity l.initial.closed.disks;
   for_conns : vec_capacity l.closed.conns ≡ vec_capacity l.initial.closed.conns;

@@ -1,231 +1,154 @@
-use Rattle.std.proofs.Common.{◌<◌, length, set, Some, refl, ap, ◌∙◌, subst, arith}
-use Rattle.std.proofs.lemmas.Option.{slice_get_read, slice_get_within}
+use Rattle.std.proofs.Common.{◌≡◌, ◌<◌, List, Option, Some, length, set, slice_get, refl, arith, sym, ◌∙◌, subst}
+use Rattle.std.specs.Prelude.{IfOk, OnErr}
+use Rattle.std.proofs.lemmas.Option.{slice_get_read}
 use Rattle.std.proofs.lemmas.Result.{IfOk-weaker, on_err_weaker}
 use Rattle.walter_base.specs.declared.names.SiteId.{SiteId}
-use Rattle.walter_cell.specs.declared.answers.Serve.{Serve}
-use Rattle.walter_cell.specs.Cells.{TurnsTo, HasFaultAt}
-use Rattle.walter_scenario.specs.declared.scenario.Client.{Client}
-use Rattle.walter_cluster.specs.Benches.{AreConnected, AreAnswered, lines_at}
-use Rattle.walter_cluster.specs.Moments.{TurnsAt, moment_of}
-use Rattle.walter_cluster.proofs.Changes.{one_there}
-use Rattle.walter_cluster.proofs.Benches.{cells_of, bench_of, client_at, cells_kept, cell_served, known_kept, each_kept, connected_served, answered_served, all_met_kept, turns_at, drops_at, trails_kept, arms_kept, one_at}
+use Rattle.walter_cell.specs.Cells.{CellValue}
+use Rattle.walter_cell.specs.Lines.{LineValue, CanFail, IsLineAt, HasFaultAt}
+use Rattle.walter_rules.specs.declared.entry.Entry.{Entry}
+use Rattle.walter_trail.specs.Calls.{calls_of}
+use Rattle.walter_cluster.specs.Benches.{BenchValue, Keeps, HasSameArms, lines_at}
+use Rattle.walter_cluster.specs.Moments.{TurnsAt, Drops, moment_of, trail_at}
+use Rattle.walter_cluster.proofs.Changes.{ChangesOne, one_there}
+use Rattle.walter_cluster.proofs.Benches.{one_at, trails_kept, proceeds_keeps, proceeds_arms, proceeds_drops, turns_at, trail_was, lines_was}
+use Rattle.walter_cluster.proofs.Keeping.{each_one, whole_kept, home_within, home_here}
 use Rattle.walter_cluster.proofs.bench.Bench.turn.Goals as goal
+
+pub index-home-requires : goal.index-home-requires
+index-home-requires g c =
+    let old : BenchValue g.row.D.Denot = record { cells = c.self.inside.cells.items; homes = c.self.inside.homes.items } in
+    let number : c.args.number < length old.homes = rw (← c.self.view_is) at c.requires in
+    let long = c.self.inside.homes.ok.0 in
+    omega (arith, number, long)
 
 pub index_mut-requires : goal.index_mut-requires
 index_mut-requires g c =
-    let t = c.requires.bench.0 in
-    let is = c.requires.bench.1 in
-    let who = client_at t c.args.self.now c.args.number is c.requires.there in
+    let old : BenchValue g.row.D.Denot = record { cells = c.self.inside.cells.items; homes = c.self.inside.homes.items } in
     let h = c.index-home.result.now in
-    let homes = c.args.self.now.homes.items in
-    let home = one_there homes c.args.number h who.0.site
-    (slice_get_read homes (length homes) c.args.number h refl c.requires.there c.index-home.ensures) who.2 in
-    let place = c.from.ensures ∙ ap (λ (i : SiteId). i.0) home in
-    let cells = c.args.self.now.cells.items in
-    let site = who.0.site in
-    let l = c.args.self.now.cells.ok.0 in let w = who.3 in omega (arith, l, w, place)
+    let number : c.args.number < length old.homes = rw (← c.self.view_is) at c.requires in
+    let home : slice_get old.homes c.args.number ≡ Some h =
+    slice_get_read old.homes (length old.homes) c.args.number h refl number c.index-home.ensures in
+    let there : h.0 < length old.cells = home_within old.homes (length old.cells) c.args.number h home c.self.invariant.0.within in
+    let long = c.self.inside.cells.ok.0 in
+    let from = c.from.ensures in
+    omega (arith, there, long, from)
 
-pub serve-requires-clause-there : goal.serve-requires-clause-there
-serve-requires-clause-there g c =
-    let t = c.requires.bench.0 in
-    let is = c.requires.bench.1 in
-    let who = client_at t c.args.self.now c.args.number is c.requires.there in
+pub serve-requires : goal.serve-requires
+serve-requires g c =
+    let old : BenchValue g.row.D.Denot = record { cells = c.self.inside.cells.items; homes = c.self.inside.homes.items } in
     let h = c.index-home.result.now in
-    let homes = c.args.self.now.homes.items in
-    let home = one_there homes c.args.number h who.0.site
-    (slice_get_read homes (length homes) c.args.number h refl c.requires.there c.index-home.ensures) who.2 in
-    let place = c.from.ensures ∙ ap (λ (i : SiteId). i.0) home in
-    let cells = c.args.self.now.cells.items in
-    let site = who.0.site in
+    let number : c.args.number < length old.homes = rw (← c.self.view_is) at c.requires in
+    let home : slice_get old.homes c.args.number ≡ Some h =
+    slice_get_read old.homes (length old.homes) c.args.number h refl number c.index-home.ensures in
+    let there : h.0 < length old.cells = home_within old.homes (length old.cells) c.args.number h home c.self.invariant.0.within in
     let a = c.index_mut.result.now in
-    let one = one_at cells c.from.result site.0 a a place who.3 c.index_mut.ensures.value in
-    let here = is.cells site.0 a one.was in
-    here.there c.args.number who.0 who.1 refl
+    let one = one_at old.cells c.from.result h.0 a a c.from.ensures there c.index_mut.ensures.value in
+    (c.self.invariant.0.cells h.0 a one.was).here c.args.number ∙ home_here old.homes c.args.number h home
 
-pub serve-requires-clause-owed : goal.serve-requires-clause-owed
-serve-requires-clause-owed g c =
-    let t = c.requires.bench.0 in
-    let is = c.requires.bench.1 in
-    let who = client_at t c.args.self.now c.args.number is c.requires.there in
+pub invariant_of-self : goal.invariant_of-self
+invariant_of-self g c =
+    let old : BenchValue g.row.D.Denot = record { cells = c.self.inside.cells.items; homes = c.self.inside.homes.items } in
     let h = c.index-home.result.now in
-    let homes = c.args.self.now.homes.items in
-    let home = one_there homes c.args.number h who.0.site
-    (slice_get_read homes (length homes) c.args.number h refl c.requires.there c.index-home.ensures) who.2 in
-    let place = c.from.ensures ∙ ap (λ (i : SiteId). i.0) home in
-    let cells = c.args.self.now.cells.items in
-    let site = who.0.site in
-    let a = c.index_mut.result.now in
-    let one = one_at cells c.from.result site.0 a a place who.3 c.index_mut.ensures.value in
-    let here = is.cells site.0 a one.was in
-    let w = slice_get_within t.clients c.args.number who.0 who.1 in let d = here.debts in omega (arith, w, d)
-
-pub returns-clause-bench : goal.returns-clause-bench
-returns-clause-bench g c t is =
-    let who = client_at t c.args.self.now c.args.number is c.requires.there in
-    let h = c.index-home.result.now in
-    let homes = c.args.self.now.homes.items in
-    let home = one_there homes c.args.number h who.0.site
-    (slice_get_read homes (length homes) c.args.number h refl c.requires.there c.index-home.ensures) who.2 in
-    let place = c.from.ensures ∙ ap (λ (i : SiteId). i.0) home in
-    let cells = c.args.self.now.cells.items in
-    let site = who.0.site in
+    let number : c.args.number < length old.homes = rw (← c.self.view_is) at c.requires in
+    let home : slice_get old.homes c.args.number ≡ Some h =
+    slice_get_read old.homes (length old.homes) c.args.number h refl number c.index-home.ensures in
+    let there : h.0 < length old.cells = home_within old.homes (length old.cells) c.args.number h home c.self.invariant.0.within in
     let a = c.index_mut.result.now in
     let x = c.serve.new.self in
-    let new = set cells c.from.result x in
-    let one = one_at cells c.from.result site.0 a x place who.3 c.index_mut.ensures.value in
-    let are = cells_of t c.args.self.now is in
-    bench_of t c.args.self.now _ is
-    (cells_kept cells new site a x one t c.serve.ensures.same
-    (cell_served t site c.args.number who.0 who.1 refl a x c.serve.ensures.same c.serve.ensures.others c.serve.ensures.comes
-    (c.serve.ensures.cell t.catalog t.capacity site) c.serve.ensures.stays (are.each site.0 a one.was)) are)
-    refl refl refl refl
+    let new : List (CellValue g.row.D.Denot) = set old.cells c.from.result x in
+    let one : ChangesOne old.cells new h.0 a x = one_at old.cells c.from.result h.0 a x c.from.ensures there c.index_mut.ensures.value in
+    whole_kept g.D.Disk old.cells new old.homes c.self.inside.trails c.self.inside.disks c.self.inside.conns
+    (each_one g.D.Disk old.cells new h.0 a x one c.serve.ensures.proceeds.keeps) c.self.invariant
 
-pub returns-clause-known : goal.returns-clause-known
-returns-clause-known g c t i is known =
-    let who = client_at t c.args.self.now c.args.number is c.requires.there in
+pub returns-clause-keeps : goal.returns-clause-keeps
+returns-clause-keeps g c =
+    let old : BenchValue g.row.D.Denot = record { cells = c.self.inside.cells.items; homes = c.self.inside.homes.items } in
     let h = c.index-home.result.now in
-    let homes = c.args.self.now.homes.items in
-    let home = one_there homes c.args.number h who.0.site
-    (slice_get_read homes (length homes) c.args.number h refl c.requires.there c.index-home.ensures) who.2 in
-    let place = c.from.ensures ∙ ap (λ (i : SiteId). i.0) home in
-    let cells = c.args.self.now.cells.items in
-    let site = who.0.site in
+    let number : c.args.number < length old.homes = rw (← c.self.view_is) at c.requires in
+    let home : slice_get old.homes c.args.number ≡ Some h =
+    slice_get_read old.homes (length old.homes) c.args.number h refl number c.index-home.ensures in
+    let there : h.0 < length old.cells = home_within old.homes (length old.cells) c.args.number h home c.self.invariant.0.within in
     let a = c.index_mut.result.now in
     let x = c.serve.new.self in
-    let new = set cells c.from.result x in
-    let one = one_at cells c.from.result site.0 a x place who.3 c.index_mut.ensures.value in
-    known_kept cells new site a x one t i
-    (λ k. c.serve.ensures.known t.catalog t.capacity site (is.cells site.0 a one.was).cell_is k) known
+    let new : List (CellValue g.row.D.Denot) = set old.cells c.from.result x in
+    let one : ChangesOne old.cells new h.0 a x = one_at old.cells c.from.result h.0 a x c.from.ensures there c.index_mut.ensures.value in
+    subst (λ (v : BenchValue g.row.D.Denot). Keeps g.D.Disk v (record { cells = new; homes = old.homes })) c.self.view_is
+    (proceeds_keeps g.D.Disk old.cells new h a x one old.homes c.serve.ensures.proceeds)
 
-pub returns-clause-connected : goal.returns-clause-connected
-returns-clause-connected g c t is all =
-    let who = client_at t c.args.self.now c.args.number is c.requires.there in
+pub returns-clause-arms : goal.returns-clause-arms
+returns-clause-arms g c =
+    let old : BenchValue g.row.D.Denot = record { cells = c.self.inside.cells.items; homes = c.self.inside.homes.items } in
     let h = c.index-home.result.now in
-    let homes = c.args.self.now.homes.items in
-    let home = one_there homes c.args.number h who.0.site
-    (slice_get_read homes (length homes) c.args.number h refl c.requires.there c.index-home.ensures) who.2 in
-    let place = c.from.ensures ∙ ap (λ (i : SiteId). i.0) home in
-    let cells = c.args.self.now.cells.items in
-    let site = who.0.site in
+    let number : c.args.number < length old.homes = rw (← c.self.view_is) at c.requires in
+    let home : slice_get old.homes c.args.number ≡ Some h =
+    slice_get_read old.homes (length old.homes) c.args.number h refl number c.index-home.ensures in
+    let there : h.0 < length old.cells = home_within old.homes (length old.cells) c.args.number h home c.self.invariant.0.within in
     let a = c.index_mut.result.now in
     let x = c.serve.new.self in
-    let new = set cells c.from.result x in
-    let one = one_at cells c.from.result site.0 a x place who.3 c.index_mut.ensures.value in
-    each_kept cells new site a x one (λ j cell. AreConnected t j cell) all
-    (connected_served t site c.args.number who.0 who.1 refl a x c.serve.ensures.same c.serve.ensures.others c.serve.ensures.comes
-    c.serve.ensures.line (all site.0 a one.was))
-
-pub returns-clause-answered : goal.returns-clause-answered
-returns-clause-answered g c t before is all =
-    let who = client_at t c.args.self.now c.args.number is c.requires.there in
-    let h = c.index-home.result.now in
-    let homes = c.args.self.now.homes.items in
-    let home = one_there homes c.args.number h who.0.site
-    (slice_get_read homes (length homes) c.args.number h refl c.requires.there c.index-home.ensures) who.2 in
-    let place = c.from.ensures ∙ ap (λ (i : SiteId). i.0) home in
-    let cells = c.args.self.now.cells.items in
-    let site = who.0.site in
-    let a = c.index_mut.result.now in
-    let x = c.serve.new.self in
-    let new = set cells c.from.result x in
-    let one = one_at cells c.from.result site.0 a x place who.3 c.index_mut.ensures.value in
-    each_kept cells new site a x one (λ j cell. AreAnswered t before j cell) all
-    (answered_served t site c.args.number who.0 who.1 refl a x c.serve.ensures.same c.serve.ensures.others c.serve.ensures.comes
-    before c.serve.ensures.written (all site.0 a one.was))
-
-pub returns-clause-met : goal.returns-clause-met
-returns-clause-met g c all =
-    let t = c.requires.bench.0 in
-    let is = c.requires.bench.1 in
-    let who = client_at t c.args.self.now c.args.number is c.requires.there in
-    let h = c.index-home.result.now in
-    let homes = c.args.self.now.homes.items in
-    let home = one_there homes c.args.number h who.0.site
-    (slice_get_read homes (length homes) c.args.number h refl c.requires.there c.index-home.ensures) who.2 in
-    let place = c.from.ensures ∙ ap (λ (i : SiteId). i.0) home in
-    let cells = c.args.self.now.cells.items in
-    let site = who.0.site in
-    let a = c.index_mut.result.now in
-    let x = c.serve.new.self in
-    let new = set cells c.from.result x in
-    let one = one_at cells c.from.result site.0 a x place who.3 c.index_mut.ensures.value in
-    all_met_kept cells new site a x one c.serve.ensures.mets c.serve.ensures.ins all
-
-pub returns-clause-turns : goal.returns-clause-turns
-returns-clause-turns g c t client is all at =
-    let who = client_at t c.args.self.now c.args.number is c.requires.there in
-    let same_client = one_there t.clients c.args.number who.0 client who.1 at in
-    let h = c.index-home.result.now in
-    let homes = c.args.self.now.homes.items in
-    let home = one_there homes c.args.number h client.site
-    (slice_get_read homes (length homes) c.args.number h refl c.requires.there c.index-home.ensures)
-    (who.2 ∙ ap (λ (z : Client). Some z.site) same_client) in
-    let place = c.from.ensures ∙ ap (λ (i : SiteId). i.0) home in
-    let cells = c.args.self.now.cells.items in
-    let site = client.site in
-    let below = subst (λ (z : Client). z.site.0 < length cells) same_client who.3 in
-    let a = c.index_mut.result.now in
-    let x = c.serve.new.self in
-    let new = set cells c.from.result x in
-    let one = one_at cells c.from.result site.0 a x place below c.index_mut.ensures.value in
-    IfOk-weaker c.serve.result
-    (λ (z : Serve). TurnsTo c.args.number client.bytes a.node.clock (HasFaultAt x.lines.items c.args.number) a.node.entries.items x.node.entries.items z)
-    (λ (z : Serve). TurnsAt site c.args.number client.bytes (HasFaultAt (lines_at new site.0) c.args.number) (moment_of cells) (moment_of new) z)
-    (λ z turns. turns_at cells new site a x one t c.args.number client.bytes z (is.cells site.0 a one.was) c.serve.ensures.ins turns)
-    (c.serve.ensures.turn client.bytes (all site.0 a one.was c.args.number client at refl))
-
-pub returns-clause-drops : goal.returns-clause-drops
-returns-clause-drops g c t client is all at known =
-    let who = client_at t c.args.self.now c.args.number is c.requires.there in
-    let same_client = one_there t.clients c.args.number who.0 client who.1 at in
-    let h = c.index-home.result.now in
-    let homes = c.args.self.now.homes.items in
-    let home = one_there homes c.args.number h client.site
-    (slice_get_read homes (length homes) c.args.number h refl c.requires.there c.index-home.ensures)
-    (who.2 ∙ ap (λ (z : Client). Some z.site) same_client) in
-    let place = c.from.ensures ∙ ap (λ (i : SiteId). i.0) home in
-    let cells = c.args.self.now.cells.items in
-    let site = client.site in
-    let below = subst (λ (z : Client). z.site.0 < length cells) same_client who.3 in
-    let a = c.index_mut.result.now in
-    let x = c.serve.new.self in
-    let new = set cells c.from.result x in
-    let one = one_at cells c.from.result site.0 a x place below c.index_mut.ensures.value in
-    drops_at cells new site a x one t.catalog all
-    (c.serve.ensures.drops t.catalog t.capacity site (is.cells site.0 a one.was).cell_is (known a one.was))
+    let new : List (CellValue g.row.D.Denot) = set old.cells c.from.result x in
+    let one : ChangesOne old.cells new h.0 a x = one_at old.cells c.from.result h.0 a x c.from.ensures there c.index_mut.ensures.value in
+    subst (λ (v : BenchValue g.row.D.Denot). HasSameArms g.D.Disk v (record { cells = new; homes = old.homes })) c.self.view_is
+    (proceeds_arms g.D.Disk old.cells new h a x one old.homes c.serve.ensures.proceeds)
 
 pub returns-clause-kept : goal.returns-clause-kept
 returns-clause-kept g c =
-    let t = c.requires.bench.0 in
-    let is = c.requires.bench.1 in
-    let who = client_at t c.args.self.now c.args.number is c.requires.there in
+    let old : BenchValue g.row.D.Denot = record { cells = c.self.inside.cells.items; homes = c.self.inside.homes.items } in
     let h = c.index-home.result.now in
-    let homes = c.args.self.now.homes.items in
-    let home = one_there homes c.args.number h who.0.site
-    (slice_get_read homes (length homes) c.args.number h refl c.requires.there c.index-home.ensures) who.2 in
-    let place = c.from.ensures ∙ ap (λ (i : SiteId). i.0) home in
-    let cells = c.args.self.now.cells.items in
-    let site = who.0.site in
+    let number : c.args.number < length old.homes = rw (← c.self.view_is) at c.requires in
+    let home : slice_get old.homes c.args.number ≡ Some h =
+    slice_get_read old.homes (length old.homes) c.args.number h refl number c.index-home.ensures in
+    let there : h.0 < length old.cells = home_within old.homes (length old.cells) c.args.number h home c.self.invariant.0.within in
     let a = c.index_mut.result.now in
     let x = c.serve.new.self in
-    let new = set cells c.from.result x in
-    let one = one_at cells c.from.result site.0 a x place who.3 c.index_mut.ensures.value in
-    on_err_weaker c.serve.result (λ same. trails_kept cells new site a x one same) c.serve.ensures.kept
+    let new : List (CellValue g.row.D.Denot) = set old.cells c.from.result x in
+    let one : ChangesOne old.cells new h.0 a x = one_at old.cells c.from.result h.0 a x c.from.ensures there c.index_mut.ensures.value in
+    subst (λ (v : BenchValue g.row.D.Denot). OnErr c.serve.result ((moment_of new).trails ≡ (moment_of v.cells).trails)) c.self.view_is
+    (on_err_weaker c.serve.result (trails_kept g.D.Disk old.cells new h a x one) c.serve.ensures.kept)
 
-pub returns-clause-arms : goal.returns-clause-arms
-returns-clause-arms g c i =
-    let t = c.requires.bench.0 in
-    let is = c.requires.bench.1 in
-    let who = client_at t c.args.self.now c.args.number is c.requires.there in
+pub returns-clause-drops : goal.returns-clause-drops
+returns-clause-drops g c = λ i at.
+    let old : BenchValue g.row.D.Denot = record { cells = c.self.inside.cells.items; homes = c.self.inside.homes.items } in
     let h = c.index-home.result.now in
-    let homes = c.args.self.now.homes.items in
-    let home = one_there homes c.args.number h who.0.site
-    (slice_get_read homes (length homes) c.args.number h refl c.requires.there c.index-home.ensures) who.2 in
-    let place = c.from.ensures ∙ ap (λ (i : SiteId). i.0) home in
-    let cells = c.args.self.now.cells.items in
-    let site = who.0.site in
+    let number : c.args.number < length old.homes = rw (← c.self.view_is) at c.requires in
+    let home : slice_get old.homes c.args.number ≡ Some h =
+    slice_get_read old.homes (length old.homes) c.args.number h refl number c.index-home.ensures in
+    let there : h.0 < length old.cells = home_within old.homes (length old.cells) c.args.number h home c.self.invariant.0.within in
     let a = c.index_mut.result.now in
     let x = c.serve.new.self in
-    let new = set cells c.from.result x in
-    let one = one_at cells c.from.result site.0 a x place who.3 c.index_mut.ensures.value in
-    arms_kept cells new site a x one c.serve.ensures.arms i
+    let new : List (CellValue g.row.D.Denot) = set old.cells c.from.result x in
+    let one : ChangesOne old.cells new h.0 a x = one_at old.cells c.from.result h.0 a x c.from.ensures there c.index_mut.ensures.value in
+    let at : slice_get old.homes c.args.number ≡ Some i = rw (← c.self.view_is) at at in
+    let same : h ≡ i = one_there old.homes c.args.number h i home at in
+    let here : a.node.site ≡ h = (c.self.invariant.0.cells h.0 a one.was).site in
+    subst (λ (v : BenchValue g.row.D.Denot). Drops g.D.Disk i v (record { cells = new; homes = old.homes })) c.self.view_is
+    (subst (λ (i : SiteId). Drops g.D.Disk i old (record { cells = new; homes = old.homes })) same
+    (proceeds_drops g.D.Disk old.cells new h a x one old.homes c.serve.ensures.proceeds here))
+
+pub returns-clause-turns : goal.returns-clause-turns
+returns-clause-turns g c = λ i bytes at is.
+    let old : BenchValue g.row.D.Denot = record { cells = c.self.inside.cells.items; homes = c.self.inside.homes.items } in
+    let h = c.index-home.result.now in
+    let number : c.args.number < length old.homes = rw (← c.self.view_is) at c.requires in
+    let home : slice_get old.homes c.args.number ≡ Some h =
+    slice_get_read old.homes (length old.homes) c.args.number h refl number c.index-home.ensures in
+    let there : h.0 < length old.cells = home_within old.homes (length old.cells) c.args.number h home c.self.invariant.0.within in
+    let a = c.index_mut.result.now in
+    let x = c.serve.new.self in
+    let new : List (CellValue g.row.D.Denot) = set old.cells c.from.result x in
+    let one : ChangesOne old.cells new h.0 a x = one_at old.cells c.from.result h.0 a x c.from.ensures there c.index_mut.ensures.value in
+    let at : slice_get old.homes c.args.number ≡ Some i = rw (← c.self.view_is) at at in
+    let same : h ≡ i = one_there old.homes c.args.number h i home at in
+    let is : IsLineAt bytes (calls_of c.args.number (trail_at old.cells i)) (lines_at old.cells i.0) c.args.number = rw (← c.self.view_is) at is in
+    let is : IsLineAt bytes (calls_of c.args.number (trail_at old.cells h)) (lines_at old.cells h.0) c.args.number =
+    subst (λ (i : SiteId). IsLineAt bytes (calls_of c.args.number (trail_at old.cells i)) (lines_at old.cells i.0) c.args.number) (sym same) is in
+    let is : IsLineAt bytes (calls_of c.args.number a.node.trail) a.lines c.args.number =
+    subst (λ (es : List Entry). IsLineAt bytes (calls_of c.args.number es) a.lines c.args.number) (trail_was g.D.Disk old.cells new h a x one)
+    (subst (λ (ls : List (Option LineValue)). IsLineAt bytes (calls_of c.args.number (trail_at old.cells h)) ls c.args.number)
+    (lines_was g.D.Disk old.cells new h a x one) is) in
+    subst (λ (v : BenchValue g.row.D.Denot). IfOk c.serve.result (TurnsAt i c.args.number bytes
+    (HasFaultAt (lines_at new i.0) c.args.number × CanFail g.S.Source g.K.Sink) (moment_of v.cells) (moment_of new))) c.self.view_is
+    (subst (λ (i : SiteId). IfOk c.serve.result (TurnsAt i c.args.number bytes
+    (HasFaultAt (lines_at new i.0) c.args.number × CanFail g.S.Source g.K.Sink) (moment_of old.cells) (moment_of new))) same
+    (IfOk-weaker c.serve.result _ _
+    (λ answer. turns_at g.D.Disk old.cells new h a x one (CanFail g.S.Source g.K.Sink) c.args.number bytes answer c.serve.ensures.proceeds.ins)
+    (c.serve.ensures.turn bytes is)))

@@ -1,0 +1,23 @@
+use Rattle.std.proofs.Common.{Result, ap, sym, subst}
+use Rattle.std.specs.Prelude.{IfOk}
+use Rattle.walter_base.specs.declared.memory.NoMemory.{NoMemory}
+use Rattle.walter_conn.specs.declared.next.Next.{Next}
+use Rattle.walter_cell.specs.Lines.{LineValue, IsLine, Leaves, line_of}
+use Rattle.walter_cell.proofs.Lines.{can_fail, line_next, told}
+use Rattle.walter_cell.proofs.line.Line.next_call.Goals.{in-Ok, in-Err}
+use Rattle.walter_cell.proofs.line.Line.next_call.Goals as goal
+
+pub returns-clause-next : goal.returns-clause-next
+returns-clause-next g c = λ bytes calls is.
+    let old = line_of c.self.inside.conn in
+    let new = line_of c.next.new.self in
+    elim c.match-next.branch [
+      | in-Ok w ↦
+          subst (λ (r : Result Next NoMemory). IfOk r (Leaves bytes calls new)) (sym w.result-is)
+          (line_next bytes calls old new (subst (λ (l : LineValue). IsLine bytes calls l) (sym c.self.view_is) is) w.in-Ok.next
+          w.in-Ok.ensures.answer (ap (told g.K.Sink) c.next.ensures.sink))
+      | in-Err w ↦ subst (λ (r : Result Next NoMemory). IfOk r (Leaves bytes calls new)) (sym w.result-is) tt
+    ]
+
+pub returns-clause-can : goal.returns-clause-can
+returns-clause-can g c = λ failed. can_fail c.next.new.self failed
