@@ -16,7 +16,7 @@ use Rattle.walter_rules.specs.declared.entry.Entry.{Entry}
 use Rattle.walter_rules.specs.Standing.{unmade}
 use Rattle.walter_rules.specs.Trails.{ruled, standing, clock, all_out, IsRightTrail}
 use Rattle.walter_engine.specs.Begins.{HasOnly, IsBegun, IsFaultOfBegin, MayHaveBegun}
-use Rattle.walter_engine.specs.declared.answers.Unbegun.{Unbegun}
+use Rattle.walter_engine.specs.declared.answers.BeginFault.{BeginFault}
 use Rattle.walter_cell.specs.Builds.{AreFree, Begins, OfBuilt, begun_by}
 use Rattle.walter_cell.specs.Entries.{HaveRisingStamps}
 use Rattle.walter_cell.specs.Handled.{IsSized, is_faulty}
@@ -117,7 +117,7 @@ module _ {D : Type 0} {g : Ghosts D} (catalog : Catalog) (capacity : ℕ) (i : S
 -- what a first restart comes to, told of the disk that the site was given
 module _ {D N : Type 0} (g : Ghosts D)
     (counts_now : (disk : D) (t : ℕ) (image : List ℕ) → t ≤ g.moment disk → g.may_leave disk image → g.left_since disk t image)
-    (disk_of : N → Option D) (disk : D) (r : Result N (D × Unbegun)) (answer : Result (Unit {0}) Unbegun) (old new : Option D)
+    (disk_of : N → Option D) (disk : D) (r : Result N (D × BeginFault)) (answer : Result (Unit {0}) BeginFault) (old new : Option D)
     (old_is : old ≡ Some disk) (answered : begun_by r ≡ answer) (now_of : (P : D → Type 0) → IfSome new P → OfBuilt disk_of r P) where
   of_given : (R : D → D → Type 0) → IfSome old (λ x. IfSome new (λ y. R x y)) → IfSome new (λ y. R disk y)
   of_given R both = from_found old disk (λ x. IfSome new (λ y. R x y)) old_is both
@@ -130,11 +130,11 @@ module _ {D N : Type 0} (g : Ghosts D)
       → Begins g disk_of disk r
   begins_by begins any_moment faults arms = record {
     begins = λ bytes only.
-        subst (λ (a : Result (Unit {0}) Unbegun). IsBegun bytes a) (sym answered) (begins bytes (to_found old disk (HasOnly g bytes) old_is only));
+        subst (λ (a : Result (Unit {0}) BeginFault). IsBegun bytes a) (sym answered) (begins bytes (to_found old disk (HasOnly g bytes) old_is only));
     leaves = λ bytes only.
         now_of _ (leaves_now g counts_now old new disk (MayHaveBegun bytes) old_is (any_moment bytes (to_found old disk (HasOnly g bytes) old_is only)));
     faults = now_of _
-        (subst (λ (a : Result (Unit {0}) Unbegun). IfSome new (λ y. IsFaultOfBegin a (g.known disk).faults (g.known y).faults)) (sym answered)
+        (subst (λ (a : Result (Unit {0}) BeginFault). IfSome new (λ y. IsFaultOfBegin a (g.known disk).faults (g.known y).faults)) (sym answered)
         (of_given (λ x y. IsFaultOfBegin answer (g.known x).faults (g.known y).faults) faults));
     arms = now_of _ (of_given (λ x y. (g.known y).arms ≡ (g.known x).arms) arms);
   }

@@ -4,7 +4,7 @@ use Rattle.walter_base.specs.declared.catalog.Catalog.{Catalog}
 use Rattle.walter_base.specs.declared.names.SiteId.{SiteId}
 use Rattle.walter_base.specs.declared.names.Tid.{Tid}
 use Rattle.walter_disk.specs.declared.disk.Disk.{Ghosts}
-use Rattle.walter_engine.specs.declared.answers.Unbegun.{Unbegun}
+use Rattle.walter_engine.specs.declared.answers.BeginFault.{BeginFault}
 use Rattle.walter_engine.specs.Begins.{HasOnly, IsBegun, IsFaultOfBegin, MayHaveBegun}
 use Rattle.walter_engine.specs.Engines.{catalog_in, site_in, capacity_in, disk_in, is_up}
 use Rattle.walter_engine.specs.Steps.{opening}
@@ -17,19 +17,19 @@ abbrev pub AreFree : ℕ → List (Option Tid) → Type 0
 AreFree count debts = debts ≡ replicate count None
 
 -- what the first restart answered; where there was no memory before it, that
-abbrev pub begun_by : {N D : Type 0} → Result N (D × Unbegun) → Result (Unit {0}) Unbegun
+abbrev pub begun_by : {N D : Type 0} → Result N (D × BeginFault) → Result (Unit {0}) BeginFault
 begun_by (Ok node) = Ok tt
 begun_by (Err back) = Err back.1
 
 -- of the disk behind a building P holds, under the site or beside the fault
-abbrev pub OfBuilt : {N D : Type 0} → (N → Option D) → Result N (D × Unbegun) → (D → Type 0) → Type 0
+abbrev pub OfBuilt : {N D : Type 0} → (N → Option D) → Result N (D × BeginFault) → (D → Type 0) → Type 0
 OfBuilt disk_of (Ok node) P = IfSome (disk_of node) P
 OfBuilt disk_of (Err back) P = P back.0
 
 module _ {D : Type 0} (g : Ghosts D) where
   -- what is answered, by the bytes that the disk had, where a crash left nothing else; and what one leaves then. The disk's
   -- faults rise exactly where a call of it failed, and nothing is armed.
-  pub record Begins {N : Type 0} (disk_of : N → Option D) (disk : D) (result : Result N (D × Unbegun)) : Type 0 where
+  pub record Begins {N : Type 0} (disk_of : N → Option D) (disk : D) (result : Result N (D × BeginFault)) : Type 0 where
     pub begins : (bytes : List ℕ) → HasOnly g bytes disk → IsBegun bytes (begun_by result)
     pub leaves : (bytes : List ℕ) → HasOnly g bytes disk
         → OfBuilt disk_of result (λ now. (image : List ℕ) → g.may_leave now image → MayHaveBegun bytes image)

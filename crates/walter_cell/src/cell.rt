@@ -21,7 +21,7 @@ use std::marker::Model;
 use walter_base::{Catalog, Mem, SiteId};
 use walter_conn::{BrokenConn, Next};
 use walter_disk::Disk;
-use walter_engine::Unbegun;
+use walter_engine::BeginFault;
 use walter_lane::{Inbound, Outbound};
 use walter_rules::{Event, Input};
 use walter_stream::{Sink, Source};
@@ -67,7 +67,7 @@ impl<D: Disk + Drop, S: Source + Drop, K: Sink + Drop> Cell<D, S, K> {
         outs: Vec<Outbound>,
         ins: Vec<Inbound>,
         lines: Vec<Option<Line<S, K>>>,
-    ) -> Result<Cell<D, S, K>, (D, Unbegun)>
+    ) -> Result<Cell<D, S, K>, (D, BeginFault)>
         requires here { site.0 < catalog.now.sites }
         requires most { catalog.now.sites ≤ most_sites }
         requires fewer { catalog.now.tolerated < catalog.now.sites }

@@ -3,7 +3,7 @@ ghost use Rattle.std.specs.Prelude.{vec_len, vec_capacity, option_map, is_some, 
 ghost use mathlib.Core.List.{IsPrefix};
 ghost use Rattle.walter_base.specs.Vectors.{most_sites};
 ghost use Rattle.walter_engine.specs.Steps.{opening};
-ghost use Rattle.walter_engine.specs.declared.answers.Unbegun.TheVariants as unbegun;
+ghost use Rattle.walter_engine.specs.declared.answers.BeginFault.TheVariants as unbegun;
 ghost use Rattle.walter_cell.specs.Builds.{AreFree, Begins, HasOpened, IsNewEngine};
 ghost use Rattle.walter_cell.specs.Entries.{IsSpent, HasPlace, IsOfClients, IsSizedEvent};
 ghost use Rattle.walter_outbox.specs.Lanes.{put_to, met_to, mets, ring_to, out_rings};
@@ -15,7 +15,7 @@ use std::alloc::Global;
 use std::marker::Model;
 use walter_base::{Catalog, Mem, Record, RecordPlace, SiteId, Tid};
 use walter_disk::Disk;
-use walter_engine::{Engine, Unbegun};
+use walter_engine::{Engine, BeginFault};
 use walter_lane::{Inbound, Outbound, compare, meet};
 use walter_outbox::put_out;
 use walter_rules::{Came, Entry, Event, Outcome};
@@ -85,7 +85,7 @@ impl<D: Disk + Drop> Node<D> {
         capacity: u64,
         clients: usize,
         outs: Vec<Outbound>,
-    ) -> Result<Node<D>, (D, Unbegun)>
+    ) -> Result<Node<D>, (D, BeginFault)>
         requires here { site.0 < catalog.now.sites }
         requires most { catalog.now.sites ≤ most_sites }
         requires fewer { catalog.now.tolerated < catalog.now.sites }
@@ -96,7 +96,7 @@ impl<D: Disk + Drop> Node<D> {
         ensures begins { Begins D.Disk (λ node. node.disk) disk result }
     {
         let Ok((debts, mut entries, place)) = open(alloc, clients) else {
-            return Err((disk, Unbegun::NoMemory));
+            return Err((disk, BeginFault::NoMemory));
         };
         let mut engine = new_engine(alloc, disk, catalog, site, capacity)?;
         if let Err(why) = engine.begin() {
@@ -239,7 +239,7 @@ fn new_engine<D: Disk + Drop>(
     catalog: &Catalog,
     site: SiteId,
     capacity: u64,
-) -> Result<Box<Engine<D>>, (D, Unbegun)>
+) -> Result<Box<Engine<D>>, (D, BeginFault)>
     requires here { site.0 < catalog.now.sites }
     requires most { catalog.now.sites ≤ most_sites }
     requires fewer { catalog.now.tolerated < catalog.now.sites }
@@ -248,11 +248,11 @@ fn new_engine<D: Disk + Drop>(
 {
     let engine = match Engine::new(alloc, disk, catalog, site, capacity) {
         Ok(engine) => engine,
-        Err(disk) => return Err((disk, Unbegun::NoMemory)),
+        Err(disk) => return Err((disk, BeginFault::NoMemory)),
     };
     match Box::new(alloc, engine) {
         Ok(engine) => Ok(engine),
-        Err(failed) => Err((failed.value.into_disk(), Unbegun::NoMemory)),
+        Err(failed) => Err((failed.value.into_disk(), BeginFault::NoMemory)),
     }
 }
 

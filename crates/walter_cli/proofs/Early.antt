@@ -8,8 +8,8 @@ use Rattle.walter_cluster.specs.Builds.{LeavesDisk, IsWhyNone}
 use Rattle.walter_cluster.specs.declared.opening.Unbuilt.{Unbuilt}
 use Rattle.walter_disk.specs.declared.disk.Disk.{Ghosts}
 use Rattle.walter_engine.specs.Begins.{HasOnly, IsBegun, IsFaultOfBegin, MayHaveBegun, HasNoRecord}
-use Rattle.walter_engine.specs.declared.answers.Unbegun.{Unbegun}
-use Rattle.walter_engine.specs.declared.answers.Unbegun.TheVariants as unbegun
+use Rattle.walter_engine.specs.declared.answers.BeginFault.{BeginFault}
+use Rattle.walter_engine.specs.declared.answers.BeginFault.TheVariants as unbegun
 use Rattle.walter_cluster.proofs.Changes.{there_is}
 use Rattle.walter_cli.specs.Ending.{EndsEarly, IsUnbuilt, fault_of}
 use Rattle.walter_cli.specs.Racks.{RackAt, Racked, OfADisk, AreSo, Holds, IsUntouched, IsUnarmed, HasFailed, IsFaultlessBefore, HasCause, racked}
@@ -108,7 +108,7 @@ module _ {D : Type 0} (g : Ghosts D) (before mid after : RackAt D) (taken back :
 
   -- why it ended, where a site didn't begin with its disk
   module _ (site : ℕ) (disk now : D) (at : slice_get taken site ≡ Some disk) (there : slice_get back site ≡ Some now)
-      (why : Unbegun) (begins : (bytes : List ℕ) → HasOnly g bytes disk → IsBegun bytes (Err why))
+      (why : BeginFault) (begins : (bytes : List ℕ) → HasOnly g bytes disk → IsBegun bytes (Err why))
       (rises : IsFaultOfBegin (Err why) (g.known disk).faults (g.known now).faults)
       (others : (i : ℕ) (d : D) (bytes : List ℕ) → i < site → slice_get taken i ≡ Some d → HasOnly g bytes d
       → HasNoRecord bytes)
@@ -130,14 +130,14 @@ module _ {D : Type 0} (g : Ghosts D) (before mid after : RackAt D) (taken back :
     each_faultless : rack.each (IsFaultlessBefore site)
     each_faultless = each_back g before mid after taken back is (IsFaultlessBefore site) faultless_before
 
-    pub unbuilt : (w : Unbegun) → why ≡ w → IsUnbuilt rack (length taken) (fault_of site w)
+    pub unbuilt : (w : BeginFault) → why ≡ w → IsUnbuilt rack (length taken) (fault_of site w)
     unbuilt unbegun.Failed same = (
       slice_get_within taken site disk at,
       inr (record {
         all = took_all g before mid after taken back is;
         failed = one_or_lost g before mid after taken back is site now HasFailed there
             (let rose : (g.known disk).faults < (g.known now).faults =
-            subst (λ (x : Unbegun). IsFaultOfBegin (Err x) (g.known disk).faults (g.known now).faults) same rises in
+            subst (λ (x : BeginFault). IsFaultOfBegin (Err x) (g.known disk).faults (g.known now).faults) same rises in
             omega (arith, rose));
         before = each_faultless;
         no_record = others_held;
@@ -147,7 +147,7 @@ module _ {D : Type 0} (g : Ghosts D) (before mid after : RackAt D) (taken back :
       slice_get_within taken site disk at,
       record {
         unfit = held site disk (HasCause Foreign 0) at (λ bytes only.
-            let so = subst (λ (x : Unbegun). IsBegun bytes (Err x)) same (begins bytes only) in (refl, so.0, so.1));
+            let so = subst (λ (x : BeginFault). IsBegun bytes (Err x)) same (begins bytes only) in (refl, so.0, so.1));
         others = others_held;
       },
       each_faultless,
@@ -156,7 +156,7 @@ module _ {D : Type 0} (g : Ghosts D) (before mid after : RackAt D) (taken back :
       slice_get_within taken site disk at,
       record {
         unfit = held site disk (HasCause (Damaged claimed) place) at (λ bytes only.
-            subst (λ (x : Unbegun). IsBegun bytes (Err x)) same (begins bytes only));
+            subst (λ (x : BeginFault). IsBegun bytes (Err x)) same (begins bytes only));
         others = others_held;
       },
       each_faultless,
@@ -165,7 +165,7 @@ module _ {D : Type 0} (g : Ghosts D) (before mid after : RackAt D) (taken back :
       slice_get_within taken site disk at,
       record {
         unfit = held site disk (HasCause Used 8) at (λ bytes only.
-            (refl, subst (λ (x : Unbegun). IsBegun bytes (Err x)) same (begins bytes only)));
+            (refl, subst (λ (x : BeginFault). IsBegun bytes (Err x)) same (begins bytes only)));
         others = others_held;
       },
       each_faultless,

@@ -4,8 +4,8 @@ use Rattle.walter_cluster.specs.Benches.{BenchValue, IsOf, IsToldAt, AreAllConne
 use Rattle.walter_cluster.specs.Moments.{IsFirst, moment_of}
 use Rattle.walter_disk.specs.declared.disk.Disk.{Ghosts}
 use Rattle.walter_engine.specs.Begins.{HasNoRecord}
-use Rattle.walter_engine.specs.declared.answers.Unbegun.{Unbegun}
-use Rattle.walter_engine.specs.declared.answers.Unbegun.TheVariants as unbegun
+use Rattle.walter_engine.specs.declared.answers.BeginFault.{BeginFault}
+use Rattle.walter_engine.specs.declared.answers.BeginFault.TheVariants as unbegun
 use Rattle.walter_rules.specs.declared.entry.Entry.{Entry}
 use Rattle.walter_scenario.specs.declared.scenario.Scenario.{Scenario}
 use Rattle.walter_scenario.specs.Scenarios.{IsReading}
@@ -32,7 +32,7 @@ IsTakeFault before after faults faults' Memory = Unit {0}
 IsTakeFault before after faults faults' fault = ⊥
 
 -- the fault of a run whose site did not begin
-abbrev pub fault_of : ℕ → Unbegun → Fault
+abbrev pub fault_of : ℕ → BeginFault → Fault
 fault_of site unbegun.Failed = Rack site
 fault_of site unbegun.Foreign = Journal site Foreign 0
 fault_of site (unbegun.Damaged at length) = Journal site (Damaged length) at

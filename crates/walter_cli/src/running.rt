@@ -17,7 +17,7 @@ use std::alloc::Global;
 use walter_base::Mem;
 use walter_cluster::{Bench, Closed, Unbuilt, build};
 use walter_disk::Rack;
-use walter_engine::Unbegun;
+use walter_engine::BeginFault;
 use walter_play::{open_lines, play};
 use walter_report::{report, trace};
 use walter_scenario::Scenario;
@@ -97,27 +97,27 @@ fn build_over<R: Rack>(
 }
 
 // The fault of a run whose site did not begin. The records of a journal stand behind its first gate.
-fn unbegun(site: u8, why: Unbegun) -> Fault
+fn unbegun(site: u8, why: BeginFault) -> Fault
     ensures { result ≡ fault_of site why }
 {
     match why {
-        Unbegun::Failed => Fault::Rack { site },
-        Unbegun::Foreign => Fault::Journal {
+        BeginFault::Failed => Fault::Rack { site },
+        BeginFault::Foreign => Fault::Journal {
             site,
             cause: JournalCause::Foreign,
             place: 0,
         },
-        Unbegun::Damaged { at, length } => Fault::Journal {
+        BeginFault::Damaged { at, length } => Fault::Journal {
             site,
             cause: JournalCause::Damaged { length },
             place: at,
         },
-        Unbegun::Used => Fault::Journal {
+        BeginFault::Used => Fault::Journal {
             site,
             cause: JournalCause::Used,
             place: 8,
         },
-        Unbegun::NoMemory => Fault::Memory,
+        BeginFault::NoMemory => Fault::Memory,
     }
 }
 

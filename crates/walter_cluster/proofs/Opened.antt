@@ -9,8 +9,8 @@ use Rattle.walter_cell.specs.Cells.{CellValue, HasBegun}
 use Rattle.walter_cell.specs.Lines.{LineValue}
 use Rattle.walter_disk.specs.declared.disk.Disk.{Ghosts}
 use Rattle.walter_engine.specs.Begins.{HasOnly, HasNoRecord, MayHaveBegun, IsBegun, IsFaultOfBegin}
-use Rattle.walter_engine.specs.declared.answers.Unbegun.{Unbegun}
-use Rattle.walter_engine.specs.declared.answers.Unbegun.TheVariants.{Failed, Foreign, Damaged, Used, NoMemory}
+use Rattle.walter_engine.specs.declared.answers.BeginFault.{BeginFault}
+use Rattle.walter_engine.specs.declared.answers.BeginFault.TheVariants.{Failed, Foreign, Damaged, Used, NoMemory}
 use Rattle.walter_lane.specs.Lanes.{Sending, Receiving}
 use Rattle.walter_psi.proofs.Lists.{slice_get-push_cases, slice_get-append_left}
 use Rattle.walter_rules.specs.Knowledge.{site_at}
@@ -34,7 +34,7 @@ module _ {D : Type 0} (g : Ghosts D) where
     arms = refl;
   }
 
-  pub faults_grow : (why : Unbegun) (old new : ℕ) → IsFaultOfBegin (Err why) old new → old ≤ new
+  pub faults_grow : (why : BeginFault) (old new : ℕ) → IsFaultOfBegin (Err why) old new → old ≤ new
   faults_grow Failed old new h = omega (arith, h)
   faults_grow Foreign old new h = omega (arith, h)
   faults_grow (Damaged at length) old new h = omega (arith, h)

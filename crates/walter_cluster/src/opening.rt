@@ -16,7 +16,7 @@ use std::alloc::Global;
 use walter_base::{Mem, SiteId};
 use walter_cell::{Cell, Line};
 use walter_disk::Disk;
-use walter_engine::Unbegun;
+use walter_engine::BeginFault;
 use walter_lane::{Inbound, Outbound};
 use walter_scenario::{Client, Scenario};
 use walter_stream::{Sink, Source};
@@ -28,7 +28,7 @@ use walter_trail::Trail;
 pub struct Unbuilt<D> {
     pub disks: Vec<D>,
     pub site: SiteId,
-    pub why: Unbegun,
+    pub why: BeginFault,
 }
 
 // Lists without elements, with room for what a bench has.
@@ -81,7 +81,7 @@ pub fn build<D: Disk + Drop, S: Source + Drop, K: Sink + Drop>(
         return Err(Unbuilt {
             disks,
             site: SiteId(0),
-            why: Unbegun::NoMemory,
+            why: BeginFault::NoMemory,
         });
     };
     begin_all(alloc, scenario, disks, parts)

@@ -17,8 +17,8 @@ use Rattle.walter_rules.specs.Standing.{settled, stands_after, unmade}
 use Rattle.walter_rules.specs.Trails.{Comes, IsFound}
 use Rattle.walter_engine.specs.declared.answers.Restarted.{Restarted}
 use Rattle.walter_engine.specs.declared.answers.Restarted.TheVariants as restarted
-use Rattle.walter_engine.specs.declared.answers.Unbegun.{Unbegun}
-use Rattle.walter_engine.specs.declared.answers.Unbegun.TheVariants as unbegun
+use Rattle.walter_engine.specs.declared.answers.BeginFault.{BeginFault}
+use Rattle.walter_engine.specs.declared.answers.BeginFault.TheVariants as unbegun
 use Rattle.walter_engine.specs.declared.restarting.AfterRestart.{AfterRestart}
 use Rattle.walter_engine.specs.Begins.{HasOnly, MayHaveBegun}
 use Rattle.walter_engine.specs.Contents.{AreJournaled, MayHaveBoot}
@@ -79,7 +79,7 @@ module _ {D : Type 0} {g : Ghosts D} (catalog : Catalog) (capacity : ℕ) (i : S
       ap came_of_restart is ∙ (λ j. came_of_restart (restarted.Up (none j) (first j)))
 
   -- where it comes up, it is in its first epoch
-  pub has_first_epoch : (answer : Result (Unit {0}) Unbegun) → IsAnswerTo after.answer answer → IsOf catalog i capacity after.state
+  pub has_first_epoch : (answer : Result (Unit {0}) BeginFault) → IsAnswerTo after.answer answer → IsOf catalog i capacity after.state
       → OnOk answer (HasFirstEpoch {g = g} catalog capacity i (record { state = after.state; answer = answer; tally = after.tally }))
   has_first_epoch answer answered of = at after.answer refl answered
     where

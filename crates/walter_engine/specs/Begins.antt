@@ -3,8 +3,8 @@ use Rattle.std.specs.Prelude.{◌≡◌, ◌≢◌, ◌⊎◌, ◌<◌, ◌≤�
 use Rattle.walter_base.specs.declared.message.Record.TheVariants.{Boot}
 use Rattle.walter_disk.specs.declared.disk.Disk.{Ghosts}
 use Rattle.walter_disk.specs.Images.{Only}
-use Rattle.walter_engine.specs.declared.answers.Unbegun.{Unbegun}
-use Rattle.walter_engine.specs.declared.answers.Unbegun.TheVariants.{Failed, Foreign, Damaged, Used, NoMemory}
+use Rattle.walter_engine.specs.declared.answers.BeginFault.{BeginFault}
+use Rattle.walter_engine.specs.declared.answers.BeginFault.TheVariants.{Failed, Foreign, Damaged, Used, NoMemory}
 use Rattle.walter_engine.specs.Contents.{HasRecords, MayHaveRecords}
 use Rattle.walter_journal.specs.Layout.{HasContent, IsForeign, IsDamaged}
 
@@ -24,7 +24,7 @@ MayHaveBegun bytes image =
     (image ≡ bytes) ⊎ ((bytes ≡ []) × (length image ≤ 9)) ⊎ (HasNoRecord bytes × MayHaveRecords [] (Some (Boot 1)) image)
 
 -- what a first restart answers over such bytes
-abbrev pub IsBegun : List ℕ → Result (Unit {0}) Unbegun → Type 0
+abbrev pub IsBegun : List ℕ → Result (Unit {0}) BeginFault → Type 0
 IsBegun bytes (Ok done) = HasNoRecord bytes
 IsBegun bytes (Err Failed) = Unit {0}
 IsBegun bytes (Err Foreign) = IsForeign bytes × (bytes ≢ [])
@@ -33,7 +33,7 @@ IsBegun bytes (Err Used) = (bodies : List (List ℕ)) × HasContent bytes bodies
 IsBegun bytes (Err NoMemory) = Unit {0}
 
 -- the disk's faults rise exactly where a first restart failed
-abbrev pub IsFaultOfBegin : Result (Unit {0}) Unbegun → ℕ → ℕ → Type 0
+abbrev pub IsFaultOfBegin : Result (Unit {0}) BeginFault → ℕ → ℕ → Type 0
 IsFaultOfBegin (Ok done) old new = new ≡ old
 IsFaultOfBegin (Err Failed) old new = old < new
 IsFaultOfBegin (Err Foreign) old new = new ≡ old

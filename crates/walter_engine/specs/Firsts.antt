@@ -6,8 +6,8 @@ use Rattle.walter_base.specs.declared.names.SiteId.{SiteId}
 use Rattle.walter_disk.specs.declared.disk.Disk.{Ghosts}
 use Rattle.walter_engine.specs.declared.answers.Restarted.{Restarted}
 use Rattle.walter_engine.specs.declared.answers.Restarted.TheVariants as restarted
-use Rattle.walter_engine.specs.declared.answers.Unbegun.{Unbegun}
-use Rattle.walter_engine.specs.declared.answers.Unbegun.TheVariants as unbegun
+use Rattle.walter_engine.specs.declared.answers.BeginFault.{BeginFault}
+use Rattle.walter_engine.specs.declared.answers.BeginFault.TheVariants as unbegun
 use Rattle.walter_engine.specs.declared.beginning.AfterBegin.{AfterBegin}
 use Rattle.walter_engine.specs.Contents.{AreJournaled, MayHaveRecords}
 use Rattle.walter_engine.specs.Engines.{IsInState, IsTallied}
@@ -30,7 +30,7 @@ pub record HasFirstEpoch {D : Type 0} {g : Ghosts D} (catalog : Catalog) (capaci
   pub tallied : IsTallied result.tally (first_standing catalog i)
 
 -- what it answers where the restart over no records came to this
-abbrev pub IsAnswerTo : Restarted → Result (Unit {0}) Unbegun → Type 0
+abbrev pub IsAnswerTo : Restarted → Result (Unit {0}) BeginFault → Type 0
 IsAnswerTo (restarted.Up kept wrote) answer = answer ≡ Ok tt
 IsAnswerTo (restarted.Failed kept flight) answer = answer ≡ Err unbegun.Failed
 IsAnswerTo (restarted.Full kept need left) answer = ⊥
@@ -38,7 +38,7 @@ IsAnswerTo (restarted.Refused kept why) answer = ⊥
 IsAnswerTo (restarted.NoMemory kept) answer = answer ≡ Err unbegun.NoMemory
 
 -- what it answers over these bodies
-abbrev pub IsBegunOver : List (List ℕ) → Result (Unit {0}) Unbegun → Type 0
+abbrev pub IsBegunOver : List (List ℕ) → Result (Unit {0}) BeginFault → Type 0
 IsBegunOver bodies (Ok done) = bodies ≡ []
 IsBegunOver bodies (Err unbegun.Failed) = bodies ≡ []
 IsBegunOver bodies (Err unbegun.Foreign) = ⊥
@@ -51,7 +51,7 @@ abbrev pub MayHaveFirst : List ℕ → List (List ℕ) → List ℕ → Type 0
 MayHaveFirst bytes bodies image = (image ≡ bytes) ⊎ ((bodies ≡ []) × MayHaveRecords [] (Some (Boot 1)) image)
 
 -- what it answers where no journal was loaded
-abbrev pub not_loaded_by : JournalFault → Unbegun
+abbrev pub not_loaded_by : JournalFault → BeginFault
 not_loaded_by fault.Failed = unbegun.Failed
 not_loaded_by fault.Foreign = unbegun.Foreign
 not_loaded_by (fault.Damaged at length) = unbegun.Damaged at length

@@ -1,12 +1,8 @@
-pub mod States
 pub mod Contents
+pub mod Stores
 pub mod Engines
-pub mod Steps
-pub mod Replays
-pub mod Advances
-pub mod Raises
-pub mod Restarts
-pub mod Moves
+pub mod Effects
 pub mod Begins
+pub mod Writings
+pub mod Replays
 pub mod Firsts
-pub mod Prepares

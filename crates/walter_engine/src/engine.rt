@@ -1,87 +1,49 @@
-ghost use Rattle.std.specs.Prelude.{◌≡◌, ◌≢◌, ◌+◌, ◌<◌, ◌≤◌, ℕ, List, ◌++◌, ◌∷◌, [], true, false, None, Some, is_ok, is_some, IsSome, IfSome, IfOk, IfErr, OnOk, OnErr, option_map, if◌then◌else◌};
+ghost use Rattle.std.specs.Prelude.{◌≡◌, ◌≢◌, ◌+◌, ◌<◌, ◌≤◌, ℕ, List, ◌++◌, ◌∷◌, [], true, false, None, Some, map, is_ok, is_some, IsSome, IfSome, IfOk, IfErr, OnOk, OnErr, option_map};
 ghost use Rattle.walter_base.specs.Vectors.{most_sites};
-ghost use Rattle.walter_engine.specs.States.{sites_under};
+ghost use Rattle.walter_engine.specs.Stores.{is_open_under, IsOfCapacity};
+ghost use Rattle.walter_machine.specs.Machines.{is_up as is_up_machine};
 
-use crate::answers::{Restarted, Stepped, Unbegun};
-use crate::arming::arm_state;
-use crate::beginning::{AfterBegin, begin_on};
-use crate::restarting::{AfterRestart, disk_of, fallen, raise, unloaded};
-use crate::stepping::{AfterStep, take};
+use crate::answers::{BeginFault, Effect, RefusedRestart};
+use crate::beginning::{begin_over, not_loaded};
+use crate::restarting::{raise, unloaded};
+use crate::store::{Store, arm, into_disk, store_of};
+use crate::writing::write;
 use std::alloc::Global;
 use std::mem;
-use walter_base::{Catalog, Mem, NoMemory, SiteId};
+use walter_base::{Catalog, MaybeRecord, Mem, NoMemory, SiteId};
 use walter_disk::Disk;
-use walter_journal::{Journal, layouts_differ, load};
-use walter_rules::Input;
-use walter_session::Sessions;
-use walter_site::Site;
-
-/// Whether a site is up.
-#[derive(Drop)]
-pub(crate) enum State<D: Disk> {
-    /// It is up, over its journal.
-    Up(Site, Journal<D>),
-    /// It is down, with its disk.
-    Down(D),
-}
-
-/// How many records the journal has, which is known while the site is up and where a record is in flight; and whether
-/// one is.
-#[derive(Clone, Copy, Drop)]
-pub(crate) struct Tally {
-    pub records: u64,
-    pub in_flight: bool,
-}
-
-impl Tally {
-    // What is known once a journal with so many records was read. Where one is in flight, it may be the last of them.
-    fn over(self, found: u64) -> Tally
-        ensures { result ≡ (if self.in_flight then self else record { records = found; in_flight = false }) }
-    {
-        if self.in_flight {
-            return self;
-        }
-        Tally {
-            records: found,
-            in_flight: false,
-        }
-    }
-}
+use walter_journal::{layouts_differ, load};
+use walter_machine::Machine;
+use walter_rules::{Came, Event};
 
 /// A site with its disk. Contracts say by `Stands` how it stands.
 #[derive(Drop)]
 pub struct Engine<D: Disk> {
     alloc: Global,
-    catalog: Catalog,
-    site: SiteId,
+    machine: Machine,
     capacity: u64,
-    tally: Tally,
     // None only within a call.
-    state: Option<State<D>>,
-    ghost here: { site.0 < catalog.sites },
-    ghost most: { catalog.sites ≤ most_sites },
-    ghost fewer: { catalog.tolerated < catalog.sites },
-    ghost there: { is_some state ≡ true },
-    ghost among: { sites_under catalog.sites state ≡ catalog.sites },
+    store: Option<Store<D>>,
+    ghost there: { is_some store ≡ true },
+    ghost open: { is_open_under store ≡ is_up_machine machine },
+    ghost of: { IsOfCapacity capacity store },
 }
 
 impl<D: Disk + Drop> Engine<D> {
     ghost use Rattle.walter_disk.specs.Images.{LeavesOnly};
-    ghost use Rattle.walter_site.specs.Members.{IsSizedInput};
-    ghost use Rattle.walter_rules.specs.Rule.{rule};
-    ghost use Rattle.walter_rules.specs.declared.event.Event.{Event};
-    ghost use Rattle.walter_rules.specs.Learning.{after};
-    ghost use Rattle.walter_rules.specs.Standing.{Standing, stands_after};
-    ghost use Rattle.walter_session.specs.Sessions.{sessions_of};
-    ghost use Rattle.walter_rules.specs.Trails.{Comes, standing, only};
-    ghost use Rattle.walter_rules.specs.declared.outcome.Outcome.TheVariants.{Taken};
-    ghost use Rattle.walter_rules.specs.declared.event.Event.TheVariants.{Stop};
-    ghost use Rattle.walter_journal.specs.Journals.{calls_of_load};
     ghost use Rattle.walter_engine.specs.Begins.{HasOnly, MayHaveBegun, IsBegun, IsFaultOfBegin};
-    ghost use Rattle.walter_engine.specs.Contents.{AreJournaled, MayHaveRecords, MayHaveBoot};
-    ghost use Rattle.walter_engine.specs.Engines.{catalog_in, site_in, capacity_in, disk_in, is_up, OfDisk, OfDisks, IsResting, IsSameEngine, Stands};
-    ghost use Rattle.walter_engine.specs.Restarts.{Restarts};
-    ghost use Rattle.walter_engine.specs.Steps.{came_of_step, opening, IsUntold, DoesLose, IsSizedStep, IsSizedRestart, IsFaultOfStep, IsFaultOfRestart, AreCallsOfStep, IsRefusedFor, IfRefused, IfUp, brings_up, kept_of};
+    ghost use Rattle.walter_engine.specs.Contents.{AreSpelled, MayHaveNext};
+    ghost use Rattle.walter_engine.specs.Effects.{HasCome, IsRefusedFor, AreCalls, AreCallsOfRestart};
+    ghost use Rattle.walter_engine.specs.Engines.{catalog_in, site_in, capacity_in, disk_in, is_up, OfDisk, OfDisks, IsFresh, IsRoomy, IsSameEngine, Stands};
+    ghost use Rattle.walter_engine.specs.Stores.{IsOnDisk};
+    ghost use Rattle.walter_journal.specs.Journals.{calls_of_load};
+    ghost use Rattle.walter_machine.specs.Comings.{IsSized, IsFaulty};
+    ghost use Rattle.walter_machine.specs.States.{AreTold, IsSizedEvent};
+    ghost use Rattle.walter_packet.specs.Framed.{frame_of};
+    ghost use Rattle.walter_rules.specs.Standing.{Standing};
+    ghost use Rattle.walter_rules.specs.Trails.{standing, opening};
+    ghost use Rattle.walter_rules.specs.declared.event.Event.TheVariants as event;
+    ghost use Rattle.walter_rules.specs.declared.outcome.Outcome.TheVariants as outcome;
 
     /// A site that is down, with a disk that it knows nothing of. Where there is no memory the disk comes back. Over a
     /// journal with the records of a site it stands as these tell. How a new site goes on, over a disk of no bytes or a
@@ -101,9 +63,11 @@ impl<D: Disk + Drop> Engine<D> {
         ensures catalog { IfOk result (λ engine. catalog_in engine ≡ catalog.now) }
         ensures site { IfOk result (λ engine. site_in engine ≡ site) }
         ensures capacity { IfOk result (λ engine. capacity_in engine ≡ capacity) }
+        ensures fresh { IfOk result IsFresh }
         ensures back { IfErr result (λ back. back ≡ disk) }
-        // over a journal with the records of a site that is down
-        ensures stands { (S : Standing) → S.flight ≡ None → AreJournaled catalog.now site S → IsResting D.Disk S disk
+        // over a journal with the records of a site that is down, and owes no client anything
+        ensures stands { (S : Standing) → S.up ≡ false → S.flight ≡ None → ((client : ℕ) → S.gone client ≡ None)
+            → AreTold catalog.now site S → AreSpelled catalog.now.sites S → IsOnDisk D.Disk S disk
             → IfOk result (λ engine. Stands engine S) }
     {
         let Ok(copy) = catalog.clone() else {
@@ -111,30 +75,25 @@ impl<D: Disk + Drop> Engine<D> {
         };
         Ok(Engine {
             alloc,
-            catalog: copy,
-            site,
+            machine: Machine::new(alloc, copy, site),
             capacity,
-            tally: Tally {
-                records: 0,
-                in_flight: false,
-            },
-            state: Some(State::Down(disk)),
+            store: Some(Store::Closed(disk)),
         })
     }
 
     pub fn is_up(&self) -> bool
         ensures { result ≡ is_up self.now }
     {
-        matches!(&self.state, Some(State::Up(_, _)))
+        self.machine.is_up()
     }
 
     /// The disk, as it is.
     pub fn into_disk(self) -> D
         ensures { Some result ≡ disk_in self }
     {
-        let Engine { state, .. } = self;
-        match state {
-            Some(state) => disk_of(state),
+        let Engine { store, .. } = self;
+        match store {
+            Some(store) => into_disk(store),
             None => unreachable!(),
         }
     }
@@ -150,87 +109,143 @@ impl<D: Disk + Drop> Engine<D> {
         ensures up { is_up self.new ≡ is_up self.old }
         ensures stands { (S : Standing) → Stands self.old S → Stands self.new S }
     {
-        let Some(state) = mem::replace(&mut self.state, None) else {
+        let Some(store) = mem::replace(&mut self.store, None) else {
             unreachable!()
         };
-        let (state, armed) = arm_state(state, nth, choice);
-        self.state = Some(state);
+        let (store, armed) = arm(store, nth, choice);
+        self.store = Some(store);
         armed
     }
 
-    /// Gives the site an input. It takes all its memory before it writes to the journal.
-    pub fn step(&mut self, input: &Input) -> Stepped
-        requires sized { IsSizedInput (catalog_in self.old).sites input.now }
-        ensures down { is_up self.old ≡ false → (result ≡ Stepped.Down) × (disk_in self.new ≡ disk_in self.old) }
-        ensures rests { is_up self.old ≡ false → (S : Standing) → Stands self.old S → Stands self.new S }
-        ensures up { is_up self.old ≡ true → result ≢ Stepped.Down }
-        ensures comes { (S : Standing) → Stands self.old S → S.up ≡ true → IsUntold S input.now
-            → Comes (catalog_in self.old) (capacity_in self.old) (site_in self.old) S (Event.Given input.now)
-            (came_of_step (Event.Given input.now) result) }
-        ensures stands { (S : Standing) → Stands self.old S → S.up ≡ true → IsUntold S input.now
-            → Stands self.new (stands_after (catalog_in self.old) (site_in self.old) S (Event.Given input.now)
-            (came_of_step (Event.Given input.now) result)) }
-        // a crash at any moment of it leaves the records from before, with the one that the rule brings behind them or
-        // without
-        ensures any_moment { (S : Standing) → Stands self.old S → S.up ≡ true → IsUntold S input.now
-            → OfDisks self.old self.new (λ old new. LeavesOnly D.moment D.left_since old new
-            (MayHaveRecords S.records (rule (catalog_in self.old) (site_in self.old) S (Event.Given input.now)).wrote)) }
-        ensures sized { IsSizedStep (catalog_in self.old).sites result }
-        // the transactions that a site loses which goes down
-        ensures loses { (S : Standing) → Stands self.old S → S.up ≡ true → IsUntold S input.now
-            → DoesLose result (after (catalog_in self.old) (site_in self.old) S.knows (Event.Given input.now)
-            (came_of_step (Event.Given input.now) result).outcome None).sessions }
+    /// Takes the memory that any event leaves a site with.
+    pub fn make_room(&mut self) -> Mem<()>
+        ensures room { OnOk result (IsRoomy self.new) }
+        ensures stands { (S : Standing) → Stands self.old S → Stands self.new S }
+        ensures fresh { IsFresh self.old → IsFresh self.new }
+        ensures disk { disk_in self.new ≡ disk_in self.old }
+        ensures up { is_up self.new ≡ is_up self.old }
+        ensures engine { IsSameEngine self.old self.new }
+    {
+        self.machine.make_room()
+    }
+
+    /// An event comes to the site. It takes all its memory before it writes to the journal.
+    pub fn take(&mut self, event: &Event) -> Effect
+        requires sized { IsSizedEvent (catalog_in self.old).sites event.now }
+        requires room { IsRoomy self.old }
+        ensures comes { (S : Standing) → Stands self.old S
+            → HasCome (catalog_in self.old) (capacity_in self.old) (site_in self.old) S event.now
+            result.came result.refused self.new }
+        // what a crash at any moment of it leaves
+        ensures any_moment { (S : Standing) → Stands self.old S → OfDisks self.old self.new (λ old new.
+            LeavesOnly D.moment D.left_since old new
+            (MayHaveNext (catalog_in self.old) (site_in self.old) S event.now result.came.kept)) }
+        // where a restart is refused, the bytes that the disk has are the cause
+        ensures refused { OfDisk self.new (λ disk. IfSome (D.known disk).reads (λ bytes.
+            IfSome result.refused (IsRefusedFor (catalog_in self.old) (site_in self.old) bytes))) }
+        ensures why { result.came.outcome ≡ outcome.Refused → IsSome result.refused }
+        ensures sized { IsSized (catalog_in self.old).sites result.came }
+        ensures framed { result.frames.items
+            ≡ map (λ s. frame_of (catalog_in self.old).sites s.1) result.came.sends }
+        ensures none_dropped { result.came.dropped ≡ 0 }
         ensures faults { OfDisks self.old self.new (λ old new.
-            IsFaultOfStep result (D.known old).faults (D.known new).faults) }
+            IsFaulty result.came (D.known old).faults (D.known new).faults) }
         // how many calls of the disk an arm counts
-        ensures device { OfDisks self.old self.new (λ old new.
-            AreCallsOfStep result (D.device_calls old) (D.device_calls new)) }
+        ensures device { (is_up self.old ≡ false → event.now ≢ event.Restart) → OfDisks self.old self.new (λ old new.
+            AreCalls result.came (D.device_calls old) (D.device_calls new)) }
+        ensures loads { is_up self.old ≡ false → event.now ≡ event.Restart → OfDisks self.old self.new (λ old new.
+            AreCallsOfRestart result.came (calls_of_load (D.known old).size) (D.device_calls old) (D.device_calls new)) }
         ensures arms { OfDisks self.old self.new (λ old new. (D.known new).arms ≡ (D.known old).arms) }
         ensures tells { OfDisks self.old self.new (λ old new.
             is_some (D.known new).reads ≡ is_some (D.known old).reads) }
+        // a stop, and what comes to a site that is down, leave the disk as it is
+        ensures stops { event.now ≡ event.Stop → disk_in self.new ≡ disk_in self.old }
+        ensures rests { is_up self.old ≡ false → event.now ≢ event.Restart → disk_in self.new ≡ disk_in self.old }
         ensures engine { IsSameEngine self.old self.new }
     {
-        let Some(state) = mem::replace(&mut self.state, None) else {
-            unreachable!()
-        };
-        let AfterStep {
-            state,
-            stepped,
-            tally,
-        } = take(self.alloc, state, self.tally, self.catalog.sites, input);
-        self.state = Some(state);
-        self.tally = tally;
-        stepped
+        if self.is_up() {
+            return self.act(event);
+        }
+        match event {
+            Event::Restart => self.restart(),
+            _ => self.decline(event),
+        }
     }
 
-    /// The site loses its memory. One that is down has none to lose. It tells whose transactions are lost.
-    pub fn stop(&mut self) -> Option<Sessions>
-        ensures stands { (S : Standing) → Stands self.old S → S.up ≡ true
-            → Stands self.new (stands_after (catalog_in self.old) (site_in self.old) S Stop (only Taken)) }
-        ensures rests { is_up self.old ≡ false → (S : Standing) → Stands self.old S → Stands self.new S }
-        ensures loses { (S : Standing) → Stands self.old S → S.up ≡ true
-            → IfSome result (λ lost. sessions_of lost ≡ S.knows.sessions) }
-        ensures lost { is_some result ≡ is_up self.old }
-        ensures down { is_up self.new ≡ false }
-        ensures disk { disk_in self.new ≡ disk_in self.old }
-        ensures engine { IsSameEngine self.old self.new }
+    // An event comes to a site that is up.
+    fn act(&mut self, event: &Event) -> Effect
     {
-        let Some(state) = mem::replace(&mut self.state, None) else {
+        let Some(Store::Open(mut journal)) = mem::replace(&mut self.store, None) else {
             unreachable!()
         };
-        let (disk, lost) = fallen(state);
-        self.state = Some(State::Down(disk));
-        lost
+        let (came, frames) = match self.machine.prepare(event) {
+            Ok(ready) => write(self.alloc, &mut self.machine, &mut journal, event, ready),
+            Err(_) => (self.machine.want(event), Vec::new(self.alloc)),
+        };
+        self.store = Some(store_of(self.machine.is_up(), journal));
+        Effect {
+            came,
+            frames,
+            refused: None,
+        }
+    }
+
+    // What comes to a site that is down and isn't to restart.
+    fn decline(&mut self, event: &Event) -> Effect
+    {
+        let (came, frames) = match self.machine.prepare(event) {
+            Ok(ready) => self.machine.keep(event, ready),
+            Err(_) => (self.machine.want(event), Vec::new(self.alloc)),
+        };
+        Effect {
+            came,
+            frames,
+            refused: None,
+        }
+    }
+
+    // The site is made anew from its journal.
+    fn restart(&mut self) -> Effect
+    {
+        // What is loaded is then what the site left.
+        layouts_differ();
+        let Some(store) = mem::replace(&mut self.store, None) else {
+            unreachable!()
+        };
+        let (came, refused) = match load(self.alloc, into_disk(store), self.capacity) {
+            Ok((mut journal, bodies)) => {
+                let kept = self.machine.settle(bodies.len() as u64);
+                let (came, refused) = raise(
+                    self.alloc,
+                    &mut self.machine,
+                    &mut journal,
+                    bodies.as_slice(),
+                );
+                self.store = Some(store_of(self.machine.is_up(), journal));
+                (Came { kept, ..came }, refused)
+            }
+            Err((disk, fault)) => {
+                self.store = Some(Store::Closed(disk));
+                let (outcome, refused) = unloaded(fault);
+                (self.machine.rest(outcome), refused)
+            }
+        };
+        Effect {
+            came,
+            frames: Vec::new(self.alloc),
+            refused,
+        }
     }
 
     /// The first restart of a site: over a disk of no bytes, which gets its journal, or over a journal without records.
     /// The journal is loaded once. One that has records is left as it is.
-    pub fn begin(&mut self) -> Result<(), Unbegun>
+    pub fn begin(&mut self) -> Result<(), BeginFault>
         requires down { is_up self.old ≡ false }
         requires place { 19 ≤ capacity_in self.old }
+        requires room { IsRoomy self.old }
         ensures up { is_up self.new ≡ is_ok result }
-        // where the disk tells what it holds
-        ensures stands { OfDisk self.old (λ disk. IsSome (D.known disk).reads)
+        // where nothing has happened to the site, and the disk tells what it holds
+        ensures stands { IsFresh self.old → OfDisk self.old (λ disk. IsSome (D.known disk).reads)
             → OnOk result (Stands self.new (standing (catalog_in self.old) (site_in self.old) (opening ∷ []))) }
         // what it answers, by the bytes that the disk has, where a crash leaves nothing else
         ensures begins { (bytes : List ℕ) → OfDisk self.old (HasOnly D.Disk bytes) → IsBegun bytes result }
@@ -249,77 +264,19 @@ impl<D: Disk + Drop> Engine<D> {
             is_some (D.known new).reads ≡ is_some (D.known old).reads) }
         ensures engine { IsSameEngine self.old self.new }
     {
-        let Some(state) = mem::replace(&mut self.state, None) else {
+        let Some(store) = mem::replace(&mut self.store, None) else {
             unreachable!()
         };
-        let AfterBegin {
-            state,
-            answer,
-            tally,
-        } = begin_on(
-            self.alloc,
-            &self.catalog,
-            self.site,
-            disk_of(state),
-            self.capacity,
-            self.tally,
-        );
-        self.state = Some(state);
-        self.tally = tally;
-        answer
-    }
-
-    /// Makes the site anew from its journal.
-    pub fn restart(&mut self) -> Restarted
-        requires { is_up self.old ≡ false }
-        ensures restarts { (S : Standing) → Stands self.old S
-            → Restarts (catalog_in self.old) (capacity_in self.old) (site_in self.old) S result self.new }
-        ensures up { is_up self.new ≡ brings_up result }
-        // a crash at any moment of it leaves the records from before, or those that it found with the next epoch behind
-        // them
-        ensures any_moment { (S : Standing) → Stands self.old S
-            → OfDisks self.old self.new (λ old new.
-            LeavesOnly D.moment D.left_since old new (MayHaveBoot (catalog_in self.old) (site_in self.old) S (kept_of result))) }
-        // where it is refused, the bytes that the disk has are the cause
-        ensures refused { OfDisk self.new (λ disk. IfSome (D.known disk).reads (λ bytes.
-            IfRefused result (IsRefusedFor (catalog_in self.old) (site_in self.old) bytes))) }
-        ensures sized { IsSizedRestart result }
-        ensures faults { OfDisks self.old self.new (λ old new.
-            IsFaultOfRestart result (D.known old).faults (D.known new).faults) }
-        // how many calls of the disk an arm counts: those of the load and, where the site comes up, four more
-        ensures device { IfUp result (OfDisks self.old self.new (λ old new.
-            D.device_calls new ≡ D.device_calls old + calls_of_load (D.known old).size + 4)) }
-        ensures at_most { OfDisks self.old self.new (λ old new.
-            D.device_calls new ≤ D.device_calls old + calls_of_load (D.known old).size + 4) }
-        ensures arms { OfDisks self.old self.new (λ old new. (D.known new).arms ≡ (D.known old).arms) }
-        ensures tells { OfDisks self.old self.new (λ old new.
-            is_some (D.known new).reads ≡ is_some (D.known old).reads) }
-        ensures engine { IsSameEngine self.old self.new }
-    {
-        // What is loaded is then what the site left.
-        layouts_differ();
-        let Some(state) = mem::replace(&mut self.state, None) else {
-            unreachable!()
-        };
-        let disk = disk_of(state);
-        let AfterRestart {
-            state,
-            answer,
-            tally,
-        } = match load(self.alloc, disk, self.capacity) {
-            Ok((journal, bodies)) => {
-                let bodies = bodies.as_slice();
-                let tally = self.tally.over(bodies.len() as u64);
-                raise(self.alloc, &self.catalog, self.site, journal, bodies, tally)
+        match load(self.alloc, into_disk(store), self.capacity) {
+            Ok((mut journal, bodies)) => {
+                let begun = begin_over(self.alloc, &mut self.machine, &mut journal, bodies.as_slice());
+                self.store = Some(store_of(self.machine.is_up(), journal));
+                begun
             }
-            Err((disk, fault)) => AfterRestart {
-                state: State::Down(disk),
-                answer: unloaded(fault),
-                tally: self.tally,
-            },
-        };
-        self.state = Some(state);
-        self.tally = tally;
-        answer
+            Err((disk, fault)) => {
+                self.store = Some(Store::Closed(disk));
+                Err(not_loaded(fault))
+            }
+        }
     }
 }

@@ -2,12 +2,12 @@
 #![tactic(auto)]
 
 mod answers;
-mod arming;
 mod beginning;
 mod engine;
 mod replaying;
 mod restarting;
-mod stepping;
+mod store;
+mod writing;
 
-pub use answers::{RefusedRestart, Restarted, Stepped, Unbegun};
+pub use answers::{BeginFault, Effect, RefusedRestart};
 pub use engine::Engine;

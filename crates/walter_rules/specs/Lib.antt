@@ -1,3 +1,4 @@
+pub mod Kinds
 pub mod Slow
 pub mod Sessions
 pub mod Log

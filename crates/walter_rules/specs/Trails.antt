@@ -14,7 +14,7 @@ use Rattle.walter_rules.specs.declared.event.Event.{Event}
 use Rattle.walter_rules.specs.declared.event.Event.TheVariants.{Given, Restart}
 use Rattle.walter_rules.specs.declared.event.Input.TheVariants.{Call, Deliver, Advance, Tick}
 use Rattle.walter_rules.specs.declared.outcome.Outcome.{Outcome}
-use Rattle.walter_rules.specs.declared.outcome.Outcome.TheVariants.{Replied, Failed, Full, Memory}
+use Rattle.walter_rules.specs.declared.outcome.Outcome.TheVariants.{Replied, Taken, Failed, Full, Memory}
 use Rattle.walter_rules.specs.Calls.{Expected}
 use Rattle.walter_rules.specs.Rule.{rule, MayWant}
 use Rattle.walter_rules.specs.Sending.{Send}
@@ -140,7 +140,11 @@ abbrev pub AreRight : Catalog → ℕ → SiteId → List Entry → Type 0
 AreRight catalog capacity i [] = Unit {0}
 AreRight catalog capacity i (e ∷ older) = AreRight catalog capacity i older × IsRightEntry catalog capacity i older e
 
--- the first entry of each trail: the site comes up, in its first epoch
+-- the first entry of a trail: the site comes up, in its first epoch
+abbrev pub opening : Entry
+opening = record { stamp = 1; event = Restart; came = record (only Taken) { wrote = Some (Boot 1) } }
+
+-- so does one that begins a right trail
 pub record IsOpening (e : Entry) : Type 0 where
   pub stamp : e.stamp ≡ 1
   pub event : e.event ≡ Restart

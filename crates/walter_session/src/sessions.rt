@@ -62,6 +62,24 @@ impl Sessions {
         self.keys.len() >= MOST_SESSIONS
     }
 
+    /// How many clients have one.
+    pub fn len(&self) -> usize
+        ensures { result ≡ length (sessions_of self.now) }
+    {
+        self.keys.len()
+    }
+
+    /// The client whose session started at this place in their order, and its transaction.
+    pub fn client_at(&self, place: usize) -> Option<(u32, Tid)>
+        ensures { result ≡ option_map (λ s. (s.0, s.1.tid)) (slice_get (sessions_of self.now) place) }
+    {
+        let Some((client, key)) = self.keys.get_index(place) else {
+            return None;
+        };
+        let slot = self.slots.get(*key)?;
+        Some((*client, slot.session.tid))
+    }
+
     /// Makes room for one more session.
     pub fn reserve_start(&mut self) -> Mem<()>
         ensures enough { OnOk result (CanStart self.new) }

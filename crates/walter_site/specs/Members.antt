@@ -6,11 +6,12 @@ use Rattle.walter_base.specs.declared.packet.Packet.{Packet}
 use Rattle.walter_base.specs.declared.transaction.Tx.{Tx}
 use Rattle.walter_base.specs.Sizes.{CanBeSent, IsShortReply}
 use Rattle.walter_packet.specs.Spelling.{IsAmong}
+use Rattle.walter_rules.specs.declared.event.Event.TheVariants.{Given}
 use Rattle.walter_rules.specs.declared.event.Input.{Input}
-use Rattle.walter_rules.specs.declared.event.Input.TheVariants.{Call, Deliver, Advance, Tick}
 use Rattle.walter_rules.specs.declared.outcome.Outcome.{Outcome}
 use Rattle.walter_rules.specs.declared.outcome.Outcome.TheVariants.{Replied}
 use Rattle.walter_rules.specs.Calls.{Expected}
+use Rattle.walter_rules.specs.Kinds.{IfDelivery}
 use Rattle.walter_rules.specs.Knowledge.{Knowledge}
 use Rattle.walter_rules.specs.Rule.{given_rule}
 use Rattle.walter_rules.specs.Slow.{Undecided}
@@ -47,10 +48,7 @@ pub record IsSizedPacket (sites : ℕ) (packet : Packet) : Type 0 where
 
 -- the packet that comes is so
 abbrev pub IsSizedInput : ℕ → Input → Type 0
-IsSizedInput sites (Call client call) = Unit {0}
-IsSizedInput sites (Deliver from number packet) = IsSizedPacket sites packet
-IsSizedInput sites (Advance from) = Unit {0}
-IsSizedInput sites Tick = Unit {0}
+IsSizedInput sites input = IfDelivery (λ from number packet. IsSizedPacket sites packet) (Given input)
 
 -- the reply, if it is one, is short
 abbrev pub IsShortOutcome : Outcome → Type 0

@@ -4,7 +4,7 @@ use Rattle.std.specs.Result.{IsErrAnd}
 use Rattle.std.proofs.lemmas.List.Elements.{All-nil, All-push}
 use Rattle.walter_disk.specs.declared.disk.Disk.{Ghosts}
 use Rattle.walter_engine.specs.Steps.{opening}
-use Rattle.walter_engine.specs.declared.answers.Unbegun.{Unbegun}
+use Rattle.walter_engine.specs.declared.answers.BeginFault.{BeginFault}
 use Rattle.walter_outbox.specs.Lanes.{AreNext}
 use Rattle.walter_rules.specs.declared.entry.Entry.{Entry}
 use Rattle.walter_cell.specs.Builds.{Begins}
@@ -15,11 +15,11 @@ use Rattle.walter_cell.specs.Nodes.{NodeValue}
 use Rattle.walter_cell.proofs.cell.Cell.begin.Goals as goal
 
 -- what came back with the disk comes back
-begins_back : {D M N : Type 0} (g : Ghosts D) (of_node : M → Option D) (of_cell : N → Option D) (disk : D) (r : Result N (D × Unbegun)) (back : D × Unbegun)
+begins_back : {D M N : Type 0} (g : Ghosts D) (of_node : M → Option D) (of_cell : N → Option D) (disk : D) (r : Result N (D × BeginFault)) (back : D × BeginFault)
     → IsErrAnd r (λ e. e ≡ back) → Begins g {N = M} of_node disk (Err back) → Begins g {N = N} of_cell disk r
 begins_back g of_node of_cell disk (Ok x) back is begins = absurd is
 begins_back {D = D} {N = N} g of_node of_cell disk (Err e) back is begins =
-    subst (λ (b : D × Unbegun). Begins g {N = N} of_cell disk (Err b)) (sym is)
+    subst (λ (b : D × BeginFault). Begins g {N = N} of_cell disk (Err b)) (sym is)
     (record { begins = begins.begins; leaves = begins.leaves; faults = begins.faults; arms = begins.arms })
 
 pub returns-in_err-node-clause-begins : goal.returns-in_err-node-clause-begins

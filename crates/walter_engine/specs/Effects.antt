@@ -1,0 +1,89 @@
+-- What an event comes to at a site over its journal, and what it leaves.
+use Rattle.std.specs.Prelude.{◌≡◌, ◌⊎◌, ◌+◌, ◌≤◌, ℕ, false, List, map, take, slice_get, Option, Some, None, All, IfSome}
+use Rattle.walter_base.specs.declared.catalog.Catalog.{Catalog}
+use Rattle.walter_base.specs.declared.message.Record.{Record}
+use Rattle.walter_base.specs.declared.names.SiteId.{SiteId}
+use Rattle.walter_disk.specs.declared.disk.Disk.{Ghosts}
+use Rattle.walter_engine.specs.declared.answers.RefusedRestart.{RefusedRestart}
+use Rattle.walter_engine.specs.declared.answers.RefusedRestart.TheVariants.{Foreign, Damaged, Unreadable, LastEpoch}
+use Rattle.walter_engine.specs.declared.engine.Engine.{Engine}
+use Rattle.walter_engine.specs.Engines.{Stands}
+use Rattle.walter_journal.specs.Layout.{HasContent, IsForeign, IsDamaged}
+use Rattle.walter_machine.specs.Comings.{IsRest}
+use Rattle.walter_record.specs.Spelling.{record_spelled, HasRecordSpelling}
+use Rattle.walter_rules.specs.declared.entry.Came.{Came}
+use Rattle.walter_rules.specs.declared.event.Event.{Event}
+use Rattle.walter_rules.specs.declared.event.Event.TheVariants.{Restart}
+use Rattle.walter_rules.specs.declared.outcome.Outcome.TheVariants.{Refused}
+use Rattle.walter_rules.specs.Knowledge.{fresh}
+use Rattle.walter_rules.specs.Records.{CanFollow, CanAllFollow, replayed}
+use Rattle.walter_rules.specs.Standing.{Standing, settled, stands_after}
+use Rattle.walter_rules.specs.Trails.{Comes, IsFound}
+
+-- ---- why a restart is refused
+
+-- the bodies spell these records, of which each can follow those before it
+pub record Tell (catalog : Catalog) (i : SiteId) (bodies : List (List ℕ)) (records : List Record) : Type 0 where
+  pub spell : bodies ≡ map record_spelled records
+  pub spelled : All (HasRecordSpelling catalog.sites) records
+  pub follow : CanAllFollow catalog i fresh records
+
+-- the first bodies do; the one with this index spells no record, or one that can't follow
+pub record IsUnreadable (catalog : Catalog) (i : SiteId) (bodies : List (List ℕ)) (index : ℕ) : Type 0 where
+  pub records : List Record
+  pub body : List ℕ
+  pub front : Tell catalog i (take index bodies) records
+  pub within : slice_get bodies index ≡ Some body
+  pub wrong : (rec : Record) → HasRecordSpelling catalog.sites rec → body ≡ record_spelled rec
+      → ¬ CanFollow catalog i (replayed catalog i fresh records) rec
+
+-- by the bodies that the journal has: one of them spells no record that can stand there, or the epoch that they tell is
+-- the last
+abbrev pub IsRefusedOver : Catalog → SiteId → List (List ℕ) → RefusedRestart → Type 0
+IsRefusedOver catalog i bodies Foreign = ⊥
+IsRefusedOver catalog i bodies (Damaged at length) = ⊥
+IsRefusedOver catalog i bodies (Unreadable index) = IsUnreadable catalog i bodies index
+IsRefusedOver catalog i bodies LastEpoch =
+    (records : List Record) × Tell catalog i bodies records × ((replayed catalog i fresh records).epoch ≡ 4294967295)
+
+-- by the bytes that the disk has: they are no journal, or a damaged one, or one with such bodies
+abbrev pub IsRefusedFor : Catalog → SiteId → List ℕ → RefusedRestart → Type 0
+IsRefusedFor catalog i bytes Foreign = IsForeign bytes
+IsRefusedFor catalog i bytes (Damaged at length) = IsDamaged bytes at length
+IsRefusedFor catalog i bytes why = (bodies : List (List ℕ)) × HasContent bytes bodies × IsRefusedOver catalog i bodies why
+
+-- ---- what an event comes to
+
+-- no epoch was taken
+pub record TakesNoEpoch (came : Came) : Type 0 where
+  pub rest : IsRest came.outcome
+  pub wrote : came.wrote ≡ None
+  pub flight : came.flight ≡ None
+
+-- An event came to this at a site that stood so: a restart found the record in flight or didn't, it came to what it may,
+-- and the engine stands as it leaves it. Only a restart of a site that has had its last epoch is refused, and it takes none.
+pub record HasCome {D : Type 0} {g : Ghosts D} (catalog : Catalog) (capacity : ℕ) (i : SiteId) (S : Standing)
+    (event : Event) (came : Came) (refused : Option RefusedRestart) (engine : Engine D g) : Type 0 where
+  pub found : IfSome came.kept (IsFound S event)
+  pub comes : (came.outcome ≡ Refused) ⊎ Comes catalog capacity i (settled catalog i came.kept S) event came
+  pub stands : Stands engine (stands_after catalog i (settled catalog i came.kept S) event came)
+  pub last : IfSome refused (λ why.
+      (why ≡ LastEpoch) × ((settled catalog i came.kept S).knows.epoch ≡ 4294967295))
+  pub takes_none : S.up ≡ false → event ≡ Restart → (settled catalog i came.kept S).knows.epoch ≡ 4294967295
+      → TakesNoEpoch came
+
+-- ---- how many calls of the disk an arm counts
+
+-- four where a record was written, at most four where that failed, and else none
+abbrev pub AreCallsFor : Option Record → Option Record → ℕ → ℕ → Type 0
+AreCallsFor (Some rec) flight old new = new ≡ old + 4
+AreCallsFor None (Some rec) old new = new ≤ old + 4
+AreCallsFor None None old new = new ≡ old
+
+abbrev pub AreCalls : Came → ℕ → ℕ → Type 0
+AreCalls came old new = AreCallsFor came.wrote came.flight old new
+
+-- so many more are those of the load of a restart: of one that comes up, all
+pub record AreCallsOfRestart (came : Came) (load old new : ℕ) : Type 0 where
+  pub all : IfSome came.wrote (λ rec. new ≡ old + load + 4)
+  pub at_most : new ≤ old + load + 4

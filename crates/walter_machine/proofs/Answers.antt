@@ -1,0 +1,150 @@
+-- What is ready where an event is answered without a plan.
+use Rattle.std.proofs.Common.{◌≡◌, ◌∙◌, ℕ, Bool, true, false, List, [], map, Option, Some, None, Result, Ok, Err, refl, sym, ap, subst}
+use Rattle.std.specs.Prelude.{IfSome}
+use Rattle.walter_base.specs.declared.catalog.Catalog.{Catalog}
+use Rattle.walter_base.specs.declared.message.BadFrame.{BadFrame as Bad}
+use Rattle.walter_base.specs.declared.message.Record.{Record}
+use Rattle.walter_base.specs.declared.message.Refusal.TheVariants.{Gone}
+use Rattle.walter_base.specs.declared.message.Request.{Request}
+use Rattle.walter_base.specs.declared.message.Request.TheVariants.{Level as LevelAsked}
+use Rattle.walter_base.specs.declared.names.SiteId.{SiteId}
+use Rattle.walter_base.specs.declared.names.Tid.{Tid}
+use Rattle.walter_machine.specs.declared.ready.Ready.{Ready}
+use Rattle.walter_machine.specs.declared.ready.Step.{Step}
+use Rattle.walter_machine.specs.declared.ready.Step.TheVariants.{Answer, Apply, Fall, Rise}
+use Rattle.walter_machine.specs.Comings.{IsSized, is_faulty}
+use Rattle.walter_machine.specs.Debts.{IsDebtOf, gone_first}
+use Rattle.walter_machine.specs.Readiness.{IsReadyFor}
+use Rattle.walter_machine.specs.States.{CanBeNext, IsState, IsUp}
+use Rattle.walter_machine.specs.Steps.{came_of, outcome_of, record_of, sends_of, expected_by, IsIdle, IsStep}
+use Rattle.walter_machine.proofs.Sizes.{none_sent, faultless}
+use Rattle.walter_packet.specs.Framed.{frame_of}
+use Rattle.walter_rules.specs.declared.event.Event.{Event}
+use Rattle.walter_rules.specs.declared.event.Event.TheVariants.{Given, Stop, Restart}
+use Rattle.walter_rules.specs.declared.event.Input.{Input}
+use Rattle.walter_rules.specs.declared.event.Input.TheVariants.{Call, Deliver, Advance, Tick}
+use Rattle.walter_rules.specs.declared.outcome.Outcome.{Outcome}
+use Rattle.walter_rules.specs.declared.outcome.Outcome.TheVariants.{Replied, Taken, Passed, Down}
+use Rattle.walter_rules.specs.Calls.{Expected, refuses, call_rule, if_told}
+use Rattle.walter_rules.specs.Knowledge.{Knowledge, session_of}
+use Rattle.walter_rules.specs.Learning.{after}
+use Rattle.walter_rules.specs.Rule.{rule, given_rule, given_down, rule_where, stop_rule, restart_rule}
+use Rattle.walter_rules.specs.Sending.{Send}
+use Rattle.walter_rules.specs.Standing.{Standing, goes_down, comes_up, flight_after}
+use Rattle.walter_rules.specs.Trails.{TakesMemory}
+use Rattle.walter_site.specs.Members.{IsShortOutcome}
+use Rattle.walter_tables.specs.declared.tables.Tables.{Tables}
+
+-- what comes without a record and without packets
+abbrev pub expects : Outcome → Expected
+expects outcome = record { wrote = None; outcome = outcome; sends = [] }
+
+-- so it is ready where the step is this
+abbrev IsReadyBy : Catalog → SiteId → Option Tables → Standing → Event → Step → Type 0
+IsReadyBy catalog i site S event step = (ready : Ready) → ready.step ≡ step → ready.frames.items ≡ []
+    → IsReadyFor catalog i site S event ready
+
+-- an answer that changes nothing
+pub answer_ready : (catalog : Catalog) (i : SiteId) (site : Option Tables) (S : Standing) (event : Event)
+    (outcome : Outcome) → expects outcome ≡ rule catalog i S event → IsIdle catalog i S event outcome
+    → IsShortOutcome outcome → IsReadyBy catalog i site S event (Answer outcome)
+answer_ready catalog i site S event outcome ruled idle short ready is framed = record {
+  rule = ap expected_by is ∙ ruled;
+  next = subst (λ (s : Step). IfSome (record_of s) (CanBeNext catalog i S)) (sym is) tt;
+  step = subst (λ (s : Step). IsStep catalog i site S event s) (sym is) idle;
+  takes = subst (λ (s : Step). IfSome (record_of s) (λ rec. TakesMemory S.up event)) (sym is) tt;
+  sized = subst (λ (s : Step). IsSized catalog.sites (came_of s)) (sym is)
+      (record { outcome = short; kept = tt; wrote = tt; flight = tt; sends = none_sent catalog.sites });
+  fine = subst (λ (s : Step). is_faulty (outcome_of s) ≡ false) (sym is) (faultless event outcome idle.stays);
+  framed = framed ∙ ap (λ (s : Step). map (λ (e : Send). frame_of catalog.sites e.1) (sends_of s)) (sym is);
+}
+
+-- ---- at a site that is down
+
+rest_expects : (input : Input) → expects (given_down input).outcome ≡ given_down input
+rest_expects (Call client (Err bad)) = refl
+rest_expects (Call client (Ok request)) = refl
+rest_expects (Deliver from number packet) = refl
+rest_expects (Advance from) = refl
+rest_expects Tick = refl
+
+rest_short : (input : Input) → IsShortOutcome (given_down input).outcome
+rest_short (Call client (Err bad)) = tt
+rest_short (Call client (Ok request)) = tt
+rest_short (Deliver from number packet) = tt
+rest_short (Advance from) = tt
+rest_short Tick = tt
+
+rest_idle : (catalog : Catalog) (i : SiteId) (S : Standing) (input : Input)
+    → IsIdle catalog i S (Given input) (given_down input).outcome
+rest_idle catalog i S (Call client (Err bad)) = record { stays = refl; rests = refl; knows = refl; flies = refl }
+rest_idle catalog i S (Call client (Ok request)) = record { stays = refl; rests = refl; knows = refl; flies = refl }
+rest_idle catalog i S (Deliver from number packet) = record { stays = refl; rests = refl; knows = refl; flies = refl }
+rest_idle catalog i S (Advance from) = record { stays = refl; rests = refl; knows = refl; flies = refl }
+rest_idle catalog i S Tick = record { stays = refl; rests = refl; knows = refl; flies = refl }
+
+-- where an input comes
+pub rest_ready : (catalog : Catalog) (i : SiteId) (site : Option Tables) (S : Standing) (input : Input) → S.up ≡ false
+    → IsReadyBy catalog i site S (Given input) (Answer (given_down input).outcome)
+rest_ready catalog i site S input down =
+    answer_ready catalog i site S (Given input) (given_down input).outcome
+    (rest_expects input ∙ sym (ap (λ (up : Bool). rule_where up catalog i S input) down))
+    (rest_idle catalog i S input) (rest_short input)
+
+-- where it is stopped
+pub down_ready : (catalog : Catalog) (i : SiteId) (site : Option Tables) (S : Standing) → S.up ≡ false
+    → IsReadyBy catalog i site S Stop (Answer Down)
+down_ready catalog i site S down =
+    answer_ready catalog i site S Stop Down (sym (ap stop_rule down))
+    (record { stays = refl; rests = refl; knows = refl; flies = refl }) tt
+
+-- ---- at a site that is up
+
+-- where it restarts
+pub pass_ready : (catalog : Catalog) (i : SiteId) (site : Option Tables) (S : Standing) → S.up ≡ true
+    → IsReadyBy catalog i site S Restart (Answer Passed)
+pass_ready catalog i site S up =
+    answer_ready catalog i site S Restart Passed (sym (ap (λ (b : Bool). restart_rule b S.knows) up))
+    (record { stays = refl; rests = refl; knows = refl; flies = refl }) tt
+
+-- where it is stopped
+pub stop_ready : (catalog : Catalog) (i : SiteId) (tables : Tables) (S : Standing) → S.up ≡ true
+    → IsReadyBy catalog i (Some tables) S Stop Fall
+stop_ready catalog i tables S up ready is framed = record {
+  rule = ap expected_by is ∙ sym (ap stop_rule up);
+  next = subst (λ (s : Step). IfSome (record_of s) (CanBeNext catalog i S)) (sym is) tt;
+  step = subst (λ (s : Step). IsStep catalog i (Some tables) S Stop s) (sym is) refl;
+  takes = subst (λ (s : Step). IfSome (record_of s) (λ rec. TakesMemory S.up Stop)) (sym is) tt;
+  sized = subst (λ (s : Step). IsSized catalog.sites (came_of s)) (sym is)
+      (record { outcome = tt; kept = tt; wrote = tt; flight = tt; sends = none_sent catalog.sites });
+  fine = subst (λ (s : Step). is_faulty (outcome_of s) ≡ false) (sym is) refl;
+  framed = framed ∙ ap (λ (s : Step). map (λ (e : Send). frame_of catalog.sites e.1) (sends_of s)) (sym is);
+}
+
+-- where its client is told that its transaction is gone
+gone_rule : (catalog : Catalog) (i : SiteId) (S : Standing) (input : Input) (owing : Option Tid) (tid : Tid)
+    → IsDebtOf S.gone input owing → gone_first owing input ≡ Some tid
+    → given_rule catalog i S input ≡ refuses (Gone tid)
+gone_rule catalog i S (Call client (Err bad)) owing tid is first = absurd cc
+gone_rule catalog i S (Call client (Ok (LevelAsked asked))) owing tid is first = absurd cc
+gone_rule catalog i S (Call client (Ok request)) owing tid is first =
+    ap (λ (o : Option Tid). if_told (Ok request) o (call_rule catalog i S.knows (Ok request) (session_of S.knows client)))
+    (is ∙ first)
+gone_rule catalog i S (Deliver from number packet) owing tid is first = absurd cc
+gone_rule catalog i S (Advance from) owing tid is first = absurd cc
+gone_rule catalog i S Tick owing tid is first = absurd cc
+
+gone_idle : (catalog : Catalog) (i : SiteId) (S : Standing) (input : Input) (owing : Option Tid) (tid : Tid)
+    → gone_first owing input ≡ Some tid → IsIdle catalog i S (Given input) (refuses (Gone tid)).outcome
+gone_idle catalog i S (Call client call) owing tid first = record { stays = refl; rests = refl; knows = refl; flies = refl }
+gone_idle catalog i S (Deliver from number packet) owing tid first = absurd cc
+gone_idle catalog i S (Advance from) owing tid first = absurd cc
+gone_idle catalog i S Tick owing tid first = absurd cc
+
+pub gone_ready : (catalog : Catalog) (i : SiteId) (site : Option Tables) (S : Standing) (input : Input)
+    (owing : Option Tid) (tid : Tid) → S.up ≡ true → IsDebtOf S.gone input owing → gone_first owing input ≡ Some tid
+    → IsReadyBy catalog i site S (Given input) (Answer (refuses (Gone tid)).outcome)
+gone_ready catalog i site S input owing tid up owes first =
+    answer_ready catalog i site S (Given input) (refuses (Gone tid)).outcome
+    (sym (ap (λ (b : Bool). rule_where b catalog i S input) up ∙ gone_rule catalog i S input owing tid owes first))
+    (gone_idle catalog i S input owing tid first) tt

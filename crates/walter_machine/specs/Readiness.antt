@@ -1,0 +1,42 @@
+-- What is ready to come.
+use Rattle.std.specs.Prelude.{◌≡◌, ℕ, false, map, Option, IfSome}
+use Rattle.walter_base.specs.declared.catalog.Catalog.{Catalog}
+use Rattle.walter_base.specs.declared.message.Record.{Record}
+use Rattle.walter_base.specs.declared.names.SiteId.{SiteId}
+use Rattle.walter_machine.specs.declared.ready.Ready.{Ready}
+use Rattle.walter_machine.specs.Comings.{IsSized, is_faulty}
+use Rattle.walter_machine.specs.States.{IsState, CanBeNext}
+use Rattle.walter_machine.specs.Steps.{record_of, outcome_of, sends_of, expected_by, came_of, IsStep}
+use Rattle.walter_packet.specs.Framed.{frame_of}
+use Rattle.walter_rules.specs.declared.entry.Came.{Came}
+use Rattle.walter_rules.specs.declared.event.Event.{Event}
+use Rattle.walter_rules.specs.Rule.{rule}
+use Rattle.walter_rules.specs.Standing.{Standing}
+use Rattle.walter_rules.specs.Trails.{TakesMemory}
+use Rattle.walter_tables.specs.declared.tables.Tables.{Tables}
+
+-- the record that is to be stable first
+abbrev pub rec_in : Ready → Option Record
+rec_in ready = record_of ready.step
+
+-- what it comes to where its record is kept
+abbrev pub came_in : Ready → Came
+came_in ready = came_of ready.step
+
+-- At a site with these tables, or down, that stood so, this is ready for the event: it is what the rule says, its record
+-- can be the next, and what is put out has its frames. An event with a record may want memory.
+pub record IsReadyFor (catalog : Catalog) (i : SiteId) (site : Option Tables) (S : Standing) (event : Event)
+    (ready : Ready) : Type 0 where
+  pub rule : expected_by ready.step ≡ rule catalog i S event
+  pub next : IfSome (rec_in ready) (CanBeNext catalog i S)
+  pub step : IsStep catalog i site S event ready.step
+  pub takes : IfSome (rec_in ready) (λ rec. TakesMemory S.up event)
+  pub sized : IsSized catalog.sites (came_in ready)
+  pub fine : is_faulty (outcome_of ready.step) ≡ false
+  pub framed : ready.frames.items ≡ map (λ s. frame_of catalog.sites s.1) (sends_of ready.step)
+
+-- whatever is known of the site, it is so at some standing
+pub record IsReadyAnyway (catalog : Catalog) (i : SiteId) (site : Option Tables) (event : Event) (ready : Ready) : Type 0 where
+  pub S : Standing
+  pub state : IsState S site
+  pub ready_for : IsReadyFor catalog i site S event ready

@@ -1,0 +1,84 @@
+ghost use Rattle.std.specs.Prelude.{◌≡◌, None, Some, IfSome, IsSome};
+ghost use Rattle.walter_base.specs.declared.catalog.Catalog.{Catalog};
+ghost use Rattle.walter_base.specs.declared.names.SiteId.{SiteId};
+ghost use Rattle.walter_machine.specs.States.{IsOf, IsState};
+ghost use Rattle.walter_machine.specs.Steps.{CanStep, IsStep, IsPlan, IsKnownBy, Steps, came_of, outcome_of, sends_of, record_of};
+ghost use Rattle.walter_rules.specs.Learning.{after};
+ghost use Rattle.walter_rules.specs.Standing.{Standing};
+ghost use Rattle.walter_tables.specs.Sites.{site_of, catalog_of};
+
+use crate::ready::Step;
+use std::alloc::Global;
+use std::mem;
+use walter_base::{Record, Sends};
+use walter_rules::{Event, Outcome};
+use walter_session::Sessions;
+use walter_site::{Plan, Site};
+
+/// Does to a site what the step does to it, and tells what that comes to.
+pub fn follow(
+    alloc: Global,
+    site: &mut Option<Site>,
+    lost: &mut Option<Sessions>,
+    event: &Event,
+    step: Step,
+) -> (Outcome, Sends)
+    requires can { CanStep site.old event.now step }
+    requires unlost { lost.old ≡ None }
+    ensures outcome { result.0 ≡ outcome_of step }
+    ensures sends { result.1 ≡ sends_of step }
+    ensures steps { (catalog : Catalog) (i : SiteId) (S : Standing) → IfSome site.old (IsOf catalog i)
+        → IsState S site.old → IsStep catalog i site.old S event.now step
+        → Steps catalog i S event.now (came_of step) site.new lost.new }
+    ensures of { (catalog : Catalog) (i : SiteId) (S : Standing) → IfSome site.old (IsOf catalog i)
+        → IsStep catalog i site.old S event.now step → IfSome site.new (IsOf catalog i) }
+{
+    match step {
+        Step::Answer(outcome) => (outcome, Sends::from(Vec::new(alloc))),
+        Step::Apply(plan) => apply(site, event, plan),
+        Step::Fall => {
+            if let Some(site) = mem::replace(site, None) {
+                *lost = Some(site.into_sessions());
+            }
+            (Outcome::Taken, Sends::from(Vec::new(alloc)))
+        }
+        Step::Rise(tables, _) => {
+            *site = Some(Site::new(tables));
+            (Outcome::Taken, Sends::from(Vec::new(alloc)))
+        }
+    }
+}
+
+// The plan of an input is applied.
+fn apply(site: &mut Option<Site>, event: &Event, plan: Plan) -> (Outcome, Sends)
+    requires { (S : Standing) × IsState S site.old × IsPlan site.old S event.now plan }
+    ensures outcome { result.0 ≡ plan.planned.outcome }
+    ensures sends { result.1 ≡ plan.planned.sends }
+    ensures knows { (S : Standing) → IsState S site.old → IsPlan site.old S event.now plan → IfSome site.old (λ t.
+        IsKnownBy site.new (after (catalog_of t) (site_of t) S.knows event.now plan.planned.outcome plan.planned.rec)) }
+    ensures of { (catalog : Catalog) (i : SiteId) → IfSome site.old (IsOf catalog i)
+        → IfSome site.new (IsOf catalog i) }
+{
+    let (Some(site), Event::Given(input)) = (site, event) else {
+        unreachable!()
+    };
+    site.apply(input, plan)
+}
+
+/// The record of a step that has one.
+pub fn rec_of(step: Step) -> Record
+    requires { IsSome (record_of step) }
+    ensures { record_of step ≡ Some result }
+{
+    match step {
+        Step::Apply(plan) => {
+            let Plan { planned, .. } = plan;
+            let Some(rec) = planned.rec else {
+                unreachable!()
+            };
+            rec
+        }
+        Step::Rise(_, epoch) => Record::Boot(epoch),
+        Step::Answer(_) | Step::Fall => unreachable!(),
+    }
+}

@@ -1,0 +1,35 @@
+ghost use Rattle.std.specs.Prelude.{◌≡◌, List, ℕ, None};
+ghost use Rattle.walter_machine.specs.Comings.{IsFall};
+ghost use Rattle.walter_rules.specs.Knowledge.{Knowledge};
+ghost use Rattle.walter_rules.specs.Learning.{after, sessions_after};
+ghost use Rattle.walter_session.specs.Sessions.{sessions_of};
+ghost use Rattle.walter_site.specs.Members.{Knows};
+ghost use Rattle.walter_tables.specs.Sites.{site_of, catalog_of};
+
+use walter_base::Reply;
+use walter_rules::{Event, Input, Outcome};
+use walter_session::Sessions;
+use walter_site::Site;
+
+/// The sessions of a site that goes down by this, but for that of a client which is told that its commit is unsure.
+pub fn lost_with(site: Site, event: &Event, outcome: &Outcome) -> Sessions
+    requires { IsFall event.now outcome.now }
+    ensures { (K : Knowledge) → Knows site K → sessions_of result
+        ≡ (after (catalog_of site) (site_of site) K event.now outcome.now None).sessions }
+{
+    without_unsure(site.into_sessions(), event, outcome)
+}
+
+// These sessions but for that of a client which is told that its commit is unsure.
+fn without_unsure(mut sessions: Sessions, event: &Event, outcome: &Outcome) -> Sessions
+    requires { IsFall event.now outcome.now }
+    ensures { (snapshot : List ℕ) → sessions_of result
+        ≡ sessions_after event.now outcome.now None snapshot (sessions_of sessions) }
+{
+    if let (Event::Given(Input::Call { client, .. }), Outcome::Replied(Reply::Unsure(_))) = (
+        event, outcome,
+    ) {
+        sessions.end(*client);
+    }
+    sessions
+}

@@ -1,0 +1,282 @@
+ghost use Rattle.std.specs.Prelude.{◌≡◌, ◌≢◌, ◌≤◌, ◌<◌, ◌+◌, ◌^◌, ℕ, None, Some, false, true, is_some, IfSome, IfNone, IsSome, IfOk, OnErr, OnOk};
+ghost use Rattle.walter_base.specs.Sizes.{CanBeRecorded};
+ghost use Rattle.walter_base.specs.Vectors.{most_sites};
+ghost use Rattle.walter_machine.specs.States.{IsOf};
+
+use crate::debts::{debt_of, forgive, owe_lost};
+use crate::following::{follow, rec_of};
+use crate::losing::lost_with;
+use crate::outcomes::{failure, fullness, want};
+use crate::places::{make_places, place, place_any};
+use crate::preparing::{prepare_input, without_record};
+use crate::ready::{Ready, Step};
+use indexmap::IndexMap;
+use std::alloc::Global;
+use std::mem;
+use walter_base::{Catalog, MaybeRecord, Mem, NoMemory, Record, RecordPlace, SiteId, Tid};
+use walter_packet::Framed;
+use walter_rules::{Came, Event, Outcome};
+use walter_session::Sessions;
+use walter_site::Site;
+
+/// A site apart from where its records lie: whether it is up, what it knows, how many records it has and which one is in
+/// flight, and whom it owes the news that a stop ended its transaction. Contracts say by `HasStanding` how it stands.
+#[derive(Drop)]
+pub struct Machine {
+    alloc: Global,
+    catalog: Catalog,
+    id: SiteId,
+    // There while it is up.
+    site: Option<Site>,
+    // Known while it is up, and where a record is in flight.
+    records: u64,
+    flight: MaybeRecord,
+    debts: IndexMap<u32, Tid>,
+    // What a stop lost; it goes into the debts as soon as there is memory for that.
+    lost: Option<Sessions>,
+    places: Vec<RecordPlace>,
+    ghost here: { id.0 < catalog.sites },
+    ghost most: { catalog.sites ≤ most_sites },
+    ghost fewer: { catalog.tolerated < catalog.sites },
+    ghost of: { IfSome site (IsOf catalog id) },
+    ghost sized: { IfSome flight CanBeRecorded },
+}
+
+impl Machine {
+    ghost use Rattle.walter_machine.specs.Comings.{IsRest};
+    ghost use Rattle.walter_machine.specs.Machines.{catalog_in, site_in, tables_in, is_up, flight_in, records_in};
+    ghost use Rattle.walter_machine.specs.Machines.{HasStanding, HasRoom, IsSameSite, AreFound, Settles, IsCounted};
+    ghost use Rattle.walter_machine.specs.Readiness.{IsReadyFor, IsReadyAnyway, rec_in, came_in};
+    ghost use Rattle.walter_machine.specs.States.{IsSizedEvent};
+    ghost use Rattle.walter_rules.specs.declared.event.Event.TheVariants as event;
+    ghost use Rattle.walter_rules.specs.Standing.{Standing, stands_after, unmade};
+    ghost use Rattle.walter_rules.specs.Trails.{Comes, FitsIn, TakesMemory, failure, fullness, left_behind, need_of, only, want};
+    ghost use Rattle.walter_rules.specs.Standing.{flight_after};
+
+    /// A site that is down, of which nothing is known. It stands so as its records say.
+    pub fn new(alloc: Global, catalog: Catalog, id: SiteId) -> Machine
+        requires here { id.0 < catalog.sites }
+        requires most { catalog.sites ≤ most_sites }
+        requires fewer { catalog.tolerated < catalog.sites }
+        ensures catalog { catalog_in result ≡ catalog }
+        ensures id { site_in result ≡ id }
+        ensures down { tables_in result ≡ None }
+        ensures flight { flight_in result ≡ None }
+        ensures stands { (S : Standing) → S.up ≡ false → S.flight ≡ None → ((client : ℕ) → S.gone client ≡ None)
+            → AreTold catalog id S → HasStanding result S }
+    {
+        Machine {
+            alloc,
+            catalog,
+            id,
+            site: None,
+            records: 0,
+            flight: MaybeRecord::none(),
+            debts: IndexMap::new(alloc),
+            lost: None,
+            places: Vec::new(alloc),
+        }
+    }
+
+    pub fn is_up(&self) -> bool
+        ensures { result ≡ is_up self.now }
+    {
+        self.site.is_some()
+    }
+
+    pub fn catalog(&self) -> &Catalog
+        ensures { result.now ≡ catalog_in self.now }
+    {
+        &self.catalog
+    }
+
+    pub fn id(&self) -> SiteId
+        ensures { result ≡ site_in self.now }
+    {
+        self.id
+    }
+
+    /// How many records there are, while the site is up or one is in flight.
+    pub fn records(&self) -> u64
+        ensures { result ≡ records_in self.now }
+    {
+        self.records
+    }
+
+    /// The record in flight.
+    pub fn flight(&self) -> Option<&Record>
+        ensures some { IfSome result (λ rec. flight_in self.now ≡ Some rec.now) }
+        ensures none { IfNone result (flight_in self.now ≡ None) }
+    {
+        self.flight.as_ref()
+    }
+
+    /// Takes the memory that any event leaves a site with.
+    pub fn make_room(&mut self) -> Mem<()>
+        ensures room { OnOk result (HasRoom self.new) }
+        ensures stands { (S : Standing) → HasStanding self.old S → HasStanding self.new S }
+        ensures tables { tables_in self.new ≡ tables_in self.old }
+        ensures flight { flight_in self.new ≡ flight_in self.old }
+        ensures records { records_in self.new ≡ records_in self.old }
+        ensures same { IsSameSite self.old self.new }
+    {
+        // No memory holds so many records.
+        if self.records >= u64::MAX - 1 {
+            return Err(NoMemory);
+        }
+        make_places(self.alloc, &mut self.places)?;
+        owe_lost(&mut self.debts, &mut self.lost)
+    }
+
+    /// What is to come of an event, with the record that is to be stable first and the frames of what is put out. How a
+    /// site comes up that is down `Ready::boot` says.
+    pub fn prepare(&mut self, event: &Event) -> Mem<Ready>
+        requires sized { IsSizedEvent (catalog_in self.old).sites event.now }
+        requires room { HasRoom self.old }
+        requires raised { is_up self.old ≡ false → event.now ≢ event.Restart }
+        ensures ready { (S : Standing) → HasStanding self.old S
+            → IfOk result (IsReadyFor (catalog_in self.old) (site_in self.old) (tables_in self.new) S event.now) }
+        ensures anyway { IfOk result
+            (IsReadyAnyway (catalog_in self.old) (site_in self.old) (tables_in self.new) event.now) }
+        ensures free { OnErr result (TakesMemory (is_up self.old) event.now) }
+        ensures stands { (S : Standing) → HasStanding self.old S → HasStanding self.new S }
+        ensures room { HasRoom self.new }
+        ensures up { is_up self.new ≡ is_up self.old }
+        ensures flight { flight_in self.new ≡ flight_in self.old }
+        ensures records { records_in self.new ≡ records_in self.old }
+        ensures same { IsSameSite self.old self.new }
+    {
+        let alloc = self.alloc;
+        match event {
+            Event::Given(input) => {
+                let owed = debt_of(&self.debts, input);
+                prepare_input(alloc, &mut self.site, owed, self.catalog.sites, input)
+            }
+            Event::Stop if self.is_up() => Ok(without_record(alloc, Step::Fall)),
+            Event::Stop => Ok(without_record(alloc, Step::Answer(Outcome::Down))),
+            Event::Restart => Ok(without_record(alloc, Step::Answer(Outcome::Passed))),
+        }
+    }
+
+    /// A restart found so many records, by which the record in flight is decided. It comes back where it is one of them.
+    pub fn settle(&mut self, found: u64) -> MaybeRecord
+        requires down { is_up self.old ≡ false }
+        requires count { found + 1 < 2 ^ 64 }
+        ensures settles { (S : Standing) → HasStanding self.old S → AreFound S found → Settles S found result self.new }
+        ensures sized { IfSome result CanBeRecorded }
+        ensures room { HasRoom self.old → HasRoom self.new }
+        ensures down { tables_in self.new ≡ None }
+        ensures same { IsSameSite self.old self.new }
+    {
+        if self.flight.as_ref().is_none() {
+            self.records = found;
+            return MaybeRecord::none();
+        }
+        if found <= self.records {
+            return MaybeRecord::none();
+        }
+        self.records = found;
+        mem::replace(&mut self.flight, MaybeRecord::none())
+    }
+
+    /// The event comes; its record, if there is one, is stable. It takes no memory.
+    pub fn keep(&mut self, event: &Event, ready: Ready) -> (Came, Vec<Framed>)
+        requires room { HasRoom self.old }
+        requires anyway { IsReadyAnyway (catalog_in self.old) (site_in self.old) (tables_in self.old) event.now ready }
+        ensures came { result.0 ≡ came_in ready }
+        ensures framed { result.1.items ≡ ready.frames.items }
+        ensures comes { (capacity : ℕ) (S : Standing)
+            → IsReadyFor (catalog_in self.old) (site_in self.old) (tables_in self.old) S event.now ready
+            → IfSome (rec_in ready) (FitsIn capacity S)
+            → Comes (catalog_in self.old) capacity (site_in self.old) S event.now result.0 }
+        ensures stands { (S : Standing) → HasStanding self.old S → IsCounted self.old S (rec_in ready)
+            → IsReadyFor (catalog_in self.old) (site_in self.old) (tables_in self.old) S event.now ready
+            → HasStanding self.new (stands_after (catalog_in self.old) (site_in self.old) S event.now result.0) }
+        ensures same { IsSameSite self.old self.new }
+    {
+        let Ready { step, rec, frames } = ready;
+        let wrote = place_any(&mut self.places, rec);
+        if wrote.as_ref().is_some() {
+            self.records += 1;
+            self.flight = MaybeRecord::none();
+        }
+        let (outcome, sends) = follow(self.alloc, &mut self.site, &mut self.lost, event, step);
+        forgive(&mut self.debts, event, &outcome);
+        let came = Came {
+            wrote,
+            sends,
+            ..Came::only(self.alloc, outcome)
+        };
+        (came, frames)
+    }
+
+    /// The record of the event met a fault of the disk: it is in flight, and the site is down. It takes no memory.
+    pub fn fail(&mut self, event: &Event, ready: Ready) -> Came
+        requires room { HasRoom self.old }
+        requires anyway { IsReadyAnyway (catalog_in self.old) (site_in self.old) (tables_in self.old) event.now ready }
+        requires flies { IsSome (rec_in ready) }
+        ensures came { IfSome (rec_in ready) (λ rec.
+            result ≡ record (only (failure event.now rec)) { flight = Some rec }) }
+        ensures comes { (capacity : ℕ) (S : Standing)
+            → IsReadyFor (catalog_in self.old) (site_in self.old) (tables_in self.old) S event.now ready
+            → IfSome (rec_in ready) (FitsIn capacity S)
+            → Comes (catalog_in self.old) capacity (site_in self.old) S event.now result }
+        ensures stands { (S : Standing) → HasStanding self.old S → IsCounted self.old S (rec_in ready)
+            → IsReadyFor (catalog_in self.old) (site_in self.old) (tables_in self.old) S event.now ready
+            → HasStanding self.new (stands_after (catalog_in self.old) (site_in self.old) S event.now result) }
+        ensures down { tables_in self.new ≡ None }
+        ensures same { IsSameSite self.old self.new }
+    {
+        let Ready { step, rec, .. } = ready;
+        let Some(rec) = rec else { unreachable!() };
+        let outcome = failure(event, &rec);
+        self.flight = place(&mut self.places, rec_of(step));
+        if let Some(site) = mem::replace(&mut self.site, None) {
+            self.lost = Some(lost_with(site, event, &outcome));
+        }
+        Came {
+            flight: place(&mut self.places, rec),
+            ..Came::only(self.alloc, outcome)
+        }
+    }
+
+    /// The record of the event found no place: so many bytes are needed, and so many left. The site stands as before.
+    pub fn overflow(&mut self, event: &Event, ready: Ready, need: u64, left: u64) -> Came
+        requires flies { IsSome (rec_in ready) }
+        ensures came { result ≡ only (fullness event.now need left) }
+        ensures comes { (capacity : ℕ) (S : Standing)
+            → IsReadyFor (catalog_in self.old) (site_in self.old) (tables_in self.old) S event.now ready
+            → IfSome (rec_in ready) (λ rec. (need ≡ need_of rec) × (left ≡ left_behind capacity S.records) × (left < need))
+            → Comes (catalog_in self.old) capacity (site_in self.old) S event.now result }
+        ensures stands { (S : Standing) → HasStanding self.old S
+            → IsReadyFor (catalog_in self.old) (site_in self.old) (tables_in self.old) S event.now ready
+            → HasStanding self.new (stands_after (catalog_in self.old) (site_in self.old) S event.now result) }
+        ensures tables { tables_in self.new ≡ tables_in self.old }
+        ensures same { IsSameSite self.old self.new }
+    {
+        // Where it is known that there is no place for a record behind it, none is in flight.
+        self.flight = MaybeRecord::none();
+        Came::only(self.alloc, fullness(event, need, left))
+    }
+
+    /// What an event comes to that wants memory. The site stands as before.
+    pub fn want(&self, event: &Event) -> Came
+        ensures came { result ≡ only (want event.now) }
+        ensures comes { (capacity : ℕ) (S : Standing) → TakesMemory S.up event.now
+            → Comes (catalog_in self.now) capacity (site_in self.now) S event.now result }
+        ensures stands { (S : Standing) → HasStanding self.now S → TakesMemory S.up event.now
+            → HasStanding self.now (stands_after (catalog_in self.now) (site_in self.now) S event.now result) }
+    {
+        Came::only(self.alloc, want(event))
+    }
+
+    /// What a restart comes to that takes no epoch. The site stands as before.
+    pub fn rest(&self, outcome: Outcome) -> Came
+        requires { IsRest outcome }
+        ensures came { result ≡ only outcome }
+        ensures stands { (S : Standing) → HasStanding self.now S → S.up ≡ false
+            → HasStanding self.now (stands_after (catalog_in self.now) (site_in self.now) S event.Restart result) }
+    {
+        Came::only(self.alloc, outcome)
+    }
+}

@@ -1,0 +1,69 @@
+ghost use Rattle.std.specs.Prelude.{◌≡◌};
+ghost use Rattle.walter_machine.specs.Debts.{gone_first};
+ghost use Rattle.walter_rules.specs.Rule.{given_down};
+ghost use Rattle.walter_rules.specs.Trails.{failure, fullness, want};
+
+use walter_base::{BadFrame, Record, Refusal, Reply, Request, Tid};
+use walter_rules::{Event, Input, Outcome};
+
+/// What it comes to where the record meets a fault of the disk. A client is told the name of its transaction.
+pub fn failure(event: &Event, rec: &Record) -> Outcome
+    ensures { result ≡ failure event.now rec.now }
+{
+    match (event, rec) {
+        (Event::Given(Input::Call { .. }), Record::Own(_, tx) | Record::SlowBegin(_, tx)) => {
+            Outcome::Replied(Reply::Unsure(tx.tid))
+        }
+        _ => Outcome::Failed,
+    }
+}
+
+/// What it comes to where memory runs out.
+pub fn want(event: &Event) -> Outcome
+    ensures { result ≡ want event.now }
+{
+    match event {
+        Event::Given(Input::Call { .. }) => Outcome::Replied(Reply::Refused(Refusal::Memory)),
+        _ => Outcome::Memory,
+    }
+}
+
+/// What it comes to where the record finds no place.
+pub fn fullness(event: &Event, need: u64, left: u64) -> Outcome
+    ensures { result ≡ fullness event.now need left }
+{
+    match event {
+        Event::Given(Input::Call { .. }) => {
+            Outcome::Replied(Reply::Refused(Refusal::JournalFull { need, left }))
+        }
+        _ => Outcome::Full { need, left },
+    }
+}
+
+/// What an input comes to at a site that is down.
+pub fn outcome_at_rest(input: &Input) -> Outcome
+    ensures { result ≡ (given_down input.now).outcome }
+{
+    match input {
+        Input::Call {
+            call: Err(BadFrame { at }),
+            ..
+        } => Outcome::Replied(Reply::Refused(Refusal::BadFrame { at: *at })),
+        Input::Call { call: Ok(_), .. } => Outcome::Replied(Reply::Refused(Refusal::Down)),
+        _ => Outcome::Down,
+    }
+}
+
+/// The transaction of which a client is told in the place of an answer, if it is.
+pub fn gone_first(owed: Option<Tid>, input: &Input) -> Option<Tid>
+    ensures { result ≡ gone_first owed input.now }
+{
+    match input {
+        Input::Call {
+            call: Err(_) | Ok(Request::Level(_)),
+            ..
+        } => None,
+        Input::Call { .. } => owed,
+        _ => None,
+    }
+}

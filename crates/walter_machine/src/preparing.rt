@@ -1,0 +1,108 @@
+ghost use Rattle.std.specs.Prelude.{◌≡◌, ◌≢◌, ◌≤◌, [], map, true, is_some, All, IfOk, IfSome, OnErr, Option, Some, None};
+ghost use Rattle.walter_base.specs.declared.catalog.Catalog.{Catalog};
+ghost use Rattle.walter_base.specs.declared.names.SiteId.{SiteId};
+ghost use Rattle.walter_base.specs.declared.names.Tid.{Tid as Named};
+ghost use Rattle.walter_base.specs.Vectors.{most_sites};
+ghost use Rattle.walter_machine.specs.Debts.{IsDebtOf, gone_first};
+ghost use Rattle.walter_machine.specs.Readiness.{IsReadyFor};
+ghost use Rattle.walter_machine.specs.States.{IsOf, IsState, IsUp};
+ghost use Rattle.walter_packet.specs.Framed.{frame_of};
+ghost use Rattle.walter_packet.specs.Spelling.{HasPacketSpelling};
+ghost use Rattle.walter_rules.specs.declared.event.Event.{Event as Happens};
+ghost use Rattle.walter_rules.specs.Standing.{Standing};
+ghost use Rattle.walter_rules.specs.Trails.{TakesMemory};
+ghost use Rattle.walter_site.specs.Members.{IsStanding, IsSizedInput, IsSizedPacket};
+ghost use Rattle.walter_tables.specs.Sites.{site_of, catalog_of};
+
+use crate::outcomes::{gone_first, outcome_at_rest};
+use crate::ready::{Ready, Step};
+use std::alloc::Global;
+use walter_base::{Mem, Refusal, Reply, Sends, Tid};
+use walter_packet::Framed;
+use walter_rules::{Input, Outcome};
+use walter_site::Site;
+
+/// An event without a record, and without packets.
+pub fn without_record(alloc: Global, step: Step) -> Ready
+    ensures step { result.step ≡ step }
+    ensures rec { result.rec ≡ None }
+    ensures frames { result.frames.items ≡ [] }
+{
+    Ready {
+        step,
+        rec: None,
+        frames: Vec::new(alloc),
+    }
+}
+
+/// What an input comes to. Its client is owed the news of this transaction, or of none.
+pub fn prepare_input(
+    alloc: Global,
+    site: &mut Option<Site>,
+    owed: Option<Tid>,
+    sites: u8,
+    input: &Input,
+) -> Mem<Ready>
+    requires most { sites ≤ most_sites }
+    requires among { IfSome site.old (λ t. (catalog_of t).sites ≡ sites) }
+    requires sized { IsSizedInput sites input.now }
+    ensures ready { (catalog : Catalog) (i : SiteId) (S : Standing) → catalog.sites ≡ sites
+        → IfSome site.old (IsOf catalog i) → IsState S site.old → IsDebtOf S.gone input.now owed
+        → IfOk result (IsReadyFor catalog i site.new S (Happens.Given input.now)) }
+    ensures free { OnErr result (TakesMemory (is_some site.old) (Happens.Given input.now)) }
+    ensures state { (S : Standing) → IsState S site.old → IsState S site.new }
+    ensures of { (catalog : Catalog) (i : SiteId) → IfSome site.old (IsOf catalog i)
+        → IfSome site.new (IsOf catalog i) }
+    ensures up { is_some site.new ≡ is_some site.old }
+    ensures standing { IfSome site.old IsStanding }
+{
+    let Some(site) = site else {
+        return Ok(without_record(alloc, Step::Answer(outcome_at_rest(input))));
+    };
+    match gone_first(owed, input) {
+        Some(tid) => {
+            let outcome = Outcome::Replied(Reply::Refused(Refusal::Gone { tid }));
+            Ok(without_record(alloc, Step::Answer(outcome)))
+        }
+        None => plan(alloc, site, sites, input),
+    }
+}
+
+// What it comes to at a site that is up and asked.
+fn plan(alloc: Global, site: &mut Site, sites: u8, input: &Input) -> Mem<Ready>
+    requires most { sites ≤ most_sites }
+    requires among { (catalog_of site.old).sites ≡ sites }
+    requires sized { IsSizedInput sites input.now }
+    ensures ready { (S : Standing) (owed : Option Named) → IsUp S site.old → IsDebtOf S.gone input.now owed
+        → gone_first owed input.now ≡ None → IfOk result
+        (IsReadyFor (catalog_of site.old) (site_of site.old) (Some site.new) S (Happens.Given input.now)) }
+    ensures free { OnErr result (TakesMemory true (Happens.Given input.now)) }
+    ensures state { (S : Standing) → IsUp S site.old → IsUp S site.new }
+    ensures site { site_of site.new ≡ site_of site.old }
+    ensures catalog { catalog_of site.new ≡ catalog_of site.old }
+    ensures standing { IsStanding site.old }
+{
+    let plan = site.plan(input)?;
+    let frames = frame_all(alloc, &plan.planned.sends, sites)?;
+    let rec = plan.planned.rec.clone()?;
+    Ok(Ready {
+        step: Step::Apply(plan),
+        rec,
+        frames,
+    })
+}
+
+/// The frames of packets, which are among so many sites.
+fn frame_all(alloc: Global, sends: &Sends, sites: u8) -> Mem<Vec<Framed>>
+    requires most { sites ≤ most_sites }
+    requires sized { All (λ s. IsSizedPacket sites s.1) sends.now }
+    ensures frames { IfOk result (λ frames. frames.items ≡ map (λ s. frame_of sites s.1) sends.now) }
+    ensures spelled { IfOk result (λ _. All (λ s. HasPacketSpelling sites s.1) sends.now) }
+    ensures free { OnErr result (sends.now ≢ []) }
+{
+    let mut frames = Vec::new(alloc);
+    for (_, packet) in sends.as_slice() {
+        frames.push(Framed::new(alloc, packet, sites)?)?;
+    }
+    Ok(frames)
+}
