@@ -214,7 +214,7 @@ impl<D: Disk + Drop> Engine<D> {
         };
         let (came, refused) = match load(self.alloc, into_disk(store), self.capacity) {
             Ok((mut journal, bodies)) => {
-                let kept = self.machine.settle(bodies.len() as u64);
+                let kept = self.machine.settle(bodies.as_slice().len() as u64);
                 let (came, refused) = raise(
                     self.alloc,
                     &mut self.machine,

@@ -14,6 +14,7 @@ use walter_base::{Record, Sends};
 use walter_rules::{Event, Outcome};
 use walter_session::Sessions;
 use walter_site::{Plan, Site};
+use walter_tables::Planned;
 
 /// Does to a site what the step does to it, and tells what that comes to.
 pub fn follow(
@@ -73,10 +74,11 @@ pub fn rec_of(step: Step) -> Record
     match step {
         Step::Apply(plan) => {
             let Plan { planned, .. } = plan;
-            let Some(rec) = planned.rec else {
-                unreachable!()
-            };
-            rec
+            let Planned { rec, .. } = planned;
+            match rec {
+                Some(rec) => rec,
+                None => unreachable!(),
+            }
         }
         Step::Rise(_, epoch) => Record::Boot(epoch),
         Step::Answer(_) | Step::Fall => unreachable!(),
