@@ -103,12 +103,12 @@ plan_ready catalog i S old new input owing plan site_is catalog_is same_site sam
           subst (λ (b : Bool). TakesMemory b (Given input)) (sym up.up)
           (record_takes catalog i S.knows input (expected_of plan.planned) planned some)));
       sized = subst (λ (s : Step). IsSized catalog.sites (came_of s)) (sym is) (record {
-            outcome = short;
-            kept = tt;
-            wrote = recorded_here catalog.sites plan.planned.rec sizes_here;
-            flight = tt;
-            sends = spelled;
-          });
+        outcome = short;
+        kept = tt;
+        wrote = recorded_here catalog.sites plan.planned.rec sizes_here;
+        flight = tt;
+        sends = spelled;
+      });
       fine = subst (λ (s : Step). is_faulty (outcome_of s) ≡ false) (sym is)
           (faultless (Given input) plan.planned.outcome (plan_stays new S.knows input plan plan_of));
       framed = framed ∙ ap (λ (s : Step). map (λ (e : Send). frame_of catalog.sites e.1) (sends_of s)) (sym is);

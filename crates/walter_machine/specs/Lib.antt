@@ -1,3 +1,4 @@
+pub mod Props
 pub mod States
 pub mod Debts
 pub mod Comings

@@ -1,6 +1,8 @@
 ghost use Rattle.std.specs.Prelude.{◌≡◌, ◌≢◌, ◌≤◌, ◌<◌, ◌+◌, ◌^◌, ℕ, None, Some, false, true, is_some, IfSome, IfNone, IsSome, IfOk, OnErr, OnOk};
+ghost use Rattle.walter_base.specs.contracts.catalog.Catalog as coded_catalog;
 ghost use Rattle.walter_base.specs.Sizes.{CanBeRecorded};
 ghost use Rattle.walter_base.specs.Vectors.{most_sites};
+ghost use Rattle.walter_machine.specs.Props.{props};
 ghost use Rattle.walter_machine.specs.States.{IsOf};
 
 use crate::debts::{debt_of, forgive, owe_lost};
@@ -38,8 +40,8 @@ pub struct Machine {
     ghost here: { id.0 < catalog.sites },
     ghost most: { catalog.sites ≤ most_sites },
     ghost fewer: { catalog.tolerated < catalog.sites },
-    ghost of: { IfSome site (IsOf catalog id) },
-    ghost sized: { IfSome flight CanBeRecorded },
+    ghost of: { IfSome site (IsOf catalog id) } by { Prim.hlevel (props, coded_catalog.the_row.coded) },
+    ghost sized: { IfSome flight CanBeRecorded } by { Prim.hlevel props },
 }
 
 impl Machine {
@@ -47,7 +49,7 @@ impl Machine {
     ghost use Rattle.walter_machine.specs.Machines.{catalog_in, site_in, tables_in, is_up, flight_in, records_in};
     ghost use Rattle.walter_machine.specs.Machines.{HasStanding, HasRoom, IsSameSite, AreFound, Settles, IsCounted};
     ghost use Rattle.walter_machine.specs.Readiness.{IsReadyFor, IsReadyAnyway, rec_in, came_in};
-    ghost use Rattle.walter_machine.specs.States.{IsSizedEvent};
+    ghost use Rattle.walter_machine.specs.States.{AreTold, IsSizedEvent};
     ghost use Rattle.walter_rules.specs.declared.event.Event.TheVariants as event;
     ghost use Rattle.walter_rules.specs.Standing.{Standing, stands_after, unmade};
     ghost use Rattle.walter_rules.specs.Trails.{Comes, FitsIn, TakesMemory, failure, fullness, left_behind, need_of, only, want};
