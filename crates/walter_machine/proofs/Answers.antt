@@ -1,6 +1,6 @@
 -- What is ready where an event is answered without a plan.
 use Rattle.std.proofs.Common.{◌≡◌, ◌∙◌, ℕ, Bool, true, false, List, [], map, Option, Some, None, Result, Ok, Err, refl, sym, ap, subst}
-use Rattle.std.specs.Prelude.{IfSome}
+use Rattle.std.specs.Prelude.{◌≢◌, IfSome, is_some}
 use Rattle.walter_base.specs.declared.catalog.Catalog.{Catalog}
 use Rattle.walter_base.specs.declared.message.BadFrame.{BadFrame as Bad}
 use Rattle.walter_base.specs.declared.message.Record.{Record}
@@ -108,9 +108,10 @@ pass_ready catalog i site S up =
     (record { stays = refl; rests = refl; knows = refl; flies = refl }) tt
 
 -- where it is stopped
-pub stop_ready : (catalog : Catalog) (i : SiteId) (tables : Tables) (S : Standing) → S.up ≡ true
-    → IsReadyBy catalog i (Some tables) S Stop Fall
-stop_ready catalog i tables S up ready is framed = record {
+pub stop_ready : (catalog : Catalog) (i : SiteId) (site : Option Tables) (S : Standing) → is_some site ≡ true → S.up ≡ true
+    → IsReadyBy catalog i site S Stop Fall
+stop_ready catalog i None S there up ready is framed = absurd cc
+stop_ready catalog i (Some tables) S there up ready is framed = record {
   rule = ap expected_by is ∙ sym (ap stop_rule up);
   next = subst (λ (s : Step). IfSome (record_of s) (CanBeNext catalog i S)) (sym is) tt;
   step = subst (λ (s : Step). IsStep catalog i (Some tables) S Stop s) (sym is) refl;
@@ -148,3 +149,14 @@ gone_ready catalog i site S input owing tid up owes first =
     answer_ready catalog i site S (Given input) (refuses (Gone tid)).outcome
     (sym (ap (λ (b : Bool). rule_where b catalog i S input) up ∙ gone_rule catalog i S input owing tid owes first))
     (gone_idle catalog i S input owing tid first) tt
+
+-- ---- by the tables
+
+pub up_of : (site : Option Tables) (S : Standing) → IsState S site → is_some site ≡ true → S.up ≡ true
+up_of None S state there = absurd cc
+up_of (Some tables) S state there = state.up
+
+-- a site that restarts is up, where one that is down doesn't
+pub up_by : (up : Bool) (event : Event) → (up ≡ false → event ≢ Restart) → event ≡ Restart → up ≡ true
+up_by true event raised is = refl
+up_by false event raised is = absurd (raised refl is)

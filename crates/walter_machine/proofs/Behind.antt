@@ -157,3 +157,23 @@ rise_steps catalog i site S event tables epoch is =
       };
       gone = λ client. refl;
     })
+
+-- what applying a plan leaves of the site that it is of
+pub applied_knows : (old : Option Tables) (event : Event) (S : Standing) (plan : Plan) (t new : Tables) (input : Input)
+    → old ≡ Some t → event ≡ Given input
+    → ((K : Knowledge) → Knows t K → expected_of plan.planned ≡ input_rule (catalog_of t) (site_of t) K input
+    → Knows new (after (catalog_of t) (site_of t) K (Given input) plan.planned.outcome plan.planned.rec))
+    → IsPlan old S event plan
+    → IfSome old (λ t. IsKnownBy (Some new) (after (catalog_of t) (site_of t) S.knows event plan.planned.outcome plan.planned.rec))
+applied_knows old event S plan t new input site_is event_is applies =
+    let P : Option Tables → Event → Type 0 = λ o e. IsPlan o S e plan
+    → IfSome o (λ t. IsKnownBy (Some new) (after (catalog_of t) (site_of t) S.knows e plan.planned.outcome plan.planned.rec)) in
+    subst (λ (o : Option Tables). P o event) (sym site_is)
+    (subst (λ (e : Event). P (Some t) e) (sym event_is) (λ is. applies S.knows is.knows is.rule))
+
+-- it is the same site
+pub applied_of : (old : Option Tables) (t new : Tables) (catalog : Catalog) (i : SiteId) → old ≡ Some t
+    → site_of new ≡ site_of t → catalog_of new ≡ catalog_of t → IfSome old (IsOf catalog i) → IsOf catalog i new
+applied_of old t new catalog i site_is site catalog_is of =
+    let here = subst (λ (o : Option Tables). IfSome o (IsOf catalog i)) site_is of in
+    (site ∙ here.0, catalog_is ∙ here.1)

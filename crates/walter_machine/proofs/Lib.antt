@@ -5,3 +5,6 @@ pub mod Answers
 pub mod Calls
 pub mod Framing
 pub mod Planned
+pub mod Owing
+pub mod Standings
+pub mod Standing

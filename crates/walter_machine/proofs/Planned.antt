@@ -1,6 +1,6 @@
 -- What is ready where a plan is made, and where the next epoch is.
 use Rattle.std.proofs.Common.{◌≡◌, ◌∙◌, ℕ, ◌+◌, Bool, true, false, List, [], map, Option, Some, None, Result, Ok, Err, refl, sym, ap, subst}
-use Rattle.std.specs.Prelude.{All, IfSome, is_some}
+use Rattle.std.specs.Prelude.{All, IfOk, IfSome, is_some}
 use Rattle.walter_base.specs.declared.catalog.Catalog.{Catalog}
 use Rattle.walter_base.specs.declared.message.BadFrame.{BadFrame as Bad}
 use Rattle.walter_base.specs.declared.message.Record.{Record}
@@ -15,7 +15,7 @@ use Rattle.walter_machine.specs.declared.ready.Step.TheVariants.{Apply, Rise}
 use Rattle.walter_machine.specs.Comings.{IsSized, is_faulty}
 use Rattle.walter_machine.specs.Debts.{IsDebtOf, gone_first}
 use Rattle.walter_machine.specs.Readiness.{IsReadyFor}
-use Rattle.walter_machine.specs.States.{CanBeNext, IsUp}
+use Rattle.walter_machine.specs.States.{CanBeNext, IsOf, IsUp}
 use Rattle.walter_machine.specs.Steps.{came_of, outcome_of, record_of, sends_of, expected_by, IsStep, IsPlanOf}
 use Rattle.walter_machine.proofs.Behind.{plan_stays}
 use Rattle.walter_machine.proofs.Calls.{record_takes}
@@ -34,10 +34,10 @@ use Rattle.walter_rules.specs.Learning.{recorded}
 use Rattle.walter_rules.specs.Records.{CanFollow, IsRecordAmong}
 use Rattle.walter_rules.specs.Rule.{rule, given_rule, rule_where, restart_rule}
 use Rattle.walter_rules.specs.Sending.{Send}
-use Rattle.walter_rules.specs.Standing.{Standing}
+use Rattle.walter_rules.specs.Standing.{Standing, unmade}
 use Rattle.walter_rules.specs.Trails.{TakesMemory}
 use Rattle.walter_site.specs.declared.plan.Plan.{Plan}
-use Rattle.walter_site.specs.Members.{IsShortOutcome, input_rule}
+use Rattle.walter_site.specs.Members.{Knows, IsShortOutcome, input_rule}
 use Rattle.walter_site.specs.Plans.{IsReady}
 use Rattle.walter_tables.specs.declared.tables.Tables.{Tables}
 use Rattle.walter_tables.specs.Planning.{expected_of}
@@ -84,6 +84,7 @@ takes_here (Some rec) P so = so refl
 pub plan_ready : (catalog : Catalog) (i : SiteId) (S : Standing) (old new : Tables) (input : Input) (owing : Option Tid)
     (plan : Plan) → site_of old ≡ i → catalog_of old ≡ catalog → site_of new ≡ site_of old → catalog_of new ≡ catalog_of old
     → IsUp S old → IsDebtOf S.gone input owing → gone_first owing input ≡ None
+    → Knows new S.knows
     → expected_of plan.planned ≡ input_rule (catalog_of old) (site_of old) S.knows input → IsReady new input plan
     → IfSome plan.planned.rec (CanFollow (catalog_of old) (site_of old) S.knows)
     → IfSome plan.planned.rec (IsRecordAmong (catalog_of old).sites)
@@ -91,7 +92,7 @@ pub plan_ready : (catalog : Catalog) (i : SiteId) (S : Standing) (old new : Tabl
     → (ready : Ready) → ready.step ≡ Apply plan
     → ready.frames.items ≡ map (λ s. frame_of catalog.sites s.1) plan.planned.sends
     → IsReadyFor catalog i (Some new) S (Given input) ready
-plan_ready catalog i S old new input owing plan site_is catalog_is same_site same_catalog up owes first ruled made follows sizes short spelled ready is framed =
+plan_ready catalog i S old new input owing plan site_is catalog_is same_site same_catalog up owes first knows ruled made follows sizes short spelled ready is framed =
     record {
       rule = ap expected_by is ∙ (planned ∙ sym (ap (λ (b : Bool). rule_where b catalog i S input) up.up
           ∙ told_rule catalog i S input owing owes first));
@@ -129,6 +130,7 @@ plan_ready catalog i S old new input owing plan site_is catalog_is same_site sam
 
     plan_of : IsPlanOf new S.knows input plan
     plan_of = record {
+      knows = knows;
       rule =
           subst (λ (k : SiteId). expected_of plan.planned ≡ input_rule (catalog_of new) k S.knows input) (sym same_site)
           (subst (λ (c : Catalog). expected_of plan.planned ≡ input_rule c (site_of old) S.knows input) (sym same_catalog) ruled);
@@ -157,3 +159,23 @@ boot_ready tables new S epoch ready down next site catalog stands is framed =
       fine = subst (λ (s : Step). is_faulty (outcome_of s) ≡ false) (sym is) refl;
       framed = framed ∙ ap (λ (s : Step). map (λ (e : Send). frame_of (catalog_of tables).sites e.1) (sends_of s)) (sym is);
     }
+
+-- a site that is down and knows this
+abbrev pub unmade_with : Knowledge → Standing
+unmade_with K = record unmade { knows = K }
+
+-- a site that is up and knows this, and owes this
+abbrev pub up_owing : Knowledge → (ℕ → Option Tid) → Standing
+up_owing K gone = record unmade { up = true; knows = K; gone = gone }
+
+pub if_ok : {T E : Type 0} (r : Result T E) (P Q : T → Type 0) → ((x : T) → P x → Q x) → IfOk r P → IfOk r Q
+if_ok (Ok x) P Q so p = so x p
+if_ok (Err e) P Q so p = tt
+
+-- what is ready at the site of the tables is so at this one
+pub ready_here : {E : Type 0} (site : Option Tables) (S : Standing) (event : Event) (old : Tables) (catalog : Catalog)
+    (i : SiteId) → IsOf catalog i old → (r : Result Ready E)
+    → IfOk r (IsReadyFor (catalog_of old) (site_of old) site S event) → IfOk r (IsReadyFor catalog i site S event)
+ready_here site S event old catalog i of r ready =
+    subst (λ (k : SiteId). IfOk r (IsReadyFor catalog k site S event)) of.0
+    (subst (λ (c : Catalog). IfOk r (IsReadyFor c (site_of old) site S event)) of.1 ready)

@@ -5,7 +5,7 @@ use Rattle.walter_base.specs.declared.message.Record.{Record}
 use Rattle.walter_base.specs.declared.names.SiteId.{SiteId}
 use Rattle.walter_machine.specs.declared.ready.Ready.{Ready}
 use Rattle.walter_machine.specs.Comings.{IsSized, is_faulty}
-use Rattle.walter_machine.specs.States.{IsState, CanBeNext}
+use Rattle.walter_machine.specs.States.{CanBeNext}
 use Rattle.walter_machine.specs.Steps.{record_of, outcome_of, sends_of, expected_by, came_of, IsStep}
 use Rattle.walter_packet.specs.Framed.{frame_of}
 use Rattle.walter_rules.specs.declared.entry.Came.{Came}
@@ -38,5 +38,4 @@ pub record IsReadyFor (catalog : Catalog) (i : SiteId) (site : Option Tables) (S
 -- whatever is known of the site, it is so at some standing
 pub record IsReadyAnyway (catalog : Catalog) (i : SiteId) (site : Option Tables) (event : Event) (ready : Ready) : Type 0 where
   pub S : Standing
-  pub state : IsState S site
   pub ready_for : IsReadyFor catalog i site S event ready

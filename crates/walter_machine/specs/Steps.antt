@@ -73,8 +73,9 @@ pub record IsIdle (catalog : Catalog) (i : SiteId) (S : Standing) (event : Event
   pub knows : after catalog i S.knows event outcome None ≡ S.knows
   pub flies : flight_after None None outcome S.flight ≡ S.flight
 
--- the plan of the rule for an input, which these tables have made ready for
+-- the plan of the rule for an input, which the tables of a site that knows this have made ready for
 pub record IsPlanOf (tables : Tables) (K : Knowledge) (input : Input) (plan : Plan) : Type 0 where
+  pub knows : Knows tables K
   pub rule : expected_of plan.planned ≡ input_rule (catalog_of tables) (site_of tables) K input
   pub ready : IsReady tables input plan
   pub sizes : IfSome plan.planned.rec (IsRecordAmong (catalog_of tables).sites)
@@ -111,7 +112,6 @@ pub record CanStep (site : Option Tables) (event : Event) (step : Step) : Type 0
   pub i : SiteId
   pub S : Standing
   pub of : IfSome site (IsOf catalog i)
-  pub state : IsState S site
   pub is : IsStep catalog i site S event step
 
 -- ---- what it leaves
@@ -123,6 +123,16 @@ pub record Steps (catalog : Catalog) (i : SiteId) (S : Standing) (event : Event)
   pub state : IsState (stands_after catalog i S event came) site
   pub gone : (client : ℕ) → (stands_after catalog i S event came).gone client
       ≡ owed (session_in client (sessions_lost lost)) (told event came.outcome S.gone client)
+
+-- how many records there are where this one was written, if any
+abbrev pub records_behind : Option Record → ℕ → ℕ
+records_behind None records = records
+records_behind (Some rec) records = records + 1
+
+-- and the one in flight: none where one was written
+abbrev pub flight_behind : Option Record → Option Record → Option Record
+flight_behind None flight = flight
+flight_behind (Some rec) flight = None
 
 -- the tables of a site that knows this
 abbrev pub IsKnownBy : Option Tables → Knowledge → Type 0

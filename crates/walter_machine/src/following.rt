@@ -1,8 +1,8 @@
-ghost use Rattle.std.specs.Prelude.{◌≡◌, None, Some, IfSome, IsSome};
+ghost use Rattle.std.specs.Prelude.{◌≡◌, ◌+◌, ◌<◌, ◌^◌, None, Some, IfSome, IsSome};
 ghost use Rattle.walter_base.specs.declared.catalog.Catalog.{Catalog};
 ghost use Rattle.walter_base.specs.declared.names.SiteId.{SiteId};
 ghost use Rattle.walter_machine.specs.States.{IsOf, IsState};
-ghost use Rattle.walter_machine.specs.Steps.{CanStep, IsStep, IsPlan, IsKnownBy, Steps, came_of, outcome_of, sends_of, record_of};
+ghost use Rattle.walter_machine.specs.Steps.{CanStep, IsStep, IsPlan, IsKnownBy, Steps, came_of, outcome_of, sends_of, record_of, flight_behind, records_behind};
 ghost use Rattle.walter_rules.specs.Learning.{after};
 ghost use Rattle.walter_rules.specs.Standing.{Standing};
 ghost use Rattle.walter_tables.specs.Sites.{site_of, catalog_of};
@@ -10,7 +10,7 @@ ghost use Rattle.walter_tables.specs.Sites.{site_of, catalog_of};
 use crate::ready::Step;
 use std::alloc::Global;
 use std::mem;
-use walter_base::{Record, Sends};
+use walter_base::{MaybeRecord, Record, Sends};
 use walter_rules::{Event, Outcome};
 use walter_session::Sessions;
 use walter_site::{Plan, Site};
@@ -52,15 +52,16 @@ pub fn follow(
 
 // The plan of an input is applied.
 fn apply(site: &mut Option<Site>, event: &Event, plan: Plan) -> (Outcome, Sends)
-    requires { (S : Standing) × IsState S site.old × IsPlan site.old S event.now plan }
+    requires { (S : Standing) × IsPlan site.old S event.now plan }
     ensures outcome { result.0 ≡ plan.planned.outcome }
     ensures sends { result.1 ≡ plan.planned.sends }
-    ensures knows { (S : Standing) → IsState S site.old → IsPlan site.old S event.now plan → IfSome site.old (λ t.
+    ensures knows { (S : Standing) → IsPlan site.old S event.now plan → IfSome site.old (λ t.
         IsKnownBy site.new (after (catalog_of t) (site_of t) S.knows event.now plan.planned.outcome plan.planned.rec)) }
     ensures of { (catalog : Catalog) (i : SiteId) → IfSome site.old (IsOf catalog i)
         → IfSome site.new (IsOf catalog i) }
 {
-    let (Some(site), Event::Given(input)) = (site, event) else {
+    let Some(site) = site else { unreachable!() };
+    let Event::Given(input) = event else {
         unreachable!()
     };
     site.apply(input, plan)
@@ -82,5 +83,19 @@ pub fn rec_of(step: Step) -> Record
         }
         Step::Rise(_, epoch) => Record::Boot(epoch),
         Step::Answer(_) | Step::Fall => unreachable!(),
+    }
+}
+
+/// How many records there are behind an event that wrote this one, if any, and the one in flight: none where one was
+/// written.
+pub fn count_in(wrote: &MaybeRecord, records: u64, flight: MaybeRecord) -> (u64, MaybeRecord)
+    requires { records + 1 < 2 ^ 64 }
+    ensures records { result.0 ≡ records_behind wrote.now records }
+    ensures flight { result.1 ≡ flight_behind wrote.now flight }
+{
+    if wrote.as_ref().is_some() {
+        (records + 1, MaybeRecord::none())
+    } else {
+        (records, flight)
     }
 }

@@ -6,8 +6,8 @@ ghost use Rattle.walter_machine.specs.Props.{props};
 ghost use Rattle.walter_machine.specs.States.{IsOf};
 
 use crate::debts::{debt_of, forgive, owe_lost};
-use crate::following::{follow, rec_of};
-use crate::losing::lost_with;
+use crate::following::{count_in, follow, rec_of};
+use crate::losing::lose;
 use crate::outcomes::{failure, fullness, want};
 use crate::places::{make_places, place, place_any};
 use crate::preparing::{prepare_input, without_record};
@@ -50,7 +50,7 @@ impl Machine {
     ghost use Rattle.walter_machine.specs.Machines.{HasStanding, HasRoom, IsSameSite, AreFound, Settles, IsCounted};
     ghost use Rattle.walter_machine.specs.Readiness.{IsReadyFor, IsReadyAnyway, rec_in, came_in};
     ghost use Rattle.walter_machine.specs.States.{AreTold, IsSizedEvent};
-    ghost use Rattle.walter_rules.specs.declared.event.Event.TheVariants as event;
+    ghost use Rattle.walter_rules.specs.declared.event.Event.TheVariants as happens;
     ghost use Rattle.walter_rules.specs.Standing.{Standing, stands_after, unmade};
     ghost use Rattle.walter_rules.specs.Trails.{Comes, FitsIn, TakesMemory, failure, fullness, left_behind, need_of, only, want};
     ghost use Rattle.walter_rules.specs.Standing.{flight_after};
@@ -135,7 +135,7 @@ impl Machine {
     pub fn prepare(&mut self, event: &Event) -> Mem<Ready>
         requires sized { IsSizedEvent (catalog_in self.old).sites event.now }
         requires room { HasRoom self.old }
-        requires raised { is_up self.old ≡ false → event.now ≢ event.Restart }
+        requires raised { is_up self.old ≡ false → event.now ≢ happens.Restart }
         ensures ready { (S : Standing) → HasStanding self.old S
             → IfOk result (IsReadyFor (catalog_in self.old) (site_in self.old) (tables_in self.new) S event.now) }
         ensures anyway { IfOk result
@@ -170,10 +170,10 @@ impl Machine {
         ensures down { tables_in self.new ≡ None }
         ensures same { IsSameSite self.old self.new }
     {
-        if self.flight.as_ref().is_none() {
+        let Some(_) = self.flight.as_ref() else {
             self.records = found;
             return MaybeRecord::none();
-        }
+        };
         if found <= self.records {
             return MaybeRecord::none();
         }
@@ -198,10 +198,10 @@ impl Machine {
     {
         let Ready { step, rec, frames } = ready;
         let wrote = place_any(&mut self.places, rec);
-        if wrote.as_ref().is_some() {
-            self.records += 1;
-            self.flight = MaybeRecord::none();
-        }
+        let flight = mem::replace(&mut self.flight, MaybeRecord::none());
+        let (records, flight) = count_in(&wrote, self.records, flight);
+        self.records = records;
+        self.flight = flight;
         let (outcome, sends) = follow(self.alloc, &mut self.site, &mut self.lost, event, step);
         forgive(&mut self.debts, event, &outcome);
         let came = Came {
@@ -233,9 +233,7 @@ impl Machine {
         let Some(rec) = rec else { unreachable!() };
         let outcome = failure(event, &rec);
         self.flight = place(&mut self.places, rec_of(step));
-        if let Some(site) = mem::replace(&mut self.site, None) {
-            self.lost = Some(lost_with(site, event, &outcome));
-        }
+        lose(&mut self.site, &mut self.lost, event, &outcome);
         Came {
             flight: place(&mut self.places, rec),
             ..Came::only(self.alloc, outcome)
@@ -277,7 +275,7 @@ impl Machine {
         requires { IsRest outcome }
         ensures came { result ≡ only outcome }
         ensures stands { (S : Standing) → HasStanding self.now S → S.up ≡ false
-            → HasStanding self.now (stands_after (catalog_in self.now) (site_in self.now) S event.Restart result) }
+            → HasStanding self.now (stands_after (catalog_in self.now) (site_in self.now) S happens.Restart result) }
     {
         Came::only(self.alloc, outcome)
     }

@@ -1,11 +1,12 @@
-ghost use Rattle.std.specs.Prelude.{◌≡◌, ◌≢◌, ◌≤◌, [], map, true, is_some, All, IfOk, IfSome, OnErr, Option, Some, None};
+ghost use Rattle.std.specs.Prelude.{◌≡◌, ◌≢◌, ◌≤◌, ℕ, [], map, true, is_some, All, IfOk, IfSome, OnErr, Option, Some, None};
 ghost use Rattle.walter_base.specs.declared.catalog.Catalog.{Catalog};
 ghost use Rattle.walter_base.specs.declared.names.SiteId.{SiteId};
 ghost use Rattle.walter_base.specs.declared.names.Tid.{Tid as Named};
 ghost use Rattle.walter_base.specs.Vectors.{most_sites};
 ghost use Rattle.walter_machine.specs.Debts.{IsDebtOf, gone_first};
-ghost use Rattle.walter_machine.specs.Readiness.{IsReadyFor};
+ghost use Rattle.walter_machine.specs.Readiness.{IsReadyFor, IsReadyAnyway};
 ghost use Rattle.walter_machine.specs.States.{IsOf, IsState, IsUp};
+ghost use Rattle.walter_machine.specs.Steps.{record_of};
 ghost use Rattle.walter_packet.specs.Framed.{frame_of};
 ghost use Rattle.walter_packet.specs.Spelling.{HasPacketSpelling};
 ghost use Rattle.walter_rules.specs.declared.event.Event.{Event as Happens};
@@ -17,13 +18,14 @@ ghost use Rattle.walter_tables.specs.Sites.{site_of, catalog_of};
 use crate::outcomes::{gone_first, outcome_at_rest};
 use crate::ready::{Ready, Step};
 use std::alloc::Global;
-use walter_base::{Mem, Refusal, Reply, Sends, Tid};
+use walter_base::{Mem, Record, Refusal, Reply, Sends, Tid};
 use walter_packet::Framed;
 use walter_rules::{Input, Outcome};
 use walter_site::Site;
 
 /// An event without a record, and without packets.
 pub fn without_record(alloc: Global, step: Step) -> Ready
+    requires { record_of step ≡ None }
     ensures step { result.step ≡ step }
     ensures rec { result.rec ≡ None }
     ensures frames { result.frames.items ≡ [] }
@@ -54,7 +56,9 @@ pub fn prepare_input(
     ensures of { (catalog : Catalog) (i : SiteId) → IfSome site.old (IsOf catalog i)
         → IfSome site.new (IsOf catalog i) }
     ensures up { is_some site.new ≡ is_some site.old }
-    ensures standing { IfSome site.old IsStanding }
+    ensures anyway { (catalog : Catalog) (i : SiteId) (gone : ℕ → Option Named) → catalog.sites ≡ sites
+        → IfSome site.old (IsOf catalog i) → IsDebtOf gone input.now owed
+        → IfOk result (IsReadyAnyway catalog i site.new (Happens.Given input.now)) }
 {
     let Some(site) = site else {
         return Ok(without_record(alloc, Step::Answer(outcome_at_rest(input))));
@@ -84,7 +88,7 @@ fn plan(alloc: Global, site: &mut Site, sites: u8, input: &Input) -> Mem<Ready>
 {
     let plan = site.plan(input)?;
     let frames = frame_all(alloc, &plan.planned.sends, sites)?;
-    let rec = plan.planned.rec.clone()?;
+    let rec = copy_any(&plan.planned.rec)?;
     Ok(Ready {
         step: Step::Apply(plan),
         rec,
@@ -92,7 +96,18 @@ fn plan(alloc: Global, site: &mut Site, sites: u8, input: &Input) -> Mem<Ready>
     })
 }
 
-/// The frames of packets, which are among so many sites.
+// A copy of a record, where there is one.
+fn copy_any(rec: &Option<Record>) -> Mem<Option<Record>>
+    ensures copy { IfOk result (λ copy. copy ≡ rec.now) }
+    ensures free { OnErr result (is_some rec.now ≡ true) }
+{
+    match rec {
+        Some(rec) => Ok(Some(rec.clone()?)),
+        None => Ok(None),
+    }
+}
+
+// The frames of packets, which are among so many sites.
 fn frame_all(alloc: Global, sends: &Sends, sites: u8) -> Mem<Vec<Framed>>
     requires most { sites ≤ most_sites }
     requires sized { All (λ s. IsSizedPacket sites s.1) sends.now }

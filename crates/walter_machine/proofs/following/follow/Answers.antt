@@ -1,0 +1,27 @@
+use Rattle.std.proofs.Common.{Option, Some, None, sym, subst}
+use Rattle.walter_machine.specs.declared.ready.Step.{Step}
+use Rattle.walter_machine.specs.declared.ready.Step.TheVariants.{Apply, Rise}
+use Rattle.walter_tables.specs.declared.tables.Tables.{Tables}
+use Rattle.walter_machine.specs.Steps.{Steps, IsStep, came_of}
+use Rattle.walter_machine.proofs.Behind.{plan_steps, rise_steps}
+use Rattle.walter_session.specs.Sessions.{Table}
+use Rattle.walter_machine.proofs.following.follow.Goals as goal
+
+pub returns-in-Apply-clause-steps : goal.returns-in-Apply-clause-steps
+returns-in-Apply-clause-steps c = λ catalog i S of state is.
+    let event = c.args.event.now in
+    let site = c.args.site.now in
+    let plan_is = subst (λ (s : Step). IsStep catalog i site S event s) c.in-Apply.is is in
+    subst (λ (s : Step). Steps catalog i S event (came_of s) c.apply.new.site c.args.lost.now) (sym c.in-Apply.is)
+    (subst (λ (lost : Option Table). Steps catalog i S event (came_of (Apply c.in-Apply.plan)) c.apply.new.site lost) (sym c.requires.unlost)
+    (plan_steps catalog i S event c.in-Apply.plan site c.apply.new.site of state plan_is (c.apply.ensures.knows S plan_is)))
+
+pub returns-in-Rise-clause-steps : goal.returns-in-Rise-clause-steps
+returns-in-Rise-clause-steps c = λ catalog i S of state is.
+    let event = c.args.event.now in
+    let site = c.args.site.now in
+    let rise_is = subst (λ (s : Step). IsStep catalog i site S event s) c.in-Rise.is is in
+    subst (λ (s : Step). Steps catalog i S event (came_of s) (Some c.new-in-Rise.result) c.args.lost.now) (sym c.in-Rise.is)
+    (subst (λ (lost : Option Table). Steps catalog i S event (came_of (Rise c.in-Rise.tables c.in-Rise.field-1)) (Some c.new-in-Rise.result) lost) (sym c.requires.unlost)
+    (subst (λ (t : Tables). Steps catalog i S event (came_of (Rise c.in-Rise.tables c.in-Rise.field-1)) (Some t) None) (sym c.new-in-Rise.ensures)
+    (rise_steps catalog i site S event c.in-Rise.tables c.in-Rise.field-1 rise_is)))

@@ -1,0 +1,47 @@
+use Rattle.std.proofs.Common.{◌≡◌, ◌∙◌, Option, Some, ap, sym, subst, refl}
+use Rattle.std.specs.Prelude.{IfSome}
+use Rattle.walter_base.specs.declared.message.Record.{Record}
+use Rattle.walter_base.specs.Sizes.{CanBeRecorded}
+use Rattle.walter_machine.specs.States.{IsOf}
+use Rattle.walter_machine.specs.Steps.{record_of}
+use Rattle.walter_tables.specs.declared.tables.Tables.{Tables}
+use Rattle.walter_machine.specs.Comings.{IsFall}
+use Rattle.walter_machine.proofs.Standing.{fail_comes, failed_standing_by, fault_made, next_recorded}
+use Rattle.walter_machine.proofs.Standings.{failure_falls}
+use Rattle.walter_rules.specs.declared.outcome.Outcome.{Outcome}
+use Rattle.walter_machine.proofs.machine.Machine.fail.Goals as goal
+
+pub lose-requires-clause-falls : goal.lose-requires-clause-falls
+lose-requires-clause-falls c =
+    subst (λ (o : Outcome). IsFall c.args.event.now o) (sym c.failure-outcome.ensures)
+    (failure_falls c.args.event.now c.in-Some.rec)
+
+pub invariant_of-self-clause-of : goal.invariant_of-self-clause-of
+invariant_of-self-clause-of c =
+    let m = c.args.self.now in
+    subst (λ (t : Option Tables). IfSome t (IsOf m.catalog m.id)) (sym c.lose.ensures.down) tt
+
+pub invariant_of-self-clause-sized : goal.invariant_of-self-clause-sized
+invariant_of-self-clause-sized c =
+    let m = c.args.self.now in
+    subst (λ (f : Option Record). IfSome f CanBeRecorded) (sym (c.place.ensures.rec ∙ sym c.rec_of.ensures))
+    (next_recorded m.catalog m.id c.requires.anyway.S (record_of c.args.ready.step) c.requires.anyway.ready_for.next)
+
+pub returns-clause-comes : goal.returns-clause-comes
+returns-clause-comes c = λ capacity S ready fits.
+    let m = c.args.self.now in
+    fail_comes m.catalog capacity m.id m.site S c.args.event.now c.args.ready c.in-Some.rec _
+    (sym c.args.ready.copy ∙ c.in-Some.is)
+    (fault_made c.only.result c.failure-outcome.result c.place-2.result c.args.event.now c.in-Some.rec c.only.ensures
+    c.failure-outcome.ensures c.place-2.ensures.rec) ready fits
+
+pub returns-clause-stands : goal.returns-clause-stands
+returns-clause-stands c = λ S has counted ready.
+    let m = c.args.self.now in
+    failed_standing_by m _ S c.args.event.now c.args.ready c.in-Some.rec _ c.failure-outcome.result
+    (sym c.args.ready.copy ∙ c.in-Some.is)
+    (fault_made c.only.result c.failure-outcome.result c.place-2.result c.args.event.now c.in-Some.rec c.only.ensures
+    c.failure-outcome.ensures c.place-2.ensures.rec)
+    has counted ready c.requires.room.unlost m.of c.failure-outcome.ensures
+    c.lose.ensures.lost c.lose.ensures.none refl refl c.lose.ensures.down
+    (c.place.ensures.rec ∙ sym c.rec_of.ensures) refl refl
