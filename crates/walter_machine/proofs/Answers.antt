@@ -1,21 +1,18 @@
 -- What is ready where an event is answered without a plan.
-use Rattle.std.proofs.Common.{◌≡◌, ◌∙◌, ℕ, Bool, true, false, List, [], map, Option, Some, None, Result, Ok, Err, refl, sym, ap, subst}
+use Rattle.std.proofs.Common.{◌≡◌, ◌∙◌, Bool, true, false, [], map, Option, Some, None, Ok, Err, refl, sym, ap, subst}
 use Rattle.std.specs.Prelude.{◌≢◌, IfSome, is_some}
 use Rattle.walter_base.specs.declared.catalog.Catalog.{Catalog}
-use Rattle.walter_base.specs.declared.message.BadFrame.{BadFrame as Bad}
-use Rattle.walter_base.specs.declared.message.Record.{Record}
 use Rattle.walter_base.specs.declared.message.Refusal.TheVariants.{Gone}
-use Rattle.walter_base.specs.declared.message.Request.{Request}
 use Rattle.walter_base.specs.declared.message.Request.TheVariants.{Level as LevelAsked}
 use Rattle.walter_base.specs.declared.names.SiteId.{SiteId}
 use Rattle.walter_base.specs.declared.names.Tid.{Tid}
 use Rattle.walter_machine.specs.declared.ready.Ready.{Ready}
 use Rattle.walter_machine.specs.declared.ready.Step.{Step}
-use Rattle.walter_machine.specs.declared.ready.Step.TheVariants.{Answer, Apply, Fall, Rise}
+use Rattle.walter_machine.specs.declared.ready.Step.TheVariants.{Answer, Fall}
 use Rattle.walter_machine.specs.Comings.{IsSized, is_faulty}
 use Rattle.walter_machine.specs.Debts.{IsDebtOf, gone_first}
 use Rattle.walter_machine.specs.Readiness.{IsReadyFor}
-use Rattle.walter_machine.specs.States.{CanBeNext, IsState, IsUp}
+use Rattle.walter_machine.specs.States.{CanBeNext, IsState}
 use Rattle.walter_machine.specs.Steps.{came_of, outcome_of, record_of, sends_of, expected_by, IsIdle, IsStep}
 use Rattle.walter_machine.proofs.Sizes.{none_sent, faultless}
 use Rattle.walter_packet.specs.Framed.{frame_of}
@@ -24,13 +21,12 @@ use Rattle.walter_rules.specs.declared.event.Event.TheVariants.{Given, Stop, Res
 use Rattle.walter_rules.specs.declared.event.Input.{Input}
 use Rattle.walter_rules.specs.declared.event.Input.TheVariants.{Call, Deliver, Advance, Tick}
 use Rattle.walter_rules.specs.declared.outcome.Outcome.{Outcome}
-use Rattle.walter_rules.specs.declared.outcome.Outcome.TheVariants.{Replied, Taken, Passed, Down}
+use Rattle.walter_rules.specs.declared.outcome.Outcome.TheVariants.{Passed, Down}
 use Rattle.walter_rules.specs.Calls.{Expected, refuses, call_rule, if_told}
-use Rattle.walter_rules.specs.Knowledge.{Knowledge, session_of}
-use Rattle.walter_rules.specs.Learning.{after}
+use Rattle.walter_rules.specs.Knowledge.{session_of}
 use Rattle.walter_rules.specs.Rule.{rule, given_rule, given_down, rule_where, stop_rule, restart_rule}
 use Rattle.walter_rules.specs.Sending.{Send}
-use Rattle.walter_rules.specs.Standing.{Standing, goes_down, comes_up, flight_after}
+use Rattle.walter_rules.specs.Standing.{Standing}
 use Rattle.walter_rules.specs.Trails.{TakesMemory}
 use Rattle.walter_site.specs.Members.{IsShortOutcome}
 use Rattle.walter_tables.specs.declared.tables.Tables.{Tables}

@@ -1,27 +1,23 @@
 -- How a site stands behind a step, behind a fault, and behind what came to nothing.
-use Rattle.std.proofs.Common.{◌≡◌, ◌∙◌, ◌<◌, ℕ, Bool, true, false, List, Option, Some, None, refl, sym, ap, subst, if◌then◌else◌}
+use Rattle.std.proofs.Common.{◌≡◌, ◌∙◌, ℕ, Bool, true, false, Option, Some, None, refl, sym, ap, subst, if◌then◌else◌}
 use Rattle.std.specs.Prelude.{IfSome}
 use Rattle.walter_base.specs.declared.catalog.Catalog.{Catalog}
 use Rattle.walter_base.specs.declared.message.Record.{Record}
-use Rattle.walter_base.specs.declared.message.Record.TheVariants.{Boot}
 use Rattle.walter_base.specs.declared.names.SiteId.{SiteId}
-use Rattle.walter_base.specs.declared.names.Tid.{Tid}
-use Rattle.walter_machine.specs.declared.ready.Step.{Step}
 use Rattle.walter_machine.specs.declared.ready.Step.TheVariants.{Answer, Apply, Fall, Rise}
-use Rattle.walter_machine.specs.Debts.{sessions_lost}
 use Rattle.walter_machine.specs.States.{IsOf, IsState}
-use Rattle.walter_machine.specs.Steps.{came_of, outcome_of, record_of, IsIdle, IsPlan, IsPlanOf, IsRise, IsKnownBy, Steps}
+use Rattle.walter_machine.specs.Steps.{came_of, IsIdle, IsPlan, IsPlanOf, IsRise, IsKnownBy, Steps}
 use Rattle.walter_rules.specs.declared.entry.Came.{Came}
 use Rattle.walter_rules.specs.declared.event.Event.{Event}
 use Rattle.walter_rules.specs.declared.event.Event.TheVariants.{Given, Stop, Restart}
 use Rattle.walter_rules.specs.declared.event.Input.{Input}
 use Rattle.walter_rules.specs.declared.outcome.Outcome.{Outcome}
-use Rattle.walter_rules.specs.declared.outcome.Outcome.TheVariants.{Taken, Full}
+use Rattle.walter_rules.specs.declared.outcome.Outcome.TheVariants.{Full}
 use Rattle.walter_rules.specs.Calls.{Expected}
 use Rattle.walter_rules.specs.Knowledge.{Knowledge}
-use Rattle.walter_rules.specs.Learning.{after, lost, recorded}
+use Rattle.walter_rules.specs.Learning.{after, lost}
 use Rattle.walter_rules.specs.Sessions.{Sessions, session_in}
-use Rattle.walter_rules.specs.Standing.{Standing, stands_after, goes_down, comes_up, up_after, flight_after, owed, told}
+use Rattle.walter_rules.specs.Standing.{Standing, stands_after, goes_down, comes_up, flight_after, owed, told}
 use Rattle.walter_rules.proofs.Staying.{rule_stays}
 use Rattle.walter_session.specs.Sessions.{Table, sessions_of}
 use Rattle.walter_site.specs.declared.plan.Plan.{Plan}

@@ -1,5 +1,5 @@
 -- The debts that lost sessions make, one by one from the last.
-use Rattle.std.proofs.Common.{◌≡◌, ◌∙◌, ◌<◌, ◌+◌, ◌∷◌, ℕ, nat_eq, Bool, true, false, cond, drop, get_or, length, List, Option, Some, None, option_map, slice_get, Result, Ok, Err, refl, sym, ap, subst}
+use Rattle.std.proofs.Common.{◌≡◌, ◌∙◌, ◌+◌, ◌∷◌, ℕ, nat_eq, Bool, true, false, cond, drop, Option, Some, None, option_map, slice_get, Result, Ok, Err, refl, sym, ap}
 use Rattle.std.specs.Prelude.{IsOk, OnOk}
 use Rattle.std.proofs.lemmas.Bool.{eqb-true, eq-eqb}
 use Rattle.std.proofs.lemmas.List.{drop_more}
@@ -7,7 +7,6 @@ use Rattle.std.proofs.lemmas.Option.{slice_get_within, get_or_from_slice_get}
 use Rattle.walter_base.specs.declared.names.Tid.{Tid}
 use Rattle.walter_base.proofs.ByClient.{turned}
 use Rattle.walter_rules.specs.declared.event.Event.{Event}
-use Rattle.walter_rules.specs.declared.event.Event.TheVariants.{Given, Stop, Restart}
 use Rattle.walter_rules.specs.declared.outcome.Outcome.{Outcome}
 use Rattle.walter_rules.specs.Sessions.{Session, Sessions, session_in}
 use Rattle.walter_rules.specs.Standing.{owed, told}

@@ -1,5 +1,5 @@
 -- What is ready where a plan is made, and where the next epoch is.
-use Rattle.std.proofs.Common.{◌≡◌, ◌∙◌, ℕ, ◌+◌, Bool, true, false, List, [], map, Option, Some, None, Result, Ok, Err, refl, sym, ap, subst}
+use Rattle.std.proofs.Common.{◌≡◌, ◌∙◌, ℕ, ◌+◌, Bool, true, false, [], map, Option, Some, None, Result, Ok, Err, refl, sym, ap, subst}
 use Rattle.std.specs.Prelude.{All, IfOk, IfSome, is_some}
 use Rattle.walter_base.specs.declared.catalog.Catalog.{Catalog}
 use Rattle.walter_base.specs.declared.message.BadFrame.{BadFrame as Bad}
@@ -32,7 +32,7 @@ use Rattle.walter_rules.specs.Calls.{Expected, call_rule, if_told}
 use Rattle.walter_rules.specs.Knowledge.{Knowledge, session_of}
 use Rattle.walter_rules.specs.Learning.{recorded}
 use Rattle.walter_rules.specs.Records.{CanFollow, IsRecordAmong}
-use Rattle.walter_rules.specs.Rule.{rule, given_rule, rule_where, restart_rule}
+use Rattle.walter_rules.specs.Rule.{given_rule, rule_where, restart_rule}
 use Rattle.walter_rules.specs.Sending.{Send}
 use Rattle.walter_rules.specs.Standing.{Standing, unmade}
 use Rattle.walter_rules.specs.Trails.{TakesMemory}

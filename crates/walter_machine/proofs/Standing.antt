@@ -1,12 +1,11 @@
 -- How a machine stands behind a step, a fault, and what came to nothing.
-use Rattle.std.proofs.Common.{◌≡◌, ◌∙◌, ◌<◌, ◌≤◌, ◌+◌, ◌++◌, ◌∷◌, [], ℕ, Bool, true, false, List, length, Option, Some, None, refl, sym, ap, subst, arith, ◌⊎◌, inl, inr}
+use Rattle.std.proofs.Common.{◌≡◌, ◌∙◌, ◌<◌, ◌≤◌, ◌+◌, ◌∷◌, [], ℕ, true, false, List, length, Option, Some, None, refl, sym, ap, subst, arith, ◌⊎◌, inl, inr}
 use Rattle.std.specs.Prelude.{IfSome, IsSome, is_some}
 use Rattle.std.proofs.lemmas.List.{length-append}
 use Rattle.walter_base.specs.declared.catalog.Catalog.{Catalog}
 use Rattle.walter_base.specs.declared.message.Record.{Record}
 use Rattle.walter_base.specs.declared.names.SiteId.{SiteId}
 use Rattle.walter_base.specs.declared.message.Record.TheVariants.{Boot}
-use Rattle.walter_base.specs.declared.names.Tid.{Tid}
 use Rattle.walter_base.specs.ByClient.{of_client}
 use Rattle.walter_base.specs.Sizes.{CanBeRecorded}
 use Rattle.walter_machine.specs.declared.machine.Machine.{Machine}
@@ -18,21 +17,20 @@ use Rattle.walter_machine.specs.Debts.{owed_by, sessions_lost}
 use Rattle.walter_machine.specs.Machines.{HasStanding, IsCounted, AreFound, Settles}
 use Rattle.walter_machine.specs.Readiness.{IsReadyFor, rec_in, came_in}
 use Rattle.walter_machine.specs.States.{AreTold, CanBeNext, IsOf, IsState}
-use Rattle.walter_machine.specs.Steps.{came_of, outcome_of, record_of, sends_of, IsIdle, IsPlan, IsRise, IsStep, Steps, flight_behind, records_behind}
-use Rattle.walter_machine.proofs.Behind.{idle_steps, stays_gone, falls_gone, falls_knows}
+use Rattle.walter_machine.specs.Steps.{came_of, outcome_of, record_of, sends_of, IsIdle, IsStep, Steps, flight_behind, records_behind}
+use Rattle.walter_machine.proofs.Behind.{idle_steps, stays_gone}
 use Rattle.walter_alone.proofs.Followed.{lost_recorded}
 use Rattle.walter_machine.proofs.Owing.{told_so}
-use Rattle.walter_machine.proofs.Records.{told_more, told_same, still_can, lost_after, recordable}
+use Rattle.walter_machine.proofs.Records.{told_more, told_same, still_can, recordable}
 use Rattle.walter_machine.proofs.Standings.{still_told, still_up, want_idle, want_told, none_open, no_up, IsFilled, step_told, step_flight, fault_of, failing_up, failing_told, failing_gone}
 use Rattle.walter_rules.specs.declared.entry.Came.{Came}
 use Rattle.walter_rules.specs.declared.event.Event.{Event}
-use Rattle.walter_rules.specs.declared.event.Event.TheVariants.{Given, Stop, Restart}
+use Rattle.walter_rules.specs.declared.event.Event.TheVariants.{Restart}
 use Rattle.walter_rules.specs.declared.outcome.Outcome.{Outcome}
 use Rattle.walter_rules.specs.declared.outcome.Outcome.TheVariants.{Replied, Taken, Passed, Failed, Full, Memory, Down, Refused}
 use Rattle.walter_rules.specs.Calls.{Expected}
 use Rattle.walter_rules.specs.Knowledge.{Knowledge}
 use Rattle.walter_rules.specs.Learning.{after, lost, recorded}
-use Rattle.walter_rules.specs.Rule.{rule}
 use Rattle.walter_rules.specs.Sessions.{Sessions, session_in}
 use Rattle.walter_rules.specs.Sending.{Send}
 use Rattle.walter_rules.specs.Standing.{Standing, settled, stands_after, records_after, owed, told}

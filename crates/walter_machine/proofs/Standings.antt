@@ -1,7 +1,6 @@
 -- The records of a site, the one in flight and the debts behind a step, a fault, and what came to nothing.
-use Rattle.std.proofs.Common.{◌≡◌, ◌∙◌, ◌<◌, ◌+◌, ◌++◌, ◌∷◌, [], ℕ, Bool, true, false, List, length, Option, Some, None, refl, sym, ap, subst, arith, ◌⊎◌, inl, inr}
+use Rattle.std.proofs.Common.{◌≡◌, ◌∙◌, ◌<◌, [], ℕ, Bool, true, false, Option, Some, None, refl, sym, ap, subst, arith}
 use Rattle.std.specs.Prelude.{IfSome, IsSome}
-use Rattle.std.proofs.lemmas.List.{length-append}
 use Rattle.walter_alone.proofs.Followed.{follow_lost}
 use Rattle.walter_base.specs.declared.catalog.Catalog.{Catalog}
 use Rattle.walter_base.specs.declared.message.Record.{Record}
@@ -10,9 +9,9 @@ use Rattle.walter_base.specs.declared.names.SiteId.{SiteId}
 use Rattle.walter_base.specs.declared.names.Tid.{Tid}
 use Rattle.walter_machine.specs.declared.ready.Step.{Step}
 use Rattle.walter_machine.specs.declared.ready.Step.TheVariants.{Answer, Apply, Fall, Rise}
-use Rattle.walter_machine.specs.Comings.{IsFall, IsRest}
-use Rattle.walter_machine.specs.States.{AreTold, CanBeNext, IsOf, IsState}
-use Rattle.walter_machine.specs.Steps.{came_of, outcome_of, record_of, sends_of, IsIdle, IsPlan, IsRise, IsStep, flight_behind}
+use Rattle.walter_machine.specs.Comings.{IsFall}
+use Rattle.walter_machine.specs.States.{AreTold, CanBeNext, IsState}
+use Rattle.walter_machine.specs.Steps.{came_of, record_of, IsIdle, IsStep, flight_behind}
 use Rattle.walter_machine.proofs.Behind.{none_flies, stays_knows, stays_up, stays_gone, falls_up, falls_knows, falls_gone, plan_stays}
 use Rattle.walter_machine.proofs.Records.{told_more, told_same, still_can, lost_after, booted_behind}
 use Rattle.walter_rules.specs.declared.entry.Came.{Came}
@@ -21,19 +20,16 @@ use Rattle.walter_rules.specs.declared.event.Event.TheVariants.{Given, Stop, Res
 use Rattle.walter_rules.specs.declared.event.Input.{Input}
 use Rattle.walter_rules.specs.declared.event.Input.TheVariants.{Call, Deliver, Advance, Tick}
 use Rattle.walter_rules.specs.declared.outcome.Outcome.{Outcome}
-use Rattle.walter_rules.specs.declared.outcome.Outcome.TheVariants.{Replied, Taken, Passed, Failed, Full, Memory, Down, Refused}
+use Rattle.walter_rules.specs.declared.outcome.Outcome.TheVariants.{Taken}
 use Rattle.walter_rules.specs.Knowledge.{Knowledge}
 use Rattle.walter_rules.specs.Learning.{after, lost, recorded, epoch_after}
 use Rattle.walter_rules.specs.Records.{CanFollow}
-use Rattle.walter_rules.specs.Sessions.{Sessions, session_in}
-use Rattle.walter_rules.specs.Sending.{Send}
+use Rattle.walter_rules.specs.Sessions.{session_in}
 use Rattle.walter_rules.specs.Standing.{Standing, stands_after, records_after, goes_down, comes_up, flight_after, owed, told}
 use Rattle.walter_rules.specs.Trails.{failure, fullness, want, only}
 use Rattle.walter_rules.proofs.Staying.{fault_falls}
-use Rattle.walter_site.specs.declared.plan.Plan.{Plan}
 use Rattle.walter_site.specs.Members.{Knows}
 use Rattle.walter_tables.specs.declared.tables.Tables.{Tables}
-use Rattle.walter_tables.specs.Sites.{site_of, catalog_of}
 
 pub no_up : {P : Type 0} (b : Bool) → b ≡ false → b ≡ true → P
 no_up b down up = absurd (let e = sym down ∙ up in cc)

@@ -1,5 +1,5 @@
 -- What is ready to come.
-use Rattle.std.specs.Prelude.{◌≡◌, ℕ, false, map, Option, IfSome}
+use Rattle.std.specs.Prelude.{◌≡◌, false, map, Option, IfSome}
 use Rattle.walter_base.specs.declared.catalog.Catalog.{Catalog}
 use Rattle.walter_base.specs.declared.message.Record.{Record}
 use Rattle.walter_base.specs.declared.names.SiteId.{SiteId}

@@ -1,5 +1,4 @@
-use Rattle.std.proofs.Common.{◌≡◌, ◌<◌, ◌+◌, ◌-◌, ℕ, arith, sym, subst, ◌∙◌, ap, drop}
-use Rattle.indexmap.specs.IndexMap.{spare}
+use Rattle.std.proofs.Common.{◌≡◌, ◌+◌, ◌-◌, ℕ, arith, sym, subst, ◌∙◌, ap, drop}
 use Rattle.walter_rules.specs.Sessions.{Sessions, session_in}
 use Rattle.walter_rules.specs.Standing.{owed}
 use Rattle.walter_session.specs.Sessions.{sessions_of}

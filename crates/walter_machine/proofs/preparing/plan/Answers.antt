@@ -1,6 +1,5 @@
-use Rattle.std.proofs.Common.{◌≡◌, ◌∙◌, ℕ, List, map, sym, subst, ap, refl}
+use Rattle.std.proofs.Common.{◌∙◌, ℕ, map, sym, subst, ap, refl}
 use Rattle.std.specs.Prelude.{All}
-use Rattle.walter_base.specs.declared.catalog.Catalog.{Catalog}
 use Rattle.walter_packet.specs.Framed.{frame_of}
 use Rattle.walter_packet.specs.Spelling.{HasPacketSpelling}
 use Rattle.walter_rules.specs.Sending.{Send}

@@ -1,10 +1,7 @@
-use Rattle.std.proofs.Common.{◌≡◌, ◌∙◌, ℕ, Option, Some, None, true, false, sym, subst, ap, refl}
-use Rattle.std.specs.Prelude.{IfSome, IfOk}
-use Rattle.walter_base.specs.declared.catalog.Catalog.{Catalog}
-use Rattle.walter_base.specs.declared.names.SiteId.{SiteId}
+use Rattle.std.proofs.Common.{◌∙◌, Option, Some, sym, subst, ap, refl}
+use Rattle.std.specs.Prelude.{IfSome}
 use Rattle.walter_machine.specs.declared.ready.Ready.{Ready}
 use Rattle.walter_machine.specs.declared.ready.Step.TheVariants.{Answer}
-use Rattle.walter_machine.specs.Readiness.{IsReadyFor, IsReadyAnyway}
 use Rattle.walter_machine.specs.States.{IsState, IsOf}
 use Rattle.walter_machine.proofs.Answers.{rest_ready, gone_ready}
 use Rattle.walter_machine.proofs.Planned.{up_owing, ready_here, if_ok}

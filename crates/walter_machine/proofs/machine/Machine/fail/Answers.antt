@@ -1,4 +1,4 @@
-use Rattle.std.proofs.Common.{◌≡◌, ◌∙◌, Option, Some, ap, sym, subst, refl}
+use Rattle.std.proofs.Common.{◌∙◌, Option, sym, subst, refl}
 use Rattle.std.specs.Prelude.{IfSome}
 use Rattle.walter_base.specs.declared.message.Record.{Record}
 use Rattle.walter_base.specs.Sizes.{CanBeRecorded}

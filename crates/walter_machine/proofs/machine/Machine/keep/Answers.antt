@@ -1,12 +1,10 @@
-use Rattle.std.proofs.Common.{◌≡◌, ◌∙◌, ap, sym, subst, refl}
+use Rattle.std.proofs.Common.{◌∙◌, sym, subst, refl}
 use Rattle.std.specs.Prelude.{IfSome}
 use Rattle.walter_base.specs.Sizes.{CanBeRecorded}
-use Rattle.walter_machine.specs.Machines.{HasStanding}
 use Rattle.walter_machine.specs.Steps.{flight_behind, records_behind}
 use Rattle.walter_machine.proofs.Standing.{came_made, flight_sized, keep_comes, kept_standing}
 use Rattle.walter_rules.specs.declared.entry.Came.{Came}
-use Rattle.walter_rules.specs.Standing.{stands_after}
-use Rattle.walter_rules.specs.Trails.{Comes, only}
+use Rattle.walter_rules.specs.Trails.{Comes}
 use Rattle.walter_machine.proofs.machine.Machine.keep.Goals as goal
 
 pub follow-outcome-requires-clause-can : goal.follow-outcome-requires-clause-can

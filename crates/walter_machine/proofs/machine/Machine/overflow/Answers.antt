@@ -1,9 +1,7 @@
-use Rattle.std.proofs.Common.{◌≡◌, ◌∙◌, ap, sym, subst, inl, refl}
-use Rattle.walter_machine.specs.Machines.{HasStanding}
+use Rattle.std.proofs.Common.{◌∙◌, ap, sym, subst, refl}
 use Rattle.walter_machine.proofs.Standings.{overflow_filled}
 use Rattle.walter_machine.proofs.Standing.{overflow_comes, filled_standing}
 use Rattle.walter_rules.specs.declared.entry.Came.{Came}
-use Rattle.walter_rules.specs.Standing.{stands_after}
 use Rattle.walter_rules.specs.Trails.{Comes, only}
 use Rattle.walter_machine.proofs.machine.Machine.overflow.Goals as goal
 

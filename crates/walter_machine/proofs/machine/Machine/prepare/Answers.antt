@@ -1,4 +1,4 @@
-use Rattle.std.proofs.Common.{◌≡◌, ◌∙◌, true, sym, subst, refl}
+use Rattle.std.proofs.Common.{◌∙◌, true, sym, subst, refl}
 use Rattle.std.specs.Prelude.{is_some, IfOk}
 use Rattle.walter_base.specs.ByClient.{of_client}
 use Rattle.walter_machine.specs.Readiness.{IsReadyFor, IsReadyAnyway}

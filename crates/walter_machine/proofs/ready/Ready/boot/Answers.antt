@@ -1,13 +1,5 @@
-use Rattle.std.proofs.Common.{◌≡◌, ◌∙◌, ◌+◌, ℕ, false, Some, None, sym, subst, ap, refl}
-use Rattle.walter_base.specs.declared.message.Record.TheVariants.{Boot}
-use Rattle.walter_machine.specs.declared.ready.Ready.{Ready}
-use Rattle.walter_machine.specs.Readiness.{IsReadyFor}
+use Rattle.std.proofs.Common.{refl}
 use Rattle.walter_machine.proofs.Planned.{boot_ready, unmade_with}
-use Rattle.walter_rules.specs.Knowledge.{Knowledge}
-use Rattle.walter_rules.specs.Learning.{recorded}
-use Rattle.walter_rules.specs.Standing.{Standing}
-use Rattle.walter_rules.specs.declared.event.Event.TheVariants.{Restart}
-use Rattle.walter_tables.specs.Sites.{values_of, site_of, catalog_of, Stands}
 use Rattle.walter_machine.proofs.ready.Ready.boot.Goals as goal
 
 pub returns-clause-ready : goal.returns-clause-ready
