@@ -1,15 +1,9 @@
-pub mod Asked
-pub mod Sizes
-pub mod Owing
 pub mod Ages
 pub mod Nodes
 pub mod Wholes
-pub mod Restarting
-pub mod Stopping
 pub mod Openings
 pub mod Lines
 pub mod Written
 pub mod Taken
 pub mod Turns
-pub mod Coming
 pub mod Meeting

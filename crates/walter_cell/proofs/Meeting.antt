@@ -1,6 +1,6 @@
 -- The ends of two sites' lanes where all that one has put for the other arrives.
 use Rattle.std.proofs.Common.{◌≡◌, ◌≢◌, ◌<◌, ℕ, List, [], length, map, reverse, get_or, slice_set, refl, ap, sym, ◌∙◌, subst, arith, inl, inr}
-use Rattle.std.specs.Prelude.{zero, suc, max, ◌+◌, ◌-◌, ◌⊎◌, ◌↔◌, Result, Ok, Err, OnOk, OnErr, Option, Some, None, IsNone, IfSome, option_map, slice_get}
+use Rattle.std.specs.Prelude.{zero, suc, ◌+◌, ◌-◌, ◌⊎◌, ◌↔◌, Result, Ok, Err, OnOk, OnErr, Option, Some, None, IsNone, IfSome, option_map, slice_get}
 use Rattle.std.proofs.lemmas.Option.{slice_get_past}
 use Rattle.std.proofs.lemmas.Bool.{cases_eq}
 use Rattle.std.proofs.lemmas.List.{append-nil, length-set, set-get_or}
@@ -14,7 +14,7 @@ use Rattle.walter_outbox.proofs.Linked.{next_more}
 use Rattle.walter_rules.specs.declared.entry.Entry.{Entry}
 use Rattle.walter_rules.specs.Merges.{put_out_to}
 use Rattle.walter_disk.specs.declared.disk.Disk.{Ghosts}
-use Rattle.walter_cell.specs.Cells.{CellValue, IsCell, arrival, stamp_behind}
+use Rattle.walter_cell.specs.Cells.{CellValue, IsCell, arrival}
 use Rattle.walter_cell.specs.Nodes.{NodeValue, IsSound}
 
 -- a list into which its own element was written
@@ -92,7 +92,6 @@ receiver_met cell from inbound met at within more is = record {
   ins = length-set cell.ins from met ∙ is.ins;
   next = next_more cell.node.site cell.ins (slice_set cell.ins from met)
       (λ j. grows_met cell.ins from inbound met at within more j) (reverse cell.node.trail) is.next;
-  clients = is.clients;
   calls = is.calls;
 }
 
@@ -103,6 +102,11 @@ arrival_at ins j zero before post is there = absurd (omega (arith, is))
 arrival_at ins j (suc n) before post is there =
     let same : n ≡ before = omega (arith, is) in
     ap (λ k. slice_get (arrived_from ins j.0) k) same ∙ there
+
+pub arrived_as : (ins : List Receiving) (j : SiteId) (number : ℕ) (post : Posted) → arrival ins j number ≡ Some post
+    → (before : ℕ) × (number ≡ before + 1) × (slice_get (arrived_from ins j.0) before ≡ Some post)
+arrived_as ins j zero post is = absurd cc
+arrived_as ins j (suc before) post is = (before, omega arith, is)
 
 -- what was put for a site is what the trail puts out to it
 pub put_by_trail : {D : Type 0} (g : Ghosts D) (node : NodeValue D) (to : SiteId) → IsSound g node → to.0 < length node.outs
@@ -124,12 +128,3 @@ arrival_read now None ins j number arrived is none some =
     arrival_none ins j number (subst (λ (l : List Posted). (number ≡ 0) ⊎ (length l < number)) (sym is) (none.0 refl))
 arrival_read now (Some p) ins j number arrived is none some =
     arrival_at ins j number (number - 1) (now p) (let l = some.0 in omega (arith, l)) (ap (λ (l : List Posted). slice_get l (number - 1)) is ∙ some.1)
-
--- the stamp of the packet that is delivered, or 0
-abbrev pub put_in : Option Posted → ℕ
-put_in None = 0
-put_in (Some post) = post.stamp
-
-pub stamp_put : (clock : ℕ) (post : Option Posted) → max clock (put_in post) + 1 ≡ stamp_behind clock post
-stamp_put clock None = omega arith
-stamp_put clock (Some post) = refl

@@ -5,14 +5,16 @@ use Rattle.std.proofs.lemmas.List.Sums.{fold-append}
 use Rattle.std.proofs.lemmas.List.{reverse-append, append-nil, take_all, drop_all}
 use Rattle.std.proofs.lemmas.List.Elements.{All-push}
 use Rattle.walter_base.specs.declared.catalog.Catalog.{Catalog}
+use Rattle.walter_base.specs.declared.message.Record.{Record}
 use Rattle.walter_base.specs.declared.names.SiteId.{SiteId}
-use Rattle.walter_base.specs.declared.names.Tid.{Tid}
 use Rattle.walter_disk.specs.declared.disk.Disk.{Ghosts}
 use Rattle.walter_engine.specs.declared.engine.Engine.{Engine}
-use Rattle.walter_engine.specs.declared.engine.State.{State}
-use Rattle.walter_engine.specs.Engines.{disk_in, OfDisk, OfDisks, IsSameEngine, Stands}
-use Rattle.walter_engine.specs.States.{disk_under}
-use Rattle.walter_engine.specs.Steps.{opening}
+use Rattle.walter_engine.specs.declared.store.Store.{Store}
+use Rattle.walter_engine.specs.declared.store.Store.TheVariants.{Open, Closed}
+use Rattle.walter_engine.specs.Engines.{catalog_in, site_in, disk_in, OfDisk, OfDisks, IsSameEngine, Stands}
+use Rattle.walter_engine.specs.Stores.{disk_under, IsStored}
+use Rattle.walter_machine.specs.Comings.{IsSized, is_faulty, RisesIf, IsFaulty}
+use Rattle.walter_machine.specs.States.{AreTold, CanBeNext, IsState}
 use Rattle.walter_outbox.specs.Lanes.{carried_by, met_to, HavePut, HavePutMore, IsPutWhereFree}
 use Rattle.walter_outbox.proofs.Carried.{carried_more, out_as_ruled, AgreeOnLanes, agree_out}
 use Rattle.walter_outbox.proofs.Grown.{put_grown, carried_less, carried_agrees, settled_carried, with_sends, comes_out, drops_where_full, all_put}
@@ -22,14 +24,10 @@ use Rattle.walter_rules.specs.declared.entry.Entry.{Entry}
 use Rattle.walter_rules.specs.declared.event.Event.{Event}
 use Rattle.walter_rules.specs.Sending.{Send}
 use Rattle.walter_rules.specs.Standing.{Standing, settled, stands_after, carried_after}
-use Rattle.walter_rules.specs.Trails.{IsPutOut, IsNextStamp, AreRight, IsRightTrail, clock, standing}
-use Rattle.walter_session.specs.Sessions.{Table}
-use Rattle.walter_cell.specs.Debts.{AreOwed, AreAfter}
+use Rattle.walter_rules.specs.Trails.{Comes, IsFound, IsPutOut, IsNextStamp, AreRight, IsRightTrail, clock, opening, standing}
+use Rattle.walter_tables.specs.declared.tables.Tables.{Tables}
 use Rattle.walter_cell.specs.Entries.{HaveRisingStamps}
-use Rattle.walter_cell.specs.Handled.{IsSized, is_faulty, RisesIf, IsFaulty, HasCome}
 use Rattle.walter_cell.specs.Nodes.{NodeParts, entry_by, IsNode, IsKnownNode, MayDrop}
-use Rattle.walter_cell.proofs.Asked.{stands_owing}
-use Rattle.walter_cell.proofs.Owing.{debts_after}
 
 first_stays : (trail : List Entry) (e x : Entry) → slice_get trail 0 ≡ Some x → slice_get (trail ++ e ∷ []) 0 ≡ Some x
 first_stays [] e x h = absurd cc
@@ -50,14 +48,59 @@ rises_more : (n f f' : ℕ) (b : Bool) → n ≤ f → RisesIf b f f' → n + (i
 rises_more n f f' true most rises = omega arith
 rises_more n f f' false most rises = omega arith
 
+-- as it stands, with lanes that have carried so much
+abbrev carrying : (SiteId → ℕ) → Standing → Standing
+carrying carried S = record S { carried = carried }
+
+module _ (S : Standing) (carried : SiteId → ℕ) where
+  state_carrying : (site : Option Tables) → IsState S site → IsState (carrying carried S) site
+  state_carrying None is = is
+  state_carrying (Some tables) is = record { up = is.up; knows = is.knows; settled = is.settled }
+
+  told_carrying : (catalog : Catalog) (i : SiteId) → AreTold catalog i S → AreTold catalog i (carrying carried S)
+  told_carrying catalog i told = record {
+    sizes = told.sizes;
+    follow = told.follow;
+    tell = told.tell;
+    in_flight = flight S.flight told.in_flight;
+    booted = told.booted;
+    rests = told.rests;
+  }
+    where
+      flight : (rec : Option Record) → IfSome rec (CanBeNext catalog i S) → IfSome rec (CanBeNext catalog i (carrying carried S))
+      flight None is = tt
+      flight (Some rec) is = record { sizes = is.sizes; follows = is.follows }
+
+  store_carrying : {D : Type 0} {g : Ghosts D} (store : Option (Store D g)) → IsStored S store → IsStored (carrying carried S) store
+  store_carrying None is = is
+  store_carrying (Some (Open journal)) is = is
+  store_carrying (Some (Closed disk)) is = record { told = is.told; begun = is.begun; images = is.images }
+
+  stands_carrying : {D : Type 0} {g : Ghosts D} (engine : Engine D g) → Stands engine S → Stands engine (carrying carried S)
+  stands_carrying engine stands = record {
+    machine = let m = stands.machine in record {
+      state = state_carrying engine.machine.site m.state;
+      told = told_carrying (catalog_in engine) (site_in engine) m.told;
+      flight = m.flight;
+      count = m.count;
+      owed = m.owed;
+    };
+    spelled = let s = stands.spelled in record { records = s.records; flight = s.flight };
+    store = store_carrying engine.store stands.store;
+  }
+
 module _ {D : Type 0} {g : Ghosts D} where
-  state_has : (state : Option (State D g)) → is_some state ≡ true → is_some (disk_under state) ≡ true
-  state_has None there = absurd cc
-  state_has (Some state) there = refl
+  store_has : (store : Option (Store D g)) → is_some store ≡ true → is_some (disk_under store) ≡ true
+  store_has None there = absurd cc
+  store_has (Some store) there = refl
+
+  -- an engine has a disk
+  pub has_disk : (engine : Engine D g) → is_some (disk_in engine) ≡ true
+  has_disk engine = store_has engine.store engine.there
 
   faults_more : (old new : Engine D g) (n : ℕ) (b : Bool) → OfDisk old (λ d. n ≤ (g.known d).faults) → OfDisks old new (λ x y. RisesIf b (g.known x).faults (g.known y).faults)
       → OfDisk new (λ d. n + (if b then 1 else 0) ≤ (g.known d).faults)
-  faults_more old new n b most rises = both (disk_in old) (disk_in new) (state_has old.state old.there) most rises
+  faults_more old new n b most rises = both (disk_in old) (disk_in new) (has_disk old) most rises
     where
       both : (x y : Option D) → is_some x ≡ true → IfSome x (λ d. n ≤ (g.known d).faults) → IfSome x (λ d. IfSome y (λ e. RisesIf b (g.known d).faults (g.known e).faults))
           → IfSome y (λ d. n + (if b then 1 else 0) ≤ (g.known d).faults)
@@ -115,10 +158,12 @@ module _ {D : Type 0} {g : Ghosts D} where
           (faults_more old.engine new.engine n (is_faulty came.outcome) node.faults rises);
     }
 
-    pub known_more : (lost : Option Table) → came.dropped ≡ 0 → HasCome catalog capacity i S event came lost new.engine
-        → AreAfter event came.outcome lost old.debts new.debts → IsNextStamp event old.clock stamp
-        → IsKnownNode catalog capacity i old → IsKnownNode catalog capacity i new
-    known_more lost none has after next known =
+    pub known_more : came.dropped ≡ 0 → IfSome came.kept (IsFound S event)
+        → Comes catalog capacity i (settled catalog i came.kept S) event came
+        → Stands new.engine (stands_after catalog i (settled catalog i came.kept S) event came)
+        → IsNextStamp event old.clock stamp
+        → IsRightTrail catalog capacity i trail → IsKnownNode catalog capacity i new
+    known_more none found comes stands next right =
         let T : Standing = settled catalog i came.kept S in
         let carried : IsPutOut T.carried came.sends sends dropped =
         carried_more (carried_by old.outs) T.carried came.sends sends dropped
@@ -129,34 +174,32 @@ module _ {D : Type 0} {g : Ghosts D} where
         let behind : Standing = stands_after catalog i T event came in
         record {
           stands = subst (λ (U : Standing). Stands new.engine U) (sym stands_)
-              (stands_owing new.engine behind behind.gone (carried_after sends T.carried) has.stands);
+              (stands_carrying behind (carried_after sends T.carried) new.engine stands);
           right = record {
-            opening = known.right.opening;
-            begins = ap (λ es. slice_get es 0) grown ∙ first_stays trail own known.right.opening known.right.begins;
-            opens = known.right.opens;
+            opening = right.opening;
+            begins = ap (λ es. slice_get es 0) grown ∙ first_stays trail own right.opening right.begins;
+            opens = right.opens;
             right = subst (λ es. AreRight catalog capacity i es) (sym back) (
-              known.right.right,
+              right.right,
               record {
                 stamp = subst (λ n. IsNextStamp event n stamp) node.last next;
-                kept = has.found;
-                comes = comes_out catalog capacity i T event came sends dropped none carried has.comes;
+                kept = found;
+                comes = comes_out catalog capacity i T event came sends dropped none carried comes;
               },
             );
           };
-          owed = subst (λ (U : Standing). AreOwed U new.debts) (sym stands_)
-              (debts_after catalog i S came.kept event came lost old.debts new.debts known.owed has.owes after);
         }
 
     -- what it drops has found its lane full
-    pub drops_more : (lost : Option Table) → came.dropped ≡ 0 → HasCome catalog capacity i S event came lost new.engine
+    pub drops_more : came.dropped ≡ 0 → Comes catalog capacity i (settled catalog i came.kept S) event came
         → MayDrop catalog i (met_to old.outs) trail new.trail
-    drops_more lost none has =
+    drops_more none comes =
         let T : Standing = settled catalog i came.kept S in
         inr (
           own,
           grown,
           drops_where_full catalog capacity i T event came (met_to old.outs) sends dropped none
-              (agree_out (met_to old.outs) (carried_by old.outs) T.carried came.sends sends dropped agree free) has.comes,
+              (agree_out (met_to old.outs) (carried_by old.outs) T.carried came.sends sends dropped agree free) comes,
         )
       where
         agree : AgreeOnLanes (met_to old.outs) (carried_by old.outs) (settled catalog i came.kept S).carried
@@ -164,32 +207,3 @@ module _ {D : Type 0} {g : Ghosts D} where
           | inl same ↦ inl (same ∙ sym (settled_carried catalog i came.kept S k))
           | inr less ↦ inr (less.0, (let l = less.1 in let same = settled_carried catalog i came.kept S k in omega (arith, l, same)))
         ]
-
-  -- the same but for its room, and for what its lanes know
-  pub known_same : (catalog : Catalog) (capacity : ℕ) (i : SiteId) (old new : NodeParts D g) → new.engine ≡ old.engine
-      → new.trail ≡ old.trail → new.debts ≡ old.debts
-      → IsKnownNode catalog capacity i old → IsKnownNode catalog capacity i new
-  known_same catalog capacity i old new engine entries debts known = record {
-    stands = subst (λ (es : List Entry). Stands new.engine (standing catalog i (reverse es))) (sym entries)
-        (subst (λ (n : Engine D g). Stands n (standing catalog i (reverse old.trail))) (sym engine) known.stands);
-    right = subst (λ (es : List Entry). IsRightTrail catalog capacity i es) (sym entries) known.right;
-    owed = subst (λ (es : List Entry). AreOwed (standing catalog i (reverse es)) new.debts) (sym entries)
-        (subst (λ (ds : List (Option Tid)). AreOwed (standing catalog i (reverse old.trail)) ds) (sym debts) known.owed);
-  }
-
-  pub node_kept : (catalog : Catalog) (capacity : ℕ) (i : SiteId) (old new : NodeParts D g) → new.engine ≡ old.engine
-      → new.trail ≡ old.trail → new.clock ≡ old.clock → HavePut catalog.sites old.trail new.outs
-      → IsNode catalog capacity i old → IsNode catalog capacity i new
-  node_kept catalog capacity i old new engine entries clock_is put node = record {
-    catalog_is = ap (λ (n : Engine D g). n.catalog) engine ∙ node.catalog_is;
-    site = ap (λ (n : Engine D g). n.site) engine ∙ node.site;
-    capacity_is = ap (λ (n : Engine D g). n.capacity) engine ∙ node.capacity_is;
-    begins = ap (λ es. slice_get es 0) entries ∙ node.begins;
-    last = clock_is ∙ (node.last ∙ ap (λ es. clock (reverse es)) (sym entries));
-    early = subst (λ n. n < 2 ^ 62) (sym clock_is) node.early;
-    rise = subst (λ (es : List Entry). HaveRisingStamps (reverse es)) (sym entries) node.rise;
-    sized = subst (λ es. All (λ (x : Entry). IsSized catalog.sites x.came) es) (sym entries) node.sized;
-    put = subst (λ (es : List Entry). HavePut catalog.sites es new.outs) (sym entries) put;
-    faults = subst (λ (n : Engine D g). OfDisk n (λ d. count_by (λ (x : Entry). is_faulty x.came.outcome) new.trail ≤ (g.known d).faults)) (sym engine)
-        (subst (λ (es : List Entry). OfDisk old.engine (λ d. count_by (λ (x : Entry). is_faulty x.came.outcome) es ≤ (g.known d).faults)) (sym entries) node.faults);
-  }

@@ -1,41 +1,27 @@
 -- A site with its trail and its lanes that has come up for the first time.
 use Rattle.std.proofs.Common.{◌≡◌, ◌<◌, ◌≤◌, ◌-◌, ℕ, List, [], ◌∷◌, length, refl, ap, sym, ◌∙◌, subst, arith, Option, Some, None, Result, slice_get}
-use Rattle.std.specs.Prelude.{All, IfSome, replicate, reverse, count_by}
-use Rattle.std.proofs.lemmas.List.{length-replicate, get_or-replicate}
+use Rattle.std.specs.Prelude.{All, IfSome, reverse, count_by}
 use Rattle.std.proofs.lemmas.List.Elements.{All-nil, All-push}
-use Rattle.std.proofs.lemmas.Option.{slice_get_within, get_or_from_slice_get}
 use Rattle.walter_base.specs.declared.catalog.Catalog.{Catalog}
 use Rattle.walter_base.specs.declared.names.SiteId.{SiteId}
-use Rattle.walter_base.specs.declared.names.Tid.{Tid}
 use Rattle.walter_disk.specs.Images.{LeavesOnly}
 use Rattle.walter_disk.specs.declared.disk.Disk.{Ghosts}
 use Rattle.walter_engine.specs.Engines.{catalog_in, site_in, capacity_in, disk_in, Stands}
-use Rattle.walter_engine.specs.Steps.{opening}
 use Rattle.walter_outbox.specs.Lanes.{put_to, HavePut}
 use Rattle.walter_rules.specs.declared.entry.Entry.{Entry}
 use Rattle.walter_rules.specs.Standing.{unmade}
-use Rattle.walter_rules.specs.Trails.{ruled, standing, clock, all_out, IsRightTrail}
+use Rattle.walter_rules.specs.Trails.{ruled, opening, standing, clock, all_out, IsRightTrail}
 use Rattle.walter_engine.specs.Begins.{HasOnly, IsBegun, IsFaultOfBegin, MayHaveBegun}
 use Rattle.walter_engine.specs.declared.answers.BeginFault.{BeginFault}
-use Rattle.walter_cell.specs.Builds.{AreFree, Begins, OfBuilt, begun_by}
+use Rattle.walter_machine.specs.Comings.{IsSized, is_faulty}
+use Rattle.walter_packet.specs.Spelling.{HasPacketSpelling}
+use Rattle.walter_rules.specs.Sending.{Send}
+use Rattle.walter_cell.specs.Builds.{Begins, OfBuilt, begun_by}
 use Rattle.walter_cell.specs.Entries.{HaveRisingStamps}
-use Rattle.walter_cell.specs.Handled.{IsSized, is_faulty}
-use Rattle.walter_cell.specs.Debts.{AreOwed}
 use Rattle.walter_cell.specs.Nodes.{NodeParts, IsNode, IsKnownNode}
-use Rattle.walter_cell.proofs.Sizes.{none_sent}
 
 one_of_all : {X : Type 0} (P : X → Type 0) (x : X) → P x → All P (x ∷ [])
 one_of_all P x holds = All-push P [] x (All-nil P) holds
-
--- clients that are owed nothing
-all_free : (n client : ℕ) (debt : Option Tid) → slice_get (replicate n None) client ≡ Some debt → debt ≡ None
-all_free n client debt at =
-    let within = slice_get_within (replicate n None) client debt at in
-    let long = length-replicate {A = Option Tid} n None in
-    sym (get_or_from_slice_get (replicate n None) client debt debt at) ∙ get_or-replicate n client None debt (omega (arith, within, long))
-
-free_owed : (catalog : Catalog) (i : SiteId) (n : ℕ) (debts : List (Option Tid)) → AreFree n debts → AreOwed (standing catalog i (opening ∷ [])) debts
-free_owed catalog i n debts free client debt small at = sym (all_free n client debt (ap (λ ds. slice_get ds client) (sym free) ∙ at))
 
 opening_right : (catalog : Catalog) (capacity : ℕ) (i : SiteId) → 19 ≤ capacity
     → IsRightTrail catalog capacity i (opening ∷ [])
@@ -84,13 +70,11 @@ module _ {X : Type 0} (P : List X → Type 0) where
 module _ {D : Type 0} {g : Ghosts D} (catalog : Catalog) (capacity : ℕ) (i : SiteId) (node : NodeParts D g)
     (is : node.trail ≡ opening ∷ []) where
   -- where the engine stands as the opening says
-  pub known_built : (clients : ℕ) → 19 ≤ capacity → Stands node.engine (standing catalog i (opening ∷ []))
-      → AreFree clients node.debts → IsKnownNode catalog capacity i node
-  known_built clients fits stands free = record {
+  pub known_built : 19 ≤ capacity → Stands node.engine (standing catalog i (opening ∷ []))
+      → IsKnownNode catalog capacity i node
+  known_built fits stands = record {
     stands = of_one (λ (es : List Entry). Stands node.engine (standing catalog i (reverse es))) node.trail opening is stands;
     right = of_one (λ (es : List Entry). IsRightTrail catalog capacity i es) node.trail opening is (opening_right catalog capacity i fits);
-    owed = of_one (λ (es : List Entry). AreOwed (standing catalog i (reverse es)) node.debts) node.trail opening is
-        (free_owed catalog i clients node.debts free);
   }
 
   -- whatever its disk tells
@@ -107,7 +91,7 @@ module _ {D : Type 0} {g : Ghosts D} (catalog : Catalog) (capacity : ℕ) (i : S
     rise = of_one (λ (es : List Entry). HaveRisingStamps (reverse es)) node.trail opening is (omega arith, tt);
     sized = of_one (λ (es : List Entry). All (λ (e : Entry). IsSized catalog.sites e.came) es) node.trail opening is
         (one_of_all (λ (e : Entry). IsSized catalog.sites e.came) opening
-        (record { outcome = tt; kept = tt; wrote = omega arith; flight = tt; sends = none_sent catalog.sites }));
+        (record { outcome = tt; kept = tt; wrote = omega arith; flight = tt; sends = All-nil (λ (s : Send). HasPacketSpelling catalog.sites s.1) }));
     put = of_one (λ (es : List Entry). HavePut catalog.sites es node.outs) node.trail opening is
         (record { long = long; each = λ k below. empty k below });
     faults = of_some (disk_in node.engine) (λ disk. count_by (λ (e : Entry). is_faulty e.came.outcome) node.trail ≤ (g.known disk).faults)

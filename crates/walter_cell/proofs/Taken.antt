@@ -1,5 +1,5 @@
 -- A cell behind one more entry.
-use Rattle.std.proofs.Common.{◌≡◌, ◌+◌, max, ℕ, List, [], ◌∷◌, ◌++◌, true, length, reverse, refl, ap, sym, ◌∙◌, subst, arith, inl, inr, Option}
+use Rattle.std.proofs.Common.{◌≡◌, ◌+◌, max, ℕ, List, [], ◌∷◌, ◌++◌, true, reverse, refl, ap, sym, ◌∙◌, subst, arith, inl, inr, Option}
 use Rattle.std.specs.Prelude.{All}
 use Rattle.std.proofs.lemmas.List.{reverse-append, append-nil}
 use Rattle.std.proofs.lemmas.List.Concat.{flat_map-append}
@@ -11,96 +11,51 @@ use Rattle.walter_lane.specs.Lanes.{Receiving}
 use Rattle.walter_outbox.specs.Lanes.{in_rings, out_rings, mets, IsNext, AreNext}
 use Rattle.walter_rules.specs.declared.entry.Entry.{Entry}
 use Rattle.walter_rules.specs.declared.event.Event.{Event}
-use Rattle.walter_rules.specs.declared.event.Event.TheVariants.{Given, Stop, Restart}
-use Rattle.walter_rules.specs.declared.event.Input.TheVariants.{Call, Deliver, Advance, Tick}
+use Rattle.walter_rules.specs.declared.event.Event.TheVariants.{Given}
+use Rattle.walter_rules.specs.declared.event.Input.TheVariants.{Call, Deliver}
 use Rattle.walter_rules.specs.declared.outcome.Outcome.{Outcome}
-use Rattle.walter_rules.specs.Trails.{IsNextStamp}
+use Rattle.walter_rules.specs.Kinds.{IfCall}
 use Rattle.walter_trail.specs.Calls.{call_by, calls_of}
 use Rattle.walter_cell.specs.Cells.{CellValue, IsCell, Keeps, Proceeds}
-use Rattle.walter_cell.specs.Entries.{IsPlain, IsOfClients, IsSizedEvent, IsSpent, IfCalled, Grows}
+use Rattle.walter_cell.specs.Entries.{IsPlain, IsSpent, Grows}
 use Rattle.walter_cell.specs.Lines.{LineValue, is_here, IsLineAt}
 use Rattle.walter_cell.specs.Nodes.{NodeValue, IsSameButRoom, IsSameButDisk, IsSameButLanes, KeepsNode, Takes, entry_by, clock_in, arms_under, is_told}
 use Rattle.walter_cell.specs.Written.{AreWritten, AreWrittenAt, framed_for, replies_to}
 
 -- ---- events that bring nothing
 
-pub plain_sized : (sites : ℕ) (event : Event) → IsPlain event → IsSizedEvent sites event
-plain_sized sites (Given (Call client call)) plain = absurd plain
-plain_sized sites (Given (Deliver from number packet)) plain = absurd plain
-plain_sized sites (Given (Advance from)) plain = tt
-plain_sized sites (Given Tick) plain = tt
-plain_sized sites Stop plain = tt
-plain_sized sites Restart plain = tt
-
-pub plain_clients : (clients : ℕ) (event : Event) → IsPlain event → IsOfClients clients event
-plain_clients clients (Given (Call client call)) plain = absurd plain
-plain_clients clients (Given (Deliver from number packet)) plain = absurd plain
-plain_clients clients (Given (Advance from)) plain = tt
-plain_clients clients (Given Tick) plain = tt
-plain_clients clients Stop plain = tt
-plain_clients clients Restart plain = tt
-
 pub plain_next : (i : SiteId) (ins : List Receiving) (event : Event) (last stamp : ℕ) → IsPlain event → stamp ≡ last + 1
     → IsNext i ins event last stamp
-plain_next i ins (Given (Call client call)) last stamp plain is = absurd plain
-plain_next i ins (Given (Deliver from number packet)) last stamp plain is = absurd plain
-plain_next i ins (Given (Advance from)) last stamp plain is = is
-plain_next i ins (Given Tick) last stamp plain is = is
-plain_next i ins Stop last stamp plain is = is
-plain_next i ins Restart last stamp plain is = is
-
--- the next stamp, by what a right trail asks of it
-pub stamp_next : (i : SiteId) (ins : List Receiving) (event : Event) (last stamp : ℕ) → IsNext i ins event last stamp
-    → IsNextStamp event last stamp
-stamp_next i ins (Given (Call client call)) last stamp is = is
-stamp_next i ins (Given (Deliver from number packet)) last stamp is = let n = is.next in omega (arith, n)
-stamp_next i ins (Given (Advance from)) last stamp is = is
-stamp_next i ins (Given Tick) last stamp is = is
-stamp_next i ins Stop last stamp is = is
-stamp_next i ins Restart last stamp is = is
+plain_next i ins (Given (Call client call)) last stamp plain is = absurd plain.0
+plain_next i ins (Given (Deliver from number packet)) last stamp plain is = absurd plain.1
+plain_next i ins event last stamp plain is = is
 
 -- an event that brings nothing, or a packet, is no client's
-pub plain_calls_none : (event : Event) → IsPlain event → IfCalled (λ client. ⊥) event
-plain_calls_none (Given (Call client call)) plain = absurd plain
-plain_calls_none (Given (Deliver from number packet)) plain = absurd plain
-plain_calls_none (Given (Advance from)) plain = tt
-plain_calls_none (Given Tick) plain = tt
-plain_calls_none Stop plain = tt
-plain_calls_none Restart plain = tt
+abbrev pub IsNoCall : Event → Type 0
+IsNoCall event = IfCall (λ client call. ⊥) event
 
-pub if_called : (P Q : ℕ → Type 0) (event : Event) → ((client : ℕ) → P client → Q client) → IfCalled P event → IfCalled Q event
-if_called P Q (Given (Call client call)) by holds = by client holds
-if_called P Q (Given (Deliver from number packet)) by holds = tt
-if_called P Q (Given (Advance from)) by holds = tt
-if_called P Q (Given Tick) by holds = tt
-if_called P Q Stop by holds = tt
-if_called P Q Restart by holds = tt
+pub if_call : (P Q : ℕ → Called → Type 0) (event : Event) → ((client : ℕ) (call : Called) → P client call → Q client call)
+    → IfCall P event → IfCall Q event
+if_call P Q (Given (Call client call)) by holds = by client call holds
+if_call P Q event by holds = tt
 
-no_call : (client : ℕ) (event : Event) → IfCalled (λ c. ⊥) event → call_by client event ≡ []
+no_call : (client : ℕ) (event : Event) → IsNoCall event → call_by client event ≡ []
 no_call client (Given (Call c call)) none = absurd none
-no_call client (Given (Deliver from number packet)) none = refl
-no_call client (Given (Advance from)) none = refl
-no_call client (Given Tick) none = refl
-no_call client Stop none = refl
-no_call client Restart none = refl
+no_call client event none = refl
 
-no_reply : (client : ℕ) (event : Event) (outcome : Outcome) → IfCalled (λ c. ⊥) event → framed_for client event outcome ≡ []
+no_reply : (client : ℕ) (event : Event) (outcome : Outcome) → IsNoCall event → framed_for client event outcome ≡ []
 no_reply client (Given (Call c call)) outcome none = absurd none
-no_reply client (Given (Deliver from number packet)) outcome none = refl
-no_reply client (Given (Advance from)) outcome none = refl
-no_reply client (Given Tick) outcome none = refl
-no_reply client Stop outcome none = refl
-no_reply client Restart outcome none = refl
+no_reply client event outcome none = refl
 
 -- the calls of a client, and the replies to them, behind an entry that is of no client
-pub calls_stay : (client : ℕ) (entries : List Entry) (e : Entry) → IfCalled (λ c. ⊥) e.event
+pub calls_stay : (client : ℕ) (entries : List Entry) (e : Entry) → IsNoCall e.event
     → calls_of client (entries ++ e ∷ []) ≡ calls_of client entries
 calls_stay client entries e none =
     flat_map-append (λ (z : Entry). call_by client z.event) entries (e ∷ [])
     ∙ (ap (λ xs. calls_of client entries ++ xs) (append-nil (call_by client e.event) ∙ no_call client e.event none)
     ∙ append-nil (calls_of client entries))
 
-pub replies_stay : (client : ℕ) (entries : List Entry) (e : Entry) → IfCalled (λ c. ⊥) e.event
+pub replies_stay : (client : ℕ) (entries : List Entry) (e : Entry) → IsNoCall e.event
     → replies_to client (entries ++ e ∷ []) ≡ replies_to client entries
 replies_stay client entries e none =
     flat_map-append (λ (z : Entry). framed_for client z.event z.came.outcome) entries (e ∷ [])
@@ -113,7 +68,7 @@ replies_stay client entries e none =
 module _ {D : Type 0} (g : Ghosts D) where
   pub keeps_room : (old new : NodeValue D) → IsSameButRoom old new → KeepsNode g old new
   keeps_room old new same = subst (λ (n : NodeValue D). KeepsNode g old n) (sym same)
-      (record { catalog = refl; site = refl; capacity = refl; told = refl; rings = refl; clients = refl })
+      (record { catalog = refl; site = refl; capacity = refl; told = refl; rings = refl })
 
   -- what was made ready for an entry takes it as it stood before
   pub ready_takes : (stamp : ℕ) (event : Event) (old mid new : NodeValue D) → IsSameButRoom old mid
@@ -130,7 +85,6 @@ module _ {D : Type 0} (g : Ghosts D) where
           capacity = t.keeps.capacity;
           told = t.keeps.told;
           rings = t.keeps.rings;
-          clients = t.keeps.clients;
         };
         same_mets = t.same_mets;
         arms = t.arms;
@@ -145,18 +99,16 @@ module _ {D : Type 0} (old : CellValue D) (node : NodeValue D)
   with_node = record { node = node; ins = old.ins; lines = lines }
 
   -- with the same trail
-  pub cell_kept : node.catalog ≡ old.node.catalog → node.site ≡ old.node.site → node.clients ≡ old.node.clients
-      → node.trail ≡ old.node.trail → length lines ≡ length old.lines
+  pub cell_kept : node.catalog ≡ old.node.catalog → node.site ≡ old.node.site → node.trail ≡ old.node.trail
       → ((client : ℕ) → is_here lines client ≡ is_here old.lines client) → IsCell old → IsCell with_node
-  cell_kept catalog site clients trail long here cell = record {
+  cell_kept catalog site trail here cell = record {
     ins = cell.ins ∙ sym (ap (λ c. c.sites) catalog);
     next = subst (λ i. AreNext i old.ins (reverse node.trail)) (sym site)
         (subst (λ (es : List Entry). AreNext old.node.site old.ins (reverse es)) (sym trail) cell.next);
-    clients = clients ∙ (cell.clients ∙ sym long);
-    calls = subst (λ (es : List Entry). All (λ (e : Entry). IfCalled (λ client. is_here lines client ≡ true) e.event) es) (sym trail)
-        (All-weaker (λ (e : Entry). IfCalled (λ client. is_here old.lines client ≡ true) e.event)
-        (λ (e : Entry). IfCalled (λ client. is_here lines client ≡ true) e.event)
-        (λ e called. if_called _ _ e.event (λ client was. here client ∙ was) called) old.node.trail cell.calls);
+    calls = subst (λ (es : List Entry). All (λ (e : Entry). IfCall (λ client call. is_here lines client ≡ true) e.event) es) (sym trail)
+        (All-weaker (λ (e : Entry). IfCall (λ client call. is_here old.lines client ≡ true) e.event)
+        (λ (e : Entry). IfCall (λ client call. is_here lines client ≡ true) e.event)
+        (λ e called. if_call _ _ e.event (λ client call was. here client ∙ was) called) old.node.trail cell.calls);
   }
 
   module _ (g : Ghosts D) (stamp : ℕ) (event : Event) (takes : Takes g stamp event old.node node) where
@@ -167,23 +119,22 @@ module _ {D : Type 0} (old : CellValue D) (node : NodeValue D)
     pub grows_taken : Grows event old.node.trail node.trail
     grows_taken = (own, takes.trail, refl)
 
-    pub cell_taken : length lines ≡ length old.lines → ((client : ℕ) → is_here lines client ≡ is_here old.lines client)
+    pub cell_taken : ((client : ℕ) → is_here lines client ≡ is_here old.lines client)
         → IsNext old.node.site old.ins event (clock_in old.node) stamp
-        → IfCalled (λ client. is_here old.lines client ≡ true) event → IsCell old → IsCell with_node
-    cell_taken long here next called cell =
+        → IfCall (λ client call. is_here old.lines client ≡ true) event → IsCell old → IsCell with_node
+    cell_taken here next called cell =
         let back : reverse node.trail ≡ own ∷ reverse old.node.trail =
         ap reverse takes.trail ∙ reverse-append old.node.trail (own ∷ []) in
         record {
           ins = cell.ins ∙ sym (ap (λ c. c.sites) takes.keeps.catalog);
           next = subst (λ i. AreNext i old.ins (reverse node.trail)) (sym takes.keeps.site)
               (subst (λ (es : List Entry). AreNext old.node.site old.ins es) (sym back) (cell.next, next));
-          clients = takes.keeps.clients ∙ (cell.clients ∙ sym long);
-          calls = subst (λ (es : List Entry). All (λ (e : Entry). IfCalled (λ client. is_here lines client ≡ true) e.event) es) (sym takes.trail)
-              (All-push (λ (e : Entry). IfCalled (λ client. is_here lines client ≡ true) e.event) old.node.trail own
-              (All-weaker (λ (e : Entry). IfCalled (λ client. is_here old.lines client ≡ true) e.event)
-              (λ (e : Entry). IfCalled (λ client. is_here lines client ≡ true) e.event)
-              (λ e was. if_called _ _ e.event (λ client is. here client ∙ is) was) old.node.trail cell.calls)
-              (if_called _ _ event (λ client is. here client ∙ is) called));
+          calls = subst (λ (es : List Entry). All (λ (e : Entry). IfCall (λ client call. is_here lines client ≡ true) e.event) es) (sym takes.trail)
+              (All-push (λ (e : Entry). IfCall (λ client call. is_here lines client ≡ true) e.event) old.node.trail own
+              (All-weaker (λ (e : Entry). IfCall (λ client call. is_here old.lines client ≡ true) e.event)
+              (λ (e : Entry). IfCall (λ client call. is_here lines client ≡ true) e.event)
+              (λ e was. if_call _ _ e.event (λ client call is. here client ∙ is) was) old.node.trail cell.calls)
+              (if_call _ _ event (λ client call is. here client ∙ is) called));
         }
 
     -- what an event keeps whose connections are kept
@@ -220,11 +171,11 @@ keeps_trail g old new node ins lines trail = record {
 module _ {D : Type 0} (old : CellValue D) (node : NodeValue D) where
   pub cell_disk : IsSameButDisk old.node node → IsCell old → IsCell (record { node = node; ins = old.ins; lines = old.lines })
   cell_disk same cell = cell_kept old node old.lines (ap (λ (n : NodeValue D). n.catalog) same) (ap (λ (n : NodeValue D). n.site) same)
-      (ap (λ (n : NodeValue D). n.clients) same) (ap (λ (n : NodeValue D). n.trail) same) refl (λ client. refl) cell
+      (ap (λ (n : NodeValue D). n.trail) same) (λ client. refl) cell
 
   pub cell_lanes : IsSameButLanes old.node node → IsCell old → IsCell (record { node = node; ins = old.ins; lines = old.lines })
   cell_lanes same cell = cell_kept old node old.lines (ap (λ (n : NodeValue D). n.catalog) same) (ap (λ (n : NodeValue D). n.site) same)
-      (ap (λ (n : NodeValue D). n.clients) same) (ap (λ (n : NodeValue D). n.trail) same) refl (λ client. refl) cell
+      (ap (λ (n : NodeValue D). n.trail) same) (λ client. refl) cell
 
   pub keeps_disk : (g : Ghosts D) → IsSameButDisk old.node node → is_told g node.disk ≡ is_told g old.node.disk
       → Keeps g old (record { node = node; ins = old.ins; lines = old.lines })
@@ -235,7 +186,6 @@ module _ {D : Type 0} (old : CellValue D) (node : NodeValue D) where
         capacity = ap (λ (n : NodeValue D). n.capacity) same;
         told = told;
         rings = ap (λ (n : NodeValue D). out_rings n.outs) same;
-        clients = ap (λ (n : NodeValue D). n.clients) same;
       }) refl refl (ap (λ (n : NodeValue D). n.trail) same)
 
   pub keeps_lanes : (g : Ghosts D) → IsSameButLanes old.node node → out_rings node.outs ≡ out_rings old.node.outs
@@ -247,12 +197,11 @@ module _ {D : Type 0} (old : CellValue D) (node : NodeValue D) where
         capacity = ap (λ (n : NodeValue D). n.capacity) same;
         told = ap (λ (n : NodeValue D). is_told g n.disk) same;
         rings = rings;
-        clients = ap (λ (n : NodeValue D). n.clients) same;
       }) refl refl (ap (λ (n : NodeValue D). n.trail) same)
 
 -- an event of no client comes to a cell, whose connections stay
 module _ {D : Type 0} (g : Ghosts D) (old : CellValue D) (node : NodeValue D)
-    (stamp : ℕ) (event : Event) (takes : Takes g stamp event old.node node) (none : IfCalled (λ c. ⊥) event) where
+    (stamp : ℕ) (event : Event) (takes : Takes g stamp event old.node node) (none : IsNoCall event) where
   calls : (client : ℕ) → calls_of client node.trail ≡ calls_of client old.node.trail
   calls client = ap (λ es. calls_of client es) takes.trail ∙ calls_stay client old.node.trail (entry_by stamp event takes.came) none
 
@@ -267,15 +216,15 @@ module _ {D : Type 0} (g : Ghosts D) (old : CellValue D) (node : NodeValue D)
 
   pub cell_alone : IsNext old.node.site old.ins event (clock_in old.node) stamp → IsCell old
       → IsCell (record { node = node; ins = old.ins; lines = old.lines })
-  cell_alone next cell = cell_taken old node old.lines g stamp event takes refl (λ client. refl) next
-      (if_called _ _ event (λ client never. absurd never) none) cell
+  cell_alone next cell = cell_taken old node old.lines g stamp event takes (λ client. refl) next
+      (if_call _ _ event (λ client call never. absurd never) none) cell
 
 -- nothing came, and nothing but the memory changed
 module _ {D : Type 0} (g : Ghosts D) (old : CellValue D) (node : NodeValue D)
     (same : IsSameButRoom old.node node) where
   pub cell_room : IsCell old → IsCell (record { node = node; ins = old.ins; lines = old.lines })
-  cell_room cell = cell_kept old node old.lines (ap (λ (n : NodeValue D). n.catalog) same) (ap (λ (n : NodeValue D). n.site) same) (ap (λ (n : NodeValue D). n.clients) same)
-      (ap (λ (n : NodeValue D). n.trail) same) refl (λ client. refl) cell
+  cell_room cell = cell_kept old node old.lines (ap (λ (n : NodeValue D). n.catalog) same) (ap (λ (n : NodeValue D). n.site) same)
+      (ap (λ (n : NodeValue D). n.trail) same) (λ client. refl) cell
 
   pub proceeds_room : Proceeds g old (record { node = node; ins = old.ins; lines = old.lines })
   proceeds_room = record {

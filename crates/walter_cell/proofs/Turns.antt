@@ -3,7 +3,6 @@ use Rattle.std.proofs.Common.{◌≡◌, ◌≢◌, ◌<◌, ◌+◌, ◌++◌, 
 use Rattle.std.proofs.Common.{refl, ap, sym, subst, arith, inl, inr, Result, Ok, Err, is_ok, if◌then◌else◌}
 use Rattle.std.specs.Prelude.{OnErr}
 use Rattle.std.proofs.lemmas.Bool.{cases_eq}
-use Rattle.std.proofs.lemmas.List.{length-set}
 use Rattle.std.proofs.lemmas.Option.{slice_get_within}
 use Rattle.walter_conn.specs.Frames.{Call}
 use Rattle.walter_disk.specs.declared.disk.Disk.{Ghosts}
@@ -100,7 +99,7 @@ module _ {D : Type 0} (g : Ghosts D) (old : CellValue D) (mid : NodeValue D)
 
   pub cell_used : IsCell old → IsCell used_cell
   cell_used cell = cell_kept old mid (slice_set old.lines number (Some line)) (ap (λ (n : NodeValue D). n.catalog) same) (ap (λ (n : NodeValue D). n.site) same)
-      (ap (λ (n : NodeValue D). n.clients) same) trail_is (length-set old.lines number (Some line)) (here_set old.lines number line here) cell
+      trail_is (here_set old.lines number line here) cell
 
   pub proceeds_used : ((bytes : List ℕ) → IsLineAt bytes (calls_of number old.node.trail) old.lines number
       → IsLineAt bytes (calls_of number mid.trail) (slice_set old.lines number (Some line)) number)
@@ -136,7 +135,7 @@ module _ {D : Type 0} (g : Ghosts D) (old : CellValue D) (node : NodeValue D)
 
   pub served_cell : stamp ≡ clock_in old.node + 1 → IsCell old → IsCell (with_node old node lines)
   served_cell next cell =
-      cell_taken old node lines g stamp event takes (length-set old.lines number (Some line))
+      cell_taken old node lines g stamp event takes
       (here_set old.lines number line here) next here cell
 
   abbrev calls : List Call

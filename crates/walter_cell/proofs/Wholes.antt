@@ -1,25 +1,28 @@
 -- A site with its trail and its lanes, and what contracts see of it.
-use Rattle.std.proofs.Common.{◌≡◌, ◌<◌, ◌^◌, ◌++◌, ◌∷◌, [], ℕ, List, length, reverse, true, Option, Some, None, is_some, refl, ap, sym, ◌∙◌, subst}
+use Rattle.std.proofs.Common.{◌≡◌, ◌<◌, ◌^◌, ◌++◌, ◌∷◌, [], ℕ, List, map, reverse, true, Option, Some, None, is_some, refl, ap, sym, ◌∙◌, subst, inl}
 use Rattle.std.specs.Prelude.{IfSome, IsSome, OnOk, OnErr, Result, Ok, Err, ◌≤◌}
 use Rattle.walter_base.specs.declared.catalog.Catalog.{Catalog}
+use Rattle.walter_base.specs.declared.message.Record.{Record}
 use Rattle.walter_base.specs.declared.names.SiteId.{SiteId}
 use Rattle.walter_disk.specs.Disks.{DiskState}
 use Rattle.walter_disk.specs.declared.disk.Disk.{Ghosts}
-use Rattle.walter_engine.specs.Contents.{MayHaveRecords}
-use Rattle.walter_engine.specs.Engines.{catalog_in, site_in, capacity_in, disk_in, IsSameEngine, Stands, IsInState}
-use Rattle.walter_engine.specs.States.{disk_under}
+use Rattle.walter_engine.specs.Contents.{HasRecords, MayHaveRecords}
+use Rattle.walter_engine.specs.Engines.{catalog_in, site_in, capacity_in, disk_in, IsSameEngine, Stands}
+use Rattle.walter_engine.specs.Stores.{disk_under, IsStored}
 use Rattle.walter_engine.specs.declared.engine.Engine.{Engine}
-use Rattle.walter_engine.specs.declared.engine.State.{State}
-use Rattle.walter_engine.specs.declared.engine.State.TheVariants.{Up, Down}
-use Rattle.walter_engine.proofs.Resting.{may_have, leaves_bodies}
+use Rattle.walter_engine.specs.declared.store.Store.{Store}
+use Rattle.walter_engine.specs.declared.store.Store.TheVariants.{Open, Closed}
+use Rattle.walter_journal.specs.Layout.{HasContent}
+use Rattle.walter_record.specs.Spelling.{record_spelled}
+use Rattle.walter_lane.specs.Lanes.{Sending}
 use Rattle.walter_outbox.specs.Lanes.{HavePut, out_rings, mets, met_to}
 use Rattle.walter_rules.specs.declared.entry.Came.{Came}
 use Rattle.walter_rules.specs.declared.event.Event.{Event}
 use Rattle.walter_rules.specs.Standing.{Standing}
 use Rattle.walter_rules.specs.Trails.{standing}
 use Rattle.walter_site.specs.Members.{IsShortOutcome}
-use Rattle.walter_cell.specs.Nodes.{NodeParts, IsNode, IsKnownNode, IsWhole, IsSound, is_told, arms_under, seen, entry_by, MayDrop, Takes}
-use Rattle.walter_cell.proofs.Nodes.{node_kept, known_same}
+use Rattle.walter_cell.specs.Nodes.{NodeParts, NodeValue, Room, IsNode, IsKnownNode, IsSameButDisk, IsWhole, IsSound, is_told, arms_under, seen, entry_by, MayDrop, Takes}
+use Rattle.walter_cell.proofs.Nodes.{has_disk}
 
 -- what holds of both disks, holds of them in other words
 pub of_both : {D : Type 0} (P Q : D → D → Type 0) → ((a b : D) → P a b → Q a b) → (x y : Option D)
@@ -64,18 +67,24 @@ module _ {D : Type 0} (g : Ghosts D) where
   told_some None told = tt
   told_some (Some disk) told = told
 
+-- whatever is in flight, the records alone may be there
+may_have : (records : List Record) (flight : Option Record) (image : List ℕ) → HasRecords image records → MayHaveRecords records flight image
+may_have records None image has = has
+may_have records (Some rec) image has = inl has
+
 module _ {D : Type 0} {g : Ghosts D} where
   -- what a crash may leave of the disk of a site that stands so
-  leaves_state : (S : Standing) (state : Option (State D g)) → IsInState S state
-      → IfSome (disk_under state) (λ disk. (image : List ℕ) → g.may_leave disk image → MayHaveRecords S.records S.flight image)
-  leaves_state S None is = absurd is
-  leaves_state S (Some (Up site journal)) is =
-      λ image left. may_have S.records S.flight image (leaves_bodies g journal _ is.stands image left)
-  leaves_state S (Some (Down disk)) is = is.images
+  leaves_stored : (S : Standing) (store : Option (Store D g)) → IsStored S store
+      → IfSome (disk_under store) (λ disk. (image : List ℕ) → g.may_leave disk image → MayHaveRecords S.records S.flight image)
+  leaves_stored S None is = tt
+  leaves_stored S (Some (Open journal)) is = λ image left.
+      may_have S.records S.flight image
+      (subst (λ (bytes : List ℕ). HasContent bytes (map record_spelled S.records)) (sym (is.durable image left)) is.content)
+  leaves_stored S (Some (Closed disk)) is = is.images
 
   -- a site with its trail and its lanes is sound
-  pub sound_of : (room places : ℕ) (n : NodeParts D g) → IsWhole g n → IsSound g (seen room places n)
-  sound_of room places n whole = record {
+  pub sound_of : (room : Room) (n : NodeParts D g) → IsWhole g n → IsSound g (seen room n)
+  sound_of room n whole = record {
     begins = whole.is.begins;
     early = subst (λ m. m < 2 ^ 62) whole.is.last whole.is.early;
     rise = whole.is.rise;
@@ -83,68 +92,27 @@ module _ {D : Type 0} {g : Ghosts D} where
     put = whole.is.put;
     faults = whole.is.faults;
     right = λ told. (whole.known told).right;
-    leaves = λ told. leaves_state _ n.engine.state (whole.known told).stands.state;
+    leaves = λ told. leaves_stored _ n.engine.store (whole.known told).stands.store;
   }
 
-  -- the same but for its room, and for what its lanes know
-  pub whole_kept : (old new : NodeParts D g) → new.engine ≡ old.engine → new.trail ≡ old.trail
-      → new.clock ≡ old.clock → HavePut (catalog_in old.engine).sites old.trail new.outs
-      → new.debts ≡ old.debts → IsWhole g old → IsWhole g new
-  whole_kept old new engine entries clock_is put debts whole = at new.engine engine
-    where
-      at : (e : Engine D g) → e ≡ old.engine → IsWhole g new
-      at e same = record {
-        is = subst (λ (x : Engine D g). IsNode (catalog_in x) (capacity_in x) (site_in x) new) (sym engine)
-            (node_kept (catalog_in old.engine) (capacity_in old.engine) (site_in old.engine) old new engine entries
-            clock_is put whole.is);
-        known = λ told. subst (λ (x : Engine D g). IsKnownNode (catalog_in x) (capacity_in x) (site_in x) new) (sym engine)
-            (known_same (catalog_in old.engine) (capacity_in old.engine) (site_in old.engine) old new engine entries
-            debts (whole.known (subst (λ (x : Engine D g). is_told g (disk_in x) ≡ true) engine told)));
-      }
-
-  state_has : (state : Option (State D g)) → is_some state ≡ true → is_some (disk_under state) ≡ true
-  state_has None there = absurd cc
-  state_has (Some state) there = refl
-
-  -- an engine has a disk
-  pub has_disk : (engine : Engine D g) → is_some (disk_in engine) ≡ true
-  has_disk engine = state_has engine.state engine.there
-
-  -- the same over an engine that stands as the one before, and whose disk failed as often and tells as much
-  pub whole_over : (old : NodeParts D g) (engine : Engine D g) → IsSameEngine old.engine engine
-      → ((S : Standing) → Stands old.engine S → Stands engine S)
-      → IfSome (disk_in old.engine) (λ a. IfSome (disk_in engine) (λ b.
-      ((g.known b).faults ≡ (g.known a).faults) × (is_some (g.known b).reads ≡ is_some (g.known a).reads)))
-      → IsWhole g old → IsWhole g (record old { engine = engine })
-  whole_over old engine same stands kept whole =
-      let told = told_both g (disk_in old.engine) (disk_in engine) (has_disk old.engine) (has_disk engine) (of_both _ _ (λ a b both. both.1) (disk_in old.engine) (disk_in engine) kept) in
-      let new : NodeParts D g = record old { engine = engine } in
-      record {
-        is = subst (λ (k : Catalog). IsNode k (capacity_in engine) (site_in engine) new) (sym same.catalog)
-            (subst (λ (n : ℕ). IsNode (catalog_in old.engine) n (site_in engine) new) (sym same.capacity)
-            (subst (λ (i : SiteId). IsNode (catalog_in old.engine) (capacity_in old.engine) i new) (sym same.site) (record {
-              catalog_is = same.catalog;
-              site = same.site;
-              capacity_is = same.capacity;
-              begins = whole.is.begins;
-              last = whole.is.last;
-              early = whole.is.early;
-              rise = whole.is.rise;
-              sized = whole.is.sized;
-              put = whole.is.put;
-              faults = faults_kept g _ (disk_in old.engine) (disk_in engine) (has_disk old.engine)
-                  (of_both _ _ (λ a b both. both.0) (disk_in old.engine) (disk_in engine) kept) whole.is.faults;
-            })));
-        known = λ now.
-            let known = whole.known (sym told ∙ now) in
-            subst (λ (k : Catalog). IsKnownNode k (capacity_in engine) (site_in engine) new) (sym same.catalog)
-            (subst (λ (n : ℕ). IsKnownNode (catalog_in old.engine) n (site_in engine) new) (sym same.capacity)
-            (subst (λ (i : SiteId). IsKnownNode (catalog_in old.engine) (capacity_in old.engine) i new) (sym same.site) (record {
-              stands = stands (standing (catalog_in old.engine) (site_in old.engine) (reverse old.trail)) known.stands;
-              right = known.right;
-              owed = known.owed;
-            })));
-      }
+  -- the same but for what its lanes know
+  pub whole_lanes : (old : NodeParts D g) (outs : List Sending) → HavePut (catalog_in old.engine).sites old.trail outs
+      → IsWhole g old → IsWhole g (record old { outs = outs })
+  whole_lanes old outs put whole = record {
+    is = let is = whole.is in record {
+      catalog_is = refl;
+      site = refl;
+      capacity_is = refl;
+      begins = is.begins;
+      last = is.last;
+      early = is.early;
+      rise = is.rise;
+      sized = is.sized;
+      put = put;
+      faults = is.faults;
+    };
+    known = λ told. let known = whole.known told in record { stands = known.stands; right = known.right };
+  }
 
   -- a site's own parts
   pub whole_of : (catalog : Catalog) (capacity : ℕ) (i : SiteId) (node : NodeParts D g) → IsNode catalog capacity i node
@@ -158,6 +126,40 @@ module _ {D : Type 0} {g : Ghosts D} where
         (subst (λ (j : SiteId). IsKnownNode catalog capacity j node) (sym is.site) (known told)));
   }
 
+  -- the same over an engine that stands as the one before, and whose disk failed as often and tells as much
+  pub whole_over : (old : NodeParts D g) (engine : Engine D g) → IsSameEngine old.engine engine
+      → ((S : Standing) → Stands old.engine S → Stands engine S)
+      → IfSome (disk_in old.engine) (λ a. IfSome (disk_in engine) (λ b.
+      ((g.known b).faults ≡ (g.known a).faults) × (is_some (g.known b).reads ≡ is_some (g.known a).reads)))
+      → IsWhole g old → IsWhole g (record old { engine = engine })
+  whole_over old engine same stands kept whole =
+      let told = told_both g (disk_in old.engine) (disk_in engine) (has_disk old.engine) (has_disk engine) (of_both _ _ (λ a b both. both.1) (disk_in old.engine) (disk_in engine) kept) in
+      whole_of (catalog_in old.engine) (capacity_in old.engine) (site_in old.engine) (record old { engine = engine }) (record {
+        catalog_is = same.catalog;
+        site = same.site;
+        capacity_is = same.capacity;
+        begins = whole.is.begins;
+        last = whole.is.last;
+        early = whole.is.early;
+        rise = whole.is.rise;
+        sized = whole.is.sized;
+        put = whole.is.put;
+        faults = faults_kept g _ (disk_in old.engine) (disk_in engine) (has_disk old.engine)
+            (of_both _ _ (λ a b both. both.0) (disk_in old.engine) (disk_in engine) kept) whole.is.faults;
+      }) (λ now. let known = whole.known (sym told ∙ now) in record {
+        stands = stands (standing (catalog_in old.engine) (site_in old.engine) (reverse old.trail)) known.stands;
+        right = known.right;
+      })
+
+  -- what contracts see of it then
+  pub seen_over : (old : NodeParts D g) (engine : Engine D g) (before after : Room) → IsSameEngine old.engine engine
+      → IsSameButDisk (seen before old) (seen after (record old { engine = engine }))
+  seen_over old engine before after same =
+      let new : NodeValue D = record (seen after old) { disk = disk_in engine } in
+      ap (λ (c : Catalog). record new { catalog = c; site = site_in engine; capacity = capacity_in engine }) same.catalog
+      ∙ (ap (λ (i : SiteId). record new { site = i; capacity = capacity_in engine }) same.site
+      ∙ ap (λ (n : ℕ). record new { capacity = n }) same.capacity)
+
   -- where a call keeps what is told of the disk, it told as much before
   pub told_before : (old new : Engine D g) → IfSome (disk_in old) (λ a. IfSome (disk_in new) (λ b. is_some (g.known b).reads ≡ is_some (g.known a).reads))
       → is_told g (disk_in new) ≡ true → is_told g (disk_in old) ≡ true
@@ -168,14 +170,14 @@ module _ {D : Type 0} {g : Ghosts D} where
   reads_before old new kept told = told_some g (disk_in old) (told_before old new kept told)
 
   -- what an event does to a site with its trail and its lanes, as contracts see it
-  pub takes_of : (old new : NodeParts D g) (room places more spare : ℕ) (stamp : ℕ) (event : Event) (came : Came)
+  pub takes_of : (old new : NodeParts D g) (before after : Room) (stamp : ℕ) (event : Event) (came : Came)
       → new.trail ≡ old.trail ++ entry_by stamp event came ∷ [] → IsShortOutcome came.outcome → IsSameEngine old.engine new.engine
       → IfSome (disk_in old.engine) (λ a. IfSome (disk_in new.engine) (λ b. is_some (g.known b).reads ≡ is_some (g.known a).reads))
       → IfSome (disk_in old.engine) (λ a. IfSome (disk_in new.engine) (λ b. (g.known b).arms ≡ (g.known a).arms))
-      → out_rings new.outs ≡ out_rings old.outs → mets new.outs ≡ mets old.outs → length new.debts ≡ length old.debts
+      → out_rings new.outs ≡ out_rings old.outs → mets new.outs ≡ mets old.outs
       → (is_told g (disk_in old.engine) ≡ true → MayDrop (catalog_in old.engine) (site_in old.engine) (met_to old.outs) old.trail new.trail)
-      → Takes g stamp event (seen room places old) (seen more spare new)
-  takes_of old new room places more spare stamp event came grown short same tells arms rings ms long drops = record {
+      → Takes g stamp event (seen before old) (seen after new)
+  takes_of old new before after stamp event came grown short same tells arms rings ms drops = record {
     came = came;
     trail = grown;
     short = short;
@@ -185,7 +187,6 @@ module _ {D : Type 0} {g : Ghosts D} where
       capacity = same.capacity;
       told = told_both g (disk_in old.engine) (disk_in new.engine) (has_disk old.engine) (has_disk new.engine) tells;
       rings = rings;
-      clients = long;
     };
     same_mets = ms;
     arms = arms_both g (disk_in old.engine) (disk_in new.engine) (has_disk old.engine) (has_disk new.engine) arms;

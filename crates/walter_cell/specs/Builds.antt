@@ -1,20 +1,15 @@
 -- What the first restart of a site comes to.
-use Rattle.std.specs.Prelude.{◌≡◌, ℕ, List, [], ◌∷◌, Option, Some, None, true, false, Result, Ok, Err, IfSome, is_some, replicate}
+use Rattle.std.specs.Prelude.{◌≡◌, ℕ, List, [], ◌∷◌, Option, Some, true, false, Result, Ok, Err, IfSome, is_some}
 use Rattle.walter_base.specs.declared.catalog.Catalog.{Catalog}
 use Rattle.walter_base.specs.declared.names.SiteId.{SiteId}
-use Rattle.walter_base.specs.declared.names.Tid.{Tid}
 use Rattle.walter_disk.specs.declared.disk.Disk.{Ghosts}
 use Rattle.walter_engine.specs.declared.answers.BeginFault.{BeginFault}
 use Rattle.walter_engine.specs.Begins.{HasOnly, IsBegun, IsFaultOfBegin, MayHaveBegun}
-use Rattle.walter_engine.specs.Engines.{catalog_in, site_in, capacity_in, disk_in, is_up}
-use Rattle.walter_engine.specs.Steps.{opening}
+use Rattle.walter_engine.specs.Engines.{catalog_in, site_in, capacity_in, disk_in, is_up, IsFresh}
 use Rattle.walter_engine.specs.declared.engine.Engine.{Engine}
 use Rattle.walter_lane.specs.Lanes.{Sending}
+use Rattle.walter_rules.specs.Trails.{opening}
 use Rattle.walter_cell.specs.Nodes.{NodeValue, is_told}
-
--- so many clients, that are owed nothing
-abbrev pub AreFree : ℕ → List (Option Tid) → Type 0
-AreFree count debts = debts ≡ replicate count None
 
 -- what the first restart answered; where there was no memory before it, that
 abbrev pub begun_by : {N D : Type 0} → Result N (D × BeginFault) → Result (Unit {0}) BeginFault
@@ -38,22 +33,22 @@ module _ {D : Type 0} (g : Ghosts D) where
     pub arms : OfBuilt disk_of result (λ now. (g.known now).arms ≡ (g.known disk).arms)
 
   -- a site over this disk, up in its first epoch: its trail is the opening
-  pub record HasOpened (catalog : Catalog) (capacity : ℕ) (i : SiteId) (disk : D) (outs : List Sending) (clients : ℕ)
+  pub record HasOpened (catalog : Catalog) (capacity : ℕ) (i : SiteId) (disk : D) (outs : List Sending)
       (node : NodeValue D) : Type 0 where
     pub catalog_is : node.catalog ≡ catalog
     pub capacity_is : node.capacity ≡ capacity
     pub site : node.site ≡ i
     pub trail : node.trail ≡ opening ∷ []
     pub outs_are : node.outs ≡ outs
-    pub clients_are : node.clients ≡ clients
     pub there : is_some node.disk ≡ true
     pub told : is_told g node.disk ≡ is_some (g.known disk).reads
 
--- a site that is down over this disk
+-- a site that is down over this disk, to which nothing has happened
 pub record IsNewEngine {D : Type 0} {g : Ghosts D} (catalog : Catalog) (capacity : ℕ) (i : SiteId) (disk : D)
     (engine : Engine D g) : Type 0 where
   pub disk_is : disk_in engine ≡ Some disk
   pub down : is_up engine ≡ false
+  pub fresh : IsFresh engine
   pub catalog_is : catalog_in engine ≡ catalog
   pub site : site_in engine ≡ i
   pub capacity_is : capacity_in engine ≡ capacity

@@ -1,6 +1,6 @@
 -- What contracts see of a cell, what holds of it between two events, and what its calls come to.
-use Rattle.std.specs.Prelude.{◌≡◌, ◌≢◌, ◌+◌, ◌⊎◌, max, ℕ, zero, suc, true, Option, Some, None, All}
-use Rattle.std.specs.Prelude.{List, length, reverse, slice_get}
+use Rattle.std.specs.Prelude.{◌≡◌, ◌≢◌, ◌+◌, ◌⊎◌, ℕ, true, Option, Some, None, All}
+use Rattle.std.specs.Prelude.{List, length, reverse}
 use Rattle.walter_base.specs.declared.catalog.Catalog.{Catalog}
 use Rattle.walter_base.specs.declared.names.SiteId.{SiteId}
 use Rattle.walter_base.specs.declared.packet.Packet.{Packet}
@@ -9,11 +9,13 @@ use Rattle.walter_conn.specs.Sequences.{AreCalls, AreAllCalls}
 use Rattle.walter_disk.specs.declared.disk.Disk.{Ghosts}
 use Rattle.walter_lane.specs.Lanes.{Sending, Receiving}
 use Rattle.walter_lane.specs.declared.posted.Posted.{Posted}
+use Rattle.walter_machine.specs.Posts.{of_number, stamp_behind}
 use Rattle.walter_packet.specs.Framed.{IsFramed}
 use Rattle.walter_rules.specs.declared.entry.Entry.{Entry}
 use Rattle.walter_rules.specs.declared.event.Event.{Event}
 use Rattle.walter_rules.specs.declared.event.Event.TheVariants as event
 use Rattle.walter_rules.specs.declared.event.Input.TheVariants as input
+use Rattle.walter_rules.specs.Kinds.{IfCall}
 use Rattle.walter_trail.specs.Calls.{calls_of}
 use Rattle.walter_cell.specs.declared.answers.Acted.{Acted}
 use Rattle.walter_cell.specs.declared.answers.Acted.TheVariants as acted
@@ -21,7 +23,7 @@ use Rattle.walter_cell.specs.declared.answers.Moved.{Moved}
 use Rattle.walter_cell.specs.declared.answers.Moved.TheVariants as moved
 use Rattle.walter_cell.specs.declared.answers.Serve.{Serve}
 use Rattle.walter_cell.specs.declared.answers.Serve.TheVariants as serve
-use Rattle.walter_cell.specs.Entries.{IsSpent, HasPlace, Grows, IfCalled}
+use Rattle.walter_cell.specs.Entries.{IsSpent, HasPlace, Grows}
 use Rattle.walter_outbox.specs.Lanes.{arrived_from, put_to, in_rings, mets, met_to, AreNext}
 use Rattle.walter_cell.specs.Builds.{HasOpened}
 use Rattle.walter_cell.specs.Nodes.{NodeValue, KeepsNode, IsSameButLanes, MayDrop, arms_under, is_told}
@@ -43,8 +45,7 @@ module _ {D : Type 0} where
   pub record IsCell (cell : CellValue D) : Type 0 where
     pub ins : length cell.ins ≡ cell.node.catalog.sites
     pub next : AreNext cell.node.site cell.ins (reverse cell.node.trail)
-    pub clients : cell.node.clients ≡ length cell.lines
-    pub calls : All (λ e. IfCalled (λ client. is_here cell.lines client ≡ true) e.event) cell.node.trail
+    pub calls : All (λ e. IfCall (λ client call. is_here cell.lines client ≡ true) e.event) cell.node.trail
 
   -- its trail is as before
   abbrev pub HasSameTrail : (old new : CellValue D) → Type 0
@@ -75,7 +76,7 @@ module _ {D : Type 0} where
   -- a site began over this disk with these ends of its lanes and these connections
   pub record HasBegun (g : Ghosts D) (catalog : Catalog) (capacity : ℕ) (i : SiteId) (disk : D) (outs : List Sending)
       (ins : List Receiving) (lines : List (Option LineValue)) (cell : CellValue D) : Type 0 where
-    pub node : HasOpened g catalog capacity i disk outs (length lines) cell.node
+    pub node : HasOpened g catalog capacity i disk outs cell.node
     pub ins_are : cell.ins ≡ ins
     pub lines_are : cell.lines ≡ lines
 
@@ -119,13 +120,12 @@ Acts event clock old new acted.Did = HasPlace (clock + 1) old × Grows event old
 
 -- the packet of a number that has arrived from a site, if it has
 abbrev pub arrival : List Receiving → SiteId → ℕ → Option Posted
-arrival ins j zero = None
-arrival ins j (suc before) = slice_get (arrived_from ins j.0) before
+arrival ins j number = of_number number (arrived_from ins j.0)
 
 -- the stamp that its delivery would have
-abbrev pub stamp_behind : ℕ → Option Posted → ℕ
-stamp_behind clock None = clock + 1
-stamp_behind clock (Some post) = max clock post.stamp + 1
+abbrev pub stamp_of_arrival : ℕ → Option Posted → ℕ
+stamp_of_arrival clock None = clock + 1
+stamp_of_arrival clock (Some post) = stamp_behind clock post.stamp
 
 -- no packet of this number has arrived that is one among so many sites
 abbrev pub IsMissing : ℕ → Option Posted → Type 0
@@ -134,9 +134,9 @@ IsMissing sites (Some post) = post.framed.sites ≢ sites
 
 -- what a delivery comes to: the trail is spent; or nothing has arrived; or it comes to the trail
 abbrev pub MovesTo : SiteId → ℕ → Option Posted → ℕ → ℕ → List Entry → List Entry → Moved → Type 0
-MovesTo j number post sites clock old new moved.Spent = IsSpent (stamp_behind clock post) old × (new ≡ old)
+MovesTo j number post sites clock old new moved.Spent = IsSpent (stamp_of_arrival clock post) old × (new ≡ old)
 MovesTo j number post sites clock old new moved.Nothing =
-    HasPlace (stamp_behind clock post) old × IsMissing sites post × (new ≡ old)
+    HasPlace (stamp_of_arrival clock post) old × IsMissing sites post × (new ≡ old)
 MovesTo j number post sites clock old new moved.Did =
-    HasPlace (stamp_behind clock post) old × ((there : Posted) × (packet : Packet) × (post ≡ Some there)
+    HasPlace (stamp_of_arrival clock post) old × ((there : Posted) × (packet : Packet) × (post ≡ Some there)
     × IsFramed there.framed packet × Grows (event.Given (input.Deliver j number packet)) old new)

@@ -1,6 +1,4 @@
 pub mod Entries
-pub mod Debts
-pub mod Handled
 pub mod Nodes
 pub mod Lines
 pub mod Written

@@ -1,29 +1,34 @@
 -- What contracts see of a site with its trail and its lanes, and what holds of it between two events.
 use Rattle.std.specs.Prelude.{◌≡◌, ◌<◌, ◌≤◌, ◌⊎◌, ◌^◌, ℕ, Bool, true, false, List, [], ◌∷◌, ◌++◌, Option, Some, None, IfSome, All}
-use Rattle.std.specs.Prelude.{length, reverse, slice_get, count_by, is_some}
+use Rattle.std.specs.Prelude.{reverse, slice_get, count_by, is_some, vec_len}
 use Rattle.walter_base.specs.declared.catalog.Catalog.{Catalog}
 use Rattle.walter_base.specs.declared.names.SiteId.{SiteId}
-use Rattle.walter_base.specs.declared.names.Tid.{Tid}
 use Rattle.walter_disk.specs.declared.disk.Disk.{Ghosts}
 use Rattle.walter_engine.specs.Contents.{MayHaveRecords}
 use Rattle.walter_engine.specs.Engines.{catalog_in, site_in, capacity_in, disk_in, Stands}
-use Rattle.walter_engine.specs.Steps.{opening}
 use Rattle.walter_engine.specs.declared.engine.Engine.{Engine}
 use Rattle.walter_lane.specs.Lanes.{Sending}
+use Rattle.walter_machine.specs.Comings.{IsSized, is_faulty}
+use Rattle.walter_machine.specs.Machines.{IsRoom}
 use Rattle.walter_rules.specs.declared.entry.Came.{Came}
 use Rattle.walter_rules.specs.declared.entry.Entry.{Entry}
 use Rattle.walter_rules.specs.declared.event.Event.{Event}
 use Rattle.walter_rules.specs.Rule.{rule}
 use Rattle.walter_rules.specs.Standing.{settled}
-use Rattle.walter_rules.specs.Trails.{standing, clock, IsRightTrail}
+use Rattle.walter_rules.specs.Trails.{standing, clock, opening, IsRightTrail}
 use Rattle.walter_site.specs.Members.{IsShortOutcome}
-use Rattle.walter_cell.specs.Debts.{AreOwed}
 use Rattle.walter_cell.specs.Entries.{HaveRisingStamps}
-use Rattle.walter_cell.specs.Handled.{IsSized, is_faulty}
 use Rattle.walter_outbox.specs.Lanes.{HavePut, out_rings, mets, met_to, IsPutWhereFree}
 
--- the site with its disk and its trail, the ends of its lanes to all sites, and how many clients it may owe a Gone; and
--- for how many more entries, and how many of their records, there is memory
+-- the memory that there is: for how many more entries; and of the engine whether it has lost sessions, how many places it
+-- has for records, and how many records there are
+pub record Room : Type 0 where
+  pub entries : ℕ
+  pub has_lost : Bool
+  pub places : ℕ
+  pub records : ℕ
+
+-- the site with its disk and its trail, the ends of its lanes to all sites, and the memory that there is
 pub record NodeValue (D : Type 0) : Type 0 where
   pub catalog : Catalog
   pub site : SiteId
@@ -31,30 +36,28 @@ pub record NodeValue (D : Type 0) : Type 0 where
   pub disk : Option D
   pub trail : List Entry
   pub outs : List Sending
-  pub clients : ℕ
-  pub room : ℕ
-  pub places : ℕ
+  pub room : Room
 
 -- the stamp of its last entry
 abbrev pub clock_in : {D : Type 0} → NodeValue D → ℕ
 clock_in node = clock (reverse node.trail)
 
--- there is memory for one more entry
+-- there is memory for one more entry, and for what an event leaves
 pub record IsReady {D : Type 0} (node : NodeValue D) : Type 0 where
-  pub place : 0 < node.room
-  pub records : 2 ≤ node.places
+  pub place : 0 < node.room.entries
+  pub room : IsRoom node.room.has_lost node.room.places node.room.records
 
 -- but for the memory that it has it is as before
 abbrev pub IsSameButRoom : {D : Type 0} → (old new : NodeValue D) → Type 0
-IsSameButRoom old new = new ≡ record old { room = new.room; places = new.places }
+IsSameButRoom old new = new ≡ record old { room = new.room }
 
 -- but for the ends of its lanes
 abbrev pub IsSameButLanes : {D : Type 0} → (old new : NodeValue D) → Type 0
 IsSameButLanes old new = new ≡ record old { outs = new.outs }
 
--- but for its disk
+-- but for its disk, and the memory that it has
 abbrev pub IsSameButDisk : {D : Type 0} → (old new : NodeValue D) → Type 0
-IsSameButDisk old new = new ≡ record old { disk = new.disk }
+IsSameButDisk old new = new ≡ record old { disk = new.disk; room = new.room }
 
 -- the entry of an event that came to this
 abbrev pub entry_by : ℕ → Event → Came → Entry
@@ -103,15 +106,13 @@ module _ {D : Type 0} (g : Ghosts D) where
     pub right : is_told node.disk ≡ true → IsRightTrail node.catalog node.capacity node.site node.trail
     pub leaves : is_told node.disk ≡ true → IfSome node.disk (LeavesRecords node.catalog node.site node.trail)
 
-  -- what each call keeps: which site it is, among which and over which kind of disk; its lanes, and how many clients there
-  -- are
+  -- what each call keeps: which site it is, among which and over which kind of disk; and its lanes
   pub record KeepsNode (old new : NodeValue D) : Type 0 where
     pub catalog : new.catalog ≡ old.catalog
     pub site : new.site ≡ old.site
     pub capacity : new.capacity ≡ old.capacity
     pub told : is_told new.disk ≡ is_told old.disk
     pub rings : out_rings new.outs ≡ out_rings old.outs
-    pub clients : new.clients ≡ old.clients
 
   -- an event came to it: its entry stands last in the trail. Nothing else arms the disk or makes lanes' ends meet; of what
   -- is to be put out only what finds its lane full is dropped, where the disk tells what it holds.
@@ -131,7 +132,6 @@ pub record NodeParts (D : Type 0) (g : Ghosts D) : Type 0 where
   pub trail : List Entry
   pub clock : ℕ
   pub outs : List Sending
-  pub debts : List (Option Tid)
 
 -- whatever its disk tells
 pub record IsNode {D : Type 0} {g : Ghosts D} (catalog : Catalog) (capacity : ℕ) (i : SiteId)
@@ -148,13 +148,11 @@ pub record IsNode {D : Type 0} {g : Ghosts D} (catalog : Catalog) (capacity : �
   pub faults : IfSome (disk_in node.engine) (λ disk.
       count_by (λ e. is_faulty e.came.outcome) node.trail ≤ (g.known disk).faults)
 
--- where its disk tells what it holds: the site stands as its trail says, the trail is right, and the clients are owed
--- so
+-- where its disk tells what it holds: the site stands as its trail says, and the trail is right
 pub record IsKnownNode {D : Type 0} {g : Ghosts D} (catalog : Catalog) (capacity : ℕ) (i : SiteId)
     (node : NodeParts D g) : Type 0 where
   pub stands : Stands node.engine (standing catalog i (reverse node.trail))
   pub right : IsRightTrail catalog capacity i node.trail
-  pub owed : AreOwed (standing catalog i (reverse node.trail)) node.debts
 
 -- so it is of the node's own site
 pub record IsWhole {D : Type 0} (g : Ghosts D) (node : NodeParts D g) : Type 0 where
@@ -162,16 +160,23 @@ pub record IsWhole {D : Type 0} (g : Ghosts D) (node : NodeParts D g) : Type 0 w
   pub known : is_told g (disk_in node.engine) ≡ true
       → IsKnownNode (catalog_in node.engine) (capacity_in node.engine) (site_in node.engine) node
 
+-- the memory that there is, with an engine and for so many more entries
+abbrev pub room_of : {D : Type 0} {g : Ghosts D} → ℕ → Engine D g → Room
+room_of entries engine = record {
+  entries = entries;
+  has_lost = is_some engine.machine.lost;
+  places = vec_len engine.machine.places;
+  records = engine.machine.records;
+}
+
 -- what contracts see of it
-abbrev pub seen : {D : Type 0} {g : Ghosts D} → (room places : ℕ) → NodeParts D g → NodeValue D
-seen room places node = record {
+abbrev pub seen : {D : Type 0} {g : Ghosts D} → Room → NodeParts D g → NodeValue D
+seen room node = record {
   catalog = catalog_in node.engine;
   site = site_in node.engine;
   capacity = capacity_in node.engine;
   disk = disk_in node.engine;
   trail = node.trail;
   outs = node.outs;
-  clients = length node.debts;
   room = room;
-  places = places;
 }

@@ -1,5 +1,5 @@
-ghost use Rattle.std.specs.Prelude.{◌⊎◌, ◌≡◌, ◌≢◌, ◌<◌, ◌≤◌, ◌++◌, ◌∷◌, ◌+◌, ◌↔◌, [], ℕ, List, Option, true};
-ghost use Rattle.std.specs.Prelude.{is_ok, if◌then◌else◌, length, map, option_map, Some, OnErr, OnOk, IfOk, IsTrue};
+ghost use Rattle.std.specs.Prelude.{◌≡◌, ◌≢◌, ◌<◌, ◌≤◌, ◌++◌, ◌∷◌, ◌+◌, ◌↔◌, [], ℕ, List, Option, true};
+ghost use Rattle.std.specs.Prelude.{is_ok, if◌then◌else◌, length, map, max, option_map, Some, OnErr, OnOk, IfOk, IsTrue};
 ghost use mathlib.Core.List.{IsPrefix};
 ghost use Rattle.walter_base.specs.Vectors.{most_sites};
 ghost use Rattle.walter_rules.specs.declared.event.Event.TheVariants as event;
@@ -7,6 +7,7 @@ ghost use Rattle.walter_rules.specs.declared.event.Input.TheVariants as input;
 ghost use Rattle.walter_trail.specs.Calls.{calls_of};
 ghost use Rattle.walter_cell.specs.declared.answers.Serve.TheVariants as answers;
 ghost use Rattle.walter_cell.specs.Builds.{Begins};
+ghost use Rattle.walter_cell.specs.Cells.{arrival, stamp_of_arrival};
 ghost use Rattle.walter_cell.specs.Entries.{IsPlain, IsSpent};
 ghost use Rattle.walter_cell.specs.Lines.{is_here, IsLineAt, CanFail, HasFaultAt};
 ghost use Rattle.walter_cell.specs.Nodes.{clock_in, IsSound};
@@ -22,7 +23,7 @@ use walter_base::{Catalog, Mem, SiteId};
 use walter_conn::{BrokenConn, Next};
 use walter_disk::Disk;
 use walter_engine::BeginFault;
-use walter_lane::{Inbound, Outbound};
+use walter_lane::{Inbound, Outbound, Posted};
 use walter_rules::{Event, Input};
 use walter_stream::{Sink, Source};
 use walter_trail::Trail;
@@ -54,7 +55,7 @@ impl<D: Disk, S: Source + Drop, K: Sink + Drop> Model for Cell<D, S, K> {
 
 impl<D: Disk + Drop, S: Source + Drop, K: Sink + Drop> Cell<D, S, K> {
     ghost use Rattle.walter_cell.specs.Cells.{CellValue, IsCell, Keeps, Proceeds, HasBegun, HaveMet, HasSameTrail};
-    ghost use Rattle.walter_cell.specs.Cells.{TurnsTo, Acts, MovesTo, arrival};
+    ghost use Rattle.walter_cell.specs.Cells.{TurnsTo, Acts, MovesTo};
     ghost use Rattle.walter_cell.specs.Nodes.{arms_under};
 
     /// A site over its disk, up in its first epoch. Where it doesn't begin the disk comes back.
@@ -79,7 +80,7 @@ impl<D: Disk + Drop, S: Source + Drop, K: Sink + Drop> Cell<D, S, K> {
             (HasBegun D.Disk catalog.now capacity site disk outs.items ins.items lines.items) }
         ensures begins { Begins D.Disk (λ cell. cell.node.disk) disk result }
     {
-        let node = Node::begin(alloc, disk, catalog, site, capacity, lines.len(), outs)?;
+        let node = Node::begin(alloc, disk, catalog, site, capacity, outs)?;
         Ok(Cell { node, ins, lines })
     }
 
@@ -132,7 +133,7 @@ impl<D: Disk + Drop, S: Source + Drop, K: Sink + Drop> Cell<D, S, K> {
         let Some(stamp) = self.node.next_stamp(0) else {
             return Ok(Serve::Spent);
         };
-        self.node.make_ready(alloc)?;
+        self.node.make_ready()?;
         let Some(line) = &mut self.lines[number as usize] else {
             unreachable!()
         };
@@ -143,7 +144,7 @@ impl<D: Disk + Drop, S: Source + Drop, K: Sink + Drop> Cell<D, S, K> {
         };
         let client = number;
         self.node
-            .take(alloc, stamp, Event::Given(Input::Call { client, call }));
+            .take(stamp, Event::Given(Input::Call { client, call }));
         let Some(entry) = self.node.last() else {
             unreachable!()
         };
@@ -159,12 +160,8 @@ impl<D: Disk + Drop, S: Source + Drop, K: Sink + Drop> Cell<D, S, K> {
             (clock_in self.old.node) self.old.node.trail self.new.node.trail) }
         ensures kept { OnErr result (HasSameTrail self.old self.new) }
     {
-        let post = self.ins[usize::from(from.0)].arrived(number as usize);
-        let put = match post {
-            Some(post) => post.stamp,
-            None => 0,
-        };
-        let Some(stamp) = self.node.next_stamp(put) else {
+        let post = arrival(&self.ins, from, number);
+        let Some(stamp) = self.node.next_stamp(put_stamp(post)) else {
             return Ok(Moved::Spent);
         };
         let Some(post) = post else {
@@ -173,59 +170,59 @@ impl<D: Disk + Drop, S: Source + Drop, K: Sink + Drop> Cell<D, S, K> {
         if usize::from(post.framed.sites()) != self.ins.len() {
             return Ok(Moved::Nothing);
         }
-        self.node.make_ready(alloc)?;
+        self.node.make_ready()?;
         let packet = post.framed.packet(alloc)?;
         let input = Input::Deliver {
             from,
             number,
             packet,
         };
-        self.node.take(alloc, stamp, Event::Given(input));
+        self.node.take(stamp, Event::Given(input));
         Ok(Moved::Did)
     }
 
     /// The next commit of another site is to be committed here.
-    pub fn advance(&mut self, alloc: Global, from: SiteId) -> Mem<Acted>
+    pub fn advance(&mut self, from: SiteId) -> Mem<Acted>
         ensures proceeds { Proceeds D.Disk self.old self.new }
         ensures acts { IfOk result (Acts (event.Given (input.Advance from)) (clock_in self.old.node)
             self.old.node.trail self.new.node.trail) }
         ensures kept { OnErr result (HasSameTrail self.old self.new) }
     {
-        self.act(alloc, Event::Given(Input::Advance { from }))
+        self.act(Event::Given(Input::Advance { from }))
     }
 
     /// The site says again what its peers may have missed.
-    pub fn tick(&mut self, alloc: Global) -> Mem<Acted>
+    pub fn tick(&mut self) -> Mem<Acted>
         ensures proceeds { Proceeds D.Disk self.old self.new }
         ensures acts { IfOk result (Acts (event.Given input.Tick) (clock_in self.old.node)
             self.old.node.trail self.new.node.trail) }
         ensures kept { OnErr result (HasSameTrail self.old self.new) }
     {
-        self.act(alloc, Event::Given(Input::Tick))
+        self.act(Event::Given(Input::Tick))
     }
 
     /// The site loses its memory.
-    pub fn stop(&mut self, alloc: Global) -> Mem<Acted>
+    pub fn stop(&mut self) -> Mem<Acted>
         ensures proceeds { Proceeds D.Disk self.old self.new }
         ensures acts { IfOk result (Acts event.Stop (clock_in self.old.node)
             self.old.node.trail self.new.node.trail) }
         ensures kept { OnErr result (HasSameTrail self.old self.new) }
     {
-        self.act(alloc, Event::Stop)
+        self.act(Event::Stop)
     }
 
     /// The site is made anew from its journal, if it is down.
-    pub fn restart(&mut self, alloc: Global) -> Mem<Acted>
+    pub fn restart(&mut self) -> Mem<Acted>
         ensures proceeds { Proceeds D.Disk self.old self.new }
         ensures acts { IfOk result (Acts event.Restart (clock_in self.old.node)
             self.old.node.trail self.new.node.trail) }
         ensures kept { OnErr result (HasSameTrail self.old self.new) }
     {
-        self.act(alloc, Event::Restart)
+        self.act(Event::Restart)
     }
 
     /// An event that brings nothing comes to the site.
-    pub fn act(&mut self, alloc: Global, event: Event) -> Mem<Acted>
+    pub fn act(&mut self, event: Event) -> Mem<Acted>
         requires { IsPlain event }
         ensures proceeds { Proceeds D.Disk self.old self.new }
         ensures acts { IfOk result (Acts event (clock_in self.old.node)
@@ -235,8 +232,8 @@ impl<D: Disk + Drop, S: Source + Drop, K: Sink + Drop> Cell<D, S, K> {
         let Some(stamp) = self.node.next_stamp(0) else {
             return Ok(Acted::Spent);
         };
-        self.node.make_ready(alloc)?;
-        self.node.take(alloc, stamp, event);
+        self.node.make_ready()?;
+        self.node.take(stamp, event);
         Ok(Acted::Did)
     }
 
@@ -264,6 +261,24 @@ impl<D: Disk + Drop, S: Source + Drop, K: Sink + Drop> Cell<D, S, K> {
             (map (posted sender.old.node.catalog.sites) (put_out_to to sender.old.node.trail)) }
     {
         sender.node.compare(to, &mut self.ins[usize::from(from.0)]);
+    }
+}
+
+// The packet of this number among those that have arrived from a site, from 1.
+fn arrival(ins: &[Inbound], from: SiteId, number: u32) -> Option<&Posted>
+    requires { from.0 < length ins.now }
+    ensures { option_map (λ p. p.now) result ≡ arrival ins.now from number }
+{
+    ins[usize::from(from.0)].arrived(number as usize)
+}
+
+// The stamp with which a packet was put out, or 0 where there is none.
+fn put_stamp(post: Option<&Posted>) -> u64
+    ensures { (clock : ℕ) → max clock result + 1 ≡ stamp_of_arrival clock (option_map (λ p. p.now) post.entry) }
+{
+    match post {
+        Some(post) => post.stamp,
+        None => 0,
     }
 }
 

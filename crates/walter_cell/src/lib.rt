@@ -4,11 +4,8 @@
 
 mod answers;
 mod cell;
-mod debt;
-mod handling;
 mod line;
 mod node;
-mod places;
 
 pub use answers::{Acted, Moved, Serve};
 pub use cell::Cell;

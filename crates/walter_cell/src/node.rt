@@ -1,21 +1,20 @@
-ghost use Rattle.std.specs.Prelude.{◌≡◌, ◌<◌, ◌≤◌, ◌-◌, ◌⊎◌, ◌^◌, ◌++◌, ◌+◌, ◌≢◌, ◌∷◌, [], ℕ, List, max, slice_get, length};
-ghost use Rattle.std.specs.Prelude.{vec_len, vec_capacity, option_map, is_some, Some, IsSome, OnErr, OnOk, IfOk, IfErr, IfSome, IfNone};
+ghost use Rattle.std.specs.Prelude.{◌≡◌, ◌<◌, ◌≤◌, ◌-◌, ◌++◌, ◌+◌, ◌≢◌, ◌∷◌, [], ℕ, max, slice_get, length};
+ghost use Rattle.std.specs.Prelude.{vec_len, vec_capacity, option_map, Some, OnErr, OnOk, IfOk, IfErr, IfSome, IfNone};
 ghost use mathlib.Core.List.{IsPrefix};
 ghost use Rattle.walter_base.specs.Vectors.{most_sites};
-ghost use Rattle.walter_engine.specs.Steps.{opening};
+ghost use Rattle.walter_engine.specs.Engines.{IsRoomy};
 ghost use Rattle.walter_engine.specs.declared.answers.BeginFault.TheVariants as unbegun;
-ghost use Rattle.walter_cell.specs.Builds.{AreFree, Begins, HasOpened, IsNewEngine};
-ghost use Rattle.walter_cell.specs.Entries.{IsSpent, HasPlace, IsOfClients, IsSizedEvent};
+ghost use Rattle.walter_machine.specs.States.{IsSizedEvent};
+ghost use Rattle.walter_cell.specs.Builds.{Begins, HasOpened, IsNewEngine};
+ghost use Rattle.walter_cell.specs.Entries.{IsSpent, HasPlace};
 ghost use Rattle.walter_outbox.specs.Lanes.{put_to, met_to, mets, ring_to, out_rings};
+ghost use Rattle.walter_rules.specs.Trails.{opening};
 
-use crate::debt::{debt_of, settle};
-use crate::handling::{Handled, handle};
-use crate::places::make_places;
 use std::alloc::Global;
 use std::marker::Model;
-use walter_base::{Catalog, Mem, Record, RecordPlace, SiteId, Tid};
+use walter_base::{Catalog, Mem, Record, RecordPlace, SiteId};
 use walter_disk::Disk;
-use walter_engine::{Engine, BeginFault};
+use walter_engine::{BeginFault, Effect, Engine};
 use walter_lane::{Inbound, Outbound, compare, meet};
 use walter_outbox::put_out;
 use walter_rules::{Came, Entry, Event, Outcome};
@@ -27,8 +26,8 @@ const MOST_ENTRIES: usize = 100_000;
 /// The first stamp that no entry has.
 const END_OF_STAMPS: u64 = 1 << 62;
 
-/// A site over its disk with its trail, its ends of the lanes to the other sites, and the transactions that were lost
-/// of which a client wasn't told yet. All but the site outlives a stop.
+/// A site over its disk with its trail, and its ends of the lanes to the other sites. All but what the site knows outlives
+/// a stop.
 #[derive(Drop)]
 pub struct Node<D: Disk> {
     // Behind a box, so that the size of what has a node doesn't depend on the disk's.
@@ -37,8 +36,6 @@ pub struct Node<D: Disk> {
     // The stamp of the last entry.
     clock: u64,
     outs: Vec<Outbound>,
-    debts: Vec<Option<Tid>>,
-    places: Vec<RecordPlace>,
 }
 
 impl<D: Disk> Model for Node<D> {
@@ -47,18 +44,17 @@ impl<D: Disk> Model for Node<D> {
     ghost use Rattle.walter_base.specs.contracts.catalog.Catalog as coded_catalog;
     ghost use Rattle.walter_lane.specs.Lanes.{sending_code};
     ghost use Rattle.walter_rules.specs.contracts.entry.Entry as coded_entry;
-    ghost use Rattle.walter_cell.specs.Nodes.{NodeValue, IsWhole, seen};
+    ghost use Rattle.walter_cell.specs.Nodes.{NodeValue, IsWhole, room_of, seen};
 
     ghost Value = { NodeValue D };
 
     ghost coded = { Prim.hlevel (codes, coded_catalog.the_row.coded, coded_entry.the_row.coded, sending_code) };
 
-    ghost view = { λ n. seen (vec_capacity n.entries - vec_len n.entries) (vec_len n.places) (record {
+    ghost view = { λ n. seen (room_of (vec_capacity n.entries - vec_len n.entries) n.engine.value) (record {
       engine = n.engine.value;
       trail = n.entries.items;
       clock = n.clock;
       outs = n.outs.items;
-      debts = n.debts.items;
     }) };
 
     ghost invariant = { λ n. IsWhole D.Disk (record {
@@ -66,24 +62,22 @@ impl<D: Disk> Model for Node<D> {
       trail = n.entries.items;
       clock = n.clock;
       outs = n.outs.items;
-      debts = n.debts.items;
     }) };
 }
 
 impl<D: Disk + Drop> Node<D> {
     ghost use Rattle.walter_rules.specs.Trails.{IsNextStamp};
     ghost use Rattle.walter_cell.specs.Nodes.{clock_in, IsReady, IsSameButRoom, IsSameButLanes, IsSameButDisk};
-    ghost use Rattle.walter_cell.specs.Nodes.{IsSound, KeepsNode, Takes, arms_under, is_told};
+    ghost use Rattle.walter_cell.specs.Nodes.{IsSound, Takes, arms_under, is_told};
 
-    /// A site over its disk, up in its first epoch, for so many clients. Where it doesn't begin the disk comes back.
-    #[tactic(auto, using(crate::proofs::Wholes::has_disk))]
+    /// A site over its disk, up in its first epoch. Where it doesn't begin the disk comes back.
+    #[tactic(auto, using(crate::proofs::Nodes::has_disk))]
     pub fn begin(
         alloc: Global,
         disk: D,
         catalog: &Catalog,
         site: SiteId,
         capacity: u64,
-        clients: usize,
         outs: Vec<Outbound>,
     ) -> Result<Node<D>, (D, BeginFault)>
         requires here { site.0 < catalog.now.sites }
@@ -92,10 +86,10 @@ impl<D: Disk + Drop> Node<D> {
         requires place { 19 ≤ capacity }
         requires lanes { length outs.items ≡ catalog.now.sites }
         requires empty { (k : ℕ) → k < catalog.now.sites → put_to outs.items k ≡ [] }
-        ensures opens { IfOk result (HasOpened D.Disk catalog.now capacity site disk outs.items clients) }
+        ensures opens { IfOk result (HasOpened D.Disk catalog.now capacity site disk outs.items) }
         ensures begins { Begins D.Disk (λ node. node.disk) disk result }
     {
-        let Ok((debts, mut entries, place)) = open(alloc, clients) else {
+        let Ok((mut entries, place)) = open(alloc) else {
             return Err((disk, BeginFault::NoMemory));
         };
         let mut engine = new_engine(alloc, disk, catalog, site, capacity)?;
@@ -108,8 +102,6 @@ impl<D: Disk + Drop> Node<D> {
             entries,
             clock: 1,
             outs,
-            debts,
-            places: Vec::new(alloc),
         })
     }
 
@@ -149,33 +141,24 @@ impl<D: Disk + Drop> Node<D> {
     }
 
     /// Takes the memory for one more entry.
-    pub fn make_ready(&mut self, alloc: Global) -> Mem<()>
+    pub fn make_ready(&mut self) -> Mem<()>
         ensures ready { OnOk result (IsReady self.new) }
         ensures same { IsSameButRoom self.old self.new }
     {
         self.entries.reserve(1)?;
-        make_places(alloc, &mut self.places)
+        self.engine.make_room()
     }
 
     /// An event comes to the site, with this stamp: its entry comes to the trail, and what it puts out to the lanes.
-    pub fn take(&mut self, alloc: Global, stamp: u64, event: Event)
+    pub fn take(&mut self, stamp: u64, event: Event)
         requires ready { IsReady self.old }
         requires place { HasPlace stamp self.old.trail }
         requires next { IsNextStamp event (clock_in self.old) stamp }
         requires sized { IsSizedEvent self.old.catalog.sites event }
-        requires owed { IsOfClients self.old.clients event }
         ensures { Takes D.Disk stamp event self.old self.new }
     {
-        let debt = debt_of(&self.debts, &event);
-        let Handled { came, frames, lost } = handle(
-            alloc,
-            &mut self.engine,
-            &mut self.places,
-            debt,
-            &event,
-        );
+        let Effect { came, frames, .. } = self.engine.take(&event);
         let (sends, dropped) = put_out(&mut self.outs, stamp, came.sends, frames);
-        settle(&mut self.debts, &event, &came.outcome, &lost);
         self.clock = stamp;
         self.entries.push_reserved(Entry {
             stamp,
@@ -232,7 +215,7 @@ impl<D: Disk + Drop> Node<D> {
     }
 }
 
-// The site, down over its disk. Where there is no memory the disk comes back.
+// The site, down over its disk, with memory for its first entry. Where there is none the disk comes back.
 fn new_engine<D: Disk + Drop>(
     alloc: Global,
     disk: D,
@@ -244,11 +227,15 @@ fn new_engine<D: Disk + Drop>(
     requires most { catalog.now.sites ≤ most_sites }
     requires fewer { catalog.now.tolerated < catalog.now.sites }
     ensures ok { IfOk result (λ engine. IsNewEngine catalog.now capacity site disk engine.value) }
+    ensures room { IfOk result (λ engine. IsRoomy engine.value) }
     ensures back { IfErr result (λ back. (back.0 ≡ disk) × (back.1 ≡ unbegun.NoMemory)) }
 {
-    let engine = match Engine::new(alloc, disk, catalog, site, capacity) {
+    let mut engine = match Engine::new(alloc, disk, catalog, site, capacity) {
         Ok(engine) => engine,
         Err(disk) => return Err((disk, BeginFault::NoMemory)),
+    };
+    let Ok(()) = engine.make_room() else {
+        return Err((engine.into_disk(), BeginFault::NoMemory));
     };
     match Box::new(alloc, engine) {
         Ok(engine) => Ok(engine),
@@ -270,16 +257,10 @@ fn opening_of(alloc: Global, place: RecordPlace) -> Entry
     }
 }
 
-// A debt for each client, and an empty trail with places for the first entry and its record.
-fn open(alloc: Global, clients: usize) -> Mem<(Vec<Option<Tid>>, Vec<Entry>, RecordPlace)>
-    ensures debts { IfOk result (λ parts. AreFree clients parts.0.items) }
-    ensures entries { IfOk result (λ parts. parts.1.items ≡ []) }
-    ensures place { IfOk result (λ parts. 0 < vec_capacity parts.1) }
+// An empty trail with places for the first entry and its record.
+fn open(alloc: Global) -> Mem<(Vec<Entry>, RecordPlace)>
+    ensures entries { IfOk result (λ parts. parts.0.items ≡ []) }
+    ensures place { IfOk result (λ parts. 0 < vec_capacity parts.0) }
 {
-    let debts = vec![in alloc; None; clients]?;
-    Ok((
-        debts,
-        Vec::with_capacity(alloc, 1)?,
-        RecordPlace::new(alloc)?,
-    ))
+    Ok((Vec::with_capacity(alloc, 1)?, RecordPlace::new(alloc)?))
 }

@@ -9,18 +9,17 @@ use Rattle.walter_base.proofs.NameTests.{same_site-true}
 use Rattle.walter_base.specs.declared.names.SiteId.{SiteId}
 use Rattle.walter_alone.proofs.Promised.{entry_answered, entry_received, entry_seen, entry_locked, entry_hindered}
 use Rattle.walter_cell.specs.Cells.{CellValue, IsCell}
-use Rattle.walter_cell.specs.Entries.{HaveRisingStamps, IfCalled}
-use Rattle.walter_cell.specs.Handled.{IsSized}
+use Rattle.walter_cell.specs.Entries.{HaveRisingStamps}
+use Rattle.walter_machine.specs.Comings.{IsSized}
 use Rattle.walter_cell.specs.Lines.{is_here}
 use Rattle.walter_cell.specs.Nodes.{IsSound}
-use Rattle.walter_cell.proofs.Taken.{if_called}
+use Rattle.walter_cell.proofs.Taken.{if_call}
 use Rattle.walter_cluster.specs.Benches.{BenchValue, IsOf, IsBench, IsToldAt, AreAllConnected, AtEach, trails_of, is_site, is_home}
 use Rattle.walter_cluster.proofs.Changes.{there_is}
 use Rattle.walter_cluster.proofs.Keeping.{home_within}
 use Rattle.walter_conn.proofs.Standings.{calls_of as calls_told}
 use Rattle.walter_conn.specs.Sequences.{HasCalled}
 use Rattle.walter_disk.specs.declared.disk.Disk.{Ghosts}
-use Rattle.walter_engine.specs.Steps.{opening}
 use Rattle.walter_linked.specs.Catalogs.{IsWhole}
 use Rattle.walter_linked.proofs.Whole.{trails_got, trails_marks}
 use Rattle.walter_refinement.proofs.Trails.{trails_legal, trails_once, trails_named}
@@ -33,7 +32,8 @@ use Rattle.walter_rules.specs.declared.outcome.Outcome.{Outcome}
 use Rattle.walter_rules.specs.declared.outcome.Outcome.TheVariants.{Replied, Taken, Passed, Failed, Full, Memory as IsMemory, Down as IsDown, Refused as IsRefused}
 use Rattle.walter_rules.specs.Knowledge.{site_at}
 use Rattle.walter_rules.specs.Merges.{trail_of, AreLinked}
-use Rattle.walter_rules.specs.Trails.{AreRight, IsRightTrail}
+use Rattle.walter_rules.specs.Kinds.{IfCall}
+use Rattle.walter_rules.specs.Trails.{AreRight, IsRightTrail, opening}
 use Rattle.walter_runs.specs.Runs.{AreRightTrails}
 use Rattle.walter_scenario.specs.declared.scenario.Client.{Client}
 use Rattle.walter_scenario.specs.declared.scenario.Scenario.{Scenario}
@@ -158,9 +158,9 @@ module _ {D : Type 0} (g : Ghosts D) (t : Scenario) (bench : BenchValue D) (of :
     within = λ i below.
         at_each (λ i es. All (λ e. IsOfSite t.clients (site_at i) e.event) es)
         (λ i cell at.
-        All-weaker (λ (e : Entry). IfCalled (λ number. is_here cell.lines number ≡ true) e.event)
+        All-weaker (λ (e : Entry). IfCall (λ number call. is_here cell.lines number ≡ true) e.event)
         (λ (e : Entry). IsOfSite t.clients (site_at i) e.event)
-        (λ e called. if_called (λ number. is_here cell.lines number ≡ true) _ e.event (λ number here. call_is i cell at number here) called)
+        (λ e called. if_call (λ number call. is_here cell.lines number ≡ true) _ e.event (λ number call here. call_is i cell at number here) called)
         cell.node.trail (sound i cell at).1.calls)
         i (let l = one_each in omega (arith, below, l));
     front = λ number client at.

@@ -2,7 +2,7 @@
 -- where the scenario arms them. Nothing here has a premise on disks.
 use Rattle.std.specs.Prelude.{◌≡◌, ◌≢◌, ◌<◌, ◌↔◌, ◌⊎◌, ℕ, Bool, List, [], count_by, Some, String}
 use Rattle.std.specs.Global.{Global}
-use Rattle.walter_cell.specs.Handled.{is_faulty}
+use Rattle.walter_machine.specs.Comings.{is_faulty}
 use Rattle.walter_play.specs.Scripts.{IsPlayed, all_arms}
 use Rattle.walter_rules.specs.declared.entry.Entry.{Entry}
 use Rattle.walter_scenario.specs.declared.place.Detail.{Detail}

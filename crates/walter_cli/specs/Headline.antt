@@ -2,13 +2,12 @@
 use Rattle.std.specs.Prelude.{◌≡◌, ◌≢◌, ◌<◌, ◌≤◌, ◌↔◌, ◌⊎◌, ℕ, Bool, List, [], ◌∷◌, length, reverse, count_by, ◌++◌, slice_get, Option, Some, IfSome, String, All}
 use Rattle.std.specs.Global.{Global}
 use Rattle.walter_base.specs.declared.names.SiteId.{SiteId}
-use Rattle.walter_cell.specs.Entries.{HaveRisingStamps, IfCalled}
-use Rattle.walter_cell.specs.Handled.{is_faulty}
+use Rattle.walter_cell.specs.Entries.{HaveRisingStamps}
+use Rattle.walter_machine.specs.Comings.{is_faulty}
 use Rattle.walter_conn.specs.Sequences.{AreCalls}
 use Rattle.walter_disk.specs.Disks.{DiskState}
 use Rattle.walter_engine.specs.Begins.{HasNoRecord}
 use Rattle.walter_engine.specs.Contents.{MayHaveRecords}
-use Rattle.walter_engine.specs.Steps.{opening}
 use Rattle.walter_linked.specs.Marks.{AreGotRight, AreMarksTrue}
 use Rattle.walter_play.specs.Scripts.{IsPlayed, all_arms}
 use Rattle.walter_psi.specs.Legal.{IsLegal}
@@ -19,7 +18,8 @@ use Rattle.walter_rules.specs.declared.entry.Entry.{Entry}
 use Rattle.walter_rules.specs.declared.event.Event.{Event}
 use Rattle.walter_rules.specs.Knowledge.{site_at}
 use Rattle.walter_rules.specs.Merges.{Named, merge, trail_of, AreLinked}
-use Rattle.walter_rules.specs.Trails.{standing}
+use Rattle.walter_rules.specs.Kinds.{IfCall}
+use Rattle.walter_rules.specs.Trails.{opening, standing}
 use Rattle.walter_runs.specs.Runs.{AreRightTrails}
 use Rattle.walter_scenario.specs.declared.place.Detail.{Detail}
 use Rattle.walter_scenario.specs.declared.place.Place.{Place}
@@ -80,7 +80,7 @@ trail_at trails i = trail_of trails (site_at i)
 -- a call is of a client of this site
 abbrev pub IsOfSite : List Client → SiteId → Event → Type 0
 IsOfSite clients i event =
-    IfCalled (λ number. (client : Client) × (slice_get clients number ≡ Some client) × (client.site ≡ i)) event
+    IfCall (λ number call. (client : Client) × (slice_get clients number ≡ Some client) × (client.site ≡ i)) event
 
 -- each call in the trail of a site is of one of its clients, and the calls of each client are the first ones of its
 -- bytes

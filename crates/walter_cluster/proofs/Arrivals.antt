@@ -15,7 +15,7 @@ use Rattle.walter_cell.specs.declared.answers.Moved.TheVariants as moved
 use Rattle.walter_cell.specs.Cells.{CellValue, MovesTo, arrival}
 use Rattle.walter_cell.specs.Cells as cell
 use Rattle.walter_cell.specs.Entries.{Grows, HasPlace, IsSpent}
-use Rattle.walter_cell.specs.Handled.{IsSized}
+use Rattle.walter_machine.specs.Comings.{IsSized}
 use Rattle.walter_cell.specs.Nodes.{NodeValue, MayDrop, clock_in, is_told}
 use Rattle.walter_disk.specs.declared.disk.Disk.{Ghosts}
 use Rattle.walter_lane.specs.Lanes.{Receiving}

@@ -12,7 +12,7 @@ use Rattle.walter_cell.specs.Cells.{CellValue}
 use Rattle.walter_cell.specs.Lines.{LineValue, IsLine, is_here, is_there}
 use Rattle.walter_cell.specs.Written.{replies_to, AreWritten}
 use Rattle.walter_disk.specs.declared.disk.Disk.{Ghosts}
-use Rattle.walter_engine.specs.Steps.{opening}
+use Rattle.walter_rules.specs.Trails.{opening}
 use Rattle.walter_lane.specs.Lanes.{Sending, Receiving}
 use Rattle.walter_outbox.specs.Lanes.{met_to, arrived_from, ring_to, ring_from}
 use Rattle.walter_rules.specs.declared.entry.Entry.{Entry}

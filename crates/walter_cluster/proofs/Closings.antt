@@ -6,7 +6,7 @@ use Rattle.std.proofs.lemmas.List.Elements.{All-contains, All-weaker}
 use mathlib.Core.List.{IsPrefix}
 use Rattle.walter_base.specs.declared.names.SiteId.{SiteId}
 use Rattle.walter_cell.specs.Cells.{CellValue, IsCell}
-use Rattle.walter_cell.specs.Handled.{IsSized}
+use Rattle.walter_machine.specs.Comings.{IsSized}
 use Rattle.walter_cell.specs.Nodes.{IsSound}
 use Rattle.walter_disk.specs.declared.disk.Disk.{Ghosts}
 use Rattle.walter_lane.specs.Lanes.{Sending, Receiving}

@@ -43,7 +43,7 @@ module _ {D : Type 0} (g : Ghosts D) where
 
   pub keeps_self : (c : CellValue D) → cell.Keeps g c c
   keeps_self c = record {
-    node = record { catalog = refl; site = refl; capacity = refl; told = refl; rings = refl; clients = refl };
+    node = record { catalog = refl; site = refl; capacity = refl; told = refl; rings = refl };
     ins = refl;
     here = λ client. refl;
     connected = λ client bytes is. is;
@@ -58,7 +58,6 @@ module _ {D : Type 0} (g : Ghosts D) where
       capacity = second.node.capacity ∙ first.node.capacity;
       told = second.node.told ∙ first.node.told;
       rings = second.node.rings ∙ first.node.rings;
-      clients = second.node.clients ∙ first.node.clients;
     };
     ins = second.ins ∙ first.ins;
     here = λ client. second.here client ∙ first.here client;

@@ -5,7 +5,7 @@ use Rattle.std.proofs.lemmas.Bool.{cases_lt, cases_eq}
 use Rattle.std.proofs.lemmas.Option.{slice_get-map, slice_get_past, slice_get_within}
 use Rattle.walter_cell.specs.Cells.{CellValue, HaveMet}
 use Rattle.walter_cell.specs.Cells as cell
-use Rattle.walter_cell.specs.Handled.{IsSized}
+use Rattle.walter_machine.specs.Comings.{IsSized}
 use Rattle.walter_cell.specs.Lines.{IsLineAt, is_here}
 use Rattle.walter_cell.specs.Nodes.{NodeValue, IsSound, arms_under, is_told}
 use Rattle.walter_cell.specs.Written.{AreWrittenAt}
@@ -48,7 +48,6 @@ module _ {D : Type 0} where
       capacity = ap (λ (n : NodeValue D). n.capacity) stay.node;
       told = ap (λ (n : NodeValue D). is_told g n.disk) stay.node;
       rings = stay.outs;
-      clients = ap (λ (n : NodeValue D). n.clients) stay.node;
     };
     ins = stay.ins;
     here = λ client. ap (λ ls. is_here ls client) stay.lines;

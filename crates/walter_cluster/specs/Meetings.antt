@@ -2,7 +2,7 @@
 use Rattle.std.specs.Prelude.{◌≡◌, ◌<◌, ℕ, List, length, map, slice_get, Some, All}
 use mathlib.Core.List.{IsPrefix}
 use Rattle.walter_cell.specs.Cells.{CellValue}
-use Rattle.walter_cell.specs.Handled.{IsSized}
+use Rattle.walter_machine.specs.Comings.{IsSized}
 use Rattle.walter_cell.specs.Nodes.{IsSameButLanes}
 use Rattle.walter_lane.specs.declared.posted.Posted.{Posted}
 use Rattle.walter_outbox.specs.Lanes.{put_to, arrived_from, met_to, posted, ring_to, ring_from, out_rings, in_rings}

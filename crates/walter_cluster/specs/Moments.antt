@@ -10,14 +10,13 @@ use Rattle.walter_cell.specs.Cells.{CellValue, TurnsTo, Acts}
 use Rattle.walter_cell.specs.Entries.{IsSpent, HasPlace, Grows}
 use Rattle.walter_cell.specs.Nodes.{MayDrop}
 use Rattle.walter_disk.specs.declared.disk.Disk.{Ghosts}
-use Rattle.walter_engine.specs.Steps.{opening}
 use Rattle.walter_outbox.specs.Lanes.{arrived_from}
 use Rattle.walter_rules.specs.declared.entry.Entry.{Entry}
 use Rattle.walter_rules.specs.declared.event.Event.{Event}
 use Rattle.walter_rules.specs.declared.event.Event.TheVariants as event
 use Rattle.walter_rules.specs.declared.event.Input.TheVariants as input
 use Rattle.walter_rules.specs.Merges.{Stamped, put_out_to, trail_of}
-use Rattle.walter_rules.specs.Trails.{clock}
+use Rattle.walter_rules.specs.Trails.{clock, opening}
 use Rattle.walter_cluster.specs.Benches.{BenchValue, AreMet, IsToldAt, trails_of, ins_at}
 
 -- the trails of all sites, in order; and how many packets have arrived at a site from another

@@ -92,7 +92,7 @@ impl<D: Disk + Drop, S: Source + Drop, K: Sink + Drop> Bench<D, S, K> {
     }
 
     /// The next commit of another site is to be committed at this one.
-    pub fn advance(&mut self, alloc: Global, at: SiteId, from: SiteId) -> Mem<Acted>
+    pub fn advance(&mut self, at: SiteId, from: SiteId) -> Mem<Acted>
         requires { at.0 < length self.old.cells }
         ensures keeps { Keeps D.Disk self.old self.new }
         ensures acts { IfOk result (ActsAt at (event.Given (input.Advance from)) (moment_of self.old.cells)
@@ -101,11 +101,11 @@ impl<D: Disk + Drop, S: Source + Drop, K: Sink + Drop> Bench<D, S, K> {
         ensures kept { OnErr result ((moment_of self.new.cells).trails ≡ (moment_of self.old.cells).trails) }
         ensures arms { HasSameArms D.Disk self.old self.new }
     {
-        self.act(alloc, at, Event::Given(Input::Advance { from }))
+        self.act(at, Event::Given(Input::Advance { from }))
     }
 
     /// A site says again what its peers may have missed.
-    pub fn tick(&mut self, alloc: Global, site: SiteId) -> Mem<Acted>
+    pub fn tick(&mut self, site: SiteId) -> Mem<Acted>
         requires { site.0 < length self.old.cells }
         ensures keeps { Keeps D.Disk self.old self.new }
         ensures acts { IfOk result (ActsAt site (event.Given input.Tick) (moment_of self.old.cells)
@@ -114,11 +114,11 @@ impl<D: Disk + Drop, S: Source + Drop, K: Sink + Drop> Bench<D, S, K> {
         ensures kept { OnErr result ((moment_of self.new.cells).trails ≡ (moment_of self.old.cells).trails) }
         ensures arms { HasSameArms D.Disk self.old self.new }
     {
-        self.act(alloc, site, Event::Given(Input::Tick))
+        self.act(site, Event::Given(Input::Tick))
     }
 
     /// A site loses its memory.
-    pub fn stop(&mut self, alloc: Global, site: SiteId) -> Mem<Acted>
+    pub fn stop(&mut self, site: SiteId) -> Mem<Acted>
         requires { site.0 < length self.old.cells }
         ensures keeps { Keeps D.Disk self.old self.new }
         ensures acts { IfOk result (ActsAt site event.Stop (moment_of self.old.cells) (moment_of self.new.cells)) }
@@ -126,11 +126,11 @@ impl<D: Disk + Drop, S: Source + Drop, K: Sink + Drop> Bench<D, S, K> {
         ensures kept { OnErr result ((moment_of self.new.cells).trails ≡ (moment_of self.old.cells).trails) }
         ensures arms { HasSameArms D.Disk self.old self.new }
     {
-        self.act(alloc, site, Event::Stop)
+        self.act(site, Event::Stop)
     }
 
     /// A site is made anew from its journal, if it is down.
-    pub fn restart(&mut self, alloc: Global, site: SiteId) -> Mem<Acted>
+    pub fn restart(&mut self, site: SiteId) -> Mem<Acted>
         requires { site.0 < length self.old.cells }
         ensures keeps { Keeps D.Disk self.old self.new }
         ensures acts { IfOk result (ActsAt site event.Restart (moment_of self.old.cells) (moment_of self.new.cells)) }
@@ -138,11 +138,11 @@ impl<D: Disk + Drop, S: Source + Drop, K: Sink + Drop> Bench<D, S, K> {
         ensures kept { OnErr result ((moment_of self.new.cells).trails ≡ (moment_of self.old.cells).trails) }
         ensures arms { HasSameArms D.Disk self.old self.new }
     {
-        self.act(alloc, site, Event::Restart)
+        self.act(site, Event::Restart)
     }
 
     // An event that brings nothing comes to a site.
-    fn act(&mut self, alloc: Global, site: SiteId, event: Event) -> Mem<Acted>
+    fn act(&mut self, site: SiteId, event: Event) -> Mem<Acted>
         requires there { site.0 < length self.old.cells }
         requires plain { IsPlain event }
         ensures keeps { Keeps D.Disk self.old self.new }
@@ -151,7 +151,7 @@ impl<D: Disk + Drop, S: Source + Drop, K: Sink + Drop> Bench<D, S, K> {
         ensures kept { OnErr result ((moment_of self.new.cells).trails ≡ (moment_of self.old.cells).trails) }
         ensures arms { HasSameArms D.Disk self.old self.new }
     {
-        self.cells[usize::from(site.0)].act(alloc, event)
+        self.cells[usize::from(site.0)].act(event)
     }
 
     /// Does to a site's disk what `Disk::arm` does.

@@ -66,16 +66,16 @@ fn take_step<D: Disk + Drop>(
             bench.deliver(alloc, to, from, number)?;
         }
         Step::Advance { at, from } => {
-            bench.advance(alloc, at, from)?;
+            bench.advance(at, from)?;
         }
         Step::Tick(site) => {
-            bench.tick(alloc, site)?;
+            bench.tick(site)?;
         }
         Step::Stop(site) => {
-            bench.stop(alloc, site)?;
+            bench.stop(site)?;
         }
         Step::Restart(site) => {
-            bench.restart(alloc, site)?;
+            bench.restart(site)?;
         }
         Step::Arm(Arm { site, nth, choice }) => bench.arm(site, nth, choice)?,
     }

@@ -2,18 +2,16 @@
 ghost use Rattle.std.specs.Prelude.{◌≡◌, ◌<◌, ◌≤◌, IfOk};
 ghost use Rattle.walter_base.specs.Vectors.{most_sites};
 ghost use Rattle.walter_engine.specs.Engines.{catalog_in};
-ghost use Rattle.walter_site.specs.Members.{IsSizedInput, IsShortOutcome};
+ghost use Rattle.walter_machine.specs.States.{IsSizedEvent};
+ghost use Rattle.walter_site.specs.Members.{IsShortOutcome};
 
 use std::alloc::Global;
 use std::test::Fail;
-use walter_base::{
-    Call, Catalog, Kind, Mem, NoMemory, Record, Refusal, Reply, Request, Sends, SiteId, Tid,
-};
+use walter_base::{Call, Catalog, Kind, Mem, Sends, SiteId};
 use walter_disk_memory::MemoryDisk;
-use walter_engine::{Engine, Restarted, Stepped};
+use walter_engine::{Effect, Engine};
 use walter_packet::Framed;
-use walter_rules::{Input, Outcome};
-use walter_session::Sessions;
+use walter_rules::{Event, Input, Outcome};
 
 const CAPACITY: u64 = 1_000_000;
 
@@ -29,36 +27,13 @@ pub(crate) enum Act {
     Restart,
 }
 
-// What an input comes to where the disk failed under this record.
-fn failed(input: &Input, flight: &Record) -> Outcome
-    ensures { IsShortOutcome result }
-{
-    match (input, flight) {
-        (Input::Call { .. }, Record::Own(_, tx) | Record::SlowBegin(_, tx)) => {
-            Outcome::Replied(Reply::Unsure(tx.tid))
-        }
-        _ => Outcome::Failed,
-    }
-}
-
-// What it comes to where the site is down.
-fn refused(input: &Input) -> Outcome
-    ensures { IsShortOutcome result }
-{
-    match input {
-        Input::Call { .. } => Outcome::Replied(Reply::Refused(Refusal::Down)),
-        _ => Outcome::Down,
-    }
-}
-
-/// A site, with what it has put out, and the transactions that it lost when it went down.
+/// A site, with what it has put out.
 #[derive(Drop)]
 pub(crate) struct Host {
     engine: Engine<MemoryDisk>,
     sites: u8,
     // to each site
     lanes: Vec<Vec<Framed>>,
-    lost: Option<Sessions>,
     ghost among: { (catalog_in engine).sites ≡ sites },
 }
 
@@ -99,6 +74,7 @@ impl Host {
         let Ok(mut engine) = Engine::new(alloc, disk, catalog, id, CAPACITY) else {
             return Err("there is no memory".into());
         };
+        engine.make_room()?;
         let Ok(()) = engine.begin() else {
             return Err("the site did not begin".into());
         };
@@ -106,55 +82,17 @@ impl Host {
             engine,
             sites: catalog.sites,
             lanes,
-            lost: None,
         })
     }
 
-    fn give(&mut self, input: &Input) -> Mem<Outcome>
-        requires sized { IsSizedInput self.old.sites input.now }
+    fn take(&mut self, event: &Event) -> Mem<Outcome>
+        requires sized { IsSizedEvent self.old.sites event.now }
         ensures short { IfOk result IsShortOutcome }
     {
-        match self.engine.step(input) {
-            Stepped::Done {
-                outcome,
-                wrote: _,
-                sends,
-                frames,
-            } => {
-                put_all_out(&mut self.lanes, &sends, frames)?;
-                Ok(outcome)
-            }
-            Stepped::Failed { flight, lost } => {
-                self.lost = Some(lost);
-                Ok(failed(input, &flight))
-            }
-            Stepped::Full { need, left } => Ok(Outcome::Full { need, left }),
-            Stepped::Down => Ok(refused(input)),
-            Stepped::NoMemory => Err(NoMemory),
-        }
-    }
-
-    // The transaction that the client lost, which it is told once.
-    fn gone(&mut self, client: u32) -> Option<Tid> {
-        let Some(lost) = &mut self.lost else {
-            return None;
-        };
-        let tid = lost.get(client)?.tid;
-        lost.end(client);
-        Some(tid)
-    }
-
-    fn call(&mut self, client: u32, call: Call) -> Mem<Outcome>
-        ensures short { IfOk result IsShortOutcome }
-    {
-        let is_told = self.engine.is_up() && !matches!(&call, Ok(Request::Level(_)) | Err(_));
-        if is_told {
-            if let Some(tid) = self.gone(client) {
-                let refusal = Refusal::Gone { tid };
-                return Ok(Outcome::Replied(Reply::Refused(refusal)));
-            }
-        }
-        self.give(&Input::Call { client, call })
+        self.engine.make_room()?;
+        let Effect { came, frames, .. } = self.engine.take(event);
+        put_all_out(&mut self.lanes, &came.sends, frames)?;
+        Ok(came.outcome)
     }
 
     fn deliver(
@@ -175,32 +113,7 @@ impl Host {
             number,
             packet,
         };
-        Ok(self.give(&input)?)
-    }
-
-    fn stop(&mut self) -> Outcome
-        ensures short { IsShortOutcome result }
-    {
-        let Some(lost) = self.engine.stop() else {
-            return Outcome::Down;
-        };
-        self.lost = Some(lost);
-        Outcome::Taken
-    }
-
-    fn restart(&mut self) -> Mem<Outcome>
-        ensures short { IfOk result IsShortOutcome }
-    {
-        if self.engine.is_up() {
-            return Ok(Outcome::Passed);
-        }
-        match self.engine.restart() {
-            Restarted::Up { .. } => Ok(Outcome::Taken),
-            Restarted::Failed { .. } => Ok(Outcome::Failed),
-            Restarted::Full { need, left, .. } => Ok(Outcome::Full { need, left }),
-            Restarted::Refused { .. } => Ok(Outcome::Refused),
-            Restarted::NoMemory { .. } => Err(NoMemory),
-        }
+        Ok(self.take(&Event::Given(input))?)
     }
 }
 
@@ -271,27 +184,27 @@ impl Net {
     pub(crate) fn call(&mut self, site: u8, client: u32, call: Call) -> Result<Outcome, Fail>
         ensures short { IfOk result IsShortOutcome }
     {
-        Ok(self.host(site)?.call(client, call)?)
+        let input = Input::Call { client, call };
+        Ok(self.host(site)?.take(&Event::Given(input))?)
     }
 
     /// What comes of an act at a site.
     pub(crate) fn act(&mut self, site: u8, act: Act) -> Result<Outcome, Fail>
         ensures short { IfOk result IsShortOutcome }
     {
-        let alloc = self.alloc;
-        match act {
+        let event = match act {
             Act::Deliver(from, number) => {
+                let alloc = self.alloc;
                 let frame = self.frame(from, site, number)?;
-                self.host(site)?
-                    .deliver(alloc, SiteId(from), number, &frame)
+                return self
+                    .host(site)?
+                    .deliver(alloc, SiteId(from), number, &frame);
             }
-            Act::Advance(from) => {
-                let from = SiteId(from);
-                Ok(self.host(site)?.give(&Input::Advance { from })?)
-            }
-            Act::Tick => Ok(self.host(site)?.give(&Input::Tick)?),
-            Act::Stop => Ok(self.host(site)?.stop()),
-            Act::Restart => Ok(self.host(site)?.restart()?),
-        }
+            Act::Advance(from) => Event::Given(Input::Advance { from: SiteId(from) }),
+            Act::Tick => Event::Given(Input::Tick),
+            Act::Stop => Event::Stop,
+            Act::Restart => Event::Restart,
+        };
+        Ok(self.host(site)?.take(&event)?)
     }
 }

@@ -2,7 +2,7 @@ use Rattle.std.proofs.Common.{◌≡◌, ◌+◌, refl, subst, arith}
 use Rattle.walter_cell.specs.Cells.{CellValue, Proceeds}
 use Rattle.walter_cell.specs.Entries.{IsSpent, Grows, HasPlace}
 use Rattle.walter_cell.specs.Nodes.{Takes, clock_in}
-use Rattle.walter_cell.proofs.Taken.{plain_next, plain_calls_none, ready_takes, grows_taken, cell_room, proceeds_room, cell_alone, proceeds_alone, spent_next}
+use Rattle.walter_cell.proofs.Taken.{plain_next, ready_takes, grows_taken, cell_room, proceeds_room, cell_alone, proceeds_alone, spent_next}
 use Rattle.walter_cell.proofs.Turns.{place_found}
 use Rattle.walter_cell.proofs.cell.Cell.act.Goals as goal
 
@@ -28,7 +28,7 @@ invariant_of-self-2 g c =
     let is : c.in-Some.stamp ≡ clock_in old.node + 1 = (let s = c.in-Some.ensures.some.0 in omega (arith, s)) in
     cell_alone g.D.Disk old c.take.new.self c.in-Some.stamp c.args.event
     (ready_takes g.D.Disk c.in-Some.stamp c.args.event old.node c.make_ready.new.self c.take.new.self c.in_ok-make_ready.ensures.same c.take.ensures)
-    (plain_calls_none c.args.event c.requires)
+    c.requires.0
     (plain_next old.node.site old.ins c.args.event (clock_in old.node) c.in-Some.stamp c.requires is) c.self.invariant
 
 pub returns-clause-proceeds : goal.returns-clause-proceeds
@@ -37,7 +37,7 @@ returns-clause-proceeds g c =
     subst (λ (v : CellValue g.row.D.Denot). Proceeds g.D.Disk v (record { node = c.take.new.self; ins = old.ins; lines = old.lines })) c.self.view_is
     (proceeds_alone g.D.Disk old c.take.new.self c.in-Some.stamp c.args.event
     (ready_takes g.D.Disk c.in-Some.stamp c.args.event old.node c.make_ready.new.self c.take.new.self c.in_ok-make_ready.ensures.same c.take.ensures)
-    (plain_calls_none c.args.event c.requires))
+    c.requires.0)
 
 pub returns-clause-acts : goal.returns-clause-acts
 returns-clause-acts g c =

@@ -3,13 +3,13 @@ use Rattle.std.specs.Prelude.{All}
 use Rattle.std.specs.Result.{IsErrAnd}
 use Rattle.std.proofs.lemmas.List.Elements.{All-nil, All-push}
 use Rattle.walter_disk.specs.declared.disk.Disk.{Ghosts}
-use Rattle.walter_engine.specs.Steps.{opening}
 use Rattle.walter_engine.specs.declared.answers.BeginFault.{BeginFault}
 use Rattle.walter_outbox.specs.Lanes.{AreNext}
 use Rattle.walter_rules.specs.declared.entry.Entry.{Entry}
+use Rattle.walter_rules.specs.Kinds.{IfCall}
+use Rattle.walter_rules.specs.Trails.{opening}
 use Rattle.walter_cell.specs.Builds.{Begins}
 use Rattle.walter_cell.specs.Cells.{CellValue}
-use Rattle.walter_cell.specs.Entries.{IfCalled}
 use Rattle.walter_cell.specs.Lines.{is_here}
 use Rattle.walter_cell.specs.Nodes.{NodeValue}
 use Rattle.walter_cell.proofs.cell.Cell.begin.Goals as goal
@@ -35,7 +35,6 @@ invariant_of-result g c =
     record {
       ins = c.requires.ins ∙ ap (λ k. k.sites) (sym opens.catalog_is);
       next = subst (λ (es : List Entry). AreNext node.site c.args.ins.items (reverse es)) (sym opens.trail) (tt, refl);
-      clients = opens.clients_are ∙ (c.len.ensures ∙ c.args.lines.ok.0);
-      calls = subst (λ (es : List Entry). All (λ (e : Entry). IfCalled (λ client. is_here lines client ≡ true) e.event) es) (sym opens.trail)
-          (All-push (λ (e : Entry). IfCalled (λ client. is_here lines client ≡ true) e.event) [] opening (All-nil _) tt);
+      calls = subst (λ (es : List Entry). All (λ (e : Entry). IfCall (λ client call. is_here lines client ≡ true) e.event) es) (sym opens.trail)
+          (All-push (λ (e : Entry). IfCall (λ client call. is_here lines client ≡ true) e.event) [] opening (All-nil _) tt);
     }

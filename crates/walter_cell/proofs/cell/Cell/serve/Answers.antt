@@ -60,14 +60,6 @@ invariant_of-self-in-Broken g c =
     let here : is_here old.lines c.args.number ≡ true = rw (← c.self.view_is) at c.requires in
     cell_used g.D.Disk old c.make_ready.new.self c.next_call.new.self c.args.number here c.in_ok-make_ready.ensures.same c.self.invariant
 
-pub take-requires-clause-owed : goal.take-requires-clause-owed
-take-requires-clause-owed g c =
-    let here : is_here c.self.inside.lines.items c.args.number ≡ true = rw (← c.self.view_is) at c.requires in
-    let within = here_within c.self.inside.lines.items c.args.number here in
-    let clients = c.self.invariant.clients in
-    let same = ap (λ (n : NodeValue g.row.D.Denot). n.clients) c.in_ok-make_ready.ensures.same in
-    omega (arith, within, clients, same)
-
 pub returns-in_err-next_call-clause-proceeds : goal.returns-in_err-next_call-clause-proceeds
 returns-in_err-next_call-clause-proceeds g c =
     let old : CellValue g.row.D.Denot = record { node = c.self.inside.node; ins = c.self.inside.ins.items; lines = c.self.inside.lines.items } in

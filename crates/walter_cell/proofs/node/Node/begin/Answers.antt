@@ -2,11 +2,10 @@ use Rattle.std.proofs.Common.{◌≡◌, ◌++◌, ◌∷◌, [], List, Some, Op
 use Rattle.std.specs.Prelude.{IfSome}
 use Rattle.walter_base.specs.declared.catalog.Catalog.{Catalog}
 use Rattle.walter_base.specs.declared.names.SiteId.{SiteId}
-use Rattle.walter_engine.specs.Engines.{catalog_in, site_in, capacity_in, disk_in, Stands}
-use Rattle.walter_engine.specs.Steps.{opening}
+use Rattle.walter_engine.specs.Engines.{catalog_in, site_in, capacity_in, disk_in, IsFresh, Stands}
 use Rattle.walter_engine.specs.declared.engine.Engine.{Engine}
 use Rattle.walter_rules.specs.declared.entry.Entry.{Entry}
-use Rattle.walter_rules.specs.Trails.{standing}
+use Rattle.walter_rules.specs.Trails.{opening, standing}
 use Rattle.walter_cell.proofs.Openings.{begins_by, known_built, node_built}
 use Rattle.walter_cell.proofs.Wholes.{whole_of, reads_before}
 use Rattle.walter_cell.proofs.node.Node.begin.Goals as goal
@@ -45,8 +44,8 @@ invariant_of-result g c =
     whole_of c.args.catalog.now c.args.capacity c.args.site _
     (node_built c.args.catalog.now c.args.capacity c.args.site _ is catalog site capacity refl c.requires.lanes c.requires.empty)
     (λ told.
-    let stands = (rw c.in_default-begin.is at c.begin.ensures.stands) (reads_before lent engine c.begin.ensures.tells told) in
-    known_built c.args.catalog.now c.args.capacity c.args.site _ is c.args.clients c.requires.place
+    let fresh : IsFresh lent = subst (λ (e : Engine g.row.D.Denot g.D.Disk). IsFresh e) (sym c.deref_mut.ensures.value) made.fresh in
+    let stands = (rw c.in_default-begin.is at c.begin.ensures.stands) fresh (reads_before lent engine c.begin.ensures.tells told) in
+    known_built c.args.catalog.now c.args.capacity c.args.site _ is c.requires.place
     (subst (λ (k : Catalog). Stands engine (standing k c.args.site (opening ∷ []))) (sym same.catalog ∙ catalog)
-    (subst (λ (i : SiteId). Stands engine (standing (catalog_in lent) i (opening ∷ []))) (sym same.site ∙ site) stands))
-    c.in-Ok.ensures.debts)
+    (subst (λ (i : SiteId). Stands engine (standing (catalog_in lent) i (opening ∷ []))) (sym same.site ∙ site) stands)))

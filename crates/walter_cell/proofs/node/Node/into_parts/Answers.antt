@@ -5,4 +5,4 @@ use Rattle.walter_cell.proofs.node.Node.into_parts.Goals as goal
 
 pub returns-clause-sound : goal.returns-clause-sound
 returns-clause-sound g c =
-    subst (λ (v : NodeValue g.row.D.Denot). IsSound g.D.Disk v) c.self.view_is (sound_of _ _ _ c.self.invariant)
+    subst (λ (v : NodeValue g.row.D.Denot). IsSound g.D.Disk v) c.self.view_is (sound_of _ _ c.self.invariant)

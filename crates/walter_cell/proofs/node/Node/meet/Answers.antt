@@ -1,18 +1,17 @@
-use Rattle.std.proofs.Common.{◌≡◌, ◌<◌, ℕ, List, length, refl, ap, sym, ◌∙◌, subst, slice_set}
+use Rattle.std.proofs.Common.{◌≡◌, ◌<◌, ℕ, List, length, ap, sym, ◌∙◌, subst, slice_set}
 use Rattle.std.specs.Prelude.{OnOk}
 use Rattle.walter_lane.specs.Lanes.{Sending}
 use Rattle.walter_outbox.specs.Lanes.{put_to, met_to, out_rings}
 use Rattle.walter_cell.proofs.Meeting.{on_ok, put_met, put_here, met_here, met_elsewhere, rings_met, put_kept}
-use Rattle.walter_cell.proofs.Wholes.{whole_kept}
+use Rattle.walter_cell.proofs.Wholes.{whole_lanes}
 use Rattle.walter_cell.proofs.node.Node.meet.Goals as goal
 
 pub invariant_of-self : goal.invariant_of-self
 invariant_of-self g c =
     let inside = c.self.inside in
-    whole_kept _ _ refl refl refl
+    whole_lanes _ _
     (put_kept _ _ inside.outs.items c.from.result c.index_mut.result.now c.meet.new.outbound c.index_mut.ensures.value
-    c.meet.ensures.put c.self.invariant.is.put)
-    refl c.self.invariant
+    c.meet.ensures.put c.self.invariant.is.put) c.self.invariant
 
 pub returns-clause-rings : goal.returns-clause-rings
 returns-clause-rings g c = (
