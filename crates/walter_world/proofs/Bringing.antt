@@ -7,7 +7,8 @@ use Rattle.walter_rules.specs.Merges.{Stamped, put_out_to}
 use Rattle.walter_world.specs.declared.events.What.{What}
 use Rattle.walter_world.specs.declared.happening.Happening.{Happening}
 use Rattle.walter_world.specs.declared.seat.Seat.{Seat}
-use Rattle.walter_world.specs.Events.{packet_at, put_by, Brings, keeps}
+use Rattle.walter_machine.specs.Posts.{of_number}
+use Rattle.walter_world.specs.Events.{put_by, Brings, keeps}
 use Rattle.walter_world.specs.Happenings.{IsHappening}
 use Rattle.walter_world.specs.Worlds.{trails_of}
 use Rattle.walter_world.proofs.SeatTrails.{trail_here}
@@ -21,7 +22,7 @@ happens trails i what w event put keep h same is brings kept =
 
 -- what was found among the entries of a site was put out by it
 pub found_put : (seats : List Seat) (from to : SiteId) (number : ℕ) (seat : Seat) (found : Option Stamped)
-    → slice_get seats from.0 ≡ Some seat → found ≡ packet_at number (put_out_to to seat.entries.items)
+    → slice_get seats from.0 ≡ Some seat → found ≡ of_number number (put_out_to to seat.entries.items)
     → put_by (trails_of seats) from to number ≡ found
 found_put seats from to number seat found at is =
-    ap (λ (t : List Entry). packet_at number (put_out_to to t)) (trail_here seats from.0 seat at) ∙ sym is
+    ap (λ (t : List Entry). of_number number (put_out_to to t)) (trail_here seats from.0 seat at) ∙ sym is

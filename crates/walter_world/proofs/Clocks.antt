@@ -1,11 +1,10 @@
--- The stamps of a right trail, and how many epochs it may have had.
-use Rattle.std.proofs.Common.{◌≡◌, ℕ, ◌+◌, ◌<◌, ◌≤◌, ◌⊎◌, Bool, true, false, not, ◌&&◌, List, [], ◌∷◌, ◌++◌, length, reverse, slice_get, Option, Some, None, refl, ap, sym, subst, arith, if◌then◌else◌, inl, inr}
+-- The stamps of a right trail, and how many records it may have had.
+use Rattle.std.proofs.Common.{◌≡◌, ℕ, ◌+◌, ◌≤◌, ◌⊎◌, Bool, true, false, List, [], ◌∷◌, ◌++◌, length, reverse, slice_get, Option, Some, None, ap, sym, subst, arith, if◌then◌else◌, inl, inr}
 use Rattle.std.specs.Prelude.{Contains, IfSome}
 use Rattle.std.proofs.lemmas.List.{length-append, reverse-append}
 use Rattle.std.proofs.lemmas.List.Elements.{Contains-push_cases}
 use Rattle.walter_base.specs.declared.catalog.Catalog.{Catalog}
 use Rattle.walter_base.specs.declared.message.Record.{Record}
-use Rattle.walter_base.specs.declared.message.Record.TheVariants.{Boot}
 use Rattle.walter_base.specs.declared.names.SiteId.{SiteId}
 use Rattle.walter_base.specs.Names.{same_site}
 use Rattle.walter_psi.proofs.Lists.{Contains-nil, contains_at, Contains-flat_map_from, push_induction}
@@ -14,17 +13,12 @@ use Rattle.walter_rules.specs.declared.entry.Entry.{Entry}
 use Rattle.walter_rules.specs.declared.event.Event.{Event}
 use Rattle.walter_rules.specs.declared.outcome.Outcome.{Outcome}
 use Rattle.walter_rules.specs.declared.outcome.Outcome.TheVariants.{Full}
-use Rattle.walter_rules.specs.Knowledge.{Knowledge, fresh}
-use Rattle.walter_rules.specs.Learning.{epoch_after}
 use Rattle.walter_rules.specs.Merges.{Stamped, sent_to, put_out_to}
-use Rattle.walter_rules.specs.Records.{CanFollow, replayed}
 use Rattle.walter_rules.specs.Sending.{Send}
 use Rattle.walter_rules.specs.Standing.{Standing, records_after, settled, flight_after}
 use Rattle.walter_rules.specs.Trails.{standing, clock, AreRight, IsFound, Comes, ruled, met_fault, unread, no_memory, full}
 use Rattle.walter_rules.proofs.Membership.{given_from}
-use Rattle.walter_rules.proofs.Staying.{later_next, epoch_few}
-use Rattle.walter_alone.specs.Journaled.{IsJournaled}
-use Rattle.walter_alone.proofs.TrailJournaled.{right_journaled}
+use Rattle.walter_rules.proofs.Staying.{later_next}
 
 -- ---- stamps
 
@@ -72,22 +66,17 @@ put_later catalog capacity i to trail place st right at =
     let low = none_later catalog capacity i trail right e from.1 in
     omega (arith, is, low)
 
--- ---- epochs
-
-epoch_next : (catalog : Catalog) (i : SiteId) (K : Knowledge) (rec : Record) → CanFollow catalog i K rec
-    → epoch_after (Some rec) K.epoch ≤ K.epoch + 1
-epoch_next catalog i K (Boot epoch) follows = omega (arith, follows)
-epoch_next catalog i K rec follows = omega arith
+-- ---- records
 
 -- how many records there are, with the one in flight
-abbrev flying : Option Record → ℕ
+abbrev pub flying : Option Record → ℕ
 flying None = 0
 flying (Some rec) = 1
 
-abbrev weight : Standing → ℕ
+abbrev pub weight : Standing → ℕ
 weight S = length S.records + flying S.flight
 
-settled_weight : (catalog : Catalog) (i : SiteId) (S : Standing) (event : Event) (kept : Option Record)
+pub settled_weight : (catalog : Catalog) (i : SiteId) (S : Standing) (event : Event) (kept : Option Record)
     → IfSome kept (IsFound S event) → weight (settled catalog i kept S) ≤ weight S
 settled_weight catalog i S event None found = omega arith
 settled_weight catalog i S event (Some rec) found =
@@ -133,7 +122,7 @@ came_weight records old came (inr none) =
     (flew_weight records old came.flight came.outcome)
 
 module _ (catalog : Catalog) (capacity : ℕ) (i : SiteId) where
-  weight_few : (older : List Entry) → AreRight catalog capacity i older → weight (standing catalog i older) ≤ length older
+  pub weight_few : (older : List Entry) → AreRight catalog capacity i older → weight (standing catalog i older) ≤ length older
   weight_few [] right = omega arith
   weight_few (e ∷ older) right =
       let S : Standing = standing catalog i older in
@@ -142,39 +131,3 @@ module _ (catalog : Catalog) (capacity : ℕ) (i : SiteId) where
       let kept = settled_weight catalog i S e.event e.came.kept right.1.kept in
       let more = came_weight T.records T.flight e.came (is_one catalog capacity i T e.event e.came right.1.comes) in
       omega (arith, rest, kept, more)
-
-  epoch_behind : (S : Standing) (kept : Option Record) → IsJournaled catalog i S
-      → (kept ≡ None) ⊎ (kept ≡ S.flight)
-      → (settled catalog i kept S).knows.epoch ≤ S.knows.epoch + flying S.flight
-  epoch_behind S kept J (inl none) =
-      subst (λ (k : Option Record). (settled catalog i k S).knows.epoch ≤ S.knows.epoch + flying S.flight) (sym none)
-      (omega arith)
-  epoch_behind S kept J (inr is) =
-      subst (λ (k : Option Record). (settled catalog i k S).knows.epoch ≤ S.knows.epoch + flying S.flight) (sym is)
-      (by S.flight J.flight)
-    where
-      by : (flight : Option Record) → IfSome flight (CanFollow catalog i S.knows)
-          → (settled catalog i flight S).knows.epoch ≤ S.knows.epoch + flying flight
-      by None can = omega arith
-      by (Some rec) can = epoch_next catalog i S.knows rec can
-
-  -- a site with so few stamps has an epoch left
-  pub young : (older : List Entry) → i.0 < catalog.sites → AreRight catalog capacity i older → clock older < 4294967295
-      → (kept : Option Record) → (kept ≡ None) ⊎ (kept ≡ (standing catalog i older).flight)
-      → (settled catalog i kept (standing catalog i older)).knows.epoch < 4294967295
-  young older below right early kept which =
-      let S : Standing = standing catalog i older in
-      let J = right_journaled catalog capacity i below older right in
-      let most = epoch_few catalog i fresh S.records J.follow in
-      let same : S.knows.epoch ≡ (replayed catalog i fresh S.records).epoch = ap (λ (K : Knowledge). K.epoch) J.told in
-      let few = weight_few older right in
-      let long = length_clock catalog capacity i older right in
-      let behind = epoch_behind S kept J which in
-      omega (arith, most, same, few, long, behind, early)
-
--- what is found was in flight
-pub found_which : (keeps up : Bool) (flight : Option Record)
-    → ((if keeps && not up then flight else None) ≡ None) ⊎ ((if keeps && not up then flight else None) ≡ flight)
-found_which true true flight = inl refl
-found_which true false flight = inr refl
-found_which false up flight = inl refl

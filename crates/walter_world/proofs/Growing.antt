@@ -30,7 +30,8 @@ use Rattle.walter_world.specs.declared.events.What.{What}
 use Rattle.walter_world.specs.declared.events.What.TheVariants as what
 use Rattle.walter_world.specs.declared.events.WorldEvent.{WorldEvent}
 use Rattle.walter_world.specs.Comings.{found_by, came_by, came_broken, entry_of}
-use Rattle.walter_world.specs.Events.{packet_at, Brings, a_call, a_packet, an_advance, a_tick, a_stop, a_restart, keeps}
+use Rattle.walter_machine.specs.Posts.{of_number}
+use Rattle.walter_world.specs.Events.{Brings, a_call, a_packet, an_advance, a_tick, a_stop, a_restart, keeps}
 use Rattle.walter_world.specs.Worlds.{AreOpenings, AreRightWithPlace, KeepPromises, HasHappened, StepsTo, HaveHappened, nothing, one_more}
 
 -- ---- one entry
@@ -76,7 +77,7 @@ came_kept Broken event kept x = by x.wrote
     by None = refl
     by (Some rec) = refl
 
-found_there : (keep : Bool) (S : Standing) → IfSome (found_by keep S) (IsFound S Restart)
+pub found_there : (keep : Bool) (S : Standing) → IfSome (found_by keep S) (IsFound S Restart)
 found_there keep S = by keep S.up S.flight refl refl
   where
     by : (keep up : Bool) (flight : Option Record) → S.up ≡ up → S.flight ≡ flight
@@ -192,9 +193,9 @@ module _ (catalog : Catalog) (old new : List (List Entry)) (w : WorldEvent) (hap
       let from_is : from ≡ j = cc in
       let number_is : n ≡ number = cc in
       let packet_is : p ≡ packet = cc in
-      by number from_is (number_is, packet_is) (subst (λ (m : ℕ). packet_at m (put_out_to s (trail_of old from)) ≡ Some (stamp, p)) number_is at)
+      by number from_is (number_is, packet_is) (subst (λ (m : ℕ). of_number m (put_out_to s (trail_of old from)) ≡ Some (stamp, p)) number_is at)
     where
-      by : (m : ℕ) → from ≡ j → (n ≡ number) × (p ≡ packet) → packet_at m (put_out_to s (trail_of old from)) ≡ Some (stamp, p)
+      by : (m : ℕ) → from ≡ j → (n ≡ number) × (p ≡ packet) → of_number m (put_out_to s (trail_of old from)) ≡ Some (stamp, p)
           → IsLinked new s j m packet last (max last stamp + 1)
       by zero from_is same found = absurd cc
       by (suc before) from_is same found = record {

@@ -1,6 +1,6 @@
 pub mod Clocks
-pub mod Giving
-pub mod Restarting
+pub mod Coming
+pub mod Told
 pub mod RecordsReplayed
 pub mod Growing
 pub mod Numbering

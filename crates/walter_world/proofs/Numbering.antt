@@ -12,7 +12,7 @@ use Rattle.walter_psi.proofs.Lists.{slice_get-append_left}
 use Rattle.walter_rules.specs.declared.entry.Entry.{Entry}
 use Rattle.walter_rules.specs.Merges.{Stamped, sent_to, put_out_to}
 use Rattle.walter_rules.specs.Sending.{Send}
-use Rattle.walter_world.specs.Events.{packet_at}
+use Rattle.walter_machine.specs.Posts.{of_number}
 
 -- what stands behind a list stands at its place behind it
 slice_get-behind : {X : Type 0} (front rest : List X) (n : ℕ) → slice_get (front ++ rest) (length front + n) ≡ slice_get rest n
@@ -22,7 +22,7 @@ slice_get-behind (x ∷ front) rest n =
     ∙ slice_get-behind front rest n
 
 -- the packet of a number that isn't 0
-pub packet_numbered : (sent : List Stamped) (number : ℕ) → 0 < number → packet_at number sent ≡ slice_get sent (number - 1)
+pub packet_numbered : (sent : List Stamped) (number : ℕ) → 0 < number → of_number number sent ≡ slice_get sent (number - 1)
 packet_numbered sent (suc before) some = ap (slice_get sent) (let e : before ≡ suc before - 1 = omega arith in e)
 packet_numbered sent zero some = absurd (omega (arith, some))
 
@@ -121,7 +121,7 @@ module _ (i : SiteId) (trail : List Entry) (place : ℕ) (e : Entry) (within : p
   -- the one that is wanted
   pub put_here : (left number : ℕ) (put : Stamped) → 0 < left
       → left + length (put_out_to i (take place trail)) ≡ number → slice_get (sent_to i e) (left - 1) ≡ Some put
-      → packet_at number (put_out_to i trail) ≡ Some put
+      → of_number number (put_out_to i trail) ≡ Some put
   put_here left number put some was here =
       packet_numbered (put_out_to i trail) number (omega (arith, some, was))
       ∙ given_here (put_out_to i) (flat_map-append (sent_to i)) trail place e within at left number put some was
@@ -129,7 +129,7 @@ module _ (i : SiteId) (trail : List Entry) (place : ℕ) (e : Entry) (within : p
 
 -- all were fewer
 pub none_put : (i : SiteId) (trail : List Entry) (place left number : ℕ) → 0 < left → length trail ≤ place
-    → left + length (put_out_to i (take place trail)) ≡ number → packet_at number (put_out_to i trail) ≡ None
+    → left + length (put_out_to i (take place trail)) ≡ number → of_number number (put_out_to i trail) ≡ None
 none_put i trail place left number some past was =
     let all = ap (λ (es : List Entry). length (put_out_to i es)) (take_all place trail past) in
     packet_numbered (put_out_to i trail) number (omega (arith, some, was))

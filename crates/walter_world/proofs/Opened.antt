@@ -1,5 +1,5 @@
 -- The sites of a new world, one after another: each has come up, and nothing else has happened.
-use Rattle.std.proofs.Common.{◌≡◌, ℕ, ◌+◌, ◌<◌, ◌≤◌, List, [], ◌∷◌, ◌++◌, length, slice_get, Some, None, reverse, ap, sym, ◌∙◌, subst, arith, inl, inr}
+use Rattle.std.proofs.Common.{◌≡◌, ℕ, ◌+◌, ◌<◌, ◌≤◌, List, [], ◌∷◌, ◌++◌, length, slice_get, false, Some, None, reverse, refl, ap, sym, ◌∙◌, subst, arith, inl, inr}
 use Rattle.std.specs.Prelude.{All}
 use Rattle.std.proofs.lemmas.List.{length-append, length-map}
 use Rattle.std.proofs.lemmas.List.Elements.{All-nil}
@@ -8,29 +8,41 @@ use Rattle.walter_base.specs.declared.catalog.Catalog.{Catalog}
 use Rattle.walter_base.specs.declared.names.SiteId.{SiteId}
 use Rattle.walter_base.specs.Vectors.{most_sites}
 use Rattle.walter_linked.specs.Catalogs.{IsWhole}
+use Rattle.walter_machine.specs.Machines.{catalog_in, site_in, HasStanding}
+use Rattle.walter_machine.specs.States.{AreTold}
+use Rattle.walter_machine.proofs.Records.{told_unmade}
 use Rattle.walter_psi.proofs.Lists.{slice_get-push_cases}
 use Rattle.walter_rules.specs.declared.entry.Entry.{Entry}
+use Rattle.walter_rules.specs.declared.event.Event.TheVariants.{Restart}
 use Rattle.walter_rules.specs.Knowledge.{site_at}
-use Rattle.walter_rules.specs.Trails.{standing}
-use Rattle.walter_world.specs.declared.debts.DebtChange.{DebtChange}
+use Rattle.walter_rules.specs.Standing.{Standing, unmade}
+use Rattle.walter_rules.specs.Trails.{standing, clock, AreRight}
 use Rattle.walter_world.specs.declared.seat.Seat.{Seat}
-use Rattle.walter_world.specs.Debts.{owed_by}
-use Rattle.walter_world.specs.Seats.{IsState, IsSizedCame, IsSeat}
+use Rattle.walter_world.specs.Seats.{AreSpelled, CanTake}
 use Rattle.walter_world.specs.Worlds.{AreOpenings, HasOpened, HaveOpened, IsWorld, trails_of}
 use Rattle.walter_world.proofs.Growing.{openings_right}
 use Rattle.walter_world.proofs.SeatTrails.{trail_here}
 
 -- nothing has happened yet
-pub none_yet : (catalog : Catalog) (i : SiteId) (seat : Seat) → seat.site ≡ None → seat.entries.items ≡ []
-    → seat.debts.items ≡ [] → IsSeat catalog i seat
-none_yet catalog i seat none trail debts = record {
-  state = subst (λ s. IsState catalog i (standing catalog i (reverse seat.entries.items)) s) (sym none)
-      (ap (λ (es : List Entry). (standing catalog i (reverse es)).up) trail);
-  owed = λ client.
-      ap (λ (es : List Entry). (standing catalog i (reverse es)).gone client) trail
-      ∙ ap (λ (ds : List DebtChange). owed_by client ds) (sym debts);
-  sized = subst (λ (es : List Entry). All (λ (e : Entry). IsSizedCame catalog.sites e.came) es) (sym trail)
-      (All-nil (λ (e : Entry). IsSizedCame catalog.sites e.came));
+pub none_yet : (catalog : Catalog) (i : SiteId) (seat : Seat)
+    → ((S : Standing) → S.up ≡ false → S.flight ≡ None → ((client : ℕ) → S.gone client ≡ None) → AreTold catalog i S
+    → HasStanding seat.machine S) → seat.entries.items ≡ []
+    → CanTake (catalog_in seat.machine) (site_in seat.machine) seat Restart false
+none_yet catalog i seat stands trail = record {
+  seat_is = record {
+    catalog_is = refl;
+    site = refl;
+    stands = subst (λ (es : List Entry). HasStanding seat.machine
+        (standing (catalog_in seat.machine) (site_in seat.machine) (reverse es))) (sym trail)
+        (stands unmade refl refl (λ client. refl) (told_unmade catalog i));
+    spelled = subst (λ (es : List Entry). All (λ (e : Entry). AreSpelled (catalog_in seat.machine).sites e.came) es)
+        (sym trail) (All-nil (λ (e : Entry). AreSpelled (catalog_in seat.machine).sites e.came));
+  };
+  capacity = 0;
+  right = subst (λ (es : List Entry). AreRight (catalog_in seat.machine) 0 (site_in seat.machine) (reverse es)) (sym trail) tt;
+  young = subst (λ (es : List Entry). clock (reverse es) < 4294967295) (sym trail) (omega arith);
+  sized = tt;
+  finds = tt;
 }
 
 pub none_opened : (catalog : Catalog) (seats : List Seat) → seats ≡ [] → HaveOpened catalog 0 seats

@@ -1,8 +1,10 @@
 -- The records of a trail, replayed entry by entry.
-use Rattle.std.proofs.Common.{◌≡◌, ℕ, ◌+◌, ◌<◌, List, [], ◌∷◌, ◌++◌, length, take, drop, get_or, Option, Some, None, refl, ap, sym, ◌∙◌, subst}
-use Rattle.std.specs.Prelude.{IfSome}
-use Rattle.std.proofs.lemmas.List.{append_assoc, take_more, take-append-drop}
+use Rattle.std.proofs.Common.{◌≡◌, ℕ, ◌+◌, ◌<◌, ◌^◌, List, [], ◌∷◌, ◌++◌, length, take, drop, get_or, Some, ap, sym, ◌∙◌, subst}
+use Rattle.std.specs.Prelude.{All}
+use Rattle.std.proofs.lemmas.List.{append_assoc, length-append, take_more, take-append-drop}
 use Rattle.std.proofs.lemmas.List.Concat.{flat_map-append}
+use Rattle.std.proofs.lemmas.List.Elements.{All-nil, All-cons, All-head, All-tail, All-contains, Contains-push}
+use Rattle.walter_alone.proofs.TrailJournaled.{replayed-push}
 use Rattle.walter_base.specs.declared.catalog.Catalog.{Catalog}
 use Rattle.walter_base.specs.declared.message.Record.{Record}
 use Rattle.walter_base.specs.declared.names.SiteId.{SiteId}
@@ -10,76 +12,92 @@ use Rattle.walter_psi.proofs.Lists.{flat_map-push}
 use Rattle.walter_rules.specs.declared.entry.Entry.{Entry}
 use Rattle.walter_rules.specs.Knowledge.{Knowledge, fresh}
 use Rattle.walter_rules.specs.Learning.{recorded}
-use Rattle.walter_rules.specs.Records.{CanFollow, CanAllFollow, replayed}
-use Rattle.walter_world.specs.Records.{one_of, records_of}
+use Rattle.walter_rules.specs.Records.{CanFollow, CanAllFollow, IsRecordAmong, replayed}
+use Rattle.walter_tables.specs.Sites.{site_of, catalog_of, Stands}
+use Rattle.walter_world.specs.declared.replaying.Told.{Told}
+use Rattle.walter_world.specs.Records.{CanBeReplayed, IsTold, one_of, records_of}
 
-replayed-append : (catalog : Catalog) (i : SiteId) (K : Knowledge) (front rest : List Record)
-    → replayed catalog i K (front ++ rest) ≡ replayed catalog i (replayed catalog i K front) rest
-replayed-append catalog i K [] rest = refl
-replayed-append catalog i K (rec ∷ front) rest =
-    replayed-append catalog i (recorded catalog i (Some rec) K) front rest
+-- ---- one more record
 
-follow-behind : (catalog : Catalog) (i : SiteId) (K : Knowledge) (front rest : List Record)
-    → CanAllFollow catalog i K (front ++ rest) → CanAllFollow catalog i (replayed catalog i K front) rest
-follow-behind catalog i K [] rest all = all
-follow-behind catalog i K (rec ∷ front) rest all =
-    follow-behind catalog i (recorded catalog i (Some rec) K) front rest all.1
+-- the last of some follows those before it, and has its sizes
+follow-last : (catalog : Catalog) (i : SiteId) (K : Knowledge) (records : List Record) (rec : Record)
+    → CanAllFollow catalog i K (records ++ rec ∷ []) → CanFollow catalog i (replayed catalog i K records) rec
+follow-last catalog i K [] rec all = all.0
+follow-last catalog i K (first ∷ records) rec all =
+    follow-last catalog i (recorded catalog i (Some first) K) records rec all.1
 
-replayed-two : (catalog : Catalog) (i : SiteId) (K : Knowledge) (kept wrote : Option Record)
-    → replayed catalog i K (one_of kept ++ one_of wrote) ≡ recorded catalog i wrote (recorded catalog i kept K)
-replayed-two catalog i K None None = refl
-replayed-two catalog i K None (Some rec) = refl
-replayed-two catalog i K (Some rec) None = refl
-replayed-two catalog i K (Some kept) (Some rec) = refl
+pub last_follows : (catalog : Catalog) (i : SiteId) (records : List Record) (rec : Record) (told : Told)
+    → IsTold catalog i records told → CanBeReplayed catalog i (records ++ rec ∷ [])
+    → CanFollow (catalog_of told.tables) (site_of told.tables) (replayed catalog i fresh records) rec
+last_follows catalog i records rec told is can =
+    subst (λ (k : SiteId). CanFollow (catalog_of told.tables) k (replayed catalog i fresh records) rec) (sym is.site)
+    (subst (λ (c : Catalog). CanFollow c i (replayed catalog i fresh records) rec) (sym is.catalog_is)
+    (follow-last catalog i fresh records rec can.follow))
 
-kept-follows : (catalog : Catalog) (i : SiteId) (K : Knowledge) (kept wrote : Option Record) (rest : List Record)
-    → CanAllFollow catalog i K ((one_of kept ++ one_of wrote) ++ rest) → IfSome kept (CanFollow catalog i K)
-kept-follows catalog i K None wrote rest all = tt
-kept-follows catalog i K (Some rec) None rest all = all.0
-kept-follows catalog i K (Some rec) (Some wrote) rest all = all.0
+pub last_sized : (catalog : Catalog) (i : SiteId) (records : List Record) (rec : Record) (told : Told)
+    → IsTold catalog i records told → CanBeReplayed catalog i (records ++ rec ∷ [])
+    → IsRecordAmong (catalog_of told.tables).sites rec
+last_sized catalog i records rec told is can =
+    subst (λ (c : Catalog). IsRecordAmong c.sites rec) (sym is.catalog_is)
+    (All-contains (IsRecordAmong catalog.sites) (records ++ rec ∷ []) rec can.sizes (Contains-push records rec))
 
-wrote-follows : (catalog : Catalog) (i : SiteId) (K : Knowledge) (kept wrote : Option Record) (rest : List Record)
-    → CanAllFollow catalog i K ((one_of kept ++ one_of wrote) ++ rest)
-    → IfSome wrote (CanFollow catalog i (recorded catalog i kept K))
-wrote-follows catalog i K kept None rest all = tt
-wrote-follows catalog i K None (Some rec) rest all = all.0
-wrote-follows catalog i K (Some kept) (Some rec) rest all = all.1.0
+-- it is told with those before it
+pub told_more : (catalog : Catalog) (i : SiteId) (records : List Record) (rec : Record) (old new : Told)
+    → IsTold catalog i records old
+    → Stands new.tables (recorded (catalog_of old.tables) (site_of old.tables) (Some rec) (replayed catalog i fresh records))
+    → site_of new.tables ≡ site_of old.tables → catalog_of new.tables ≡ catalog_of old.tables
+    → new.count ≡ old.count + 1 → new.count + 1 < 2 ^ 64 → IsTold catalog i (records ++ rec ∷ []) new
+told_more catalog i records rec old new is stands site catalog_same count countable = record {
+  stands = subst (λ (K : Knowledge). Stands new.tables K) (sym (replayed-push catalog i fresh records rec))
+      (subst (λ (k : SiteId). Stands new.tables (recorded catalog k (Some rec) (replayed catalog i fresh records))) is.site
+      (subst (λ (c : Catalog). Stands new.tables (recorded c (site_of old.tables) (Some rec) (replayed catalog i fresh records)))
+      is.catalog_is stands));
+  site = site ∙ is.site;
+  catalog_is = catalog_same ∙ is.catalog_is;
+  count = count ∙ (ap (λ (n : ℕ). n + 1) is.count ∙ sym (length-append records (rec ∷ [])));
+  countable = countable;
+}
+
+-- ---- some of them
+
+all_front : {X : Type 0} (P : X → Type 0) (front rest : List X) → All P (front ++ rest) → All P front
+all_front P [] rest all = All-nil P
+all_front P (x ∷ front) rest all =
+    All-cons P x front (All-head P x (front ++ rest) all) (all_front P front rest (All-tail P x (front ++ rest) all))
+
+follow-front : (catalog : Catalog) (i : SiteId) (K : Knowledge) (front rest : List Record)
+    → CanAllFollow catalog i K (front ++ rest) → CanAllFollow catalog i K front
+follow-front catalog i K [] rest all = tt
+follow-front catalog i K (rec ∷ front) rest all =
+    (all.0, follow-front catalog i (recorded catalog i (Some rec) K) front rest all.1)
+
+front_can : (catalog : Catalog) (i : SiteId) (front rest : List Record) → CanBeReplayed catalog i (front ++ rest)
+    → CanBeReplayed catalog i front
+front_can catalog i front rest can = record {
+  follow = follow-front catalog i fresh front rest can.follow;
+  sizes = all_front (IsRecordAmong catalog.sites) front rest can.sizes;
+}
 
 -- an entry at its place
 module _ (catalog : Catalog) (i : SiteId) (trail : List Entry) (place : ℕ) (e : Entry) (within : place < length trail)
-    (at : e ≡ get_or trail place e) (all : CanAllFollow catalog i fresh (records_of trail)) where
-  abbrev before : Knowledge
-  before = replayed catalog i fresh (records_of (take place trail))
+    (at : e ≡ get_or trail place e) (can : CanBeReplayed catalog i (records_of trail)) where
+  abbrev front : List Record
+  front = records_of (take place trail)
 
-  abbrev own : List Record
-  own = one_of e.came.kept ++ one_of e.came.wrote
-
-  front_more : records_of (take (place + 1) trail) ≡ records_of (take place trail) ++ own
-  front_more =
+  pub records_more : records_of (take (place + 1) trail) ≡ (front ++ one_of e.came.kept) ++ one_of e.came.wrote
+  records_more =
       ap records_of (take_more trail place e within ∙ ap (λ (x : Entry). take place trail ++ x ∷ []) (sym at))
-      ∙ flat_map-push (λ (x : Entry). one_of x.came.kept ++ one_of x.came.wrote) (take place trail) e
+      ∙ (flat_map-push (λ (x : Entry). one_of x.came.kept ++ one_of x.came.wrote) (take place trail) e
+      ∙ sym (append_assoc front (one_of e.came.kept) (one_of e.came.wrote)))
 
-  whole : records_of trail ≡ records_of (take place trail) ++ (own ++ records_of (drop (place + 1) trail))
-  whole =
-      ap records_of (sym (take-append-drop (place + 1) trail))
-      ∙ (flat_map-append (λ (x : Entry). one_of x.came.kept ++ one_of x.came.wrote) (take (place + 1) trail)
-      (drop (place + 1) trail)
-      ∙ (ap (λ (rs : List Record). rs ++ records_of (drop (place + 1) trail)) front_more
-      ∙ append_assoc (records_of (take place trail)) own (records_of (drop (place + 1) trail))))
+  -- its records can be replayed behind those before it
+  pub wrote_can : CanBeReplayed catalog i ((front ++ one_of e.came.kept) ++ one_of e.came.wrote)
+  wrote_can = subst (CanBeReplayed catalog i) records_more
+      (front_can catalog i (records_of (take (place + 1) trail)) (records_of (drop (place + 1) trail))
+      (subst (CanBeReplayed catalog i)
+      (ap records_of (sym (take-append-drop (place + 1) trail))
+      ∙ flat_map-append (λ (x : Entry). one_of x.came.kept ++ one_of x.came.wrote) (take (place + 1) trail)
+      (drop (place + 1) trail)) can))
 
-  behind : CanAllFollow catalog i before (own ++ records_of (drop (place + 1) trail))
-  behind = follow-behind catalog i fresh (records_of (take place trail)) (own ++ records_of (drop (place + 1) trail))
-      (subst (λ (rs : List Record). CanAllFollow catalog i fresh rs) whole all)
-
-  pub kept_here : IfSome e.came.kept (CanFollow catalog i before)
-  kept_here = kept-follows catalog i before e.came.kept e.came.wrote (records_of (drop (place + 1) trail)) behind
-
-  pub wrote_here : IfSome e.came.wrote (CanFollow catalog i (recorded catalog i e.came.kept before))
-  wrote_here = wrote-follows catalog i before e.came.kept e.came.wrote (records_of (drop (place + 1) trail)) behind
-
-  pub replayed_more : replayed catalog i fresh (records_of (take (place + 1) trail))
-      ≡ recorded catalog i e.came.wrote (recorded catalog i e.came.kept before)
-  replayed_more =
-      ap (replayed catalog i fresh) front_more
-      ∙ (replayed-append catalog i fresh (records_of (take place trail)) own
-      ∙ replayed-two catalog i before e.came.kept e.came.wrote)
+  pub kept_can : CanBeReplayed catalog i (front ++ one_of e.came.kept)
+  kept_can = front_can catalog i (front ++ one_of e.came.kept) (one_of e.came.wrote) wrote_can

@@ -1,15 +1,15 @@
 -- The sites of a world, of which one has one more entry.
-use Rattle.std.proofs.Common.{◌≡◌, ◌≢◌, ℕ, suc, ◌<◌, Bool, List, [], ◌∷◌, ◌++◌, length, map, set, reverse, slice_get, Option, Some, None, option_map, refl, ap, sym, ◌∙◌, subst, arith, inl, inr}
-use Rattle.std.specs.Prelude.{unwrap_or, All}
+use Rattle.std.proofs.Common.{◌≡◌, ◌≢◌, ℕ, suc, ◌<◌, Bool, List, [], ◌∷◌, ◌++◌, length, map, set, reverse, slice_get, Option, Some, None, Result, Ok, Err, option_map, Vec, Global, refl, ap, sym, ◌∙◌, subst, arith, inl, inr}
+use Rattle.std.specs.Prelude.{unwrap_or, All, OnErr}
 use Rattle.std.proofs.lemmas.Bool.{cases_lt, cases_eq}
 use Rattle.std.proofs.lemmas.List.{length-map, length-set, get_or-set_same, get_or-set_other}
 use Rattle.std.proofs.lemmas.List.Elements.{All-push}
-use Rattle.std.proofs.lemmas.List.Sums.{fold-append}
 use Rattle.std.proofs.lemmas.Option.{slice_get-map, slice_get-get_or, slice_get_past, unwrap_or-slice_get}
 use Rattle.walter_base.specs.declared.catalog.Catalog.{Catalog}
 use Rattle.walter_base.specs.declared.message.Record.{Record}
 use Rattle.walter_base.specs.declared.names.SiteId.{SiteId}
-use Rattle.walter_base.specs.declared.names.Tid.{Tid}
+use Rattle.walter_machine.specs.declared.machine.Machine.{Machine}
+use Rattle.walter_machine.specs.Machines.{HasStanding, IsSameSite}
 use Rattle.walter_rules.specs.declared.entry.Came.{Came}
 use Rattle.walter_rules.specs.declared.entry.Entry.{Entry}
 use Rattle.walter_rules.specs.declared.event.Event.{Event}
@@ -17,63 +17,75 @@ use Rattle.walter_rules.specs.Knowledge.{site_at}
 use Rattle.walter_rules.specs.Merges.{trail_of}
 use Rattle.walter_rules.specs.Rule.{rule}
 use Rattle.walter_rules.specs.Standing.{Standing, settled, stands_after}
-use Rattle.walter_rules.specs.Trails.{standing}
-use Rattle.walter_world.specs.declared.debts.DebtChange.{DebtChange}
+use Rattle.walter_rules.specs.Trails.{standing, clock, AreRight}
 use Rattle.walter_world.specs.declared.events.Fate.{Fate}
 use Rattle.walter_world.specs.declared.events.WorldEvent.{WorldEvent}
 use Rattle.walter_world.specs.declared.seat.Seat.{Seat}
-use Rattle.walter_world.specs.declared.taking.Effect.{Effect}
 use Rattle.walter_world.specs.Comings.{found_by, entry_of}
-use Rattle.walter_world.specs.Debts.{owed_behind, owed_by, owed_after}
 use Rattle.walter_world.specs.Events.{Brings, keeps}
-use Rattle.walter_world.specs.Seats.{IsState, IsSizedCame, HasCome, IsSeat}
+use Rattle.walter_world.specs.Seats.{AreSpelled, CanTake, HasCome, IsSeat}
 use Rattle.walter_world.specs.Worlds.{HasHappened, trails_of}
 use Rattle.walter_world.proofs.Growing.{came_kept}
-use Rattle.walter_world.proofs.Restarting.{stands_more}
+use Rattle.walter_world.proofs.Told.{stands_more}
 use Rattle.walter_world.proofs.SeatTrails.{trail_here}
 
 -- ---- one site
 
-abbrev pub debts_after : List DebtChange → Option DebtChange → List DebtChange
-debts_after debts None = debts
-debts_after debts (Some debt) = debts ++ debt ∷ []
-
-owed_more : (client : ℕ) (debts : List DebtChange) (debt : Option DebtChange)
-    → owed_after client (owed_by client debts) debt ≡ owed_by client (debts_after debts debt)
-owed_more client debts None = refl
-owed_more client debts (Some debt) = sym (fold-append (owed_behind client) None debts (debt ∷ []))
-
 -- what an event leaves of it
-pub seat_more : (catalog : Catalog) (i : SiteId) (old new : Seat) (e : Entry) (keep : Bool) (fate : Fate) (effect : Effect)
+pub seat_more : (catalog : Catalog) (i : SiteId) (old new : Seat) (e : Entry) (keep : Bool) (fate : Fate)
     → IsSeat catalog i old
     → HasCome catalog i (standing catalog i (reverse old.entries.items)) e.event
-    (found_by keep (standing catalog i (reverse old.entries.items))) fate effect new.site
-    → e.came ≡ effect.came → new.entries.items ≡ old.entries.items ++ e ∷ []
-    → new.debts.items ≡ debts_after old.debts.items effect.debt → IsSeat catalog i new
-seat_more catalog i old new e keep fate effect is has same entries debts =
+    (found_by keep (standing catalog i (reverse old.entries.items))) fate e.came new.machine
+    → new.entries.items ≡ old.entries.items ++ e ∷ [] → IsSeat catalog i new
+seat_more catalog i old new e keep fate is has entries =
     let trail = old.entries.items in
     let S : Standing = standing catalog i (reverse trail) in
     let kept : Option Record = found_by keep S in
     let kept_is : e.came.kept ≡ kept =
-    ap (λ (c : Came). c.kept) (same ∙ has.came)
-    ∙ came_kept fate e.event kept (rule catalog i (settled catalog i kept S) e.event) in
+    ap (λ (c : Came). c.kept) has.came_is ∙ came_kept fate e.event kept (rule catalog i (settled catalog i kept S) e.event) in
     let stands : standing catalog i (reverse new.entries.items)
-    ≡ stands_after catalog i (settled catalog i kept S) e.event effect.came =
+    ≡ stands_after catalog i (settled catalog i kept S) e.event e.came =
     ap (λ (t : List Entry). standing catalog i (reverse t)) entries
     ∙ (stands_more catalog i trail e
-    ∙ (ap (λ (k : Option Record). stands_after catalog i (settled catalog i k S) e.event e.came) kept_is
-    ∙ ap (λ (c : Came). stands_after catalog i (settled catalog i kept S) e.event c) same)) in
+    ∙ ap (λ (k : Option Record). stands_after catalog i (settled catalog i k S) e.event e.came) kept_is) in
     record {
-      state = subst (λ (U : Standing). IsState catalog i U new.site) (sym stands) has.state_is;
-      owed = λ client.
-          ap (λ (U : Standing). U.gone client) stands
-          ∙ (has.owes client
-          ∙ (ap (λ (o : Option Tid). owed_after client o effect.debt) (is.owed client)
-          ∙ (owed_more client old.debts.items effect.debt ∙ ap (λ (ds : List DebtChange). owed_by client ds) (sym debts))));
-      sized = subst (λ (t : List Entry). All (λ (x : Entry). IsSizedCame catalog.sites x.came) t) (sym entries)
-          (All-push (λ (x : Entry). IsSizedCame catalog.sites x.came) trail e is.sized
-          (subst (λ (c : Came). IsSizedCame catalog.sites c) (sym same) has.sized));
+      catalog_is = has.catalog_is;
+      site = has.site;
+      stands = subst (HasStanding new.machine) (sym stands) has.stands;
+      spelled = subst (λ (t : List Entry). All (λ (x : Entry). AreSpelled catalog.sites x.came) t) (sym entries)
+          (All-push (λ (x : Entry). AreSpelled catalog.sites x.came) trail e is.spelled has.spelled);
     }
+
+-- what changes nothing of how it stands
+pub seat_still : (catalog : Catalog) (i : SiteId) (old new : Seat) → IsSeat catalog i old
+    → IsSameSite old.machine new.machine → ((S : Standing) → HasStanding old.machine S → HasStanding new.machine S)
+    → new.entries.items ≡ old.entries.items → IsSeat catalog i new
+seat_still catalog i old new is same stands entries = record {
+  catalog_is = same.catalog ∙ is.catalog_is;
+  site = same.id ∙ is.site;
+  stands = subst (λ (t : List Entry). HasStanding new.machine (standing catalog i (reverse t))) (sym entries)
+      (stands (standing catalog i (reverse old.entries.items)) is.stands);
+  spelled = subst (λ (t : List Entry). All (λ (x : Entry). AreSpelled catalog.sites x.came) t) (sym entries) is.spelled;
+}
+
+-- what holds anyway holds where memory runs out
+pub where_err : {T E P : Type 0} (r : Result T E) → P → OnErr r P
+where_err (Ok done) p = tt
+where_err (Err why) p = p
+
+-- other room for its entries changes nothing
+pub can_still : (catalog : Catalog) (i : SiteId) (m : Machine) (old new : Vec Entry Global) (event : Event) (keeps : Bool)
+    → new.items ≡ old.items → CanTake catalog i (record { machine = m; entries = old }) event keeps
+    → CanTake catalog i (record { machine = m; entries = new }) event keeps
+can_still catalog i m old new event keeps same can = record {
+  seat_is = seat_still catalog i (record { machine = m; entries = old }) (record { machine = m; entries = new }) can.seat_is
+      (record { catalog = refl; id = refl }) (λ S stands. stands) same;
+  capacity = can.capacity;
+  right = subst (λ (t : List Entry). AreRight catalog can.capacity i (reverse t)) (sym same) can.right;
+  young = subst (λ (t : List Entry). clock (reverse t) < 4294967295) (sym same) can.young;
+  sized = can.sized;
+  finds = can.finds;
+}
 
 -- ---- all sites
 

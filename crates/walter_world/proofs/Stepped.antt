@@ -6,6 +6,7 @@ use Rattle.std.proofs.lemmas.Option.{slice_get-get_or, slice_get_cases, slice_ge
 use Rattle.walter_base.specs.declared.catalog.Catalog.{Catalog}
 use Rattle.walter_base.specs.declared.memory.NoMemory.{NoMemory}
 use Rattle.walter_base.specs.declared.names.SiteId.{SiteId}
+use Rattle.walter_machine.specs.Machines.{catalog_in, site_in}
 use Rattle.walter_rules.specs.declared.entry.Entry.{Entry}
 use Rattle.walter_rules.specs.Merges.{trail_of}
 use Rattle.walter_rules.specs.Trails.{clock, AreRight}
@@ -14,7 +15,7 @@ use Rattle.walter_world.specs.declared.happening.Happening.{Happening}
 use Rattle.walter_world.specs.declared.seat.Seat.{Seat}
 use Rattle.walter_world.specs.Comings.{entry_of}
 use Rattle.walter_world.specs.Happenings.{IsHappening}
-use Rattle.walter_world.specs.Seats.{IsSizedCame, IsSizedEvent, MayFind, IsSeat}
+use Rattle.walter_world.specs.Seats.{AreSpelled, CanTake, IsSeat, MayFind}
 use Rattle.walter_world.specs.Worlds.{WorldValue, AreEarly, AreRightWithPlace, CanCome, HasHappened, IsWorld, KeepPromises, StepsTo, trails_of}
 use Rattle.walter_world.proofs.Growing.{promises, step_right}
 use Rattle.walter_world.proofs.SeatTrails.{trail_here, early_at}
@@ -76,32 +77,39 @@ module _ (catalog : Catalog) (seats : List Seat) (w : WorldEvent) (h : Happening
   abbrev own : Entry
   own = entry_of catalog w.site a.entries.items h.event h.put h.keeps w.fate
 
-  pub right_here : (capacity : ℕ) × AreRight catalog capacity w.site (reverse a.entries.items)
-  right_here = (
-    enough,
-    subst (λ (t : List Entry). AreRight catalog enough w.site (reverse t)) (trail_here seats w.site.0 a S.at)
-        ((S.world.right.right enough (omega arith)).right w.site S.can.here).right,
-  )
-
   pub young_here : clock (reverse a.entries.items) < 4294967295
   young_here = early_at seats w.site.0 a 4294967295 S.can.early S.at
 
-  pub seat_here : IsSeat catalog w.site a
+  seat_here : IsSeat catalog w.site a
   seat_here = S.world.seats_are w.site.0 a S.at
 
-  all_sized : (j : SiteId) → j.0 < catalog.sites → All (λ (e : Entry). IsSizedCame catalog.sites e.came) (trail_of trails j)
+  all_sized : (j : SiteId) → j.0 < catalog.sites → All (λ (e : Entry). AreSpelled catalog.sites e.came) (trail_of trails j)
   all_sized j below = elim (slice_get_cases seats j.0).1 [
-    | inl there ↦ subst (λ (t : List Entry). All (λ (e : Entry). IsSizedCame catalog.sites e.came) t)
-        (sym (trail_here seats j.0 there.0 there.2)) (S.world.seats_are j.0 there.0 there.2).sized
+    | inl there ↦ subst (λ (t : List Entry). All (λ (e : Entry). AreSpelled catalog.sites e.came) t)
+        (sym (trail_here seats j.0 there.0 there.2)) (S.world.seats_are j.0 there.0 there.2).spelled
     | inr past ↦ let long = past.0 in let all = S.world.one_each in absurd (omega (arith, below, long, all))
   ]
 
-  pub sized_here : IsSizedEvent catalog.sites h.event
-  sized_here = event_sized catalog trails w.site all_sized w.what h.event h.put S.can.within S.comes.0
+  can_here : CanTake catalog w.site a h.event h.keeps
+  can_here = record {
+    seat_is = seat_here;
+    capacity = enough;
+    right = subst (λ (t : List Entry). AreRight catalog enough w.site (reverse t)) (trail_here seats w.site.0 a S.at)
+        ((S.world.right.right enough (omega arith)).right w.site S.can.here).right;
+    young = young_here;
+    sized = event_sized catalog trails w.site all_sized w.what h.event h.put S.can.within S.comes.0;
+    finds = subst (λ (k : Bool). MayFind h.event k) (sym S.comes.1)
+        (may_find catalog trails w.site w.what h.event h.put S.comes.0);
+  }
 
-  pub finds_here : MayFind h.event h.keeps
-  finds_here = subst (λ (k : Bool). MayFind h.event k) (sym S.comes.1)
-      (may_find catalog trails w.site w.what h.event h.put S.comes.0)
+  -- its machine is of its site
+  pub at_site : (P : Catalog → SiteId → Type 0) → P (catalog_in a.machine) (site_in a.machine) → P catalog w.site
+  at_site P p = subst (P catalog) seat_here.site (subst (λ (k : Catalog). P k (site_in a.machine)) seat_here.catalog_is p)
+
+  pub can_take : CanTake (catalog_in a.machine) (site_in a.machine) a h.event h.keeps
+  can_take =
+      subst (λ (k : Catalog). CanTake k (site_in a.machine) a h.event h.keeps) (sym seat_here.catalog_is)
+      (subst (λ (k : SiteId). CanTake catalog k a h.event h.keeps) (sym seat_here.site) can_here)
 
   pub put_below : (bound : ℕ) → AreEarly bound trails → h.put < bound
   put_below bound before = put_early catalog trails w.site enough bound (S.world.right.right enough (omega arith)) before

@@ -7,6 +7,8 @@ use Rattle.std.proofs.lemmas.List.Elements.{All-contains}
 use Rattle.walter_base.specs.declared.catalog.Catalog.{Catalog}
 use Rattle.walter_base.specs.declared.names.SiteId.{SiteId}
 use Rattle.walter_base.specs.Names.{same_site}
+use Rattle.walter_machine.specs.States.{IsSizedEvent}
+use Rattle.walter_packet.specs.Spelling.{HasPacketSpelling}
 use Rattle.walter_psi.proofs.Lists.{contains_at, Contains-flat_map_from}
 use Rattle.walter_rules.specs.declared.entry.Entry.{Entry}
 use Rattle.walter_rules.specs.declared.event.Event.{Event}
@@ -20,14 +22,15 @@ use Rattle.walter_site.specs.Members.{IsSizedPacket}
 use Rattle.walter_world.specs.declared.events.What.{What}
 use Rattle.walter_world.specs.declared.events.WorldEvent.{WorldEvent}
 use Rattle.walter_world.specs.Comings.{entry_of}
-use Rattle.walter_world.specs.Events.{packet_at, Brings, a_call, a_packet, an_advance, a_tick, a_stop, a_restart, IsWithin, keeps}
-use Rattle.walter_world.specs.Seats.{IsSizedCame, IsSizedEvent, MayFind}
+use Rattle.walter_machine.specs.Posts.{of_number}
+use Rattle.walter_world.specs.Events.{Brings, a_call, a_packet, an_advance, a_tick, a_stop, a_restart, IsWithin, keeps}
+use Rattle.walter_world.specs.Seats.{AreSpelled, MayFind}
 use Rattle.walter_world.specs.Worlds.{AreEarly, HasHappened}
 use Rattle.walter_world.proofs.Clocks.{put_later}
 
 -- ---- the packet that it brings
 
-numbered : (number : ℕ) (sent : List Stamped) (put : Stamped) → packet_at number sent ≡ Some put
+numbered : (number : ℕ) (sent : List Stamped) (put : Stamped) → of_number number sent ≡ Some put
     → (place : ℕ) × (slice_get sent place ≡ Some put)
 numbered zero sent put is = absurd cc
 numbered (suc before) sent put is = (before, is)
@@ -38,17 +41,17 @@ packet_in true stamp s put is = let e : (stamp, s.1) ≡ put = cc in ap (λ (x :
 packet_in false stamp s put is = absurd cc
 
 put_sized : (sites : ℕ) (to : SiteId) (trail : List Entry) (place : ℕ) (put : Stamped)
-    → All (λ (e : Entry). IsSizedCame sites e.came) trail → slice_get (put_out_to to trail) place ≡ Some put
+    → All (λ (e : Entry). AreSpelled sites e.came) trail → slice_get (put_out_to to trail) place ≡ Some put
     → IsSizedPacket sites put.1
 put_sized sites to trail place put all at =
     let from = Contains-flat_map_from (sent_to to) trail put (contains_at (put_out_to to trail) put place at) in
     let e : Entry = from.0 in
     let given = given_from (λ (s : Send). if same_site s.0 to then Some (e.stamp, s.1) else None) e.came.sends put from.2 in
     let is = packet_in (same_site given.0.0 to) e.stamp given.0 put given.2 in
-    let here : IsSizedCame sites e.came = All-contains (λ (x : Entry). IsSizedCame sites x.came) trail e all from.1 in
-    let sized : IsSizedPacket sites given.0.1 =
-    All-contains (λ (s : Send). IsSizedPacket sites s.1) e.came.sends given.0 here.sends given.1 in
-    subst (IsSizedPacket sites) (sym is) sized
+    let here : AreSpelled sites e.came = All-contains (λ (x : Entry). AreSpelled sites x.came) trail e all from.1 in
+    let spelled : HasPacketSpelling sites given.0.1 =
+    All-contains (λ (s : Send). HasPacketSpelling sites s.1) e.came.sends given.0 here given.1 in
+    subst (IsSizedPacket sites) (sym is) (record { sizes = spelled.sizes; among = spelled.among })
 
 module _ (catalog : Catalog) (trails : List (List Entry)) (i : SiteId) where
   pub put_early : (capacity bound : ℕ) → AreRightTrails catalog capacity trails → AreEarly bound trails
@@ -66,7 +69,7 @@ module _ (catalog : Catalog) (trails : List (List Entry)) (i : SiteId) where
   put_early capacity bound right early what event put within a_stop = let now = early i in omega (arith, now)
   put_early capacity bound right early what event put within (a_restart kept) = let now = early i in omega (arith, now)
 
-  pub event_sized : ((j : SiteId) → j.0 < catalog.sites → All (λ (e : Entry). IsSizedCame catalog.sites e.came) (trail_of trails j))
+  pub event_sized : ((j : SiteId) → j.0 < catalog.sites → All (λ (e : Entry). AreSpelled catalog.sites e.came) (trail_of trails j))
       → (what : What) (event : Event) (put : ℕ) → IsWithin catalog.sites what → Brings trails i what event put
       → IsSizedEvent catalog.sites event
   event_sized all what event put within (a_packet from number stamp packet is) =

@@ -1,8 +1,9 @@
 -- What an event comes to at a site without a disk: what the rule says; or its record meets a fault.
-use Rattle.std.specs.Prelude.{ℕ, ◌+◌, max, Bool, true, false, not, ◌&&◌, List, [], reverse, Option, Some, None, if◌then◌else◌}
+use Rattle.std.specs.Prelude.{ℕ, Bool, true, false, not, ◌&&◌, List, [], reverse, Option, Some, None, if◌then◌else◌}
 use Rattle.walter_base.specs.declared.catalog.Catalog.{Catalog}
 use Rattle.walter_base.specs.declared.message.Record.{Record}
 use Rattle.walter_base.specs.declared.names.SiteId.{SiteId}
+use Rattle.walter_machine.specs.Posts.{stamp_behind}
 use Rattle.walter_rules.specs.declared.entry.Came.{Came}
 use Rattle.walter_rules.specs.declared.entry.Entry.{Entry}
 use Rattle.walter_rules.specs.declared.event.Event.{Event}
@@ -56,7 +57,7 @@ comes_to catalog i S event kept fate = came_by fate event kept (rule catalog i (
 -- its entry, behind a trail; the packet that it brings was put out with this stamp, which is 0 where it brings none
 abbrev pub entry_of : Catalog → SiteId → List Entry → Event → ℕ → Bool → Fate → Entry
 entry_of catalog i trail event put keeps fate = record {
-  stamp = max (clock (reverse trail)) put + 1;
+  stamp = stamp_behind (clock (reverse trail)) put;
   event = event;
   came = comes_to catalog i (standing catalog i (reverse trail)) event
       (found_by keeps (standing catalog i (reverse trail))) fate;

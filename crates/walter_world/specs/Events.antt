@@ -1,10 +1,11 @@
 -- What comes to a site of what is said to happen, by what the trails of all sites have put out.
-use Rattle.std.specs.Prelude.{◌≡◌, ◌<◌, ◌≤◌, ℕ, zero, suc, Bool, false, List, slice_get, length, Option, Some, None, Result}
+use Rattle.std.specs.Prelude.{◌≡◌, ◌<◌, ◌≤◌, ℕ, Bool, false, List, length, Option, Some, None, Result}
 use Rattle.walter_base.specs.declared.message.BadFrame.{BadFrame}
 use Rattle.walter_base.specs.declared.message.Request.{Request}
 use Rattle.walter_base.specs.declared.names.SiteId.{SiteId}
 use Rattle.walter_base.specs.declared.packet.Packet.{Packet}
 use Rattle.walter_conn.specs.Frames.{CallsFor}
+use Rattle.walter_machine.specs.Posts.{of_number}
 use Rattle.walter_rules.specs.declared.entry.Entry.{Entry}
 use Rattle.walter_rules.specs.declared.event.Event.{Event}
 use Rattle.walter_rules.specs.declared.event.Event.TheVariants as event
@@ -13,14 +14,9 @@ use Rattle.walter_rules.specs.Merges.{Stamped, put_out_to, trail_of}
 use Rattle.walter_world.specs.declared.events.What.{What}
 use Rattle.walter_world.specs.declared.events.What.TheVariants.{Call, Deliver, Advance, Tick, Stop, Restart}
 
--- the packet of a number, counted from 1
-abbrev pub packet_at : ℕ → List Stamped → Option Stamped
-packet_at zero sent = None
-packet_at (suc before) sent = slice_get sent before
-
 -- the packet of a number that a site has put out to another
 abbrev pub put_by : List (List Entry) → SiteId → SiteId → ℕ → Option Stamped
-put_by trails from to number = packet_at number (put_out_to to (trail_of trails from))
+put_by trails from to number = of_number number (put_out_to to (trail_of trails from))
 
 -- what comes to the site, and the stamp of the packet that it brings, 0 where it brings none: a call is what its bytes
 -- call for, and a packet the one of its number that was put out

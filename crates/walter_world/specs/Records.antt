@@ -1,7 +1,13 @@
--- The records of a trail, and the one in flight.
-use Rattle.std.specs.Prelude.{List, [], ◌∷◌, ◌++◌, flat_map, Option, Some, None}
+-- The records of a trail, and what they tell.
+use Rattle.std.specs.Prelude.{◌≡◌, ◌+◌, ◌<◌, ◌^◌, List, [], ◌∷◌, ◌++◌, flat_map, length, Option, Some, None, All}
+use Rattle.walter_base.specs.declared.catalog.Catalog.{Catalog}
 use Rattle.walter_base.specs.declared.message.Record.{Record}
+use Rattle.walter_base.specs.declared.names.SiteId.{SiteId}
 use Rattle.walter_rules.specs.declared.entry.Entry.{Entry}
+use Rattle.walter_rules.specs.Knowledge.{fresh}
+use Rattle.walter_rules.specs.Records.{CanAllFollow, IsRecordAmong, replayed}
+use Rattle.walter_tables.specs.Sites.{site_of, catalog_of, Stands}
+use Rattle.walter_world.specs.declared.replaying.Told.{Told}
 
 -- the record of an option, if there is one
 abbrev pub one_of : Option Record → List Record
@@ -12,7 +18,15 @@ one_of (Some rec) = rec ∷ []
 abbrev pub records_of : List Entry → List Record
 records_of trail = flat_map (λ (e : Entry). one_of e.came.kept ++ one_of e.came.wrote) trail
 
--- none is in flight any more where it was found
-abbrev pub flight_settled : Option Record → Option Record → Option Record
-flight_settled None flight = flight
-flight_settled (Some rec) flight = None
+-- each can stand behind those before it
+pub record CanBeReplayed (catalog : Catalog) (i : SiteId) (records : List Record) : Type 0 where
+  pub follow : CanAllFollow catalog i fresh records
+  pub sizes : All (IsRecordAmong catalog.sites) records
+
+-- these records tell it; and one more can be counted
+pub record IsTold (catalog : Catalog) (i : SiteId) (records : List Record) (told : Told) : Type 0 where
+  pub stands : Stands told.tables (replayed catalog i fresh records)
+  pub site : site_of told.tables ≡ i
+  pub catalog_is : catalog_of told.tables ≡ catalog
+  pub count : told.count ≡ length records
+  pub countable : told.count + 1 < 2 ^ 64

@@ -2,14 +2,12 @@
 //! outside; their trails are right and linked, whatever happens.
 #![tactic(auto)]
 
-mod debts;
 mod events;
 mod happening;
 mod laws;
 mod posted;
 mod replaying;
 mod seat;
-mod taking;
 mod world;
 
 pub use events::{Fate, What, WorldEvent};

@@ -1,13 +1,13 @@
 ghost use Rattle.std.specs.Prelude.{◌≡◌, ◌<◌, ◌+◌, ◌-◌, length, slice_get, Some, IfOk, IfErr};
+ghost use Rattle.walter_machine.specs.Posts.{of_number};
 ghost use Rattle.walter_rules.specs.Merges.{put_out_to, sent_to};
-ghost use Rattle.walter_world.specs.Events.{packet_at};
 
 use walter_base::{Mem, Packet, SiteId};
 use walter_rules::Entry;
 
 /// The packet of this number, from 1, among those that a trail puts out to a site, with the stamp of its entry.
 pub(crate) fn packet_to(entries: &[Entry], to: SiteId, number: u32) -> Mem<Option<(u64, Packet)>>
-    ensures { IfOk result (λ found. found ≡ packet_at number (put_out_to to entries.now)) }
+    ensures { IfOk result (λ found. found ≡ of_number number (put_out_to to entries.now)) }
 {
     if number == 0 {
         return Ok(None);

@@ -1,24 +1,29 @@
-ghost use Rattle.std.specs.Prelude.{◌≡◌, ◌<◌, ◌≤◌, ◌+◌, ◌++◌, ◌∷◌, [], ℕ, max, reverse, IfOk, OnErr, OnOk};
-ghost use Rattle.walter_base.specs.Vectors.{most_sites};
-ghost use Rattle.walter_rules.specs.Trails.{standing, clock, AreRight};
-ghost use Rattle.walter_world.specs.Comings.{entry_of, found_by};
-ghost use Rattle.walter_world.specs.Seats.{HasCome, IsSeat, IsSizedEvent, IsState, MayFind};
+ghost use Rattle.std.specs.Prelude.{◌≡◌, ◌<◌, ◌++◌, ◌∷◌, ◌↔◌, [], ℕ, IsTrue, false, None, reverse, IfOk, OnErr, OnOk};
+ghost use Rattle.walter_machine.specs.Machines.{catalog_in, site_in, tables_in, is_up, HasRoom, HasStanding, IsCounted};
+ghost use Rattle.walter_machine.specs.Posts.{stamp_behind};
+ghost use Rattle.walter_machine.specs.Readiness.{IsReadyFor, IsReadyAnyway, rec_in};
+ghost use Rattle.walter_rules.specs.declared.event.Event.TheVariants.{Restart};
+ghost use Rattle.walter_rules.specs.Knowledge.{Knowledge};
+ghost use Rattle.walter_rules.specs.Standing.{Standing, settled};
+ghost use Rattle.walter_rules.specs.Trails.{clock};
+ghost use Rattle.walter_tables.specs.Sites.{site_of, catalog_of, Stands};
+ghost use Rattle.walter_world.specs.Comings.{breaks, entry_of, found_by};
+ghost use Rattle.walter_world.specs.Records.{IsTold};
+ghost use Rattle.walter_world.specs.Seats.{CanTake, HasCome, IsSeat, standing_of};
 
-use crate::debts::{DebtChange, debt_of};
 use crate::events::Fate;
-use crate::taking::{Effect, give, restart, stop};
+use crate::replaying::{Told, replay, told_by};
 use std::alloc::Global;
-use walter_base::{Catalog, Mem, SiteId};
-use walter_rules::{Entry, Event};
-use walter_site::Site;
+use walter_base::{Mem, NoMemory};
+use walter_machine::{BootFault, Machine, Ready};
+use walter_rules::{Came, Entry, Event};
+use walter_tables::Tables;
 
-/// A site without a disk, with its trail, and what has changed what its clients are owed. The site is there while it is
-/// up.
+/// A site without a disk, with its trail.
 #[derive(Drop)]
 pub(crate) struct Seat {
-    pub site: Option<Site>,
+    pub machine: Machine,
     pub entries: Vec<Entry>,
-    pub debts: Vec<DebtChange>,
 }
 
 impl Seat {
@@ -32,82 +37,132 @@ impl Seat {
         }
     }
 
-    /// An event comes to the site of this catalog, with this stamp; a restart finds the record in flight or doesn't.
+    /// An event comes to the site, with this stamp; a restart finds the record in flight or doesn't.
     pub fn take(
         &mut self,
         alloc: Global,
-        catalog: &Catalog,
-        id: SiteId,
         stamp: u64,
         event: Event,
         keeps: bool,
         fate: Fate,
     ) -> Mem<()>
-        requires here { id.0 < catalog.now.sites }
-        requires most { catalog.now.sites ≤ most_sites }
-        requires fewer { catalog.now.tolerated < catalog.now.sites }
-        requires right { (capacity : ℕ) × AreRight catalog.now capacity id (reverse self.old.entries.items) }
-        requires young { clock (reverse self.old.entries.items) < 4294967295 }
-        requires seat { IsSeat catalog.now id self.old }
-        requires sized { IsSizedEvent catalog.now.sites event }
-        requires finds { MayFind event keeps }
-        ensures takes { (put : ℕ) → stamp ≡ max (clock (reverse self.old.entries.items)) put + 1
+        requires { CanTake (catalog_in self.old.machine) (site_in self.old.machine) self.old event keeps }
+        ensures takes { (put : ℕ) → stamp ≡ stamp_behind (clock (reverse self.old.entries.items)) put
             → OnOk result (self.new.entries.items ≡ self.old.entries.items
-            ++ entry_of catalog.now id self.old.entries.items event put keeps fate ∷ []) }
+            ++ entry_of (catalog_in self.old.machine) (site_in self.old.machine) self.old.entries.items event put keeps
+            fate ∷ []) }
         ensures same { OnErr result (self.new.entries.items ≡ self.old.entries.items) }
-        ensures seat { IsSeat catalog.now id self.new }
+        ensures seat { IsSeat (catalog_in self.old.machine) (site_in self.old.machine) self.new }
     {
         self.entries.reserve(1)?;
-        self.debts.reserve(1)?;
-        let Effect { came, debt } = self.effect_of(alloc, catalog, id, &event, keeps, fate)?;
+        let came = self.came_of(alloc, &event, keeps, fate)?;
         self.entries.push_reserved(Entry { stamp, event, came });
-        if let Some(debt) = debt {
-            self.debts.push_reserved(debt);
-        }
         Ok(())
     }
 
     // What comes of an event; the site is then as it leaves it.
-    fn effect_of(
-        &mut self,
-        alloc: Global,
-        catalog: &Catalog,
-        id: SiteId,
-        event: &Event,
-        keeps: bool,
-        fate: Fate,
-    ) -> Mem<Effect>
-        requires here { id.0 < catalog.now.sites }
-        requires most { catalog.now.sites ≤ most_sites }
-        requires fewer { catalog.now.tolerated < catalog.now.sites }
-        requires right { (capacity : ℕ) × AreRight catalog.now capacity id (reverse self.old.entries.items) }
-        requires young { clock (reverse self.old.entries.items) < 4294967295 }
-        requires seat { IsSeat catalog.now id self.old }
-        requires sized { IsSizedEvent catalog.now.sites event.now }
-        requires finds { MayFind event.now keeps }
-        ensures comes { IfOk result (λ effect.
-            HasCome catalog.now id (standing catalog.now id (reverse self.old.entries.items)) event.now
-            (found_by keeps (standing catalog.now id (reverse self.old.entries.items))) fate effect self.new.site) }
-        ensures left { OnErr result
-            (IsState catalog.now id (standing catalog.now id (reverse self.old.entries.items)) self.new.site) }
+    fn came_of(&mut self, alloc: Global, event: &Event, keeps: bool, fate: Fate) -> Mem<Came>
+        requires { CanTake (catalog_in self.old.machine) (site_in self.old.machine) self.old event.now keeps }
+        ensures comes { IfOk result (λ came. HasCome (catalog_in self.old.machine) (site_in self.old.machine)
+            (standing_of self.old) event.now (found_by keeps (standing_of self.old)) fate came self.new.machine) }
+        ensures left { OnErr result (IsSeat (catalog_in self.old.machine) (site_in self.old.machine) self.new) }
         ensures entries { self.new.entries ≡ self.old.entries }
-        ensures debts { self.new.debts ≡ self.old.debts }
     {
-        match event {
-            Event::Given(input) => {
-                let owed = debt_of(&self.debts, input);
-                give(alloc, &mut self.site, owed, input, fate)
-            }
-            Event::Stop => Ok(stop(alloc, &mut self.site)),
-            Event::Restart => restart(
-                alloc,
-                &mut self.site,
-                catalog,
-                id,
-                &self.entries,
-                keeps,
-                fate,
-            ),
+        if rises(&self.machine, event) {
+            return self.rise(alloc, keeps, fate);
         }
+        self.machine.make_room()?;
+        let ready = self.machine.prepare(event)?;
+        Ok(come(&mut self.machine, event, ready, fate))
+    }
+
+    // What comes of the restart of a site that is down.
+    fn rise(&mut self, alloc: Global, keeps: bool, fate: Fate) -> Mem<Came>
+        requires can { CanTake (catalog_in self.old.machine) (site_in self.old.machine) self.old Restart keeps }
+        requires down { is_up self.old.machine ≡ false }
+        ensures comes { IfOk result (λ came. HasCome (catalog_in self.old.machine) (site_in self.old.machine)
+            (standing_of self.old) Restart (found_by keeps (standing_of self.old)) fate came self.new.machine) }
+        ensures left { OnErr result (IsSeat (catalog_in self.old.machine) (site_in self.old.machine) self.new) }
+        ensures entries { self.new.entries ≡ self.old.entries }
+    {
+        let Told { tables, count } = self.told(alloc, keeps)?;
+        let ready = boot(alloc, tables)?;
+        self.machine.make_room()?;
+        let kept = self.machine.settle(count);
+        let came = come(&mut self.machine, &Event::Restart, ready, fate);
+        Ok(Came { kept, ..came })
+    }
+
+    // What the records of a site that is down tell, with the one in flight behind them where that is to be found.
+    fn told(&self, alloc: Global, keeps: bool) -> Mem<Told>
+        requires seat { IsSeat (catalog_in self.now.machine) (site_in self.now.machine) self.now }
+        requires down { is_up self.now.machine ≡ false }
+        ensures { IfOk result (IsTold (catalog_in self.now.machine) (site_in self.now.machine)
+            (settled (catalog_in self.now.machine) (site_in self.now.machine) (found_by keeps (standing_of self.now))
+            (standing_of self.now)).records) }
+    {
+        let mut told = told_by(
+            alloc,
+            self.machine.catalog(),
+            self.machine.id(),
+            &self.entries,
+        )?;
+        if !keeps {
+            return Ok(told);
+        }
+        let Some(rec) = self.machine.flight() else {
+            return Ok(told);
+        };
+        replay(&mut told, rec)?;
+        Ok(told)
+    }
+}
+
+// Whether a site is to come up by this.
+fn rises(machine: &Machine, event: &Event) -> bool
+    ensures { IsTrue result ↔ (is_up machine.now ≡ false) × (event.now ≡ Restart) }
+{
+    match event {
+        Event::Restart => !machine.is_up(),
+        _ => false,
+    }
+}
+
+// The next epoch of a site that has one, whose records tell these tables.
+fn boot(alloc: Global, tables: Tables) -> Mem<Ready>
+    requires { (K : Knowledge) × Stands tables K × (K.epoch < 4294967295) }
+    ensures ready { (S : Standing) → S.up ≡ false → Stands tables S.knows
+        → IfOk result (IsReadyFor (catalog_of tables) (site_of tables) None S Restart) }
+    ensures anyway { IfOk result (IsReadyAnyway (catalog_of tables) (site_of tables) None Restart) }
+{
+    match Ready::boot(alloc, tables) {
+        Ok(ready) => Ok(ready),
+        Err(BootFault::NoMemory) => Err(NoMemory),
+        Err(BootFault::LastEpoch) => unreachable!(),
+    }
+}
+
+// What comes of the event that this is ready for: its record is stable, or it meets a fault.
+fn come(machine: &mut Machine, event: &Event, ready: Ready, fate: Fate) -> Came
+    requires room { HasRoom machine.old }
+    requires anyway { IsReadyAnyway (catalog_in machine.old) (site_in machine.old) (tables_in machine.old) event.now
+        ready }
+    ensures { (S : Standing) → HasStanding machine.old S → IsCounted machine.old S (rec_in ready)
+        → IsReadyFor (catalog_in machine.old) (site_in machine.old) (tables_in machine.old) S event.now ready
+        → HasCome (catalog_in machine.old) (site_in machine.old) S event.now None fate result machine.new }
+{
+    if breaks(fate, &ready) {
+        return machine.fail(event, ready);
+    }
+    machine.keep(event, ready).0
+}
+
+// Whether there is a record that meets a fault.
+fn breaks(fate: Fate, ready: &Ready) -> bool
+    ensures { result ≡ breaks fate (rec_in ready.now) }
+{
+    match (fate, ready.record()) {
+        (Fate::Broken, Some(_)) => true,
+        _ => false,
     }
 }

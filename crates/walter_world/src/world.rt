@@ -14,6 +14,7 @@ use crate::seat::Seat;
 use std::alloc::Global;
 use std::marker::Model;
 use walter_base::{Catalog, Mem, SiteId};
+use walter_machine::Machine;
 use walter_rules::Event;
 use walter_trail::Trail;
 
@@ -98,7 +99,7 @@ impl World {
         };
         let seat = &mut self.seats[usize::from(site.0)];
         let stamp = seat.clock().max(put) + 1;
-        seat.take(self.alloc, &self.catalog, site, stamp, event, keeps, fate)
+        seat.take(self.alloc, stamp, event, keeps, fate)
     }
 
     /// Whether the event can come: its sites are of the catalog, the body of a call fits its frame, and there are stamps
@@ -173,10 +174,9 @@ fn seat_of(alloc: Global, catalog: &Catalog, id: SiteId) -> Mem<Seat>
         seat.entries.items ≡ entry_of catalog.now id [] event.Restart 0 false fate.Fine ∷ []) }
 {
     let mut seat = Seat {
-        site: None,
+        machine: Machine::new(alloc, catalog.clone()?, id),
         entries: Vec::new(alloc),
-        debts: Vec::new(alloc),
     };
-    seat.take(alloc, catalog, id, 1, Event::Restart, false, Fate::Fine)?;
+    seat.take(alloc, 1, Event::Restart, false, Fate::Fine)?;
     Ok(seat)
 }

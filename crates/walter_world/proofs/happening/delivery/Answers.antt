@@ -4,7 +4,8 @@ use Rattle.walter_rules.specs.declared.entry.Entry.{Entry}
 use Rattle.walter_world.proofs.happening.delivery.Goals as goal
 use Rattle.walter_rules.specs.Merges.{put_out_to}
 use Rattle.walter_world.specs.declared.seat.Seat.{Seat}
-use Rattle.walter_world.specs.Events.{a_packet, packet_at}
+use Rattle.walter_machine.specs.Posts.{of_number}
+use Rattle.walter_world.specs.Events.{a_packet}
 use Rattle.walter_world.proofs.Bringing.{found_put}
 
 pub returns : goal.returns
@@ -19,8 +20,8 @@ returns c =
       a_packet from c.args.number c.in-Some.put c.in-Some.packet
           (found_put seats from c.args.to c.args.number seat c.in_ok-put.field-0 at
           (c.in_ok-put.ensures
-          ∙ (ap (λ (es : List Entry). packet_at c.args.number (put_out_to c.args.to es)) c.deref.ensures.value
-          ∙ ap (λ (s : Seat). packet_at c.args.number (put_out_to c.args.to s.entries.items)) (sym c.index-seats-from.is)))
+          ∙ (ap (λ (es : List Entry). of_number c.args.number (put_out_to c.args.to es)) c.deref.ensures.value
+          ∙ ap (λ (s : Seat). of_number c.args.number (put_out_to c.args.to s.entries.items)) (sym c.index-seats-from.is)))
           ∙ c.in-Some.is),
       refl,
     )

@@ -1,17 +1,26 @@
-use Rattle.std.proofs.Common.{◌≡◌, ap, sym, ◌∙◌, subst, Option, Some}
-use Rattle.std.specs.Prelude.{IfSome}
+use Rattle.std.proofs.Common.{◌++◌, List, Option, sym, subst}
+use Rattle.std.specs.Prelude.{OnOk}
+use Rattle.std.proofs.lemmas.List.{append-nil}
 use Rattle.walter_base.specs.declared.message.Record.{Record}
-use Rattle.walter_rules.specs.Learning.{recorded}
-use Rattle.walter_rules.specs.Records.{IsRecordAmong}
-use Rattle.walter_tables.specs.Sites.{site_of, catalog_of, Stands}
+use Rattle.walter_world.specs.Records.{CanBeReplayed, IsTold, one_of}
 use Rattle.walter_world.proofs.replaying.replay_any.Goals as goal
 
-pub returns-in-Ok-clause-stands : goal.returns-in-Ok-clause-stands
-returns-in-Ok-clause-stands c K stands =
-    let catalog = catalog_of c.args.tables.now in
-    let copy = c.in_ok-clone.field-0 in
-    let is : c.args.rec.now ≡ Some copy =
-    c.in-Some.ensures.some ∙ ap (λ (r : Record). Some r) (sym c.in_ok-clone.ensures.cases) in
-    let sized = subst (λ (o : Option Record). IfSome o (IsRecordAmong catalog.sites)) is c.requires.sized in
-    subst (λ (o : Option Record). Stands c.replay.new.self (recorded catalog (site_of c.args.tables.now) o K)) (sym is)
-    (c.in-Ok.ensures.stands K stands (c.in-Ok.ensures.ok K stands) sized)
+pub replay-requires : goal.replay-requires
+replay-requires c =
+    let r = c.requires in (
+      r.0,
+      r.1,
+      r.2,
+      r.3,
+      subst (λ (o : Option Record). CanBeReplayed r.0 r.1 (r.2 ++ one_of o)) c.in-Some.ensures.some r.4,
+    )
+
+pub returns-in-Some : goal.returns-in-Some
+returns-in-Some c catalog i records is =
+    subst (λ (o : Option Record). OnOk c.replay.result (IsTold catalog i (records ++ one_of o) c.replay.new.told))
+    (sym c.in-Some.ensures.some) (c.replay.ensures catalog i records is)
+
+pub returns-in-None : goal.returns-in-None
+returns-in-None c catalog i records is =
+    subst (λ (o : Option Record). IsTold catalog i (records ++ one_of o) c.args.told.now) (sym c.in-None.ensures.none)
+    (subst (λ (rs : List Record). IsTold catalog i rs c.args.told.now) (sym (append-nil records)) is)

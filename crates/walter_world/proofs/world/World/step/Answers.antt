@@ -2,11 +2,13 @@ use Rattle.std.proofs.Common.{◌≡◌, ◌⊎◌, ◌+◌, ◌++◌, ◌∷◌
 use Rattle.std.specs.Prelude.{OnOk}
 use Rattle.std.proofs.lemmas.List.{length-set}
 use Rattle.walter_base.specs.declared.catalog.Catalog.{Catalog}
+use Rattle.walter_base.specs.declared.names.SiteId.{SiteId}
 use Rattle.walter_rules.specs.declared.entry.Entry.{Entry}
 use Rattle.walter_world.specs.declared.seat.Seat.{Seat}
 use Rattle.walter_world.specs.Comings.{entry_of}
+use Rattle.walter_world.specs.Seats.{IsSeat}
 use Rattle.walter_world.specs.Worlds.{WorldValue, AreEarly, IsWorld, KeepPromises, StepsTo, trails_of}
-use Rattle.walter_world.proofs.Stepped.{IsStepping, world_promises, more_or_same, on_ok, on_err, stepping, right_here, young_here, seat_here, sized_here, put_below, steps_on, same_trails, world_on, later_on}
+use Rattle.walter_world.proofs.Stepped.{IsStepping, world_promises, more_or_same, on_ok, on_err, stepping, at_site, can_take, young_here, put_below, steps_on, same_trails, world_on, later_on}
 use Rattle.walter_world.proofs.world.World.step.Goals.{After-index_mut-seat, After-take}
 use Rattle.walter_world.proofs.world.World.step.Goals as goal
 
@@ -42,17 +44,8 @@ overflow_add-stamp c =
     let most = c.max-stamp.ensures in
     omega (arith, put, last, clock, most)
 
-pub take-requires-clause-right : goal.take-requires-clause-right
-take-requires-clause-right c = right_here _ _ _ _ _ (stepped (goal.at.take-requires-clause-right c).After-index_mut-seat)
-
-pub take-requires-clause-young : goal.take-requires-clause-young
-take-requires-clause-young c = young_here _ _ _ _ _ (stepped (goal.at.take-requires-clause-young c).After-index_mut-seat)
-
-pub take-requires-clause-seat : goal.take-requires-clause-seat
-take-requires-clause-seat c = seat_here _ _ _ _ _ (stepped (goal.at.take-requires-clause-seat c).After-index_mut-seat)
-
-pub take-requires-clause-sized : goal.take-requires-clause-sized
-take-requires-clause-sized c = sized_here _ _ _ _ _ (stepped (goal.at.take-requires-clause-sized c).After-index_mut-seat)
+pub take-requires : goal.take-requires
+take-requires c = can_take _ _ _ _ _ (stepped (goal.at.take-requires c).After-index_mut-seat)
 
 -- ---- the site takes it, or wants memory
 
@@ -82,8 +75,17 @@ module _ (c : After-take) where
 
   -- it has the entry of the event behind those from before
   entered : OnOk c.take.result Entered
-  entered = c.take.ensures.takes c.in-Some.field-0.put
-      (ap (λ (n : ℕ). n + 1) (c.max-stamp.ensures ∙ ap (λ (n : ℕ). max n c.in-Some.field-0.put) c.clock.ensures))
+  entered = at_site catalog seats c.args.event c.in-Some.field-0 a S
+      (λ (k : Catalog). λ (i : SiteId). OnOk c.take.result (x.entries.items
+      ≡ a.entries.items ++ entry_of k i a.entries.items c.in-Some.field-0.event c.in-Some.field-0.put
+      c.in-Some.field-0.keeps c.args.event.fate ∷ []))
+      (c.take.ensures.takes c.in-Some.field-0.put
+      (ap (λ (n : ℕ). n + 1) (c.max-stamp.ensures ∙ ap (λ (n : ℕ). max n c.in-Some.field-0.put) c.clock.ensures)))
+
+  -- it stands as its trail says
+  seat_then : IsSeat catalog c.args.event.site x
+  seat_then = at_site catalog seats c.args.event c.in-Some.field-0 a S (λ (k : Catalog). λ (i : SiteId). IsSeat k i x)
+      c.take.ensures.seat
 
   left : (x.entries.items ≡ a.entries.items) ⊎ Entered
   left = more_or_same c.take.result a.entries.items x.entries.items
@@ -92,7 +94,7 @@ module _ (c : After-take) where
 
   world : IsWorld catalog (set seats c.from.result x)
   world = subst (λ (n : ℕ). IsWorld catalog (set seats n x)) (sym c.from.ensures)
-      (world_on catalog seats c.args.event c.in-Some.field-0 a S x c.take.ensures.seat left)
+      (world_on catalog seats c.args.event c.in-Some.field-0 a S x seat_then left)
 
 pub invariant_of-self : goal.invariant_of-self
 invariant_of-self c =
@@ -107,7 +109,7 @@ returns-clause-steps c =
     on_ok c.take.result (entered at) (λ grown.
     subst (λ (v : WorldValue). StepsTo v.catalog v.trails c.args.event (trails_of (set (seats at) c.from.result (x at)))) c.self.view_is
     (subst (λ (n : ℕ). StepsTo (catalog at) (trails_of (seats at)) c.args.event (trails_of (set (seats at) n (x at)))) (sym c.from.ensures)
-    (steps_on (catalog at) (seats at) c.args.event c.in-Some.field-0 (a at) (S at) (x at) c.take.ensures.seat grown)))
+    (steps_on (catalog at) (seats at) c.args.event c.in-Some.field-0 (a at) (S at) (x at) (seat_then at) grown)))
 
 pub returns-clause-same : goal.returns-clause-same
 returns-clause-same c =
@@ -115,14 +117,14 @@ returns-clause-same c =
     on_err c.take.result c.take.ensures.same (λ same.
     ap (λ (t : List (List Entry)). value (catalog at) t)
     (ap (λ (n : ℕ). trails_of (set (seats at) n (x at))) c.from.ensures
-    ∙ same_trails (catalog at) (seats at) c.args.event c.in-Some.field-0 (a at) (S at) (x at) c.take.ensures.seat same)
+    ∙ same_trails (catalog at) (seats at) c.args.event c.in-Some.field-0 (a at) (S at) (x at) (seat_then at) same)
     ∙ c.self.view_is)
 
 pub returns-clause-later : goal.returns-clause-later
 returns-clause-later c bound before =
     let at = (goal.at.returns-clause-later c).After-take in
     subst (λ (n : ℕ). AreEarly (bound + 1) (trails_of (set (seats at) n (x at)))) (sym c.from.ensures)
-    (later_on (catalog at) (seats at) c.args.event c.in-Some.field-0 (a at) (S at) (x at) c.take.ensures.seat (left at) bound
+    (later_on (catalog at) (seats at) c.args.event c.in-Some.field-0 (a at) (S at) (x at) (seat_then at) (left at) bound
     (subst (λ (v : WorldValue). AreEarly bound v.trails) (sym c.self.view_is) before))
 
 pub returns-clause-promises : goal.returns-clause-promises

@@ -1,0 +1,36 @@
+use Rattle.std.proofs.Common.{sym, ◌∙◌, subst}
+use Rattle.walter_machine.specs.Machines.{catalog_in, site_in, tables_in}
+use Rattle.walter_machine.specs.Readiness.{rec_in}
+use Rattle.walter_world.specs.Seats.{AreSpelled}
+use Rattle.walter_world.proofs.Coming.{breaks_some, comes_stable, comes_broken, fallen_spelled}
+use Rattle.walter_world.proofs.seat.come.Goals as goal
+
+pub fail-requires-clause-flies : goal.fail-requires-clause-flies
+fail-requires-clause-flies c =
+    breaks_some c.args.fate (rec_in c.args.ready) (sym c.breaks.ensures ∙ c.if-breaks.true)
+
+pub returns-then-breaks : goal.returns-then-breaks
+returns-then-breaks c S stands counted is =
+    let m = c.args.machine.now in
+    let falls = sym c.breaks.ensures ∙ c.if-breaks.true in
+    record {
+      catalog_is = c.fail.ensures.same.catalog;
+      site = c.fail.ensures.same.id;
+      came_is = comes_broken (catalog_in m) (site_in m) (tables_in m) S c.args.event.now c.args.ready c.args.fate c.fail.result
+          is falls c.fail.ensures.came;
+      stands = c.fail.ensures.stands S stands counted is;
+      spelled = fallen_spelled (catalog_in m).sites c.args.event.now (rec_in c.args.ready) c.fail.result
+          (breaks_some c.args.fate (rec_in c.args.ready) falls) c.fail.ensures.came;
+    }
+
+pub returns : goal.returns
+returns c S stands counted is =
+    let m = c.args.machine.now in
+    record {
+      catalog_is = c.keep.ensures.same.catalog;
+      site = c.keep.ensures.same.id;
+      came_is = comes_stable (catalog_in m) (site_in m) (tables_in m) S c.args.event.now c.args.ready c.args.fate
+          c.keep.result.0 is (sym c.breaks.ensures ∙ c.if-breaks.false) c.keep.ensures.came;
+      stands = c.keep.ensures.stands S stands counted is;
+      spelled = subst (AreSpelled (catalog_in m).sites) (sym c.keep.ensures.came) is.sized.sends;
+    }
