@@ -1,1 +1,10 @@
-pub mod Replayed
+pub mod Bodies
+pub mod Crashes
+pub mod Resting
+pub mod Room
+pub mod Spelled
+pub mod Written
+pub mod Raising
+pub mod Loads
+pub mod Firsts
+pub mod Taking

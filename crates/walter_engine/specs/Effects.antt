@@ -1,15 +1,19 @@
 -- What an event comes to at a site over its journal, and what it leaves.
-use Rattle.std.specs.Prelude.{◌≡◌, ◌⊎◌, ◌+◌, ◌≤◌, ℕ, false, List, map, take, slice_get, Option, Some, None, All, IfSome}
+use Rattle.std.specs.Prelude.{◌≡◌, ◌⊎◌, ◌+◌, ◌≤◌, ℕ, false, List, map, take, slice_get, Option, Some, None, All, IfSome, IsSome, is_some}
 use Rattle.walter_base.specs.declared.catalog.Catalog.{Catalog}
 use Rattle.walter_base.specs.declared.message.Record.{Record}
 use Rattle.walter_base.specs.declared.names.SiteId.{SiteId}
 use Rattle.walter_disk.specs.declared.disk.Disk.{Ghosts}
+use Rattle.walter_disk.specs.Images.{LeavesOnly}
+use Rattle.walter_engine.specs.declared.answers.Effect.{Effect}
 use Rattle.walter_engine.specs.declared.answers.RefusedRestart.{RefusedRestart}
 use Rattle.walter_engine.specs.declared.answers.RefusedRestart.TheVariants.{Foreign, Damaged, Unreadable, LastEpoch}
 use Rattle.walter_engine.specs.declared.engine.Engine.{Engine}
-use Rattle.walter_engine.specs.Engines.{Stands}
+use Rattle.walter_engine.specs.Contents.{MayHaveNext}
+use Rattle.walter_engine.specs.Engines.{Stands, OfDisk, OfDisks, IsSameEngine, catalog_in, site_in, capacity_in}
 use Rattle.walter_journal.specs.Layout.{HasContent, IsForeign, IsDamaged}
-use Rattle.walter_machine.specs.Comings.{IsRest}
+use Rattle.walter_machine.specs.Comings.{IsRest, IsSized, IsFaulty}
+use Rattle.walter_packet.specs.Framed.{frame_of}
 use Rattle.walter_record.specs.Spelling.{record_spelled, HasRecordSpelling}
 use Rattle.walter_rules.specs.declared.entry.Came.{Came}
 use Rattle.walter_rules.specs.declared.event.Event.{Event}
@@ -71,6 +75,24 @@ pub record HasCome {D : Type 0} {g : Ghosts D} (catalog : Catalog) (capacity : �
       (why ≡ LastEpoch) × ((settled catalog i came.kept S).knows.epoch ≡ 4294967295))
   pub takes_none : S.up ≡ false → event ≡ Restart → (settled catalog i came.kept S).knows.epoch ≡ 4294967295
       → TakesNoEpoch came
+
+-- What is so of each event. What a crash at any moment of it leaves is known; where a restart is refused, the bytes that the
+-- disk has are the cause; what is put out has its frames; the disk's faults rise just where one was met.
+pub record HasTaken {D : Type 0} {g : Ghosts D} (old new : Engine D g) (event : Event) (effect : Effect) : Type 0 where
+  pub comes : (S : Standing) → Stands old S
+      → HasCome (catalog_in old) (capacity_in old) (site_in old) S event effect.came effect.refused new
+  pub any_moment : (S : Standing) → Stands old S → OfDisks old new (λ before now.
+      LeavesOnly g.moment g.left_since before now (MayHaveNext (catalog_in old) (site_in old) S event effect.came.kept))
+  pub refused : OfDisk new (λ disk. IfSome (g.known disk).reads (λ bytes.
+      IfSome effect.refused (IsRefusedFor (catalog_in old) (site_in old) bytes)))
+  pub why : effect.came.outcome ≡ Refused → IsSome effect.refused
+  pub sized : IsSized (catalog_in old).sites effect.came
+  pub framed : effect.frames.items ≡ map (λ s. frame_of (catalog_in old).sites s.1) effect.came.sends
+  pub none_dropped : effect.came.dropped ≡ 0
+  pub faults : OfDisks old new (λ before now. IsFaulty effect.came (g.known before).faults (g.known now).faults)
+  pub arms : OfDisks old new (λ before now. (g.known now).arms ≡ (g.known before).arms)
+  pub tells : OfDisks old new (λ before now. is_some (g.known now).reads ≡ is_some (g.known before).reads)
+  pub engine : IsSameEngine old new
 
 -- ---- how many calls of the disk an arm counts
 

@@ -5,4 +5,5 @@ pub mod Effects
 pub mod Begins
 pub mod Writings
 pub mod Replays
+pub mod Raises
 pub mod Firsts

@@ -11,7 +11,7 @@ use Rattle.walter_tables.specs.Sites.{site_of, catalog_of, Stands}
 use Rattle.walter_rules.specs.Knowledge.{Knowledge, fresh}
 use Rattle.walter_rules.specs.Learning.{recorded}
 use Rattle.walter_rules.specs.Records.{CanFollow, replayed}
-use Rattle.walter_engine.specs.Steps.{Tell, IsUnreadable}
+use Rattle.walter_engine.specs.Effects.{Tell, IsUnreadable}
 use Rattle.walter_engine.specs.declared.replaying.ReadFault.{ReadFault}
 use Rattle.walter_engine.specs.declared.replaying.ReadFault.TheVariants as fault
 

@@ -29,11 +29,15 @@ abbrev pub is_open_under : {D : Type 0} {g : Ghosts D} → Option (Store D g) �
 is_open_under None = false
 is_open_under (Some store) = is_open store
 
+-- the capacity of the journal; as much as is said, where there is none
+abbrev pub capacity_under : {D : Type 0} {g : Ghosts D} → ℕ → Option (Store D g) → ℕ
+capacity_under capacity None = capacity
+capacity_under capacity (Some (Open journal)) = capacity_of journal
+capacity_under capacity (Some (Closed disk)) = capacity
+
 -- a journal has this capacity
 abbrev pub IsOfCapacity : {D : Type 0} {g : Ghosts D} → ℕ → Option (Store D g) → Type 0
-IsOfCapacity capacity None = Unit {0}
-IsOfCapacity capacity (Some (Open journal)) = capacity_of journal ≡ capacity
-IsOfCapacity capacity (Some (Closed disk)) = Unit {0}
+IsOfCapacity capacity store = capacity_under capacity store ≡ capacity
 
 -- the disk of a site that is down tells what it holds, and each crash leaves the site's records
 pub record IsOnDisk {D : Type 0} (g : Ghosts D) (S : Standing) (disk : D) : Type 0 where

@@ -1,4 +1,13 @@
-ghost use Rattle.std.specs.Prelude.{◌≡◌, ◌≢◌, ◌+◌, ◌<◌, ◌≤◌, [], map, is_ok, is_some, IsSome, OnOk};
+ghost use Rattle.std.specs.Prelude.{◌≡◌, ◌+◌, ◌≤◌, [], ◌∷◌, map, is_ok, is_some, None, Result, OnOk};
+ghost use Rattle.walter_disk.specs.Images.{LeavesOnly};
+ghost use Rattle.walter_engine.specs.declared.answers.BeginFault.{BeginFault as Fault};
+ghost use Rattle.walter_engine.specs.Begins.{IsFaultOfBegin};
+ghost use Rattle.walter_engine.specs.Firsts.{IsAnswerTo, IsBegunOver, MayHaveFirst, not_loaded_by};
+ghost use Rattle.walter_engine.specs.Stores.{IsLeft};
+ghost use Rattle.walter_journal.specs.Journals.{disk_of, capacity_of, left_of, StandsFor};
+ghost use Rattle.walter_machine.specs.Machines.{catalog_in, site_in, tables_in, is_up, HasStanding, HasRoom, IsSameSite};
+ghost use Rattle.walter_rules.specs.Standing.{unmade};
+ghost use Rattle.walter_rules.specs.Trails.{standing, opening};
 
 use crate::answers::BeginFault;
 use crate::restarting::raise;
@@ -15,6 +24,25 @@ pub(crate) fn begin_over<D: Disk>(
     journal: &mut Journal<D>,
     bodies: &[Vec<u8>],
 ) -> Result<(), BeginFault>
+    requires room { HasRoom machine.old }
+    requires down { tables_in machine.old ≡ None }
+    requires place { bodies.now ≡ [] → 10 ≤ left_of journal.old }
+    ensures up { is_up machine.new ≡ is_ok result }
+    ensures stands { HasStanding machine.old unmade → StandsFor journal.old (map (λ body. body.items) bodies.now)
+        → OnOk result (IsLeft machine.new
+        (standing (catalog_in machine.old) (site_in machine.old) (opening ∷ [])) journal.new) }
+    ensures begins { IsBegunOver (map (λ body. body.items) bodies.now) result }
+    ensures any_moment { (stands : StandsFor journal.old (map (λ body. body.items) bodies.now))
+        → LeavesOnly D.moment D.left_since (disk_of journal.old) (disk_of journal.new)
+        (MayHaveFirst stands.bytes (map (λ body. body.items) bodies.now)) }
+    ensures faults { IsFaultOfBegin result
+        (D.known (disk_of journal.old)).faults (D.known (disk_of journal.new)).faults }
+    ensures device { OnOk result (D.device_calls (disk_of journal.new) ≡ D.device_calls (disk_of journal.old) + 4) }
+    ensures at_most { D.device_calls (disk_of journal.new) ≤ D.device_calls (disk_of journal.old) + 4 }
+    ensures arms { (D.known (disk_of journal.new)).arms ≡ (D.known (disk_of journal.old)).arms }
+    ensures tells { is_some (D.known (disk_of journal.new)).reads ≡ is_some (D.known (disk_of journal.old)).reads }
+    ensures capacity { capacity_of journal.new ≡ capacity_of journal.old }
+    ensures same { IsSameSite machine.old machine.new }
 {
     if !bodies.is_empty() {
         return Err(BeginFault::Used);
@@ -26,6 +54,8 @@ pub(crate) fn begin_over<D: Disk>(
 
 // What a first restart answers where the restart over no records came to this. An epoch is left, and has its place.
 fn answer_to(outcome: &Outcome) -> Result<(), BeginFault>
+    requires { (answer : Result (Unit {0}) Fault) × IsAnswerTo outcome.now answer }
+    ensures { IsAnswerTo outcome.now result }
 {
     match outcome {
         Outcome::Taken => Ok(()),

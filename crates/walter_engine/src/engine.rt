@@ -33,7 +33,7 @@ impl<D: Disk + Drop> Engine<D> {
     ghost use Rattle.walter_disk.specs.Images.{LeavesOnly};
     ghost use Rattle.walter_engine.specs.Begins.{HasOnly, MayHaveBegun, IsBegun, IsFaultOfBegin};
     ghost use Rattle.walter_engine.specs.Contents.{AreSpelled, MayHaveNext};
-    ghost use Rattle.walter_engine.specs.Effects.{HasCome, IsRefusedFor, AreCalls, AreCallsOfRestart};
+    ghost use Rattle.walter_engine.specs.Effects.{HasCome, HasTaken, IsRefusedFor, AreCalls, AreCallsOfRestart};
     ghost use Rattle.walter_engine.specs.Engines.{catalog_in, site_in, capacity_in, disk_in, is_up, OfDisk, OfDisks, IsFresh, IsRoomy, IsSameEngine, Stands};
     ghost use Rattle.walter_engine.specs.Stores.{IsOnDisk};
     ghost use Rattle.walter_journal.specs.Journals.{calls_of_load};
@@ -42,7 +42,7 @@ impl<D: Disk + Drop> Engine<D> {
     ghost use Rattle.walter_packet.specs.Framed.{frame_of};
     ghost use Rattle.walter_rules.specs.Standing.{Standing};
     ghost use Rattle.walter_rules.specs.Trails.{standing, opening};
-    ghost use Rattle.walter_rules.specs.declared.event.Event.TheVariants as event;
+    ghost use Rattle.walter_rules.specs.declared.event.Event.TheVariants as happens;
     ghost use Rattle.walter_rules.specs.declared.outcome.Outcome.TheVariants as outcome;
 
     /// A site that is down, with a disk that it knows nothing of. Where there is no memory the disk comes back. Over a
@@ -151,16 +151,16 @@ impl<D: Disk + Drop> Engine<D> {
         ensures faults { OfDisks self.old self.new (λ old new.
             IsFaulty result.came (D.known old).faults (D.known new).faults) }
         // how many calls of the disk an arm counts
-        ensures device { (is_up self.old ≡ false → event.now ≢ event.Restart) → OfDisks self.old self.new (λ old new.
+        ensures device { (is_up self.old ≡ false → event.now ≢ happens.Restart) → OfDisks self.old self.new (λ old new.
             AreCalls result.came (D.device_calls old) (D.device_calls new)) }
-        ensures loads { is_up self.old ≡ false → event.now ≡ event.Restart → OfDisks self.old self.new (λ old new.
+        ensures loads { is_up self.old ≡ false → event.now ≡ happens.Restart → OfDisks self.old self.new (λ old new.
             AreCallsOfRestart result.came (calls_of_load (D.known old).size) (D.device_calls old) (D.device_calls new)) }
         ensures arms { OfDisks self.old self.new (λ old new. (D.known new).arms ≡ (D.known old).arms) }
         ensures tells { OfDisks self.old self.new (λ old new.
             is_some (D.known new).reads ≡ is_some (D.known old).reads) }
         // a stop, and what comes to a site that is down, leave the disk as it is
-        ensures stops { event.now ≡ event.Stop → disk_in self.new ≡ disk_in self.old }
-        ensures rests { is_up self.old ≡ false → event.now ≢ event.Restart → disk_in self.new ≡ disk_in self.old }
+        ensures stops { event.now ≡ happens.Stop → disk_in self.new ≡ disk_in self.old }
+        ensures rests { is_up self.old ≡ false → event.now ≢ happens.Restart → disk_in self.new ≡ disk_in self.old }
         ensures engine { IsSameEngine self.old self.new }
     {
         if self.is_up() {
@@ -174,14 +174,26 @@ impl<D: Disk + Drop> Engine<D> {
 
     // An event comes to a site that is up.
     fn act(&mut self, event: &Event) -> Effect
+        requires sized { IsSizedEvent (catalog_in self.old).sites event.now }
+        requires room { IsRoomy self.old }
+        requires up { is_up self.old ≡ true }
+        ensures taken { HasTaken self.old self.new event.now result }
+        ensures device { OfDisks self.old self.new (λ old new.
+            AreCalls result.came (D.device_calls old) (D.device_calls new)) }
+        ensures stops { event.now ≡ happens.Stop → disk_in self.new ≡ disk_in self.old }
     {
         let Some(Store::Open(mut journal)) = mem::replace(&mut self.store, None) else {
             unreachable!()
         };
-        let (came, frames) = match self.machine.prepare(event) {
-            Ok(ready) => write(self.alloc, &mut self.machine, &mut journal, event, ready),
-            Err(_) => (self.machine.want(event), Vec::new(self.alloc)),
+        let Ok(ready) = self.machine.prepare(event) else {
+            self.store = Some(Store::Open(journal));
+            return Effect {
+                came: self.machine.want(event),
+                frames: Vec::new(self.alloc),
+                refused: None,
+            };
         };
+        let (came, frames) = write(self.alloc, &mut self.machine, &mut journal, event, ready);
         self.store = Some(store_of(self.machine.is_up(), journal));
         Effect {
             came,
@@ -192,11 +204,19 @@ impl<D: Disk + Drop> Engine<D> {
 
     // What comes to a site that is down and isn't to restart.
     fn decline(&mut self, event: &Event) -> Effect
+        requires sized { IsSizedEvent (catalog_in self.old).sites event.now }
+        requires room { IsRoomy self.old }
+        requires down { is_up self.old ≡ false }
+        requires stays { event.now ≢ happens.Restart }
+        ensures taken { HasTaken self.old self.new event.now result }
+        ensures device { OfDisks self.old self.new (λ old new.
+            AreCalls result.came (D.device_calls old) (D.device_calls new)) }
+        ensures disk { disk_in self.new ≡ disk_in self.old }
     {
-        let (came, frames) = match self.machine.prepare(event) {
-            Ok(ready) => self.machine.keep(event, ready),
-            Err(_) => (self.machine.want(event), Vec::new(self.alloc)),
+        let Ok(ready) = self.machine.prepare(event) else {
+            unreachable!()
         };
+        let (came, frames) = self.machine.keep(event, ready);
         Effect {
             came,
             frames,
@@ -206,32 +226,35 @@ impl<D: Disk + Drop> Engine<D> {
 
     // The site is made anew from its journal.
     fn restart(&mut self) -> Effect
+        requires room { IsRoomy self.old }
+        requires down { is_up self.old ≡ false }
+        ensures taken { HasTaken self.old self.new happens.Restart result }
+        ensures loads { OfDisks self.old self.new (λ old new.
+            AreCallsOfRestart result.came (calls_of_load (D.known old).size) (D.device_calls old) (D.device_calls new)) }
     {
         // What is loaded is then what the site left.
         layouts_differ();
         let Some(store) = mem::replace(&mut self.store, None) else {
             unreachable!()
         };
-        let (came, refused) = match load(self.alloc, into_disk(store), self.capacity) {
-            Ok((mut journal, bodies)) => {
-                let kept = self.machine.settle(bodies.as_slice().len() as u64);
-                let (came, refused) = raise(
-                    self.alloc,
-                    &mut self.machine,
-                    &mut journal,
-                    bodies.as_slice(),
-                );
-                self.store = Some(store_of(self.machine.is_up(), journal));
-                (Came { kept, ..came }, refused)
-            }
+        let (mut journal, bodies) = match load(self.alloc, into_disk(store), self.capacity) {
+            Ok(loaded) => loaded,
             Err((disk, fault)) => {
                 self.store = Some(Store::Closed(disk));
                 let (outcome, refused) = unloaded(fault);
-                (self.machine.rest(outcome), refused)
+                return Effect {
+                    came: self.machine.rest(outcome),
+                    frames: Vec::new(self.alloc),
+                    refused,
+                };
             }
         };
+        let bodies = bodies.as_slice();
+        let kept = self.machine.settle(bodies.len() as u64);
+        let (came, refused) = raise(self.alloc, &mut self.machine, &mut journal, bodies);
+        self.store = Some(store_of(self.machine.is_up(), journal));
         Effect {
-            came,
+            came: Came { kept, ..came },
             frames: Vec::new(self.alloc),
             refused,
         }
@@ -267,16 +290,20 @@ impl<D: Disk + Drop> Engine<D> {
         let Some(store) = mem::replace(&mut self.store, None) else {
             unreachable!()
         };
-        match load(self.alloc, into_disk(store), self.capacity) {
-            Ok((mut journal, bodies)) => {
-                let begun = begin_over(self.alloc, &mut self.machine, &mut journal, bodies.as_slice());
-                self.store = Some(store_of(self.machine.is_up(), journal));
-                begun
-            }
+        let (mut journal, bodies) = match load(self.alloc, into_disk(store), self.capacity) {
+            Ok(loaded) => loaded,
             Err((disk, fault)) => {
                 self.store = Some(Store::Closed(disk));
-                Err(not_loaded(fault))
+                return Err(not_loaded(fault));
             }
-        }
+        };
+        let begun = begin_over(
+            self.alloc,
+            &mut self.machine,
+            &mut journal,
+            bodies.as_slice(),
+        );
+        self.store = Some(store_of(self.machine.is_up(), journal));
+        begun
     }
 }

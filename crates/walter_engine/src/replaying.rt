@@ -1,13 +1,10 @@
-ghost use Rattle.std.specs.Prelude.{◌≡◌, ◌≤◌, ◌<◌, ◌++◌, ◌∷◌, [], List, map, IfOk, IfErr, IfSome, OnOk, Some};
-ghost use Rattle.walter_base.specs.declared.message.Record.{Record};
-ghost use Rattle.walter_base.specs.Sizes.{CanBeRecorded};
-ghost use Rattle.walter_record.specs.Spelling.{record_spelled, HasRecordSpelling};
+ghost use Rattle.std.specs.Prelude.{◌≡◌, ◌≤◌, ◌<◌, map, IfOk, IfErr, OnOk};
 ghost use Rattle.walter_tables.specs.Sites.{site_of, catalog_of};
 ghost use Rattle.walter_engine.specs.Replays.{Takes, IsUnfit, Tells, IsReadFault};
 ghost use Rattle.walter_base.specs.Vectors.{most_sites};
 
 use std::alloc::Global;
-use walter_base::{Catalog, Mem, NoMemory, Record, SiteId};
+use walter_base::{Catalog, NoMemory, SiteId};
 use walter_tables::{ReplayFault, Tables};
 
 /// Why bodies make no site.
@@ -71,19 +68,5 @@ fn replay_body(
         Ok(Some(rec)) => tables.replay(rec),
         Ok(None) => Err(ReplayFault::Unfit),
         Err(NoMemory) => Err(ReplayFault::NoMemory),
-    }
-}
-
-/// The record that the last of these bodies spells, where it spells one.
-pub(crate) fn last_record(alloc: Global, bodies: &[Vec<u8>], sites: u8) -> Mem<Option<Record>>
-    requires most { sites ≤ most_sites }
-    ensures sized { IfOk result (λ rec. IfSome rec CanBeRecorded) }
-    ensures last { (records : List Record) (rec : Record)
-        → map (λ body. body.items) bodies.now ≡ map record_spelled (records ++ rec ∷ [])
-        → HasRecordSpelling sites rec → IfOk result (λ last. last ≡ Some rec) }
-{
-    match bodies.last() {
-        Some(body) => walter_record::decode(alloc, body, sites),
-        None => Ok(None),
     }
 }

@@ -1,16 +1,12 @@
-ghost use Rattle.std.specs.Prelude.{◌≡◌, ◌≢◌, ◌<◌, None, Some, map, is_some, IfSome, IsSome};
-ghost use Rattle.walter_base.specs.declared.catalog.Catalog.{Catalog};
+ghost use Rattle.std.specs.Prelude.{◌≡◌, [], None, false, map, length, is_some, IfSome, IsSome};
 ghost use Rattle.walter_disk.specs.Images.{LeavesOnly};
-ghost use Rattle.walter_engine.specs.Contents.{AreSpelled, MayHaveNext};
-ghost use Rattle.walter_engine.specs.Effects.{AreCalls, IsRefusedOver, TakesNoEpoch, IsLast};
-ghost use Rattle.walter_engine.specs.Replays.{unloaded_by};
-ghost use Rattle.walter_engine.specs.Stores.{IsLeft};
-ghost use Rattle.walter_journal.specs.Journals.{disk_of, capacity_of, left_of, StandsFor};
+ghost use Rattle.walter_engine.specs.Contents.{MayHaveNext};
+ghost use Rattle.walter_engine.specs.Effects.{AreCalls, IsRefusedOver};
+ghost use Rattle.walter_engine.specs.Raises.{LiesIn, Raises, IsRaised, unloaded_by};
+ghost use Rattle.walter_journal.specs.Journals.{disk_of, capacity_of, left_of};
 ghost use Rattle.walter_machine.specs.Comings.{IsSized, IsFaulty};
 ghost use Rattle.walter_machine.specs.Machines.{catalog_in, site_in, tables_in, records_in, is_up, HasStanding, HasRoom, IsSameSite};
-ghost use Rattle.walter_record.specs.Spelling.{record_spelled};
-ghost use Rattle.walter_rules.specs.Standing.{Standing, stands_after};
-ghost use Rattle.walter_rules.specs.Trails.{Comes};
+ghost use Rattle.walter_rules.specs.Standing.{Standing, up_after};
 ghost use Rattle.walter_rules.specs.declared.event.Event.TheVariants as event;
 ghost use Rattle.walter_rules.specs.declared.outcome.Outcome.TheVariants as outcome;
 
@@ -33,6 +29,30 @@ pub(crate) fn raise<D: Disk>(
 ) -> (Came, Option<RefusedRestart>)
     requires room { HasRoom machine.old }
     requires down { tables_in machine.old ≡ None }
+    ensures raises { (S : Standing)
+        → LiesIn (catalog_in machine.old) (site_in machine.old) S journal.old (map (λ body. body.items) bodies.now)
+        → HasStanding machine.old S → records_in machine.old ≡ length S.records
+        → Raises (catalog_in machine.old) (capacity_of journal.old) (site_in machine.old) S
+        result.0 result.1 machine.new journal.new }
+    ensures any_moment { (S : Standing)
+        → LiesIn (catalog_in machine.old) (site_in machine.old) S journal.old (map (λ body. body.items) bodies.now)
+        → LeavesOnly D.moment D.left_since (disk_of journal.old) (disk_of journal.new)
+        (MayHaveNext (catalog_in machine.old) (site_in machine.old) S event.Restart None) }
+    ensures refused { IfSome result.1 (λ why. (disk_of journal.new ≡ disk_of journal.old)
+        × IsRefusedOver (catalog_in machine.old) (site_in machine.old) (map (λ body. body.items) bodies.now) why) }
+    ensures outcome { IsRaised (left_of journal.old) result.1 result.0.outcome }
+    ensures rises { result.0.outcome ≡ outcome.Taken → IsSome result.0.wrote }
+    ensures up { is_up machine.new ≡ up_after event.Restart result.0.outcome false }
+    ensures sized { IsSized (catalog_in machine.old).sites result.0 }
+    ensures none_sent { result.0.sends ≡ [] }
+    ensures none_dropped { result.0.dropped ≡ 0 }
+    ensures none_kept { result.0.kept ≡ None }
+    ensures faults { IsFaulty result.0 (D.known (disk_of journal.old)).faults (D.known (disk_of journal.new)).faults }
+    ensures arms { (D.known (disk_of journal.new)).arms ≡ (D.known (disk_of journal.old)).arms }
+    ensures tells { is_some (D.known (disk_of journal.new)).reads ≡ is_some (D.known (disk_of journal.old)).reads }
+    ensures device { AreCalls result.0 (D.device_calls (disk_of journal.old)) (D.device_calls (disk_of journal.new)) }
+    ensures capacity { capacity_of journal.new ≡ capacity_of journal.old }
+    ensures same { IsSameSite machine.old machine.new }
 {
     let tables = match replay_all(alloc, machine.catalog(), machine.id(), bodies) {
         Ok(tables) => tables,

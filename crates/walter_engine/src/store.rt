@@ -1,6 +1,6 @@
 ghost use Rattle.std.specs.Prelude.{◌≡◌, ◌<◌, ◌++◌, ◌∷◌, [], ℕ, Some, option_map, OnOk, OnErr, if◌then◌else◌};
 ghost use Rattle.walter_engine.specs.Stores.{disk_of_store, is_open, IsOfCapacity, IsStored};
-ghost use Rattle.walter_journal.specs.Journals.{disk_of};
+ghost use Rattle.walter_journal.specs.Journals.{disk_of, capacity_of};
 ghost use Rattle.walter_rules.specs.Standing.{Standing};
 
 use walter_base::{Mem, NoMemory};
@@ -28,7 +28,10 @@ pub(crate) fn into_disk<D: Disk>(store: Store<D>) -> D
 
 /// The journal of a site that is up, or the disk under it of one that isn't.
 pub(crate) fn store_of<D: Disk>(is_up: bool, journal: Journal<D>) -> Store<D>
-    ensures { result ≡ (if is_up then Store.Open journal else Store.Closed (disk_of journal)) }
+    ensures is { result ≡ (if is_up then Store.Open journal else Store.Closed (disk_of journal)) }
+    ensures disk { disk_of_store result ≡ disk_of journal }
+    ensures open { is_open result ≡ is_up }
+    ensures capacity { IsOfCapacity (capacity_of journal) (Some result) }
 {
     if is_up {
         Store::Open(journal)

@@ -1,18 +1,19 @@
-ghost use Rattle.std.specs.Prelude.{◌≡◌, None, map, is_some, IsSome, IfOk, IfSome, OnErr};
+ghost use Rattle.std.specs.Prelude.{◌≡◌, [], None, map, is_some, IsSome, IfOk, IfSome, OnErr};
 ghost use Rattle.walter_base.specs.Sizes.{CanBeRecorded};
 ghost use Rattle.walter_disk.specs.Images.{LeavesOnly};
 ghost use Rattle.walter_engine.specs.Contents.{AreSpelled, MayHaveNext};
 ghost use Rattle.walter_engine.specs.Effects.{AreCalls};
 ghost use Rattle.walter_engine.specs.Stores.{IsLeft};
-ghost use Rattle.walter_engine.specs.Writings.{IsSameJournal, IsSpelling, IsSpellingIfAny};
-ghost use Rattle.walter_journal.specs.Journals.{disk_of, capacity_of, StandsFor};
+ghost use Rattle.walter_engine.specs.Writings.{IsSameJournal, IsSpelling, IsSpellingIfAny, IsOutcomeOf};
+ghost use Rattle.walter_journal.specs.Journals.{disk_of, capacity_of, left_of, StandsFor};
 ghost use Rattle.walter_machine.specs.Comings.{IsSized, IsFaulty};
-ghost use Rattle.walter_machine.specs.Machines.{catalog_in, site_in, tables_in, HasStanding, HasRoom, IsCounted, IsSameSite};
-ghost use Rattle.walter_machine.specs.Readiness.{IsReadyFor, IsReadyAnyway, rec_in};
+ghost use Rattle.walter_machine.specs.Machines.{catalog_in, site_in, tables_in, is_up, HasStanding, HasRoom, IsCounted, IsSameSite};
+ghost use Rattle.walter_machine.specs.Readiness.{IsReadyFor, IsReadyAnyway, rec_in, came_in};
 ghost use Rattle.walter_packet.specs.Framed.{frame_of};
 ghost use Rattle.walter_record.specs.Spelling.{record_spelled};
-ghost use Rattle.walter_rules.specs.Standing.{Standing, stands_after};
+ghost use Rattle.walter_rules.specs.Standing.{Standing, stands_after, up_after};
 ghost use Rattle.walter_rules.specs.Trails.{Comes};
+ghost use Rattle.walter_rules.specs.declared.outcome.Outcome.TheVariants as outcome;
 
 use std::alloc::Global;
 use walter_base::{Bytes, Mem, NoMemory, Record};
@@ -42,11 +43,16 @@ pub(crate) fn write<D: Disk>(
         → AreSpelled (catalog_in machine.old).sites S → StandsFor journal.old (map record_spelled S.records)
         → IsLeft machine.new (stands_after (catalog_in machine.old) (site_in machine.old) S event.now result.0) journal.new }
     // a crash at any moment of it leaves the records from before, with the one that the rule brings behind them or without
-    ensures any_moment { (S : Standing) → HasStanding machine.old S
+    ensures any_moment { (S : Standing)
         → IsReadyFor (catalog_in machine.old) (site_in machine.old) (tables_in machine.old) S event.now ready
-        → AreSpelled (catalog_in machine.old).sites S → StandsFor journal.old (map record_spelled S.records)
+        → StandsFor journal.old (map record_spelled S.records)
         → LeavesOnly D.moment D.left_since (disk_of journal.old) (disk_of journal.new)
         (MayHaveNext (catalog_in machine.old) (site_in machine.old) S event.now None) }
+    ensures outcome { IsOutcomeOf event.now ready (left_of journal.old) result.0.outcome }
+    ensures up { is_up machine.new ≡ up_after event.now result.0.outcome (is_up machine.old) }
+    ensures sent { (came_in ready).sends ≡ [] → result.0.sends ≡ [] }
+    ensures wrote { result.0.outcome ≡ outcome.Taken → result.0.wrote ≡ rec_in ready }
+    ensures untouched { rec_in ready ≡ None → disk_of journal.new ≡ disk_of journal.old }
     ensures sized { IsSized (catalog_in machine.old).sites result.0 }
     ensures framed { result.1.items ≡ map (λ s. frame_of (catalog_in machine.old).sites s.1) result.0.sends }
     ensures none_dropped { result.0.dropped ≡ 0 }
@@ -81,6 +87,7 @@ fn spell_any<D: Disk>(alloc: Global, journal: &mut Journal<D>, ready: &Ready) ->
     ensures spelled { IfOk result (IsSpellingIfAny journal.new (rec_in ready.now)) }
     ensures free { OnErr result (IsSome (rec_in ready.now)) }
     ensures same { IsSameJournal journal.old journal.new }
+    ensures untouched { rec_in ready.now ≡ None → journal.new ≡ journal.old }
 {
     match ready.record() {
         Some(rec) => Ok(Some(spell(alloc, journal, rec)?)),

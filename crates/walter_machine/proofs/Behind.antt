@@ -1,6 +1,6 @@
 -- How a site stands behind a step, behind a fault, and behind what came to nothing.
 use Rattle.std.proofs.Common.{◌≡◌, ◌∙◌, ℕ, Bool, true, false, Option, Some, None, refl, sym, ap, subst, if◌then◌else◌}
-use Rattle.std.specs.Prelude.{IfSome}
+use Rattle.std.specs.Prelude.{IfSome, is_some}
 use Rattle.walter_base.specs.declared.catalog.Catalog.{Catalog}
 use Rattle.walter_base.specs.declared.message.Record.{Record}
 use Rattle.walter_base.specs.declared.names.SiteId.{SiteId}
@@ -12,12 +12,12 @@ use Rattle.walter_rules.specs.declared.event.Event.{Event}
 use Rattle.walter_rules.specs.declared.event.Event.TheVariants.{Given, Stop, Restart}
 use Rattle.walter_rules.specs.declared.event.Input.{Input}
 use Rattle.walter_rules.specs.declared.outcome.Outcome.{Outcome}
-use Rattle.walter_rules.specs.declared.outcome.Outcome.TheVariants.{Full}
+use Rattle.walter_rules.specs.declared.outcome.Outcome.TheVariants.{Taken, Full}
 use Rattle.walter_rules.specs.Calls.{Expected}
 use Rattle.walter_rules.specs.Knowledge.{Knowledge}
 use Rattle.walter_rules.specs.Learning.{after, lost}
 use Rattle.walter_rules.specs.Sessions.{Sessions, session_in}
-use Rattle.walter_rules.specs.Standing.{Standing, stands_after, goes_down, comes_up, flight_after, owed, told}
+use Rattle.walter_rules.specs.Standing.{Standing, stands_after, up_after, goes_down, comes_up, flight_after, owed, told}
 use Rattle.walter_rules.proofs.Staying.{rule_stays}
 use Rattle.walter_session.specs.Sessions.{Table, sessions_of}
 use Rattle.walter_site.specs.declared.plan.Plan.{Plan}
@@ -173,3 +173,25 @@ pub applied_of : (old : Option Tables) (t new : Tables) (catalog : Catalog) (i :
 applied_of old t new catalog i site_is site catalog_is of =
     let here = subst (λ (o : Option Tables). IfSome o (IsOf catalog i)) site_is of in
     (site ∙ here.0, catalog_is ∙ here.1)
+
+-- ---- whether it is up
+
+pub idle_up : (catalog : Catalog) (i : SiteId) (S : Standing) (event : Event) (outcome : Outcome) (up : Bool)
+    → IsIdle catalog i S event outcome → up ≡ up_after event outcome up
+idle_up catalog i S event outcome up idle =
+    sym (ap (λ (b : Bool). if b then false else if comes_up event outcome then true else up) idle.stays
+    ∙ ap (λ (b : Bool). if b then true else up) idle.rests)
+
+pub plan_up : (old new : Option Tables) (S : Standing) (event : Event) (plan : Plan) → IsPlan old S event plan
+    → IfSome old (λ t. IsKnownBy new (after (catalog_of t) (site_of t) S.knows event plan.planned.outcome plan.planned.rec))
+    → is_some new ≡ up_after event plan.planned.outcome (is_some old)
+plan_up None new S event plan is knows = absurd is
+plan_up (Some t) None S event plan is knows = absurd knows
+plan_up (Some t) (Some n) S (Given input) plan is knows =
+    sym (ap (λ (b : Bool). if b then false else true) (plan_stays t S.knows input plan is))
+plan_up (Some t) (Some n) S Stop plan is knows = absurd is
+plan_up (Some t) (Some n) S Restart plan is knows = absurd is
+
+pub rise_up : (catalog : Catalog) (i : SiteId) (old : Option Tables) (S : Standing) (event : Event) (tables : Tables)
+    (epoch : ℕ) → IsRise catalog i old S event tables epoch → true ≡ up_after event Taken (is_some old)
+rise_up catalog i old S event tables epoch is = ap (λ (e : Event). up_after e Taken (is_some old)) (sym is.restart)

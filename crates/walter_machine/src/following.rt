@@ -1,10 +1,10 @@
-ghost use Rattle.std.specs.Prelude.{◌≡◌, ◌+◌, ◌<◌, ◌^◌, None, Some, IfSome, IsSome};
+ghost use Rattle.std.specs.Prelude.{◌≡◌, ◌+◌, ◌<◌, ◌^◌, None, Some, is_some, IfSome, IsSome};
 ghost use Rattle.walter_base.specs.declared.catalog.Catalog.{Catalog};
 ghost use Rattle.walter_base.specs.declared.names.SiteId.{SiteId};
 ghost use Rattle.walter_machine.specs.States.{IsOf, IsState};
 ghost use Rattle.walter_machine.specs.Steps.{CanStep, IsStep, IsPlan, IsKnownBy, Steps, came_of, outcome_of, sends_of, record_of, flight_behind, records_behind};
 ghost use Rattle.walter_rules.specs.Learning.{after};
-ghost use Rattle.walter_rules.specs.Standing.{Standing};
+ghost use Rattle.walter_rules.specs.Standing.{Standing, up_after};
 ghost use Rattle.walter_tables.specs.Sites.{site_of, catalog_of};
 
 use crate::ready::Step;
@@ -33,6 +33,7 @@ pub fn follow(
         → Steps catalog i S event.now (came_of step) site.new lost.new }
     ensures of { (catalog : Catalog) (i : SiteId) (S : Standing) → IfSome site.old (IsOf catalog i)
         → IsStep catalog i site.old S event.now step → IfSome site.new (IsOf catalog i) }
+    ensures up { is_some site.new ≡ up_after event.now (outcome_of step) (is_some site.old) }
 {
     match step {
         Step::Answer(outcome) => (outcome, Sends::from(Vec::new(alloc))),

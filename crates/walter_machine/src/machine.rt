@@ -51,9 +51,8 @@ impl Machine {
     ghost use Rattle.walter_machine.specs.Readiness.{IsReadyFor, IsReadyAnyway, rec_in, came_in};
     ghost use Rattle.walter_machine.specs.States.{AreTold, IsSizedEvent};
     ghost use Rattle.walter_rules.specs.declared.event.Event.TheVariants as happens;
-    ghost use Rattle.walter_rules.specs.Standing.{Standing, stands_after, unmade};
+    ghost use Rattle.walter_rules.specs.Standing.{Standing, stands_after, up_after};
     ghost use Rattle.walter_rules.specs.Trails.{Comes, FitsIn, TakesMemory, failure, fullness, left_behind, need_of, only, want};
-    ghost use Rattle.walter_rules.specs.Standing.{flight_after};
 
     /// A site that is down, of which nothing is known. It stands so as its records say.
     pub fn new(alloc: Global, catalog: Catalog, id: SiteId) -> Machine
@@ -194,6 +193,7 @@ impl Machine {
         ensures stands { (S : Standing) → HasStanding self.old S → IsCounted self.old S (rec_in ready)
             → IsReadyFor (catalog_in self.old) (site_in self.old) (tables_in self.old) S event.now ready
             → HasStanding self.new (stands_after (catalog_in self.old) (site_in self.old) S event.now result.0) }
+        ensures up { is_up self.new ≡ up_after event.now result.0.outcome (is_up self.old) }
         ensures same { IsSameSite self.old self.new }
     {
         let Ready { step, rec, frames } = ready;

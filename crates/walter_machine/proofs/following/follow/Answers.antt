@@ -1,9 +1,11 @@
-use Rattle.std.proofs.Common.{Option, Some, None, sym, subst}
+use Rattle.std.proofs.Common.{◌≡◌, true, Option, Some, None, sym, subst}
+use Rattle.std.specs.Prelude.{is_some}
+use Rattle.walter_rules.specs.Standing.{up_after}
 use Rattle.walter_machine.specs.declared.ready.Step.{Step}
 use Rattle.walter_machine.specs.declared.ready.Step.TheVariants.{Apply, Rise}
 use Rattle.walter_tables.specs.declared.tables.Tables.{Tables}
-use Rattle.walter_machine.specs.Steps.{Steps, IsStep, came_of}
-use Rattle.walter_machine.proofs.Behind.{plan_steps, rise_steps}
+use Rattle.walter_machine.specs.Steps.{Steps, IsStep, came_of, outcome_of}
+use Rattle.walter_machine.proofs.Behind.{plan_steps, rise_steps, idle_up, plan_up, rise_up}
 use Rattle.walter_session.specs.Sessions.{Table}
 use Rattle.walter_machine.proofs.following.follow.Goals as goal
 
@@ -25,3 +27,30 @@ returns-in-Rise-clause-steps c = λ catalog i S of state is.
     (subst (λ (lost : Option Table). Steps catalog i S event (came_of (Rise c.in-Rise.tables c.in-Rise.field-1)) (Some c.new-in-Rise.result) lost) (sym c.requires.unlost)
     (subst (λ (t : Tables). Steps catalog i S event (came_of (Rise c.in-Rise.tables c.in-Rise.field-1)) (Some t) None) (sym c.new-in-Rise.ensures)
     (rise_steps catalog i site S event c.in-Rise.tables c.in-Rise.field-1 rise_is)))
+
+pub returns-in-Answer-clause-up : goal.returns-in-Answer-clause-up
+returns-in-Answer-clause-up c =
+    let can = c.requires.can in
+    let event = c.args.event.now in
+    let site = c.args.site.now in
+    subst (λ (s : Step). is_some site ≡ up_after event (outcome_of s) (is_some site)) (sym c.in-Answer.is)
+    (idle_up can.catalog can.i can.S event c.in-Answer.outcome (is_some site)
+    (subst (λ (s : Step). IsStep can.catalog can.i site can.S event s) c.in-Answer.is can.is))
+
+pub returns-in-Apply-clause-up : goal.returns-in-Apply-clause-up
+returns-in-Apply-clause-up c =
+    let can = c.requires.can in
+    let event = c.args.event.now in
+    let site = c.args.site.now in
+    let plan_is = subst (λ (s : Step). IsStep can.catalog can.i site can.S event s) c.in-Apply.is can.is in
+    subst (λ (s : Step). is_some c.apply.new.site ≡ up_after event (outcome_of s) (is_some site)) (sym c.in-Apply.is)
+    (plan_up site c.apply.new.site can.S event c.in-Apply.plan plan_is (c.apply.ensures.knows can.S plan_is))
+
+pub returns-in-Rise-clause-up : goal.returns-in-Rise-clause-up
+returns-in-Rise-clause-up c =
+    let can = c.requires.can in
+    let event = c.args.event.now in
+    let site = c.args.site.now in
+    subst (λ (s : Step). true ≡ up_after event (outcome_of s) (is_some site)) (sym c.in-Rise.is)
+    (rise_up can.catalog can.i site can.S event c.in-Rise.tables c.in-Rise.field-1
+    (subst (λ (s : Step). IsStep can.catalog can.i site can.S event s) c.in-Rise.is can.is))

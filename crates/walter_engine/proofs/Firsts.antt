@@ -1,0 +1,275 @@
+-- A first restart: what it comes to over no records, and what a crash within it leaves.
+use Rattle.std.proofs.Common.{◌≡◌, ℕ, ◌+◌, ◌-◌, ◌<◌, ◌≤◌, List, [], ◌∷◌, length, map, false, Option, Some, None, Result, Ok, Err, refl, ap, sym, ◌∙◌, subst, inl, inr, ◌⊎◌, ⊎_elim, arith}
+use Rattle.std.specs.Prelude.{IfSome, IsSome, OnOk, is_ok}
+use Rattle.std.proofs.lemmas.List.Elements.{All-nil}
+use Rattle.walter_base.specs.declared.catalog.Catalog.{Catalog}
+use Rattle.walter_base.specs.declared.message.Record.{Record}
+use Rattle.walter_base.specs.declared.message.Record.TheVariants.{Boot}
+use Rattle.walter_base.specs.declared.names.SiteId.{SiteId}
+use Rattle.walter_disk.proofs.Moments.{weaker, joined}
+use Rattle.walter_disk.specs.declared.disk.Disk.{Ghosts}
+use Rattle.walter_disk.specs.Images.{Only, IsImage, LeavesOnly}
+use Rattle.walter_engine.specs.declared.answers.BeginFault.{BeginFault}
+use Rattle.walter_engine.specs.declared.answers.BeginFault.TheVariants as unbegun
+use Rattle.walter_engine.specs.Begins.{HasOnly, MayHaveBegun, IsBegun, IsFaultOfBegin}
+use Rattle.walter_engine.specs.Contents.{MayHaveNext}
+use Rattle.walter_engine.specs.Effects.{IsRefusedOver, AreCallsFor}
+use Rattle.walter_engine.specs.Firsts.{IsAnswerTo, IsBegunOver, MayHaveFirst, not_loaded_by}
+use Rattle.walter_engine.specs.Raises.{LiesIn, Raises, IsRaised}
+use Rattle.walter_engine.specs.Stores.{IsLeft}
+use Rattle.walter_engine.specs.declared.answers.RefusedRestart.{RefusedRestart}
+use Rattle.walter_engine.specs.declared.answers.RefusedRestart.TheVariants as refused
+use Rattle.walter_engine.proofs.Resting.{SizeIs, size_told}
+use Rattle.walter_journal.specs.declared.journal.Journal.{Journal}
+use Rattle.walter_journal.specs.Journals.{disk_of, StandsFor}
+use Rattle.walter_journal.specs.Layout.{HasContent, IsForeign, IsDamaged, end_behind}
+use Rattle.walter_journal.specs.Faults.{HasCause}
+use Rattle.walter_journal.specs.declared.fault.JournalFault.{JournalFault}
+use Rattle.walter_journal.specs.declared.fault.JournalFault.TheVariants as fault
+use Rattle.walter_disk.specs.Disks.{DiskState}
+use Rattle.walter_machine.proofs.Records.{told_unmade}
+use Rattle.walter_machine.specs.declared.machine.Machine.{Machine}
+use Rattle.walter_machine.specs.Comings.{is_faulty, RisesIf}
+use Rattle.walter_record.specs.Spelling.{record_spelled, HasRecordSpelling}
+use Rattle.walter_rules.specs.declared.entry.Came.{Came}
+use Rattle.walter_rules.specs.declared.event.Event.TheVariants.{Restart}
+use Rattle.walter_rules.specs.declared.outcome.Outcome.{Outcome}
+use Rattle.walter_rules.specs.declared.outcome.Outcome.TheVariants.{Taken, Failed, Full, Memory, Refused}
+use Rattle.walter_rules.specs.Knowledge.{fresh}
+use Rattle.walter_rules.specs.Records.{replayed}
+use Rattle.walter_rules.specs.Standing.{unmade, stands_after, up_after}
+use Rattle.walter_rules.specs.Trails.{Comes, IsFound, standing, opening}
+
+pub no_bodies : {A : Type 0} (f : A → List ℕ) (xs : List A) → length xs ≡ 0 → map f xs ≡ []
+no_bodies f [] none = refl
+no_bodies f (x ∷ xs) none = absurd (omega arith)
+
+pub no_items : {A : Type 0} (xs : List A) → length xs ≡ 0 → xs ≡ []
+no_items [] none = refl
+no_items (x ∷ xs) none = absurd (omega arith)
+
+-- no records tell of no epoch
+none_last : (catalog : Catalog) (i : SiteId) (records : List Record) → map record_spelled records ≡ []
+    → (replayed catalog i fresh records).epoch ≡ 4294967295 → ⊥
+none_last catalog i [] none last = omega (arith, last)
+none_last catalog i (rec ∷ records) none last = absurd (cc)
+
+-- a restart over no bodies isn't refused
+pub not_refused : (catalog : Catalog) (i : SiteId) (bodies : List (List ℕ)) (why : RefusedRestart) → bodies ≡ []
+    → IsRefusedOver catalog i bodies why → ⊥
+not_refused catalog i bodies refused.Foreign none over = over
+not_refused catalog i bodies (refused.Damaged at length) none over = over
+not_refused catalog i bodies (refused.Unreadable index) none over = let within = over.within in cc
+not_refused catalog i bodies refused.LastEpoch none over = none_last catalog i over.0 (sym over.1.spell ∙ none) over.2
+
+-- nothing is in flight before the first event
+pub none_kept : (kept : Option Record) → IfSome kept (IsFound unmade Restart) → kept ≡ None
+none_kept None found = refl
+none_kept (Some rec) found = absurd (let none = found.in_flight in cc)
+
+-- a journal without bodies is that of a site before its first event
+pub lies_unmade : {D : Type 0} {g : Ghosts D} (catalog : Catalog) (i : SiteId) (journal : Journal D g)
+    (bodies : List (List ℕ)) → bodies ≡ [] → StandsFor journal bodies → LiesIn {g = g} catalog i unmade journal bodies
+lies_unmade catalog i journal bodies none stands = record {
+  down = refl;
+  told = told_unmade catalog i;
+  spelled = record { records = All-nil (HasRecordSpelling catalog.sites); flight = tt };
+  is = none;
+  stands = stands;
+}
+
+-- where a new site comes up, its trail begins
+pub opens : (catalog : Catalog) (capacity : ℕ) (i : SiteId) (came : Came) → came.kept ≡ None → came.sends ≡ []
+    → came.dropped ≡ 0 → came.outcome ≡ Taken → (came.outcome ≡ Refused) ⊎ Comes catalog capacity i unmade Restart came
+    → came ≡ opening.came
+opens catalog capacity i came kept sends dropped taken (inl refused) = absurd (let e = sym taken ∙ refused in cc)
+opens catalog capacity i came kept sends dropped taken (inr (Comes.ruled fits is)) = λ j. record {
+  outcome = taken j;
+  kept = kept j;
+  wrote = is.wrote j;
+  flight = is.flight j;
+  sends = sends j;
+  dropped = dropped j;
+}
+opens catalog capacity i came kept sends dropped taken (inr (Comes.met_fault rec brings fits is)) =
+    absurd (let e = sym taken ∙ is.outcome_is in cc)
+opens catalog capacity i came kept sends dropped taken (inr (Comes.unread restart down is)) =
+    absurd (let e = sym taken ∙ is.outcome_is in cc)
+opens catalog capacity i came kept sends dropped taken (inr (Comes.no_memory takes is)) =
+    absurd (let e = sym taken ∙ is.outcome_is in cc)
+opens catalog capacity i came kept sends dropped taken (inr (Comes.full rec brings less is)) =
+    absurd (let e = sym taken ∙ is.outcome_is in cc)
+
+-- ---- what is answered
+
+-- what a restart over no bodies came to can be answered
+pub can_answer : (catalog : Catalog) (i : SiteId) (left : ℕ) (bodies : List (List ℕ)) (Same : Type 0)
+    (why : Option RefusedRestart) (outcome : Outcome) → 10 ≤ left → bodies ≡ []
+    → IfSome why (λ cause. Same × IsRefusedOver catalog i bodies cause) → IsRaised left why outcome
+    → (answer : Result (Unit {0}) BeginFault) × IsAnswerTo outcome answer
+can_answer catalog i left bodies Same why Taken place none over is = (Ok tt, refl)
+can_answer catalog i left bodies Same why Failed place none over is = (Err unbegun.Failed, refl)
+can_answer catalog i left bodies Same why Memory place none over is = (Err unbegun.NoMemory, refl)
+can_answer catalog i left bodies Same why (Full need free) place none over is = absurd (omega (arith, place, is))
+can_answer catalog i left bodies Same None Refused place none over is = absurd (cc)
+can_answer catalog i left bodies Same (Some cause) Refused place none over is =
+    absurd (not_refused catalog i bodies cause none over.1)
+can_answer catalog i left bodies Same why outcome place none over is = absurd is
+
+pub answer_up : (outcome : Outcome) (answer : Result (Unit {0}) BeginFault) → IsAnswerTo outcome answer
+    → up_after Restart outcome false ≡ is_ok answer
+answer_up Taken answer is = sym (ap is_ok is)
+answer_up Failed answer is = sym (ap is_ok is)
+answer_up Memory answer is = sym (ap is_ok is)
+answer_up outcome answer is = absurd is
+
+pub answer_begun : (bodies : List (List ℕ)) → bodies ≡ [] → (outcome : Outcome) (answer : Result (Unit {0}) BeginFault)
+    → IsAnswerTo outcome answer → IsBegunOver bodies answer
+answer_begun bodies none Taken answer is = subst (λ a. IsBegunOver bodies a) (sym is) none
+answer_begun bodies none Failed answer is = subst (λ a. IsBegunOver bodies a) (sym is) none
+answer_begun bodies none Memory answer is = subst (λ a. IsBegunOver bodies a) (sym is) none
+answer_begun bodies none outcome answer is = absurd is
+
+pub answer_faults : (outcome : Outcome) (answer : Result (Unit {0}) BeginFault) (old new : ℕ) → IsAnswerTo outcome answer
+    → RisesIf (is_faulty outcome) old new → IsFaultOfBegin answer old new
+answer_faults Taken answer old new is rises = subst (λ a. IsFaultOfBegin a old new) (sym is) rises
+answer_faults Failed answer old new is rises = subst (λ a. IsFaultOfBegin a old new) (sym is) rises
+answer_faults Memory answer old new is rises = subst (λ a. IsFaultOfBegin a old new) (sym is) rises
+answer_faults outcome answer old new is rises = absurd is
+
+-- what is so where it was taken is so where the answer is Ok
+pub answer_taken : (P : Type 0) (outcome : Outcome) (answer : Result (Unit {0}) BeginFault) → IsAnswerTo outcome answer
+    → (outcome ≡ Taken → P) → OnOk answer P
+answer_taken P Taken answer is so = subst (λ a. OnOk a P) (sym is) (so refl)
+answer_taken P Failed answer is so = subst (λ a. OnOk a P) (sym is) tt
+answer_taken P Memory answer is so = subst (λ a. OnOk a P) (sym is) tt
+answer_taken P outcome answer is so = absurd is
+
+pub calls_written : (wrote flight : Option Record) (old new : ℕ) → IsSome wrote → AreCallsFor wrote flight old new
+    → new ≡ old + 4
+calls_written (Some rec) flight old new some calls = calls
+calls_written None flight old new some calls = absurd (cc)
+
+pub calls_at_most : (wrote flight : Option Record) (old new : ℕ) → AreCallsFor wrote flight old new → new ≤ old + 4
+calls_at_most (Some rec) flight old new calls = omega (arith, calls)
+calls_at_most None (Some rec) old new calls = calls
+calls_at_most None None old new calls = omega (arith, calls)
+
+-- it is up in its first epoch
+pub first_left : {D : Type 0} {g : Ghosts D} (catalog : Catalog) (capacity : ℕ) (i : SiteId) (came : Came)
+    (why : Option RefusedRestart) (m : Machine) (journal : Journal D g) → came.kept ≡ None → came.sends ≡ []
+    → came.dropped ≡ 0 → Raises {g = g} catalog capacity i unmade came why m journal → came.outcome ≡ Taken
+    → IsLeft {g = g} m (standing catalog i (opening ∷ [])) journal
+first_left {g = g} catalog capacity i came why m journal kept sends dropped raises taken =
+    subst (λ (c : Came). IsLeft {g = g} m (stands_after catalog i unmade Restart c) journal)
+    (opens catalog capacity i came kept sends dropped taken raises.comes) raises.leaves
+
+-- ---- over a disk
+
+found_is : (P : List ℕ → Type 0) (reads : Option (List ℕ)) (images : List ℕ → Type 0) (bytes : List ℕ) → Only bytes images
+    → IsSome reads → IsImage reads images → IfSome reads P → P bytes
+found_is P None images bytes only told image are = absurd (cc)
+found_is P (Some b) images bytes only told image are = subst P (only b image) are
+
+-- what is answered where no journal was loaded
+pub begun_unloaded : (why : JournalFault) (bytes : List ℕ) (images : List ℕ → Type 0) (old new : DiskState)
+    → HasCause why images old new → Only bytes images → old.size ≡ length bytes → IsSome new.reads
+    → IsBegun bytes (Err (not_loaded_by why))
+begun_unloaded fault.Failed bytes images old new cause only size told = tt
+begun_unloaded fault.NoMemory bytes images old new cause only size told = tt
+begun_unloaded fault.Foreign bytes images old new cause only size told = (
+  found_is IsForeign new.reads images bytes only told cause.image cause.are,
+  λ none. absurd (omega (arith, cause.not_new, size, ap length none)),
+)
+begun_unloaded (fault.Damaged at length) bytes images old new cause only size told =
+    found_is (λ b. IsDamaged b at length) new.reads images bytes only told cause.image cause.are
+
+pub unbegun_faults : (why : JournalFault) (images : List ℕ → Type 0) (old new : DiskState) → HasCause why images old new
+    → IsFaultOfBegin (Err (not_loaded_by why)) old.faults new.faults
+unbegun_faults fault.Failed images old new cause = cause
+unbegun_faults fault.NoMemory images old new cause = cause
+unbegun_faults fault.Foreign images old new cause = cause.faultless
+unbegun_faults (fault.Damaged at length) images old new cause = cause.faultless
+
+-- what is answered over bodies
+pub begun_over : (bytes : List ℕ) (bodies : List (List ℕ)) (answer : Result (Unit {0}) BeginFault)
+    → HasContent bytes bodies ⊎ ((bytes ≡ []) × (bodies ≡ [])) → IsBegunOver bodies answer → IsBegun bytes answer
+begun_over bytes bodies (Ok done) (inl has) is = inr (subst (λ b. HasContent bytes b) is has)
+begun_over bytes bodies (Ok done) (inr none) is = inl none.0
+begun_over bytes bodies (Err unbegun.Failed) has is = tt
+begun_over bytes bodies (Err unbegun.Foreign) has is = absurd is
+begun_over bytes bodies (Err (unbegun.Damaged at length)) has is = absurd is
+begun_over bytes bodies (Err unbegun.Used) (inl has) is = (bodies, has, is)
+begun_over bytes bodies (Err unbegun.Used) (inr none) is = absurd (is none.1)
+begun_over bytes bodies (Err unbegun.NoMemory) has is = tt
+
+-- a Boot finds its place in a new journal
+pub has_place : (bodies slice : List (List ℕ)) (capacity end left : ℕ) → slice ≡ bodies → slice ≡ []
+    → end ≡ end_behind bodies → left ≡ capacity - end → 19 ≤ capacity → 10 ≤ left
+has_place bodies slice capacity end left same none is_end is_left place =
+    let nine : end ≡ 9 = is_end ∙ ap end_behind (sym same ∙ none) in
+    omega (arith, nine, is_left, place)
+
+pub on_ok_so : {T E : Type 0} (r : Result T E) (P Q : Type 0) → (P → Q) → OnOk r P → OnOk r Q
+on_ok_so (Ok x) P Q so p = so p
+on_ok_so (Err e) P Q so p = tt
+
+-- a load, with what it leaves
+module _ {D : Type 0} {g : Ghosts D} (size_is : SizeIs g) (disk mid : D) (bytes : List ℕ) (only : HasOnly g bytes disk)
+    (first : (g.known disk).size ≡ 0 → Only [] (g.may_leave disk)
+    → LeavesOnly g.moment g.left_since disk mid (λ image. length image ≤ 9))
+    (load : 0 < (g.known disk).size → LeavesOnly g.moment g.left_since disk mid (g.may_leave disk)) where
+  pub size_here : (g.known disk).size ≡ length bytes
+  size_here = size_told g size_is disk bytes only.told
+
+  pub leaves_load : LeavesOnly g.moment g.left_since disk mid (MayHaveBegun bytes)
+  leaves_load = by bytes refl
+    where
+      by : (b : List ℕ) → bytes ≡ b → LeavesOnly g.moment g.left_since disk mid (MayHaveBegun bytes)
+      by [] new =
+          weaker g.moment g.left_since disk mid (λ image. length image ≤ 9) (MayHaveBegun bytes)
+          (λ image few. inr (inl (new, few)))
+          (first (size_here ∙ ap length new) (subst (λ b. Only b (g.may_leave disk)) new only.only))
+      by (b ∷ bs) is =
+          let some : 0 < (g.known disk).size = omega (arith, size_here, ap length is) in
+          weaker g.moment g.left_since disk mid (g.may_leave disk) (MayHaveBegun bytes)
+          (λ image left. inl (only.only image left)) (load some)
+
+-- a journal that was loaded
+module _ {D : Type 0} {g : Ghosts D} (size_is : SizeIs g) (disk : D) (journal : Journal D g) (loaded slice : List (List ℕ))
+    (bytes : List ℕ) (only : HasOnly g bytes disk) (stands : StandsFor journal slice) (same : slice ≡ loaded)
+    (fresh : (g.known disk).size ≡ 0 → loaded ≡ [])
+    (image : 0 < (g.known disk).size → IsImage (g.known (disk_of journal)).reads (g.may_leave disk)) where
+  -- it has the bytes of the disk, or those were none
+  has_same : (stands.bytes ≡ bytes) ⊎ ((bytes ≡ []) × (slice ≡ []))
+  has_same = by bytes refl
+    where
+      size : (g.known disk).size ≡ length bytes
+      size = size_told g size_is disk bytes only.told
+
+      by : (b : List ℕ) → bytes ≡ b → (stands.bytes ≡ bytes) ⊎ ((bytes ≡ []) × (slice ≡ []))
+      by [] new = inr (new, same ∙ fresh (size ∙ ap length new))
+      by (b ∷ bs) is =
+          let some : 0 < (g.known disk).size = omega (arith, size, ap length is) in
+          inl (only.only stands.bytes (subst (λ reads. IsImage reads (g.may_leave disk)) stands.told (image some)))
+
+  pub content_or_new : HasContent bytes slice ⊎ ((bytes ≡ []) × (slice ≡ []))
+  content_or_new = ⊎_elim (λ is. inl (subst (λ b. HasContent b slice) is stands.content)) (λ new. inr new) has_same
+
+  first_may : (stands.bytes ≡ bytes) ⊎ ((bytes ≡ []) × (slice ≡ [])) → (image : List ℕ) → MayHaveFirst stands.bytes slice image
+      → MayHaveBegun bytes image
+  first_may (inl same) image (inl is) = inl (is ∙ same)
+  first_may (inl same) image (inr has) =
+      inr (inr (inr (subst (λ b. HasContent b []) same (subst (λ bodies. HasContent stands.bytes bodies) has.0 stands.content)), has.1))
+  first_may (inr new) image (inl is) =
+      inr (inr (inl new.0, inl (subst (λ b. HasContent b []) (sym is) (subst (λ bodies. HasContent stands.bytes bodies) new.1 stands.content))))
+  first_may (inr new) image (inr has) = inr (inr (inl new.0, has.1))
+
+  -- a crash within it leaves the bytes, or the first ones of a journal, or no record, or the first Boot
+  pub leaves_begun : (after : D) → LeavesOnly g.moment g.left_since disk (disk_of journal) (MayHaveBegun bytes)
+      → LeavesOnly g.moment g.left_since (disk_of journal) after (MayHaveFirst stands.bytes slice)
+      → LeavesOnly g.moment g.left_since disk after (MayHaveBegun bytes)
+  leaves_begun after load run =
+      joined g.moment g.left_since disk (disk_of journal) after (MayHaveBegun bytes) load
+      (weaker g.moment g.left_since (disk_of journal) after (MayHaveFirst stands.bytes slice) (MayHaveBegun bytes)
+      (first_may has_same) run)

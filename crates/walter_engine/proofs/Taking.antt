@@ -1,0 +1,162 @@
+-- What an event that loads no journal comes to at an engine.
+use Rattle.std.proofs.Common.{◌≡◌, ℕ, List, map, Bool, true, false, Option, Some, None, refl, ap, sym, ◌∙◌, subst, inl, inr}
+use Rattle.std.specs.Prelude.{◌≢◌, IfSome, is_some}
+use Rattle.walter_base.specs.declared.catalog.Catalog.{Catalog}
+use Rattle.walter_base.specs.declared.message.Record.{Record}
+use Rattle.walter_base.specs.declared.names.SiteId.{SiteId}
+use Rattle.walter_disk.specs.declared.disk.Disk.{Ghosts}
+use Rattle.walter_engine.specs.declared.engine.Engine.{Engine}
+use Rattle.walter_engine.specs.declared.store.Store.{Store}
+use Rattle.walter_engine.specs.declared.store.Store.TheVariants.{Open, Closed}
+use Rattle.walter_engine.specs.Contents.{AreSpelled, MayHaveRecords}
+use Rattle.walter_engine.specs.Stores.{IsStored}
+use Rattle.walter_engine.proofs.Spelled.{spelled_after}
+use Rattle.walter_engine.proofs.Written.{holds_none}
+use Rattle.walter_engine.specs.Effects.{HasCome}
+use Rattle.walter_engine.specs.Engines.{Stands, OfDisk, OfDisks, disk_in, catalog_in}
+use Rattle.walter_machine.specs.States.{IsState}
+use Rattle.walter_machine.specs.Steps.{IsStep, record_of}
+use Rattle.walter_machine.specs.declared.ready.Step.{Step}
+use Rattle.walter_machine.specs.declared.ready.Step.TheVariants.{Answer, Apply, Fall, Rise}
+use Rattle.walter_rules.specs.declared.entry.Came.{Came}
+use Rattle.walter_rules.specs.declared.event.Event.{Event}
+use Rattle.walter_rules.specs.declared.event.Event.TheVariants.{Given, Stop, Restart}
+use Rattle.walter_journal.specs.Journals.{StandsFor}
+use Rattle.walter_machine.specs.Machines.{HasStanding, IsCounted}
+use Rattle.walter_machine.specs.declared.machine.Machine.{Machine}
+use Rattle.walter_record.specs.Spelling.{record_spelled, HasRecordSpelling}
+use Rattle.walter_rules.proofs.RulesAllowed.{rule_allowed}
+use Rattle.walter_rules.specs.declared.outcome.Outcome.{Outcome}
+use Rattle.walter_rules.specs.declared.outcome.Outcome.TheVariants.{Full}
+use Rattle.walter_rules.specs.Allowed.{IsKind, boots}
+use Rattle.walter_rules.specs.Calls.{Expected}
+use Rattle.walter_rules.specs.Rule.{rule, stop_rule}
+use Rattle.walter_rules.specs.Standing.{Standing, settled, stands_after, records_after, flight_after}
+use Rattle.walter_rules.specs.Trails.{Comes, IsFound, TakesMemory}
+use Rattle.walter_tables.specs.declared.tables.Tables.{Tables}
+
+-- what is so of equal parts
+pub same_parts : (P : Catalog → SiteId → Type 0) (catalog catalog' : Catalog) (i i' : SiteId) → catalog' ≡ catalog
+    → i' ≡ i → P catalog i → P catalog' i'
+same_parts P catalog catalog' i i' same_catalog same_site is =
+    subst (λ (k : SiteId). P catalog' k) (sym same_site) (subst (λ (x : Catalog). P x i) (sym same_catalog) is)
+
+-- the site is up just where it has its tables
+pub state_up : (S : Standing) (site : Option Tables) → IsState S site → S.up ≡ is_some site
+state_up S None is = is
+state_up S (Some tables) is = is.up
+
+-- a stop brings no record
+pub stop_brings : (catalog : Catalog) (i : SiteId) (S : Standing) → (rule catalog i S Stop).wrote ≡ None
+stop_brings catalog i S = at S.up
+  where
+    at : (up : Bool) → (stop_rule up).wrote ≡ None
+    at true = refl
+    at false = refl
+
+-- at a site that is down only a restart takes memory, or brings a record
+pub takes_none : (up : Bool) (event : Event) → up ≡ false → event ≢ Restart → TakesMemory up event → ⊥
+takes_none true event down stays takes = absurd (cc)
+takes_none false (Given input) down stays takes = takes
+takes_none false Stop down stays takes = takes
+takes_none false Restart down stays takes = stays refl
+
+pub brings_none : (catalog : Catalog) (i : SiteId) (site : Option Tables) (S : Standing) (event : Event) (step : Step)
+    → site ≡ None → event ≢ Restart → IsStep catalog i site S event step → record_of step ≡ None
+brings_none catalog i (Some tables) S event step down stays is = absurd (cc)
+brings_none catalog i None S event (Answer outcome) down stays is = refl
+brings_none catalog i None S event (Apply plan) down stays is = absurd is
+brings_none catalog i None S event Fall down stays is = refl
+brings_none catalog i None S event (Rise tables epoch) down stays is = absurd (stays is.restart)
+
+abbrev pub is_full : Outcome → Bool
+is_full (Full need left) = true
+is_full outcome = false
+
+kind_fits : (catalog : Catalog) (i : SiteId) (S : Standing) (event : Event) (wrote : Option Record)
+    (outcome : Outcome) → IsKind catalog i S event wrote outcome → is_full outcome ≡ false
+kind_fits catalog i S event wrote outcome (boots down) = refl
+kind_fits catalog i S event wrote outcome kind = refl
+
+pub rule_fits : (catalog : Catalog) (i : SiteId) (S : Standing) (event : Event)
+    → is_full (rule catalog i S event).outcome ≡ false
+rule_fits catalog i S event =
+    kind_fits catalog i S event (rule catalog i S event).wrote (rule catalog i S event).outcome
+    (rule_allowed catalog i S event).0.kind
+
+flight_stays : (outcome : Outcome) (old : Option Record) → is_full outcome ≡ false
+    → flight_after None None outcome old ≡ old
+flight_stays (Full need left) old fits = absurd (cc)
+flight_stays outcome old fits = refl
+
+module _ {D : Type 0} {g : Ghosts D} where
+  stored_as : (S T : Standing) (store : Option (Store D g)) → T.records ≡ S.records → T.flight ≡ S.flight
+      → IsStored S store → IsStored T store
+  stored_as S T None records flight is = is
+  stored_as S T (Some (Open journal)) records flight is =
+      subst (λ (rs : List Record). StandsFor journal (map record_spelled rs)) (sym records) is
+  stored_as S T (Some (Closed disk)) records flight is = record {
+    told = is.told;
+    begun = is.begun;
+    images = λ image left.
+        subst (λ (rs : List Record). MayHaveRecords rs T.flight image) (sym records)
+        (subst (λ (f : Option Record). MayHaveRecords S.records f image) (sym flight) (is.images image left));
+  }
+
+  -- what comes without a record leaves the records where they are
+  pub stands_same : (engine : Engine D g) (catalog : Catalog) (i : SiteId) (S : Standing) (event : Event) (came : Came)
+      → HasStanding engine.machine (stands_after catalog i S event came) → AreSpelled (catalog_in engine).sites S
+      → IsStored S engine.store → came.wrote ≡ None → came.flight ≡ None
+      → is_full came.outcome ≡ false → Stands engine (stands_after catalog i S event came)
+  stands_same engine catalog i S event came standing spelled stored wrote flight fits = record {
+    machine = standing;
+    spelled = spelled_after (catalog_in engine).sites catalog i S event came spelled
+        (holds_none (HasRecordSpelling (catalog_in engine).sites) came.wrote wrote)
+        (holds_none (HasRecordSpelling (catalog_in engine).sites) came.flight flight);
+    store = stored_as S (stands_after catalog i S event came) engine.store
+        (ap (λ (w : Option Record). records_after w S.records) wrote)
+        ((λ j. flight_after (flight j) (wrote j) came.outcome S.flight)
+        ∙ flight_stays came.outcome S.flight fits)
+        stored;
+  }
+
+  pub of_disk : (engine : Engine D g) (P : D → Type 0) (disk : D) → disk_in engine ≡ Some disk → P disk → OfDisk engine P
+  of_disk engine P disk is so = subst (λ (o : Option D). IfSome o P) (sym is) so
+
+  pub of_disks : (old new : Engine D g) (R : D → D → Type 0) (before now : D) → disk_in old ≡ Some before
+      → disk_in new ≡ Some now → R before now → OfDisks old new R
+  of_disks old new R before now was is so =
+      subst (λ (o : Option D). IfSome o (λ b. OfDisk new (λ a. R b a))) (sym was)
+      (of_disk new (λ a. R before a) now is so)
+
+  -- the disk is as before
+  pub same_disks : (old new : Engine D g) (R : D → D → Type 0) → disk_in new ≡ disk_in old → ((disk : D) → R disk disk)
+      → OfDisks old new R
+  same_disks old new R is so = at (disk_in old) refl
+    where
+      at : (o : Option D) → disk_in old ≡ o → OfDisks old new R
+      at None was = subst (λ (o : Option D). IfSome o (λ b. OfDisk new (λ a. R b a))) (sym was) tt
+      at (Some disk) was = of_disks old new R disk disk was (is ∙ was) (so disk)
+
+  -- nothing was found, and no restart was refused
+  pub come_as : (catalog : Catalog) (capacity : ℕ) (i : SiteId) (S : Standing) (event : Event) (came : Came)
+      (engine : Engine D g) → came.kept ≡ None → (S.up ≡ false → event ≡ Restart → ⊥)
+      → Comes catalog capacity i S event came → Stands engine (stands_after catalog i S event came)
+      → HasCome catalog capacity i S event came None engine
+  come_as catalog capacity i S event came engine kept never comes stands = record {
+    found = subst (λ (k : Option Record). IfSome k (IsFound S event)) (sym kept) tt;
+    comes = inr (subst (λ (k : Option Record). Comes catalog capacity i (settled catalog i k S) event came) (sym kept) comes);
+    stands = subst (λ (k : Option Record). Stands engine (stands_after catalog i (settled catalog i k S) event came)) (sym kept)
+        stands;
+    last = tt;
+    takes_none = λ down restart. absurd (never down restart);
+  }
+
+-- how many records there are is known at a site that is up
+pub counted_up : (m : Machine) (S : Standing) (o : Option Record) → S.up ≡ true → HasStanding m S → IsCounted m S o
+counted_up m S None up standing = tt
+counted_up m S (Some rec) up standing = standing.count (inl up)
+
+pub none_of : {A : Type 0} (o : Option A) → is_some o ≡ false → o ≡ None
+none_of None is = refl
+none_of (Some x) is = absurd (cc)

@@ -1,0 +1,298 @@
+-- What the write of a record leaves, and what comes of it.
+use Rattle.std.proofs.Common.{◌≡◌, ℕ, ◌<◌, ◌≤◌, List, [], ◌∷◌, ◌++◌, map, Bool, true, false, Option, Some, None, Result, Err, refl, ap, sym, ◌∙◌, subst, inl, inr, arith, if◌then◌else◌}
+use Rattle.std.specs.Prelude.{IfSome, IsSome, OnErr, is_some}
+use Rattle.std.proofs.lemmas.Bool.{cases_lt}
+use Rattle.std.proofs.lemmas.List.{map-append}
+use Rattle.walter_base.specs.declared.catalog.Catalog.{Catalog}
+use Rattle.walter_base.specs.declared.message.Record.{Record}
+use Rattle.walter_base.specs.declared.message.Record.TheVariants.{Boot, Own, Got, Seen, Prepared, Released, SlowBegin, SlowEnd, Marks}
+use Rattle.walter_base.specs.declared.names.SiteId.{SiteId}
+use Rattle.walter_base.specs.Sizes.{CanBeRecorded}
+use Rattle.walter_engine.specs.Effects.{AreCalls, AreCallsFor}
+use Rattle.walter_disk.specs.declared.disk.Disk.{Ghosts}
+use Rattle.walter_disk.specs.Disks.{Fails}
+use Rattle.walter_disk.specs.Images.{LeavesOnly}
+use Rattle.walter_engine.specs.declared.store.Store.TheVariants.{Open, Closed}
+use Rattle.walter_engine.specs.Contents.{AreSpelled}
+use Rattle.walter_engine.specs.Stores.{IsStored, IsLeft}
+use Rattle.walter_engine.specs.Writings.{IsSpelling, IsSpellingIfAny, IsOutcomeOf}
+use Rattle.walter_engine.proofs.Resting.{SizeIs, CountsNow, stored, stored_failed}
+use Rattle.walter_engine.proofs.Room.{fits, need_is, left_is}
+use Rattle.walter_engine.proofs.Spelled.{spelled_among, spelled_after}
+use Rattle.walter_journal.specs.declared.fault.AppendFault.{AppendFault}
+use Rattle.walter_journal.specs.declared.fault.AppendFault.TheVariants as append
+use Rattle.walter_journal.specs.declared.journal.Journal.{Journal}
+use Rattle.walter_journal.specs.Journals.{disk_of, capacity_of, left_of, need_of as body_need, StandsFor, Appends}
+use Rattle.walter_journal.specs.Layout.{IsBeforeOrBehind}
+use Rattle.walter_machine.specs.declared.machine.Machine.{Machine}
+use Rattle.walter_machine.proofs.Sizes.{none_sent}
+use Rattle.walter_machine.specs.Comings.{is_faulty, IsFaulty, RisesIf, IsSized}
+use Rattle.walter_machine.specs.States.{CanBeNext}
+use Rattle.walter_machine.specs.Readiness.{rec_in, IsReadyFor, IsReadyAnyway}
+use Rattle.walter_machine.specs.declared.ready.Ready.{Ready}
+use Rattle.walter_machine.specs.Machines.{catalog_in, tables_in, is_up, HasStanding}
+use Rattle.walter_record.specs.Spelling.{record_spelled, HasRecordSpelling, AreInRange}
+use Rattle.walter_rules.specs.declared.entry.Came.{Came}
+use Rattle.walter_rules.specs.declared.event.Event.{Event}
+use Rattle.walter_rules.specs.declared.event.Event.TheVariants.{Given, Stop, Restart}
+use Rattle.walter_rules.specs.declared.event.Input.TheVariants.{Call, Deliver, Advance, Tick}
+use Rattle.walter_rules.specs.declared.outcome.Outcome.{Outcome}
+use Rattle.walter_rules.specs.declared.outcome.Outcome.TheVariants.{Refused, Taken}
+use Rattle.walter_rules.specs.Allowed.{IsKind, boots}
+use Rattle.walter_rules.specs.Calls.{Expected}
+use Rattle.walter_rules.specs.Rule.{rule}
+use Rattle.walter_rules.proofs.RulesAllowed.{rule_allowed}
+use Rattle.walter_rules.specs.Standing.{Standing, records_after, flight_after, stands_after, up_after}
+use Rattle.walter_rules.specs.Trails.{failure, fullness, want, only, need_of, left_behind, FitsIn}
+use Rattle.walter_site.specs.Members.{IsShortOutcome}
+use Rattle.walter_tables.specs.declared.tables.Tables.{Tables}
+
+-- the spelling of the record, where there is one
+pub spelling_some : {D : Type 0} {g : Ghosts D} (journal : Journal D g) (rec : Option Record) (body : Option (List ℕ))
+    (b : List ℕ) → IsSpellingIfAny journal rec body → body ≡ Some b
+    → (r : Record) × (rec ≡ Some r) × IsSpelling journal r b
+spelling_some {D} {g} journal rec body b all is =
+    at rec (subst (λ (o : Option (List ℕ)). IsSpellingIfAny {g = g} journal rec o) is all)
+  where
+    at : (o : Option Record) → IsSpellingIfAny {g = g} journal o (Some b)
+        → (r : Record) × (o ≡ Some r) × IsSpelling {g = g} journal r b
+    at None a = absurd a
+    at (Some r) a = (r, refl, a)
+
+-- where there is none, there is no record
+pub spelling_none : {D : Type 0} {g : Ghosts D} (journal : Journal D g) (rec : Option Record) (body : Option (List ℕ))
+    → IsSpellingIfAny journal rec body → body ≡ None → rec ≡ None
+spelling_none {D} {g} journal rec body all is =
+    at rec (subst (λ (o : Option (List ℕ)). IsSpellingIfAny {g = g} journal rec o) is all)
+  where
+    at : (o : Option Record) → IsSpellingIfAny {g = g} journal o None → o ≡ None
+    at None a = refl
+    at (Some r) a = absurd a
+
+-- ---- what an append answered
+
+module _ (result : Result (Unit {0}) AppendFault) (need left : ℕ) (Same Rest End : Type 0)
+    (full : left < need → (result ≡ Err (append.Full need left)) × Same)
+    (failed : need ≤ left → OnErr result ((result ≡ Err append.Failed) × Rest × End)) where
+  -- a journal was full: the body needs more than is left
+  pub full_is : (fault : AppendFault) (n l : ℕ) → result ≡ Err fault → fault ≡ append.Full n l
+      → (left < need) × (n ≡ need) × (l ≡ left) × Same
+  full_is fault n l is_err is_fault =
+      let is : result ≡ Err (append.Full n l) = is_err ∙ ap (λ f. Err f) is_fault in
+      elim (cases_lt left need) [
+        | inl less ↦
+            let here = full less in
+            let same = sym is ∙ here.0 in
+            (less, cc, cc, here.1)
+        | inr enough ↦
+            let here = subst (λ r. OnErr r ((result ≡ Err append.Failed) × Rest × End)) is (failed enough) in
+            let same = sym is ∙ here.0 in
+            absurd (cc)
+      ]
+
+  -- a call on the disk failed: there was room
+  pub failed_is : (fault : AppendFault) → result ≡ Err fault → fault ≡ append.Failed → (need ≤ left) × Rest
+  failed_is fault is_err is_fault =
+      let is : result ≡ Err append.Failed = is_err ∙ ap (λ f. Err f) is_fault in
+      elim (cases_lt left need) [
+        | inl less ↦
+            let same = sym is ∙ (full less).0 in
+            absurd (cc)
+        | inr enough ↦
+            let here = subst (λ r. OnErr r ((result ≡ Err append.Failed) × Rest × End)) is (failed enough) in
+            (enough, here.1)
+      ]
+
+-- ---- the outcomes of an event whose record isn't kept
+
+abbrev pub is_refusal : Outcome → Bool
+is_refusal Refused = true
+is_refusal outcome = false
+
+abbrev pub is_taken : Outcome → Bool
+is_taken Taken = true
+is_taken outcome = false
+
+kind_allowed : (catalog : Catalog) (i : SiteId) (S : Standing) (event : Event) (wrote : Option Record)
+    (outcome : Outcome) → IsKind catalog i S event wrote outcome → is_refusal outcome ≡ false
+kind_allowed catalog i S event wrote outcome (boots down) = refl
+kind_allowed catalog i S event wrote outcome kind = refl
+
+-- no rule refuses a restart
+pub rule_allows : (catalog : Catalog) (i : SiteId) (S : Standing) (event : Event)
+    → is_refusal (rule catalog i S event).outcome ≡ false
+rule_allows catalog i S event =
+    kind_allowed catalog i S event (rule catalog i S event).wrote (rule catalog i S event).outcome
+    (rule_allowed catalog i S event).0.kind
+
+pub failure_is : (event : Event) (rec : Record)
+    → (is_faulty (failure event rec) ≡ true) × (is_refusal (failure event rec) ≡ false)
+    × IsShortOutcome (failure event rec) × ((up : Bool) → up_after event (failure event rec) up ≡ false) × (is_taken (failure event rec) ≡ false)
+failure_is (Given (Call client call)) (Boot epoch) = (refl, refl, tt, λ up. refl, refl)
+failure_is (Given (Call client call)) (Own seq tx) = (refl, refl, tt, λ up. refl, refl)
+failure_is (Given (Call client call)) (Got from seq tx) = (refl, refl, tt, λ up. refl, refl)
+failure_is (Given (Call client call)) (Seen from seq) = (refl, refl, tt, λ up. refl, refl)
+failure_is (Given (Call client call)) (Prepared from slow tid objects) = (refl, refl, tt, λ up. refl, refl)
+failure_is (Given (Call client call)) (Released from slow) = (refl, refl, tt, λ up. refl, refl)
+failure_is (Given (Call client call)) (SlowBegin slow tx) = (refl, refl, tt, λ up. refl, refl)
+failure_is (Given (Call client call)) (SlowEnd slow) = (refl, refl, tt, λ up. refl, refl)
+failure_is (Given (Call client call)) (Marks durable visible) = (refl, refl, tt, λ up. refl, refl)
+failure_is (Given (Deliver from number packet)) rec = (refl, refl, tt, λ up. refl, refl)
+failure_is (Given (Advance from)) rec = (refl, refl, tt, λ up. refl, refl)
+failure_is (Given Tick) rec = (refl, refl, tt, λ up. refl, refl)
+failure_is Stop rec = (refl, refl, tt, λ up. refl, refl)
+failure_is Restart rec = (refl, refl, tt, λ up. refl, refl)
+
+pub want_is : (event : Event) → (is_faulty (want event) ≡ false) × (is_refusal (want event) ≡ false)
+    × IsShortOutcome (want event) × ((up : Bool) → up_after event (want event) up ≡ up) × (is_taken (want event) ≡ false)
+want_is (Given (Call client call)) = (refl, refl, tt, λ up. refl, refl)
+want_is (Given (Deliver from number packet)) = (refl, refl, tt, λ up. refl, refl)
+want_is (Given (Advance from)) = (refl, refl, tt, λ up. refl, refl)
+want_is (Given Tick) = (refl, refl, tt, λ up. refl, refl)
+want_is Stop = (refl, refl, tt, λ up. refl, refl)
+want_is Restart = (refl, refl, tt, λ up. refl, refl)
+
+pub fullness_is : (event : Event) (need left : ℕ) → (is_faulty (fullness event need left) ≡ false)
+    × (is_refusal (fullness event need left) ≡ false) × IsShortOutcome (fullness event need left)
+    × ((up : Bool) → up_after event (fullness event need left) up ≡ up) × (is_taken (fullness event need left) ≡ false)
+fullness_is (Given (Call client call)) need left = (refl, refl, tt, λ up. refl, refl)
+fullness_is (Given (Deliver from number packet)) need left = (refl, refl, tt, λ up. refl, refl)
+fullness_is (Given (Advance from)) need left = (refl, refl, tt, λ up. refl, refl)
+fullness_is (Given Tick) need left = (refl, refl, tt, λ up. refl, refl)
+fullness_is Stop need left = (refl, refl, tt, λ up. refl, refl)
+fullness_is Restart need left = (refl, refl, tt, λ up. refl, refl)
+
+-- only a restart that reads its journal is refused
+pub unrefused : (catalog : Catalog) (i : SiteId) (site : Option Tables) (event : Event) (ready : Ready) (left : ℕ)
+    (outcome : Outcome) → IsReadyAnyway catalog i site event ready → IsOutcomeOf event ready left outcome
+    → is_refusal outcome ≡ false
+unrefused catalog i site event ready left outcome anyway (inl is) =
+    ap is_refusal (is ∙ ap (λ (e : Expected). e.outcome) anyway.ready_for.rule) ∙ rule_allows catalog i anyway.S event
+unrefused catalog i site event ready left outcome anyway (inr (inl is)) = ap is_refusal is ∙ (want_is event).1
+unrefused catalog i site event ready left outcome anyway (inr (inr (inl is))) =
+    ap is_refusal is.1 ∙ (failure_is event is.0).1
+unrefused catalog i site event ready left outcome anyway (inr (inr (inr is))) =
+    ap is_refusal is.outcome_is ∙ (fullness_is event is.need is.free).1
+
+-- ---- the parts of what came
+
+pub some_holds : (P : Record → Type 0) (o : Option Record) (rec : Record) → o ≡ Some rec → IfSome o P → P rec
+some_holds P o rec is holds = subst (λ (o : Option Record). IfSome o P) is holds
+
+pub holds_some : (P : Record → Type 0) (o : Option Record) (rec : Record) → o ≡ Some rec → P rec → IfSome o P
+holds_some P o rec is holds = subst (λ (o : Option Record). IfSome o P) (sym is) holds
+
+pub holds_none : (P : Record → Type 0) (o : Option Record) → o ≡ None → IfSome o P
+holds_none P o is = subst (λ (o : Option Record). IfSome o P) (sym is) tt
+
+pub takes_memory : (o : Option Record) (Q : Type 0) → IsSome o → IfSome o (λ rec. Q) → Q
+takes_memory None Q some takes = absurd (cc)
+takes_memory (Some rec) Q some takes = takes
+
+pub faults_as : (came : Came) (faulty : Bool) (old new : ℕ) → is_faulty came.outcome ≡ faulty → RisesIf faulty old new
+    → IsFaulty came old new
+faults_as came faulty old new is rises = subst (λ (b : Bool). RisesIf b old new) (sym is) rises
+
+pub calls_as : (came : Came) (wrote flight : Option Record) (old new : ℕ) → came.wrote ≡ wrote → came.flight ≡ flight
+    → AreCallsFor wrote flight old new → AreCalls came old new
+calls_as came wrote flight old new is_wrote is_flight calls =
+    subst (λ (w : Option Record). AreCallsFor w came.flight old new) (sym is_wrote)
+    (subst (λ (f : Option Record). AreCallsFor wrote f old new) (sym is_flight) calls)
+
+pub sized_as : (sites : ℕ) (came other : Came) → came ≡ other → IsSized sites other → IsSized sites came
+sized_as sites came other is sized = subst (λ (c : Came). IsSized sites c) (sym is) sized
+
+pub sized_flying : (sites : ℕ) (event : Event) (rec : Record) → CanBeRecorded rec
+    → IsSized sites (record (only (failure event rec)) { flight = Some rec })
+sized_flying sites event rec can =
+    record { outcome = (failure_is event rec).2; kept = tt; wrote = tt; flight = can; sends = none_sent sites }
+
+-- the record of what is ready
+module _ (catalog : Catalog) (i : SiteId) (site : Option Tables) (S : Standing) (event : Event) (ready : Ready)
+    (ready_for : IsReadyFor catalog i site S event ready) (rec : Record) (is : rec_in ready ≡ Some rec) where
+  pub brings : (rule catalog i S event).wrote ≡ Some rec
+  brings = sym (ap (λ (e : Expected). e.wrote) ready_for.rule) ∙ is
+
+  pub has : AreInRange rec → HasRecordSpelling catalog.sites rec
+  has ranges = spelled_among catalog.sites rec (some_holds (CanBeNext catalog i S) (rec_in ready) rec is ready_for.next).sizes ranges
+
+  -- it finds its place in the journal
+  pub fits_here : {D : Type 0} {g : Ghosts D} (mid : Journal D g) (capacity : ℕ) → capacity_of mid ≡ capacity
+      → AreSpelled catalog.sites S → StandsFor mid (map record_spelled S.records) → CanBeRecorded rec → (body : List ℕ)
+      → body ≡ record_spelled rec → body_need body ≤ left_of mid → IfSome (rec_in ready) (FitsIn capacity S)
+  fits_here mid capacity same spelled stands can body body_is enough =
+      holds_some (FitsIn capacity S) (rec_in ready) rec is
+      (subst (λ (c : ℕ). FitsIn c S rec) same
+      (fits catalog.sites S mid spelled.records stands rec can (subst (λ (b : List ℕ). body_need b ≤ left_of mid) body_is enough)))
+
+  -- or it doesn't
+  pub lacks_here : {D : Type 0} {g : Ghosts D} (mid : Journal D g) (capacity need left : ℕ) → capacity_of mid ≡ capacity
+      → AreSpelled catalog.sites S → StandsFor mid (map record_spelled S.records) → CanBeRecorded rec → (body : List ℕ)
+      → body ≡ record_spelled rec → left_of mid < body_need body → need ≡ body_need body → left ≡ left_of mid
+      → IfSome (rec_in ready) (λ rec. (need ≡ need_of rec) × (left ≡ left_behind capacity S.records) × (left < need))
+  lacks_here mid capacity need left same spelled stands can body body_is less is_need is_left =
+      holds_some (λ rec. (need ≡ need_of rec) × (left ≡ left_behind capacity S.records) × (left < need)) (rec_in ready) rec is
+      (is_need ∙ ap body_need body_is ∙ need_is rec can,
+      is_left ∙ left_is catalog.sites S mid spelled.records stands ∙ ap (λ (c : ℕ). left_behind c S.records) same,
+      omega (arith, less, is_need, is_left))
+
+-- ---- what it leaves
+
+module _ {D : Type 0} {g : Ghosts D} (size_is : SizeIs g) (catalog : Catalog) (i : SiteId) (S : Standing) (event : Event)
+    (spelled : AreSpelled catalog.sites S) (m : Machine) (catalog_is : catalog_in m ≡ catalog) (came : Came)
+    (standing : HasStanding m (stands_after catalog i S event came)) (new : Journal D g) where
+  abbrev T : Standing
+  T = stands_after catalog i S event came
+
+  abbrev Has : Record → Type 0
+  Has = HasRecordSpelling catalog.sites
+
+  spelled_here : IfSome came.wrote Has → IfSome came.flight Has → AreSpelled (catalog_in m).sites T
+  spelled_here wrote flight =
+      subst (λ (c : Catalog). AreSpelled c.sites T) (sym catalog_is)
+      (spelled_after catalog.sites catalog i S event came spelled wrote flight)
+
+  -- no record was written
+  pub leaves_same : StandsFor new (map record_spelled S.records) → came.wrote ≡ None → came.flight ≡ None
+      → IsLeft {g = g} m T new
+  leaves_same stands wrote flight = record {
+    machine = standing;
+    spelled = spelled_here (subst (λ (w : Option Record). IfSome w Has) (sym wrote) tt)
+        (subst (λ (f : Option Record). IfSome f Has) (sym flight) tt);
+    stored = stored g size_is T new (is_up m)
+        (subst (λ (w : Option Record). StandsFor new (map record_spelled (records_after w S.records))) (sym wrote) stands);
+  }
+
+  module _ (mid : Journal D g) (rec : Record) (body : List ℕ) (stands : StandsFor mid (map record_spelled S.records))
+      (is : body ≡ record_spelled rec) (has : HasRecordSpelling catalog.sites rec) where
+    -- one was appended
+    pub leaves_more : Appends mid new body → came.wrote ≡ Some rec → came.flight ≡ None → IsLeft {g = g} m T new
+    leaves_more appended wrote flight = record {
+      machine = standing;
+      spelled = spelled_here (subst (λ (w : Option Record). IfSome w Has) (sym wrote) has)
+          (subst (λ (f : Option Record). IfSome f Has) (sym flight) tt);
+      stored = stored g size_is T new (is_up m)
+          (subst (λ (w : Option Record). StandsFor new (map record_spelled (records_after w S.records))) (sym wrote)
+          (subst (λ (bodies : List (List ℕ)). StandsFor new bodies)
+          (ap (λ (b : List ℕ). map record_spelled S.records ++ b ∷ []) is
+          ∙ sym (map-append record_spelled S.records (rec ∷ [])))
+          (appended.behind (map record_spelled S.records) stands)));
+    }
+
+    -- one is in flight
+    pub leaves_flying : CountsNow g → Fails (g.known (disk_of mid)) (g.known (disk_of new))
+        → LeavesOnly g.moment g.left_since (disk_of mid) (disk_of new)
+        (IsBeforeOrBehind (map record_spelled S.records) body) → tables_in m ≡ None → came.wrote ≡ None
+        → came.flight ≡ Some rec → IsLeft {g = g} m T new
+    leaves_flying counts_now fails run down wrote flight = record {
+      machine = standing;
+      spelled = spelled_here (subst (λ (w : Option Record). IfSome w Has) (sym wrote) tt)
+          (subst (λ (f : Option Record). IfSome f Has) (sym flight) has);
+      stored = subst
+          (λ (o : Option Tables). IsStored {g = g} T (Some (if is_some o then Open new else Closed (disk_of new)))) (sym down)
+          (stored_failed g size_is counts_now S.records rec T mid new stands fails
+          (subst (λ (b : List ℕ). LeavesOnly g.moment g.left_since (disk_of mid) (disk_of new)
+          (IsBeforeOrBehind (map record_spelled S.records) b)) is run)
+          (ap (λ (w : Option Record). records_after w S.records) wrote)
+          (ap (λ (f : Option Record). flight_after f came.wrote came.outcome S.flight) flight));
+    }

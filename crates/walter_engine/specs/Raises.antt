@@ -1,0 +1,57 @@
+-- What a restart comes to over a journal that was loaded.
+use Rattle.std.specs.Prelude.{◌≡◌, ◌⊎◌, ◌<◌, ℕ, false, List, map, Option, Some, None, IsSome, IfSome}
+use Rattle.walter_base.specs.declared.catalog.Catalog.{Catalog}
+use Rattle.walter_base.specs.declared.names.SiteId.{SiteId}
+use Rattle.walter_disk.specs.declared.disk.Disk.{Ghosts}
+use Rattle.walter_engine.specs.declared.answers.RefusedRestart.{RefusedRestart}
+use Rattle.walter_engine.specs.declared.answers.RefusedRestart.TheVariants as refused
+use Rattle.walter_engine.specs.Contents.{AreSpelled}
+use Rattle.walter_engine.specs.Effects.{TakesNoEpoch}
+use Rattle.walter_engine.specs.Stores.{IsLeft}
+use Rattle.walter_journal.specs.declared.fault.JournalFault.{JournalFault}
+use Rattle.walter_journal.specs.declared.fault.JournalFault.TheVariants as fault
+use Rattle.walter_journal.specs.declared.journal.Journal.{Journal}
+use Rattle.walter_journal.specs.Journals.{StandsFor}
+use Rattle.walter_machine.specs.declared.machine.Machine.{Machine}
+use Rattle.walter_machine.specs.States.{AreTold}
+use Rattle.walter_record.specs.Spelling.{record_spelled}
+use Rattle.walter_rules.specs.declared.entry.Came.{Came}
+use Rattle.walter_rules.specs.declared.event.Event.TheVariants.{Restart}
+use Rattle.walter_rules.specs.declared.outcome.Outcome.{Outcome}
+use Rattle.walter_rules.specs.declared.outcome.Outcome.TheVariants.{Taken, Failed, Full, Memory, Refused}
+use Rattle.walter_rules.specs.Standing.{Standing, stands_after}
+use Rattle.walter_rules.specs.Trails.{Comes}
+
+-- a site that is down stands so, and the bodies of its journal are its records
+pub record LiesIn {D : Type 0} {g : Ghosts D} (catalog : Catalog) (i : SiteId) (S : Standing) (journal : Journal D g)
+    (bodies : List (List ℕ)) : Type 0 where
+  pub down : S.up ≡ false
+  pub told : AreTold catalog i S
+  pub spelled : AreSpelled catalog.sites S
+  pub is : bodies ≡ map record_spelled S.records
+  pub stands : StandsFor journal bodies
+
+-- A restart of such a site came to what it may, and left the machine and the journal so. It was refused only behind the last
+-- epoch, and takes none there.
+pub record Raises {D : Type 0} {g : Ghosts D} (catalog : Catalog) (capacity : ℕ) (i : SiteId) (S : Standing) (came : Came)
+    (why : Option RefusedRestart) (m : Machine) (journal : Journal D g) : Type 0 where
+  pub comes : (came.outcome ≡ Refused) ⊎ Comes catalog capacity i S Restart came
+  pub leaves : IsLeft m (stands_after catalog i S Restart came) journal
+  pub last : IfSome why (λ cause. (cause ≡ refused.LastEpoch) × (S.knows.epoch ≡ 4294967295))
+  pub takes_none : S.knows.epoch ≡ 4294967295 → TakesNoEpoch came
+
+-- its outcomes: it is refused for a cause, and finds no place where fewer bytes are left than a Boot needs
+abbrev pub IsRaised : ℕ → Option RefusedRestart → Outcome → Type 0
+IsRaised left why Taken = Unit {0}
+IsRaised left why Failed = Unit {0}
+IsRaised left why (Full need free) = left < 10
+IsRaised left why Memory = Unit {0}
+IsRaised left why Refused = IsSome why
+IsRaised left why outcome = ⊥
+
+-- where no journal was loaded
+abbrev pub unloaded_by : JournalFault → Outcome × Option RefusedRestart
+unloaded_by fault.Failed = (Failed, None)
+unloaded_by fault.NoMemory = (Memory, None)
+unloaded_by fault.Foreign = (Refused, Some refused.Foreign)
+unloaded_by (fault.Damaged at length) = (Refused, Some (refused.Damaged at length))
