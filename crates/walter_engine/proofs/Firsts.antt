@@ -4,7 +4,6 @@ use Rattle.std.specs.Prelude.{IfSome, IsSome, OnOk, is_ok}
 use Rattle.std.proofs.lemmas.List.Elements.{All-nil}
 use Rattle.walter_base.specs.declared.catalog.Catalog.{Catalog}
 use Rattle.walter_base.specs.declared.message.Record.{Record}
-use Rattle.walter_base.specs.declared.message.Record.TheVariants.{Boot}
 use Rattle.walter_base.specs.declared.names.SiteId.{SiteId}
 use Rattle.walter_disk.proofs.Moments.{weaker, joined}
 use Rattle.walter_disk.specs.declared.disk.Disk.{Ghosts}
@@ -12,7 +11,6 @@ use Rattle.walter_disk.specs.Images.{Only, IsImage, LeavesOnly}
 use Rattle.walter_engine.specs.declared.answers.BeginFault.{BeginFault}
 use Rattle.walter_engine.specs.declared.answers.BeginFault.TheVariants as unbegun
 use Rattle.walter_engine.specs.Begins.{HasOnly, MayHaveBegun, IsBegun, IsFaultOfBegin}
-use Rattle.walter_engine.specs.Contents.{MayHaveNext}
 use Rattle.walter_engine.specs.Effects.{IsRefusedOver, AreCallsFor}
 use Rattle.walter_engine.specs.Firsts.{IsAnswerTo, IsBegunOver, MayHaveFirst, not_loaded_by}
 use Rattle.walter_engine.specs.Raises.{LiesIn, Raises, IsRaised}

@@ -1,5 +1,5 @@
 -- A restart from the disk of a site that is down.
-use Rattle.std.proofs.Common.{◌≡◌, ℕ, ◌+◌, ◌<◌, ◌≤◌, List, [], ◌∷◌, ◌++◌, map, length, Bool, true, false, if◌then◌else◌, Option, Some, None, refl, ap, sym, ◌∙◌, subst, inl, inr, ◌⊎◌, ⊎_elim, arith}
+use Rattle.std.proofs.Common.{◌≡◌, ℕ, ◌+◌, ◌≤◌, List, [], ◌∷◌, ◌++◌, map, length, false, if◌then◌else◌, Option, Some, None, refl, ap, sym, ◌∙◌, subst, inl, inr, ◌⊎◌, ⊎_elim, arith}
 use Rattle.std.specs.Prelude.{IfSome, IsSome, is_some}
 use Rattle.std.proofs.lemmas.List.{length-append, length-map}
 use Rattle.walter_base.specs.declared.catalog.Catalog.{Catalog}
@@ -14,7 +14,7 @@ use Rattle.walter_engine.specs.declared.answers.RefusedRestart.TheVariants as re
 use Rattle.walter_engine.specs.declared.engine.Engine.{Engine}
 use Rattle.walter_engine.specs.declared.store.Store.TheVariants.{Open, Closed}
 use Rattle.walter_engine.specs.Contents.{AreSpelled, MayHaveRecords, MayHaveNext}
-use Rattle.walter_engine.specs.Effects.{AreCallsFor, HasCome, TakesNoEpoch, IsRefusedOver, IsRefusedFor}
+use Rattle.walter_engine.specs.Effects.{AreCallsFor, HasCome, IsRefusedOver, IsRefusedFor}
 use Rattle.walter_engine.specs.Engines.{Stands}
 use Rattle.walter_engine.specs.Raises.{LiesIn, Raises, unloaded_by}
 use Rattle.walter_engine.specs.Stores.{IsOnDisk, IsStored, IsLeft}
@@ -27,18 +27,15 @@ use Rattle.walter_journal.specs.declared.journal.Journal.{Journal}
 use Rattle.walter_journal.specs.Faults.{HasCause, Finds}
 use Rattle.walter_journal.specs.Journals.{disk_of, StandsFor}
 use Rattle.walter_journal.specs.Layout.{HasContent, IsForeign, IsDamaged}
-use Rattle.walter_machine.specs.declared.machine.Machine.{Machine}
 use Rattle.walter_machine.specs.Comings.{is_faulty, RisesIf, IsRest}
 use Rattle.walter_site.specs.Members.{IsShortOutcome}
-use Rattle.walter_machine.specs.Machines.{catalog_in, is_up, AreFound, HasStanding, Settles}
+use Rattle.walter_machine.specs.Machines.{is_up, AreFound}
 use Rattle.walter_machine.specs.States.{AreTold}
 use Rattle.walter_record.specs.Spelling.{record_spelled, HasRecordSpelling}
 use Rattle.walter_rules.specs.declared.entry.Came.{Came}
 use Rattle.walter_rules.specs.declared.event.Event.{Event}
 use Rattle.walter_rules.specs.declared.event.Event.TheVariants.{Restart}
-use Rattle.walter_rules.specs.declared.outcome.Outcome.{Outcome}
 use Rattle.walter_rules.specs.declared.outcome.Outcome.TheVariants.{Refused}
-use Rattle.walter_rules.specs.Rule.{rule}
 use Rattle.walter_rules.specs.Standing.{Standing, settled, stands_after}
 use Rattle.walter_rules.specs.Trails.{Comes, IsFound, TakesMemory, only}
 
@@ -72,12 +69,15 @@ there one S (Some rec) is bytes bodies (inr has) content =
 pub found_there : (S : Standing) (bodies : List (List ℕ)) → AreThere S bodies → AreFound S (length bodies)
 found_there S bodies (inl is) = inl (ap length is ∙ length-map S.records record_spelled)
 found_there S bodies (inr behind) =
-    inr (ap is_some behind.1, omega (
-      arith,
-      ap length behind.2,
-      length-map (S.records ++ behind.0 ∷ []) record_spelled,
-      length-append S.records (behind.0 ∷ []),
-    ))
+    inr (
+      ap is_some behind.1,
+      omega (
+        arith,
+        ap length behind.2,
+        length-map (S.records ++ behind.0 ∷ []) record_spelled,
+        length-append S.records (behind.0 ∷ []),
+      ),
+    )
 
 -- the count tells which
 settled_there : (catalog : Catalog) (i : SiteId) (S : Standing) (kept : Option Record) (bodies : List (List ℕ))
@@ -286,12 +286,12 @@ module _ {D : Type 0} {g : Ghosts D} where
         → Comes catalog capacity i S Restart (only (unloaded_by why).0) × ((unloaded_by why).1 ≡ None)
     comes_unloaded catalog capacity i down fault.Failed cause = (
       Comes.unread refl down
-      (record { outcome_is = refl; wrote = refl; flight_is = refl; sends = refl; dropped = refl }),
+          (record { outcome_is = refl; wrote = refl; flight_is = refl; sends = refl; dropped = refl }),
       refl,
     )
     comes_unloaded catalog capacity i down fault.NoMemory cause = (
       Comes.no_memory (subst (λ up. TakesMemory up Restart) (sym down) tt)
-      (record { outcome_is = refl; wrote = refl; flight_is = refl; sends = refl; dropped = refl }),
+          (record { outcome_is = refl; wrote = refl; flight_is = refl; sends = refl; dropped = refl }),
       refl,
     )
     comes_unloaded catalog capacity i down fault.Foreign cause = absurd (wrong IsForeign not_foreign cause)

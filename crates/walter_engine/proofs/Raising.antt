@@ -1,6 +1,5 @@
 -- A restart of a site that is down, by the bodies of its journal.
-use Rattle.std.proofs.Common.{◌≡◌, ℕ, ◌+◌, ◌<◌, List, [], ◌∷◌, map, false, Option, Some, None, refl, ap, sym, ◌∙◌, subst, inl, inr, arith}
-use Rattle.std.specs.Prelude.{IfSome}
+use Rattle.std.proofs.Common.{◌≡◌, ℕ, ◌<◌, List, [], map, Option, Some, None, refl, ap, sym, ◌∙◌, subst, inl, inr}
 use Rattle.walter_base.specs.declared.catalog.Catalog.{Catalog}
 use Rattle.walter_base.specs.declared.message.Record.{Record}
 use Rattle.walter_base.specs.declared.message.Record.TheVariants.{Boot}
@@ -9,10 +8,10 @@ use Rattle.walter_disk.specs.declared.disk.Disk.{Ghosts}
 use Rattle.walter_disk.specs.Images.{LeavesOnly}
 use Rattle.walter_engine.specs.declared.answers.RefusedRestart.TheVariants.{LastEpoch}
 use Rattle.walter_engine.specs.Contents.{MayHaveNext}
-use Rattle.walter_engine.specs.Effects.{Tell, IsUnreadable, IsRefusedOver, TakesNoEpoch}
+use Rattle.walter_engine.specs.Effects.{IsUnreadable, IsRefusedOver, TakesNoEpoch}
 use Rattle.walter_engine.specs.Raises.{LiesIn, Raises, IsRaised}
 use Rattle.walter_engine.specs.Replays.{Tells}
-use Rattle.walter_engine.specs.Writings.{IsOutcomeOf, IsOverflow}
+use Rattle.walter_engine.specs.Writings.{IsOutcomeOf}
 use Rattle.walter_engine.proofs.Bodies.{readable, one_list}
 use Rattle.walter_engine.proofs.Crashes.{unmoved}
 use Rattle.walter_engine.proofs.Resting.{SizeIs, OnlyNow, may_have}

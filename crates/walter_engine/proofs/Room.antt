@@ -45,6 +45,3 @@ module _ {D : Type 0} {g : Ghosts D} (sites : ℕ) (S : Standing) (journal : Jou
 
   pub fits : (rec : Record) → CanBeRecorded rec → body_need (record_spelled rec) ≤ left_of journal → FitsIn (capacity_of journal) S rec
   fits rec can enough = omega (arith, enough, need_is rec can, left_is)
-
-  pub much : (rec : Record) → CanBeRecorded rec → left_of journal < body_need (record_spelled rec) → left_behind (capacity_of journal) S.records < need_of rec
-  much rec can less = omega (arith, less, need_is rec can, left_is)

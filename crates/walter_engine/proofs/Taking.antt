@@ -13,7 +13,7 @@ use Rattle.walter_engine.specs.Stores.{IsStored}
 use Rattle.walter_engine.proofs.Spelled.{spelled_after}
 use Rattle.walter_engine.proofs.Written.{holds_none}
 use Rattle.walter_engine.specs.Effects.{HasCome}
-use Rattle.walter_engine.specs.Engines.{Stands, OfDisk, OfDisks, disk_in, catalog_in}
+use Rattle.walter_engine.specs.Engines.{Stands, catalog_in}
 use Rattle.walter_machine.specs.States.{IsState}
 use Rattle.walter_machine.specs.Steps.{IsStep, record_of}
 use Rattle.walter_machine.specs.declared.ready.Step.{Step}
@@ -29,7 +29,6 @@ use Rattle.walter_rules.proofs.RulesAllowed.{rule_allowed}
 use Rattle.walter_rules.specs.declared.outcome.Outcome.{Outcome}
 use Rattle.walter_rules.specs.declared.outcome.Outcome.TheVariants.{Full}
 use Rattle.walter_rules.specs.Allowed.{IsKind, boots}
-use Rattle.walter_rules.specs.Calls.{Expected}
 use Rattle.walter_rules.specs.Rule.{rule, stop_rule}
 use Rattle.walter_rules.specs.Standing.{Standing, settled, stands_after, records_after, flight_after}
 use Rattle.walter_rules.specs.Trails.{Comes, IsFound, TakesMemory}
@@ -40,6 +39,12 @@ pub same_parts : (P : Catalog → SiteId → Type 0) (catalog catalog' : Catalog
     → i' ≡ i → P catalog i → P catalog' i'
 same_parts P catalog catalog' i i' same_catalog same_site is =
     subst (λ (k : SiteId). P catalog' k) (sym same_site) (subst (λ (x : Catalog). P x i) (sym same_catalog) is)
+
+-- what holds of each with itself
+pub if_twice : {A : Type 0} (o : Option A) (R : A → A → Type 0) → ((x : A) → R x x)
+    → IfSome o (λ before. IfSome o (λ now. R before now))
+if_twice None R so = tt
+if_twice (Some x) R so = so x
 
 -- the site is up just where it has its tables
 pub state_up : (S : Standing) (site : Option Tables) → IsState S site → S.up ≡ is_some site
@@ -119,24 +124,6 @@ module _ {D : Type 0} {g : Ghosts D} where
         ∙ flight_stays came.outcome S.flight fits)
         stored;
   }
-
-  pub of_disk : (engine : Engine D g) (P : D → Type 0) (disk : D) → disk_in engine ≡ Some disk → P disk → OfDisk engine P
-  of_disk engine P disk is so = subst (λ (o : Option D). IfSome o P) (sym is) so
-
-  pub of_disks : (old new : Engine D g) (R : D → D → Type 0) (before now : D) → disk_in old ≡ Some before
-      → disk_in new ≡ Some now → R before now → OfDisks old new R
-  of_disks old new R before now was is so =
-      subst (λ (o : Option D). IfSome o (λ b. OfDisk new (λ a. R b a))) (sym was)
-      (of_disk new (λ a. R before a) now is so)
-
-  -- the disk is as before
-  pub same_disks : (old new : Engine D g) (R : D → D → Type 0) → disk_in new ≡ disk_in old → ((disk : D) → R disk disk)
-      → OfDisks old new R
-  same_disks old new R is so = at (disk_in old) refl
-    where
-      at : (o : Option D) → disk_in old ≡ o → OfDisks old new R
-      at None was = subst (λ (o : Option D). IfSome o (λ b. OfDisk new (λ a. R b a))) (sym was) tt
-      at (Some disk) was = of_disks old new R disk disk was (is ∙ was) (so disk)
 
   -- nothing was found, and no restart was refused
   pub come_as : (catalog : Catalog) (capacity : ℕ) (i : SiteId) (S : Standing) (event : Event) (came : Came)

@@ -231,10 +231,11 @@ module _ (catalog : Catalog) (i : SiteId) (site : Option Tables) (S : Standing) 
       → body ≡ record_spelled rec → left_of mid < body_need body → need ≡ body_need body → left ≡ left_of mid
       → IfSome (rec_in ready) (λ rec. (need ≡ need_of rec) × (left ≡ left_behind capacity S.records) × (left < need))
   lacks_here mid capacity need left same spelled stands can body body_is less is_need is_left =
-      holds_some (λ rec. (need ≡ need_of rec) × (left ≡ left_behind capacity S.records) × (left < need)) (rec_in ready) rec is
-      (is_need ∙ ap body_need body_is ∙ need_is rec can,
-      is_left ∙ left_is catalog.sites S mid spelled.records stands ∙ ap (λ (c : ℕ). left_behind c S.records) same,
-      omega (arith, less, is_need, is_left))
+      holds_some (λ rec. (need ≡ need_of rec) × (left ≡ left_behind capacity S.records) × (left < need)) (rec_in ready) rec is (
+        is_need ∙ ap body_need body_is ∙ need_is rec can,
+        is_left ∙ left_is catalog.sites S mid spelled.records stands ∙ ap (λ (c : ℕ). left_behind c S.records) same,
+        omega (arith, less, is_need, is_left),
+      )
 
 -- ---- what it leaves
 

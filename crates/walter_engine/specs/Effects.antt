@@ -76,8 +76,9 @@ pub record HasCome {D : Type 0} {g : Ghosts D} (catalog : Catalog) (capacity : �
   pub takes_none : S.up ≡ false → event ≡ Restart → (settled catalog i came.kept S).knows.epoch ≡ 4294967295
       → TakesNoEpoch came
 
--- What is so of each event. What a crash at any moment of it leaves is known; where a restart is refused, the bytes that the
--- disk has are the cause; what is put out has its frames; the disk's faults rise just where one was met.
+-- What is so of each event: what it comes to, and what a crash at any moment of it leaves. Where a restart is refused,
+-- the bytes that the disk has are the cause; what is put out has its frames; the disk's faults rise just where one was
+-- met.
 pub record HasTaken {D : Type 0} {g : Ghosts D} (old new : Engine D g) (event : Event) (effect : Effect) : Type 0 where
   pub comes : (S : Standing) → Stands old S
       → HasCome (catalog_in old) (capacity_in old) (site_in old) S event effect.came effect.refused new

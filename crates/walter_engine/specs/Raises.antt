@@ -31,10 +31,10 @@ pub record LiesIn {D : Type 0} {g : Ghosts D} (catalog : Catalog) (i : SiteId) (
   pub is : bodies ≡ map record_spelled S.records
   pub stands : StandsFor journal bodies
 
--- A restart of such a site came to what it may, and left the machine and the journal so. It was refused only behind the last
--- epoch, and takes none there.
-pub record Raises {D : Type 0} {g : Ghosts D} (catalog : Catalog) (capacity : ℕ) (i : SiteId) (S : Standing) (came : Came)
-    (why : Option RefusedRestart) (m : Machine) (journal : Journal D g) : Type 0 where
+-- A restart of such a site came to what it may, and left the machine and the journal so. It was refused only behind the
+-- last epoch, and takes none there.
+pub record Raises {D : Type 0} {g : Ghosts D} (catalog : Catalog) (capacity : ℕ) (i : SiteId) (S : Standing)
+    (came : Came) (why : Option RefusedRestart) (m : Machine) (journal : Journal D g) : Type 0 where
   pub comes : (came.outcome ≡ Refused) ⊎ Comes catalog capacity i S Restart came
   pub leaves : IsLeft m (stands_after catalog i S Restart came) journal
   pub last : IfSome why (λ cause. (cause ≡ refused.LastEpoch) × (S.knows.epoch ≡ 4294967295))

@@ -43,8 +43,8 @@ pub record IsOverflow (event : Event) (ready : Ready) (left : ℕ) (outcome : Ou
   pub less : left < need_of rec
   pub outcome_is : outcome ≡ fullness event need free
 
--- What comes of what is ready, where so many bytes are left: what is to come; or memory ran out, or its record met a fault or
--- found no place.
+-- What comes of what is ready, where so many bytes are left: what is to come; or memory ran out, or its record met a
+-- fault or found no place.
 abbrev pub IsOutcomeOf : Event → Ready → ℕ → Outcome → Type 0
 IsOutcomeOf event ready left outcome =
     (outcome ≡ (came_in ready).outcome)

@@ -154,7 +154,8 @@ impl<D: Disk + Drop> Engine<D> {
         ensures device { (is_up self.old ≡ false → event.now ≢ happens.Restart) → OfDisks self.old self.new (λ old new.
             AreCalls result.came (D.device_calls old) (D.device_calls new)) }
         ensures loads { is_up self.old ≡ false → event.now ≡ happens.Restart → OfDisks self.old self.new (λ old new.
-            AreCallsOfRestart result.came (calls_of_load (D.known old).size) (D.device_calls old) (D.device_calls new)) }
+            AreCallsOfRestart result.came (calls_of_load (D.known old).size)
+            (D.device_calls old) (D.device_calls new)) }
         ensures arms { OfDisks self.old self.new (λ old new. (D.known new).arms ≡ (D.known old).arms) }
         ensures tells { OfDisks self.old self.new (λ old new.
             is_some (D.known new).reads ≡ is_some (D.known old).reads) }
@@ -230,7 +231,8 @@ impl<D: Disk + Drop> Engine<D> {
         requires down { is_up self.old ≡ false }
         ensures taken { HasTaken self.old self.new happens.Restart result }
         ensures loads { OfDisks self.old self.new (λ old new.
-            AreCallsOfRestart result.came (calls_of_load (D.known old).size) (D.device_calls old) (D.device_calls new)) }
+            AreCallsOfRestart result.came (calls_of_load (D.known old).size)
+            (D.device_calls old) (D.device_calls new)) }
     {
         // What is loaded is then what the site left.
         layouts_differ();

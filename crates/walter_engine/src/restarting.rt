@@ -19,8 +19,8 @@ use walter_journal::{Journal, JournalFault};
 use walter_machine::{BootFault, Machine, Ready};
 use walter_rules::{Came, Event, Outcome};
 
-/// The site comes up that the bodies of its journal tell, in its next epoch, which is journaled. The record in flight is
-/// decided before.
+/// The site comes up that the bodies of its journal tell, in its next epoch, which is journaled. The record in flight
+/// is decided before.
 pub(crate) fn raise<D: Disk>(
     alloc: Global,
     machine: &mut Machine,

@@ -23,8 +23,8 @@ use walter_machine::{Machine, Ready};
 use walter_packet::Framed;
 use walter_rules::{Came, Event};
 
-/// An event that is ready comes to a site. Its record, if there is one, is journaled first. All the memory that this takes
-/// is taken before the journal is written to.
+/// An event that is ready comes to a site. Its record, if there is one, is journaled first. All the memory that this
+/// takes is taken before the journal is written to.
 pub(crate) fn write<D: Disk>(
     alloc: Global,
     machine: &mut Machine,
@@ -41,8 +41,10 @@ pub(crate) fn write<D: Disk>(
     ensures leaves { (S : Standing) → HasStanding machine.old S → IsCounted machine.old S (rec_in ready)
         → IsReadyFor (catalog_in machine.old) (site_in machine.old) (tables_in machine.old) S event.now ready
         → AreSpelled (catalog_in machine.old).sites S → StandsFor journal.old (map record_spelled S.records)
-        → IsLeft machine.new (stands_after (catalog_in machine.old) (site_in machine.old) S event.now result.0) journal.new }
-    // a crash at any moment of it leaves the records from before, with the one that the rule brings behind them or without
+        → IsLeft machine.new
+        (stands_after (catalog_in machine.old) (site_in machine.old) S event.now result.0) journal.new }
+    // a crash at any moment of it leaves the records from before, with the one that the rule brings behind them or
+    // without
     ensures any_moment { (S : Standing)
         → IsReadyFor (catalog_in machine.old) (site_in machine.old) (tables_in machine.old) S event.now ready
         → StandsFor journal.old (map record_spelled S.records)

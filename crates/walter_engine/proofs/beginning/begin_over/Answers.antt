@@ -1,4 +1,4 @@
-use Rattle.std.proofs.Common.{◌≡◌, [], ◌∷◌, length, map, None, inl, inr, refl, sym, ◌∙◌, subst, ap, arith}
+use Rattle.std.proofs.Common.{◌≡◌, [], ◌∷◌, length, map, None, inl, inr, refl, ◌∙◌, subst, ap, arith}
 use Rattle.std.specs.Prelude.{is_some}
 use Rattle.std.proofs.lemmas.Bool.Decides.{nat_tests}
 use Rattle.walter_base.specs.declared.catalog.Catalog.{Catalog}
@@ -12,7 +12,7 @@ use Rattle.walter_engine.specs.Stores.{IsLeft}
 use Rattle.walter_journal.specs.Journals.{disk_of, capacity_of}
 use Rattle.walter_machine.specs.Machines.{catalog_in, site_in, HasStanding}
 use Rattle.walter_rules.specs.declared.event.Event.TheVariants.{Restart}
-use Rattle.walter_rules.specs.Standing.{unmade, settled, up_after}
+use Rattle.walter_rules.specs.Standing.{unmade, settled}
 use Rattle.walter_rules.specs.Trails.{standing, opening}
 
 pub settle-requires-clause-down : goal.settle-requires-clause-down

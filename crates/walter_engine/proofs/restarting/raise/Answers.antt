@@ -1,4 +1,4 @@
-use Rattle.std.proofs.Common.{◌≡◌, rules, ℕ, ◌<◌, List, map, Bool, false, Option, Some, None, refl, sym, ◌∙◌, subst, ap, inr, arith}
+use Rattle.std.proofs.Common.{rules, ℕ, map, Bool, false, Option, Some, None, refl, sym, ◌∙◌, subst, ap, inr, arith}
 use Rattle.std.specs.Prelude.{is_some}
 use Rattle.walter_base.specs.declared.catalog.Catalog.{Catalog}
 use Rattle.walter_base.specs.declared.message.Record.{Record}

@@ -1,7 +1,6 @@
-use Rattle.std.proofs.Common.{◌≡◌, [], rules, ◌≤◌, ◌+◌, ℕ, List, length, map, Bool, true, false, Option, Some, None, sym, ◌∙◌, subst, ap, inl, inr, refl, arith}
-use Rattle.std.specs.Prelude.{IfSome, IsSome, is_some}
+use Rattle.std.proofs.Common.{◌≡◌, [], rules, ◌≤◌, ◌+◌, ℕ, List, length, map, true, false, Some, None, sym, ◌∙◌, subst, ap, inl, inr, refl, arith}
+use Rattle.std.specs.Prelude.{IsSome, is_some}
 use Rattle.walter_base.specs.Sizes.{CanBeRecorded}
-use Rattle.walter_base.specs.declared.message.Record.{Record}
 use Rattle.walter_disk.specs.Disks.{DiskState}
 use Rattle.walter_engine.proofs.Crashes.{stays_next, appends_next}
 use Rattle.walter_engine.proofs.Room.{short_enough, need_is}
@@ -19,7 +18,6 @@ use Rattle.walter_rules.specs.Trails.{FitsIn, only, failure, want, fullness}
 use Rattle.walter_rules.specs.Sending.{Send}
 use Rattle.walter_rules.specs.Standing.{up_after}
 use Rattle.walter_rules.specs.declared.entry.Came.{Came}
-use Rattle.walter_rules.specs.declared.outcome.Outcome.{Outcome}
 
 pub spell_any-requires : goal.spell_any-requires
 spell_any-requires g c = c.requires.anyway.ready_for.sized.wrote

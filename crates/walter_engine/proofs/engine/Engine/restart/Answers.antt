@@ -1,35 +1,27 @@
-use Rattle.std.proofs.Common.{◌≡◌, [], ℕ, List, map, Bool, true, false, Option, Some, None, refl, sym, ◌∙◌, subst, ap, inl, inr, if◌then◌else◌, arith}
-use Rattle.std.specs.Prelude.{IfSome, IsSome, is_some}
+use Rattle.std.proofs.Common.{◌≡◌, [], ℕ, List, map, Bool, Option, Some, refl, sym, ◌∙◌, subst, ap, inl, if◌then◌else◌, arith}
+use Rattle.std.specs.Prelude.{IfSome, IsSome}
 use Rattle.walter_base.specs.declared.catalog.Catalog.{Catalog}
-use Rattle.walter_base.specs.declared.message.Record.{Record}
-use Rattle.walter_base.specs.declared.names.SiteId.{SiteId}
 use Rattle.walter_disk.specs.Images.{LeavesOnly}
 use Rattle.walter_engine.specs.Contents.{AreSpelled, MayHaveNext}
-use Rattle.walter_engine.specs.Effects.{HasCome}
-use Rattle.walter_engine.specs.Engines.{disk_in}
-use Rattle.walter_engine.specs.Stores.{disk_under, disk_of_store, is_open_under, IsOnDisk, IsStored}
+use Rattle.walter_engine.specs.Stores.{disk_under, is_open_under, IsOnDisk, IsStored}
 use Rattle.walter_engine.specs.declared.store.Store.TheVariants.{Open, Closed}
-use Rattle.walter_journal.specs.Journals.{disk_of, capacity_of}
-use Rattle.walter_journal.specs.declared.journal.Journal.{Journal}
-use Rattle.walter_machine.specs.Machines.{catalog_in, site_in, tables_in, is_up, HasStanding, IsCounted}
-use Rattle.walter_machine.specs.Readiness.{rec_in, IsReadyFor}
-use Rattle.walter_record.specs.Spelling.{record_spelled}
+use Rattle.walter_journal.specs.Journals.{disk_of}
+use Rattle.walter_machine.specs.Machines.{catalog_in, site_in, tables_in, is_up}
 use Rattle.walter_rules.specs.declared.entry.Came.{Came}
-use Rattle.walter_rules.specs.declared.event.Event.TheVariants.{Stop, Restart}
+use Rattle.walter_rules.specs.declared.event.Event.TheVariants.{Restart}
 use Rattle.walter_rules.specs.declared.outcome.Outcome.{Outcome}
-use Rattle.walter_rules.specs.Standing.{Standing, stands_after}
-use Rattle.walter_rules.specs.Trails.{Comes, TakesMemory, only, want}
+use Rattle.walter_rules.specs.Trails.{only}
 use Rattle.std.proofs.lemmas.List.{length-map}
 use Rattle.walter_disk.proofs.Moments.{weaker}
 use Rattle.walter_engine.proofs.Loads.{there_loaded, found_there, lies_settled, come_raised, come_unloaded, leaves_loaded, refused_loaded, refused_unloaded, unloaded_is, unloaded_faults, calls_of_restart}
 use Rattle.walter_engine.proofs.Resting.{on_closed, rests_on}
-use Rattle.walter_engine.proofs.Taking.{same_parts, state_up, of_disk, of_disks, is_full, stands_same}
+use Rattle.walter_engine.proofs.Taking.{same_parts, state_up, is_full, stands_same}
 use Rattle.walter_engine.proofs.Written.{faults_as, sized_as}
 use Rattle.walter_engine.proofs.engine.Engine.restart.Goals as goal
 use Rattle.walter_engine.specs.Effects.{IsRefusedFor}
 use Rattle.walter_engine.specs.Raises.{Raises, IsRaised, unloaded_by}
 use Rattle.walter_engine.specs.declared.answers.RefusedRestart.{RefusedRestart}
-use Rattle.walter_journal.specs.Journals.{StandsFor}
+use Rattle.walter_journal.specs.Journals.{StandsFor, left_of}
 use Rattle.walter_machine.proofs.Sizes.{sized_only}
 use Rattle.walter_machine.specs.Comings.{is_faulty, IsFaulty, IsSized}
 use Rattle.walter_machine.specs.Machines.{AreFound}
@@ -43,8 +35,8 @@ returns-in-Err-clause-taken g c =
     let before = ap disk_under was ∙ ap Some (sym c.into_disk.ensures) in
     let law = c.layouts_differ.ensures in
     let load = c.in-Err.ensures in
-    let is_came = c.rest.ensures.came ∙ ap (λ (p : Outcome × Option RefusedRestart). only p.0) c.unloaded.ensures in
-    let is_why = ap (λ (p : Outcome × Option RefusedRestart). p.1) c.unloaded.ensures in
+    let is_came = c.rest.ensures.came ∙ ap (λ (p : Outcome × Option RefusedRestart). only p.0) c.unloaded-outcome.ensures in
+    let is_why = ap (λ (p : Outcome × Option RefusedRestart). p.1) c.unloaded-outcome.ensures in
     record {
       comes = λ S stands.
           let closed = subst (λ o. is_open_under {g = g.D.Disk} o ≡ is_up c.args.self.now.machine) was c.args.self.now.«open» ∙ c.requires.down in
@@ -63,10 +55,10 @@ returns-in-Err-clause-taken g c =
           let resting = subst (λ (d : g.row.D.Denot). IsOnDisk g.D.Disk S d) (sym c.into_disk.ensures)
           (on_closed g.D.Disk S c.in-Some.store closed (subst (λ o. IsStored {g = g.D.Disk} S o) was stands.store)) in
           let down = state_up S (tables_in c.args.self.now.machine) stands.machine.state ∙ c.requires.down in
-          of_disks {g = g.D.Disk} _ _ _ c.into_disk.result c.in-Err.disk before refl
-          (weaker g.D.Disk.moment g.D.Disk.left_since c.into_disk.result c.in-Err.disk (g.D.Disk.may_leave c.into_disk.result) (MayHaveNext (catalog_in c.args.self.now.machine) (site_in c.args.self.now.machine) S Restart _)
+          rw before
+          (weaker g.D.Disk.moment g.D.Disk.left_since c.into_disk.result c.in-Err.disk (g.D.Disk.may_leave c.into_disk.result) (MayHaveNext (catalog_in c.args.self.now.machine) (site_in c.args.self.now.machine) S Restart c.rest.result.kept)
           (λ image left. inl (resting.images image left)) (load.any_moment resting.begun));
-      refused = of_disk {g = g.D.Disk} _ _ c.in-Err.disk refl
+      refused =
           (subst (λ (w : Option RefusedRestart). IfSome (g.D.Disk.known c.in-Err.disk).reads (λ bytes. IfSome w (IsRefusedFor (catalog_in c.args.self.now.machine) (site_in c.args.self.now.machine) bytes)))
           (sym is_why) (refused_unloaded (catalog_in c.args.self.now.machine) (site_in c.args.self.now.machine) c.in-Err.fault _ _ _ load.cause));
       why = λ refused. subst (λ (w : Option RefusedRestart). IsSome w) (sym is_why)
@@ -76,10 +68,10 @@ returns-in-Err-clause-taken g c =
           let none : map (λ (s : Send). frame_of (catalog_in c.args.self.now.machine).sites s.1) c.rest.result.sends ≡ [] = ap (λ (x : Came). map (λ (s : Send). frame_of (catalog_in c.args.self.now.machine).sites s.1) x.sends) is_came in
           cc;
       none_dropped = ap (λ (x : Came). x.dropped) is_came;
-      faults = of_disks {g = g.D.Disk} _ _ _ c.into_disk.result c.in-Err.disk before refl (faults_as c.rest.result _ _ _ (ap (λ (x : Came). is_faulty x.outcome) is_came)
+      faults = rw before (faults_as c.rest.result _ _ _ (ap (λ (x : Came). is_faulty x.outcome) is_came)
           (unloaded_faults c.in-Err.fault _ _ _ load.cause));
-      arms = of_disks {g = g.D.Disk} _ _ _ c.into_disk.result c.in-Err.disk before refl load.arms;
-      tells = of_disks {g = g.D.Disk} _ _ _ c.into_disk.result c.in-Err.disk before refl load.tells;
+      arms = rw before load.arms;
+      tells = rw before load.tells;
       engine = record { catalog = refl; site = refl; capacity = refl };
     }
 
@@ -89,8 +81,8 @@ returns-in-Err-clause-loads g c =
     let before = ap disk_under was ∙ ap Some (sym c.into_disk.ensures) in
     let law = c.layouts_differ.ensures in
     let is_came = c.rest.ensures.came in
-    of_disks {g = g.D.Disk} _ _ _ c.into_disk.result c.in-Err.disk before refl (record {
-      all = subst (λ (w : Option Record). IfSome w (λ rec. _ ≡ _)) (sym (ap (λ (x : Came). x.wrote) is_came)) tt;
+    rw before (record {
+      all = rw (ap (λ (x : Came). x.wrote) is_came) tt;
       at_most = omega (arith, c.in-Err.ensures.at_most);
     })
 
@@ -114,11 +106,11 @@ returns-clause-taken g c =
           (subst (λ (x : Catalog). AreSpelled x.sites S) (sym c.settle-kept.ensures.same.catalog) stands.spelled) down settles.stands.told
           settles.is_found (count ∙ settles.count) in
           let raises = c.raise-came.ensures.raises (settled (catalog_in c.settle-kept.new.self) (site_in c.settle-kept.new.self) c.settle-kept.result S) lies settles.stands (settles.counted ∙ settles.count) in
-          same_parts (λ x k. HasCome {g = g.D.Disk} x c.args.self.now.capacity k S Restart (record c.raise-came.result.0 { kept = c.settle-kept.result }) c.raise-came.result.1 _)
-          (catalog_in c.settle-kept.new.self) (catalog_in c.args.self.now.machine) (site_in c.settle-kept.new.self) (site_in c.args.self.now.machine) (sym c.settle-kept.ensures.same.catalog) (sym c.settle-kept.ensures.same.id)
-          (come_raised {g = g.D.Disk} (catalog_in c.settle-kept.new.self) c.args.self.now.capacity (site_in c.settle-kept.new.self) S c.settle-kept.result c.raise-came.result.0 c.raise-came.result.1 _ c.raise-came.new.journal settles.is_found
-          (subst (λ (n : ℕ). Raises {g = g.D.Disk} (catalog_in c.settle-kept.new.self) n (site_in c.settle-kept.new.self) (settled (catalog_in c.settle-kept.new.self) (site_in c.settle-kept.new.self) c.settle-kept.result S) c.raise-came.result.0 c.raise-came.result.1 c.raise-came.new.machine c.raise-came.new.journal)
-          load.capacity raises) (ap Some c.store_of.ensures.is));
+          let store_is = ap Some (c.store_of.ensures.is
+          ∙ ap (λ (b : Bool). if b then Open c.raise-came.new.journal else Closed (disk_of c.raise-came.new.journal)) c.is_up.ensures) in
+          let here = same_parts (λ x k. Raises {g = g.D.Disk} x c.args.self.now.capacity k (settled x k c.settle-kept.result S) c.raise-came.result.0 c.raise-came.result.1 c.raise-came.new.machine c.raise-came.new.journal) (catalog_in c.settle-kept.new.self) (catalog_in c.args.self.now.machine) (site_in c.settle-kept.new.self) (site_in c.args.self.now.machine) (sym c.settle-kept.ensures.same.catalog) (sym c.settle-kept.ensures.same.id)
+          (subst (λ (n : ℕ). Raises {g = g.D.Disk} (catalog_in c.settle-kept.new.self) n (site_in c.settle-kept.new.self) (settled (catalog_in c.settle-kept.new.self) (site_in c.settle-kept.new.self) c.settle-kept.result S) c.raise-came.result.0 c.raise-came.result.1 c.raise-came.new.machine c.raise-came.new.journal) load.capacity raises) in
+          come_raised {g = g.D.Disk} (catalog_in c.args.self.now.machine) c.args.self.now.capacity (site_in c.args.self.now.machine) S c.settle-kept.result c.raise-came.result.0 c.raise-came.result.1 _ c.raise-came.new.journal settles.is_found here store_is;
       any_moment = λ S stands.
           let closed = subst (λ o. is_open_under {g = g.D.Disk} o ≡ is_up c.args.self.now.machine) was c.args.self.now.«open» ∙ c.requires.down in
           let resting = subst (λ (d : g.row.D.Denot). IsOnDisk g.D.Disk S d) (sym c.into_disk.ensures)
@@ -131,28 +123,28 @@ returns-clause-taken g c =
           let lies = lies_settled {g = g.D.Disk} law.content S c.into_disk.result c.in-Ok.loaded.0 (map (λ body. body.items) c.as_slice-bodies.result.now) resting (load.image resting.begun) one (catalog_in c.settle-kept.new.self) (site_in c.settle-kept.new.self) c.settle-kept.result
           (subst (λ (x : Catalog). AreSpelled x.sites S) (sym c.settle-kept.ensures.same.catalog) stands.spelled) down settles.stands.told
           settles.is_found (count ∙ settles.count) in
-          of_disks {g = g.D.Disk} _ _ _ c.into_disk.result (disk_of c.raise-came.new.journal) before (ap Some c.store_of.ensures.disk)
+          rw (before, c.store_of.ensures.disk)
           (same_parts (λ x k. LeavesOnly g.D.Disk.moment g.D.Disk.left_since c.into_disk.result (disk_of c.raise-came.new.journal) (MayHaveNext x k S Restart c.settle-kept.result))
           (catalog_in c.settle-kept.new.self) (catalog_in c.args.self.now.machine) (site_in c.settle-kept.new.self) (site_in c.args.self.now.machine) (sym c.settle-kept.ensures.same.catalog) (sym c.settle-kept.ensures.same.id)
           (leaves_loaded {g = g.D.Disk} (catalog_in c.settle-kept.new.self) (site_in c.settle-kept.new.self) S c.settle-kept.result c.into_disk.result c.in-Ok.loaded.0 (disk_of c.raise-came.new.journal) resting settles.is_found (load.any_moment resting.begun)
           (c.raise-came.ensures.any_moment (settled (catalog_in c.settle-kept.new.self) (site_in c.settle-kept.new.self) c.settle-kept.result S) lies)));
-      refused = of_disk {g = g.D.Disk} _ _ (disk_of c.raise-came.new.journal) (ap Some c.store_of.ensures.disk)
+      refused = rw c.store_of.ensures.disk
           (same_parts (λ x k. IfSome (g.D.Disk.known (disk_of c.raise-came.new.journal)).reads (λ bytes. IfSome c.raise-came.result.1 (IsRefusedFor x k bytes)))
           (catalog_in c.settle-kept.new.self) (catalog_in c.args.self.now.machine) (site_in c.settle-kept.new.self) (site_in c.args.self.now.machine) (sym c.settle-kept.ensures.same.catalog) (sym c.settle-kept.ensures.same.id)
           (refused_loaded {g = g.D.Disk} (catalog_in c.settle-kept.new.self) (site_in c.settle-kept.new.self) c.into_disk.result (disk_of c.raise-came.new.journal) c.in-Ok.loaded.0 (map (λ body. body.items) c.as_slice-bodies.result.now) c.raise-came.result.1
           (λ told. subst (λ (b : List (List ℕ)). StandsFor {g = g.D.Disk} c.in-Ok.loaded.0 b) (sym c.as_slice-bodies.ensures) (load.loaded told))
           load.tells c.raise-came.ensures.refused));
-      why = λ refused. subst (λ (o : Outcome). IsRaised _ c.raise-came.result.1 o) refused c.raise-came.ensures.outcome;
+      why = λ refused. subst (λ (o : Outcome). IsRaised (left_of c.in-Ok.loaded.0) c.raise-came.result.1 o) refused c.raise-came.ensures.outcome;
       sized = subst (λ (x : Catalog). IsSized x.sites (record c.raise-came.result.0 { kept = c.settle-kept.result })) c.settle-kept.ensures.same.catalog
           (record { outcome = c.raise-came.ensures.sized.outcome; kept = c.settle-kept.ensures.sized; wrote = c.raise-came.ensures.sized.wrote; flight = c.raise-came.ensures.sized.flight; sends = c.raise-came.ensures.sized.sends });
       framed =
           let none : map (λ (s : Send). frame_of (catalog_in c.args.self.now.machine).sites s.1) c.raise-came.result.0.sends ≡ [] = ap (λ (l : List Send). map (λ (s : Send). frame_of (catalog_in c.args.self.now.machine).sites s.1) l) c.raise-came.ensures.none_sent in
           cc;
       none_dropped = c.raise-came.ensures.none_dropped;
-      faults = of_disks {g = g.D.Disk} _ _ _ c.into_disk.result (disk_of c.raise-came.new.journal) before (ap Some c.store_of.ensures.disk)
+      faults = rw (before, c.store_of.ensures.disk)
           (subst (λ (n : ℕ). IsFaulty c.raise-came.result.0 n (g.D.Disk.known (disk_of c.raise-came.new.journal)).faults) load.faultless c.raise-came.ensures.faults);
-      arms = of_disks {g = g.D.Disk} _ _ _ c.into_disk.result (disk_of c.raise-came.new.journal) before (ap Some c.store_of.ensures.disk) (c.raise-came.ensures.arms ∙ load.arms);
-      tells = of_disks {g = g.D.Disk} _ _ _ c.into_disk.result (disk_of c.raise-came.new.journal) before (ap Some c.store_of.ensures.disk) (c.raise-came.ensures.tells ∙ load.tells);
+      arms = rw (before, c.store_of.ensures.disk) (c.raise-came.ensures.arms ∙ load.arms);
+      tells = rw (before, c.store_of.ensures.disk) (c.raise-came.ensures.tells ∙ load.tells);
       engine = record {
         catalog = c.raise-came.ensures.same.catalog ∙ c.settle-kept.ensures.same.catalog;
         site = c.raise-came.ensures.same.id ∙ c.settle-kept.ensures.same.id;
@@ -166,4 +158,4 @@ returns-clause-loads g c =
     let before = ap disk_under was ∙ ap Some (sym c.into_disk.ensures) in
     let law = c.layouts_differ.ensures in
     let calls = calls_of_restart c.raise-came.result.0.wrote c.raise-came.result.0.flight _ _ _ _ c.in-Ok.ensures.device c.raise-came.ensures.device in
-    of_disks {g = g.D.Disk} _ _ _ c.into_disk.result (disk_of c.raise-came.new.journal) before (ap Some c.store_of.ensures.disk) (record { all = calls.0; at_most = calls.1 })
+    rw (before, c.store_of.ensures.disk) (record { all = calls.0; at_most = calls.1 })
