@@ -7,3 +7,4 @@ pub mod Kept
 pub mod KeptSteps
 pub mod TrailJournaled
 pub mod Promised
+pub mod Owed

@@ -1,2 +1,3 @@
 pub mod Journaled
 pub mod Promises
+pub mod Owing

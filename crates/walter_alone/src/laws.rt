@@ -9,6 +9,7 @@ ghost use Rattle.walter_rules.specs.declared.entry.Entry.{Entry};
 ghost use Rattle.walter_rules.specs.Sessions.{Session};
 ghost use Rattle.walter_rules.specs.Trails.{standing, IsRightEntry, AreRight};
 ghost use Rattle.walter_alone.specs.Journaled.{IsJournaled};
+ghost use Rattle.walter_alone.specs.Owing.{IsOwedAlone};
 ghost use Rattle.walter_alone.specs.Promises.{IsFree, IsAnswered, IsNext, IsReceived, IsDue, IsSeen, IsAsked, IsLocked, IsHindered, IsHinderedAnswer};
 
 /// After each entry of a right trail what the site knows, but for its clients' transactions and what its peers have
@@ -43,4 +44,11 @@ pub fn right_trails_keep_promises()
         (n : ℕ) (start : List ℕ) (conflict : Conflict) → IsRightEntry catalog capacity i older e
         → IsHindered catalog i (standing catalog i older) e.event j n start conflict
         → IsHinderedAnswer (standing catalog i older) j n start conflict e.came }
+{}
+
+/// A client is told that a stop ended its transaction before it gets another. So a client with a transaction, as one that
+/// commits, is owed no such news.
+pub fn a_client_with_a_transaction_is_owed_nothing()
+    ensures { (catalog : Catalog) (capacity : ℕ) (i : SiteId) (older : List Entry) → AreRight catalog capacity i older
+        → IsOwedAlone (standing catalog i older) }
 {}

@@ -1,5 +1,5 @@
 -- A restart from the disk of a site that is down.
-use Rattle.std.proofs.Common.{◌≡◌, ℕ, ◌+◌, ◌≤◌, List, [], ◌∷◌, ◌++◌, map, length, false, if◌then◌else◌, Option, Some, None, refl, ap, sym, ◌∙◌, subst, inl, inr, ◌⊎◌, ⊎_elim, arith}
+use Rattle.std.proofs.Common.{◌≡◌, ℕ, ◌+◌, ◌-◌, ◌<◌, ◌≤◌, ◌≢◌, List, [], ◌∷◌, ◌++◌, map, length, false, if◌then◌else◌, Option, Some, None, refl, ap, sym, ◌∙◌, subst, inl, inr, ◌⊎◌, ⊎_elim, arith}
 use Rattle.std.specs.Prelude.{IfSome, IsSome, is_some}
 use Rattle.std.proofs.lemmas.List.{length-append, length-map}
 use Rattle.walter_base.specs.declared.catalog.Catalog.{Catalog}
@@ -17,8 +17,10 @@ use Rattle.walter_engine.specs.Contents.{AreSpelled, MayHaveRecords, MayHaveNext
 use Rattle.walter_engine.specs.Effects.{AreCallsFor, HasCome, IsRefusedOver, IsRefusedFor}
 use Rattle.walter_engine.specs.Engines.{Stands}
 use Rattle.walter_engine.specs.Raises.{LiesIn, Raises, unloaded_by}
+use Rattle.walter_engine.specs.Restarts.{ComesOf, RestartsOver}
 use Rattle.walter_engine.specs.Stores.{IsOnDisk, IsStored, IsLeft}
 use Rattle.walter_engine.proofs.Crashes.{settled_next}
+use Rattle.walter_engine.proofs.Resting.{SizeIs, size_told}
 use Rattle.walter_engine.proofs.Spelled.{spelled_settled}
 use Rattle.walter_engine.proofs.Taking.{is_full}
 use Rattle.walter_journal.specs.declared.fault.JournalFault.{JournalFault}
@@ -26,7 +28,7 @@ use Rattle.walter_journal.specs.declared.fault.JournalFault.TheVariants as fault
 use Rattle.walter_journal.specs.declared.journal.Journal.{Journal}
 use Rattle.walter_journal.specs.Faults.{HasCause, Finds}
 use Rattle.walter_journal.specs.Journals.{disk_of, StandsFor}
-use Rattle.walter_journal.specs.Layout.{HasContent, IsForeign, IsDamaged}
+use Rattle.walter_journal.specs.Layout.{HasContent, IsForeign, IsDamaged, end_behind}
 use Rattle.walter_machine.specs.Comings.{is_faulty, RisesIf, IsRest}
 use Rattle.walter_site.specs.Members.{IsShortOutcome}
 use Rattle.walter_machine.specs.Machines.{is_up, AreFound}
@@ -35,7 +37,7 @@ use Rattle.walter_record.specs.Spelling.{record_spelled, HasRecordSpelling}
 use Rattle.walter_rules.specs.declared.entry.Came.{Came}
 use Rattle.walter_rules.specs.declared.event.Event.{Event}
 use Rattle.walter_rules.specs.declared.event.Event.TheVariants.{Restart}
-use Rattle.walter_rules.specs.declared.outcome.Outcome.TheVariants.{Refused}
+use Rattle.walter_rules.specs.declared.outcome.Outcome.TheVariants.{Failed, Memory, Refused}
 use Rattle.walter_rules.specs.Standing.{Standing, settled, stands_after}
 use Rattle.walter_rules.specs.Trails.{Comes, IsFound, TakesMemory, only}
 
@@ -315,3 +317,65 @@ module _ {D : Type 0} {g : Ghosts D} where
           last = tt;
           takes_none = λ down restart last. record { rest = (unloaded_is why).0; wrote = refl; flight = refl };
         }))
+
+  -- ---- over any disk that tells what it holds
+
+  -- one of its images was found
+  found_told : SizeIs {g = g} → (old new : D) (bytes : List ℕ) → (g.known old).reads ≡ Some bytes → 0 < (g.known old).size
+      → bytes ≢ []
+  found_told size_is old new bytes told some none =
+      absurd (omega (arith, some, size_told {g = g} size_is old bytes told, ap length none))
+
+  pub restarts_unloaded : SizeIs {g = g} → (catalog : Catalog) (capacity : ℕ) (i : SiteId) (why : JournalFault)
+      (old new : D) (came : Came) (refused : Option RefusedRestart)
+      → is_some (g.known new).reads ≡ is_some (g.known old).reads
+      → HasCause why (g.may_leave old) (g.known old) (g.known new) → came.outcome ≡ (unloaded_by why).0
+      → refused ≡ (unloaded_by why).1
+      → IfSome (g.known old).reads (λ bytes. RestartsOver catalog i capacity bytes (g.may_leave old) came refused)
+  restarts_unloaded size_is catalog capacity i why old new came refused tells cause is is_why =
+      at (g.known old).reads (g.known new).reads refl refl why cause is is_why
+    where
+      at : (reads reads' : Option (List ℕ)) → (g.known old).reads ≡ reads → (g.known new).reads ≡ reads'
+          → (w : JournalFault) → HasCause w (g.may_leave old) (g.known old) (g.known new)
+          → came.outcome ≡ (unloaded_by w).0 → refused ≡ (unloaded_by w).1
+          → IfSome reads (λ bytes. RestartsOver catalog i capacity bytes (g.may_leave old) came refused)
+      at None reads' told told' w cause is is_why = tt
+      at (Some bytes) reads' told told' fault.Failed cause is is_why = RestartsOver.hindered (inl is) is_why
+      at (Some bytes) reads' told told' fault.NoMemory cause is is_why = RestartsOver.hindered (inr is) is_why
+      at (Some bytes) None told told' fault.Foreign cause is is_why =
+          absurd (let e = ap is_some (sym told') ∙ tells ∙ ap is_some told in cc)
+      at (Some bytes) None told told' (fault.Damaged place claimed) cause is is_why =
+          absurd (let e = ap is_some (sym told') ∙ tells ∙ ap is_some told in cc)
+      at (Some bytes) (Some found) told told' fault.Foreign cause is is_why =
+          RestartsOver.over_others found (found_told size_is old new bytes told cause.not_new)
+          (subst (λ r. IsImage r (g.may_leave old)) told' cause.image)
+          (inl (is_why, subst (λ r. IfSome r IsForeign) told' cause.are)) is
+      at (Some bytes) (Some found) told told' (fault.Damaged place claimed) cause is is_why =
+          RestartsOver.over_others found (found_told size_is old new bytes told cause.not_new)
+          (subst (λ r. IsImage r (g.may_leave old)) told' cause.image)
+          (inr (place, claimed, is_why, subst (λ r. IfSome r (λ b. IsDamaged b place claimed)) told' cause.are)) is
+
+  pub restarts_loaded : SizeIs {g = g} → (catalog : Catalog) (capacity left : ℕ) (i : SiteId) (disk : D)
+      (journal : Journal D g) (bodies : List (List ℕ)) (came : Came) (why : Option RefusedRestart)
+      → (IsSome (g.known disk).reads → StandsFor journal bodies) → ((g.known disk).size ≡ 0 → bodies ≡ [])
+      → (0 < (g.known disk).size → IsImage (g.known (disk_of journal)).reads (g.may_leave disk))
+      → left ≡ capacity - end_behind bodies → ComesOf catalog i left bodies came.wrote why came.outcome
+      → IfSome (g.known disk).reads (λ bytes. RestartsOver catalog i capacity bytes (g.may_leave disk) came why)
+  restarts_loaded size_is catalog capacity left i disk journal bodies came why loaded fresh image is comes =
+      at (g.known disk).reads refl
+    where
+      here : ComesOf catalog i (capacity - end_behind bodies) bodies came.wrote why came.outcome
+      here = subst (λ n. ComesOf catalog i n bodies came.wrote why came.outcome) is comes
+
+      at : (reads : Option (List ℕ)) → (g.known disk).reads ≡ reads
+          → IfSome reads (λ bytes. RestartsOver catalog i capacity bytes (g.may_leave disk) came why)
+      at None told = tt
+      at (Some []) told =
+          RestartsOver.over_none refl
+          (subst (λ b. ComesOf catalog i (capacity - end_behind b) b came.wrote why came.outcome)
+          (fresh (size_told {g = g} size_is disk [] told)) here)
+      at (Some (byte ∷ bytes)) told =
+          let stands = loaded (ap is_some told) in
+          let some = image (omega (arith, size_told {g = g} size_is disk (byte ∷ bytes) told)) in
+          RestartsOver.over_journal stands.bytes bodies (λ e. absurd (cc))
+          (subst (λ r. IsImage r (g.may_leave disk)) stands.told some) stands.content here

@@ -1,5 +1,5 @@
 -- A restart of a site that is down, by the bodies of its journal.
-use Rattle.std.proofs.Common.{◌≡◌, ℕ, ◌<◌, List, [], map, Option, Some, None, refl, ap, sym, ◌∙◌, subst, inl, inr}
+use Rattle.std.proofs.Common.{◌≡◌, ℕ, ◌+◌, ◌<◌, List, [], map, Option, Some, None, refl, ap, sym, ◌∙◌, subst, inl, inr}
 use Rattle.walter_base.specs.declared.catalog.Catalog.{Catalog}
 use Rattle.walter_base.specs.declared.message.Record.{Record}
 use Rattle.walter_base.specs.declared.message.Record.TheVariants.{Boot}
@@ -11,6 +11,7 @@ use Rattle.walter_engine.specs.Contents.{MayHaveNext}
 use Rattle.walter_engine.specs.Effects.{IsUnreadable, IsRefusedOver, TakesNoEpoch}
 use Rattle.walter_engine.specs.Raises.{LiesIn, Raises, IsRaised}
 use Rattle.walter_engine.specs.Replays.{Tells}
+use Rattle.walter_engine.specs.Restarts.{ComesOf}
 use Rattle.walter_engine.specs.Writings.{IsOutcomeOf}
 use Rattle.walter_engine.proofs.Bodies.{readable, one_list}
 use Rattle.walter_engine.proofs.Crashes.{unmoved}
@@ -30,7 +31,7 @@ use Rattle.walter_record.specs.Spelling.{record_spelled}
 use Rattle.walter_rules.specs.declared.entry.Came.{Came}
 use Rattle.walter_rules.specs.declared.event.Event.TheVariants.{Restart}
 use Rattle.walter_rules.specs.declared.outcome.Outcome.{Outcome}
-use Rattle.walter_rules.specs.declared.outcome.Outcome.TheVariants.{Taken, Memory, Refused}
+use Rattle.walter_rules.specs.declared.outcome.Outcome.TheVariants.{Taken, Failed, Full, Memory, Refused}
 use Rattle.walter_rules.specs.Knowledge.{Knowledge, fresh}
 use Rattle.walter_rules.specs.Records.{replayed}
 use Rattle.walter_rules.specs.Standing.{Standing, stands_after}
@@ -72,6 +73,19 @@ raised_outcome catalog i ready left epoch outcome anyway boots (inr (inr (inr fu
     let same : full.rec ≡ Boot epoch = cc in
     subst (λ (o : Outcome). IsRaised left None o) (sym full.outcome_is)
     (subst (λ (r : Record). left < need_of r) same full.less)
+
+-- what comes of the bodies that the tables stand for
+pub comes_of : (catalog : Catalog) (i : SiteId) (left : ℕ) (bodies : List (List ℕ)) (tables : Tables)
+    → Tells catalog i bodies tables → (wrote : Option Record) (outcome : Outcome) → IsRaised left None outcome
+    → (outcome ≡ Taken → wrote ≡ Some (Boot ((values_of tables).epoch + 1)))
+    → ComesOf catalog i left bodies wrote None outcome
+comes_of catalog i left bodies tables tells wrote Taken raised writes =
+    (tells.records, tells.tell, writes refl ∙ ap (λ (n : ℕ). Some (Boot (n + 1))) tells.stands.epoch)
+comes_of catalog i left bodies tables tells wrote (Full need free) raised writes = (tells.records, tells.tell, raised)
+comes_of catalog i left bodies tables tells wrote Failed raised writes = refl
+comes_of catalog i left bodies tables tells wrote Memory raised writes = refl
+comes_of catalog i left bodies tables tells wrote Refused raised writes = absurd (cc)
+comes_of catalog i left bodies tables tells wrote outcome raised writes = absurd raised
 
 -- behind the last epoch
 pub refused_last : (catalog : Catalog) (i : SiteId) (bodies : List (List ℕ)) (tables : Tables)

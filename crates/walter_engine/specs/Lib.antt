@@ -6,4 +6,5 @@ pub mod Begins
 pub mod Writings
 pub mod Replays
 pub mod Raises
+pub mod Restarts
 pub mod Firsts

@@ -35,6 +35,7 @@ impl<D: Disk + Drop> Engine<D> {
     ghost use Rattle.walter_engine.specs.Contents.{AreSpelled, MayHaveNext};
     ghost use Rattle.walter_engine.specs.Effects.{HasCome, HasTaken, IsRefusedFor, AreCalls, AreCallsOfRestart};
     ghost use Rattle.walter_engine.specs.Engines.{catalog_in, site_in, capacity_in, disk_in, is_up, OfDisk, OfDisks, IsFresh, IsRoomy, IsSameEngine, Stands};
+    ghost use Rattle.walter_engine.specs.Restarts.{RestartsOver};
     ghost use Rattle.walter_engine.specs.Stores.{IsOnDisk};
     ghost use Rattle.walter_journal.specs.Journals.{calls_of_load};
     ghost use Rattle.walter_machine.specs.Comings.{IsSized, IsFaulty};
@@ -144,6 +145,10 @@ impl<D: Disk + Drop> Engine<D> {
         ensures refused { OfDisk self.new (λ disk. IfSome (D.known disk).reads (λ bytes.
             IfSome result.refused (IsRefusedFor (catalog_in self.old) (site_in self.old) bytes))) }
         ensures why { result.came.outcome ≡ outcome.Refused → IsSome result.refused }
+        // what a restart comes to over any disk that tells what it holds, whoever left that there
+        ensures restarts { is_up self.old ≡ false → event.now ≡ happens.Restart → OfDisk self.old (λ disk.
+            IfSome (D.known disk).reads (λ bytes. RestartsOver (catalog_in self.old) (site_in self.old)
+            (capacity_in self.old) bytes (D.may_leave disk) result.came result.refused)) }
         ensures sized { IsSized (catalog_in self.old).sites result.came }
         ensures framed { result.frames.items
             ≡ map (λ s. frame_of (catalog_in self.old).sites s.1) result.came.sends }
@@ -230,6 +235,9 @@ impl<D: Disk + Drop> Engine<D> {
         requires room { IsRoomy self.old }
         requires down { is_up self.old ≡ false }
         ensures taken { HasTaken self.old self.new happens.Restart result }
+        ensures restarts { OfDisk self.old (λ disk. IfSome (D.known disk).reads (λ bytes.
+            RestartsOver (catalog_in self.old) (site_in self.old) (capacity_in self.old) bytes (D.may_leave disk)
+            result.came result.refused)) }
         ensures loads { OfDisks self.old self.new (λ old new.
             AreCallsOfRestart result.came (calls_of_load (D.known old).size)
             (D.device_calls old) (D.device_calls new)) }

@@ -3,6 +3,7 @@ ghost use Rattle.walter_disk.specs.Images.{LeavesOnly};
 ghost use Rattle.walter_engine.specs.Contents.{MayHaveNext};
 ghost use Rattle.walter_engine.specs.Effects.{AreCalls, IsRefusedOver};
 ghost use Rattle.walter_engine.specs.Raises.{LiesIn, Raises, IsRaised, unloaded_by};
+ghost use Rattle.walter_engine.specs.Restarts.{ComesOf};
 ghost use Rattle.walter_journal.specs.Journals.{disk_of, capacity_of, left_of};
 ghost use Rattle.walter_machine.specs.Comings.{IsSized, IsFaulty};
 ghost use Rattle.walter_machine.specs.Machines.{catalog_in, site_in, tables_in, records_in, is_up, HasStanding, HasRoom, IsSameSite};
@@ -41,6 +42,9 @@ pub(crate) fn raise<D: Disk>(
     ensures refused { IfSome result.1 (λ why. (disk_of journal.new ≡ disk_of journal.old)
         × IsRefusedOver (catalog_in machine.old) (site_in machine.old) (map (λ body. body.items) bodies.now) why) }
     ensures outcome { IsRaised (left_of journal.old) result.1 result.0.outcome }
+    // over any bodies
+    ensures over { ComesOf (catalog_in machine.old) (site_in machine.old) (left_of journal.old)
+        (map (λ body. body.items) bodies.now) result.0.wrote result.1 result.0.outcome }
     ensures rises { result.0.outcome ≡ outcome.Taken → IsSome result.0.wrote }
     ensures up { is_up machine.new ≡ up_after event.Restart result.0.outcome false }
     ensures sized { IsSized (catalog_in machine.old).sites result.0 }

@@ -10,6 +10,7 @@
 //! | `read SCENARIO`, `bytes HEX` | the scenario that the text or the bytes spell, or what is wrong with them |
 //! | `memory` | what is said where memory runs out |
 //! | `random SEEDS` | whether so many runs at random are so, and enough happens in them |
+//! | `spread SEEDS` | whether behind so many runs at random all commits come to all sites |
 //! | `sinks SCENARIO` | what the sinks of a bench's two clients hold |
 #![tactic(auto)]
 
@@ -23,7 +24,7 @@ mod worlds;
 use crate::benches::held_by_sinks;
 use crate::ending::{end, reading, want_of_memory};
 use crate::playing::{Run, legal_history, play};
-use crate::schedules::play_at_random;
+use crate::schedules::{play_at_random, spread_all};
 use crate::texts::{end_of, expanded};
 use crate::worlds::is_same_in_a_world;
 use anyhow::{Result, bail};
@@ -69,6 +70,7 @@ fn answer(rt: &impl AllocGlobal, command: &str, rest: &str) -> Result<String> {
         "bytes" => Ok(reading(alloc, &hex::decode(alloc, rest)?)?),
         "memory" => Ok(want_of_memory(alloc)?),
         "random" => play_at_random(rt, rest.parse().unwrap_or(0)),
+        "spread" => spread_all(rt, rest.parse().unwrap_or(0)),
         "sinks" => held_by_sinks(alloc, rest),
         _ => bail!("no line of this kind"),
     }

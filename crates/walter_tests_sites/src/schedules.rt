@@ -24,6 +24,9 @@ const BLOCKS: u32 = 3;
 
 const STEPS: u32 = 60;
 
+/// Behind so many rounds in which all comes, each commit has come to each site.
+const ROUNDS: u32 = 12;
+
 /// A number below the bound.
 fn below(random: &mut Pcg32, bound: u32) -> u32
     requires { 0 < bound }
@@ -220,6 +223,46 @@ impl Schedule {
         Ok(())
     }
 
+    // Each site comes up if it is down, and says again what its peers haven't heard.
+    fn wake(&mut self) -> Mem<()> {
+        for site in 0..self.sites() {
+            let steps = format!(in self.alloc; r#",["restart",{site}],["tick",{site}]"#)?;
+            self.text.push_str(&steps)?;
+        }
+        Ok(())
+    }
+
+    // All that a lane had behind the last block comes, in order, and is committed where it can be.
+    fn hear(&mut self, to: u32, from: u32) -> Mem<()> {
+        let place = place_of(to, from);
+        for number in self.heard[place]..self.put[place] {
+            let number = number.saturating_add(1);
+            let step = format!(in self.alloc; r#",["deliver",{to},{from},{number}]"#)?;
+            self.text.push_str(&step)?;
+            self.advance(to, from)?;
+        }
+        self.heard[place] = self.put[place];
+        Ok(())
+    }
+
+    // The same of all lanes to a site.
+    fn hear_all(&mut self, to: u32) -> Mem<()> {
+        for from in 0..self.sites() {
+            if from != to {
+                self.hear(to, from)?;
+            }
+        }
+        Ok(())
+    }
+
+    fn round(&mut self) -> Mem<()> {
+        self.wake()?;
+        for to in 0..self.sites() {
+            self.hear_all(to)?;
+        }
+        Ok(())
+    }
+
     // Counts the packets that a site has put out.
     fn count(&mut self, from: u32, trail: &Trail) {
         for entry in trail.as_slice() {
@@ -247,27 +290,29 @@ struct Played {
     trails: Vec<Trail>,
 }
 
-// What a schedule comes to.
-fn play_schedule(rt: &impl AllocGlobal, seed: u64) -> Result<Played> {
-    let alloc = rt.alloc();
-    let mut schedule = Schedule::new(alloc, seed)?;
-    let mut last = Played {
-        scenario: String::new(alloc),
-        trails: Vec::new(alloc),
-    };
-    for _ in 0..BLOCKS {
+// What a schedule comes to that ends here.
+fn play_so_far(rt: &impl AllocGlobal, schedule: &mut Schedule) -> Result<Played> {
+    let scenario = format!(in rt.alloc(); "{}]}}", schedule.text)?;
+    let Run { trails, .. } = play(rt, false, &scenario)?;
+    schedule.count_all(&trails);
+    Ok(Played { scenario, trails })
+}
+
+// What a schedule comes to behind all its blocks.
+fn play_blocks(rt: &impl AllocGlobal, schedule: &mut Schedule) -> Result<Played> {
+    for _ in 1..BLOCKS {
         schedule.block()?;
-        let scenario = format!(in alloc; "{}]}}", schedule.text)?;
-        let Run { trails, .. } = play(rt, false, &scenario)?;
-        schedule.count_all(&trails);
-        last = Played { scenario, trails };
+        let _ = play_so_far(rt, schedule)?;
     }
-    Ok(last)
+    schedule.block()?;
+    play_so_far(rt, schedule)
 }
 
 /// What runs at random met.
 #[derive(Clone, Copy, Debug)]
 struct Met {
+    /// How many transactions were committed.
+    commits: usize,
     /// How many commits came to another site.
     arrivals: usize,
     /// How many were aborted over a lock.
@@ -277,8 +322,24 @@ struct Met {
 }
 
 impl Met {
+    fn nothing() -> Met {
+        Met {
+            commits: 0,
+            arrivals: 0,
+            locked: 0,
+            same: 0,
+        }
+    }
+
+    fn count_all(&mut self, history: &[Step]) {
+        for step in history {
+            self.count(step);
+        }
+    }
+
     fn count(&mut self, step: &Step) {
         match step {
+            Step::Commit(_, _) => self.commits = self.commits.saturating_add(1),
             Step::Arrive(_, _) => self.arrivals = self.arrivals.saturating_add(1),
             Step::Abort(_, Cause::Locked { .. }) => self.locked = self.locked.saturating_add(1),
             _ => {}
@@ -286,24 +347,19 @@ impl Met {
     }
 
     fn play(&mut self, rt: &impl AllocGlobal, seed: u64) -> Result<()> {
-        let Played { scenario, trails } = play_schedule(rt, seed)?;
+        let mut schedule = Schedule::new(rt.alloc(), seed)?;
+        let Played { scenario, trails } = play_blocks(rt, &mut schedule)?;
         if is_same_in_a_world(rt.alloc(), &scenario, &trails)? {
             self.same = self.same.saturating_add(1);
         }
-        for step in legal_history(rt.alloc(), &trails)?.as_slice() {
-            self.count(step);
-        }
+        self.count_all(legal_history(rt.alloc(), &trails)?.as_slice());
         Ok(())
     }
 }
 
 /// Plays so many runs at random, each of which spells a legal history.
 pub(crate) fn play_at_random(rt: &impl AllocGlobal, runs: u64) -> Result<String> {
-    let mut met = Met {
-        arrivals: 0,
-        locked: 0,
-        same: 0,
-    };
+    let mut met = Met::nothing();
     for seed in 0..runs {
         met.play(rt, seed)?;
     }
@@ -311,4 +367,29 @@ pub(crate) fn play_at_random(rt: &impl AllocGlobal, runs: u64) -> Result<String>
         bail!("few of {met:?}");
     }
     Ok(format!(in rt.alloc(); "{runs} runs are legal")?)
+}
+
+// Plays a schedule, and rounds behind it in which all comes: then each commit has come to each site.
+fn spread(rt: &impl AllocGlobal, seed: u64) -> Result<()> {
+    let mut schedule = Schedule::new(rt.alloc(), seed)?;
+    let mut last = play_blocks(rt, &mut schedule)?;
+    for _ in 0..ROUNDS {
+        schedule.round()?;
+        last = play_so_far(rt, &mut schedule)?;
+    }
+    let mut met = Met::nothing();
+    met.count_all(legal_history(rt.alloc(), &last.trails)?.as_slice());
+    let others = schedule.sites() as usize - 1;
+    if met.commits == 0 || met.commits.wrapping_mul(others) != met.arrivals {
+        bail!("not all commits are everywhere: {met:?}");
+    }
+    Ok(())
+}
+
+/// Plays so many runs at random, behind each of which all commits come to all sites.
+pub(crate) fn spread_all(rt: &impl AllocGlobal, runs: u64) -> Result<String> {
+    for seed in 0..runs {
+        spread(rt, seed)?;
+    }
+    Ok(format!(in rt.alloc(); "in {runs} runs each commit comes to each site")?)
 }

@@ -3,12 +3,13 @@ use Rattle.std.specs.Prelude.{is_some}
 use Rattle.walter_base.specs.declared.catalog.Catalog.{Catalog}
 use Rattle.walter_base.specs.declared.message.Record.{Record}
 use Rattle.walter_base.specs.declared.names.SiteId.{SiteId}
-use Rattle.walter_engine.proofs.Raising.{named, rises, raised_outcome, refused_last, readable_here, knows_here, stands_here, rests_next, raises_memory, raises_refused}
+use Rattle.walter_engine.proofs.Raising.{named, rises, raised_outcome, comes_of, refused_last, readable_here, knows_here, stands_here, rests_next, raises_memory, raises_refused}
 use Rattle.walter_engine.proofs.Written.{faults_as, calls_as, sized_as}
 use Rattle.walter_engine.proofs.restarting.raise.Goals as goal
 use Rattle.walter_engine.specs.Effects.{IsUnreadable}
 use Rattle.walter_engine.specs.Raises.{IsRaised}
 use Rattle.walter_engine.specs.Replays.{Tells, IsReadFault}
+use Rattle.walter_engine.specs.Restarts.{ComesOf}
 use Rattle.walter_engine.specs.declared.answers.RefusedRestart.TheVariants.{Unreadable, LastEpoch}
 use Rattle.walter_journal.specs.Journals.{capacity_of, left_of}
 use Rattle.walter_machine.proofs.Sizes.{sized_only}
@@ -280,3 +281,33 @@ returns-in-Err-NoMemory-boot-clause-rises g c taken =
 pub returns-in-Ok-boot-clause-rises : goal.returns-in-Ok-boot-clause-rises
 returns-in-Ok-boot-clause-rises g c taken =
     ap is_some (c.write-came.ensures.wrote taken ∙ c.in-Ok-boot.ensures.boots)
+
+pub returns-in-Ok-boot-clause-over : goal.returns-in-Ok-boot-clause-over
+returns-in-Ok-boot-clause-over g c =
+    comes_of (catalog_in c.args.machine.now) (site_in c.args.machine.now) _ (map (λ body. body.items) c.args.bodies.now) c.in-Ok.tables
+    (named (λ x k o. Tells x k (map (λ body. body.items) c.args.bodies.now) c.in-Ok.tables) (catalog_in c.args.machine.now) c.catalog.result.now (site_in c.args.machine.now) c.id.result None c.catalog.ensures c.id.ensures refl c.in-Ok.ensures.told)
+    _ _
+    (raised_outcome _ _ c.in-Ok-boot.ready _ _ _ c.in-Ok-boot.ensures.anyway c.in-Ok-boot.ensures.boots c.write-came.ensures.outcome)
+    (λ taken. c.write-came.ensures.wrote taken ∙ c.in-Ok-boot.ensures.boots)
+
+pub returns-in-Err-Unreadable-clause-over : goal.returns-in-Err-Unreadable-clause-over
+returns-in-Err-Unreadable-clause-over g c =
+    subst (λ (o : Outcome). ComesOf (catalog_in c.args.machine.now) (site_in c.args.machine.now) (left_of c.args.journal.now) (map (λ body. body.items) c.args.bodies.now) c.rest.result.wrote (Some (Unreadable c.in-Err-Unreadable.index)) o)
+    (sym (ap (λ (x : Came). x.outcome) c.rest.ensures.came))
+    (Unreadable c.in-Err-Unreadable.index, refl, (returns-in-Err-Unreadable-clause-refused g c).1)
+
+pub returns-in-Err-NoMemory-clause-over : goal.returns-in-Err-NoMemory-clause-over
+returns-in-Err-NoMemory-clause-over g c =
+    subst (λ (o : Outcome). ComesOf (catalog_in c.args.machine.now) (site_in c.args.machine.now) (left_of c.args.journal.now) (map (λ body. body.items) c.args.bodies.now) c.rest-in-Err-NoMemory.result.wrote None o)
+    (sym (ap (λ (x : Came). x.outcome) c.rest-in-Err-NoMemory.ensures.came)) refl
+
+pub returns-in-Err-LastEpoch-clause-over : goal.returns-in-Err-LastEpoch-clause-over
+returns-in-Err-LastEpoch-clause-over g c =
+    subst (λ (o : Outcome). ComesOf (catalog_in c.args.machine.now) (site_in c.args.machine.now) (left_of c.args.journal.now) (map (λ body. body.items) c.args.bodies.now) c.rest-in-Err-LastEpoch.result.wrote (Some LastEpoch) o)
+    (sym (ap (λ (x : Came). x.outcome) c.rest-in-Err-LastEpoch.ensures.came))
+    (LastEpoch, refl, (returns-in-Err-LastEpoch-clause-refused g c).1)
+
+pub returns-in-Err-NoMemory-boot-clause-over : goal.returns-in-Err-NoMemory-boot-clause-over
+returns-in-Err-NoMemory-boot-clause-over g c =
+    subst (λ (o : Outcome). ComesOf (catalog_in c.args.machine.now) (site_in c.args.machine.now) (left_of c.args.journal.now) (map (λ body. body.items) c.args.bodies.now) c.rest-in-Err-NoMemory-boot.result.wrote None o)
+    (sym (ap (λ (x : Came). x.outcome) c.rest-in-Err-NoMemory-boot.ensures.came)) refl

@@ -1,4 +1,4 @@
-use Rattle.std.proofs.Common.{◌≡◌, [], ℕ, List, map, Bool, Option, Some, refl, sym, ◌∙◌, subst, ap, inl, if◌then◌else◌, arith}
+use Rattle.std.proofs.Common.{◌≡◌, ◌-◌, [], ℕ, List, map, Bool, Option, Some, refl, sym, ◌∙◌, subst, ap, inl, if◌then◌else◌, arith}
 use Rattle.std.specs.Prelude.{IfSome, IsSome}
 use Rattle.walter_base.specs.declared.catalog.Catalog.{Catalog}
 use Rattle.walter_disk.specs.Images.{LeavesOnly}
@@ -13,15 +13,17 @@ use Rattle.walter_rules.specs.declared.outcome.Outcome.{Outcome}
 use Rattle.walter_rules.specs.Trails.{only}
 use Rattle.std.proofs.lemmas.List.{length-map}
 use Rattle.walter_disk.proofs.Moments.{weaker}
-use Rattle.walter_engine.proofs.Loads.{there_loaded, found_there, lies_settled, come_raised, come_unloaded, leaves_loaded, refused_loaded, refused_unloaded, unloaded_is, unloaded_faults, calls_of_restart}
+use Rattle.walter_engine.proofs.Loads.{there_loaded, found_there, lies_settled, come_raised, come_unloaded, leaves_loaded, refused_loaded, refused_unloaded, restarts_loaded, restarts_unloaded, unloaded_is, unloaded_faults, calls_of_restart}
 use Rattle.walter_engine.proofs.Resting.{on_closed, rests_on}
 use Rattle.walter_engine.proofs.Taking.{same_parts, state_up, is_full, stands_same}
 use Rattle.walter_engine.proofs.Written.{faults_as, sized_as}
 use Rattle.walter_engine.proofs.engine.Engine.restart.Goals as goal
 use Rattle.walter_engine.specs.Effects.{IsRefusedFor}
 use Rattle.walter_engine.specs.Raises.{Raises, IsRaised, unloaded_by}
+use Rattle.walter_engine.specs.Restarts.{ComesOf}
 use Rattle.walter_engine.specs.declared.answers.RefusedRestart.{RefusedRestart}
-use Rattle.walter_journal.specs.Journals.{StandsFor, left_of}
+use Rattle.walter_journal.specs.Journals.{StandsFor, left_of, end_of}
+use Rattle.walter_journal.specs.Layout.{end_behind}
 use Rattle.walter_machine.proofs.Sizes.{sized_only}
 use Rattle.walter_machine.specs.Comings.{is_faulty, IsFaulty, IsSized}
 use Rattle.walter_machine.specs.Machines.{AreFound}
@@ -159,3 +161,27 @@ returns-clause-loads g c =
     let law = c.layouts_differ.ensures in
     let calls = calls_of_restart c.raise-came.result.0.wrote c.raise-came.result.0.flight _ _ _ _ c.in-Ok.ensures.device c.raise-came.ensures.device in
     rw (before, c.store_of.ensures.disk) (record { all = calls.0; at_most = calls.1 })
+
+pub returns-in-Err-clause-restarts : goal.returns-in-Err-clause-restarts
+returns-in-Err-clause-restarts g c =
+    let was = sym c.replace.ensures.value ∙ c.in-Some.is in
+    let before = ap disk_under was ∙ ap Some (sym c.into_disk.ensures) in
+    let is_came = c.rest.ensures.came ∙ ap (λ (p : Outcome × Option RefusedRestart). only p.0) c.unloaded-outcome.ensures in
+    let is_why = ap (λ (p : Outcome × Option RefusedRestart). p.1) c.unloaded-outcome.ensures in
+    rw before (restarts_unloaded {g = g.D.Disk} g.met.D.Disk.size_is (catalog_in c.args.self.now.machine) c.args.self.now.capacity (site_in c.args.self.now.machine) c.in-Err.fault
+    c.into_disk.result c.in-Err.disk c.rest.result _ c.in-Err.ensures.tells c.in-Err.ensures.cause (ap (λ (x : Came). x.outcome) is_came) is_why)
+
+pub returns-clause-restarts : goal.returns-clause-restarts
+returns-clause-restarts g c =
+    let was = sym c.replace.ensures.value ∙ c.in-Some.is in
+    let before = ap disk_under was ∙ ap Some (sym c.into_disk.ensures) in
+    let load = c.in-Ok.ensures in
+    let is_bodies = c.as_slice-bodies.ensures in
+    let over = same_parts (λ x k. ComesOf x k (left_of c.in-Ok.loaded.0) (map (λ body. body.items) c.as_slice-bodies.result.now) c.raise-came.result.0.wrote c.raise-came.result.1 c.raise-came.result.0.outcome)
+    (catalog_in c.settle-kept.new.self) (catalog_in c.args.self.now.machine) (site_in c.settle-kept.new.self) (site_in c.args.self.now.machine) (sym c.settle-kept.ensures.same.catalog) (sym c.settle-kept.ensures.same.id)
+    c.raise-came.ensures.over in
+    rw before (restarts_loaded {g = g.D.Disk} g.met.D.Disk.size_is (catalog_in c.args.self.now.machine) c.args.self.now.capacity _ (site_in c.args.self.now.machine) c.into_disk.result c.in-Ok.loaded.0
+    (map (λ body. body.items) c.as_slice-bodies.result.now) (record c.raise-came.result.0 { kept = c.settle-kept.result }) c.raise-came.result.1
+    (λ told. subst (λ (b : List (List ℕ)). StandsFor {g = g.D.Disk} c.in-Ok.loaded.0 b) (sym is_bodies) (load.loaded told))
+    (λ size. is_bodies ∙ load.fresh size) load.image
+    (ap (λ (n : ℕ). n - end_of c.in-Ok.loaded.0) load.capacity ∙ ap (λ (n : ℕ). c.args.self.now.capacity - n) (load.end ∙ ap end_behind (sym is_bodies))) over)
