@@ -11,3 +11,5 @@ pub mod MarksTold
 pub mod Marking
 pub mod MarkedRuns
 pub mod Whole
+pub mod Senders
+pub mod Catalogs

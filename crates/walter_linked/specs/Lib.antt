@@ -1,2 +1,3 @@
 pub mod Catalogs
 pub mod Marks
+pub mod Senders

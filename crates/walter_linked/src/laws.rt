@@ -1,8 +1,15 @@
-ghost use Rattle.std.specs.Prelude.{◌≡◌, ◌∷◌, ◌++◌, ℕ, List, reverse};
+ghost use Rattle.std.specs.Prelude.{◌≡◌, ◌≢◌, ◌∷◌, ◌++◌, ℕ, List, reverse};
+ghost use Rattle.walter_base.specs.Catalogs.{Item, AreRight, containers_of};
 ghost use Rattle.walter_base.specs.declared.catalog.Catalog.{Catalog};
+ghost use Rattle.walter_base.specs.declared.names.SiteId.{SiteId};
+ghost use Rattle.walter_base.specs.declared.packet.Packet.TheVariants.{Propagate};
+ghost use Rattle.walter_base.specs.declared.transaction.Tx.{Tx};
 ghost use Rattle.walter_linked.specs.Catalogs.{IsWhole};
 ghost use Rattle.walter_linked.specs.Marks.{AreGotRight, AreMarksTrue};
+ghost use Rattle.walter_linked.specs.Senders.{IsCommitOf};
 ghost use Rattle.walter_rules.specs.declared.entry.Entry.{Entry};
+ghost use Rattle.walter_rules.specs.declared.event.Event.TheVariants.{Given};
+ghost use Rattle.walter_rules.specs.declared.event.Input.TheVariants.{Deliver};
 ghost use Rattle.walter_rules.specs.Merges.{Named, merge};
 ghost use Rattle.walter_runs.specs.Runs.{AreRightTrails};
 
@@ -19,4 +26,20 @@ pub fn marks_are_true()
         → AreRightTrails catalog capacity trails
         → (newer older : List Named) (n : Named) → reverse (merge trails) ≡ newer ++ n ∷ older
         → AreMarksTrue catalog older n }
+{}
+
+/// A commit that comes from another site of right and linked trails is one of that site's own: it names that site, and
+/// changes what the catalog has. Of what `accepts` asks, its number and what it has seen are left.
+pub fn sites_propagate_their_own()
+    ensures { (catalog : Catalog) (capacity : ℕ) (trails : List (List Entry)) → IsWhole catalog
+        → AreRightTrails catalog capacity trails
+        → (newer older : List Named) (n : Named) → reverse (merge trails) ≡ newer ++ n ∷ older → (j : SiteId)
+        (number seq : ℕ) (tx : Tx) → n.1.event ≡ Given (Deliver j number (Propagate seq tx)) → j ≢ n.0
+        → IsCommitOf catalog j tx }
+{}
+
+/// The catalog that `Catalog::build` makes of right items is whole.
+pub fn built_catalogs_are_whole()
+    ensures { (catalog : Catalog) (items : List Item) → AreRight catalog.sites items
+        → catalog.containers ≡ containers_of items → IsWhole catalog }
 {}
