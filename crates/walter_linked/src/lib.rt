@@ -3,4 +3,6 @@
 
 mod laws;
 
-pub use laws::{built_catalogs_are_whole, holds_own_commits, marks_are_true, sites_propagate_their_own};
+pub use laws::{
+    built_catalogs_are_whole, holds_own_commits, marks_are_true, sites_propagate_their_own,
+};
