@@ -6,8 +6,8 @@ use Rattle.walter_base.specs.declared.names.Tid.{Tid}
 use Rattle.walter_base.specs.ByClient.{of_client, without}
 use Rattle.walter_base.specs.Names.{same_site}
 use Rattle.walter_base.proofs.NameTests.{same_site-true}
-use Rattle.walter_psi_of.specs.declared.told.Session.{Session as SessionAt}
-use Rattle.walter_psi_of.specs.Told.{is_at, is_of, by_client, sessions_at}
+use Rattle.walter_psi_of.specs.declared.account.Session.{Session as SessionAt}
+use Rattle.walter_psi_of.specs.Accounts.{is_at, is_of, by_client, sessions_at}
 
 -- of sessions that stay or go by their client and transaction alone
 sessions_left : (i : SiteId) (p : SessionAt → Bool) (q : ℕ × Tid → Bool) (ss : List SessionAt)

@@ -11,7 +11,7 @@ use Rattle.walter_base.proofs.NameTests.{same_site-true}
 use Rattle.walter_rules.specs.declared.held.Held.{Held}
 use Rattle.walter_rules.specs.Learning.{log_after}
 use Rattle.walter_rules.specs.Log.{is_of, of_site}
-use Rattle.walter_psi_of.specs.Told.{commits_of, own, own_commit}
+use Rattle.walter_psi_of.specs.Accounts.{commits_of, own, own_commit}
 
 -- the own commits of a site, by its log
 abbrev pub own_of : SiteId → List Held → List Tid

@@ -13,7 +13,7 @@ use Rattle.walter_refinement.specs.Spelled.{did, saw, saw_set, saw_count, replie
 use Rattle.walter_rules.specs.declared.outcome.Outcome.{Outcome}
 use Rattle.walter_rules.specs.declared.outcome.Outcome.TheVariants.{Replied}
 use Rattle.walter_rules.specs.Sessions.{Session, Sessions, session_in}
-use Rattle.walter_psi_of.specs.Told.{named, session_named}
+use Rattle.walter_psi_of.specs.Accounts.{named, session_named}
 
 -- the transaction of a client's session, by the names
 pub session_by_name : (client : ℕ) (sessions : Sessions) (names : List (ℕ × Tid)) → names ≡ named sessions

@@ -17,7 +17,7 @@ use Rattle.walter_rules.specs.declared.event.Input.TheVariants.{Call}
 use Rattle.walter_rules.specs.declared.outcome.Outcome.TheVariants.{Replied}
 use Rattle.walter_rules.specs.Learning.{updated, deciding, sessions_after}
 use Rattle.walter_rules.specs.Sessions.{Session, Sessions}
-use Rattle.walter_psi_of.specs.Told.{named}
+use Rattle.walter_psi_of.specs.Accounts.{named}
 
 -- an update and the number of a slow commit change no name
 updated_name : (call : Result Request BadFrame) (s : Session) → (updated call s).tid ≡ s.tid

@@ -14,8 +14,8 @@ use Rattle.walter_rules.specs.Sessions.{Sessions}
 use Rattle.walter_rules.specs.Standing.{Standing, settled, goes_down, knows_after}
 use Rattle.walter_rules.specs.Trails.{standing}
 use Rattle.walter_runs.specs.Runs.{stands}
-use Rattle.walter_psi_of.specs.declared.told.Told.{Told}
-use Rattle.walter_psi_of.specs.Told.{sessions_at, commits_of, named, own_commit, IsToldOf}
+use Rattle.walter_psi_of.specs.declared.account.Account.{Account}
+use Rattle.walter_psi_of.specs.Accounts.{sessions_at, commits_of, named, own_commit, IsToldOf}
 use Rattle.walter_psi_of.proofs.OwnCommits.{own_of, own_told, others_told}
 
 -- a site that goes down loses its sessions, and keeps its log
@@ -51,7 +51,7 @@ module _ (catalog : Catalog) (i : SiteId) (S : Standing) (e : Entry) where
   log_stands (Some rec) = lost_log (goes_down e.event e.came.outcome) (knows_by (Some rec))
 
 -- one more entry, behind which the commits have what its records tell
-module _ (catalog : Catalog) (older : List Named) (i : SiteId) (e : Entry) (was now : Told)
+module _ (catalog : Catalog) (older : List Named) (i : SiteId) (e : Entry) (was now : Account)
     (told : IsToldOf was (stands catalog older))
     (commits : now.commits.items ≡ (was.commits.items ++ own_commit i e.came.kept) ++ own_commit i e.came.wrote)
     (others : (other : SiteId) → same_site i other ≡ false

@@ -6,16 +6,16 @@ ghost use Rattle.walter_rules.specs.declared.event.Event.TheVariants.{Given};
 ghost use Rattle.walter_rules.specs.declared.event.Input.TheVariants.{Call as CallOf};
 ghost use Rattle.walter_rules.specs.declared.outcome.Outcome.TheVariants.{Replied};
 ghost use Rattle.walter_rules.specs.Standing.{Standing};
-ghost use Rattle.walter_psi_of.specs.Told.{session_named, IsToldOf};
+ghost use Rattle.walter_psi_of.specs.Accounts.{session_named, IsToldOf};
 
-use crate::told::Told;
+use crate::account::Account;
 use walter_base::{Bytes, Call, Counts, Level as HowFar, Mem, Reply, Request, SiteId, Tid, Update};
 use walter_psi::{Answer, Level, Notice, Step};
 use walter_rules::{Event, Input, Outcome};
 
 /// The step of the answer of a site, where the event is a call.
 pub(crate) fn answer_step(
-    told: &Told,
+    told: &Account,
     site: SiteId,
     event: &Event,
     outcome: &Outcome,
@@ -32,7 +32,7 @@ pub(crate) fn answer_step(
 }
 
 fn call_step(
-    told: &Told,
+    told: &Account,
     site: SiteId,
     client: u32,
     call: &Call,

@@ -3,14 +3,14 @@ ghost use Rattle.std.specs.Option.{option_to_list};
 ghost use Rattle.walter_base.specs.declared.names.SiteId.{SiteId};
 ghost use Rattle.walter_refinement.specs.Spelled.{recorded};
 ghost use Rattle.walter_rules.specs.Standing.{Standing};
-ghost use Rattle.walter_psi_of.specs.Told.{IsToldOf};
+ghost use Rattle.walter_psi_of.specs.Accounts.{IsToldOf};
 
-use crate::told::Told;
+use crate::account::Account;
 use walter_base::{MaybeRecord, Mem, Record, SiteId};
 use walter_psi::Step;
 
 /// The step of a record of a site.
-pub(crate) fn record_step(told: &Told, site: SiteId, rec: &MaybeRecord) -> Mem<Option<Step>>
+pub(crate) fn record_step(told: &Account, site: SiteId, rec: &MaybeRecord) -> Mem<Option<Step>>
     ensures { (W : SiteId → Standing) → IsToldOf told.now W
         → IfOk result (λ step. option_to_list step ≡ recorded W site rec.now) }
 {

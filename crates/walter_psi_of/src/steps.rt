@@ -4,11 +4,11 @@ ghost use Rattle.walter_base.specs.declared.catalog.Catalog.{Catalog};
 ghost use Rattle.walter_base.specs.declared.names.SiteId.{SiteId};
 ghost use Rattle.walter_refinement.specs.Spelled.{steps_of, psi_of};
 ghost use Rattle.walter_rules.specs.Standing.{Standing};
-ghost use Rattle.walter_psi_of.specs.Told.{IsToldOf};
+ghost use Rattle.walter_psi_of.specs.Accounts.{IsToldOf};
 
+use crate::account::Account;
 use crate::answering::answer_step;
 use crate::recording::record_step;
-use crate::told::Told;
 use std::alloc::Global;
 use std::marker::Model;
 use walter_base::{Mem, SiteId};
@@ -46,7 +46,7 @@ impl Steps {
 pub fn psi_of(alloc: Global, merged: &Merged) -> Mem<Steps>
     ensures { (catalog : Catalog) → IfOk result (λ steps. steps ≡ psi_of catalog merged.now) }
 {
-    let mut told = Told::new(alloc);
+    let mut told = Account::new(alloc);
     let mut steps = Vec::new(alloc);
     for (site, entry) in merged.as_slice() {
         add_steps(&mut steps, &told, *site, entry)?;
@@ -56,7 +56,7 @@ pub fn psi_of(alloc: Global, merged: &Merged) -> Mem<Steps>
 }
 
 /// Adds the steps of an entry of a site, by what was told before it.
-fn add_steps(steps: &mut Vec<Step>, told: &Told, site: SiteId, entry: &Entry) -> Mem<()>
+fn add_steps(steps: &mut Vec<Step>, told: &Account, site: SiteId, entry: &Entry) -> Mem<()>
     ensures { (W : SiteId → Standing) → IsToldOf told.now W
         → OnOk result (steps.new.items ≡ steps.old.items ++ steps_of W site entry.now) }
 {

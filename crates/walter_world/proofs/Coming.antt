@@ -24,13 +24,13 @@ use Rattle.walter_tables.specs.declared.tables.Tables.{Tables}
 use Rattle.walter_tables.specs.Sites.{site_of, catalog_of, Stands}
 use Rattle.walter_world.specs.declared.events.Fate.{Fate}
 use Rattle.walter_world.specs.declared.events.Fate.TheVariants.{Fine, Broken}
-use Rattle.walter_world.specs.declared.replaying.Told.{Told}
+use Rattle.walter_world.specs.declared.replaying.Recovery.{Recovery}
 use Rattle.walter_world.specs.declared.seat.Seat.{Seat}
 use Rattle.walter_world.specs.Comings.{came_stable, came_broken, came_by, breaks, comes_to, found_by}
 use Rattle.walter_world.specs.Records.{IsTold}
 use Rattle.walter_world.specs.Seats.{AreSpelled, CanTake, HasCome, IsSeat, MayFind, standing_of}
 use Rattle.walter_world.proofs.Growing.{found_there}
-use Rattle.walter_world.proofs.Told.{found_none, found_up, found_knows, same_found, still_down, young}
+use Rattle.walter_world.proofs.Recoveries.{found_none, found_up, found_knows, same_found, still_down, young}
 
 -- what breaks is there
 pub breaks_some : (fate : Fate) (rec : Option Record) → breaks fate rec ≡ true → IsSome rec
@@ -185,7 +185,7 @@ counted_all m S None all = tt
 counted_all m S (Some rec) all = all
 
 -- what holds of the site whose tables are told holds of that of its machine, which is down
-pub at_raised : (seat : Seat) (m n : Machine) (told : Told) (records : List Record)
+pub at_raised : (seat : Seat) (m n : Machine) (told : Recovery) (records : List Record)
     (P : Catalog → SiteId → Option Tables → Type 0)
     → IsTold (catalog_in seat.machine) (site_in seat.machine) records told → IsSameSite seat.machine m → IsSameSite m n
     → tables_in n ≡ None → P (catalog_of told.tables) (site_of told.tables) None
@@ -200,7 +200,7 @@ at_raised seat m n told records P tells same then none p =
     (at_new seat.machine m (λ (x : Catalog). λ (j : SiteId). P x j None) same here))
 
 -- the site has an epoch left
-pub tells_young : (seat : Seat) (keeps : Bool) (told : Told)
+pub tells_young : (seat : Seat) (keeps : Bool) (told : Recovery)
     → CanTake (catalog_in seat.machine) (site_in seat.machine) seat Restart keeps → is_up seat.machine ≡ false
     → IsTold (catalog_in seat.machine) (site_in seat.machine)
     (settled (catalog_in seat.machine) (site_in seat.machine) (found_by keeps (standing_of seat)) (standing_of seat)).records told
@@ -218,7 +218,7 @@ tells_young seat keeps told can down tells =
       young c can.capacity i (reverse seat.entries.items) can.right can.young rests are.told found (found_there keeps S),
     )
 
-pub raised : (seat : Seat) (m n new : Machine) (keeps : Bool) (fate : Fate) (told : Told) (ready : Ready)
+pub raised : (seat : Seat) (m n new : Machine) (keeps : Bool) (fate : Fate) (told : Recovery) (ready : Ready)
     (kept : Option Record) (came : Came) → is_up seat.machine ≡ false
     → IsSeat (catalog_in seat.machine) (site_in seat.machine) seat
     → IsTold (catalog_in seat.machine) (site_in seat.machine)

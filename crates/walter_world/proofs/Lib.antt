@@ -1,6 +1,6 @@
 pub mod Clocks
 pub mod Coming
-pub mod Told
+pub mod Recoveries
 pub mod RecordsReplayed
 pub mod Growing
 pub mod Numbering

@@ -14,7 +14,7 @@ use Rattle.walter_rules.specs.Knowledge.{Knowledge, fresh}
 use Rattle.walter_rules.specs.Learning.{recorded}
 use Rattle.walter_rules.specs.Records.{CanFollow, CanAllFollow, IsRecordAmong, replayed}
 use Rattle.walter_tables.specs.Sites.{site_of, catalog_of, Stands}
-use Rattle.walter_world.specs.declared.replaying.Told.{Told}
+use Rattle.walter_world.specs.declared.replaying.Recovery.{Recovery}
 use Rattle.walter_world.specs.Records.{CanBeReplayed, IsTold, one_of, records_of}
 
 -- ---- one more record
@@ -26,7 +26,7 @@ follow-last catalog i K [] rec all = all.0
 follow-last catalog i K (first ∷ records) rec all =
     follow-last catalog i (recorded catalog i (Some first) K) records rec all.1
 
-pub last_follows : (catalog : Catalog) (i : SiteId) (records : List Record) (rec : Record) (told : Told)
+pub last_follows : (catalog : Catalog) (i : SiteId) (records : List Record) (rec : Record) (told : Recovery)
     → IsTold catalog i records told → CanBeReplayed catalog i (records ++ rec ∷ [])
     → CanFollow (catalog_of told.tables) (site_of told.tables) (replayed catalog i fresh records) rec
 last_follows catalog i records rec told is can =
@@ -34,7 +34,7 @@ last_follows catalog i records rec told is can =
     (subst (λ (c : Catalog). CanFollow c i (replayed catalog i fresh records) rec) (sym is.catalog_is)
     (follow-last catalog i fresh records rec can.follow))
 
-pub last_sized : (catalog : Catalog) (i : SiteId) (records : List Record) (rec : Record) (told : Told)
+pub last_sized : (catalog : Catalog) (i : SiteId) (records : List Record) (rec : Record) (told : Recovery)
     → IsTold catalog i records told → CanBeReplayed catalog i (records ++ rec ∷ [])
     → IsRecordAmong (catalog_of told.tables).sites rec
 last_sized catalog i records rec told is can =
@@ -42,7 +42,7 @@ last_sized catalog i records rec told is can =
     (All-contains (IsRecordAmong catalog.sites) (records ++ rec ∷ []) rec can.sizes (Contains-push records rec))
 
 -- it is told with those before it
-pub told_more : (catalog : Catalog) (i : SiteId) (records : List Record) (rec : Record) (old new : Told)
+pub told_more : (catalog : Catalog) (i : SiteId) (records : List Record) (rec : Record) (old new : Recovery)
     → IsTold catalog i records old
     → Stands new.tables (recorded (catalog_of old.tables) (site_of old.tables) (Some rec) (replayed catalog i fresh records))
     → site_of new.tables ≡ site_of old.tables → catalog_of new.tables ≡ catalog_of old.tables

@@ -26,7 +26,7 @@ use Rattle.walter_world.specs.Events.{Brings, keeps}
 use Rattle.walter_world.specs.Seats.{AreSpelled, CanTake, HasCome, IsSeat}
 use Rattle.walter_world.specs.Worlds.{HasHappened, trails_of}
 use Rattle.walter_world.proofs.Growing.{came_kept}
-use Rattle.walter_world.proofs.Told.{stands_more}
+use Rattle.walter_world.proofs.Recoveries.{stands_more}
 use Rattle.walter_world.proofs.SeatTrails.{trail_here}
 
 -- ---- one site

@@ -7,7 +7,7 @@ use Rattle.walter_rules.specs.declared.entry.Entry.{Entry}
 use Rattle.walter_rules.specs.Knowledge.{fresh}
 use Rattle.walter_rules.specs.Records.{CanAllFollow, IsRecordAmong, replayed}
 use Rattle.walter_tables.specs.Sites.{site_of, catalog_of, Stands}
-use Rattle.walter_world.specs.declared.replaying.Told.{Told}
+use Rattle.walter_world.specs.declared.replaying.Recovery.{Recovery}
 
 -- the record of an option, if there is one
 abbrev pub one_of : Option Record → List Record
@@ -24,7 +24,7 @@ pub record CanBeReplayed (catalog : Catalog) (i : SiteId) (records : List Record
   pub sizes : All (IsRecordAmong catalog.sites) records
 
 -- these records tell it; and one more can be counted
-pub record IsTold (catalog : Catalog) (i : SiteId) (records : List Record) (told : Told) : Type 0 where
+pub record IsTold (catalog : Catalog) (i : SiteId) (records : List Record) (told : Recovery) : Type 0 where
   pub stands : Stands told.tables (replayed catalog i fresh records)
   pub site : site_of told.tables ≡ i
   pub catalog_is : catalog_of told.tables ≡ catalog

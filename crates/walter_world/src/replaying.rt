@@ -13,20 +13,20 @@ use walter_tables::{ReplayFault, Tables};
 
 /// The tables that records tell, and how many records these are. Contracts say by `IsTold` which records.
 #[derive(Drop)]
-pub(crate) struct Told {
+pub(crate) struct Recovery {
     pub tables: Tables,
     pub count: u64,
 }
 
 /// What the records of a trail tell.
-pub(crate) fn told_by(alloc: Global, catalog: &Catalog, id: SiteId, entries: &[Entry]) -> Mem<Told>
+pub(crate) fn told_by(alloc: Global, catalog: &Catalog, id: SiteId, entries: &[Entry]) -> Mem<Recovery>
     requires here { id.0 < catalog.now.sites }
     requires most { catalog.now.sites ≤ most_sites }
     requires fewer { catalog.now.tolerated < catalog.now.sites }
     requires can { CanBeReplayed catalog.now id (records_of entries.now) }
     ensures { IfOk result (IsTold catalog.now id (records_of entries.now)) }
 {
-    let mut told = Told {
+    let mut told = Recovery {
         tables: Tables::new(alloc, catalog.clone()?, id)?,
         count: 0,
     };
@@ -38,7 +38,7 @@ pub(crate) fn told_by(alloc: Global, catalog: &Catalog, id: SiteId, entries: &[E
 }
 
 // Replays a record, where there is one.
-fn replay_any(told: &mut Told, rec: &MaybeRecord) -> Mem<()>
+fn replay_any(told: &mut Recovery, rec: &MaybeRecord) -> Mem<()>
     requires { (catalog : Catalog) × (i : SiteId) × (records : List Written) × IsTold catalog i records told.old
         × CanBeReplayed catalog i (records ++ one_of rec.now) }
     ensures { (catalog : Catalog) (i : SiteId) (records : List Written) → IsTold catalog i records told.old
@@ -51,7 +51,7 @@ fn replay_any(told: &mut Told, rec: &MaybeRecord) -> Mem<()>
 }
 
 /// Replays a record.
-pub(crate) fn replay(told: &mut Told, rec: &Record) -> Mem<()>
+pub(crate) fn replay(told: &mut Recovery, rec: &Record) -> Mem<()>
     requires { (catalog : Catalog) × (i : SiteId) × (records : List Written) × IsTold catalog i records told.old
         × CanBeReplayed catalog i (records ++ rec.now ∷ []) }
     ensures { (catalog : Catalog) (i : SiteId) (records : List Written) → IsTold catalog i records told.old

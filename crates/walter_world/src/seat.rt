@@ -12,7 +12,7 @@ ghost use Rattle.walter_world.specs.Records.{IsTold};
 ghost use Rattle.walter_world.specs.Seats.{CanTake, HasCome, IsSeat, standing_of};
 
 use crate::events::Fate;
-use crate::replaying::{Told, replay, told_by};
+use crate::replaying::{Recovery, replay, told_by};
 use std::alloc::Global;
 use walter_base::{Mem, NoMemory};
 use walter_machine::{BootFault, Machine, Ready};
@@ -85,7 +85,7 @@ impl Seat {
         ensures left { OnErr result (IsSeat (catalog_in self.old.machine) (site_in self.old.machine) self.new) }
         ensures entries { self.new.entries ≡ self.old.entries }
     {
-        let Told { tables, count } = self.told(alloc, keeps)?;
+        let Recovery { tables, count } = self.told(alloc, keeps)?;
         let ready = boot(alloc, tables)?;
         self.machine.make_room()?;
         let kept = self.machine.settle(count);
@@ -94,7 +94,7 @@ impl Seat {
     }
 
     // What the records of a site that is down tell, with the one in flight behind them where that is to be found.
-    fn told(&self, alloc: Global, keeps: bool) -> Mem<Told>
+    fn told(&self, alloc: Global, keeps: bool) -> Mem<Recovery>
         requires seat { IsSeat (catalog_in self.now.machine) (site_in self.now.machine) self.now }
         requires down { is_up self.now.machine ≡ false }
         ensures { IfOk result (IsTold (catalog_in self.now.machine) (site_in self.now.machine)

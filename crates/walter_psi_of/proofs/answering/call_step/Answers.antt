@@ -6,7 +6,7 @@ use Rattle.walter_psi.specs.declared.step.Step.{Step}
 use Rattle.walter_refinement.specs.Spelled.{replied}
 use Rattle.walter_rules.specs.declared.outcome.Outcome.TheVariants.{Replied}
 use Rattle.walter_rules.specs.Knowledge.{session_of}
-use Rattle.walter_psi_of.specs.Told.{session_named, sessions_at}
+use Rattle.walter_psi_of.specs.Accounts.{session_named, sessions_at}
 use Rattle.walter_psi_of.proofs.Replies.{session_by_name, replied_named}
 use Rattle.walter_psi_of.proofs.answering.call_step.Goals as goal
 

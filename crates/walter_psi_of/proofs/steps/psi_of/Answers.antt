@@ -4,7 +4,7 @@ use Rattle.walter_psi.specs.declared.step.Step.{Step}
 use Rattle.walter_refinement.specs.Spelled.{steps_of, history}
 use Rattle.walter_rules.specs.Merges.{Named}
 use Rattle.walter_runs.specs.Runs.{stands}
-use Rattle.walter_psi_of.specs.Told.{IsToldOf}
+use Rattle.walter_psi_of.specs.Accounts.{IsToldOf}
 use Rattle.walter_psi_of.proofs.steps.psi_of.Goals as goal
 
 -- the newest of one more

@@ -12,7 +12,7 @@ use Rattle.walter_world.specs.Seats.{standing_of}
 use Rattle.walter_world.proofs.Coming.{raised, at_raised, tells_young}
 use Rattle.walter_world.proofs.Growing.{found_there}
 use Rattle.walter_world.proofs.Seated.{seat_still, where_err}
-use Rattle.walter_world.proofs.Told.{are_found}
+use Rattle.walter_world.proofs.Recoveries.{are_found}
 use Rattle.walter_world.proofs.seat.Seat.rise.Goals as goal
 
 pub boot-requires : goal.boot-requires

@@ -5,17 +5,17 @@ use Rattle.walter_base.specs.declared.names.SiteId.{SiteId}
 use Rattle.walter_base.specs.Vectors.{most_sites}
 use Rattle.walter_machine.specs.Machines.{catalog_in, site_in, is_up}
 use Rattle.walter_rules.specs.Standing.{settled}
-use Rattle.walter_world.specs.declared.replaying.Told.{Told}
+use Rattle.walter_world.specs.declared.replaying.Recovery.{Recovery}
 use Rattle.walter_world.specs.declared.seat.Seat.{Seat}
 use Rattle.walter_world.specs.Comings.{found_by}
 use Rattle.walter_world.specs.Records.{IsTold}
 use Rattle.walter_world.specs.Seats.{IsSeat, standing_of}
 use Rattle.walter_world.proofs.Coming.{up_is}
-use Rattle.walter_world.proofs.Told.{flight_can, found_flying, found_none, stands_told, stands_can}
+use Rattle.walter_world.proofs.Recoveries.{flight_can, found_flying, found_none, stands_told, stands_can}
 use Rattle.walter_world.proofs.seat.Seat.told.Goals as goal
 
 -- what is found is this
-abbrev IsToldWith : Seat → Told → Option Record → Type 0
+abbrev IsToldWith : Seat → Recovery → Option Record → Type 0
 IsToldWith seat told found =
     IsTold (catalog_in seat.machine) (site_in seat.machine)
     (settled (catalog_in seat.machine) (site_in seat.machine) found (standing_of seat)).records told

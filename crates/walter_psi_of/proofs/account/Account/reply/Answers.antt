@@ -1,9 +1,9 @@
 use Rattle.std.proofs.Common.{refl, ap, sym, ◌∙◌}
 use Rattle.walter_base.specs.ByClient.{without}
-use Rattle.walter_psi_of.specs.Told.{sessions_at}
+use Rattle.walter_psi_of.specs.Accounts.{sessions_at}
 use Rattle.walter_psi_of.proofs.Kept.{ended_here, ended_there}
 use Rattle.walter_psi_of.proofs.ReplyNames.{ended_names, kept_names}
-use Rattle.walter_psi_of.proofs.told.Told.reply.Goals as goal
+use Rattle.walter_psi_of.proofs.account.Account.reply.Goals as goal
 
 pub returns-in_default : goal.returns-in_default
 returns-in_default c = record {

@@ -14,7 +14,7 @@ ghost use Rattle.walter_rules.specs.Merges.{Named};
 ghost use Rattle.walter_rules.specs.Sessions.{Sessions};
 ghost use Rattle.walter_rules.specs.Standing.{goes_down};
 ghost use Rattle.walter_runs.specs.Runs.{stands};
-ghost use Rattle.walter_psi_of.specs.Told.{sessions_at, commits_of, named, own_commit, is_at, is_of, IsToldOf};
+ghost use Rattle.walter_psi_of.specs.Accounts.{sessions_at, commits_of, named, own_commit, is_at, is_of, IsToldOf};
 
 use std::alloc::Global;
 use walter_base::{MaybeRecord, Mem, Record, Reply, SiteId, Tid};
@@ -38,19 +38,19 @@ impl Session {
 
 /// What the entries so far tell of the sites that the steps to come need.
 #[derive(Drop)]
-pub(crate) struct Told {
+pub(crate) struct Account {
     /// In the order of their starts.
     sessions: Vec<Session>,
     /// Each is told by its own site alone, and those of one site are in order.
     commits: Vec<Tid>,
 }
 
-impl Told {
-    pub(crate) fn new(alloc: Global) -> Told
+impl Account {
+    pub(crate) fn new(alloc: Global) -> Account
         ensures sessions { result.sessions.items ≡ [] }
         ensures commits { result.commits.items ≡ [] }
     {
-        Told {
+        Account {
             sessions: Vec::new(alloc),
             commits: Vec::new(alloc),
         }

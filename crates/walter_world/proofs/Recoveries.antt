@@ -20,7 +20,7 @@ use Rattle.walter_rules.specs.Standing.{Standing, records_after, settled, stands
 use Rattle.walter_rules.specs.Trails.{standing, clock, AreRight, IsFound}
 use Rattle.walter_rules.proofs.Staying.{epoch_few}
 use Rattle.walter_world.specs.Comings.{found_by}
-use Rattle.walter_world.specs.declared.replaying.Told.{Told}
+use Rattle.walter_world.specs.declared.replaying.Recovery.{Recovery}
 use Rattle.walter_world.specs.declared.seat.Seat.{Seat}
 use Rattle.walter_world.specs.Records.{CanBeReplayed, IsTold, one_of, records_of}
 use Rattle.walter_world.specs.Seats.{standing_of}
@@ -53,7 +53,7 @@ records_are catalog i = push_induction
     ∙ sym (flat_map-push (λ (x : Entry). one_of x.came.kept ++ one_of x.came.wrote) trail e))))
 
 -- what the entries of a site tell its records tell, by which it stands
-pub stands_told : (seat : Seat) (catalog : Catalog) (i : SiteId) (entries : List Entry) (told : Told)
+pub stands_told : (seat : Seat) (catalog : Catalog) (i : SiteId) (entries : List Entry) (told : Recovery)
     → catalog ≡ catalog_in seat.machine → i ≡ site_in seat.machine → entries ≡ seat.entries.items
     → IsTold catalog i (records_of entries) told
     → IsTold (catalog_in seat.machine) (site_in seat.machine) (standing_of seat).records told

@@ -1,7 +1,7 @@
 use Rattle.std.proofs.Common.{not, rules}
 use Rattle.std.proofs.lemmas.Fn.{filter_same}
-use Rattle.walter_psi_of.specs.Told.{is_at}
-use Rattle.walter_psi_of.proofs.told.Told.lose.Goals as goal
+use Rattle.walter_psi_of.specs.Accounts.{is_at}
+use Rattle.walter_psi_of.proofs.account.Account.lose.Goals as goal
 
 pub returns-clause-lost : goal.returns-clause-lost
 returns-clause-lost c =

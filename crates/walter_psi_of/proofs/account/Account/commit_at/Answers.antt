@@ -4,8 +4,8 @@ use Rattle.std.proofs.lemmas.Iterator.{YieldsList-from_slice}
 use Rattle.std.proofs.lemmas.Iterator.Consumers.{YieldsList-from_filter, nth_from_yields_List}
 use Rattle.walter_base.specs.declared.names.Tid.{Tid}
 use Rattle.walter_base.specs.Names.{same_site}
-use Rattle.walter_psi_of.specs.Told.{commits_of}
-use Rattle.walter_psi_of.proofs.told.Told.commit_at.Goals as goal
+use Rattle.walter_psi_of.specs.Accounts.{commits_of}
+use Rattle.walter_psi_of.proofs.account.Account.commit_at.Goals as goal
 
 pub returns : goal.returns
 returns c =

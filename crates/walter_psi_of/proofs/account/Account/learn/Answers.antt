@@ -7,10 +7,10 @@ use Rattle.walter_base.specs.Names.{same_site}
 use Rattle.walter_rules.specs.Learning.{sessions_after}
 use Rattle.walter_rules.specs.Sessions.{Sessions}
 use Rattle.walter_runs.specs.Runs.{stands}
-use Rattle.walter_psi_of.specs.Told.{sessions_at, named, own_commit, IsToldOf}
+use Rattle.walter_psi_of.specs.Accounts.{sessions_at, named, own_commit, IsToldOf}
 use Rattle.walter_psi_of.proofs.Kept.{lost_here, lost_there}
 use Rattle.walter_psi_of.proofs.Stood.{told_lost, told_answered}
-use Rattle.walter_psi_of.proofs.told.Told.learn.Goals as goal
+use Rattle.walter_psi_of.proofs.account.Account.learn.Goals as goal
 
 pub returns-then-does_go_down : goal.returns-then-does_go_down
 returns-then-does_go_down c catalog older told =

@@ -1,7 +1,7 @@
 use Rattle.std.proofs.Common.{not, rules}
 use Rattle.std.proofs.lemmas.Fn.{filter_same}
-use Rattle.walter_psi_of.specs.Told.{is_of}
-use Rattle.walter_psi_of.proofs.told.Told.end.Goals as goal
+use Rattle.walter_psi_of.specs.Accounts.{is_of}
+use Rattle.walter_psi_of.proofs.account.Account.end.Goals as goal
 
 pub returns-clause-ended : goal.returns-clause-ended
 returns-clause-ended c =

@@ -1,10 +1,10 @@
 use Rattle.std.proofs.Common.{◌≡◌, Some, None, ap, ◌∙◌, option_map, rules, tests}
 use Rattle.std.proofs.lemmas.Iterator.{YieldsList-from_slice}
 use Rattle.std.proofs.lemmas.Iterator.Search.{find_from_yields_List}
-use Rattle.walter_psi_of.specs.declared.told.Session.{Session}
-use Rattle.walter_psi_of.specs.Told.{is_of}
+use Rattle.walter_psi_of.specs.declared.account.Session.{Session}
+use Rattle.walter_psi_of.specs.Accounts.{is_of}
 use Rattle.walter_psi_of.proofs.Kept.{session_found}
-use Rattle.walter_psi_of.proofs.told.Told.session_of.Goals as goal
+use Rattle.walter_psi_of.proofs.account.Account.session_of.Goals as goal
 
 pub returns-in_err-session : goal.returns-in_err-session
 returns-in_err-session c =

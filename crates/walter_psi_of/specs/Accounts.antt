@@ -8,8 +8,8 @@ use Rattle.walter_base.specs.Names.{same_site}
 use Rattle.walter_rules.specs.Log.{of_site}
 use Rattle.walter_rules.specs.Sessions.{Session, Sessions}
 use Rattle.walter_rules.specs.Standing.{Standing}
-use Rattle.walter_psi_of.specs.declared.told.Session.{Session as SessionAt}
-use Rattle.walter_psi_of.specs.declared.told.Told.{Told}
+use Rattle.walter_psi_of.specs.declared.account.Session.{Session as SessionAt}
+use Rattle.walter_psi_of.specs.declared.account.Account.{Account}
 
 -- a session of this transaction: no step names anything else of it
 abbrev pub session_named : Tid → Session
@@ -49,6 +49,6 @@ own_commit i (Some (Got from seq tx)) = own i tx.tid
 own_commit i (Some rec) = []
 
 -- it is told of sites that stand so
-pub record IsToldOf (told : Told) (W : SiteId → Standing) : Type 0 where
+pub record IsToldOf (told : Account) (W : SiteId → Standing) : Type 0 where
   pub sessions : (i : SiteId) → sessions_at i told.sessions.items ≡ named (W i).knows.sessions
   pub commits : (i : SiteId) → commits_of i told.commits.items ≡ map (λ h. h.tx.tid) (of_site i (W i).knows.log)
