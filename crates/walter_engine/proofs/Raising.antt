@@ -16,6 +16,7 @@ use Rattle.walter_engine.specs.Writings.{IsOutcomeOf}
 use Rattle.walter_engine.proofs.Bodies.{readable, one_list}
 use Rattle.walter_engine.proofs.Crashes.{unmoved}
 use Rattle.walter_engine.proofs.Resting.{SizeIs, OnlyNow, may_have}
+use Rattle.walter_engine.proofs.Taking.{same_parts}
 use Rattle.walter_engine.proofs.Written.{leaves_same}
 use Rattle.walter_journal.specs.declared.journal.Journal.{Journal}
 use Rattle.walter_journal.specs.Journals.{disk_of, StandsFor}
@@ -39,12 +40,12 @@ use Rattle.walter_rules.specs.Trails.{Comes, TakesMemory, need_of, only}
 use Rattle.walter_tables.specs.declared.tables.Tables.{Tables}
 use Rattle.walter_tables.specs.Sites.{values_of, Stands}
 
--- what is so of equal parts
+-- what is so of equal parts of a site that is down
 pub named : (P : Catalog → SiteId → Option Tables → Type 0) (catalog catalog' : Catalog) (i i' : SiteId)
     (site : Option Tables) → catalog' ≡ catalog → i' ≡ i → site ≡ None → P catalog' i' None → P catalog i site
 named P catalog catalog' i i' site same_catalog same_site none is =
     subst (λ (o : Option Tables). P catalog i o) (sym none)
-    (subst (λ (k : SiteId). P catalog k None) same_site (subst (λ (x : Catalog). P x i' None) same_catalog is))
+    (same_parts (λ x k. P x k None) catalog' catalog i' i (sym same_catalog) (sym same_site) is)
 
 -- a site that is down and restarts with a record takes its next epoch
 rises_by : (catalog : Catalog) (i : SiteId) (S : Standing) (step : Step) (rec : Record)
