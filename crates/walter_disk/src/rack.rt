@@ -21,6 +21,10 @@ pub trait Rack {
     /// The disks that were given back, each with its site, in order, where the rack tells them.
     ghost given: { Self → Option (List (ℕ × Self.D)) };
 
+    /// The disks that `give` was handed, each with its site, in order, whether the rack kept them or lost them, where it
+    /// tells them.
+    ghost handed: { Self → Option (List (ℕ × Self.D)) };
+
     /// So many of the following calls of `take` and `give` don't fail.
     ghost unfailing: { Self → ℕ };
 
@@ -33,15 +37,17 @@ pub trait Rack {
         ensures taken { OnOk result (taken self.new ≡ taken self.old + 1) }
         ensures same_taken { OnErr result (taken self.new ≡ taken self.old) }
         ensures same_given { given self.new ≡ given self.old }
+        ensures same_handed { handed self.new ≡ handed self.old }
         ensures faultless { OnOk result (faults self.new ≡ faults self.old) }
         ensures sure { 0 < unfailing self.old → IsOk result × (unfailing self.old ≤ unfailing self.new + 1) }
         ensures cause { OnErr result (faults self.old < faults self.new) };
 
-    /// Gives a site's disk back. After a fault the disk is gone, and nothing is known of it.
+    /// Gives a site's disk back. After a fault the disk is gone, and known as it was handed.
     fn give(&mut self, site: u8, disk: Self::D) -> Result<(), Failed>
         ensures given { OnOk result (
             given self.new ≡ option_map (λ told. told ++ (site, disk) ∷ []) (given self.old)) }
         ensures same_given { OnErr result (given self.new ≡ given self.old) }
+        ensures handed { handed self.new ≡ option_map (λ told. told ++ (site, disk) ∷ []) (handed self.old) }
         ensures same_taken { taken self.new ≡ taken self.old }
         ensures same_disks { disks self.new ≡ disks self.old }
         ensures faultless { OnOk result (faults self.new ≡ faults self.old) }
