@@ -1,7 +1,9 @@
--- How the logic stores the calls of a disk.
-use Rattle.std.specs.Prelude.{◌≡◌, ◌==◌, ℕ, List, [], refl, if◌then◌else◌}
-use Rattle.std.specs.Coded.{Coded, code_by, coded×, coded_ℕ, coded_list}
+-- How the logic stores the calls of a disk, and disks with their sites.
+use Rattle.std.specs.Prelude.{◌≡◌, ◌==◌, ℕ, List, [], Option, refl, if◌then◌else◌}
+use Rattle.std.specs.Coded.{Coded, code_by, coded×, coded_ℕ, coded_list, coded_option}
 use Rattle.walter_disk_memory.specs.Contents.{Call, Write, FailedWrite, Sync, Settle}
+use Rattle.walter_disk_memory.specs.MemoryDisks.{MemoryState}
+use Rattle.walter_disk_memory.specs.Stops.{Stops}
 
 abbrev Parts : Type 0
 Parts = ℕ × (ℕ × List ℕ)
@@ -27,3 +29,21 @@ from_parts-to_parts (Settle choice) = refl
 
 abbrev pub calls_code : Coded (List Call)
 calls_code = coded_list (code_by Parts (coded× coded_ℕ (coded× coded_ℕ (coded_list coded_ℕ))) to_parts from_parts from_parts-to_parts)
+
+abbrev stops_code : Coded Stops
+stops_code =
+    code_by (List (ℕ × ℕ) × (Option (ℕ × ℕ) × (Option ℕ × (ℕ × ℕ))))
+    (coded× (coded_list (coded× coded_ℕ coded_ℕ))
+    (coded× (coded_option (coded× coded_ℕ coded_ℕ)) (coded× (coded_option coded_ℕ) (coded× coded_ℕ coded_ℕ))))
+    (λ s. (s.arms, (s.due, (s.came, (s.made, s.faults)))))
+    (λ p. record { arms = p.0; due = p.1.0; came = p.1.1.0; made = p.1.1.1.0; faults = p.1.1.1.1 }) (λ _. refl)
+
+abbrev state_code : Coded MemoryState
+state_code =
+    code_by (List ℕ × (List Call × (Stops × (ℕ × ℕ))))
+    (coded× (coded_list coded_ℕ) (coded× calls_code (coded× stops_code (coded× coded_ℕ coded_ℕ))))
+    (λ d. (d.first, (d.calls, (d.stops, (d.room_end, d.room_calls)))))
+    (λ p. record { first = p.0; calls = p.1.0; stops = p.1.1.0; room_end = p.1.1.1.0; room_calls = p.1.1.1.1 }) (λ _. refl)
+
+abbrev pub disks_code : Coded (List (ℕ × MemoryState))
+disks_code = coded_list (coded× coded_ℕ state_code)

@@ -12,6 +12,8 @@ pub record RackState : Type 0 where
   pub taken : ℕ
   -- the disks that were given back, each with its site
   pub given : List (ℕ × MemoryState)
+  -- the disks that it was handed, kept or lost, each with its site
+  pub handed : List (ℕ × MemoryState)
   -- how many more can be given back without memory
   pub room : ℕ
   pub schedule : Schedule
@@ -28,7 +30,14 @@ disk_of contents site = holding (slice_index_or contents site [])
 
 -- a rack that holds these bytes, with this room, of which nothing was asked
 abbrev pub rack_of : List (List ℕ) → ℕ → RackState
-rack_of contents room = record { contents = contents; taken = 0; given = []; room = room; schedule = planned [] }
+rack_of contents room = record {
+  contents = contents;
+  taken = 0;
+  given = [];
+  handed = [];
+  room = room;
+  schedule = planned [];
+}
 
 -- what a disk without bytes tells that no call has failed on and that has no arm
 abbrev pub no_bytes : DiskState

@@ -3,6 +3,7 @@
 
 mod change;
 mod content;
+mod ghost_disks;
 mod history;
 mod memory_disk;
 mod memory_rack;

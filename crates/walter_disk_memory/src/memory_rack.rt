@@ -3,6 +3,7 @@ ghost use Rattle.walter_disk_memory.specs.MemoryDisks.{FailsOnlyIfArmed};
 ghost use Rattle.walter_disk_memory.specs.MemoryRacks.{contents_of, disk_of, rack_of, unfailing_of, HandsOutNoBytes};
 ghost use Rattle.walter_faults.specs.Schedules.{planned, NextFails, AddsCall};
 
+use crate::ghost_disks::GhostDisks;
 use crate::memory_disk::{MemoryDisk, unarmed_never_failed};
 use std::alloc::Global;
 use std::marker::Model;
@@ -17,6 +18,7 @@ pub struct MemoryRack {
     contents: Vec<Vec<u8>>,
     taken: GhostCount,
     given: Vec<(u8, MemoryDisk)>,
+    handed: GhostDisks,
     schedule: Schedule,
 }
 
@@ -31,11 +33,13 @@ impl Model for MemoryRack {
       contents = contents_of s.contents.items;
       taken = s.taken.count;
       given = s.given.items;
+      handed = s.handed.disks;
       room = vec_capacity s.given - vec_len s.given;
       schedule = s.schedule;
     } };
 
-    ghost invariant = { λ s. All (λ it. FailsOnlyIfArmed it.1) s.given.items };
+    ghost invariant = { λ s.
+        All (λ it. FailsOnlyIfArmed it.1) s.given.items × All (λ it. FailsOnlyIfArmed it.1) s.handed.disks };
 }
 
 impl MemoryRack {
@@ -68,6 +72,7 @@ impl MemoryRack {
             contents,
             taken: GhostCount::zero(),
             given: Vec::new(alloc),
+            handed: GhostDisks::none(),
             schedule: Schedule::new(Vec::new(alloc)),
         }
     }
@@ -88,9 +93,11 @@ impl MemoryRack {
         &self.given
     }
 
-    /// Those that were given back without an arm have never failed. A law of each rack, which does nothing.
+    /// Those that were given back without an arm have never failed, nor have those that were lost so. A law of each rack,
+    /// which does nothing.
     pub fn given_unarmed_never_failed(&self)
-        ensures { All (λ it. FailsOnlyIfArmed it.1) self.now.given }
+        ensures given { All (λ it. FailsOnlyIfArmed it.1) self.now.given }
+        ensures handed { All (λ it. FailsOnlyIfArmed it.1) self.now.handed }
     {
         let _given = &self.given;
     }
@@ -120,6 +127,8 @@ impl Rack for MemoryRack {
     ghost taken = { λ r. r.taken };
 
     ghost given = { λ r. Some r.given };
+
+    ghost handed = { λ r. Some r.handed };
 
     ghost unfailing = { unfailing_of };
 
@@ -159,6 +168,7 @@ impl Rack for MemoryRack {
     fn give(&mut self, site: u8, disk: MemoryDisk) -> Result<(), Failed>
         ensures given { OnOk result (self.new.given ≡ self.old.given ++ (site, disk) ∷ []) }
         ensures same_given { OnErr result (self.new.given ≡ self.old.given) }
+        ensures handed { self.new.handed ≡ self.old.handed ++ (site, disk) ∷ [] }
         ensures same_taken { self.new.taken ≡ self.old.taken }
         ensures same_disks { self.new.contents ≡ self.old.contents }
         ensures faultless { OnOk result (self.new.schedule.faults ≡ self.old.schedule.faults) }
@@ -172,10 +182,11 @@ impl Rack for MemoryRack {
         ensures calls { AddsCall self.old.schedule self.new.schedule }
         ensures room { self.old.room ≤ self.new.room + 1 }
     {
+        unarmed_never_failed(&disk);
+        self.handed = self.handed.and(site, &disk);
         if self.schedule.fails() {
             return Err(Failed);
         }
-        unarmed_never_failed(&disk);
         match self.given.push((site, disk)) {
             Ok(()) => Ok(()),
             Err(_) => {
