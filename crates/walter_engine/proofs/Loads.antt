@@ -321,12 +321,12 @@ module _ {D : Type 0} {g : Ghosts D} where
   -- ---- over any disk that tells what it holds
 
   -- one of its images was found
-  found_told : SizeIs {g = g} → (old new : D) (bytes : List ℕ) → (g.known old).reads ≡ Some bytes → 0 < (g.known old).size
+  found_told : SizeIs g → (old new : D) (bytes : List ℕ) → (g.known old).reads ≡ Some bytes → 0 < (g.known old).size
       → bytes ≢ []
   found_told size_is old new bytes told some none =
-      absurd (omega (arith, some, size_told {g = g} size_is old bytes told, ap length none))
+      absurd (omega (arith, some, size_told g size_is old bytes told, ap length none))
 
-  pub restarts_unloaded : SizeIs {g = g} → (catalog : Catalog) (capacity : ℕ) (i : SiteId) (why : JournalFault)
+  pub restarts_unloaded : SizeIs g → (catalog : Catalog) (capacity : ℕ) (i : SiteId) (why : JournalFault)
       (old new : D) (came : Came) (refused : Option RefusedRestart)
       → is_some (g.known new).reads ≡ is_some (g.known old).reads
       → HasCause why (g.may_leave old) (g.known old) (g.known new) → came.outcome ≡ (unloaded_by why).0
@@ -355,7 +355,7 @@ module _ {D : Type 0} {g : Ghosts D} where
           (subst (λ r. IsImage r (g.may_leave old)) told' cause.image)
           (inr (place, claimed, is_why, subst (λ r. IfSome r (λ b. IsDamaged b place claimed)) told' cause.are)) is
 
-  pub restarts_loaded : SizeIs {g = g} → (catalog : Catalog) (capacity left : ℕ) (i : SiteId) (disk : D)
+  pub restarts_loaded : SizeIs g → (catalog : Catalog) (capacity left : ℕ) (i : SiteId) (disk : D)
       (journal : Journal D g) (bodies : List (List ℕ)) (came : Came) (why : Option RefusedRestart)
       → (IsSome (g.known disk).reads → StandsFor journal bodies) → ((g.known disk).size ≡ 0 → bodies ≡ [])
       → (0 < (g.known disk).size → IsImage (g.known (disk_of journal)).reads (g.may_leave disk))
@@ -373,9 +373,9 @@ module _ {D : Type 0} {g : Ghosts D} where
       at (Some []) told =
           RestartsOver.over_none refl
           (subst (λ b. ComesOf catalog i (capacity - end_behind b) b came.wrote why came.outcome)
-          (fresh (size_told {g = g} size_is disk [] told)) here)
+          (fresh (size_told g size_is disk [] told)) here)
       at (Some (byte ∷ bytes)) told =
           let stands = loaded (ap is_some told) in
-          let some = image (omega (arith, size_told {g = g} size_is disk (byte ∷ bytes) told)) in
+          let some = image (omega (arith, size_told g size_is disk (byte ∷ bytes) told)) in
           RestartsOver.over_journal stands.bytes bodies (λ e. absurd (cc))
           (subst (λ r. IsImage r (g.may_leave disk)) stands.told some) stands.content here
