@@ -1,7 +1,7 @@
 -- Bytes call for one list of calls at most, in one order.
 use Rattle.std.proofs.Common.{◌≡◌, ◌⊎◌, ℕ, List, [], ◌∷◌, ◌++◌, refl, sym, ap, subst, ◌∙◌, inl, inr, append_assoc, append-nil}
 use Rattle.walter_conn.specs.Frames.{Call}
-use Rattle.walter_conn.specs.Sequences.{BeginsWith, BeginsTooLong, AreFrames, EndTooLong, AreCalls, AreAllCalls, IsFrontOf, ended, cut, too_long}
+use Rattle.walter_conn.specs.Sequences.{BeginsWith, BeginsTooLong, AreFrames, EndTooLong, AreCalls, AreAllCalls, IsFrontOf, ended, too_long}
 use Rattle.walter_conn.proofs.Readings.{one_begin, too_long_stops, nothing_stops, nothing_short, begun_stops, begun_short}
 
 -- the frames go on, from some calls and what is behind them to others
@@ -52,11 +52,29 @@ one_end bytes xs ys rest left one other =
     let last = one.too_long.bad ∙ sym other.too_long.bad in
     one.is ∙ (λ i. same i ++ (last i ∷ [])) ∙ sym other.is
 
--- where the frames end otherwise, no length that no frame has is behind them
-other_end : (bytes : List ℕ) (xs ys : List Call) (rest left : List ℕ) → AreFrames bytes xs rest → IsStop rest → ((call : Call) (after : List ℕ) → ¬ BeginsTooLong rest call after) → ¬ EndTooLong bytes ys left
-other_end bytes xs ys rest left frames stop short end =
-    let same = (same_end bytes xs end.others rest end.left frames stop end.frames (stops end)).1 in
-    short end.last left (subst (λ t. BeginsTooLong t end.last left) (sym same) end.too_long)
+-- the frames behind which no call begins
+record EndShort (bytes : List ℕ) (calls : List Call) : Type 0 where
+  rest : List ℕ
+  frames : AreFrames bytes calls rest
+  stop : IsStop rest
+  short : (call : Call) (after : List ℕ) → ¬ BeginsTooLong rest call after
+
+-- the last call is of a length that no frame has, or no call begins behind them
+ends : (bytes : List ℕ) (calls : List Call) → AreAllCalls bytes calls → ((rest : List ℕ) × EndTooLong bytes calls rest) ⊎ EndShort bytes calls
+ends bytes calls (inl (ended frames)) = inr (record { rest = []; frames = frames; stop = nothing_stops; short = nothing_short })
+ends bytes calls (inl (too_long rest end)) = inl (rest, end)
+ends bytes calls (inr cut) = inr (record {
+  rest = cut.rest;
+  frames = cut.frames;
+  stop = λ call after. begun_stops cut.rest call after cut.begun;
+  short = λ call after. begun_short cut.rest call after cut.begun;
+})
+
+-- where no call begins behind the frames, no length that no frame has is there
+other_end : (bytes : List ℕ) (xs ys : List Call) (left : List ℕ) → EndShort bytes xs → ¬ EndTooLong bytes ys left
+other_end bytes xs ys left one end =
+    let same = (same_end bytes xs end.others one.rest end.left one.frames one.stop end.frames (stops end)).1 in
+    one.short end.last left (subst (λ t. BeginsTooLong t end.last left) (sym same) end.too_long)
 
 pub one_order : (bytes : List ℕ) (some others : List Call) (rest left : List ℕ) → AreCalls bytes some rest → AreCalls bytes others left → IsFrontOf some others ⊎ IsFrontOf others some
 one_order bytes some others rest left (inl one) (inl other) = elim (compared bytes some others rest left one other) [ inl on ↦ inl (on.0, on.1) | inr on ↦ inr (on.0, on.1) ]
@@ -65,22 +83,19 @@ one_order bytes some others rest left (inr end) (inl other) = inr (front_of_end 
 one_order bytes some others rest left (inr one) (inr other) = inl ([], sym (one_end bytes some others rest left one other) ∙ sym (append-nil some))
 
 pub one_list : (bytes : List ℕ) (xs ys : List Call) → AreAllCalls bytes xs → AreAllCalls bytes ys → xs ≡ ys
-one_list bytes xs ys (ended a) (ended b) = (same_end bytes xs ys [] [] a nothing_stops b nothing_stops).0
-one_list bytes xs ys (ended a) (cut left b begun) = (same_end bytes xs ys [] left a nothing_stops b (λ call after. begun_stops left call after begun)).0
-one_list bytes xs ys (ended a) (too_long left b) = absurd (other_end bytes xs ys [] left a nothing_stops nothing_short b)
-one_list bytes xs ys (cut rest a begun) (ended b) = (same_end bytes xs ys rest [] a (λ call after. begun_stops rest call after begun) b nothing_stops).0
-one_list bytes xs ys (cut rest a begun) (cut left b begun_b) =
-    (same_end bytes xs ys rest left a (λ call after. begun_stops rest call after begun) b (λ call after. begun_stops left call after begun_b)).0
-one_list bytes xs ys (cut rest a begun) (too_long left b) = absurd (other_end bytes xs ys rest left a (λ call after. begun_stops rest call after begun) (λ call after. begun_short rest call after begun) b)
-one_list bytes xs ys (too_long rest a) (ended b) = absurd (other_end bytes ys xs [] rest b nothing_stops nothing_short a)
-one_list bytes xs ys (too_long rest a) (cut left b begun) = absurd (other_end bytes ys xs left rest b (λ call after. begun_stops left call after begun) (λ call after. begun_short left call after begun) a)
-one_list bytes xs ys (too_long rest a) (too_long left b) = one_end bytes xs ys rest left a b
+one_list bytes xs ys one other = by (ends bytes xs one) (ends bytes ys other)
+  where
+    by : ((rest : List ℕ) × EndTooLong bytes xs rest) ⊎ EndShort bytes xs → ((rest : List ℕ) × EndTooLong bytes ys rest) ⊎ EndShort bytes ys → xs ≡ ys
+    by (inl a) (inl b) = one_end bytes xs ys a.0 b.0 a.1 b.1
+    by (inl a) (inr b) = absurd (other_end bytes ys xs a.0 b a.1)
+    by (inr a) (inl b) = absurd (other_end bytes xs ys b.0 a b.1)
+    by (inr a) (inr b) = (same_end bytes xs ys a.rest b.rest a.frames a.stop b.frames b.stop).0
 
 pub front_of_all : (bytes : List ℕ) (some all : List Call) (rest : List ℕ) → AreCalls bytes some rest → AreAllCalls bytes all → IsFrontOf some all
-front_of_all bytes some all rest (inl one) (ended b) = let on = past bytes some all rest [] one b nothing_stops in (on.0, on.1)
-front_of_all bytes some all rest (inl one) (cut left b begun) = let on = past bytes some all rest left one b (λ call after. begun_stops left call after begun) in (on.0, on.1)
-front_of_all bytes some all rest (inl one) (too_long left b) = front_of_end bytes some all rest left one b
-front_of_all bytes some all rest (inr end) (ended b) = absurd (other_end bytes all some [] rest b nothing_stops nothing_short end)
-front_of_all bytes some all rest (inr end) (cut left b begun) =
-    absurd (other_end bytes all some left rest b (λ call after. begun_stops left call after begun) (λ call after. begun_short left call after begun) end)
-front_of_all bytes some all rest (inr end) (too_long left b) = ([], sym (one_end bytes some all rest left end b) ∙ sym (append-nil some))
+front_of_all bytes some all rest some_are all_are = by some_are (ends bytes all all_are)
+  where
+    by : AreCalls bytes some rest → ((left : List ℕ) × EndTooLong bytes all left) ⊎ EndShort bytes all → IsFrontOf some all
+    by (inl one) (inl b) = front_of_end bytes some all rest b.0 one b.1
+    by (inl one) (inr b) = let on = past bytes some all rest b.rest one b.frames b.stop in (on.0, on.1)
+    by (inr end) (inl b) = ([], sym (one_end bytes some all rest b.0 end b.1) ∙ sym (append-nil some))
+    by (inr end) (inr b) = absurd (other_end bytes all some rest b end)

@@ -4,8 +4,8 @@ use Rattle.std.proofs.lemmas.Option.{none-some, same_Some}
 use Rattle.walter_stream.specs.Streams.{AtEnd, TakesFront}
 use Rattle.walter_conn.specs.Calls.{fresh_incoming, Incoming, TakesCall, TakesFrame, TakesTooLong, IsEnded, IsBroken, before, fault, cut}
 use Rattle.walter_conn.specs.Frames.{frame, Call, EndsInFrame}
-use Rattle.walter_conn.specs.Sequences.{BeginsWith, AreFrames, EndTooLong, AreCalls, AreAllCalls, AreRead, HasCalled}
-use Rattle.walter_conn.specs.Sequences as all
+use Rattle.walter_conn.specs.Sequences.{BeginsWith, AreFrames, EndTooLong, AreCalls, EndWhole, EndCut, AreRead, HasCalled}
+use Rattle.walter_conn.specs.Sequences as ends
 use Rattle.walter_conn.specs.declared.state.State.{State}
 use Rattle.walter_conn.specs.declared.state.State.TheVariants.{Open, Closed, Broken}
 
@@ -53,10 +53,10 @@ one_more_call bytes calls old new call stands takes = elim takes.takes [ inl who
 pub over_keeps : (bytes : List ℕ) (calls : List Call) (old new : Incoming) → HasCalled bytes calls old → IsEnded old new → HasCalled bytes calls new
 over_keeps bytes calls old new stands over = subst (HasCalled bytes calls) (sym over.same) stands
 
-pub over_all : (bytes : List ℕ) (calls : List Call) (old new : Incoming) → HasCalled bytes calls old → IsEnded old new → AreAllCalls bytes calls
-over_all bytes calls old new stands over = elim over.cause [
-  | inl closed ↦ all.too_long stands.rest (read_in bytes calls old Closed stands closed)
-  | inr end ↦ all.ended (subst (λ t. AreFrames bytes calls t) (subst AtEnd stands.unread end.1) (read_in bytes calls old Open stands end.0))
+pub over_whole : (bytes : List ℕ) (calls : List Call) (old new : Incoming) → HasCalled bytes calls old → IsEnded old new → EndWhole bytes calls
+over_whole bytes calls old new stands over = elim over.cause [
+  | inl closed ↦ ends.too_long stands.rest (read_in bytes calls old Closed stands closed)
+  | inr end ↦ ends.ended (subst (λ t. AreFrames bytes calls t) (subst AtEnd stands.unread end.1) (read_in bytes calls old Open stands end.0))
 ]
 
 are_calls : (bytes : List ℕ) (calls : List Call) (rest : List ℕ) (state : State) → AreRead bytes calls rest state → AreCalls bytes calls rest
@@ -76,10 +76,11 @@ breaks_keeps bytes calls old new stands (fault was rose same broken) = record {
 }
 breaks_keeps bytes calls old new stands (cut was ends is) = subst (HasCalled bytes calls) (sym is) (lost_keeps bytes calls old stands)
 
-pub breaks_all : (bytes : List ℕ) (calls : List Call) (old new : Incoming) → HasCalled bytes calls old → IsBroken old new → old.state ≢ Broken → new.faults ≡ old.faults → AreAllCalls bytes calls
-breaks_all bytes calls old new stands (before was same) used faultless = absurd (used was)
-breaks_all bytes calls old new stands (fault was rose same broken) used faultless = absurd (omega (arith, rose, faultless))
-breaks_all bytes calls old new stands (cut was ends is) used faultless = all.cut stands.rest (read_in bytes calls old Open stands was) (subst EndsInFrame stands.unread ends)
+pub breaks_cut : (bytes : List ℕ) (calls : List Call) (old new : Incoming) → HasCalled bytes calls old → IsBroken old new → old.state ≢ Broken → new.faults ≡ old.faults → EndCut bytes calls
+breaks_cut bytes calls old new stands (before was same) used faultless = absurd (used was)
+breaks_cut bytes calls old new stands (fault was rose same broken) used faultless = absurd (omega (arith, rose, faultless))
+breaks_cut bytes calls old new stands (cut was ends is) used faultless =
+    record { rest = stands.rest; frames = read_in bytes calls old Open stands was; begun = subst EndsInFrame stands.unread ends }
 
 pub calls_of : (bytes : List ℕ) (calls : List Call) (incoming : Incoming) (rest : List ℕ) → HasCalled bytes calls incoming → incoming.unread ≡ Some rest → AreCalls bytes calls rest
 calls_of bytes calls incoming rest stands told = subst (AreCalls bytes calls) (same_Some stands.rest rest (sym stands.unread ∙ told)) (are_calls bytes calls stands.rest incoming.state stands.read)

@@ -37,11 +37,20 @@ pub record EndTooLong (bytes : List ℕ) (calls : List Call) (rest : List ℕ) :
 abbrev pub AreCalls : List ℕ → List Call → List ℕ → Type 0
 AreCalls bytes calls rest = AreFrames bytes calls rest ⊎ EndTooLong bytes calls rest
 
--- the calls are all those of the bytes: behind them is nothing, or the begin of a frame; or the last is of a length that no frame has
-pub data AreAllCalls (bytes : List ℕ) (calls : List Call) : Type 0 where
-  ended : AreFrames bytes calls [] → AreAllCalls bytes calls
-  cut : (rest : List ℕ) → AreFrames bytes calls rest → IsBegun rest → AreAllCalls bytes calls
-  too_long : (rest : List ℕ) → EndTooLong bytes calls rest → AreAllCalls bytes calls
+-- the calls are all those of the bytes: nothing is behind them, or the last is of a length that no frame has
+pub data EndWhole (bytes : List ℕ) (calls : List Call) : Type 0 where
+  ended : AreFrames bytes calls [] → EndWhole bytes calls
+  too_long : (rest : List ℕ) → EndTooLong bytes calls rest → EndWhole bytes calls
+
+-- the calls are all those of the bytes, and behind them a frame is begun
+pub record EndCut (bytes : List ℕ) (calls : List Call) : Type 0 where
+  pub rest : List ℕ
+  pub frames : AreFrames bytes calls rest
+  pub begun : IsBegun rest
+
+-- the calls are all those of the bytes
+abbrev pub AreAllCalls : List ℕ → List Call → Type 0
+AreAllCalls bytes calls = EndWhole bytes calls ⊎ EndCut bytes calls
 
 abbrev pub IsFrontOf : List Call → List Call → Type 0
 IsFrontOf some all = (more : List Call) × (all ≡ some ++ more)

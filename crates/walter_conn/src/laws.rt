@@ -1,7 +1,7 @@
 ghost use Rattle.std.specs.Prelude.{◌≡◌, ◌≢◌, ◌⊎◌, ◌++◌, ◌∷◌, ℕ, List, [], Some};
 ghost use Rattle.walter_conn.specs.Calls.{fresh_incoming, Incoming, TakesCall, IsEnded, IsBroken};
 ghost use Rattle.walter_conn.specs.Frames.{Call};
-ghost use Rattle.walter_conn.specs.Sequences.{AreCalls, AreAllCalls, IsFrontOf, HasCalled};
+ghost use Rattle.walter_conn.specs.Sequences.{AreCalls, EndWhole, EndCut, AreAllCalls, IsFrontOf, HasCalled};
 ghost use Rattle.walter_conn.specs.declared.state.State.TheVariants.{Broken};
 
 /// Bytes call for one list of calls at most, in one order.
@@ -23,14 +23,14 @@ pub fn what_was_called()
     ensures over { (bytes : List ℕ) (calls : List Call) (old new : Incoming)
         → HasCalled bytes calls old → IsEnded old new → HasCalled bytes calls new }
     ensures ended { (bytes : List ℕ) (calls : List Call) (old new : Incoming)
-        → HasCalled bytes calls old → IsEnded old new → AreAllCalls bytes calls }
+        → HasCalled bytes calls old → IsEnded old new → EndWhole bytes calls }
     ensures breaks { (bytes : List ℕ) (calls : List Call) (old new : Incoming)
         → HasCalled bytes calls old → IsBroken old new → HasCalled bytes calls new }
 
     // Where it was not broken before and no call on the source failed, the bytes end inside a frame.
     ensures cut { (bytes : List ℕ) (calls : List Call) (old new : Incoming)
         → HasCalled bytes calls old → IsBroken old new → old.state ≢ Broken → new.faults ≡ old.faults
-        → AreAllCalls bytes calls }
+        → EndCut bytes calls }
 
     // A reply that was lost breaks the connection.
     ensures lost { (bytes : List ℕ) (calls : List Call) (old : Incoming)

@@ -1,4 +1,4 @@
-use Rattle.walter_conn.proofs.Standings.{at_the_start, one_more_call, over_keeps, over_all, breaks_keeps, breaks_all, lost_keeps, calls_of}
+use Rattle.walter_conn.proofs.Standings.{at_the_start, one_more_call, over_keeps, over_whole, breaks_keeps, breaks_cut, lost_keeps, calls_of}
 use Rattle.walter_conn.proofs.laws.what_was_called.Goals as goal
 
 pub returns-clause-opens : goal.returns-clause-opens
@@ -11,13 +11,13 @@ pub returns-clause-over : goal.returns-clause-over
 returns-clause-over c = over_keeps
 
 pub returns-clause-ended : goal.returns-clause-ended
-returns-clause-ended c = over_all
+returns-clause-ended c = over_whole
 
 pub returns-clause-breaks : goal.returns-clause-breaks
 returns-clause-breaks c = breaks_keeps
 
 pub returns-clause-cut : goal.returns-clause-cut
-returns-clause-cut c = breaks_all
+returns-clause-cut c = breaks_cut
 
 pub returns-clause-lost : goal.returns-clause-lost
 returns-clause-lost c = lost_keeps
