@@ -1,13 +1,12 @@
 -- What is written to a client's connection.
-use Rattle.std.proofs.Common.{◌≡◌, ◌≢◌, ◌<◌, ◌+◌, ◌-◌, ◌++◌, ◌∷◌, ◌∙◌, [], ℕ, List, Option, Some, None, Result, Ok, Err}
-use Rattle.std.proofs.Common.{take, slice_get, slice_set, get_or, if◌then◌else◌}
+use Rattle.std.proofs.Common.{◌≡◌, ◌≢◌, ◌+◌, ◌-◌, ◌++◌, ◌∷◌, ◌∙◌, [], ℕ, List, Option, Some, None, Result, Ok, Err}
+use Rattle.std.proofs.Common.{take, slice_get, if◌then◌else◌}
 use Rattle.std.proofs.Common.{refl, ap, sym, subst, arith, inl, inr}
 use Rattle.std.specs.List.{concat}
 use Rattle.std.specs.Prelude.{IfSome, OnOk, OnErr, length}
 use Rattle.std.proofs.lemmas.Bool.{eq-eqb, ne_eqb}
 use Rattle.std.proofs.lemmas.List.{append-nil, append_assoc, length-append}
 use Rattle.std.proofs.lemmas.List.Concat.{flat_map-append}
-use Rattle.std.proofs.lemmas.Option.{slice_get_within}
 use Rattle.walter_conn.specs.Calls.{Incoming, Answers, before, fault, cut}
 use Rattle.walter_conn.specs.Frames.{Call, frame}
 use Rattle.walter_conn.specs.Outputs.{IsLost}
@@ -25,10 +24,9 @@ use Rattle.walter_rules.specs.declared.outcome.Outcome.{Outcome}
 use Rattle.walter_rules.specs.declared.outcome.Outcome.TheVariants.{Replied}
 use Rattle.walter_stream.specs.Streams.{Appends}
 use Rattle.walter_cell.specs.Lines.{Sent, LineValue}
-use Rattle.walter_cell.specs.Written.{framed_reply, framed_for, replies_to, IsHeld, AreWritten, AreWrittenAt}
+use Rattle.walter_cell.specs.Written.{framed_reply, framed_for, replies_to, IsHeld, AreWritten}
 use Rattle.walter_cell.specs.Written.{IsCutOff}
 use Rattle.walter_psi.proofs.Lists.{slice_get-push}
-use Rattle.walter_cell.proofs.Lines.{at_place, line_set}
 
 if_some : {X : Type 0} (o : Option X) (P Q : X → Type 0) → ((x : X) → P x → Q x) → IfSome o P → IfSome o Q
 if_some None P Q by holds = tt
@@ -68,13 +66,12 @@ module _ (old new : LineValue)
 
   pub put_whole : {X E : Type 0} (r : Result X E)
       → OnOk r (Appends (old.sent.held) (new.sent.held) (frame (reply_spelled reply)))
-      → OnOk r (new.incoming ≡ old.incoming)
-      → OnOk r (Appends (old.sent.held) (new.sent.held) (concat (framed_reply outcome)) × (new.incoming ≡ old.incoming))
-  put_whole (Ok done) whole same =
+      → OnOk r (Appends (old.sent.held) (new.sent.held) (concat (framed_reply outcome)))
+  put_whole (Ok done) whole =
       let all : concat (framed_reply outcome) ≡ frame (reply_spelled reply) =
       ap (λ (l : List (List ℕ)). concat l) framed ∙ append-nil (frame (reply_spelled reply)) in
-      (subst (λ (l : List ℕ). Appends (old.sent.held) (new.sent.held) l) (sym all) whole, same)
-  put_whole (Err e) whole same = tt
+      subst (λ (l : List ℕ). Appends (old.sent.held) (new.sent.held) l) (sym all) whole
+  put_whole (Err e) whole = tt
 
   cut_off : IsLost (λ (x : Sent). x.held) (λ (x : Sent). x.faults) old.sent new.sent (frame (reply_spelled reply)) old.incoming.state
       → new.incoming.state ≡ state.Broken → IsCutOff outcome new.incoming.state old.sent new.sent
@@ -84,7 +81,7 @@ module _ (old new : LineValue)
     is = framed;
     front = front;
     broken = now;
-    failed = omega (arith, rose);
+    failed = rose;
   }
 
   pub put_cut : {X E : Type 0} (r : Result X E)
@@ -174,7 +171,7 @@ module _ (first : List ℕ) (replies : List (List ℕ)) (old new : LineValue)
             (held ++ take off.front.0 off.reply)
         by held (inl whole) = inr (
           off.broken,
-          off.failed,
+          (let rose = off.failed in omega (arith, rose)),
           record {
             whole = replies;
             last = off.reply;
@@ -185,63 +182,3 @@ module _ (first : List ℕ) (replies : List (List ℕ)) (old new : LineValue)
           },
         )
         by held (inr short) = absurd (unbroken short.0)
-
-    -- the one or the other
-    pub written_put : {X E : Type 0} (r : Result X E)
-        → OnOk r (Appends (old.sent.held) (new.sent.held) (concat (framed_reply outcome)) × (new.incoming ≡ old.incoming))
-        → OnErr r (IsCutOff outcome new.incoming.state old.sent new.sent)
-        → AreWritten first (replies ++ framed_reply outcome) new.incoming.state new.sent
-    written_put (Ok done) whole off = written_more whole.0
-    written_put (Err e) whole off = written_short off
-
--- with a trail that is the same
-pub written_entries : (first : List ℕ) (number : ℕ)
-    (entries more : List Entry) (lines : List (Option LineValue)) → more ≡ entries
-    → AreWrittenAt first number entries lines → AreWrittenAt first number more lines
-written_entries first number entries more lines same are =
-    subst (λ (es : List Entry). AreWrittenAt first number es lines) (sym same) are
-
--- a client's turn
-module _ (first : List ℕ) (number : ℕ) (entries more : List Entry)
-    (lines : List (Option LineValue)) (found : Option (LineValue)) (line : LineValue)
-    (are : AreWrittenAt first number entries lines) (at : found ≡ get_or lines number found) (some : found ≡ Some line) where
-  within : number < length lines
-  within = slice_get_within lines number _ are.1
-
-  -- the replies that were written to its connection
-  here : AreWritten first (replies_to number entries) line.incoming.state line.sent
-  here =
-      let same : Some are.0 ≡ Some line = at_place lines number (Some are.0) found are.1 at ∙ some in
-      let e : are.0 ≡ line = cc in
-      subst (λ (l : LineValue). AreWritten first (replies_to number entries) l.incoming.state l.sent) e are.2
-
-  -- it was not answered
-  pub written_same : (new : LineValue) → more ≡ entries
-      → (line.incoming.state ≡ state.Broken → new.incoming.state ≡ state.Broken) → new.sent ≡ line.sent
-      → AreWrittenAt first number more (slice_set lines number (Some new))
-  written_same new same stays sinks =
-      subst (λ (es : List Entry). AreWrittenAt first number es (slice_set lines number (Some new))) (sym same)
-      (line_set (λ l. AreWritten first (replies_to number entries) l.incoming.state l.sent) lines number new within
-      (written_kept first (replies_to number entries) line new here stays sinks))
-
-  -- no call followed
-  pub written_left : (new : LineValue) → more ≡ entries → (next : Next) → Answers line.incoming new.incoming next
-      → new.sent ≡ line.sent → AreWrittenAt first number more (slice_set lines number (Some new))
-  written_left new same next answers sinks =
-      written_same new same (stays_broken line.incoming new.incoming next answers) sinks
-
-  -- its call was answered
-  pub written_call : (mid new : LineValue) (call : Call) (e : Entry) (outcome : Outcome) → more ≡ entries ++ e ∷ []
-      → e.event ≡ Given (CallInput number call) → outcome ≡ e.came.outcome → Answers line.incoming mid.incoming (Frame call)
-      → mid.sent ≡ line.sent → mid.incoming.state ≢ state.Broken → {X E : Type 0} (r : Result X E)
-      → OnOk r (Appends (mid.sent.held) (new.sent.held) (concat (framed_reply outcome)) × (new.incoming ≡ mid.incoming))
-      → OnErr r (IsCutOff outcome new.incoming.state mid.sent new.sent)
-      → AreWrittenAt first number more (slice_set lines number (Some new))
-  written_call mid new call e outcome grown is came answers sinks unbroken r whole off =
-      let replies : replies_to number more ≡ replies_to number entries ++ framed_reply outcome =
-      ap (λ es. replies_to number es) grown ∙ (replies_more number entries e call is
-      ∙ ap (λ (o : Outcome). replies_to number entries ++ framed_reply o) (sym came)) in
-      line_set (λ l. AreWritten first (replies_to number more) l.incoming.state l.sent) lines number new within
-      (subst (λ (rs : List (List ℕ)). AreWritten first rs new.incoming.state new.sent) (sym replies)
-      (written_put first (replies_to number entries) mid new
-      (written_next first (replies_to number entries) line mid here (Frame call) answers sinks) unbroken outcome r whole off))

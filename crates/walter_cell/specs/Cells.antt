@@ -5,7 +5,7 @@ use Rattle.walter_base.specs.declared.catalog.Catalog.{Catalog}
 use Rattle.walter_base.specs.declared.names.SiteId.{SiteId}
 use Rattle.walter_base.specs.declared.packet.Packet.{Packet}
 use Rattle.walter_conn.specs.Frames.{Call}
-use Rattle.walter_conn.specs.Sequences.{AreCalls, AreAllCalls}
+use Rattle.walter_conn.specs.Sequences.{AreCalls, EndWhole, EndCut}
 use Rattle.walter_disk.specs.declared.disk.Disk.{Ghosts}
 use Rattle.walter_lane.specs.Lanes.{Sending, Receiving}
 use Rattle.walter_lane.specs.declared.posted.Posted.{Posted}
@@ -101,14 +101,15 @@ abbrev pub CallComes : ℕ → List ℕ → List Entry → List Entry → Type 0
 CallComes client bytes old new = (call : Call) × (rest : List ℕ) × Grows (event.Given (input.Call client call)) old new
     × AreCalls bytes (calls_of client new) rest
 
--- what a client's turn comes to: the trail is spent; or all calls of its bytes are made; or its next call comes to the
--- trail; or, where its connection has failed, one of the last two
+-- what a client's turn comes to: the trail is spent; or all calls of its bytes are made, and nothing is behind them; or
+-- all are made, and a frame is begun; or its next call comes to the trail; or, where its connection has failed, that or
+-- nothing
 abbrev pub TurnsTo : ℕ → List ℕ → ℕ → (fault : Type 0) → List Entry → List Entry → Serve → Type 0
 TurnsTo client bytes clock fault old new serve.Spent = IsSpent (clock + 1) old × (new ≡ old)
 TurnsTo client bytes clock fault old new serve.Ended =
-    HasPlace (clock + 1) old × AreAllCalls bytes (calls_of client old) × (new ≡ old)
+    HasPlace (clock + 1) old × EndWhole bytes (calls_of client old) × (new ≡ old)
 TurnsTo client bytes clock fault old new serve.Broken =
-    HasPlace (clock + 1) old × ((AreAllCalls bytes (calls_of client old) × (new ≡ old))
+    HasPlace (clock + 1) old × ((EndCut bytes (calls_of client old) × (new ≡ old))
     ⊎ (fault × ((new ≡ old) ⊎ CallComes client bytes old new)))
 TurnsTo client bytes clock fault old new serve.Served =
     HasPlace (clock + 1) old × CallComes client bytes old new

@@ -3,4 +3,5 @@ pub mod Nodes
 pub mod Lines
 pub mod Written
 pub mod Cells
+pub mod Turns
 pub mod Builds

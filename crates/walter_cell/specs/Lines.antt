@@ -3,7 +3,7 @@ use Rattle.std.specs.Prelude.{◌≡◌, ◌≢◌, ◌<◌, ◌⊎◌, ℕ, Boo
 use Rattle.walter_conn.specs.Calls.{Incoming}
 use Rattle.walter_conn.specs.Connections.{incoming, sink_of}
 use Rattle.walter_conn.specs.Frames.{Call}
-use Rattle.walter_conn.specs.Sequences.{AreAllCalls, HasCalled}
+use Rattle.walter_conn.specs.Sequences.{EndWhole, EndCut, HasCalled}
 use Rattle.walter_conn.specs.declared.conn.Conn.{Conn}
 use Rattle.walter_conn.specs.declared.next.Next.{Next}
 use Rattle.walter_conn.specs.declared.next.Next.TheVariants.{Frame, Ended, Broken}
@@ -35,10 +35,11 @@ HasFault line = (0 < line.incoming.faults) ⊎ (0 < line.sent.faults)
 abbrev pub CanFail : {S K : Type 0} → SourceGhosts S → SinkGhosts K → Type 0
 CanFail {S = S} {K = K} s k = ((source : S) × (0 < s.faults source)) ⊎ ((sink : K) × (0 < k.faults sink))
 
--- of the bytes of a client these calls were read; a connection that is broken has failed, or has read all there are
+-- of the bytes of a client these calls were read; a connection that is broken has failed, or its bytes end
+-- inside a frame, behind all calls
 pub record IsLine (bytes : List ℕ) (calls : List Call) (line : LineValue) : Type 0 where
   pub stands : HasCalled bytes calls line.incoming
-  pub broken : line.incoming.state ≡ state.Broken → HasFault line ⊎ AreAllCalls bytes calls
+  pub broken : line.incoming.state ≡ state.Broken → HasFault line ⊎ EndCut bytes calls
 
 -- P holds of the connection of the client of this number, which is here
 abbrev pub OfLine : List (Option LineValue) → ℕ → (LineValue → Type 0) → Type 0
@@ -71,5 +72,5 @@ IsUnbroken now Broken = Unit {0}
 -- what the next answer of a connection leaves
 abbrev pub Leaves : List ℕ → List Call → LineValue → Next → Type 0
 Leaves bytes calls line (Frame call) = IsLine bytes (calls ++ call ∷ []) line
-Leaves bytes calls line Ended = IsLine bytes calls line × AreAllCalls bytes calls
-Leaves bytes calls line Broken = IsLine bytes calls line × (HasFault line ⊎ AreAllCalls bytes calls)
+Leaves bytes calls line Ended = IsLine bytes calls line × EndWhole bytes calls
+Leaves bytes calls line Broken = IsLine bytes calls line × (HasFault line ⊎ EndCut bytes calls)

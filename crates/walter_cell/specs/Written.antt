@@ -59,4 +59,4 @@ pub record IsCutOff (outcome : Outcome) (now : State) (old new : Sent) : Type 0 
   pub is : framed_reply outcome ≡ reply ∷ []
   pub front : AppendsFront old.held new.held reply
   pub broken : now ≡ state.Broken
-  pub failed : 0 < new.faults
+  pub failed : old.faults < new.faults

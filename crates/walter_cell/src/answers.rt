@@ -5,7 +5,8 @@ pub enum Serve {
     Served,
     /// No call follows.
     Ended,
-    /// The client's bytes end inside a frame, or its connection has failed.
+    /// The client's bytes end inside a frame, or its connection has failed, now or before: where it failed within the
+    /// reply to a call, the call was read.
     Broken,
     /// The trail has no place for another entry.
     Spent,

@@ -56,6 +56,7 @@ impl<D: Disk, S: Source + Drop, K: Sink + Drop> Model for Cell<D, S, K> {
 impl<D: Disk + Drop, S: Source + Drop, K: Sink + Drop> Cell<D, S, K> {
     ghost use Rattle.walter_cell.specs.Cells.{CellValue, IsCell, Keeps, Proceeds, HasBegun, HaveMet, HasSameTrail};
     ghost use Rattle.walter_cell.specs.Cells.{TurnsTo, Acts, MovesTo};
+    ghost use Rattle.walter_cell.specs.Turns.{ServesAt, AreSameBut};
     ghost use Rattle.walter_cell.specs.Nodes.{arms_under};
 
     /// A site over its disk, up in its first epoch. Where it doesn't begin the disk comes back.
@@ -123,12 +124,19 @@ impl<D: Disk + Drop, S: Source + Drop, K: Sink + Drop> Cell<D, S, K> {
     pub fn serve(&mut self, alloc: Global, number: u32) -> Mem<Serve>
         requires { is_here self.old.lines number ≡ true }
         ensures proceeds { Proceeds D.Disk self.old self.new }
+
+        // Exactly when each answer comes, whatever the client's source tells.
+        ensures serves { IfOk result (ServesAt number self.old self.new) }
+        ensures others { AreSameBut number self.old.lines self.new.lines }
+        ensures unserved { OnErr result (self.new.lines ≡ self.old.lines) }
+        ensures kept { OnErr result (HasSameTrail self.old self.new) }
+
+        // Where it tells its bytes.
         ensures turn { (bytes : List ℕ)
             → IsLineAt bytes (calls_of number self.old.node.trail) self.old.lines number
             → IfOk result (TurnsTo number bytes (clock_in self.old.node)
             (HasFaultAt self.new.lines number × CanFail S.Source K.Sink)
             self.old.node.trail self.new.node.trail) }
-        ensures kept { OnErr result (HasSameTrail self.old self.new) }
     {
         let Some(stamp) = self.node.next_stamp(0) else {
             return Ok(Serve::Spent);

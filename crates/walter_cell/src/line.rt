@@ -66,14 +66,15 @@ impl<S: Source + Drop, K: Sink + Drop> Line<S, K> {
     pub fn put_reply(&mut self, outcome: &Outcome) -> Result<(), BrokenConn>
         requires fits { IsShortOutcome outcome.now }
         requires open { self.old.incoming.state ≢ state.Broken }
-        ensures kept { (bytes : List ℕ) (calls : List Call) → IsLine bytes calls self.old
-            → IsLine bytes calls self.new }
-        ensures lost { OnErr result (HasFault self.new) }
-        ensures can { HasFault self.new → CanFail S.Source K.Sink }
         ensures written { OnOk result (Appends self.old.sent.held self.new.sent.held
-            (concat (framed_reply outcome.now)) × (self.new.incoming ≡ self.old.incoming)) }
+            (concat (framed_reply outcome.now))) }
+        ensures faultless { OnOk result (self.new.sent.faults ≡ self.old.sent.faults) }
+        ensures same { OnOk result (self.new.incoming ≡ self.old.incoming) }
         ensures cut { OnErr result
             (IsCutOff outcome.now self.new.incoming.state self.old.sent self.new.sent) }
+        ensures broken { OnErr result
+            (self.new.incoming ≡ record self.old.incoming { state = state.Broken }) }
+        ensures can { HasFault self.new → CanFail S.Source K.Sink }
     {
         match outcome {
             Outcome::Replied(reply) => self.conn.put(reply),
