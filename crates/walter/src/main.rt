@@ -27,7 +27,8 @@ fn run(rt: &HostRuntime) -> Ended {
     };
     let mut source = StdSource::new(rt.reader());
     let mut sink = StdSink::new(io::writer(rt));
-    top_in_memory(rt, &words, &mut source, &mut sink)
+    let (ended, _rack) = top_in_memory(rt, &words, &mut source, &mut sink);
+    ended
 }
 
 fn main(rt: HostRuntime) -> ExitCode {

@@ -2,7 +2,6 @@
 use Rattle.std.proofs.Common.{◌≡◌, ℕ, ◌<◌, ◌≤◌, List, [], ◌++◌, length, map, slice_get, Option, Some, None, ap, sym, ◌∙◌, refl, subst, arith, inr}
 use Rattle.std.specs.Prelude.{IfSome, Err}
 use Rattle.std.proofs.lemmas.List.Elements.{All-nil}
-use Rattle.std.proofs.lemmas.List.{append-nil}
 use Rattle.std.proofs.lemmas.Option.{slice_get_within}
 use Rattle.walter_cluster.specs.Builds.{LeavesDisk, IsWhyNone}
 use Rattle.walter_cluster.specs.declared.opening.Unbuilt.{Unbuilt}
@@ -16,24 +15,17 @@ use Rattle.walter_cli.specs.Racks.{RackAt, Racked, OfADisk, AreSo, Holds, IsUnto
 use Rattle.walter_cli.specs.declared.ended.Fault.{Fault}
 use Rattle.walter_cli.specs.declared.ended.JournalCause.TheVariants.{Foreign, Damaged, Used}
 use Rattle.walter_cli.proofs.Trails.{field_of}
-use Rattle.walter_cli.proofs.Giving.{IsReturned, each_back, one_or_lost, took_all, balances, holds_taken, of_reads, none_balances}
+use Rattle.walter_cli.proofs.Giving.{IsReturned, each_back, one_back, took_all, balances, holds_taken, of_reads, none_balances, none_more, more_so}
 
--- where none was given back, each is
-each_none : {D : Type 0} (g : Ghosts D) (before after : RackAt D) (P : ℕ → OfADisk) → after.given ≡ before.given
+-- where none was handed back, each is
+each_none : {D : Type 0} (g : Ghosts D) (before after : RackAt D) (P : ℕ → OfADisk) → after.handed ≡ before.handed
     → (racked g before after).each P
-each_none {D = D} g before after P same = by before.given same
-  where
-    by : (given : Option (List (ℕ × D))) → after.given ≡ given
-        → IfSome given (λ old. (more : List (ℕ × D)) × (after.given ≡ Some (old ++ more)) × AreSo g P more)
-    by None is = tt
-    by (Some old) is = (
-      [],
-      is ∙ ap (λ (xs : List (ℕ × D)). Some xs) (sym (append-nil old)),
-      All-nil (λ (it : ℕ × D). P it.0 (g.known it.1) (g.may_leave it.1)),
-    )
+each_none {D = D} g before after P same =
+    more_so before.handed after.handed [] (AreSo g P) (same ∙ none_more before.handed)
+    (All-nil (λ (it : ℕ × D). P it.0 (g.known it.1) (g.may_leave it.1)))
 
 -- where no disk was taken, the rack is as no run has begun
-pub untouched_before : {D : Type 0} (g : Ghosts D) (before after : RackAt D) → after.given ≡ before.given
+pub untouched_before : {D : Type 0} (g : Ghosts D) (before after : RackAt D) → after.handed ≡ before.handed
     → IsUntouched (racked g before after)
 untouched_before g before after same = record {
   unarmed = each_none g before after (λ i. IsUnarmed) same;
@@ -43,12 +35,13 @@ untouched_before g before after same = record {
 
 -- the end where no disk was taken
 pub ends_before : {D : Type 0} (g : Ghosts D) (before after : RackAt D) (sites : ℕ) (fault : Fault) → after.given ≡ before.given
-    → after.taken ≡ before.taken → before.faults ≤ after.faults → (16 ≤ before.unfailing → after.faults ≡ before.faults)
+    → after.handed ≡ before.handed → after.taken ≡ before.taken → before.faults ≤ after.faults
+    → (16 ≤ before.unfailing → after.faults ≡ before.faults)
     → IsUnbuilt (racked g before after) sites fault → EndsEarly (racked g before after) sites fault
-ends_before g before after sites fault given taken level sure why = record {
+ends_before g before after sites fault given handed taken level sure why = record {
   why = why;
-  untouched = untouched_before g before after given;
-  given_back = none_balances g before after given taken level;
+  untouched = untouched_before g before after handed;
+  given_back = none_balances g before after given handed taken level;
   unfailing = λ many rose. let same = sure many in omega (arith, rose, same);
 }
 
@@ -135,7 +128,7 @@ module _ {D : Type 0} (g : Ghosts D) (before mid after : RackAt D) (taken back :
       slice_get_within taken site disk at,
       inr (record {
         all = took_all g before mid after taken back is;
-        failed = one_or_lost g before mid after taken back is site now HasFailed there
+        failed = one_back g before mid after taken back is site now HasFailed there
             (let rose : (g.known disk).faults < (g.known now).faults =
             subst (λ (x : BeginFault). IsFaultOfBegin (Err x) (g.known disk).faults (g.known now).faults) same rises in
             omega (arith, rose));

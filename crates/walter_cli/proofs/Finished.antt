@@ -1,13 +1,13 @@
 -- What a run comes to whose bench was built over the disks of a rack, driven, and taken apart.
-use Rattle.std.proofs.Common.{◌≡◌, ℕ, ◌<◌, List, [], ◌++◌, length, map, slice_get, reverse, Bool, Option, Some, None, option_map, ap, sym, ◌∙◌, subst, arith, inl, inr}
-use Rattle.std.specs.Prelude.{IfSome}
+use Rattle.std.proofs.Common.{◌≡◌, ℕ, ◌<◌, ◌≤◌, List, [], ◌++◌, length, map, slice_get, reverse, Bool, Option, Some, None, option_map, ap, sym, ◌∙◌, subst, arith, inl, inr}
+use Rattle.std.specs.Prelude.{IfSome, count_by}
 use Rattle.std.proofs.lemmas.List.{length-map}
 use Rattle.std.proofs.lemmas.Option.{slice_get-map, slice_get_within}
 use Rattle.walter_base.specs.declared.catalog.Catalog.{Catalog}
 use Rattle.walter_base.specs.declared.names.SiteId.{SiteId}
 use Rattle.walter_cell.specs.Cells.{CellValue, IsCell}
 use Rattle.walter_cell.specs.Entries.{HaveRisingStamps}
-use Rattle.walter_cell.specs.Nodes.{IsSound, LeavesRecords, arms_under}
+use Rattle.walter_cell.specs.Nodes.{IsSound, LeavesRecords as LeavesOn, arms_under}
 use Rattle.walter_cluster.specs.Benches.{BenchValue, Keeps, IsOf, IsBench, IsToldAt, AtEach, arms_at, trails_of, disks_of}
 use Rattle.walter_cluster.specs.Builds.{LeavesDisk}
 use Rattle.walter_cluster.specs.Moments.{moment_of}
@@ -16,6 +16,7 @@ use Rattle.walter_cluster.proofs.Keeping.{of_kept, connected_kept, told_kept}
 use Rattle.walter_disk.specs.declared.disk.Disk.{Ghosts}
 use Rattle.walter_engine.specs.Begins.{HasNoRecord}
 use Rattle.walter_linked.specs.Catalogs.{IsWhole}
+use Rattle.walter_machine.specs.Comings.{is_faulty}
 use Rattle.walter_play.specs.Scripts.{Plays, ArmsMore, AreArmed, arms_for, arms_of, all_arms}
 use Rattle.walter_play.proofs.Arming.{for_more}
 use Rattle.walter_play.proofs.Steps.{plays_told}
@@ -27,11 +28,11 @@ use Rattle.walter_scenario.specs.declared.scenario.Scenario.{Scenario}
 use Rattle.walter_cli.specs.declared.ended.Fault.{Fault}
 use Rattle.walter_cli.specs.declared.ended.Fault.TheVariants.{Usage, Scenario as ScenarioFault, Read, Write, Memory, Rack, Journal}
 use Rattle.walter_cli.specs.Disks.{AreGiven}
-use Rattle.walter_cli.specs.Ending.{IsBuilt, IsWriteFault, EndsRun}
-use Rattle.walter_cli.specs.Headline.{AreCallsOf, AreTold, IsDiskOf, IsDiskOfRun, IsDiskOfWhole, IsRun, IsWholeRun, trail_at}
+use Rattle.walter_cli.specs.Ending.{IsBuilt, IsWholeBack, IsWriteFault, EndsRun}
+use Rattle.walter_cli.specs.Headline.{AreCallsOf, AreTold, LeavesRecords, IsDiskOfRun, IsDiskOfWhole, IsRun, IsWholeRun, trail_at}
 use Rattle.walter_cli.specs.Racks.{RackAt, Racked, IsTold, racked}
 use Rattle.walter_cli.specs.Texts.{text_of}
-use Rattle.walter_cli.proofs.Giving.{IsReturned, each_back, all_back, all_or_failed, holds_taken, told_reads}
+use Rattle.walter_cli.proofs.Giving.{IsReturned, handed_back, all_back, all_or_failed, holds_taken, told_reads}
 use Rattle.walter_cli.proofs.Trails.{field_of, field_at, trail_is, one_each, begins, stamps_rise, calls_are, told_trails}
 
 -- ---- disks
@@ -96,6 +97,7 @@ module _ {D : Type 0} (g : Ghosts D) (t : Scenario) (before mid after : RackAt D
     told = has.taken.told;
     fresh = has.taken.fresh;
     same_given = has.taken.given;
+    same_handed = has.taken.handed;
     many = has.taken.taken;
     level = (let e = has.taken.faults in omega (arith, e));
     long = long_back ∙ sym long_taken;
@@ -123,23 +125,30 @@ module _ {D : Type 0} (g : Ghosts D) (t : Scenario) (before mid after : RackAt D
   below_back : (i : ℕ) (disk : D) → slice_get back i ≡ Some disk → i < t.catalog.sites
   below_back i disk at = let w = slice_get_within back i disk at in let l = long_back in omega (arith, w, l)
 
-  -- the disk of a site that is told is that of its trail
-  disk_is : (i : ℕ) (disk : D) → slice_get back i ≡ Some disk → IsTold rack i
-      → IsDiskOf t i (trail_at trails i) (g.known disk) (g.may_leave disk)
-  disk_is i disk at told =
+  -- the trail of the cell of a site
+  trail_of_cell : (i : ℕ) (cell : CellValue D) → slice_get bench.cells i ≡ Some cell → trail_at trails i ≡ cell.node.trail
+  trail_of_cell i cell at = ap (λ ts. trail_at ts i) trails_are ∙ trail_is g t bench of is sound i cell at
+
+  -- the disk of a site failed as often as its trail says
+  faults_at : (i : ℕ) (disk : D) → slice_get back i ≡ Some disk
+      → count_by (λ e. is_faulty e.came.outcome) (trail_at trails i) ≤ (g.known disk).faults
+  faults_at i disk at =
       let cell = cell_of i disk at in
-      let below = below_back i disk at in
+      subst (λ (es : List Entry). count_by (λ e. is_faulty e.came.outcome) es ≤ (g.known disk).faults)
+      (sym (trail_of_cell i cell.0 cell.1)) (of_disk cell.0.node.disk disk _ cell.2 (sound i cell.0 cell.1).0.faults)
+
+  -- where it is told, a crash leaves the records of the trail
+  records_at : (i : ℕ) (disk : D) → slice_get back i ≡ Some disk → IsTold rack i
+      → LeavesRecords t i (trail_at trails i) (g.may_leave disk)
+  records_at i disk at told =
+      let cell = cell_of i disk at in
       let stands = (sound i cell.0 cell.1).0 in
-      let here = told_at i below told cell.0 cell.1 in
-      let trail : trail_at trails i ≡ cell.0.node.trail =
-      ap (λ ts. trail_at ts i) trails_are ∙ trail_is g t bench of is sound i cell.0 cell.1 in
-      let leaves : LeavesRecords g cell.0.node.catalog cell.0.node.site cell.0.node.trail disk =
-      of_disk cell.0.node.disk disk (LeavesRecords g cell.0.node.catalog cell.0.node.site cell.0.node.trail) cell.2 (stands.leaves here) in
-      subst (λ (es : List Entry). IsDiskOf t i es (g.known disk) (g.may_leave disk)) (sym trail) (record {
-        records = subst (λ (k : Catalog). LeavesRecords g k (site_at i) cell.0.node.trail disk) (of.catalogs i cell.0 cell.1)
-            (subst (λ (n : SiteId). LeavesRecords g cell.0.node.catalog n cell.0.node.trail disk) (is.cells i cell.0 cell.1).site leaves);
-        faults = of_disk cell.0.node.disk disk _ cell.2 stands.faults;
-      })
+      let here = told_at i (below_back i disk at) told cell.0 cell.1 in
+      let leaves : LeavesOn g cell.0.node.catalog cell.0.node.site cell.0.node.trail disk =
+      of_disk cell.0.node.disk disk (LeavesOn g cell.0.node.catalog cell.0.node.site cell.0.node.trail) cell.2 (stands.leaves here) in
+      subst (λ (es : List Entry). LeavesRecords t i es (g.may_leave disk)) (sym (trail_of_cell i cell.0 cell.1))
+      (subst (λ (k : Catalog). LeavesOn g k (site_at i) cell.0.node.trail disk) (of.catalogs i cell.0 cell.1)
+      (subst (λ (n : SiteId). LeavesOn g cell.0.node.catalog n cell.0.node.trail disk) (is.cells i cell.0 cell.1).site leaves))
 
   -- the arms of the disk of a site are those that were armed
   armed_at : (arms : List Arm) → AreArmed g built bench arms → (i : ℕ) (disk : D) → slice_get back i ≡ Some disk
@@ -155,10 +164,18 @@ module _ {D : Type 0} (g : Ghosts D) (t : Scenario) (before mid after : RackAt D
 
   disk_of_run : (i : ℕ) (disk : D) → slice_get back i ≡ Some disk
       → IsDiskOfRun rack t trails i (g.known disk) (g.may_leave disk)
-  disk_of_run i disk at = (
-    disk_is i disk at,
-    arms_front (g.known disk).arms t i more.0 more.1 more.2 (armed_at more.0 more.3 i disk at),
-  )
+  disk_of_run i disk at = record {
+    faults = faults_at i disk at;
+    records = records_at i disk at;
+    first_arms = arms_front (g.known disk).arms t i more.0 more.1 more.2 (armed_at more.0 more.3 i disk at);
+  }
+
+  disk_of_whole : AreArmed g built bench (t.arms ++ arms_of t.steps) → (i : ℕ) (disk : D) → slice_get back i ≡ Some disk
+      → IsDiskOfWhole rack t trails i (g.known disk) (g.may_leave disk)
+  disk_of_whole armed i disk at = record {
+    of_run = disk_of_run i disk at;
+    arms = armed_at (t.arms ++ arms_of t.steps) armed i disk at;
+  }
 
   pub run_is : IsWhole t.catalog → IsRun rack t trails
   run_is whole = record {
@@ -177,18 +194,19 @@ module _ {D : Type 0} (g : Ghosts D) (t : Scenario) (before mid after : RackAt D
         subst (λ (ts : List (List Entry)). AreTold t ts) (sym trails_are)
         (told_trails g t bench of is sound (λ i below. told_at i below (told i below)) whole
         (subst (λ (ts : List (List Entry)). AreLinked ts) trails_are linked));
-    disks = each_back g before mid after has.disks back returned (λ i. IsDiskOfRun rack t trails i) disk_of_run;
+    disks = subst (λ (n : ℕ). rack.handed n (λ i. IsDiskOfRun rack t trails i)) long_taken
+        (handed_back g before mid after has.disks back returned (λ i. IsDiskOfRun rack t trails i) disk_of_run);
     given_back = elim (all_or_failed g before mid after has.disks back returned (λ i. IsDiskOfRun rack t trails i) disk_of_run) [
       | inl failed ↦ inl failed
       | inr all ↦ inr (subst (λ (n : ℕ). rack.all n (λ i. IsDiskOfRun rack t trails i)) long_taken all)
     ];
   }
 
-  -- where it was driven to its end, and all disks were given back
+  -- where it was driven to its end
   pub whole_is : IsWhole t.catalog
       → Plays (λ i. IsToldAt g i built) t t.steps (moment_of built.cells) (moment_of bench.cells)
-      → AreArmed g built bench (t.arms ++ arms_of t.steps) → after.faults ≡ mid.faults → IsWholeRun rack t trails
-  whole_is whole plays armed same = record {
+      → AreArmed g built bench (t.arms ++ arms_of t.steps) → IsWholeRun rack t trails
+  whole_is whole plays armed = record {
     run = run_is whole;
     how_driven = record {
       first = moment_of built.cells;
@@ -197,10 +215,8 @@ module _ {D : Type 0} (g : Ghosts D) (t : Scenario) (before mid after : RackAt D
       plays = plays_below;
       ends = sym trails_are;
     };
-    disks_given_back =
-        subst (λ (n : ℕ). rack.all n (λ i. IsDiskOfWhole rack t trails i)) long_taken
-        (all_back g before mid after has.disks back returned (λ i. IsDiskOfWhole rack t trails i) same
-        (λ i disk at. (disk_is i disk at, armed_at (t.arms ++ arms_of t.steps) armed i disk at)));
+    disks = subst (λ (n : ℕ). rack.handed n (λ i. IsDiskOfWhole rack t trails i)) long_taken
+        (handed_back g before mid after has.disks back returned (λ i. IsDiskOfWhole rack t trails i) (disk_of_whole armed));
   }
     where
       told_built : (i : ℕ) → IsTold rack i → IsToldAt g i built
@@ -212,6 +228,13 @@ module _ {D : Type 0} (g : Ghosts D) (t : Scenario) (before mid after : RackAt D
 
       plays_below : Plays (λ i. IsTold rack i) t t.steps (moment_of built.cells) (moment_of bench.cells)
       plays_below = plays_told (λ i. IsToldAt g i built) (λ i. IsTold rack i) t t.steps _ _ told_built plays
+
+  -- and all disks were given back
+  pub whole_back : AreArmed g built bench (t.arms ++ arms_of t.steps) → after.faults ≡ mid.faults
+      → rack.all t.catalog.sites (λ i. IsDiskOfWhole rack t trails i)
+  whole_back armed same =
+      subst (λ (n : ℕ). rack.all n (λ i. IsDiskOfWhole rack t trails i)) long_taken
+      (all_back g before mid after has.disks back returned (λ i. IsDiskOfWhole rack t trails i) same (disk_of_whole armed))
 
 -- ---- how a run ends
 
@@ -227,10 +250,10 @@ ends_with r trace s holds holds' faults faults' trails told fault named ends sam
 -- the end of a whole run whose report was not written whole
 pub ends_cut : (r : Racked) (trace : Bool) (s : Scenario) (holds holds' : Option (List ℕ)) (faults faults' : ℕ)
     (trails : List (List Entry)) (fault : Fault)
-    → IsWholeRun r s trails → IsWriteFault (text_of trace s trails) holds holds' faults faults' fault
+    → IsWholeBack r s trails → IsWriteFault (text_of trace s trails) holds holds' faults faults' fault
     → EndsRun r trace s holds holds' faults faults' trails (Some fault)
 ends_cut r trace s holds holds' faults faults' trails Write run why = (run, why.0, why.1)
-ends_cut r trace s holds holds' faults faults' trails Memory run why = (inr run.run, why)
+ends_cut r trace s holds holds' faults faults' trails Memory run why = (inr run.0.run, why)
 ends_cut r trace s holds holds' faults faults' trails Usage run why = absurd why
 ends_cut r trace s holds holds' faults faults' trails (ScenarioFault place detail) run why = absurd why
 ends_cut r trace s holds holds' faults faults' trails Read run why = absurd why

@@ -2,16 +2,17 @@
 use Rattle.std.proofs.Common.{◌≡◌, ℕ, ◌+◌, ◌≤◌, zero, suc, List, [], ◌∷◌, ◌++◌, length, slice_get, Option, Some, None, option_map, ap, sym, ◌∙◌, refl, subst, arith, inl, inr, ◌⊎◌}
 use Rattle.std.specs.Prelude.{Result, Ok, Err, OnOk, OnErr, IfSome, IsSome, Contains, true, false}
 use Rattle.std.specs.Result.{is_err}
-use Rattle.std.proofs.lemmas.Bool.{cases_lt, cases_eq}
-use Rattle.std.proofs.lemmas.List.{length-append}
-use Rattle.std.proofs.lemmas.List.Elements.{All-weaker, All-contains, Contains-push, Contains-push_cases, Contains-append_left, Contains-append_right, Contains-append_cases}
+use Rattle.std.proofs.lemmas.Bool.{cases_lt}
+use Rattle.std.proofs.lemmas.List.{append-nil, length-append}
+use Rattle.std.proofs.lemmas.List.Elements.{All-contains}
 use Rattle.std.proofs.lemmas.Option.{slice_get_within}
 use Rattle.walter_disk.specs.Images.{Only, IsDurable}
 use Rattle.walter_disk.specs.Racks.{IsFresh}
 use Rattle.walter_disk.specs.declared.disk.Disk.{Ghosts}
-use Rattle.walter_psi.proofs.Lists.{contains_at, Contains-nil}
+use Rattle.walter_psi.proofs.Lists.{contains_at}
 use Rattle.walter_cli.specs.Disks.{AreGiven, IsFirstLost}
-use Rattle.walter_cli.specs.Racks.{OfADisk, RackAt, Racked, IsGiven, AreSo, bytes_of, numbered, racked, FailsToGive}
+use Rattle.walter_cli.specs.Racks.{OfADisk, RackAt, Racked, IsMore, AreSo, AreFirst, AreGivenBack, AreHandedBack, bytes_of, numbered, racked, FailsToGive}
+use Rattle.walter_cli.proofs.Trails.{all_there}
 
 -- what holds of a result that is Err, holds of one that is no Ok; and the other way round
 pub err_part : {T E : Type 0} (r : Result T E) (P : Type 0) → OnErr r P → is_err r ≡ true → P
@@ -54,28 +55,52 @@ numbered_has disks i disk at =
     contains_at (numbered 0 disks) (i, disk) i
     (numbered_at 0 disks i disk at ∙ ap (λ (n : ℕ). Some (n, disk)) (let z : 0 + i ≡ i = omega arith in z))
 
--- a list has a disk of this number, or none
-has_or_lacks : {D : Type 0} (disks : List (ℕ × D)) (i : ℕ)
-    → ((disk : D) × Contains disks (i, disk)) ⊎ ((disk : D) → Contains disks (i, disk) → ⊥)
-has_or_lacks [] i = inr (λ disk there. Contains-nil (i, disk) there)
-has_or_lacks {D = D} (first ∷ disks) i = elim (cases_eq first.0 i) [
-  | inl same ↦
-      let is : first ≡ (i, first.1) = ap (λ (n : ℕ). (n, first.1)) same in
-      inl (
-        first.1,
-        subst (λ (it : ℕ × D). Contains (first ∷ disks) it) is (Contains-append_left (first ∷ []) disks first (Contains-push [] first)),
-      )
-  | inr other ↦ elim (has_or_lacks disks i) [
-    | inl there ↦ inl (there.0, Contains-append_right (first ∷ []) disks (i, there.0) there.1)
-    | inr lacks ↦ inr (λ disk there. elim (Contains-append_cases (first ∷ []) disks (i, disk) there) [
-      | inr behind ↦ lacks disk behind
-      | inl here ↦ elim (Contains-push_cases [] first (i, disk) here) [
-        | inl none ↦ Contains-nil (i, disk) none
-        | inr same ↦ other (ap (λ (it : ℕ × D). it.0) same)
-      ]
-    ])
-  ]
-]
+numbered_is : {D : Type 0} (first : ℕ) (disks : List D) (i : ℕ) (it : ℕ × D) → slice_get (numbered first disks) i ≡ Some it
+    → (disk : D) × (slice_get disks i ≡ Some disk) × (it ≡ (first + i, disk))
+numbered_is first [] i it at = absurd cc
+numbered_is first (d ∷ disks) zero it at =
+    let e : (first, d) ≡ it = cc in
+    (d, refl, sym e ∙ ap (λ (n : ℕ). (n, d)) (let z : first ≡ first + 0 = omega arith in z))
+numbered_is first (d ∷ disks) (suc i) it at =
+    let behind = numbered_is (first + 1) disks i it at in (
+      behind.0,
+      behind.1,
+      behind.2 ∙ ap (λ (n : ℕ). (n, behind.0)) (let z : first + 1 + i ≡ first + suc i = omega arith in z),
+    )
+
+-- what is so of each disk by its site, is so of those that are numbered from 0 on
+pub numbered_so : {D : Type 0} (g : Ghosts D) (disks : List D) (P : ℕ → OfADisk)
+    → ((i : ℕ) (disk : D) → slice_get disks i ≡ Some disk → P i (g.known disk) (g.may_leave disk))
+    → AreSo g P (numbered 0 disks)
+numbered_so {D = D} g disks P so =
+    all_there (numbered 0 disks) (λ (it : ℕ × D). P it.0 (g.known it.1) (g.may_leave it.1)) (λ i it at.
+    let there = numbered_is 0 disks i it at in
+    let is : it ≡ (i, there.0) = there.2 ∙ ap (λ (n : ℕ). (n, there.0)) (let z : 0 + i ≡ i = omega arith in z) in
+    subst (λ (x : ℕ × D). P x.0 (g.known x.1) (g.may_leave x.1)) (sym is) (so i there.0 there.1))
+
+numbered_long : {D : Type 0} (first : ℕ) (disks : List D) → length (numbered first disks) ≡ length disks
+numbered_long first [] = refl
+numbered_long first (d ∷ disks) = ap (λ (n : ℕ). suc n) (numbered_long (first + 1) disks)
+
+-- what the numbers of elements come to before these and behind them, where they are told
+balances_by : {X : Type 0} (before after : Option (List X)) (more : List X) (P : ℕ → ℕ → Type 0)
+    → after ≡ option_map (λ told. told ++ more) before → ((old : ℕ) → P old (old + length more))
+    → IfSome before (λ old. IfSome after (λ new. P (length old) (length new)))
+balances_by None after more P is so = tt
+balances_by {X = X} (Some old) after more P is so =
+    subst (λ (o : Option (List X)). IfSome o (λ new. P (length old) (length new))) (sym is)
+    (subst (λ (n : ℕ). P (length old) n) (sym (length-append old more)) (so (length old)))
+
+-- no more came
+pub none_more : {X : Type 0} (told : Option (List X)) → told ≡ option_map (λ old. old ++ []) told
+none_more None = refl
+none_more (Some old) = ap (λ l. Some l) (sym (append-nil old))
+
+-- a property of what came behind the elements of a list
+pub more_so : {X : Type 0} (before after : Option (List X)) (more : List X) (P : List X → Type 0)
+    → after ≡ option_map (λ told. told ++ more) before → P more → IsMore before after P
+more_so None after more P is holds = tt
+more_so (Some old) after more P is holds = (more, is, holds)
 
 module _ {D : Type 0} (g : Ghosts D) (before mid after : RackAt D) (taken back : List D) where
   abbrev rack : Racked
@@ -86,49 +111,43 @@ module _ {D : Type 0} (g : Ghosts D) (before mid after : RackAt D) (taken back :
     pub told : (i : ℕ) (disk : D) → slice_get taken i ≡ Some disk → IfSome before.disks (λ take. disk ≡ take None i)
     pub fresh : (i : ℕ) (disk : D) → slice_get taken i ≡ Some disk → IsFresh (g.known disk) (g.may_leave disk)
     pub same_given : mid.given ≡ before.given
+    pub same_handed : mid.handed ≡ before.handed
     pub many : mid.taken ≡ before.taken + length taken
     pub level : before.faults ≤ mid.faults
     pub long : length back ≡ length taken
     pub gives : AreGiven mid after 0 back
 
-  -- a property of what was given
-  given_so : (more : List (ℕ × D)) → after.given ≡ option_map (λ told. told ++ more) before.given
-      → (P : List (ℕ × D) → Type 0) → P more → IsGiven before after P
-  given_so more is P holds = by before.given is
-    where
-      by : (given : Option (List (ℕ × D))) → after.given ≡ option_map (λ told. told ++ more) given
-          → IfSome given (λ old. (more' : List (ℕ × D)) × (after.given ≡ Some (old ++ more')) × P more')
-      by None is = tt
-      by (Some old) is = (more, is, holds)
-
   module _ (is : IsReturned) where
     given : after.given ≡ option_map (λ told. told ++ is.gives.more) before.given
     given = is.gives.given ∙ ap (λ (o : Option (List (ℕ × D))). option_map (λ told. told ++ is.gives.more) o) is.same_given
 
-    -- what is so of each disk by its site, is so of each that was given back
-    pub so_of : (P : ℕ → OfADisk)
-        → ((i : ℕ) (disk : D) → slice_get back i ≡ Some disk → P i (g.known disk) (g.may_leave disk))
-        → AreSo g P is.gives.more
-    so_of P so =
-        All-weaker (λ (it : ℕ × D). (i : ℕ) × (it.0 ≡ 0 + i) × (slice_get back i ≡ Some it.1))
-        (λ (it : ℕ × D). P it.0 (g.known it.1) (g.may_leave it.1))
-        (λ it at.
-        let here : at.0 ≡ it.0 = (let e = at.1 in omega (arith, e)) in
-        subst (λ (n : ℕ). P n (g.known it.1) (g.may_leave it.1)) here (so at.0 it.1 at.2))
-        is.gives.more is.gives.those
+    handed : after.handed ≡ option_map (λ told. told ++ numbered 0 back) before.handed
+    handed = is.gives.handed ∙ ap (λ (o : Option (List (ℕ × D))). option_map (λ told. told ++ numbered 0 back) o) is.same_handed
 
+    -- what is so of each disk by its site, is so of each that was handed back
     pub each_back : (P : ℕ → OfADisk)
         → ((i : ℕ) (disk : D) → slice_get back i ≡ Some disk → P i (g.known disk) (g.may_leave disk)) → rack.each P
-    each_back P so = given_so is.gives.more given (AreSo g P) (so_of P so)
+    each_back P so = more_so before.handed after.handed (numbered 0 back) (AreSo g P) handed (numbered_so g back P so)
 
-    -- all were given back where the rack didn't fail
+    -- all were handed back
+    pub handed_back : (P : ℕ → OfADisk)
+        → ((i : ℕ) (disk : D) → slice_get back i ≡ Some disk → P i (g.known disk) (g.may_leave disk))
+        → rack.handed (length taken) P
+    handed_back P so =
+        more_so before.handed after.handed (numbered 0 back) (AreFirst g (length taken) P) handed
+        (back, is.long, refl, numbered_so g back P so)
+
+    -- and given back where the rack didn't fail
     pub all_back : (P : ℕ → OfADisk) → after.faults ≡ mid.faults
         → ((i : ℕ) (disk : D) → slice_get back i ≡ Some disk → P i (g.known disk) (g.may_leave disk))
         → rack.all (length taken) P
     all_back P same so =
-        given_so is.gives.more given
-        (λ more. (disks : List D) × (length disks ≡ length taken) × (more ≡ numbered 0 disks) × AreSo g P more)
-        (back, is.long, is.gives.whole same, so_of P so)
+        more_so before.given after.given is.gives.more (AreFirst g (length taken) P) given (
+          back,
+          is.long,
+          is.gives.whole same,
+          subst (λ (more : List (ℕ × D)). AreSo g P more) (sym (is.gives.whole same)) (numbered_so g back P so),
+        )
 
     failed_or : (after.faults ≡ mid.faults) ⊎ rack.failed
     failed_or = elim (cases_lt mid.faults after.faults) [
@@ -148,27 +167,18 @@ module _ {D : Type 0} (g : Ghosts D) (before mid after : RackAt D) (taken back :
         (i, disk) is.gives.those there in
         ap (λ (n : ℕ). slice_get back n) (let e = at.1 in let z : i ≡ at.0 = omega (arith, e) in z) ∙ at.2
 
-    -- the one of this site was given back, or the rack failed
-    pub one_or_lost : (i : ℕ) (disk : D) (P : OfADisk) → slice_get back i ≡ Some disk
-        → P (g.known disk) (g.may_leave disk) → (rack.failed × rack.lacks i) ⊎ rack.one i P
-    one_or_lost i disk P at holds = elim (has_or_lacks is.gives.more i) [
-      | inl there ↦
-          let same : disk ≡ there.0 = (let e : Some disk ≡ Some there.0 = sym at ∙ own i there.0 there.1 in cc) in
-          inr (given_so is.gives.more given (λ more. (d : D) × Contains more (i, d) × P (g.known d) (g.may_leave d))
-          (there.0, there.1, subst (λ (d : D). P (g.known d) (g.may_leave d)) same holds))
-      | inr lacks ↦ elim failed_or [
-        | inr failed ↦
-            inl (failed, given_so is.gives.more given (λ more. (d : D) → Contains more (i, d) → ⊥) lacks)
-        | inl same ↦
-            absurd (lacks disk
-            (subst (λ (more : List (ℕ × D)). Contains more (i, disk)) (sym (is.gives.whole same)) (numbered_has back i disk at)))
-      ]
-    ]
+    -- the one of this site was handed back
+    pub one_back : (i : ℕ) (disk : D) (P : OfADisk) → slice_get back i ≡ Some disk
+        → P (g.known disk) (g.may_leave disk) → rack.one i P
+    one_back i disk P at holds =
+        more_so before.handed after.handed (numbered 0 back)
+        (λ more. (d : D) × Contains more (i, d) × P (g.known d) (g.may_leave d)) handed
+        (disk, numbered_has back i disk at, holds)
 
     -- none was given back as that of a site behind these
     pub lacks_behind : (i : ℕ) → length back ≤ i → rack.lacks i
     lacks_behind i most =
-        given_so is.gives.more given (λ more. (d : D) → Contains more (i, d) → ⊥) (λ disk there.
+        more_so before.given after.given is.gives.more (λ more. (d : D) → Contains more (i, d) → ⊥) given (λ disk there.
         let within = slice_get_within back i disk (own i disk there) in omega (arith, within, most))
 
     -- how many were taken
@@ -182,42 +192,53 @@ module _ {D : Type 0} (g : Ghosts D) (before mid after : RackAt D) (taken back :
         lost.given ∙ ap (λ (o : Option (List (ℕ × D))). option_map (λ told. told ++ lost.more) o) is.same_given in
         record {
           failed = (let l = is.level in let rose = lost.rose in omega (arith, l, rose));
-          lacks = given_so lost.more told (λ more. (d : D) → Contains more (site, d) → ⊥) lost.lacks;
+          lacks = more_so before.given after.given lost.more (λ more. (d : D) → Contains more (site, d) → ⊥) told lost.lacks;
           before = λ i below.
-              let one = lost.others i below in
-              given_so lost.more told (λ more. (d : D) × Contains more (i, d) × Unit {0}) (one.0, one.1, tt);
+              more_so before.given after.given lost.more (λ more. (d : D) × Contains more (i, d)) told (lost.others i below);
         }
 
+    given_balances : AreGivenBack before after
+    given_balances =
+        balances_by before.given after.given is.gives.more
+        (λ old new. old + after.taken + before.faults ≤ new + before.taken + after.faults) given
+        (λ old.
+        let a = is.many in
+        let b = is.gives.taken in
+        let c = is.level in
+        let d = is.gives.lost in
+        let f = is.long in
+        omega (arith, a, b, c, d, f))
+
+    handed_balances : AreHandedBack before after
+    handed_balances =
+        balances_by before.handed after.handed (numbered 0 back)
+        (λ old new. old + after.taken ≡ new + before.taken) handed
+        (λ old.
+        let a = is.many in
+        let b = is.gives.taken in
+        let f = is.long in
+        let n = numbered_long 0 back in
+        omega (arith, a, b, f, n))
+
     pub balances : rack.balanced
-    balances = by before.given after.given given
-      where
-        by : (x y : Option (List (ℕ × D))) → y ≡ option_map (λ told. told ++ is.gives.more) x
-            → IfSome x (λ old. IfSome y (λ new.
-            length old + after.taken + before.faults ≤ length new + before.taken + after.faults))
-        by None y e = tt
-        by (Some old) y e =
-            subst (λ (o : Option (List (ℕ × D))). IfSome o (λ new.
-            length old + after.taken + before.faults ≤ length new + before.taken + after.faults)) (sym e)
-            (let l = length-append old is.gives.more in
-            let a = is.many in
-            let b = is.gives.taken in
-            let c = is.level in
-            let d = is.gives.lost in
-            let f = is.long in
-            omega (arith, l, a, b, c, d, f))
+    balances = (handed_balances, given_balances)
+
+-- how many disks were taken is one number
+pub one_count : {D : Type 0} (g : Ghosts D) (before after : RackAt D) (m n : ℕ) → (racked g before after).took m
+    → (racked g before after).took n → m ≡ n
+one_count g before after m n first second = omega (arith, first, second)
 
 -- where no disk was taken, none is to be given back
 pub none_balances : {D : Type 0} (g : Ghosts D) (before after : RackAt D) → after.given ≡ before.given
-    → after.taken ≡ before.taken → before.faults ≤ after.faults → (racked g before after).balanced
-none_balances {D = D} g before after same level most = by before.given after.given same
-  where
-    by : (x y : Option (List (ℕ × D))) → y ≡ x → IfSome x (λ old. IfSome y (λ new.
-        length old + after.taken + before.faults ≤ length new + before.taken + after.faults))
-    by None y e = tt
-    by (Some old) y e =
-        subst (λ (o : Option (List (ℕ × D))). IfSome o (λ new.
-        length old + after.taken + before.faults ≤ length new + before.taken + after.faults)) (sym e)
-        (omega (arith, level, most))
+    → after.handed ≡ before.handed → after.taken ≡ before.taken → before.faults ≤ after.faults
+    → (racked g before after).balanced
+none_balances {D = D} g before after given handed taken most = (
+  balances_by before.handed after.handed [] (λ old new. old + after.taken ≡ new + before.taken)
+      (handed ∙ none_more before.handed) (λ old. omega (arith, taken)),
+  balances_by before.given after.given []
+      (λ old new. old + after.taken + before.faults ≤ new + before.taken + after.faults)
+      (given ∙ none_more before.given) (λ old. omega (arith, taken, most)),
+)
 
 module _ {D : Type 0} (g : Ghosts D) (disks : Option (Option (List ℕ) → ℕ → D)) (i : ℕ) (disk : D)
     (taken : IfSome disks (λ take. disk ≡ take None i)) where

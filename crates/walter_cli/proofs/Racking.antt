@@ -2,7 +2,7 @@
 use Rattle.std.proofs.Common.{◌≡◌, ℕ, suc, ◌+◌, ◌<◌, ◌≤◌, List, [], ◌∷◌, ◌++◌, length, slice_get, Option, Some, None, option_map, ap, sym, ◌∙◌, refl, subst, arith, inl, inr}
 use Rattle.std.specs.Prelude.{Result, Ok, Err, OnOk, OnErr, IsOk, IfErr, IfSome, All, Contains}
 use Rattle.std.specs.Result.{is_err}
-use Rattle.std.proofs.lemmas.List.{append-nil, append_assoc, length-append}
+use Rattle.std.proofs.lemmas.List.{append_assoc, length-append}
 use Rattle.std.proofs.lemmas.List.Elements.{All-nil, All-push, All-weaker, All-contains, Contains-append_left, Contains-append_cases}
 use Rattle.std.proofs.lemmas.Option.{slice_get_within}
 use Rattle.walter_cluster.specs.Builds.{LeavesDisk}
@@ -12,7 +12,7 @@ use Rattle.walter_psi.proofs.Lists.{slice_get-push_cases, slice_get-append_left,
 use Rattle.walter_cluster.proofs.Changes.{there_is}
 use Rattle.walter_cli.specs.Disks.{AreTaken, AreGiven, IsFirstLost, lost_after}
 use Rattle.walter_cli.specs.Racks.{RackAt, numbered}
-use Rattle.walter_cli.proofs.Giving.{numbered_has}
+use Rattle.walter_cli.proofs.Giving.{numbered_has, none_more}
 
 numbered_more : {D : Type 0} (first : ℕ) (disks : List D) (disk : D)
     → numbered first (disks ++ disk ∷ []) ≡ numbered first disks ++ (first + length disks, disk) ∷ []
@@ -23,21 +23,24 @@ numbered_more {D = D} first (d ∷ disks) disk =
     ∙ ap (λ (n : ℕ). numbered (first + 1) disks ++ (n, disk) ∷ [])
     (let z : first + 1 + length disks ≡ first + suc (length disks) = omega arith in z))
 
+numbered_last : {D : Type 0} (disks : List D) (disk : D)
+    → numbered 0 (disks ++ disk ∷ []) ≡ numbered 0 disks ++ (length disks, disk) ∷ []
+numbered_last disks disk =
+    numbered_more 0 disks disk
+    ∙ ap (λ (n : ℕ). numbered 0 disks ++ (n, disk) ∷ []) (let z : 0 + length disks ≡ length disks = omega arith in z)
+
 told_more : {X : Type 0} (before : Option (List X)) (a b : List X)
     → option_map (λ told. told ++ b) (option_map (λ told. told ++ a) before) ≡ option_map (λ told. told ++ (a ++ b)) before
 told_more None a b = refl
 told_more (Some told) a b = ap (λ t. Some t) (append_assoc told a b)
-
-told_same : {X : Type 0} (before : Option (List X)) → before ≡ option_map (λ told. told ++ []) before
-told_same None = refl
-told_same (Some told) = ap (λ t. Some t) (sym (append-nil told))
 
 module _ {D : Type 0} (a b c : RackAt D) where
   -- none was given back yet
   pub given_none : AreGiven a a 0 []
   given_none = record {
     more = [];
-    given = told_same a.given;
+    handed = none_more a.handed;
+    given = none_more a.given;
     those = All-nil _;
     taken = refl;
     same_disks = refl;
@@ -50,6 +53,7 @@ module _ {D : Type 0} (a b c : RackAt D) where
   module _ (disks : List D) (disk : D) {T E : Type 0} (r : Result T E) (is : AreGiven a b 0 disks)
       (given : OnOk r (c.given ≡ option_map (λ told. told ++ (length disks, disk) ∷ []) b.given))
       (lost : OnErr r (c.given ≡ b.given))
+      (handed : c.handed ≡ option_map (λ told. told ++ (length disks, disk) ∷ []) b.handed)
       (taken : c.taken ≡ b.taken)
       (same : c.disks ≡ b.disks)
       (level : OnOk r (c.faults ≡ b.faults))
@@ -61,11 +65,19 @@ module _ {D : Type 0} (a b c : RackAt D) where
         (λ (it : ℕ × D). (i : ℕ) × (it.0 ≡ 0 + i) × (slice_get (disks ++ disk ∷ []) i ≡ Some it.1))
         (λ it at. (at.0, at.1, slice_get-append_left disks (disk ∷ []) it.1 at.0 at.2)) is.more is.those
 
+    handed_more : c.handed ≡ option_map (λ told. told ++ numbered 0 (disks ++ disk ∷ [])) a.handed
+    handed_more =
+        handed
+        ∙ (ap (λ (o : Option (List (ℕ × D))). option_map (λ told. told ++ (length disks, disk) ∷ []) o) is.handed
+        ∙ (told_more a.handed (numbered 0 disks) ((length disks, disk) ∷ [])
+        ∙ ap (λ (more : List (ℕ × D)). option_map (λ told. told ++ more) a.handed) (sym (numbered_last disks disk))))
+
     ok_given : c.given ≡ option_map (λ told. told ++ (length disks, disk) ∷ []) b.given → c.faults ≡ b.faults
         → (length (disks ++ disk ∷ []) ≤ a.unfailing → (c.faults ≡ a.faults) × (a.unfailing ≤ c.unfailing + length (disks ++ disk ∷ [])))
         → AreGiven a c 0 (disks ++ disk ∷ [])
     ok_given is_given even unfailing = record {
       more = is.more ++ (length disks, disk) ∷ [];
+      handed = handed_more;
       given = is_given ∙ (ap (λ (o : Option (List (ℕ × D))). option_map (λ told. told ++ (length disks, disk) ∷ []) o) is.given
           ∙ told_more a.given is.more ((length disks, disk) ∷ []));
       those = All-push (λ (it : ℕ × D). (i : ℕ) × (it.0 ≡ 0 + i) × (slice_get (disks ++ disk ∷ []) i ≡ Some it.1)) is.more
@@ -79,8 +91,7 @@ module _ {D : Type 0} (a b c : RackAt D) where
           omega (arith, l, m, n, even));
       whole = λ whole.
           ap (λ (xs : List (ℕ × D)). xs ++ (length disks, disk) ∷ []) (is.whole (sym even ∙ whole))
-          ∙ (ap (λ (n : ℕ). numbered 0 disks ++ (n, disk) ∷ []) (let z : length disks ≡ 0 + length disks = omega arith in z)
-          ∙ sym (numbered_more 0 disks disk));
+          ∙ sym (numbered_last disks disk);
       unfailing = unfailing;
     }
 
@@ -89,6 +100,7 @@ module _ {D : Type 0} (a b c : RackAt D) where
         → AreGiven a c 0 (disks ++ disk ∷ [])
     err_given is_given rose unfailing = record {
       more = is.more;
+      handed = handed_more;
       given = is_given ∙ is.given;
       those = those_before;
       taken = taken ∙ is.taken;
@@ -179,7 +191,7 @@ module _ {D : Type 0} (a b c : RackAt D) where
         )
         by (Err e) given lost level rose (Ok done) even none = (tt, next_lost even lost rose)
         by (Err e) given lost level rose (Err site) none first =
-            (tt, still_lost site first (omega (arith, rose)) [] (lost ∙ told_same b.given) (All-nil _))
+            (tt, still_lost site first (omega (arith, rose)) [] (lost ∙ none_more b.given) (All-nil _))
 
 module _ {D : Type 0} (g : Ghosts D) (a b c : RackAt D) where
   -- none was taken yet
@@ -189,6 +201,7 @@ module _ {D : Type 0} (g : Ghosts D) (a b c : RackAt D) where
     fresh = λ i disk at. absurd cc;
     same_disks = refl;
     given = refl;
+    handed = refl;
     taken = omega arith;
     faults = refl;
     unfailing = λ enough. omega arith;
@@ -197,9 +210,9 @@ module _ {D : Type 0} (g : Ghosts D) (a b c : RackAt D) where
   -- one more was
   pub taken_more : (disks : List D) (disk : D) → AreTaken g a b disks
       → IfSome b.disks (λ take. disk ≡ take None (length disks)) → IsFresh (g.known disk) (g.may_leave disk)
-      → c.disks ≡ b.disks → c.given ≡ b.given → c.taken ≡ b.taken + 1 → c.faults ≡ b.faults
+      → c.disks ≡ b.disks → c.given ≡ b.given → c.handed ≡ b.handed → c.taken ≡ b.taken + 1 → c.faults ≡ b.faults
       → (0 < b.unfailing → b.unfailing ≤ c.unfailing + 1) → AreTaken g a c (disks ++ disk ∷ [])
-  taken_more disks disk is told fresh same given taken level sure = record {
+  taken_more disks disk is told fresh same given handed taken level sure = record {
     told = λ i d at. elim (slice_get-push_cases disks disk d i at) [
       | inl before ↦ is.told i d before.1
       | inr last ↦
@@ -213,6 +226,7 @@ module _ {D : Type 0} (g : Ghosts D) (a b c : RackAt D) where
     ];
     same_disks = same ∙ is.same_disks;
     given = given ∙ is.given;
+    handed = handed ∙ is.handed;
     taken = (let t = is.taken in let m = length-append disks (disk ∷ []) in omega (arith, taken, t, m));
     faults = level ∙ is.faults;
     unfailing = λ enough.

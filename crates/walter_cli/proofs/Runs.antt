@@ -18,8 +18,8 @@ use Rattle.walter_cli.specs.declared.ended.Ended.{Ended}
 use Rattle.walter_cli.specs.declared.ended.Fault.{Fault}
 use Rattle.walter_cli.specs.declared.ended.Fault.TheVariants.{Usage, Scenario as ScenarioFault, Read, Write, Memory, Rack, Journal}
 use Rattle.walter_cli.specs.declared.ended.JournalCause.{JournalCause}
-use Rattle.walter_cli.specs.Ending.{IsTaken, IsTakeFault, MayHaveRun, EndsRun}
-use Rattle.walter_cli.specs.Headline.{Outside, HasNoReading, IsRun, IsWholeRun, Runs, RunsWhole, OfScenario, IsRackFault, IsFirstUnfit, FailsEarly, Promise}
+use Rattle.walter_cli.specs.Ending.{IsTaken, IsTakeFault, IsWholeBack, MayHaveRun, EndsRun}
+use Rattle.walter_cli.specs.Headline.{Outside, HasNoReading, IsRun, Runs, RunsWhole, OfScenario, IsRackFault, IsFirstUnfit, FailsEarly, Promise}
 use Rattle.walter_cli.specs.Racks.{Racked, AreAllTold, Holds, IsUntouched, IsFaultlessBefore, HasCause}
 use Rattle.walter_cli.specs.Statuses.{status_of}
 use Rattle.walter_cli.specs.Texts.{text_of}
@@ -89,7 +89,8 @@ one_unfit rack sites a b c d p q told within x y = elim (cases_lt a b) [
 
 module _ (words : List (String Global)) (rack : Racked) (before after : Outside) (ended : Ended)
     (status : ended.status ≡ status_of ended.fault) (back : rack.balanced)
-    (unfailing : rack.unfailing 16 → ¬ rack.failed) where
+    (unfailing : rack.unfailing 16 → ¬ rack.failed)
+    (one_count : (m n : ℕ) → rack.took m → rack.took n → m ≡ n) where
   -- the end of a call that named no fault of words
   module _ (trace : Bool) (line : IsPlayLine trace words) where
     asked : IsLine words
@@ -97,14 +98,15 @@ module _ (words : List (String Global)) (rack : Racked) (before after : Outside)
 
     -- what a run promises whatever came of its report
     whole : (s : Scenario) (Written : List ℕ → Type 0) → IsTaken before.left after.left s
-        → IsWholeRun rack s ended.trails.items → Written (text_of trace s ended.trails.items)
+        → IsWholeBack rack s ended.trails.items → Written (text_of trace s ended.trails.items)
         → RunsWhole rack words before after ended.trails.items Written
     whole s Written taken run written = record {
       bytes = taken.bytes;
       source = taken.source;
       scenario = s;
       reading = taken.reading;
-      run = run;
+      run = run.0;
+      disks_given_back = run.1;
       trace = trace;
       asked = line;
       bytes_written = written;
@@ -130,7 +132,7 @@ module _ (words : List (String Global)) (rack : Racked) (before after : Outside)
 
     may_have_run : (s : Scenario) (site : ℕ) → IsRackFault rack s ended.trails.items site → MayHaveRun rack s ended.trails.items
     may_have_run s site (inl none) = inl (none.0, none.1)
-    may_have_run s site (inr run) = inr run.0
+    may_have_run s site (inr run) = inr run.0.run
 
     -- what is so at the end with this fault, or with none
     abbrev Tells : Option Fault → Type 0
@@ -186,10 +188,7 @@ module _ (words : List (String Global)) (rack : Racked) (before after : Outside)
     early : (site : ℕ) (s : Scenario) → ¬ rack.failed → IsRackFault rack s ended.trails.items site
         → FailsEarly rack ended.trails.items
     early site s ok (inl (none, untouched, inl take)) = absurd (ok take.failed)
-    early site s ok (inl (none, untouched, inr load)) = elim load.failed [
-      | inl lost ↦ absurd (ok lost.0)
-      | inr one ↦ (none, (site, one))
-    ]
+    early site s ok (inl (none, untouched, inr load)) = (none, (site, load.failed))
     early site s ok (inr (run, give)) = absurd (ok give.failed)
 
     -- where nothing fails, a scenario that the bytes spell is run
@@ -241,7 +240,7 @@ module _ (words : List (String Global)) (rack : Racked) (before after : Outside)
     names : (fault : Option Fault) → ended.fault ≡ fault → ended.status ≡ status_of fault → Tells fault
         → (bytes : List ℕ) (s : Scenario) (site : ℕ) (cause : JournalCause) (place : ℕ)
         → before.left ≡ Some bytes → IsReading bytes s → site < s.catalog.sites → AreAllTold rack s.catalog.sites
-        → IsFirstUnfit rack site cause place → after.source_faults ≡ before.source_faults → ¬ rack.failed
+        → IsFirstUnfit rack site cause place → after.source_faults ≡ before.source_faults → rack.took s.catalog.sites
         → (ended.fault ≡ Some (Journal site cause place)) ⊎ (ended.status ≡ 5) ⊎ FailsEarly rack ended.trails.items
     names None named is told bytes s site cause place left reading within known why source ok =
         absurd (run_has_none bytes s site cause place (whole_runs (Appends before.holds after.holds) told) left reading within known why)
@@ -254,7 +253,21 @@ module _ (words : List (String Global)) (rack : Racked) (before after : Outside)
         absurd (run_has_none bytes s site cause place (whole_runs (AppendsFront before.holds after.holds) told.0) left reading within known why)
     names (Some Memory) named is told bytes s site cause place left reading within known why source ok = inr (inl is)
     names (Some (Rack other)) named is told bytes s site cause place left reading within known why source ok =
-        inr (inr (early other told.scenario ok told.holds.1))
+        inr (inr (elim told.holds.1 [
+          | inl early ↦ elim early.2 [
+            | inl take ↦
+                let same : told.scenario ≡ s =
+                one_scenario bytes told.scenario s (taken_reading before.left after.left bytes told.scenario
+                (record { bytes = told.bytes; source = told.source; reading = told.reading }) left) reading in
+                let within : other < s.catalog.sites = subst (λ (t : Scenario). other < t.catalog.sites) same told.holds.0 in
+                absurd (let e = one_count other s.catalog.sites take.before ok in omega (arith, within, e))
+            | inr load ↦ (early.0, (other, load.failed))
+          ]
+          | inr run ↦
+              absurd (run_has_none bytes s site cause place
+              (record { bytes = told.bytes; source = told.source; scenario = told.scenario; reading = told.reading; run = run.0.run })
+              left reading within known why)
+        ]))
     names (Some (Journal other c p)) named is told bytes s site cause place left reading within known why source ok =
         let same = one_unfit rack s.catalog.sites other site c cause p place known within told.0.holds.1 why in
         inl (named
@@ -305,11 +318,11 @@ module _ (words : List (String Global)) (rack : Racked) (before after : Outside)
     promise_run s None named taken ends =
         promise None named (whole s (Appends before.holds after.holds) taken ends.0 ends.1)
         (λ not_done not_cut. absurd (not_done (status ∙ ap status_of named)))
-        (inr (runs s taken ends.0.run)) (never s taken)
+        (inr (runs s taken ends.0.0.run)) (never s taken)
     promise_run s (Some Write) named taken ends =
         promise (Some Write) named (whole s (AppendsFront before.holds after.holds) taken ends.0 ends.1, ends.2)
         (λ not_done not_cut. absurd (not_cut (status ∙ ap status_of named)))
-        (inr (runs s taken ends.0.run)) (never s taken)
+        (inr (runs s taken ends.0.0.run)) (never s taken)
     promise_run s (Some Memory) named taken ends =
         promise (Some Memory) named tt (λ not_done not_cut. ends.1) (runs_if s taken ends.0) (never s taken)
     promise_run s (Some (Rack site)) named taken ends =

@@ -17,7 +17,7 @@ use Rattle.walter_cli.specs.declared.ended.Fault.TheVariants.{Usage, Memory, Rac
 use Rattle.walter_cli.specs.declared.ended.JournalCause.{JournalCause}
 use Rattle.walter_cli.specs.Assurance.{Assures, IsSureRun, IsSureReport}
 use Rattle.walter_cli.specs.Headline.{Outside, IsDiskOfRun, Runs, RunsWhole, IsRackFault, FailsEarly, Promise}
-use Rattle.walter_cli.specs.Racks.{RackAt, Racked, IsTold, Holds, AreSo, IsGiven, IsUnarmed, HasFailed, HasCause, numbered, racked}
+use Rattle.walter_cli.specs.Racks.{RackAt, Racked, OfADisk, IsTold, Holds, AreSo, AreFirst, IsHanded, IsUntouched, IsUnarmed, HasFailed, HasCause, numbered, racked}
 use Rattle.walter_cli.specs.Statuses.{status_of}
 use Rattle.walter_cli.specs.Words.{IsLine}
 use Rattle.walter_cli.proofs.Causes.{cause_has_record}
@@ -48,8 +48,8 @@ module _ (words : List (String Global)) {D : Type 0} (g : Ghosts D) (first last 
     (told : (i : ℕ) → IsTold (racked g first last) i)
     (empty : (i : ℕ) → Holds (racked g first last) i HasNoRecord)
     (many : 16 ≤ first.unfailing)
-    (none_given : first.given ≡ Some [])
-    (sound : (more : List (ℕ × D)) → last.given ≡ Some more
+    (none_handed : first.handed ≡ Some [])
+    (sound : (more : List (ℕ × D)) → last.handed ≡ Some more
     → All (λ (it : ℕ × D). IsUnarmed (g.known it.1) (g.may_leave it.1) → (g.known it.1).faults ≡ 0) more) where
   abbrev rack : Racked
   rack = racked g first last
@@ -57,15 +57,15 @@ module _ (words : List (String Global)) {D : Type 0} (g : Ghosts D) (first last 
   ok : ¬ rack.failed
   ok = promised.unfailing many
 
-  -- what was given
-  given_is : (P : List (ℕ × D) → Type 0) → IsGiven first last P
-      → (more : List (ℕ × D)) × (last.given ≡ Some more) × P more
-  given_is P is =
-      subst (λ (o : Option (List (ℕ × D))). IfSome o (λ old. (more : List (ℕ × D)) × (last.given ≡ Some (old ++ more)) × P more))
-      none_given is
+  -- what was handed
+  handed_is : (P : List (ℕ × D) → Type 0) → IsHanded first last P
+      → (more : List (ℕ × D)) × (last.handed ≡ Some more) × P more
+  handed_is P is =
+      subst (λ (o : Option (List (ℕ × D))). IfSome o (λ old. (more : List (ℕ × D)) × (last.handed ≡ Some (old ++ more)) × P more))
+      none_handed is
 
-  -- a disk that was given back, where it has no arm, has not failed
-  sound_one : (more : List (ℕ × D)) (i : ℕ) (disk : D) → last.given ≡ Some more → Contains more (i, disk)
+  -- a disk that was handed back, where it has no arm, has not failed
+  sound_one : (more : List (ℕ × D)) (i : ℕ) (disk : D) → last.handed ≡ Some more → Contains more (i, disk)
       → IsUnarmed (g.known disk) (g.may_leave disk) → (g.known disk).faults ≡ 0
   sound_one more i disk is there =
       All-contains (λ (it : ℕ × D). IsUnarmed (g.known it.1) (g.may_leave it.1) → (g.known it.1).faults ≡ 0) more (i, disk)
@@ -74,10 +74,10 @@ module _ (words : List (String Global)) {D : Type 0} (g : Ghosts D) (first last 
   -- no disk failed before the sites were up
   never : FailsEarly rack ended.trails.items → ⊥
   never early =
-      let back = given_is (λ more. (disk : D) × Contains more (early.1.0, disk) × HasFailed (g.known disk) (g.may_leave disk)) early.1.1 in
+      let back = handed_is (λ more. (disk : D) × Contains more (early.1.0, disk) × HasFailed (g.known disk) (g.may_leave disk)) early.1.1 in
       elim promised.legal_trails [
         | inl untouched ↦
-            let each = given_is (AreSo g (λ i. IsUnarmed)) untouched.1.unarmed in
+            let each = handed_is (AreSo g (λ i. IsUnarmed)) untouched.1.unarmed in
             let same : each.0 ≡ back.0 = (let e : Some each.0 ≡ Some back.0 = sym each.1 ∙ back.1 in cc) in
             let unarmed =
             All-contains (λ (it : ℕ × D). IsUnarmed (g.known it.1) (g.may_leave it.1)) back.0 (early.1.0, back.2.0)
@@ -95,13 +95,10 @@ module _ (words : List (String Global)) {D : Type 0} (g : Ghosts D) (first last 
   -- so no disk is named
   racked_never : (site : ℕ) (s : Scenario) → IsRackFault rack s ended.trails.items site → ⊥
   racked_never site s (inl (none, untouched, inl take)) = ok take.failed
-  racked_never site s (inl (none, untouched, inr load)) = elim load.failed [
-    | inl lost ↦ ok lost.0
-    | inr one ↦ never (none, (site, one))
-  ]
+  racked_never site s (inl (none, untouched, inr load)) = never (none, (site, load.failed))
   racked_never site s (inr (run, give)) = ok give.failed
 
-  sure : Runs rack before after ended.trails.items → IsSureRun before after ended.trails.items
+  sure : Runs rack before after ended.trails.items → IsSureRun rack before after ended.trails.items
   sure runs = record {
     bytes = runs.bytes;
     source = runs.source;
@@ -109,26 +106,23 @@ module _ (words : List (String Global)) {D : Type 0} (g : Ghosts D) (first last 
     reading = runs.reading;
     whose_calls = runs.run.whose_calls;
     tells = runs.run.told (λ i below. told i);
-    unarmed = λ i below none. elim runs.run.given_back [
-      | inl failed ↦ absurd (ok failed)
-      | inr all ↦
-          let trails = ended.trails.items in
-          let back = given_is (λ more. (disks : List D) × (length disks ≡ runs.scenario.catalog.sites) × (more ≡ numbered 0 disks)
-          × AreSo g (λ j. IsDiskOfRun rack runs.scenario trails j) more) all in
-          let disk = there_is back.2.0 i (let l = back.2.1 in omega (arith, below, l)) in
-          let there : Contains back.0 (i, disk.0) =
-          subst (λ (xs : List (ℕ × D)). Contains xs (i, disk.0)) (sym back.2.2) (numbered_has back.2.0 i disk.0 disk.1) in
-          let is = All-contains (λ (it : ℕ × D). IsDiskOfRun rack runs.scenario trails it.0 (g.known it.1) (g.may_leave it.1))
-          back.0 (i, disk.0) back.2.3 there in
-          let level = sound_one back.0 i disk.0 back.1 there
-          (none_of_none (g.known disk.0).arms (all_arms runs.scenario i) none is.1) in
-          let most = (is.0 (told i)).faults in
-          omega (arith, level, most)
-    ];
+    unarmed = λ i below none.
+        let trails = ended.trails.items in
+        let P : ℕ → OfADisk = λ j. IsDiskOfRun rack runs.scenario trails j in
+        let back = handed_is (AreFirst g runs.scenario.catalog.sites P) runs.run.disks in
+        let disk = there_is back.2.0 i (let l = back.2.1 in omega (arith, below, l)) in
+        let there : Contains back.0 (i, disk.0) =
+        subst (λ (xs : List (ℕ × D)). Contains xs (i, disk.0)) (sym back.2.2) (numbered_has back.2.0 i disk.0 disk.1) in
+        let is = All-contains (λ (it : ℕ × D). P it.0 (g.known it.1) (g.may_leave it.1)) back.0 (i, disk.0) back.2.3 there in
+        let level = sound_one back.0 i disk.0 back.1 there
+        (none_of_none (g.known disk.0).arms (all_arms runs.scenario i) none is.first_arms) in
+        let most = is.faults in
+        omega (arith, level, most);
+    disks = elim runs.run.given_back [ inl failed ↦ absurd (ok failed) | inr all ↦ all ];
   }
 
   report : (Written : List ℕ → Type 0) → RunsWhole rack words before after ended.trails.items Written
-      → IsSureReport words before after ended.trails.items Written
+      → IsSureReport words rack before after ended.trails.items Written
   unfolding sure
   report Written is = record {
     run = sure (record {
@@ -138,6 +132,7 @@ module _ (words : List (String Global)) {D : Type 0} (g : Ghosts D) (first last 
       reading = is.reading;
       run = is.run.run;
     });
+    disks = is.disks_given_back;
     how_driven = record {
       first = is.run.how_driven.first;
       last = is.run.how_driven.last;
@@ -151,7 +146,7 @@ module _ (words : List (String Global)) {D : Type 0} (g : Ghosts D) (first last 
     bytes_written = is.bytes_written;
   }
 
-  pub assured : Assures words before after ended
+  pub assured : Assures words rack before after ended
   assured = record {
     status = promised.status;
     written = λ h. report (Appends before.holds after.holds) (promised.written h);
@@ -168,7 +163,8 @@ module _ (words : List (String Global)) {D : Type 0} (g : Ghosts D) (first last 
         let why = (promised.unfit named.0 named.1 named.2 named.3).holds.1 in
         of_both (rack.bytes named.0) (HasCause named.1 named.2) HasNoRecord ⊥ (cause_has_record named.1 named.2) (told named.0)
         why.unfit (empty named.0);
-    legal_trails = elim promised.legal_trails [ inl none ↦ inl none.0 | inr runs ↦ inr (sure runs) ];
+    given_back = promised.given_back;
+    legal_trails = elim promised.legal_trails [ inl none ↦ inl none | inr runs ↦ inr (sure runs) ];
     silent = promised.silent;
     complete = λ bytes s play left reading source sink.
         elim (promised.complete bytes s play left reading (λ i below. told i) (λ i below. empty i) source sink ok) [
@@ -179,9 +175,10 @@ module _ (words : List (String Global)) {D : Type 0} (g : Ghosts D) (first last 
   }
 
 -- where there was no memory for the rack
-pub assured_early : (words : List (String Global)) (at : Outside) (ended : Ended) → IsLine words → ended.status ≡ 5
-    → ended.fault ≡ Some Memory → ended.trails.items ≡ [] → Assures words at at ended
-assured_early words at ended line is named none = record {
+pub assured_early : (words : List (String Global)) (rack : Racked) (at : Outside) (ended : Ended) → rack.balanced
+    → IsUntouched rack → IsLine words → ended.status ≡ 5 → ended.fault ≡ Some Memory → ended.trails.items ≡ []
+    → Assures words rack at at ended
+assured_early words rack at ended back untouched line is named none = record {
   status = is ∙ ap status_of (sym named);
   written = λ h. absurd (omega (arith, is, h));
   usage = (λ h. absurd (omega (arith, is, h)), λ other. absurd (other line));
@@ -190,16 +187,18 @@ assured_early words at ended line is named none = record {
   cut = λ h. absurd (omega (arith, is, h));
   never_unracked = λ h. omega (arith, is, h);
   never_unfit = λ h. omega (arith, is, h);
-  legal_trails = inl none;
+  given_back = back;
+  legal_trails = inl (none, untouched);
   silent = λ not_done not_cut. refl;
   complete = λ bytes s play left reading source sink. inr is;
   refuses = λ bytes place play left wrong source. inr is;
 }
 
 -- the words ask for nothing
-pub assured_usage : (words : List (String Global)) (at : Outside) (ended : Ended) → ¬ IsLine words → ended.status ≡ 1
-    → ended.fault ≡ Some Usage → ended.trails.items ≡ [] → Assures words at at ended
-assured_usage words at ended other is named none = record {
+pub assured_usage : (words : List (String Global)) (rack : Racked) (at : Outside) (ended : Ended) → rack.balanced
+    → IsUntouched rack → ¬ IsLine words → ended.status ≡ 1 → ended.fault ≡ Some Usage → ended.trails.items ≡ []
+    → Assures words rack at at ended
+assured_usage words rack at ended back untouched other is named none = record {
   status = is ∙ ap status_of (sym named);
   written = λ h. absurd (omega (arith, is, h));
   usage = (λ h. other, λ no. is);
@@ -208,7 +207,8 @@ assured_usage words at ended other is named none = record {
   cut = λ h. absurd (omega (arith, is, h));
   never_unracked = λ h. omega (arith, is, h);
   never_unfit = λ h. omega (arith, is, h);
-  legal_trails = inl none;
+  given_back = back;
+  legal_trails = inl (none, untouched);
   silent = λ not_done not_cut. refl;
   complete = λ bytes s play. absurd (other play);
   refuses = λ bytes place play. absurd (other play);

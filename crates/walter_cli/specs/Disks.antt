@@ -16,6 +16,7 @@ pub record AreTaken {D : Type 0} (g : Ghosts D) (before after : RackAt D) (disks
   pub fresh : (i : ℕ) (disk : D) → slice_get disks i ≡ Some disk → IsFresh (g.known disk) (g.may_leave disk)
   pub same_disks : after.disks ≡ before.disks
   pub given : after.given ≡ before.given
+  pub handed : after.handed ≡ before.handed
   pub taken : after.taken ≡ before.taken + length disks
   pub faults : after.faults ≡ before.faults
   pub unfailing : length disks ≤ before.unfailing → before.unfailing ≤ after.unfailing + length disks
@@ -29,8 +30,10 @@ pub record IsFirstLost {D : Type 0} (before after : RackAt D) (disks : List D) (
   pub lacks : (disk : D) → Contains more (site, disk) → ⊥
   pub others : (i : ℕ) → i < site → (disk : D) × Contains more (i, disk)
 
--- these disks were given back, the first as this site's, and so on, but for one at most for each fault of the rack
+-- these disks were handed back, the first as this site's, and so on, and given back but for one at most for each fault of
+-- the rack
 pub record AreGiven {D : Type 0} (before after : RackAt D) (first : ℕ) (disks : List D) : Type 0 where
+  pub handed : after.handed ≡ option_map (λ told. told ++ numbered first disks) before.handed
   pub more : List (ℕ × D)
   pub given : after.given ≡ option_map (λ told. told ++ more) before.given
   pub those : All (λ it. (i : ℕ) × (it.0 ≡ first + i) × (slice_get disks i ≡ Some it.1)) more

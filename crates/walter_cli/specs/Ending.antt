@@ -14,7 +14,7 @@ use Rattle.walter_cli.specs.declared.ended.Fault.{Fault}
 use Rattle.walter_cli.specs.declared.ended.Fault.TheVariants.{Usage, Scenario as ScenarioFault, Read, Write, Memory, Rack, Journal}
 use Rattle.walter_cli.specs.declared.ended.JournalCause.TheVariants.{Foreign, Damaged, Used}
 use Rattle.walter_cli.specs.Disks.{AreTaken}
-use Rattle.walter_cli.specs.Headline.{IsSource, HasNoReading, IsRun, IsWholeRun, IsRackFault, IsFirstUnfit}
+use Rattle.walter_cli.specs.Headline.{IsSource, HasNoReading, IsRun, IsWholeRun, IsDiskOfWhole, IsRackFault, IsFirstUnfit}
 use Rattle.walter_cli.specs.Racks.{RackAt, Racked, IsUntouched, IsFaultlessBefore, FailsToTake, FailsToLoad}
 use Rattle.walter_cli.specs.Texts.{text_of}
 
@@ -62,7 +62,7 @@ IsUnbuilt rack sites (Journal site cause place) =
     (site < sites) × IsFirstUnfit rack site cause place × rack.each (IsFaultlessBefore site)
 IsUnbuilt rack sites fault = ⊥
 
--- the rack is as no run has begun, and what it was taken of was given back, but for what it lost by a fault
+-- the rack is as no run has begun, and what was taken of it was handed back, and given back but for what it lost by a fault
 pub record EndsEarly (rack : Racked) (sites : ℕ) (fault : Fault) : Type 0 where
   pub why : IsUnbuilt rack sites fault
   pub untouched : IsUntouched rack
@@ -73,13 +73,18 @@ pub record EndsEarly (rack : Racked) (sites : ℕ) (fault : Fault) : Type 0 wher
 abbrev pub MayHaveRun : Racked → Scenario → List (List Entry) → Type 0
 MayHaveRun rack s trails = ((trails ≡ []) × IsUntouched rack) ⊎ IsRun rack s trails
 
+-- it is a whole run, and all disks were given back
+abbrev pub IsWholeBack : Racked → Scenario → List (List Entry) → Type 0
+IsWholeBack rack s trails =
+    IsWholeRun rack s trails × rack.all s.catalog.sites (λ i. IsDiskOfWhole rack s trails i)
+
 -- what a run over a sink comes to: its trails, and what was written of its report
 abbrev pub EndsRun : Racked → Bool → Scenario → (holds holds' : Option (List ℕ)) → (faults faults' : ℕ)
     → List (List Entry) → Option Fault → Type 0
 EndsRun rack trace s holds holds' faults faults' trails None =
-    IsWholeRun rack s trails × Appends holds holds' (text_of trace s trails)
+    IsWholeBack rack s trails × Appends holds holds' (text_of trace s trails)
 EndsRun rack trace s holds holds' faults faults' trails (Some Write) =
-    IsWholeRun rack s trails × AppendsFront holds holds' (text_of trace s trails) × (faults < faults')
+    IsWholeBack rack s trails × AppendsFront holds holds' (text_of trace s trails) × (faults < faults')
 EndsRun rack trace s holds holds' faults faults' trails (Some Memory) =
     MayHaveRun rack s trails × (holds' ≡ holds)
 EndsRun rack trace s holds holds' faults faults' trails (Some (Rack site)) =

@@ -89,14 +89,12 @@ pub record AreCallsOf (clients : List Client) (trails : List (List Entry)) : Typ
   pub front : (number : ℕ) (client : Client) → slice_get clients number ≡ Some client
       → (rest : List ℕ) × AreCalls client.bytes (calls_of number (trail_of trails client.site)) rest
 
--- the disk of a site with this trail: each crash leaves the records of the trail; while the site is down with one in
--- flight, these with or without it. It failed at least as often as the trail says
-pub record IsDiskOf (s : Scenario) (i : ℕ) (trail : List Entry) (known : DiskState)
-    (images : List ℕ → Type 0) : Type 0 where
-  pub records : (image : List ℕ) → images image
-      → MayHaveRecords (standing s.catalog (site_at i) (reverse trail)).records
-      (standing s.catalog (site_at i) (reverse trail)).flight image
-  pub faults : count_by (λ e. is_faulty e.came.outcome) trail ≤ known.faults
+-- each crash leaves the records of this trail on the disk of its site; while the site is down with one in flight, these
+-- with or without it
+abbrev pub LeavesRecords : Scenario → ℕ → List Entry → (List ℕ → Type 0) → Type 0
+LeavesRecords s i trail images = (image : List ℕ) → images image
+    → MayHaveRecords (standing s.catalog (site_at i) (reverse trail)).records
+    (standing s.catalog (site_at i) (reverse trail)).flight image
 
 -- what the trails tell of sites whose disks tell what they hold: they are right and linked, and spell a legal history,
 -- in which no transaction commits twice; what a site has of another stands there as that one's own commit, by its
@@ -112,20 +110,24 @@ pub record AreTold (s : Scenario) (trails : List (List Entry)) : Type 0 where
       → AreMarksTrue s.catalog older n
   pub promises_kept : KeepAllPromises s.catalog s.capacity trails
 
--- the disk of a site behind a run: that of its trail, where it is told, with arms that are the first ones of the
--- scenario's for the site
-abbrev pub IsDiskOfRun : Racked → Scenario → List (List Entry) → ℕ → DiskState → (List ℕ → Type 0) → Type 0
-IsDiskOfRun rack s trails i known images = (IsTold rack i → IsDiskOf s i (trail_at trails i) known images)
-    × IfSome known.arms (λ arms. (more : List (ℕ × ℕ)) × (all_arms s i ≡ arms ++ more))
+-- the disk of a site behind a run: it failed at least as often as the site's trail says; where it is told, a crash leaves
+-- the trail's records; and its arms are the first ones of the scenario's for the site
+pub record IsDiskOfRun (rack : Racked) (s : Scenario) (trails : List (List Entry)) (i : ℕ) (known : DiskState)
+    (images : List ℕ → Type 0) : Type 0 where
+  pub faults : count_by (λ e. is_faulty e.came.outcome) (trail_at trails i) ≤ known.faults
+  pub records : IsTold rack i → LeavesRecords s i (trail_at trails i) images
+  pub first_arms : IfSome known.arms (λ arms. (more : List (ℕ × ℕ)) × (all_arms s i ≡ arms ++ more))
 
 -- behind a whole run it has all these arms
-abbrev pub IsDiskOfWhole : Racked → Scenario → List (List Entry) → ℕ → DiskState → (List ℕ → Type 0) → Type 0
-IsDiskOfWhole rack s trails i known images = (IsTold rack i → IsDiskOf s i (trail_at trails i) known images)
-    × IfSome known.arms (λ arms. arms ≡ all_arms s i)
+pub record IsDiskOfWhole (rack : Racked) (s : Scenario) (trails : List (List Entry)) (i : ℕ) (known : DiskState)
+    (images : List ℕ → Type 0) : Type 0 where
+  pub of_run : IsDiskOfRun rack s trails i known images
+  pub arms : IfSome known.arms (λ arms. arms ≡ all_arms s i)
 
 -- the trails of a run of a scenario over disks without records: one for each site, which begins with the opening and
 -- has rising stamps; each call is one of its client's at its site, in order; what is delivered was put out before; where
--- all disks are told all that trails tell holds; and the disks are given back, but for what the rack lost by a fault
+-- all disks are told all that trails tell holds; and the disks of all sites are handed back, and given back but for what
+-- the rack lost by a fault
 pub record IsRun (rack : Racked) (s : Scenario) (trails : List (List Entry)) : Type 0 where
   pub one_each : length trails ≡ s.catalog.sites
   pub begins : (i : ℕ) → i < s.catalog.sites → slice_get (trail_at trails i) 0 ≡ Some opening
@@ -134,14 +136,14 @@ pub record IsRun (rack : Racked) (s : Scenario) (trails : List (List Entry)) : T
   pub linked : AreLinked trails
   pub no_record_before : (i : ℕ) → i < s.catalog.sites → Holds rack i HasNoRecord
   pub told : AreAllTold rack s.catalog.sites → AreTold s trails
-  pub disks : rack.each (λ i. IsDiskOfRun rack s trails i)
+  pub disks : rack.handed s.catalog.sites (λ i. IsDiskOfRun rack s trails i)
   pub given_back : rack.failed ⊎ rack.all s.catalog.sites (λ i. IsDiskOfRun rack s trails i)
 
--- it was driven by the steps of the scenario, to the last; and all disks were given back, armed as it says
+-- it was driven by the steps of the scenario, to the last; and all disks were handed back, armed as it says
 pub record IsWholeRun (rack : Racked) (s : Scenario) (trails : List (List Entry)) : Type 0 where
   pub run : IsRun rack s trails
   pub how_driven : IsPlayed (λ i. IsTold rack i) s trails
-  pub disks_given_back : rack.all s.catalog.sites (λ i. IsDiskOfWhole rack s trails i)
+  pub disks : rack.handed s.catalog.sites (λ i. IsDiskOfWhole rack s trails i)
 
 -- the source's bytes are a reading of a scenario, and the trails a run of it
 pub record Runs (rack : Racked) (before after : Outside) (trails : List (List Entry)) : Type 0 where
@@ -151,7 +153,8 @@ pub record Runs (rack : Racked) (before after : Outside) (trails : List (List En
   pub reading : IsReading bytes scenario
   pub run : IsRun rack scenario trails
 
--- it is a whole run, and what was written of its report, with the trace behind it where one is asked for, is so
+-- it is a whole run, all disks were given back, and what was written of its report, with the trace behind it where one is
+-- asked for, is so
 pub record RunsWhole (rack : Racked) (words : List (String Global)) (before after : Outside)
     (trails : List (List Entry)) (Written : List ℕ → Type 0) : Type 0 where
   pub bytes : List ℕ
@@ -159,6 +162,7 @@ pub record RunsWhole (rack : Racked) (words : List (String Global)) (before afte
   pub scenario : Scenario
   pub reading : IsReading bytes scenario
   pub run : IsWholeRun rack scenario trails
+  pub disks_given_back : rack.all scenario.catalog.sites (λ i. IsDiskOfWhole rack scenario trails i)
   pub trace : Bool
   pub asked : IsPlayLine trace words
   pub bytes_written : Written (text_of trace scenario trails)
@@ -172,18 +176,18 @@ pub record OfScenario (before after : Outside) (P : Scenario → Type 0) : Type 
   pub holds : P scenario
 
 -- Why a site's disk ended a call: no run began, since it could not be taken, or failed in its first loading, as that of no
--- site before it did; or a run did, and it is the first disk that could not be given back.
+-- site before it did; or a run was driven to its end, and it is the first disk that could not be given back.
 abbrev pub IsRackFault : Racked → Scenario → List (List Entry) → ℕ → Type 0
 IsRackFault rack s trails site =
     ((trails ≡ []) × IsUntouched rack × (FailsToTake rack site ⊎ FailsToLoad rack s.catalog.sites site))
-    ⊎ (IsRun rack s trails × FailsToGive rack site)
+    ⊎ (IsWholeRun rack s trails × FailsToGive rack site)
 
 -- the first of the sites whose disk has bytes with which no new site can begin, and why
 pub record IsFirstUnfit (rack : Racked) (site : ℕ) (cause : JournalCause) (place : ℕ) : Type 0 where
   pub unfit : Holds rack site (HasCause cause place)
   pub others : (i : ℕ) → i < site → Holds rack i HasNoRecord
 
--- no run began, and a disk failed in its first loading
+-- no run began, and a disk that was handed back failed in its first loading
 abbrev pub FailsEarly : Racked → List (List Entry) → Type 0
 FailsEarly rack trails = (trails ≡ []) × ((i : ℕ) × rack.one i HasFailed)
 
@@ -215,14 +219,14 @@ pub record Promise (words : List (String Global)) (rack : Racked) (before after 
   pub unfit : (site : ℕ) (cause : JournalCause) (place : ℕ) → ended.fault ≡ Some (fault.Journal site cause place)
       → OfScenario before after (λ s. (site < s.catalog.sites) × IsFirstUnfit rack site cause place
       × rack.each (IsFaultlessBefore site))
-  -- and exactly then, where all disks are told, the source and the rack don't fail, and no disk does before all sites
+  -- and exactly then, where all disks are told and were taken, the source doesn't fail, and no disk does before all sites
   -- are up
   pub unfit_named : (bytes : List ℕ) (s : Scenario) (site : ℕ) (cause : JournalCause) (place : ℕ) → IsLine words
       → before.left ≡ Some bytes → IsReading bytes s → site < s.catalog.sites → AreAllTold rack s.catalog.sites
-      → IsFirstUnfit rack site cause place → after.source_faults ≡ before.source_faults → ¬ rack.failed
+      → IsFirstUnfit rack site cause place → after.source_faults ≡ before.source_faults → rack.took s.catalog.sites
       → (ended.fault ≡ Some (fault.Journal site cause place)) ⊎ (ended.status ≡ 5) ⊎ FailsEarly rack ended.trails.items
-  -- whatever the status, each disk that was taken was given back, but for one at most for each fault of the rack; and
-  -- one of which two calls for each site don't fail doesn't
+  -- whatever the status, each disk that was taken was handed back, and given back but for one at most for each fault of
+  -- the rack; and one of which two calls for each site don't fail doesn't
   pub given_back : rack.balanced
   pub unfailing : rack.unfailing 16 → ¬ rack.failed
   -- but for 0 and 4 nothing is written

@@ -14,6 +14,8 @@ pub record RackAt (D : Type 0) : Type 0 where
   pub disks : Option (Option (List ℕ) → ℕ → D)
   -- the disks that it was given back, each with its site, where it tells them
   pub given : Option (List (ℕ × D))
+  -- those that it was handed, whether it kept them or lost them
+  pub handed : Option (List (ℕ × D))
   -- how many disks were taken
   pub taken : ℕ
   -- how often a call of it has failed
@@ -26,6 +28,7 @@ abbrev pub rack_at : {R D : Type 0} (r : RackGhosts R D) → R → RackAt D
 rack_at r rack = record {
   disks = r.disks rack;
   given = r.given rack;
+  handed = r.handed rack;
   taken = r.taken rack;
   faults = r.faults rack;
   unfailing = r.unfailing rack;
@@ -35,21 +38,26 @@ rack_at r rack = record {
 abbrev pub OfADisk : Type 1
 OfADisk = DiskState → (List ℕ → Type 0) → Type 0
 
--- what is known of a rack by a call of the program; of what it was given it is so where the rack tells that
+-- what is known of a rack by a call of the program; of what it was given and handed it is so where the rack tells that.
+-- What is handed back it keeps, and then it is given back, or loses by a fault
 pub record Racked : Type 1 where
   -- the bytes that the disk of each site has before the run, where the rack tells its disks and the disk what it holds
   pub bytes : ℕ → Option (List ℕ)
-  -- each disk that was given back, of some site, is so
+  -- each disk that was handed back, of some site, is so
   pub each : (ℕ → OfADisk) → Type 0
-  -- a disk was given back as this site's, and is so
+  -- a disk was handed back as this site's, and is so
   pub one : ℕ → OfADisk → Type 0
-  -- none was given back as this site's
+  -- so many disks were handed back, those of the first sites, in order; each is so
+  pub handed : ℕ → (ℕ → OfADisk) → Type 0
+  -- a disk was given back as this site's; or none was
+  pub has : ℕ → Type 0
   pub lacks : ℕ → Type 0
   -- so many disks were given back, those of the first sites, in order; each is so
   pub all : ℕ → (ℕ → OfADisk) → Type 0
   -- so many disks were taken
   pub took : ℕ → Type 0
-  -- each disk that was taken was given back, but for one at most for each time that the rack failed
+  -- as many disks were handed back as were taken, and as many given back, but for one at most for each time that the
+  -- rack failed
   pub balanced : Type 0
   -- the rack failed
   pub failed : Type 0
@@ -61,10 +69,16 @@ abbrev pub bytes_of : {D : Type 0} (g : Ghosts D) → Option (Option (List ℕ) 
 bytes_of g None i = None
 bytes_of g (Some take) i = (g.known (take None i)).reads
 
--- the disks that a rack was given between two moments, where it tells them
+-- what came behind the elements of a list between two moments is so, where they are told
+abbrev pub IsMore : {X : Type 0} → (before after : Option (List X)) → (List X → Type 0) → Type 0
+IsMore {X = X} before after P = IfSome before (λ old. (more : List X) × (after ≡ Some (old ++ more)) × P more)
+
+-- the disks that a rack was given between two moments, and those that it was handed
 abbrev pub IsGiven : {D : Type 0} → (before after : RackAt D) → (List (ℕ × D) → Type 0) → Type 0
-IsGiven {D = D} before after P =
-    IfSome before.given (λ old. (more : List (ℕ × D)) × (after.given ≡ Some (old ++ more)) × P more)
+IsGiven before after = IsMore before.given after.given
+
+abbrev pub IsHanded : {D : Type 0} → (before after : RackAt D) → (List (ℕ × D) → Type 0) → Type 0
+IsHanded before after = IsMore before.handed after.handed
 
 -- the disks, each with its number from this one on
 abbrev pub numbered : {D : Type 0} → ℕ → List D → List (ℕ × D)
@@ -75,19 +89,33 @@ numbered i (disk ∷ disks) = (i, disk) ∷ numbered (i + 1) disks
 abbrev pub AreSo : {D : Type 0} (g : Ghosts D) → (ℕ → OfADisk) → List (ℕ × D) → Type 0
 AreSo g P disks = All (λ it. P it.0 (g.known it.1) (g.may_leave it.1)) disks
 
+-- these are so many disks, those of the first sites, in order; each is so
+abbrev pub AreFirst : {D : Type 0} (g : Ghosts D) → ℕ → (ℕ → OfADisk) → List (ℕ × D) → Type 0
+AreFirst {D = D} g n P more = (disks : List D) × (length disks ≡ n) × (more ≡ numbered 0 disks) × AreSo g P more
+
+-- as many disks were handed back as were taken
+abbrev pub AreHandedBack : {D : Type 0} → (before after : RackAt D) → Type 0
+AreHandedBack before after = IfSome before.handed (λ old. IfSome after.handed (λ new.
+    length old + after.taken ≡ length new + before.taken))
+
+-- as many were given back, but for one at most for each fault of the rack
+abbrev pub AreGivenBack : {D : Type 0} → (before after : RackAt D) → Type 0
+AreGivenBack before after = IfSome before.given (λ old. IfSome after.given (λ new.
+    length old + after.taken + before.faults ≤ length new + before.taken + after.faults))
+
 -- by what is known of the rack before the call and after it
 abbrev pub racked : {D : Type 0} (g : Ghosts D) → (before after : RackAt D) → Racked
 racked {D = D} g before after = record {
   bytes = λ i. bytes_of g before.disks i;
-  each = λ P. IsGiven before after (AreSo g P);
-  one = λ i P. IsGiven before after (λ more.
+  each = λ P. IsHanded before after (AreSo g P);
+  one = λ i P. IsHanded before after (λ more.
       (disk : D) × Contains more (i, disk) × P (g.known disk) (g.may_leave disk));
+  handed = λ n P. IsHanded before after (AreFirst g n P);
+  has = λ i. IsGiven before after (λ more. (disk : D) × Contains more (i, disk));
   lacks = λ i. IsGiven before after (λ more. (disk : D) → Contains more (i, disk) → ⊥);
-  all = λ n P. IsGiven before after (λ more.
-      (disks : List D) × (length disks ≡ n) × (more ≡ numbered 0 disks) × AreSo g P more);
+  all = λ n P. IsGiven before after (AreFirst g n P);
   took = λ n. after.taken ≡ before.taken + n;
-  balanced = IfSome before.given (λ old. IfSome after.given (λ new.
-      length old + after.taken + before.faults ≤ length new + before.taken + after.faults));
+  balanced = AreHandedBack before after × AreGivenBack before after;
   failed = before.faults < after.faults;
   unfailing = λ calls. calls ≤ before.unfailing;
 }
@@ -122,11 +150,11 @@ pub record FailsToTake (rack : Racked) (site : ℕ) : Type 0 where
   pub before : rack.took site
   pub lacks : rack.lacks site
 
--- The disks of all sites were taken, so many, and that of this site failed in its first loading; it was given back so, or
--- lost. Those of the sites before it did not, and have no record, where that is told.
+-- The disks of all sites were taken, so many, and that of this site failed in its first loading. Those of the sites
+-- before it did not, and have no record, where that is told.
 pub record FailsToLoad (rack : Racked) (sites site : ℕ) : Type 0 where
   pub all : rack.took sites
-  pub failed : (rack.failed × rack.lacks site) ⊎ rack.one site HasFailed
+  pub failed : rack.one site HasFailed
   pub before : rack.each (IsFaultlessBefore site)
   pub no_record : (i : ℕ) → i < site → Holds rack i HasNoRecord
 
@@ -134,9 +162,9 @@ pub record FailsToLoad (rack : Racked) (sites site : ℕ) : Type 0 where
 pub record FailsToGive (rack : Racked) (site : ℕ) : Type 0 where
   pub failed : rack.failed
   pub lacks : rack.lacks site
-  pub before : (i : ℕ) → i < site → rack.one i (λ known images. Unit {0})
+  pub before : (i : ℕ) → i < site → rack.has i
 
--- where no run began, each disk that was given back has no arm, and a crash leaves on it what it held; where it held no
+-- where no run began, each disk that was handed back has no arm, and a crash leaves on it what it held; where it held no
 -- record, at most the first bytes of a journal, or the first epoch
 pub record IsUntouched (rack : Racked) : Type 0 where
   pub unarmed : rack.each (λ i. IsUnarmed)

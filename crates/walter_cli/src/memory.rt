@@ -1,4 +1,4 @@
-ghost use Rattle.walter_cli.specs.Assurance.{Assures};
+ghost use Rattle.walter_cli.specs.Assurance.{Assures, in_memory};
 ghost use Rattle.walter_cli.specs.Headline.{outside_at};
 
 use crate::ended::{Ended, Fault};
@@ -7,28 +7,29 @@ use crate::words::command_of;
 use walter_disk_memory::MemoryRack;
 use walter_stream::{Sink, Source};
 
-/// The program over disks in memory that have no bytes: `top` over a rack that is made here, and let go.
+/// The program over disks in memory that have no bytes: `top` over a rack that is made here. It answers the rack too, with
+/// the disks as they were given back.
 pub fn top_in_memory<X: AllocGlobal, S: Source, K: Sink>(
     rt: &X,
     words: &[String],
     source: &mut S,
     sink: &mut K,
-) -> Ended
-    ensures { Assures words.now
+) -> (Ended, MemoryRack)
+    ensures { Assures words.now (in_memory result.1)
         (outside_at S.Source K.Sink source.old sink.old)
         (outside_at S.Source K.Sink source.new sink.new)
-        result }
+        result.0 }
 {
     let alloc = rt.alloc();
     // Other words than the program's are told before memory is asked for.
     let Some(_) = command_of(words) else {
-        return Ended::early(alloc, Fault::Usage);
+        return (Ended::early(alloc, Fault::Usage), MemoryRack::new(alloc));
     };
     // For each site a disk is taken and given back.
     let Ok(mut rack) = MemoryRack::with_room(alloc, 16) else {
-        return Ended::early(alloc, Fault::Memory);
+        return (Ended::early(alloc, Fault::Memory), MemoryRack::new(alloc));
     };
     let ended = top(rt, words, source, sink, &mut rack);
     rack.given_unarmed_never_failed();
-    ended
+    (ended, rack)
 }

@@ -24,14 +24,16 @@ loop-disk-preserved g c =
     let first = c.loop-disk.lost in
     let given : OnOk c.give-given.result (d.given ≡ option_map (λ told. told ++ (length done, disk) ∷ []) b.given) =
     subst (λ (n : ℕ). OnOk c.give-given.result (d.given ≡ option_map (λ told. told ++ (n, disk) ∷ []) b.given)) is.next e.given in
-    let now = lost_more a b d done disk c.give-given.result is.given given e.same_given e.same_taken e.same_disks e.faultless
+    let handed : d.handed ≡ option_map (λ told. told ++ (length done, disk) ∷ []) b.handed =
+    subst (λ (n : ℕ). d.handed ≡ option_map (λ told. told ++ (n, disk) ∷ []) b.handed) is.next e.handed in
+    let now = lost_more a b d done disk c.give-given.result is.given given e.same_given handed e.same_taken e.same_disks e.faultless
     e.cause e.sure first is.ok is.err in
     let same : c.first_lost-lost.result ≡ lost_after first (is_err c.give-given.result) (length done) =
     c.first_lost-lost.ensures
     ∙ (ap (λ b. lost_after first b c.loop-disk.next) c.is_err.ensures.value
     ∙ ap (λ (n : ℕ). lost_after first (is_err c.give-given.result) n) is.next) in
     record {
-      given = given_more a b d done disk c.give-given.result is.given given e.same_given e.same_taken e.same_disks e.faultless
+      given = given_more a b d done disk c.give-given.result is.given given e.same_given handed e.same_taken e.same_disks e.faultless
           e.cause e.sure;
       next = (let n = is.next in let m = length-append done (disk ∷ []) in omega (arith, n, m));
       ok = subst (λ (r : Result (Unit {0}) ℕ). OnOk r (d.faults ≡ a.faults)) (sym same) now.0;

@@ -12,7 +12,7 @@ use Rattle.walter_cli.proofs.disks.take_all.Goals as goal
 pub returns-in_default-clause-fault : goal.returns-in_default-clause-fault
 returns-in_default-clause-fault g c =
     let a : RackAt g.row.R-D.Denot = rack_at g.R.Rack c.args.rack.now in
-    ends_before g.R.D.Disk a a c.args.sites Memory refl refl (omega arith) (λ many. refl) tt
+    ends_before g.R.D.Disk a a c.args.sites Memory refl refl refl (omega arith) (λ many. refl) tt
 
 pub returns-in-Err-clause-fault : goal.returns-in-Err-clause-fault
 returns-in-Err-clause-fault g c =
@@ -30,6 +30,7 @@ returns-in-Err-clause-fault g c =
       told = taken.told;
       fresh = taken.fresh;
       same_given = c.in-Err.ensures.same_given ∙ taken.given;
+      same_handed = c.in-Err.ensures.same_handed ∙ taken.handed;
       many = c.in-Err.ensures.same_taken ∙ taken.taken;
       level = omega (arith, level, rose);
       long = refl;
@@ -65,7 +66,7 @@ loop-site-preserved g c =
       taken = subst (λ (ds : List g.row.R-D.Denot). AreTaken g.R.D.Disk a d ds) (sym longer)
           (taken_more g.R.D.Disk a b d disks disk is.taken
           (subst (λ (n : ℕ). IfSome b.disks (λ take. disk ≡ take None n)) (sym is.long) e.disk) e.fresh e.same_disks e.same_given
-          e.taken e.faultless (λ some. (c.take.ensures.sure some).1));
+          e.same_handed e.taken e.faultless (λ some. (c.take.ensures.sure some).1));
       long = (let l = ap length longer in let m = length-append disks (disk ∷ []) in let n = is.long in omega (arith, l, m, n));
       room = (let r = is.room in let same = c.push_reserved.ensures.capacity in omega (arith, r, same));
     }

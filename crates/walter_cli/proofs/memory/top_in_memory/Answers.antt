@@ -1,11 +1,17 @@
 use Rattle.std.proofs.Common.{◌≡◌, ℕ, List, [], ◌≤◌, Some, refl, sym, ap, inl, subst, arith}
-use Rattle.std.specs.Prelude.{All}
+use Rattle.std.specs.Prelude.{All, String}
+use Rattle.std.specs.Global.{Global}
 use Rattle.walter_disk_memory.specs.MemoryDisks.{MemoryState, FailsOnlyIfArmed}
-use Rattle.walter_disk_memory.specs.MemoryRacks.{RackState, unfailing_of}
+use Rattle.walter_disk_memory.specs.MemoryRacks.{RackState, rack_of, unfailing_of}
 use Rattle.walter_disk_memory.specs.contracts.memory_disk.MemoryDiskDisk.TheImpl.{ghosts as disk_ghosts}
 use Rattle.walter_disk_memory.specs.contracts.memory_rack.MemoryRackRack.TheImpl.{ghosts as rack_ghosts}
 use Rattle.walter_engine.specs.Begins.{HasNoRecord}
-use Rattle.walter_cli.specs.Racks.{RackAt, rack_at, Holds, racked}
+use Rattle.walter_cli.specs.Assurance.{Assures, in_memory}
+use Rattle.walter_cli.specs.Headline.{Outside}
+use Rattle.walter_cli.specs.declared.ended.Ended.{Ended}
+use Rattle.walter_cli.specs.Racks.{RackAt, IsUntouched, rack_at, Holds, racked}
+use Rattle.walter_cli.proofs.Early.{untouched_before}
+use Rattle.walter_cli.proofs.Giving.{none_balances}
 use Rattle.walter_cli.proofs.Sure.{assured, assured_early, assured_usage}
 use Rattle.walter_cli.proofs.memory.top_in_memory.Goals as goal
 
@@ -13,27 +19,51 @@ use Rattle.walter_cli.proofs.memory.top_in_memory.Goals as goal
 abbrev at : RackState → RackAt MemoryState
 at rack = rack_at rack_ghosts rack
 
--- the disks that it was given have not failed where they have no arm
-sound : (given more : List (ℕ × MemoryState)) → All (λ (it : ℕ × MemoryState). FailsOnlyIfArmed it.1) given → Some given ≡ Some more
+-- the disks that it was handed have not failed where they have no arm
+sound : (handed more : List (ℕ × MemoryState)) → All (λ (it : ℕ × MemoryState). FailsOnlyIfArmed it.1) handed → Some handed ≡ Some more
     → All (λ (it : ℕ × MemoryState). it.1.stops.arms ≡ [] → it.1.stops.faults ≡ 0) more
-sound given more all same =
-    let is : given ≡ more = cc in
+sound handed more all same =
+    let is : handed ≡ more = cc in
     subst (λ xs. All (λ (it : ℕ × MemoryState). it.1.stops.arms ≡ [] → it.1.stops.faults ≡ 0) xs) is (λ k d within none. (all k d within none).2)
 
+-- a rack of which nothing was asked had its disks back, and no run began on them
+new_balanced : (rack : RackState) → rack ≡ rack_of [] 0 → (in_memory rack).balanced
+new_balanced rack is =
+    subst (λ (r : RackState). (in_memory r).balanced) (sym is)
+    (none_balances disk_ghosts (at (rack_of [] 16)) (at (rack_of [] 0)) refl refl refl (omega arith))
+
+new_untouched : (rack : RackState) → rack ≡ rack_of [] 0 → IsUntouched (in_memory rack)
+new_untouched rack is =
+    subst (λ (r : RackState). IsUntouched (in_memory r)) (sym is)
+    (untouched_before disk_ghosts (at (rack_of [] 16)) (at (rack_of [] 0)) refl)
+
+-- what a call assures over the rack that was made for it
+of_made : (words : List (String Global)) (made last : RackState) (before after : Outside) (ended : Ended) → made ≡ rack_of [] 16
+    → Assures words (racked disk_ghosts (at made) (at last)) before after ended
+    → Assures words (in_memory last) before after ended
+of_made words made last before after ended is assures =
+    subst (λ (r : RackState). Assures words (racked disk_ghosts (at r) (at last)) before after ended) is assures
+
 pub returns-in_default : goal.returns-in_default
-returns-in_default g c = assured_usage c.args.words.now _ c.early.result c.in_default.ensures.none c.early.ensures.status c.early.ensures.fault c.early.ensures.trails
+returns-in_default g c =
+    let is = c.new.ensures.rack in
+    assured_usage c.args.words.now _ _ c.early.result (new_balanced _ is) (new_untouched _ is) c.in_default.ensures.none
+    c.early.ensures.status c.early.ensures.fault c.early.ensures.trails
 
 pub returns-in_default-with_room : goal.returns-in_default-with_room
 returns-in_default-with_room g c =
-    assured_early c.args.words.now _ c.early-in_default-with_room.result (c.in-Some.field-0.trace, c.in-Some.ensures.some) c.early-in_default-with_room.ensures.status
+    let is = c.new-in_default-with_room.ensures.rack in
+    assured_early c.args.words.now _ _ c.early-in_default-with_room.result (new_balanced _ is) (new_untouched _ is)
+    (c.in-Some.field-0.trace, c.in-Some.ensures.some) c.early-in_default-with_room.ensures.status
     c.early-in_default-with_room.ensures.fault c.early-in_default-with_room.ensures.trails
 
 pub returns : goal.returns
 returns g c =
     let is = c.in-Ok.ensures.rack in
     let last = at c.top-ended.new.rack in
-    assured c.args.words.now disk_ghosts (at c.in-Ok.rack) last _ _ c.top-ended.result c.top-ended.ensures (λ i. refl)
+    of_made c.args.words.now c.in-Ok.rack c.top-ended.new.rack _ _ c.top-ended.result is
+    (assured c.args.words.now disk_ghosts (at c.in-Ok.rack) last _ _ c.top-ended.result c.top-ended.ensures (λ i. refl)
     (λ i. subst (λ (r : RackState). Holds (racked disk_ghosts (at r) last) i HasNoRecord) (sym is) (inl refl))
     (subst (λ (r : RackState). 16 ≤ unfailing_of r) (sym is) (omega arith))
-    (ap (λ (r : RackState). Some r.given) is)
-    (λ more same. sound c.top-ended.new.rack.given more c.given_unarmed_never_failed.ensures same)
+    (ap (λ (r : RackState). Some r.handed) is)
+    (λ more same. sound c.top-ended.new.rack.handed more c.given_unarmed_never_failed.ensures.handed same))

@@ -15,7 +15,7 @@ use Rattle.walter_cli.proofs.running.build_over.Goals as goal
 pub returns-in_default-clause-unbuilt : goal.returns-in_default-clause-unbuilt
 returns-in_default-clause-unbuilt g c =
     let a : RackAt g.row.R-D.Denot = rack_at g.R.Rack c.args.rack.now in
-    ends_before g.R.D.Disk a a c.args.scenario.now.catalog.sites Memory refl refl (omega arith) (λ many. refl) tt
+    ends_before g.R.D.Disk a a c.args.scenario.now.catalog.sites Memory refl refl refl (omega arith) (λ many. refl) tt
 
 pub returns-in-Ok-build-clause-built : goal.returns-in-Ok-build-clause-built
 returns-in-Ok-build-clause-built g c =
@@ -54,6 +54,7 @@ returns-in-Err-clause-unbuilt g c =
       told = was.1.told;
       fresh = was.1.fresh;
       same_given = was.1.given;
+      same_handed = was.1.handed;
       many = was.1.taken;
       level = (let e = was.1.faults in omega (arith, e));
       long = why.all_back;

@@ -7,11 +7,11 @@ use Rattle.walter_rules.specs.declared.entry.Entry.{Entry}
 use Rattle.walter_stream.specs.Streams.{Appends}
 use Rattle.walter_trail.specs.declared.trail.Trail.{Trail}
 use Rattle.walter_cli.specs.declared.ended.Fault.TheVariants.{Memory, Rack}
-use Rattle.walter_cli.specs.Ending.{IsBuilt, IsWriteFault}
+use Rattle.walter_cli.specs.Ending.{IsBuilt, IsWholeBack, IsWriteFault}
 use Rattle.walter_cli.specs.Headline.{IsRun, IsWholeRun}
 use Rattle.walter_cli.specs.Racks.{RackAt, rack_at, Racked, racked}
 use Rattle.walter_cli.specs.Texts.{text_of}
-use Rattle.walter_cli.proofs.Finished.{returned, run_is, whole_is, ends_with, ends_cut}
+use Rattle.walter_cli.proofs.Finished.{returned, run_is, whole_is, whole_back as all_armed, ends_with, ends_cut}
 use Rattle.walter_cli.proofs.Giving.{IsReturned, ok_part, balances, fails_to_give}
 use Rattle.walter_cli.proofs.Racking.{sure_back}
 use Rattle.walter_cli.proofs.Trails.{frames, spellings}
@@ -47,16 +47,28 @@ module _ (g : Over) (c : After-give_all-given g) where
       c.close-trails.result.disks.items trails built played.keeps closed.bench closed.sound played.arms
       closed.gives.trails closed.gives.disks closed.linked c.give_all-given.ensures.given c.requires.whole
 
-  -- where it was driven to its end and the disks were given back, they are those of a whole run
-  whole : is_err c.play-played.result ≡ false → g.R.Rack.faults c.give_all-given.new.rack ≡ g.R.Rack.faults c.build_over.new.rack
-      → IsWholeRun rack c.args.scenario.now trails
-  whole to_end same =
+  -- where it was driven to its end, it is a whole run
+  whole : is_err c.play-played.result ≡ false → IsWholeRun rack c.args.scenario.now trails
+  whole to_end =
       let played = c.play-played.ensures in
       let closed = c.close-trails.ensures in
       whole_is g.R.D.Disk c.args.scenario.now before mid after c.in-Ok.bench c.play-played.new.bench
       c.close-trails.result.disks.items trails built played.keeps closed.bench closed.sound played.arms
       closed.gives.trails closed.gives.disks closed.linked c.give_all-given.ensures.given c.requires.whole
-      (ok_part c.play-played.result _ played.played to_end) (ok_part c.play-played.result _ played.armed to_end) same
+      (ok_part c.play-played.result _ played.played to_end) (ok_part c.play-played.result _ played.armed to_end)
+
+  -- where the rack didn't fail either, all disks were given back
+  whole_back : is_err c.play-played.result ≡ false → g.R.Rack.faults c.give_all-given.new.rack ≡ g.R.Rack.faults c.build_over.new.rack
+      → IsWholeBack rack c.args.scenario.now trails
+  whole_back to_end same =
+      let played = c.play-played.ensures in
+      let closed = c.close-trails.ensures in (
+        whole to_end,
+        all_armed g.R.D.Disk c.args.scenario.now before mid after c.in-Ok.bench c.play-played.new.bench
+            c.close-trails.result.disks.items trails built played.keeps closed.bench closed.sound played.arms
+            closed.gives.trails closed.gives.disks closed.linked c.give_all-given.ensures.given
+            (ok_part c.play-played.result _ played.armed to_end) same,
+      )
 
   came_back : IsReturned g.R.D.Disk before mid after built.disks c.close-trails.result.disks.items
   came_back =
@@ -127,7 +139,7 @@ returns-in-Err-given-clause-run g c =
     ends_with _ c.args.traced c.args.scenario.now _ _ _ _ (trails g at) _ (Some (Rack c.in-Err-given.site)) _ (
       omega (arith, within, long, many),
       inr (
-        run g at,
+        whole g at (sym c.is_err.ensures.value ∙ c.if-is_err.false),
         fails_to_give g.R.D.Disk (before g at) (mid g at) (after g at) (built g at).disks c.close-trails.result.disks.items back
             c.in-Err-given.site lost,
       ),
@@ -147,7 +159,7 @@ write_report-requires-clause-records g c =
 pub returns-in-Ok-write_report-clause-run : goal.returns-in-Ok-write_report-clause-run
 returns-in-Ok-write_report-clause-run g c =
     let at = (goal.at.returns-in-Ok-write_report-clause-run g c).After-give_all-given in
-    let is_whole = whole g at (sym c.is_err.ensures.value ∙ c.if-is_err.false) c.in_default.ensures.ok in
+    let is_whole = whole_back g at (sym c.is_err.ensures.value ∙ c.if-is_err.false) c.in_default.ensures.ok in
     let written = subst (λ (ts : List (List Entry)). Appends (g.K.Sink.holds c.args.sink.now) (g.K.Sink.holds c.write_report.new.sink) (text_of c.args.traced c.args.scenario.now ts))
     c.deref.ensures.value c.in-Ok-write_report.ensures.ok in
     ends_with _ c.args.traced c.args.scenario.now _ _ _ _ (trails g at) _ None _ (is_whole, written)
@@ -157,7 +169,7 @@ returns-in-Ok-write_report-clause-run g c =
 pub returns-in-Err-write_report-clause-run : goal.returns-in-Err-write_report-clause-run
 returns-in-Err-write_report-clause-run g c =
     let at = (goal.at.returns-in-Err-write_report-clause-run g c).After-give_all-given in
-    let is_whole = whole g at (sym c.is_err.ensures.value ∙ c.if-is_err.false) c.in_default.ensures.ok in
+    let is_whole = whole_back g at (sym c.is_err.ensures.value ∙ c.if-is_err.false) c.in_default.ensures.ok in
     let why = subst (λ (ts : List (List Entry)). IsWriteFault (text_of c.args.traced c.args.scenario.now ts) (g.K.Sink.holds c.args.sink.now) (g.K.Sink.holds c.write_report.new.sink)
     (g.K.Sink.faults c.args.sink.now) (g.K.Sink.faults c.write_report.new.sink) c.in-Err-write_report.fault) c.deref.ensures.value c.in-Err-write_report.ensures.fault in
     ends_with _ c.args.traced c.args.scenario.now _ _ _ _ (trails g at) _ (Some c.in-Err-write_report.fault) _
