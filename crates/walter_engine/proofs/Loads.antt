@@ -318,8 +318,9 @@ module _ {D : Type 0} {g : Ghosts D} where
           takes_none = λ down restart last. record { rest = (unloaded_is why).0; wrote = refl; flight = refl };
         }))
 
-  -- ---- over any disk that tells what it holds
+-- ---- over any disk that tells what it holds
 
+module _ {D : Type 0} (g : Ghosts D) where
   -- one of its images was found
   found_told : SizeIs g → (old new : D) (bytes : List ℕ) → (g.known old).reads ≡ Some bytes → 0 < (g.known old).size
       → bytes ≢ []

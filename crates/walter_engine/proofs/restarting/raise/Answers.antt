@@ -296,9 +296,11 @@ returns-in-Err-Unreadable-clause-over g c =
     let fault = named (λ x k o. IsReadFault x k (map (λ body. body.items) c.args.bodies.now) why.field-0) (catalog_in c.args.machine.now) c.catalog.result.now (site_in c.args.machine.now) c.id.result None
     c.catalog.ensures c.id.ensures refl why.ensures.fault in
     let bad = subst (λ f. IsReadFault (catalog_in c.args.machine.now) (site_in c.args.machine.now) (map (λ body. body.items) c.args.bodies.now) f) why.field-0-is fault in
-    subst (λ (o : Outcome). ComesOf (catalog_in c.args.machine.now) (site_in c.args.machine.now) (left_of c.args.journal.now) (map (λ body. body.items) c.args.bodies.now) c.rest.result.wrote (Some (Unreadable c.in-Err-Unreadable.index)) o)
+    subst (λ (n : ℕ). ComesOf (catalog_in c.args.machine.now) (site_in c.args.machine.now) (left_of c.args.journal.now) (map (λ body. body.items) c.args.bodies.now) c.rest.result.wrote (Some (Unreadable n)) c.rest.result.outcome)
+    (sym why.index-is)
+    (subst (λ (o : Outcome). ComesOf (catalog_in c.args.machine.now) (site_in c.args.machine.now) (left_of c.args.journal.now) (map (λ body. body.items) c.args.bodies.now) c.rest.result.wrote (Some (Unreadable why.index)) o)
     (sym (ap (λ (x : Came). x.outcome) c.rest.ensures.came))
-    (Unreadable c.in-Err-Unreadable.index, refl, bad)
+    (Unreadable why.index, refl, bad))
 
 pub returns-in-Err-NoMemory-clause-over : goal.returns-in-Err-NoMemory-clause-over
 returns-in-Err-NoMemory-clause-over g c =

@@ -168,7 +168,7 @@ returns-in-Err-clause-restarts g c =
     let before = ap disk_under was ∙ ap Some (sym c.into_disk.ensures) in
     let is_came = c.rest.ensures.came ∙ ap (λ (p : Outcome × Option RefusedRestart). only p.0) c.unloaded-outcome.ensures in
     let is_why = ap (λ (p : Outcome × Option RefusedRestart). p.1) c.unloaded-outcome.ensures in
-    rw before (restarts_unloaded {g = g.D.Disk} g.met.D.Disk.size_is (catalog_in c.args.self.now.machine) c.args.self.now.capacity (site_in c.args.self.now.machine) c.in-Err.fault
+    rw before (restarts_unloaded g.D.Disk g.met.D.Disk.size_is (catalog_in c.args.self.now.machine) c.args.self.now.capacity (site_in c.args.self.now.machine) c.in-Err.fault
     c.into_disk.result c.in-Err.disk c.rest.result _ c.in-Err.ensures.tells c.in-Err.ensures.cause (ap (λ (x : Came). x.outcome) is_came) is_why)
 
 pub returns-clause-restarts : goal.returns-clause-restarts
@@ -180,7 +180,7 @@ returns-clause-restarts g c =
     let over = same_parts (λ x k. ComesOf x k (left_of c.in-Ok.loaded.0) (map (λ body. body.items) c.as_slice-bodies.result.now) c.raise-came.result.0.wrote c.raise-came.result.1 c.raise-came.result.0.outcome)
     (catalog_in c.settle-kept.new.self) (catalog_in c.args.self.now.machine) (site_in c.settle-kept.new.self) (site_in c.args.self.now.machine) (sym c.settle-kept.ensures.same.catalog) (sym c.settle-kept.ensures.same.id)
     c.raise-came.ensures.over in
-    rw before (restarts_loaded {g = g.D.Disk} g.met.D.Disk.size_is (catalog_in c.args.self.now.machine) c.args.self.now.capacity _ (site_in c.args.self.now.machine) c.into_disk.result c.in-Ok.loaded.0
+    rw before (restarts_loaded g.D.Disk g.met.D.Disk.size_is (catalog_in c.args.self.now.machine) c.args.self.now.capacity _ (site_in c.args.self.now.machine) c.into_disk.result c.in-Ok.loaded.0
     (map (λ body. body.items) c.as_slice-bodies.result.now) (record c.raise-came.result.0 { kept = c.settle-kept.result }) c.raise-came.result.1
     (λ told. subst (λ (b : List (List ℕ)). StandsFor {g = g.D.Disk} c.in-Ok.loaded.0 b) (sym is_bodies) (load.loaded told))
     (λ size. is_bodies ∙ load.fresh size) load.image
