@@ -32,9 +32,9 @@ use Rattle.walter_rules.specs.Merges.{Stamped, sent_to, put_out_to, trail_of}
 use Rattle.walter_rules.specs.Sending.{Send}
 use Rattle.walter_rules.specs.Trails.{clock}
 use Rattle.walter_rules.proofs.Membership.{given_from}
-use Rattle.walter_cluster.specs.Benches.{IsBench, Keeps, trails_of, arms_at}
+use Rattle.walter_cluster.specs.Benches.{IsBench, Keeps, trails_of}
 use Rattle.walter_cluster.specs.Meetings.{arrived_at, HaveAllMet, HaveStayed, HasArrived, IsAsBefore}
-use Rattle.walter_cluster.specs.Moments.{moment_of, clock_at, ChangesAt, AllArrive, put_out_as, HandsOver, MovesAt, DropsAt, Drops, arrives as moves_after}
+use Rattle.walter_cluster.specs.Moments.{moment_of, clock_at, KeepsArms, ChangesAt, AllArrive, put_out_as, HandsOver, MovesAt, DropsAt, Drops, arrives as moves_after}
 use Rattle.walter_cluster.proofs.Changes.{there_is, field_at, field_past, ChangesOne}
 use Rattle.walter_cluster.proofs.Keeping.{ins_long, each_on, each_one}
 use Rattle.walter_cluster.proofs.Meetings.{trails_stay, arms_stay, each_stays}
@@ -111,37 +111,41 @@ module _ {D : Type 0} (g : Ghosts D) (homes : List SiteId)
       ∙ (ap (λ (l : List Posted). length l) (field_past (λ (r : Receiving). r.arrived) c.0.ins from.0 [] (omega (arith, many, past)))
       ∙ sym (ap (λ (es : List Entry). length (put_out_to to es)) (field_past (λ (c : CellValue D). c.node.trail) old from.0 [] past)))
 
-  module _ (new : List (CellValue D)) (a x : CellValue D) (one : ChangesOne mid new to.0 a x) (ins : x.ins ≡ a.ins) where
-    pub all_arrive : AllArrive to (moment_of old) (moment_of new)
+  module _ (new : List (CellValue D)) (a x : CellValue D) (one : ChangesOne mid new to.0 a x) (proceeds : cell.Proceeds g a x) where
+    pub all_arrive : AllArrive to (moment_of g old) (moment_of g new)
     all_arrive = record {
-      here = λ from apart. none_arrive g mid new to a x one ins to.0 from.0 ∙ elim (cases_lt from.0 (length old)) [
+      here = λ from apart. none_arrive g mid new to a x one proceeds.ins to.0 from.0 ∙ elim (cases_lt from.0 (length old)) [
         | inl within ↦
             ap (λ (l : List Posted). length l) (arrives from.0 within (λ e. apart (ap site_at e))).all
             ∙ length-map (put_out_to to (trail_of (trails_of old) from)) (posted (length old))
         | inr past ↦ nothing_past from past
       ];
-      elsewhere = λ i from else_. none_arrive g mid new to a x one ins i from ∙ ap (λ (l : List Posted). length l) (elsewhere i from else_);
+      elsewhere = λ i from else_. none_arrive g mid new to a x one proceeds.ins i from ∙ ap (λ (l : List Posted). length l) (elsewhere i from else_);
     }
 
-    pub changes_on : ChangesAt to (moment_of old) (moment_of new)
+    pub delivered_arms : KeepsArms (moment_of g old) (moment_of g new)
+    delivered_arms j = arms_kept g mid new to a x one proceeds.arms j ∙ arms_stay old mid stay g j
+
+    changes_on : ChangesAt to (moment_of g old) (moment_of g new)
     changes_on =
-        let changes = changes_at g mid new to a x one in
+        let changes = changes_at g mid new to a x one proceeds.arms in
         let same = trails_stay old mid stay in record {
           sites = changes.sites ∙ ap length same;
           others = λ j apart. changes.others j apart ∙ ap (λ ts. trail_of ts j) same;
+          arms = delivered_arms;
         }
 
     trail_on : trail_of (trails_of old) to ≡ a.node.trail
     trail_on = ap (λ ts. trail_of ts to) (sym (trails_stay old mid stay)) ∙ trail_was g mid new to a x one
 
-    clock_on : clock_at (moment_of old) to ≡ clock_in a.node
+    clock_on : clock_at (moment_of g old) to ≡ clock_in a.node
     clock_on = ap (λ es. clock (reverse es)) trail_on
 
     -- the delivery of a packet from another site
     pub moves_at : (from : SiteId) (number : ℕ) (answer : Moved) → from ≢ to → from.0 < length old
-        → HasPlace (clock_at (moment_of old) to + 1) (trail_of (trails_of old) to)
+        → HasPlace (clock_at (moment_of g old) to + 1) (trail_of (trails_of old) to)
         → MovesTo from number (arrival a.ins from number) (length a.ins) (clock_in a.node) a.node.trail x.node.trail answer
-        → MovesAt to from number (moment_of old) (moment_of new) answer
+        → MovesAt to from number (moment_of g old) (moment_of g new) answer
     moves_at from number answer apart within place moves =
         let all = arrives from.0 within (λ e. apart (ap site_at e)) in
         let put = put_out_as (trails_of old) to from number in
@@ -159,7 +163,7 @@ module _ {D : Type 0} (g : Ghosts D) (homes : List SiteId)
 
     -- what had been put for each site when the ends last met is what had arrived there before
     pub drops_on : (catalog : Catalog) → HaveAllMet mid
-        → MayDrop catalog to (met_to a.node.outs) a.node.trail x.node.trail → DropsAt catalog to (moment_of old) (moment_of new)
+        → MayDrop catalog to (met_to a.node.outs) a.node.trail x.node.trail → DropsAt catalog to (moment_of g old) (moment_of g new)
     drops_on catalog all drops =
         let same : (n : ℕ) → length (arrived_at mid n to.0) ≡ length (arrived_at old n to.0) = λ n. ap (λ (l : List Posted). length l) (elsewhere n to.0 (inr refl)) in
         subst (λ (f : ℕ → ℕ). MayDrop catalog to f (trail_of (trails_of old) to) (trail_of (trails_of new) to)) (fun_ext same)
@@ -167,7 +171,7 @@ module _ {D : Type 0} (g : Ghosts D) (homes : List SiteId)
         (drops_at g mid new to a x one catalog all drops))
 
     -- what the delivery keeps behind the meetings
-    module _ (met : HaveAllMet old → HaveAllMet mid) (proceeds : cell.Proceeds g a x) where
+    module _ (met : HaveAllMet old → HaveAllMet mid) where
       pub delivered_keeps : Keeps g (record { cells = old; homes = homes }) (record { cells = new; homes = homes })
       delivered_keeps = record {
         cells = each_on g old mid new (each_stays old mid stay g) (each_one g mid new to.0 a x one proceeds.keeps);
@@ -175,16 +179,13 @@ module _ {D : Type 0} (g : Ghosts D) (homes : List SiteId)
         met = λ all. all_met_kept g mid new to a x one proceeds.same_mets proceeds.ins (met all);
       }
 
-      pub delivered_arms : (j : ℕ) → arms_at g new j ≡ arms_at g old j
-      delivered_arms j = arms_kept g mid new to a x one proceeds.arms j ∙ arms_stay old mid stay g j
-
       pub delivered_drops : Drops g to (record { cells = old; homes = homes }) (record { cells = new; homes = homes })
       delivered_drops all told c at =
           let same = stay.each to.0 c a at one.was in
           let node = same.node in
           let catalog = ap (λ (n : NodeValue D). n.catalog) node in
           let site = ap (λ (n : NodeValue D). n.site) node ∙ (is.cells to.0 c at).site in
-          subst (λ (k : Catalog). DropsAt k to (moment_of old) (moment_of new)) catalog
+          subst (λ (k : Catalog). DropsAt k to (moment_of g old) (moment_of g new)) catalog
           (drops_on a.node.catalog (met all)
           (subst (λ (n : SiteId). MayDrop a.node.catalog n (met_to a.node.outs) a.node.trail x.node.trail) site
           (proceeds.drops (ap (λ (n : NodeValue D). is_told g n.disk) node ∙ told c at))))

@@ -1,5 +1,5 @@
 -- The cells of all sites, of which one is another.
-use Rattle.std.proofs.Common.{◌≡◌, ◌≢◌, ℕ, ◌<◌, List, [], length, reverse, get_or, set, refl, ap, sym, ◌∙◌, subst, arith, Option, None, Result, Ok, Err}
+use Rattle.std.proofs.Common.{◌≡◌, ◌≢◌, ℕ, ◌<◌, List, [], ◌∷◌, ◌++◌, length, reverse, get_or, set, refl, ap, sym, ◌∙◌, subst, arith, Option, None, option_map, Result, Ok, Err}
 use Rattle.std.specs.Prelude.{slice_index_or, OnErr}
 use Rattle.std.proofs.Math.Path.{fun_ext}
 use Rattle.std.proofs.lemmas.List.{length-map}
@@ -22,17 +22,17 @@ use Rattle.walter_rules.specs.Merges.{trail_of}
 use Rattle.walter_rules.specs.Trails.{clock}
 use Rattle.walter_cluster.specs.Benches.{Keeps, trails_of, ins_at, lines_at, arms_at}
 use Rattle.walter_cluster.specs.Meetings.{HaveAllMet}
-use Rattle.walter_cluster.specs.Moments.{Moment, moment_of, clock_at, ChangesAt, NoneArrive, DropsAt, Drops, TurnsAt, ActsAt}
+use Rattle.walter_cluster.specs.Moments.{Moment, moment_of, clock_at, KeepsArms, ChangesAt, NoneArrive, DropsAt, Drops, TurnsAt, ActsAt, ArmsAt}
 use Rattle.walter_cluster.proofs.Changes.{one_there, field_at, ChangesOne, one_set, reads_same, others_same, field_kept}
 use Rattle.walter_cluster.proofs.Keeping.{each_one}
 
--- ---- moments
-
-abbrev moment_by : List (List Entry) → List (List Receiving) → Moment
-moment_by trails ins = record { trails = trails; arrived = λ to from. length (arrived_from (slice_index_or ins to []) from) }
-
-abbrev with_trails : Moment → List (List Entry) → Moment
-with_trails m trails = record { trails = trails; arrived = m.arrived }
+-- moments with the same trails, packets and arms are the same
+same_moments : (m n : Moment) → n.trails ≡ m.trails → NoneArrive m n → KeepsArms m n → n ≡ m
+same_moments m n trails arrive arms =
+    let by_trails : List (List Entry) → Moment = λ ts. record { trails = ts; arrived = n.arrived; arms = n.arms } in
+    let by_arrived : (ℕ → ℕ → ℕ) → Moment = λ f. record { trails = m.trails; arrived = f; arms = n.arms } in
+    let by_arms : (ℕ → Option (List (ℕ × ℕ))) → Moment = λ f. record { trails = m.trails; arrived = m.arrived; arms = f } in
+    ap by_trails trails ∙ (ap by_arrived (fun_ext (λ to. fun_ext (λ from. arrive to from))) ∙ ap by_arms (fun_ext arms))
 
 module _ {D : Type 0} (g : Ghosts D) where
   -- ---- one cell is another
@@ -47,14 +47,19 @@ module _ {D : Type 0} (g : Ghosts D) where
     pub trail_now : trail_of (trails_of new) i ≡ x.node.trail
     trail_now = field_at (λ (c : CellValue D). c.node.trail) new i.0 x [] one.now
 
-    pub changes_at : ChangesAt i (moment_of old) (moment_of new)
-    changes_at = record {
+    pub arms_kept : arms_under g x.node.disk ≡ arms_under g a.node.disk → (j : ℕ) → arms_at g new j ≡ arms_at g old j
+    arms_kept same j =
+        reads_same (λ (c : CellValue D). arms_under g c.node.disk) old new i.0 a x one (λ arms. arms) None same j
+
+    pub changes_at : arms_under g x.node.disk ≡ arms_under g a.node.disk → ChangesAt i (moment_of g old) (moment_of g new)
+    changes_at arms = record {
       sites = length-map new (λ (c : CellValue D). c.node.trail)
           ∙ (one.long ∙ sym (length-map old (λ (c : CellValue D). c.node.trail)));
       others = λ j apart. others_same (λ (c : CellValue D). c.node.trail) old new i.0 a x one [] j.0 (λ e. apart (ap site_at e));
+      arms = arms_kept arms;
     }
 
-    pub none_arrive : x.ins ≡ a.ins → NoneArrive (moment_of old) (moment_of new)
+    pub none_arrive : x.ins ≡ a.ins → NoneArrive (moment_of g old) (moment_of g new)
     none_arrive same to from =
         reads_same (λ (c : CellValue D). c.ins) old new i.0 a x one (λ (is : List Receiving). length (arrived_from is from)) []
         (ap (λ (is : List Receiving). length (arrived_from is from)) same) to
@@ -65,39 +70,43 @@ module _ {D : Type 0} (g : Ghosts D) where
         (ap (λ (l : List ℕ). slice_index_or l to 0) ms) from
         ∙ (all to from ∙ sym (none_arrive same to from))
 
-    pub arms_kept : arms_under g x.node.disk ≡ arms_under g a.node.disk → (j : ℕ) → arms_at g new j ≡ arms_at g old j
-    arms_kept same j =
-        reads_same (λ (c : CellValue D). arms_under g c.node.disk) old new i.0 a x one (λ arms. arms) None same j
-
-    pub same_moment : x.node.trail ≡ a.node.trail → x.ins ≡ a.ins → moment_of new ≡ moment_of old
-    same_moment entries ins =
-        ap (λ (ts : List (List Entry)). with_trails (moment_of new) ts) (trails_kept entries)
-        ∙ ap (λ (is : List (List Receiving)). moment_by (trails_of old) is)
-        (field_kept (λ (c : CellValue D). c.ins) old new i.0 a x one ins)
-
-    pub arms_of_others : (j : ℕ) → j ≢ i.0 → arms_at g new j ≡ arms_at g old j
-    arms_of_others j apart = others_same (λ (c : CellValue D). arms_under g c.node.disk) old new i.0 a x one None j apart
-
-    pub arms_was : arms_at g old i.0 ≡ arms_under g a.node.disk
+    arms_was : arms_at g old i.0 ≡ arms_under g a.node.disk
     arms_was = field_at (λ (c : CellValue D). arms_under g c.node.disk) old i.0 a None one.was
 
-    pub arms_now : arms_at g new i.0 ≡ arms_under g x.node.disk
+    arms_now : arms_at g new i.0 ≡ arms_under g x.node.disk
     arms_now = field_at (λ (c : CellValue D). arms_under g c.node.disk) new i.0 x None one.now
 
+    -- the disk there is armed once more
+    pub arms_there : (nth choice : ℕ) → x.node.trail ≡ a.node.trail → x.ins ≡ a.ins
+        → arms_under g x.node.disk ≡ option_map (λ arms. arms ++ (nth, choice) ∷ []) (arms_under g a.node.disk)
+        → ArmsAt i nth choice (moment_of g old) (moment_of g new)
+    arms_there nth choice entries ins armed = record {
+      here = arms_now ∙ (armed ∙ ap (option_map (λ arms. arms ++ (nth, choice) ∷ [])) (sym arms_was));
+      others = λ j apart. others_same (λ (c : CellValue D). arms_under g c.node.disk) old new i.0 a x one None j apart;
+      trails = trails_kept entries;
+      none_arrive = none_arrive ins;
+    }
+
+    -- nothing is other
+    pub same_moment : x.node.trail ≡ a.node.trail → x.ins ≡ a.ins → arms_under g x.node.disk ≡ arms_under g a.node.disk
+        → moment_of g new ≡ moment_of g old
+    same_moment entries ins arms =
+        same_moments (moment_of g old) (moment_of g new) (trails_kept entries) (none_arrive ins) (arms_kept arms)
+
     -- the stamp of the last entry there
-    pub clock_was : clock_at (moment_of old) i ≡ clock_in a.node
+    pub clock_was : clock_at (moment_of g old) i ≡ clock_in a.node
     clock_was = ap (λ es. clock (reverse es)) trail_was
 
     -- ---- what calls come to
 
-    pub acts_at : (ev : Event) (answer : Acted) → x.ins ≡ a.ins
-        → Acts ev (clock_in a.node) a.node.trail x.node.trail answer → ActsAt i ev (moment_of old) (moment_of new) answer
-    acts_at ev answer ins acts = record {
+    pub acts_at : (ev : Event) (answer : Acted) → cell.Proceeds g a x
+        → Acts ev (clock_in a.node) a.node.trail x.node.trail answer → ActsAt i ev (moment_of g old) (moment_of g new) answer
+    acts_at ev answer proceeds acts = record {
       acts = subst (λ (n : ℕ). Acts ev n (trail_of (trails_of old) i) (trail_of (trails_of new) i) answer) (sym clock_was)
           (subst (λ (es : List Entry). Acts ev (clock_in a.node) es (trail_of (trails_of new) i) answer) (sym trail_was)
           (subst (λ (es : List Entry). Acts ev (clock_in a.node) a.node.trail es answer) (sym trail_now) acts));
-      others = changes_at;
-      none_arrive = none_arrive ins;
+      others = changes_at proceeds.arms;
+      none_arrive = none_arrive proceeds.ins;
     }
 
     pub lines_was : lines_at old i.0 ≡ a.lines
@@ -106,10 +115,10 @@ module _ {D : Type 0} (g : Ghosts D) where
     lines_now : lines_at new i.0 ≡ x.lines
     lines_now = field_at (λ (c : CellValue D). c.lines) new i.0 x [] one.now
 
-    pub turns_at : (can : Type 0) (number : ℕ) (bytes : List ℕ) (answer : Serve) → x.ins ≡ a.ins
+    pub turns_at : (can : Type 0) (number : ℕ) (bytes : List ℕ) (answer : Serve) → cell.Proceeds g a x
         → TurnsTo number bytes (clock_in a.node) (HasFaultAt x.lines number × can) a.node.trail x.node.trail answer
-        → TurnsAt i number bytes (HasFaultAt (lines_at new i.0) number × can) (moment_of old) (moment_of new) answer
-    turns_at can number bytes answer ins turns = record {
+        → TurnsAt i number bytes (HasFaultAt (lines_at new i.0) number × can) (moment_of g old) (moment_of g new) answer
+    turns_at can number bytes answer proceeds turns = record {
       turns = subst
           (λ (n : ℕ). TurnsTo number bytes n (HasFaultAt (lines_at new i.0) number × can) (trail_of (trails_of old) i) (trail_of (trails_of new) i) answer)
           (sym clock_was)
@@ -119,13 +128,13 @@ module _ {D : Type 0} (g : Ghosts D) where
           (sym trail_now)
           (subst (λ (ls : List (Option LineValue)). TurnsTo number bytes (clock_in a.node) (HasFaultAt ls number × can) a.node.trail x.node.trail answer)
           (sym lines_now) turns)));
-      others = changes_at;
-      none_arrive = none_arrive ins;
+      others = changes_at proceeds.arms;
+      none_arrive = none_arrive proceeds.ins;
     }
 
     -- what had been put for each site when the ends last met is what has arrived there
     pub drops_at : (catalog : Catalog) → HaveAllMet old
-        → MayDrop catalog i (met_to a.node.outs) a.node.trail x.node.trail → DropsAt catalog i (moment_of old) (moment_of new)
+        → MayDrop catalog i (met_to a.node.outs) a.node.trail x.node.trail → DropsAt catalog i (moment_of g old) (moment_of g new)
     drops_at catalog all drops =
         let same : (n : ℕ) → met_to a.node.outs n ≡ length (arrived_from (ins_at old n) i.0) = λ n.
         sym (ap (λ (os : List Sending). met_to os n) (field_at (λ (c : CellValue D). c.node.outs) old i.0 a [] one.was)) ∙ all n i.0 in
@@ -142,13 +151,13 @@ module _ {D : Type 0} (g : Ghosts D) where
         met = all_met_kept proceeds.same_mets proceeds.ins;
       }
 
-      pub proceeds_arms : (j : ℕ) → arms_at g new j ≡ arms_at g old j
+      pub proceeds_arms : KeepsArms (moment_of g old) (moment_of g new)
       proceeds_arms = arms_kept proceeds.arms
 
       pub proceeds_drops : a.node.site ≡ i → Drops g i (record { cells = old; homes = homes }) (record { cells = new; homes = homes })
       proceeds_drops here met told c at =
           let same = one_there old i.0 a c one.was at in
-          subst (λ (b : CellValue D). DropsAt b.node.catalog i (moment_of old) (moment_of new)) same
+          subst (λ (b : CellValue D). DropsAt b.node.catalog i (moment_of g old) (moment_of g new)) same
           (drops_at a.node.catalog met
           (subst (λ (n : SiteId). MayDrop a.node.catalog n (met_to a.node.outs) a.node.trail x.node.trail) here (proceeds.drops (told a one.was))))
 

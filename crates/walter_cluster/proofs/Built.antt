@@ -1,8 +1,8 @@
 -- A bench whose sites have all begun.
-use Rattle.std.proofs.Common.{◌≡◌, ℕ, ◌<◌, ◌≤◌, ◌∷◌, List, [], Bool, true, false, Option, Some, None, length, get_or, map, replicate, slice_get, vec_capacity, refl, ap, sym, ◌∙◌, subst, arith}
-use Rattle.std.specs.Prelude.{IsSome, All, Vec, option_map}
+use Rattle.std.proofs.Common.{◌≡◌, ℕ, ◌<◌, ◌≤◌, ◌∷◌, ◌⊎◌, List, [], Bool, true, false, Option, Some, None, length, get_or, map, replicate, slice_get, vec_capacity, refl, ap, sym, ◌∙◌, subst, arith, inl, inr}
+use Rattle.std.specs.Prelude.{IsSome, IfSome, All, Vec, option_map}
 use Rattle.std.specs.declared.alloc.Global.{Global}
-use Rattle.std.proofs.lemmas.Bool.{eqb-true, eq-eqb}
+use Rattle.std.proofs.lemmas.Bool.{cases_lt, eqb-true, eq-eqb}
 use Rattle.std.proofs.lemmas.List.{get_or-replicate, length-replicate}
 use Rattle.std.proofs.lemmas.List.Elements.{All-map, All-same}
 use Rattle.std.proofs.lemmas.Option.{slice_get_within, slice_get-map}
@@ -10,6 +10,7 @@ use Rattle.walter_base.specs.declared.names.SiteId.{SiteId}
 use Rattle.walter_base.specs.Vectors.{most_sites}
 use Rattle.walter_cell.specs.Cells.{CellValue}
 use Rattle.walter_cell.specs.Lines.{LineValue, IsLine, is_here, is_there}
+use Rattle.walter_cell.specs.Nodes.{arms_under}
 use Rattle.walter_cell.specs.Written.{replies_to, AreWritten}
 use Rattle.walter_disk.specs.declared.disk.Disk.{Ghosts}
 use Rattle.walter_rules.specs.Trails.{opening}
@@ -21,12 +22,13 @@ use Rattle.walter_scenario.specs.declared.scenario.Client.{Client}
 use Rattle.walter_scenario.specs.declared.scenario.Scenario.{Scenario}
 use Rattle.walter_trail.specs.Calls.{calls_of}
 use Rattle.walter_cluster.specs.declared.opening.Parts.{Parts}
-use Rattle.walter_cluster.specs.Benches.{outs_at, ins_at, is_site, is_home, IsCellAt, IsBench, IsOf, IsToldAt, AreAllConnected, AreAllAnswered, AreMet, HasRoom}
-use Rattle.walter_cluster.specs.Builds.{AreUnread, AreUnwritten, HadNoRecords}
+use Rattle.walter_cluster.specs.Benches.{outs_at, ins_at, arms_at, is_site, is_home, IsCellAt, IsBench, IsOf, IsToldAt, AreAllConnected, AreAllAnswered, AreMet, HasRoom}
+use Rattle.walter_cluster.specs.Builds.{AreUnread, AreUnwritten, AreUnarmed, HadNoRecords}
 use Rattle.walter_cluster.specs.Lanes.{AreJoined, rows_in, columns_in, row_of, column_of}
 use Rattle.walter_cluster.specs.Moments.{IsFirst, moment_of}
 use Rattle.walter_cluster.specs.Openings.{HasPlaces, HasBegunAt, HaveBegun, ArePrepared}
 use Rattle.walter_cluster.specs.Seats.{lists_in, list_of, HavePlaces, AreSeated, AreAtHome}
+use Rattle.walter_cluster.proofs.Changes.{field_at, field_past}
 use Rattle.walter_cluster.proofs.Opened.{none_had}
 use Rattle.walter_cluster.proofs.Places.{at_place, all_same}
 
@@ -152,11 +154,24 @@ module _ {D : Type 0} (g : Ghosts D) (t : Scenario) (disks : List D) (rows : Lis
     pub met_built : (homes : List SiteId) → AreMet (record { cells = cells; homes = homes })
     met_built homes to from = ap (λ (row : List Sending). met_to row to) (outs_is from) ∙ joined.none_met from to ∙ sym (ap length (none_came to from))
 
-    pub first_built : IsFirst t.catalog.sites (moment_of cells)
-    first_built = record {
+    -- the arms of the disks are those from before
+    none_armed : AreUnarmed g disks → (i : ℕ) → (i < length cells) ⊎ (length cells ≤ i) → IfSome (arms_at g cells i) (λ arms. arms ≡ [])
+    none_armed unarmed i (inl within) =
+        let c = at_place cells i within in
+        let one = begun_at i c.0 c.1 in
+        let now = one.2 in
+        subst (λ (o : Option (List (ℕ × ℕ))). IfSome o (λ arms. arms ≡ []))
+        (sym (field_at (λ (c : CellValue D). arms_under g c.node.disk) cells i c.0 None c.1 ∙ (ap (arms_under g) now.now_is ∙ now.leaves.arms)))
+        (unarmed i one.0 one.1)
+    none_armed unarmed i (inr past) =
+        subst (λ (o : Option (List (ℕ × ℕ))). IfSome o (λ arms. arms ≡ [])) (sym (field_past (λ (c : CellValue D). arms_under g c.node.disk) cells i None past)) tt
+
+    pub first_built : AreUnarmed g disks → IsFirst t.catalog.sites (moment_of g cells)
+    first_built unarmed = record {
       openings = all_same (λ (c : CellValue D). c.node.trail) cells (replicate t.catalog.sites (opening ∷ [])) [] (begun.long ∙ sym (length-replicate t.catalog.sites (opening ∷ [])))
           (λ i c lt at. (begun_at i c at).2.begun.node.trail ∙ sym (get_or-replicate t.catalog.sites i (opening ∷ []) [] (within_at i c at)));
       none_arrived = λ to from. ap length (none_came to from);
+      none_armed = λ i. none_armed unarmed i (cases_lt i (length cells));
     }
 
     lanes_built : (to from : ℕ) → to < length cells → from < length cells → ring_to (outs_at cells from) to ≡ ring_from (ins_at cells to) from

@@ -2,7 +2,7 @@
 use Rattle.std.proofs.Common.{◌≡◌, ◌≢◌, ℕ, zero, suc, ◌<◌, ◌≤◌, List, [], ◌∷◌, ◌++◌, length, map, get_or, set, slice_get, refl, ap, sym, ◌∙◌, subst, arith, Some, None, option_map, inl, inr}
 use Rattle.std.specs.Prelude.{slice_index_or, unwrap_or}
 use Rattle.std.proofs.lemmas.Bool.{cases_lt, cases_eq}
-use Rattle.std.proofs.lemmas.List.{length-map, length-set, length-append, get_or-set_same, get_or-set_other, get_or_past, set-append_left, set_at, set_comm, get_or_append_left, get_or_at, get_or_default}
+use Rattle.std.proofs.lemmas.List.{length-map, length-set, length-append, get_or-set_same, get_or-set_other, get_or_past, set-append_left, set_at, set_comm, get_or_append_left, get_or_at}
 use Rattle.std.proofs.lemmas.Option.{slice_get-map, slice_get-get_or, slice_get_past, slice_get_within, unwrap_or-slice_get, slice_get_read}
 
 module _ {X : Type 0} where
@@ -113,7 +113,7 @@ pub record ChangesTwo {X : Type 0} (old new : List X) (i j : ℕ) (a b x y : X) 
   pub first : ChangesOne old mid i a x
   pub second : ChangesOne mid new j b y
 
-pub two_set : {X : Type 0} (xs : List X) (i j : ℕ) (a b x y : X) → i ≢ j → slice_get xs i ≡ Some a → slice_get xs j ≡ Some b
+two_set : {X : Type 0} (xs : List X) (i j : ℕ) (a b x y : X) → i ≢ j → slice_get xs i ≡ Some a → slice_get xs j ≡ Some b
     → ChangesTwo xs (set (set xs i x) j y) i j a b x y
 two_set xs i j a b x y apart at there = record {
   mid = set xs i x;
@@ -148,49 +148,15 @@ two_same old new i j a b x y two first second = same_places new old (λ k. elim 
   ]
 ])
 
--- ---- two writes to the halves of a list
+-- what was read at two places is replaced there
+pub two_at : {X : Type 0} (xs : List X) (i j : ℕ) (a b x y : X) → i ≢ j → i < length xs → j < length xs → a ≡ get_or xs i a → b ≡ get_or xs j b
+    → ChangesTwo xs (set (set xs i x) j y) i j a b x y
+two_at xs i j a b x y apart here there at is =
+    two_set xs i j a b x y apart (slice_get_read xs (length xs) i a refl here at) (slice_get_read xs (length xs) j b refl there is)
 
-module _ {X : Type 0} (low high : List X) (i j : ℕ) (a b x y : X) (before : i < length low) (len : length low ≡ j)
-    (there : 0 < length high) where
-  -- they are writes to the whole
-  pub written : set low i x ++ set high 0 y ≡ set (set (low ++ high) i x) j y
-  written = go high there
-    where
-      go : (rest : List X) → 0 < length rest → set low i x ++ set rest 0 y ≡ set (set (low ++ rest) i x) j y
-      go [] none = absurd (omega (arith, none))
-      go (h ∷ hs) some =
-          sym (ap (λ l. set l j y) (set-append_left low (h ∷ hs) i x before) ∙ set_at (set low i x) h hs y j (length-set low i x ∙ len))
+-- ---- a list in two halves, of each of which one element is another
 
-  pub halves_apart : i ≢ j
-  halves_apart e = absurd (omega (arith, e, before, len))
-
-  in_low : a ≡ get_or low i a → slice_get (low ++ high) i ≡ Some a
-  in_low at =
-      slice_get_read (low ++ high) (length (low ++ high)) i a refl (let l = length-append low high in omega (arith, before, l))
-      (at ∙ sym (get_or_append_left low high a i before))
-
-  in_high : b ≡ get_or high 0 b → slice_get (low ++ high) j ≡ Some b
-  in_high at = go high there at
-    where
-      go : (rest : List X) → 0 < length rest → b ≡ get_or rest 0 b → slice_get (low ++ rest) j ≡ Some b
-      go [] none at = absurd (omega (arith, none))
-      go (h ∷ hs) some at =
-          slice_get_read (low ++ h ∷ hs) (length (low ++ h ∷ hs)) j b refl (let l = length-append low (h ∷ hs) in omega (arith, some, len, l))
-          (at ∙ sym (get_or_at low h hs b j len))
-
-  -- the write to the first half and the one to the second are writes to two places of the whole, in either order
-  pub halves_up : a ≡ get_or low i a → b ≡ get_or high 0 b → ChangesTwo (low ++ high) (set low i x ++ set high 0 y) i j a b x y
-  halves_up is at =
-      subst (λ l. ChangesTwo (low ++ high) l i j a b x y) (sym written)
-      (two_set (low ++ high) i j a b x y halves_apart (in_low is) (in_high at))
-
-  pub halves_down : a ≡ get_or low i a → b ≡ get_or high 0 b → ChangesTwo (low ++ high) (set low i x ++ set high 0 y) j i b a y x
-  halves_down is at =
-      subst (λ l. ChangesTwo (low ++ high) l j i b a y x) (sym (written ∙ set_comm (low ++ high) i j x y halves_apart))
-      (two_set (low ++ high) j i b a y x (λ e. halves_apart (sym e)) (in_high at) (in_low is))
-
--- a list in two halves, of each of which one element was replaced
-module _ {X : Type 0} (xs low high : List X) (i j : ℕ) (d e x y : X) (is : xs ≡ low ++ high) (before : i < j) (len : length low ≡ j)
+module _ {X : Type 0} (xs low high : List X) (i j : ℕ) (is : xs ≡ low ++ high) (before : i < j) (len : length low ≡ j)
     (within : j < length xs) where
   some_high : 0 < length high
   some_high = let l = length-append low high in let m = ap length is in omega (arith, l, m, len, within)
@@ -198,14 +164,25 @@ module _ {X : Type 0} (xs low high : List X) (i j : ℕ) (d e x y : X) (is : xs 
   low_place : i < length low
   low_place = omega (arith, before, len)
 
-  pub both_up : ChangesTwo xs (set low i x ++ set high 0 y) i j (get_or low i d) (get_or high 0 e) x y
-  both_up =
-      subst (λ l. ChangesTwo l (set low i x ++ set high 0 y) i j (get_or low i d) (get_or high 0 e) x y) (sym is)
-      (halves_up low high i j (get_or low i d) (get_or high 0 e) x y low_place len some_high
-      (get_or_default low i d (get_or low i d) low_place) (get_or_default high 0 e (get_or high 0 e) some_high))
+  head_written : (l rest : List X) (y : X) → length l ≡ j → 0 < length rest → l ++ set rest 0 y ≡ set (l ++ rest) j y
+  head_written l [] y long none = absurd (omega (arith, none))
+  head_written l (h ∷ hs) y long some = sym (set_at l h hs y j long)
 
-  pub both_down : ChangesTwo xs (set low i x ++ set high 0 y) j i (get_or high 0 e) (get_or low i d) y x
-  both_down =
-      subst (λ l. ChangesTwo l (set low i x ++ set high 0 y) j i (get_or high 0 e) (get_or low i d) y x) (sym is)
-      (halves_down low high i j (get_or low i d) (get_or high 0 e) x y low_place len some_high
-      (get_or_default low i d (get_or low i d) low_place) (get_or_default high 0 e (get_or high 0 e) some_high))
+  -- it is the whole with both, written in either order
+  pub written_up : (x y : X) → set low i x ++ set high 0 y ≡ set (set xs i x) j y
+  written_up x y =
+      head_written (set low i x) high y (length-set low i x ∙ len) some_high
+      ∙ ap (λ l. set l j y) (sym (ap (λ l. set l i x) is ∙ set-append_left low high i x low_place))
+
+  pub written_down : (x y : X) → set low i x ++ set high 0 y ≡ set (set xs j y) i x
+  written_down x y = written_up x y ∙ set_comm xs i j x y (λ e. absurd (omega (arith, e, before)))
+
+  pub in_low : (a : X) → a ≡ get_or low i a → a ≡ get_or xs i a
+  in_low a at = at ∙ (sym (get_or_append_left low high a i low_place) ∙ ap (λ l. get_or l i a) (sym is))
+
+  pub in_high : (b : X) → b ≡ get_or high 0 b → b ≡ get_or xs j b
+  in_high b at = at ∙ (head_read high some_high ∙ ap (λ l. get_or l j b) (sym is))
+    where
+      head_read : (rest : List X) → 0 < length rest → get_or rest 0 b ≡ get_or (low ++ rest) j b
+      head_read [] none = absurd (omega (arith, none))
+      head_read (h ∷ hs) some = sym (get_or_at low h hs b j len)

@@ -107,10 +107,6 @@ module _ {D : Type 0} where
     abbrev pub arms_at : List (CellValue D) → ℕ → Option (List (ℕ × ℕ))
     arms_at cells i = slice_index_or (map (λ (c : CellValue D). arms_under g c.node.disk) cells) i None
 
-    -- no disk was armed
-    abbrev pub HasSameArms : (old new : BenchValue D) → Type 0
-    HasSameArms old new = (i : ℕ) → arms_at new.cells i ≡ arms_at old.cells i
-
     -- the disk of a site tells what it holds
     abbrev pub IsToldAt : ℕ → BenchValue D → Type 0
     IsToldAt i bench = (c : CellValue D) → slice_get bench.cells i ≡ Some c → is_told g c.node.disk ≡ true

@@ -1,5 +1,5 @@
 -- What the building of a bench comes to, and what closing it gives.
-use Rattle.std.specs.Prelude.{◌≡◌, ◌<◌, ◌≤◌, ℕ, List, [], length, map, slice_get, Option, Some, Result, Ok, Err}
+use Rattle.std.specs.Prelude.{◌≡◌, ◌<◌, ◌≤◌, ℕ, List, [], length, map, slice_get, Option, Some, IfSome, Result, Ok, Err}
 use Rattle.walter_cell.specs.Cells.{CellValue}
 use Rattle.walter_cell.specs.Lines.{LineValue, IsLine}
 use Rattle.walter_cell.specs.Written.{AreWritten}
@@ -21,6 +21,10 @@ AreUnwritten before conns = (number : ℕ) (line : LineValue)
     → slice_get conns number ≡ Some line → AreWritten (before number) [] line.incoming.state line.sent
 
 module _ {D : Type 0} (g : Ghosts D) where
+  -- no disk was armed, where it tells that
+  abbrev pub AreUnarmed : List D → Type 0
+  AreUnarmed disks = (i : ℕ) (disk : D) → slice_get disks i ≡ Some disk → IfSome (g.known disk).arms (λ arms. arms ≡ [])
+
   -- what the building leaves of the disk of a site, which it was given so
   pub record LeavesDisk (disk now : D) : Type 0 where
     pub images : (bytes : List ℕ) → HasOnly g bytes disk

@@ -1,5 +1,6 @@
--- What the trails of all sites are at a moment and how many packets have arrived, and what an event makes of it.
-use Rattle.std.specs.Prelude.{◌≡◌, ◌≢◌, ◌⊎◌, ◌+◌, ◌∷◌, max, ℕ, zero, suc, List, [], length, replicate, reverse, slice_get, Option, Some, None}
+-- What the trails of all sites are at a moment, how many packets have arrived and how the disks are armed, and what an event
+-- makes of it.
+use Rattle.std.specs.Prelude.{◌≡◌, ◌≢◌, ◌⊎◌, ◌+◌, ◌∷◌, ◌++◌, max, ℕ, zero, suc, List, [], length, replicate, reverse, slice_get, Option, Some, None, option_map, IfSome}
 use Rattle.walter_base.specs.declared.catalog.Catalog.{Catalog}
 use Rattle.walter_base.specs.declared.names.SiteId.{SiteId}
 use Rattle.walter_cell.specs.declared.answers.Acted.{Acted}
@@ -17,20 +18,27 @@ use Rattle.walter_rules.specs.declared.event.Event.TheVariants as event
 use Rattle.walter_rules.specs.declared.event.Input.TheVariants as input
 use Rattle.walter_rules.specs.Merges.{Stamped, put_out_to, trail_of}
 use Rattle.walter_rules.specs.Trails.{clock, opening}
-use Rattle.walter_cluster.specs.Benches.{BenchValue, AreMet, IsToldAt, trails_of, ins_at}
+use Rattle.walter_cluster.specs.Benches.{BenchValue, AreMet, IsToldAt, trails_of, ins_at, arms_at}
 
--- the trails of all sites, in order; and how many packets have arrived at a site from another
+-- the trails of all sites, in order; how many packets have arrived at a site from another; and the calls of `arm` at each
+-- site's disk, in order, where the disk tells them
 pub record Moment : Type 0 where
   pub trails : List (List Entry)
   pub arrived : (to from : ℕ) → ℕ
+  pub arms : ℕ → Option (List (ℕ × ℕ))
 
-abbrev pub moment_of : {D : Type 0} → List (CellValue D) → Moment
-moment_of cells = record { trails = trails_of cells; arrived = λ to from. length (arrived_from (ins_at cells to) from) }
+abbrev pub moment_of : {D : Type 0} → Ghosts D → List (CellValue D) → Moment
+moment_of g cells = record {
+  trails = trails_of cells;
+  arrived = λ to from. length (arrived_from (ins_at cells to) from);
+  arms = arms_at g cells;
+}
 
--- before the first step: each trail has its opening alone, and nothing has arrived
+-- before the first step: each trail has its opening alone, nothing has arrived, and no disk was armed
 pub record IsFirst (sites : ℕ) (m : Moment) : Type 0 where
   pub openings : m.trails ≡ replicate sites (opening ∷ [])
   pub none_arrived : (to from : ℕ) → m.arrived to from ≡ 0
+  pub none_armed : (i : ℕ) → IfSome (m.arms i) (λ arms. arms ≡ [])
 
 -- the stamp of the last entry of a site
 abbrev pub clock_at : Moment → SiteId → ℕ
@@ -38,10 +46,15 @@ clock_at m i = clock (reverse (trail_of m.trails i))
 
 -- ---- what changes
 
--- no trail but that of one site changes
+-- no disk is armed
+abbrev pub KeepsArms : (old new : Moment) → Type 0
+KeepsArms old new = (i : ℕ) → new.arms i ≡ old.arms i
+
+-- no trail but that of one site changes, and no disk is armed
 pub record ChangesAt (i : SiteId) (old new : Moment) : Type 0 where
   pub sites : length new.trails ≡ length old.trails
   pub others : (j : SiteId) → j ≢ i → trail_of new.trails j ≡ trail_of old.trails j
+  pub arms : KeepsArms old new
 
 -- no packet arrives
 abbrev pub NoneArrive : (old new : Moment) → Type 0
@@ -69,7 +82,7 @@ abbrev pub Drops : {D : Type 0} → Ghosts D → SiteId
     → (old new : BenchValue D) → Type 0
 Drops {D = D} g i old new =
     AreMet old → IsToldAt g i.0 old → (c : CellValue D) → slice_get old.cells i.0 ≡ Some c
-    → DropsAt c.node.catalog i (moment_of old.cells) (moment_of new.cells)
+    → DropsAt c.node.catalog i (moment_of g old.cells) (moment_of g new.cells)
 
 -- ---- what calls of a bench come to
 
@@ -107,10 +120,17 @@ HandsOver from number put last old new moved.Did = HasPlace (stamp_for last put)
 
 -- where the trail is spent, nothing changes; else all arrives first
 pub data MovesAt (to from : SiteId) (number : ℕ) (old new : Moment) : Moved → Type 0 where
-  at_once : IsSpent (clock_at old to + 1) (trail_of old.trails to) → new.trails ≡ old.trails → NoneArrive old new
+  at_once : IsSpent (clock_at old to + 1) (trail_of old.trails to) → new ≡ old
       → MovesAt to from number old new moved.Spent
   arrives : (answer : Moved) → HasPlace (clock_at old to + 1) (trail_of old.trails to) → AllArrive to old new
       → ChangesAt to old new
       → HandsOver from number (put_out_as old.trails to from number) (clock_at old to) (trail_of old.trails to)
       (trail_of new.trails to) answer
       → MovesAt to from number old new answer
+
+-- the disk of a site is armed once more, behind what it was armed before, where it tells that; nothing else changes
+pub record ArmsAt (i : SiteId) (nth choice : ℕ) (old new : Moment) : Type 0 where
+  pub here : new.arms i.0 ≡ option_map (λ arms. arms ++ (nth, choice) ∷ []) (old.arms i.0)
+  pub others : (j : ℕ) → j ≢ i.0 → new.arms j ≡ old.arms j
+  pub trails : new.trails ≡ old.trails
+  pub none_arrive : NoneArrive old new

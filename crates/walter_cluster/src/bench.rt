@@ -1,11 +1,11 @@
-ghost use Rattle.std.specs.Prelude.{◌≡◌, ◌≢◌, ◌<◌, ℕ, List, length, slice_get, option_map, ◌++◌, ◌∷◌, [], Some, true, OnErr, OnOk, IfOk};
+ghost use Rattle.std.specs.Prelude.{◌≡◌, ◌≢◌, ◌<◌, ℕ, List, length, slice_get, Some, true, OnErr, OnOk, IfOk};
 ghost use Rattle.walter_base.specs.declared.names.SiteId.{SiteId};
 ghost use Rattle.walter_cell.specs.Entries.{IsPlain};
 ghost use Rattle.walter_cell.specs.Lines.{CanFail, HasFaultAt, IsLineAt};
 ghost use Rattle.walter_rules.specs.declared.event.Event.TheVariants as event;
 ghost use Rattle.walter_rules.specs.declared.event.Input.TheVariants as input;
 ghost use Rattle.walter_trail.specs.Calls.{calls_of};
-ghost use Rattle.walter_cluster.specs.Moments.{moment_of, trail_at, TurnsAt, ActsAt, MovesAt, Drops};
+ghost use Rattle.walter_cluster.specs.Moments.{moment_of, trail_at, KeepsArms, TurnsAt, ActsAt, MovesAt, ArmsAt, Drops};
 
 use crate::meeting::meet_all;
 use std::alloc::Global;
@@ -51,7 +51,7 @@ impl<D: Disk, S: Source + Drop, K: Sink + Drop> Model for Bench<D, S, K> {
 }
 
 impl<D: Disk + Drop, S: Source + Drop, K: Sink + Drop> Bench<D, S, K> {
-    ghost use Rattle.walter_cluster.specs.Benches.{BenchValue, Keeps, AreMet, HasSameArms, IsToldAt, arms_at, lines_at};
+    ghost use Rattle.walter_cluster.specs.Benches.{BenchValue, Keeps, AreMet, IsToldAt, lines_at, trails_of};
 
     /// Gives a client its turn at its site: its next call comes to the trail there, or nothing does.
     pub fn turn(&mut self, alloc: Global, number: u32) -> Mem<Serve>
@@ -61,11 +61,11 @@ impl<D: Disk + Drop, S: Source + Drop, K: Sink + Drop> Bench<D, S, K> {
             → IsLineAt bytes (calls_of number (trail_at self.old.cells home)) (lines_at self.old.cells home.0) number
             → IfOk result (TurnsAt home number bytes
             (HasFaultAt (lines_at self.new.cells home.0) number × CanFail S.Source K.Sink)
-            (moment_of self.old.cells) (moment_of self.new.cells)) }
+            (moment_of D.Disk self.old.cells) (moment_of D.Disk self.new.cells)) }
         ensures drops { (home : SiteId) → slice_get self.old.homes number ≡ Some home
             → Drops D.Disk home self.old self.new }
-        ensures kept { OnErr result ((moment_of self.new.cells).trails ≡ (moment_of self.old.cells).trails) }
-        ensures arms { HasSameArms D.Disk self.old self.new }
+        ensures kept { OnErr result (trails_of self.new.cells ≡ trails_of self.old.cells) }
+        ensures arms { KeepsArms (moment_of D.Disk self.old.cells) (moment_of D.Disk self.new.cells) }
     {
         let home = self.homes[number as usize];
         self.cells[usize::from(home.0)].serve(alloc, number)
@@ -78,10 +78,11 @@ impl<D: Disk + Drop, S: Source + Drop, K: Sink + Drop> Bench<D, S, K> {
         requires from { from.0 < length self.old.cells }
         requires apart { from ≢ to }
         ensures keeps { Keeps D.Disk self.old self.new }
-        ensures moves { IfOk result (MovesAt to from number (moment_of self.old.cells) (moment_of self.new.cells)) }
+        ensures moves { IfOk result (MovesAt to from number (moment_of D.Disk self.old.cells)
+            (moment_of D.Disk self.new.cells)) }
         ensures drops { Drops D.Disk to self.old self.new }
-        ensures kept { OnErr result ((moment_of self.new.cells).trails ≡ (moment_of self.old.cells).trails) }
-        ensures arms { HasSameArms D.Disk self.old self.new }
+        ensures kept { OnErr result (trails_of self.new.cells ≡ trails_of self.old.cells) }
+        ensures arms { KeepsArms (moment_of D.Disk self.old.cells) (moment_of D.Disk self.new.cells) }
     {
         let place = usize::from(to.0);
         if self.cells[place].is_spent() {
@@ -95,11 +96,11 @@ impl<D: Disk + Drop, S: Source + Drop, K: Sink + Drop> Bench<D, S, K> {
     pub fn advance(&mut self, at: SiteId, from: SiteId) -> Mem<Acted>
         requires { at.0 < length self.old.cells }
         ensures keeps { Keeps D.Disk self.old self.new }
-        ensures acts { IfOk result (ActsAt at (event.Given (input.Advance from)) (moment_of self.old.cells)
-            (moment_of self.new.cells)) }
+        ensures acts { IfOk result (ActsAt at (event.Given (input.Advance from)) (moment_of D.Disk self.old.cells)
+            (moment_of D.Disk self.new.cells)) }
         ensures drops { Drops D.Disk at self.old self.new }
-        ensures kept { OnErr result ((moment_of self.new.cells).trails ≡ (moment_of self.old.cells).trails) }
-        ensures arms { HasSameArms D.Disk self.old self.new }
+        ensures kept { OnErr result (trails_of self.new.cells ≡ trails_of self.old.cells) }
+        ensures arms { KeepsArms (moment_of D.Disk self.old.cells) (moment_of D.Disk self.new.cells) }
     {
         self.act(at, Event::Given(Input::Advance { from }))
     }
@@ -108,11 +109,11 @@ impl<D: Disk + Drop, S: Source + Drop, K: Sink + Drop> Bench<D, S, K> {
     pub fn tick(&mut self, site: SiteId) -> Mem<Acted>
         requires { site.0 < length self.old.cells }
         ensures keeps { Keeps D.Disk self.old self.new }
-        ensures acts { IfOk result (ActsAt site (event.Given input.Tick) (moment_of self.old.cells)
-            (moment_of self.new.cells)) }
+        ensures acts { IfOk result (ActsAt site (event.Given input.Tick) (moment_of D.Disk self.old.cells)
+            (moment_of D.Disk self.new.cells)) }
         ensures drops { Drops D.Disk site self.old self.new }
-        ensures kept { OnErr result ((moment_of self.new.cells).trails ≡ (moment_of self.old.cells).trails) }
-        ensures arms { HasSameArms D.Disk self.old self.new }
+        ensures kept { OnErr result (trails_of self.new.cells ≡ trails_of self.old.cells) }
+        ensures arms { KeepsArms (moment_of D.Disk self.old.cells) (moment_of D.Disk self.new.cells) }
     {
         self.act(site, Event::Given(Input::Tick))
     }
@@ -121,10 +122,11 @@ impl<D: Disk + Drop, S: Source + Drop, K: Sink + Drop> Bench<D, S, K> {
     pub fn stop(&mut self, site: SiteId) -> Mem<Acted>
         requires { site.0 < length self.old.cells }
         ensures keeps { Keeps D.Disk self.old self.new }
-        ensures acts { IfOk result (ActsAt site event.Stop (moment_of self.old.cells) (moment_of self.new.cells)) }
+        ensures acts { IfOk result (ActsAt site event.Stop (moment_of D.Disk self.old.cells)
+            (moment_of D.Disk self.new.cells)) }
         ensures drops { Drops D.Disk site self.old self.new }
-        ensures kept { OnErr result ((moment_of self.new.cells).trails ≡ (moment_of self.old.cells).trails) }
-        ensures arms { HasSameArms D.Disk self.old self.new }
+        ensures kept { OnErr result (trails_of self.new.cells ≡ trails_of self.old.cells) }
+        ensures arms { KeepsArms (moment_of D.Disk self.old.cells) (moment_of D.Disk self.new.cells) }
     {
         self.act(site, Event::Stop)
     }
@@ -133,10 +135,11 @@ impl<D: Disk + Drop, S: Source + Drop, K: Sink + Drop> Bench<D, S, K> {
     pub fn restart(&mut self, site: SiteId) -> Mem<Acted>
         requires { site.0 < length self.old.cells }
         ensures keeps { Keeps D.Disk self.old self.new }
-        ensures acts { IfOk result (ActsAt site event.Restart (moment_of self.old.cells) (moment_of self.new.cells)) }
+        ensures acts { IfOk result (ActsAt site event.Restart (moment_of D.Disk self.old.cells)
+            (moment_of D.Disk self.new.cells)) }
         ensures drops { Drops D.Disk site self.old self.new }
-        ensures kept { OnErr result ((moment_of self.new.cells).trails ≡ (moment_of self.old.cells).trails) }
-        ensures arms { HasSameArms D.Disk self.old self.new }
+        ensures kept { OnErr result (trails_of self.new.cells ≡ trails_of self.old.cells) }
+        ensures arms { KeepsArms (moment_of D.Disk self.old.cells) (moment_of D.Disk self.new.cells) }
     {
         self.act(site, Event::Restart)
     }
@@ -146,10 +149,11 @@ impl<D: Disk + Drop, S: Source + Drop, K: Sink + Drop> Bench<D, S, K> {
         requires there { site.0 < length self.old.cells }
         requires plain { IsPlain event }
         ensures keeps { Keeps D.Disk self.old self.new }
-        ensures acts { IfOk result (ActsAt site event (moment_of self.old.cells) (moment_of self.new.cells)) }
+        ensures acts { IfOk result (ActsAt site event (moment_of D.Disk self.old.cells)
+            (moment_of D.Disk self.new.cells)) }
         ensures drops { Drops D.Disk site self.old self.new }
-        ensures kept { OnErr result ((moment_of self.new.cells).trails ≡ (moment_of self.old.cells).trails) }
-        ensures arms { HasSameArms D.Disk self.old self.new }
+        ensures kept { OnErr result (trails_of self.new.cells ≡ trails_of self.old.cells) }
+        ensures arms { KeepsArms (moment_of D.Disk self.old.cells) (moment_of D.Disk self.new.cells) }
     {
         self.cells[usize::from(site.0)].act(event)
     }
@@ -159,12 +163,9 @@ impl<D: Disk + Drop, S: Source + Drop, K: Sink + Drop> Bench<D, S, K> {
         requires there { site.0 < length self.old.cells }
         requires first { 0 < nth }
         ensures keeps { Keeps D.Disk self.old self.new }
-        ensures same { moment_of self.new.cells ≡ moment_of self.old.cells }
-        ensures armed { OnOk result (arms_at D.Disk self.new.cells site.0
-            ≡ option_map (λ arms. arms ++ (nth, choice) ∷ []) (arms_at D.Disk self.old.cells site.0)) }
-        ensures unarmed { OnErr result (HasSameArms D.Disk self.old self.new) }
-        ensures others { (i : ℕ) → i ≢ site.0
-            → arms_at D.Disk self.new.cells i ≡ arms_at D.Disk self.old.cells i }
+        ensures arms { OnOk result (ArmsAt site nth choice (moment_of D.Disk self.old.cells)
+            (moment_of D.Disk self.new.cells)) }
+        ensures kept { OnErr result (moment_of D.Disk self.new.cells ≡ moment_of D.Disk self.old.cells) }
     {
         self.cells[usize::from(site.0)].arm(nth, choice)
     }

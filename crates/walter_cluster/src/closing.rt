@@ -8,6 +8,7 @@ ghost use Rattle.walter_cluster.specs.Builds.{GivesBack};
 ghost use Rattle.walter_cluster.specs.Meetings.{HaveLanes, Begins};
 
 use crate::bench::Bench;
+use crate::lending::lend_two;
 use walter_base::SiteId;
 use walter_cell::{Cell, Line};
 use walter_disk::Disk;
@@ -96,12 +97,8 @@ fn compare_one<D: Disk + Drop, S: Source + Drop, K: Sink + Drop>(
     ensures same { cells.new ≡ cells.old }
     ensures begins { to ≢ from → Begins cells.old to from }
 {
-    let (receiver, sender) = (SiteId(to as u8), SiteId(from as u8));
-    if from < to {
-        let (low, high) = cells.split_at_mut(to);
-        high[0].compare(receiver, &mut low[from], sender);
-    } else if to < from {
-        let (low, high) = cells.split_at_mut(from);
-        low[to].compare(receiver, &mut high[0], sender);
+    if to != from {
+        let (receiver, sender) = lend_two(cells, to, from);
+        receiver.compare(SiteId(to as u8), sender, SiteId(from as u8));
     }
 }

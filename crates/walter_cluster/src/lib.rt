@@ -4,6 +4,7 @@
 mod bench;
 mod closing;
 mod connecting;
+mod lending;
 mod meeting;
 mod opening;
 mod seating;

@@ -2,6 +2,7 @@ ghost use Rattle.std.specs.Prelude.{◌≡◌, ◌≢◌, ◌<◌, ◌≤◌, �
 ghost use Rattle.walter_base.specs.Vectors.{most_sites};
 ghost use Rattle.walter_cluster.specs.Meetings.{HaveLanes, HaveAllMet, HaveStayed, HasArrived, IsAsBefore};
 
+use crate::lending::lend_two;
 use walter_base::{Mem, SiteId};
 use walter_cell::Cell;
 use walter_disk::Disk;
@@ -42,14 +43,9 @@ fn meet_one<D: Disk + Drop, S: Source + Drop, K: Sink + Drop>(
     ensures elsewhere { (i j : ℕ) → (i ≢ to) ⊎ ((j ≢ from) ⊎ (j ≡ to)) → IsAsBefore cells.old cells.new i j }
     ensures met { HaveAllMet cells.old → HaveAllMet cells.new }
 {
-    let (receiver, sender) = (SiteId(to as u8), SiteId(from as u8));
-    if from < to {
-        let (low, high) = cells.split_at_mut(to);
-        high[0].meet(receiver, &mut low[from], sender)
-    } else if to < from {
-        let (low, high) = cells.split_at_mut(from);
-        low[to].meet(receiver, &mut high[0], sender)
-    } else {
-        Ok(())
+    if to == from {
+        return Ok(());
     }
+    let (receiver, sender) = lend_two(cells, to, from);
+    receiver.meet(SiteId(to as u8), sender, SiteId(from as u8))
 }

@@ -5,7 +5,7 @@ ghost use Rattle.walter_cell.specs.Lines.{LineValue};
 ghost use Rattle.walter_cluster.specs.Benches.{IsOf, IsToldAt, AreAllConnected, AreAllAnswered, AreMet, disks_of};
 ghost use Rattle.walter_cluster.specs.Lanes.{rows_in, columns_in};
 ghost use Rattle.walter_cluster.specs.Seats.{lists_in};
-ghost use Rattle.walter_cluster.specs.Builds.{AreUnread, AreUnwritten, LeavesDisks, HadNoRecords, IsWhyNone};
+ghost use Rattle.walter_cluster.specs.Builds.{AreUnread, AreUnwritten, AreUnarmed, LeavesDisks, HadNoRecords, IsWhyNone};
 ghost use Rattle.walter_cluster.specs.Moments.{IsFirst, moment_of};
 ghost use Rattle.walter_cluster.specs.Openings.{HasPlaces, ArePrepared, IsBegunBench};
 
@@ -72,7 +72,8 @@ pub fn build<D: Disk + Drop, S: Source + Drop, K: Sink + Drop>(
     ensures answered { (before : ℕ → List ℕ) → AreUnwritten before conns.items
         → IfOk result (AreAllAnswered scenario.now before) }
     ensures met { IfOk result AreMet }
-    ensures first { IfOk result (λ bench. IsFirst scenario.now.catalog.sites (moment_of bench.cells)) }
+    ensures first { AreUnarmed D.Disk disks.items
+        → IfOk result (λ bench. IsFirst scenario.now.catalog.sites (moment_of D.Disk bench.cells)) }
     ensures leaves { LeavesDisks D.Disk disks.items result }
     ensures had_none { OnOk result (HadNoRecords D.Disk disks.items) }
     ensures why { IfErr result (λ unbuilt. IsWhyNone D.Disk disks.items unbuilt) }

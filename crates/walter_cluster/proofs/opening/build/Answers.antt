@@ -75,7 +75,7 @@ returns-clause-met g c =
     c.begin_all.ensures.begun
 
 pub returns-clause-first : goal.returns-clause-first
-returns-clause-first g c =
+returns-clause-first g c unarmed =
     let t = c.args.scenario.now in
     let parts = c.in-Ok.parts in
     let disks = c.args.disks.items in
@@ -83,8 +83,8 @@ returns-clause-first g c =
     let columns = columns_in parts.columns.items in
     let lists = lists_in parts.lists.items in
     let ready = c.in-Ok.ensures in
-    IfOk-weaker c.begin_all.result (IsBegunBench g.D.Disk t disks rows columns lists parts.homes.items) (λ (bench : BenchValue g.row.D.Denot). IsFirst t.catalog.sites (moment_of bench.cells))
-    (λ (bench : BenchValue g.row.D.Denot) begun. first_built g.D.Disk t disks rows columns lists bench.cells begun.begun c.requires.disks ready.joined)
+    IfOk-weaker c.begin_all.result (IsBegunBench g.D.Disk t disks rows columns lists parts.homes.items) (λ (bench : BenchValue g.row.D.Denot). IsFirst t.catalog.sites (moment_of g.D.Disk bench.cells))
+    (λ (bench : BenchValue g.row.D.Denot) begun. first_built g.D.Disk t disks rows columns lists bench.cells begun.begun c.requires.disks ready.joined unarmed)
     c.begin_all.ensures.begun
 
 pub returns-clause-had_none : goal.returns-clause-had_none

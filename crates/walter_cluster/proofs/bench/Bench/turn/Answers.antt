@@ -7,8 +7,8 @@ use Rattle.walter_cell.specs.Cells.{CellValue}
 use Rattle.walter_cell.specs.Lines.{LineValue, CanFail, IsLineAt, HasFaultAt}
 use Rattle.walter_rules.specs.declared.entry.Entry.{Entry}
 use Rattle.walter_trail.specs.Calls.{calls_of}
-use Rattle.walter_cluster.specs.Benches.{BenchValue, Keeps, HasSameArms, lines_at}
-use Rattle.walter_cluster.specs.Moments.{TurnsAt, Drops, moment_of, trail_at}
+use Rattle.walter_cluster.specs.Benches.{BenchValue, Keeps, lines_at, trails_of}
+use Rattle.walter_cluster.specs.Moments.{KeepsArms, TurnsAt, Drops, moment_of, trail_at}
 use Rattle.walter_cluster.proofs.Changes.{ChangesOne, one_there}
 use Rattle.walter_cluster.proofs.Benches.{one_at, trails_kept, proceeds_keeps, proceeds_arms, proceeds_drops, turns_at, trail_was, lines_was}
 use Rattle.walter_cluster.proofs.Keeping.{each_one, whole_kept, home_within, home_here}
@@ -87,7 +87,7 @@ returns-clause-arms g c =
     let x = c.serve.new.self in
     let new : List (CellValue g.row.D.Denot) = set old.cells c.from.result x in
     let one : ChangesOne old.cells new h.0 a x = one_at old.cells c.from.result h.0 a x c.from.ensures there c.index_mut.ensures.value in
-    subst (λ (v : BenchValue g.row.D.Denot). HasSameArms g.D.Disk v (record { cells = new; homes = old.homes })) c.self.view_is
+    subst (λ (v : BenchValue g.row.D.Denot). KeepsArms (moment_of g.D.Disk v.cells) (moment_of g.D.Disk new)) c.self.view_is
     (proceeds_arms g.D.Disk old.cells new h a x one old.homes c.serve.ensures.proceeds)
 
 pub returns-clause-kept : goal.returns-clause-kept
@@ -102,7 +102,7 @@ returns-clause-kept g c =
     let x = c.serve.new.self in
     let new : List (CellValue g.row.D.Denot) = set old.cells c.from.result x in
     let one : ChangesOne old.cells new h.0 a x = one_at old.cells c.from.result h.0 a x c.from.ensures there c.index_mut.ensures.value in
-    subst (λ (v : BenchValue g.row.D.Denot). OnErr c.serve.result ((moment_of new).trails ≡ (moment_of v.cells).trails)) c.self.view_is
+    subst (λ (v : BenchValue g.row.D.Denot). OnErr c.serve.result (trails_of new ≡ trails_of v.cells)) c.self.view_is
     (on_err_weaker c.serve.result (trails_kept g.D.Disk old.cells new h a x one) c.serve.ensures.kept)
 
 pub returns-clause-drops : goal.returns-clause-drops
@@ -146,9 +146,9 @@ returns-clause-turns g c = λ i bytes at is.
     (subst (λ (ls : List (Option LineValue)). IsLineAt bytes (calls_of c.args.number (trail_at old.cells h)) ls c.args.number)
     (lines_was g.D.Disk old.cells new h a x one) is) in
     subst (λ (v : BenchValue g.row.D.Denot). IfOk c.serve.result (TurnsAt i c.args.number bytes
-    (HasFaultAt (lines_at new i.0) c.args.number × CanFail g.S.Source g.K.Sink) (moment_of v.cells) (moment_of new))) c.self.view_is
+    (HasFaultAt (lines_at new i.0) c.args.number × CanFail g.S.Source g.K.Sink) (moment_of g.D.Disk v.cells) (moment_of g.D.Disk new))) c.self.view_is
     (subst (λ (i : SiteId). IfOk c.serve.result (TurnsAt i c.args.number bytes
-    (HasFaultAt (lines_at new i.0) c.args.number × CanFail g.S.Source g.K.Sink) (moment_of old.cells) (moment_of new))) same
+    (HasFaultAt (lines_at new i.0) c.args.number × CanFail g.S.Source g.K.Sink) (moment_of g.D.Disk old.cells) (moment_of g.D.Disk new))) same
     (IfOk-weaker c.serve.result _ _
-    (λ answer. turns_at g.D.Disk old.cells new h a x one (CanFail g.S.Source g.K.Sink) c.args.number bytes answer c.serve.ensures.proceeds.ins)
+    (λ answer. turns_at g.D.Disk old.cells new h a x one (CanFail g.S.Source g.K.Sink) c.args.number bytes answer c.serve.ensures.proceeds)
     (c.serve.ensures.turn bytes is)))
