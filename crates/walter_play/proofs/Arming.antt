@@ -1,15 +1,18 @@
 -- How arms go on, disk by disk.
-use Rattle.std.proofs.Common.{◌≡◌, ◌≢◌, ℕ, nat_eq, ◌<◌, List, [], ◌∷◌, ◌++◌, length, take, drop, get_or, Option, Some, None, option_map, refl, ap, sym, ◌∙◌, subst, ◌+◌, inl, inr, if◌then◌else◌}
+use Rattle.std.proofs.Common.{◌≡◌, ◌≢◌, ℕ, nat_eq, List, [], ◌∷◌, ◌++◌, map, Option, Some, None, option_map, refl, ap, sym, ◌∙◌, subst, inl, inr, if◌then◌else◌}
 use Rattle.std.proofs.lemmas.Bool.{cases_eq, eq-eqb, ne_eqb}
-use Rattle.std.proofs.lemmas.List.{append-nil, append_assoc, take_more, take-append-drop}
-use Rattle.std.proofs.lemmas.List.Concat.{flat_map-append}
+use Rattle.std.proofs.lemmas.List.{append-nil, append_assoc}
+use Rattle.std.proofs.lemmas.List.Concat.{flat_map-append, flat_map-cons}
 use Rattle.std.proofs.lemmas.List.Elements.{filter_map-append}
 use Rattle.std.specs.List.{cons_option}
-use Rattle.walter_disk.specs.declared.disk.Disk.{Ghosts}
+use Rattle.walter_base.specs.declared.names.SiteId.{SiteId}
+use Rattle.walter_cell.specs.declared.answers.Moved.{Moved}
+use Rattle.walter_cluster.specs.Moments.{Moment, KeepsArms, MovesAt, ArmsAt, at_once, arrives}
 use Rattle.walter_scenario.specs.declared.scenario.Arm.{Arm}
+use Rattle.walter_scenario.specs.declared.scenario.Scenario.{Scenario}
 use Rattle.walter_scenario.specs.declared.scenario.Step.{Step}
-use Rattle.walter_cluster.specs.Benches.{BenchValue, arms_at, HasSameArms}
-use Rattle.walter_play.specs.Scripts.{arms_for, arms_by, arms_of, AreArmed, ArmsMore}
+use Rattle.walter_scenario.specs.declared.scenario.Step.TheVariants as step
+use Rattle.walter_play.specs.Scripts.{arms_for, arms_by, arms_of, all_steps, AreArmed, ArmsMore, Takes, Plays}
 
 told_more : (before : Option (List (ℕ × ℕ))) (a b : List (ℕ × ℕ))
     → option_map (λ told. told ++ b) (option_map (λ told. told ++ a) before) ≡ option_map (λ told. told ++ (a ++ b)) before
@@ -35,83 +38,76 @@ for_other : (arm : Arm) (i : ℕ) → i ≢ arm.site.0 → arms_for i (arm ∷ [
 for_other arm i apart =
     ap (λ b. cons_option (if b then Some (arm.nth, arm.choice) else None) []) (ne_eqb arm.site.0 i (λ e. apart (sym e)))
 
-module _ {D : Type 0} (g : Ghosts D) where
-  pub armed_on : (old mid new : BenchValue D) (xs ys : List Arm) → AreArmed g old mid xs → AreArmed g mid new ys
-      → AreArmed g old new (xs ++ ys)
-  armed_on old mid new xs ys first second = λ i.
-      second i
-      ∙ (ap (λ o. option_map (λ told. told ++ arms_for i ys) o) (first i)
-      ∙ (told_more (arms_at g old.cells i) (arms_for i xs) (arms_for i ys)
-      ∙ ap (λ m. option_map (λ told. told ++ m) (arms_at g old.cells i)) (sym (for_more i xs ys))))
+-- ---- one step after another
 
-  -- where the arms are as before
-  pub armed_none : (old new : BenchValue D) → HasSameArms g old new → AreArmed g old new []
-  armed_none old new same = λ i. same i ∙ sym (told_same (arms_at g old.cells i))
+armed_on : (old mid new : Moment) (xs ys : List Arm) → AreArmed old mid xs → AreArmed mid new ys → AreArmed old new (xs ++ ys)
+armed_on old mid new xs ys first second = λ i.
+    second i
+    ∙ (ap (λ o. option_map (λ told. told ++ arms_for i ys) o) (first i)
+    ∙ (told_more (old.arms i) (arms_for i xs) (arms_for i ys)
+    ∙ ap (λ m. option_map (λ told. told ++ m) (old.arms i)) (sym (for_more i xs ys))))
 
-  pub armed_one : (old new : BenchValue D) (arm : Arm)
-      → arms_at g new.cells arm.site.0
-      ≡ option_map (λ arms. arms ++ (arm.nth, arm.choice) ∷ []) (arms_at g old.cells arm.site.0)
-      → ((i : ℕ) → i ≢ arm.site.0 → arms_at g new.cells i ≡ arms_at g old.cells i)
-      → AreArmed g old new (arm ∷ [])
-  armed_one old new arm here others = λ i. elim (cases_eq i arm.site.0) [
-    | inl same ↦
-        ap (λ n. arms_at g new.cells n) same
-        ∙ (here
-        ∙ (ap (λ n. option_map (λ arms. arms ++ (arm.nth, arm.choice) ∷ []) (arms_at g old.cells n)) (sym same)
-        ∙ ap (λ m. option_map (λ told. told ++ m) (arms_at g old.cells i)) (sym (for_here arm i (sym same)))))
-    | inr apart ↦
-        others i apart
-        ∙ (sym (told_same (arms_at g old.cells i))
-        ∙ ap (λ m. option_map (λ told. told ++ m) (arms_at g old.cells i)) (sym (for_other arm i apart)))
-  ]
+armed_none : (old new : Moment) → KeepsArms old new → AreArmed old new []
+armed_none old new same = λ i. same i ∙ sym (told_same (old.arms i))
 
-  pub more_none : (old new : BenchValue D) (all : List Arm) → AreArmed g old new [] → ArmsMore g old new all
-  more_none old new all armed = ([], all, refl, armed)
+armed_one : (old new : Moment) (arm : Arm) → ArmsAt arm.site arm.nth arm.choice old new → AreArmed old new (arm ∷ [])
+armed_one old new arm arms = λ i. elim (cases_eq i arm.site.0) [
+  | inl same ↦
+      ap new.arms same
+      ∙ (arms.here
+      ∙ (ap (λ n. option_map (λ told. told ++ (arm.nth, arm.choice) ∷ []) (old.arms n)) (sym same)
+      ∙ ap (λ m. option_map (λ told. told ++ m) (old.arms i)) (sym (for_here arm i (sym same)))))
+  | inr apart ↦
+      arms.others i apart
+      ∙ (sym (told_same (old.arms i))
+      ∙ ap (λ m. option_map (λ told. told ++ m) (old.arms i)) (sym (for_other arm i apart)))
+]
 
-  pub more_all : (old new : BenchValue D) (all : List Arm) → AreArmed g old new all → ArmsMore g old new all
-  more_all old new all armed = (all, [], sym (append-nil all), armed)
+moved_none : (to from : SiteId) (number : ℕ) (old new : Moment) (answer : Moved) → MovesAt to from number old new answer → KeepsArms old new
+moved_none to from number old new answer (at_once spent same) = λ i. ap (λ (m : Moment). m.arms i) same
+moved_none to from number old new answer (arrives _ place all changes hands) = changes.arms
 
-  -- those of what came before, with the first ones of what comes
-  pub more_on : (old mid new : BenchValue D) (done some rest : List Arm) → AreArmed g old mid done
-      → ArmsMore g mid new some → ArmsMore g old new (done ++ (some ++ rest))
-  more_on old mid new done some rest armed more = (
-    done ++ more.0,
-    more.1 ++ rest,
-    ap (λ xs. done ++ (xs ++ rest)) more.2
-        ∙ (ap (λ xs. done ++ xs) (append_assoc more.0 more.1 rest) ∙ sym (append_assoc done more.0 (more.1 ++ rest))),
-    armed_on old mid new done more.0 armed more.3,
-  )
+-- what is armed by a step, and by steps in order
+step_arms : (told : ℕ → Type 0) (t : Scenario) (one : Step) (old new : Moment) → Takes told t one old new → AreArmed old new (arms_by one)
+step_arms told t (step.Call number) old new takes = armed_none old new takes.turns.others.arms
+step_arms told t (step.Deliver to from number) old new takes = armed_none old new (moved_none to from number old new takes.answer takes.moves)
+step_arms told t (step.Advance at from) old new takes = armed_none old new takes.acts.others.arms
+step_arms told t (step.Tick site) old new takes = armed_none old new takes.acts.others.arms
+step_arms told t (step.Stop site) old new takes = armed_none old new takes.acts.others.arms
+step_arms told t (step.Restart site) old new takes = armed_none old new takes.acts.others.arms
+step_arms told t (step.Arm arm) old new takes = armed_one old new arm takes
 
-  pub armed_next : (old mid new : BenchValue D) (all : List Arm) (i : ℕ) (d : Arm) → i < length all
-      → AreArmed g old mid (take i all) → AreArmed g mid new (get_or all i d ∷ []) → AreArmed g old new (take (i + 1) all)
-  armed_next old mid new all i d within before armed =
-      subst (λ front. AreArmed g old new front) (sym (take_more all i d within))
-      (armed_on old mid new (take i all) (get_or all i d ∷ []) before armed)
+steps_arm : (told : ℕ → Type 0) (t : Scenario) (steps : List Step) (old new : Moment) → Plays told t steps old new
+    → AreArmed old new (arms_of steps)
+steps_arm told t [] old new same = armed_none old new (λ i. ap (λ (m : Moment). m.arms i) same)
+steps_arm told t (one ∷ steps) old new plays =
+    subst (λ (arms : List Arm). AreArmed old new arms) (sym (flat_map-cons arms_by one steps))
+    (armed_on old plays.0 new (arms_by one) (arms_of steps) (step_arms told t one old plays.0 plays.1)
+    (steps_arm told t steps plays.0 new plays.2))
 
-  -- where an arm isn't told, those before it were
-  pub arms_before : (old mid new : BenchValue D) (all rest : List Arm) (i : ℕ) → AreArmed g old mid (take i all)
-      → AreArmed g mid new [] → ArmsMore g old new (all ++ rest)
-  arms_before old mid new all rest i armed none = (
-    take i all,
-    drop i all ++ rest,
-    ap (λ xs. xs ++ rest) (sym (take-append-drop i all)) ∙ append_assoc (take i all) (drop i all) rest,
-    subst (λ xs. AreArmed g old new xs) (append-nil (take i all)) (armed_on old mid new (take i all) [] armed none),
-  )
+-- ---- a scenario's
 
--- what the steps up to one, that one, and the rest arm
-pub next_arms : (arms : List Arm) (steps : List Step) (i : ℕ) (d : Step) → i < length steps
-    → arms ++ arms_of (take (i + 1) steps) ≡ (arms ++ arms_of (take i steps)) ++ arms_of (get_or steps i d ∷ [])
-next_arms arms steps i d within =
-    ap (λ xs. arms ++ arms_of xs) (take_more steps i d within)
-    ∙ (ap (λ xs. arms ++ xs) (flat_map-append arms_by (take i steps) (get_or steps i d ∷ []))
-    ∙ sym (append_assoc arms (arms_of (take i steps)) (arms_of (get_or steps i d ∷ []))))
+arms_alone : (arms : List Arm) → arms_of (map (λ (arm : Arm). step.Arm arm) arms) ≡ arms
+arms_alone [] = refl
+arms_alone (arm ∷ arms) =
+    flat_map-cons arms_by (step.Arm arm) (map (λ (arm : Arm). step.Arm arm) arms) ∙ ap (λ xs. arm ∷ xs) (arms_alone arms)
 
-pub arms_split : (arms : List Arm) (steps : List Step) (i : ℕ) (d : Step) → i < length steps
-    → (arms ++ arms_of (take i steps)) ++ (arms_of (get_or steps i d ∷ []) ++ arms_of (drop (i + 1) steps))
-    ≡ arms ++ arms_of steps
-arms_split arms steps i d within =
-    sym (append_assoc (arms ++ arms_of (take i steps)) (arms_of (get_or steps i d ∷ [])) (arms_of (drop (i + 1) steps)))
-    ∙ (ap (λ xs. xs ++ arms_of (drop (i + 1) steps)) (sym (next_arms arms steps i d within))
-    ∙ (append_assoc arms (arms_of (take (i + 1) steps)) (arms_of (drop (i + 1) steps))
-    ∙ ap (λ xs. arms ++ xs)
-    (sym (flat_map-append arms_by (take (i + 1) steps) (drop (i + 1) steps)) ∙ ap arms_of (take-append-drop (i + 1) steps))))
+arms_of_all : (t : Scenario) → arms_of (all_steps t) ≡ t.arms ++ arms_of t.steps
+arms_of_all t =
+    flat_map-append arms_by (map (λ (arm : Arm). step.Arm arm) t.arms) t.steps ∙ ap (λ xs. xs ++ arms_of t.steps) (arms_alone t.arms)
+
+-- where all steps are taken, all is armed
+pub all_armed : (told : ℕ → Type 0) (t : Scenario) (old new : Moment) → Plays told t (all_steps t) old new
+    → AreArmed old new (t.arms ++ arms_of t.steps)
+all_armed told t old new plays =
+    subst (λ (arms : List Arm). AreArmed old new arms) (arms_of_all t) (steps_arm told t (all_steps t) old new plays)
+
+-- where only the first ones are, what they arm
+pub some_armed : (told : ℕ → Type 0) (t : Scenario) (some rest : List Step) (old mid new : Moment) → all_steps t ≡ some ++ rest
+    → Plays told t some old mid → KeepsArms mid new → ArmsMore old new (t.arms ++ arms_of t.steps)
+some_armed told t some rest old mid new all plays same = (
+  arms_of some,
+  arms_of rest,
+  sym (arms_of_all t) ∙ (ap arms_of all ∙ flat_map-append arms_by some rest),
+  λ i. same i ∙ steps_arm told t some old mid plays i,
+)

@@ -1,6 +1,7 @@
 -- How steps go on.
-use Rattle.std.proofs.Common.{◌≡◌, ℕ, zero, suc, ◌<◌, List, [], ◌∷◌, ◌++◌, ◌∙◌, length, slice_get, Option, Some, option_map, refl, ap, sym, subst, arith, inl, inr}
+use Rattle.std.proofs.Common.{◌≡◌, ℕ, zero, suc, ◌+◌, ◌<◌, List, [], ◌∷◌, ◌++◌, ◌∙◌, length, map, take, drop, get_or, slice_get, Option, Some, option_map, refl, ap, sym, subst, arith, inl, inr}
 use Rattle.std.specs.Prelude.{All}
+use Rattle.std.proofs.lemmas.List.{append_assoc, map-append, take_more, take-append-drop}
 use Rattle.std.proofs.lemmas.List.Elements.{All-contains}
 use Rattle.std.proofs.lemmas.Option.{slice_get-map}
 use Rattle.walter_base.specs.declared.catalog.Catalog.{Catalog}
@@ -15,6 +16,7 @@ use Rattle.walter_cluster.proofs.Changes.{there_is, field_at}
 use Rattle.walter_disk.specs.declared.disk.Disk.{Ghosts}
 use Rattle.walter_psi.proofs.Lists.{contains_at}
 use Rattle.walter_rules.specs.declared.entry.Entry.{Entry}
+use Rattle.walter_scenario.specs.declared.scenario.Arm.{Arm}
 use Rattle.walter_scenario.specs.declared.scenario.Client.{Client}
 use Rattle.walter_scenario.specs.declared.scenario.Scenario.{Scenario}
 use Rattle.walter_scenario.specs.declared.scenario.Step.{Step}
@@ -75,6 +77,30 @@ plays_more told t [] one old now new plays takes =
 plays_more told t (first ∷ steps) one old now new plays takes =
     (plays.0, plays.1, plays_more told t steps one plays.0 now new plays.2 takes)
 
+-- ---- the steps of a scenario
+
+abbrev arming : List Arm → List Step
+arming arms = map (λ (arm : Arm). step.Arm arm) arms
+
+-- one more arm before the first step
+pub arming_more : (arms : List Arm) (i : ℕ) (d : Arm) → i < length arms → arming (take (i + 1) arms) ≡ arming (take i arms) ++ step.Arm (get_or arms i d) ∷ []
+arming_more arms i d within = ap arming (take_more arms i d within) ∙ map-append (λ (arm : Arm). step.Arm arm) (take i arms) (get_or arms i d ∷ [])
+
+-- one more step behind what came before
+pub steps_more : (front steps : List Step) (i : ℕ) (d : Step) → i < length steps → front ++ take (i + 1) steps ≡ (front ++ take i steps) ++ get_or steps i d ∷ []
+steps_more front steps i d within = ap (λ xs. front ++ xs) (take_more steps i d within) ∙ sym (append_assoc front (take i steps) (get_or steps i d ∷ []))
+
+-- the first ones, and the rest
+pub arming_split : (arms : List Arm) (steps : List Step) (i : ℕ) → arming arms ++ steps ≡ arming (take i arms) ++ (arming (drop i arms) ++ steps)
+arming_split arms steps i =
+    ap (λ xs. arming xs ++ steps) (sym (take-append-drop i arms))
+    ∙ (ap (λ xs. xs ++ steps) (map-append (λ (arm : Arm). step.Arm arm) (take i arms) (drop i arms))
+    ∙ append_assoc (arming (take i arms)) (arming (drop i arms)) steps)
+
+pub steps_split : (front steps : List Step) (i : ℕ) → front ++ steps ≡ (front ++ take i steps) ++ drop i steps
+steps_split front steps i =
+    ap (λ xs. front ++ xs) (sym (take-append-drop i steps)) ∙ sym (append_assoc front (take i steps) (drop i steps))
+
 -- ---- a client's turn
 
 -- the site of a client, of which so much was read
@@ -99,8 +125,8 @@ turn_of {D = D} t bench number client is connected within there =
 
 -- what a site drops that is one of the scenario's
 pub drops_of : {D : Type 0} (g : Ghosts D) (t : Scenario) (old new : BenchValue D) (i : SiteId) → IsOf t old → AreMet old
-    → i.0 < t.catalog.sites → Drops g i old new → IsToldAt g i.0 old → DropsAt t.catalog i (moment_of old.cells) (moment_of new.cells)
+    → i.0 < t.catalog.sites → Drops g i old new → IsToldAt g i.0 old → DropsAt t.catalog i (moment_of g old.cells) (moment_of g new.cells)
 drops_of g t old new i is met site drops told =
     let long = is.sites in
     let c = there_is old.cells i.0 (omega (arith, site, long)) in
-    subst (λ (k : Catalog). DropsAt k i (moment_of old.cells) (moment_of new.cells)) (is.catalogs i.0 c.0 c.1) (drops met told c.0 c.1)
+    subst (λ (k : Catalog). DropsAt k i (moment_of g old.cells) (moment_of g new.cells)) (is.catalogs i.0 c.0 c.1) (drops met told c.0 c.1)

@@ -1,12 +1,10 @@
 -- How a scenario is played: by its steps, in order (docs/FORMATS.md, "Scenarios").
-use Rattle.std.specs.Prelude.{◌≡◌, ℕ, nat_eq, List, [], ◌∷◌, ◌++◌, slice_get, filter_map, flat_map, Option, Some, None, option_map, if◌then◌else◌}
+use Rattle.std.specs.Prelude.{◌≡◌, ℕ, nat_eq, List, [], ◌∷◌, ◌++◌, map, slice_get, filter_map, flat_map, Option, Some, None, option_map, if◌then◌else◌}
 use Rattle.walter_base.specs.declared.names.SiteId.{SiteId}
 use Rattle.walter_cell.specs.declared.answers.Acted.{Acted}
 use Rattle.walter_cell.specs.declared.answers.Moved.{Moved}
 use Rattle.walter_cell.specs.declared.answers.Serve.{Serve}
-use Rattle.walter_cluster.specs.Benches.{BenchValue, arms_at}
-use Rattle.walter_cluster.specs.Moments.{Moment, IsFirst, DropsAt, TurnsAt, ActsAt, MovesAt}
-use Rattle.walter_disk.specs.declared.disk.Disk.{Ghosts}
+use Rattle.walter_cluster.specs.Moments.{Moment, IsFirst, DropsAt, TurnsAt, ActsAt, MovesAt, ArmsAt}
 use Rattle.walter_rules.specs.declared.entry.Entry.{Entry}
 use Rattle.walter_rules.specs.declared.event.Event.{Event}
 use Rattle.walter_rules.specs.declared.event.Event.TheVariants as event
@@ -40,7 +38,7 @@ pub record IsDelivery (told : ℕ → Type 0) (t : Scenario) (to from : SiteId) 
   pub moves : MovesAt to from number old new answer
   pub drops : told to.0 → DropsAt t.catalog to old new
 
--- what a step is; arming a disk brings nothing to a trail
+-- what a step is
 abbrev pub Takes : (told : ℕ → Type 0) → Scenario → Step → (old new : Moment) → Type 0
 Takes told t (step.Call number) old new = IsTurn told t number old new
 Takes told t (step.Deliver to from number) old new = IsDelivery told t to from number old new
@@ -48,20 +46,26 @@ Takes told t (step.Advance at from) old new = IsEventAt told t at (event.Given (
 Takes told t (step.Tick site) old new = IsEventAt told t site (event.Given input.Tick) old new
 Takes told t (step.Stop site) old new = IsEventAt told t site event.Stop old new
 Takes told t (step.Restart site) old new = IsEventAt told t site event.Restart old new
-Takes told t (step.Arm arm) old new = new ≡ old
+Takes told t (step.Arm arm) old new = ArmsAt arm.site arm.nth arm.choice old new
 
 -- the steps are taken in order
 abbrev pub Plays : (told : ℕ → Type 0) → Scenario → List Step → (old new : Moment) → Type 0
 Plays told t [] old new = new ≡ old
 Plays told t (step ∷ steps) old new = (next : Moment) × Takes told t step old next × Plays told t steps next new
 
--- so the trails of a run come of the openings
-pub record IsPlayed (told : ℕ → Type 0) (t : Scenario) (trails : List (List Entry)) : Type 0 where
+-- all steps of a scenario: those that arm what it arms before the first, and then its own
+abbrev pub all_steps : Scenario → List Step
+all_steps t = map (λ (arm : Arm). step.Arm arm) t.arms ++ t.steps
+
+-- so the trails of a run come of the openings, and the arms of the disks of none
+pub record IsPlayed (told : ℕ → Type 0) (t : Scenario) (trails : List (List Entry))
+    (arms : ℕ → Option (List (ℕ × ℕ))) : Type 0 where
   pub first : Moment
   pub last : Moment
   pub begins : IsFirst t.catalog.sites first
-  pub plays : Plays told t t.steps first last
+  pub plays : Plays told t (all_steps t) first last
   pub ends : last.trails ≡ trails
+  pub arms_are : (i : ℕ) → last.arms i ≡ arms i
 
 -- ---- arms
 
@@ -86,12 +90,10 @@ arms_of steps = flat_map arms_by steps
 abbrev pub all_arms : Scenario → ℕ → List (ℕ × ℕ)
 all_arms t i = arms_for i (t.arms ++ arms_of t.steps)
 
-module _ {D : Type 0} (g : Ghosts D) where
-  -- the arms of each disk are these behind those from before, where it tells them
-  abbrev pub AreArmed : (old new : BenchValue D) → List Arm → Type 0
-  AreArmed old new arms = (i : ℕ)
-      → arms_at g new.cells i ≡ option_map (λ told. told ++ arms_for i arms) (arms_at g old.cells i)
+-- the arms of each disk are these behind those from before, where it tells them
+abbrev pub AreArmed : (old new : Moment) → List Arm → Type 0
+AreArmed old new arms = (i : ℕ) → new.arms i ≡ option_map (λ told. told ++ arms_for i arms) (old.arms i)
 
-  -- they are the first ones of these
-  abbrev pub ArmsMore : (old new : BenchValue D) → List Arm → Type 0
-  ArmsMore old new arms = (some more : List Arm) × (arms ≡ some ++ more) × AreArmed old new some
+-- they are the first ones of these
+abbrev pub ArmsMore : (old new : Moment) → List Arm → Type 0
+ArmsMore old new arms = (some more : List Arm) × (arms ≡ some ++ more) × AreArmed old new some

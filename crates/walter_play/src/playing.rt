@@ -1,9 +1,9 @@
-ghost use Rattle.std.specs.Prelude.{◌≡◌, ◌<◌, ◌++◌, ◌∷◌, [], ℕ, length, All, OnOk};
+ghost use Rattle.std.specs.Prelude.{◌≡◌, ◌<◌, ◌++◌, ℕ, length, All, OnOk, OnErr};
 ghost use Rattle.walter_scenario.specs.Parts.{IsArm, IsStep};
 ghost use Rattle.walter_scenario.specs.declared.scenario.Client.{Client};
 ghost use Rattle.walter_cluster.specs.Benches.{Keeps, IsOf, IsToldAt, AreAllConnected, AreMet};
-ghost use Rattle.walter_cluster.specs.Moments.{moment_of};
-ghost use Rattle.walter_play.specs.Scripts.{Takes, Plays, ArmsMore, AreArmed, arms_of};
+ghost use Rattle.walter_cluster.specs.Moments.{moment_of, KeepsArms};
+ghost use Rattle.walter_play.specs.Scripts.{Takes, Plays, ArmsMore, all_steps, arms_of};
 
 use std::alloc::Global;
 use walter_base::Mem;
@@ -26,10 +26,11 @@ pub fn play<D: Disk + Drop>(
     requires steps { All (IsStep scenario.now.catalog.sites (length scenario.now.clients)) scenario.now.steps }
     ensures keeps { Keeps D.Disk bench.old bench.new }
     // By the script; of a site whose disk tells what it holds also what it drops.
-    ensures played { OnOk result (Plays (λ i. IsToldAt D.Disk i bench.old) scenario.now scenario.now.steps
-        (moment_of bench.old.cells) (moment_of bench.new.cells)) }
-    ensures arms { ArmsMore D.Disk bench.old bench.new (scenario.now.arms ++ arms_of scenario.now.steps) }
-    ensures armed { OnOk result (AreArmed D.Disk bench.old bench.new (scenario.now.arms ++ arms_of scenario.now.steps)) }
+    ensures played { OnOk result (Plays (λ i. IsToldAt D.Disk i bench.old) scenario.now (all_steps scenario.now)
+        (moment_of D.Disk bench.old.cells) (moment_of D.Disk bench.new.cells)) }
+    // Where memory runs out, the disks are armed by the first steps.
+    ensures arms { ArmsMore (moment_of D.Disk bench.old.cells) (moment_of D.Disk bench.new.cells)
+        (scenario.now.arms ++ arms_of scenario.now.steps) }
 {
     for arm in scenario.arms.as_slice() {
         bench.arm(arm.site, arm.nth, arm.choice)?;
@@ -54,9 +55,8 @@ fn take_step<D: Disk + Drop>(
     requires there { IsStep scenario.now.catalog.sites (length scenario.now.clients) step }
     ensures keeps { Keeps D.Disk bench.old bench.new }
     ensures took { OnOk result (Takes (λ i. IsToldAt D.Disk i bench.old) scenario.now step
-        (moment_of bench.old.cells) (moment_of bench.new.cells)) }
-    ensures armed { OnOk result (AreArmed D.Disk bench.old bench.new (arms_of (step ∷ []))) }
-    ensures arms { ArmsMore D.Disk bench.old bench.new (arms_of (step ∷ [])) }
+        (moment_of D.Disk bench.old.cells) (moment_of D.Disk bench.new.cells)) }
+    ensures arms { OnErr result (KeepsArms (moment_of D.Disk bench.old.cells) (moment_of D.Disk bench.new.cells)) }
 {
     match step {
         Step::Call(client) => {

@@ -1,17 +1,18 @@
-use Rattle.std.proofs.Common.{◌≡◌, ◌<◌, ◌≤◌, ◌+◌, ◌∷◌, ◌++◌, [], ℕ, List, length, take, drop, get_or, subst, sym, ap, ◌∙◌, refl, arith}
-use Rattle.std.proofs.lemmas.List.{take_more, take_all, append-nil}
+use Rattle.std.proofs.Common.{◌≡◌, ◌<◌, ◌≤◌, ◌+◌, ◌∷◌, ◌++◌, [], ℕ, List, length, map, take, drop, get_or, subst, sym, ap, ◌∙◌, refl, arith}
+use Rattle.std.proofs.lemmas.List.{take_all, append-nil}
 use Rattle.walter_cluster.specs.Benches.{IsToldAt}
 use Rattle.walter_cluster.proofs.Keeping.{bench_self, bench_on, of_kept, connected_kept, told_kept}
 use Rattle.walter_cluster.specs.Moments.{Moment, moment_of}
 use Rattle.walter_scenario.specs.declared.scenario.Arm.{Arm}
 use Rattle.walter_scenario.specs.declared.scenario.Step.{Step}
-use Rattle.walter_play.specs.Scripts.{Plays, Takes, AreArmed, ArmsMore, arms_of}
-use Rattle.walter_play.proofs.Arming.{armed_on, armed_one, armed_none, armed_next, arms_before, next_arms, arms_split, more_all, more_on}
-use Rattle.walter_play.proofs.Steps.{plays_more, takes_told}
+use Rattle.walter_scenario.specs.declared.scenario.Step.TheVariants as step
+use Rattle.walter_play.specs.Scripts.{Plays, Takes, all_steps}
+use Rattle.walter_play.proofs.Arming.{some_armed}
+use Rattle.walter_play.proofs.Steps.{plays_more, takes_told, arming_more, steps_more, arming_split, steps_split}
 use Rattle.walter_play.proofs.playing.play.Goals as goal
 
 pub loop-arm-init : goal.loop-arm-init
-loop-arm-init g c = record { keeps = bench_self g.D.Disk c.args.bench.now; same = refl; armed = armed_none g.D.Disk c.args.bench.now c.args.bench.now (λ i. refl) }
+loop-arm-init g c = record { keeps = bench_self g.D.Disk c.args.bench.now; played = refl }
 
 pub returns-in_err-arm-clause-keeps : goal.returns-in_err-arm-clause-keeps
 returns-in_err-arm-clause-keeps g c =
@@ -24,8 +25,10 @@ returns-in_err-take_step-clause-keeps g c =
 pub returns-in_err-arm-clause-arms : goal.returns-in_err-arm-clause-arms
 returns-in_err-arm-clause-arms g c =
     let t = c.args.scenario.now in
-    arms_before g.D.Disk c.args.bench.now c.loop-arm.bench c.arm.new.self t.arms (arms_of t.steps) c.loop-arm.arm-index
-    c.loop-arm.invariant.armed (armed_none g.D.Disk c.loop-arm.bench c.arm.new.self c.in_err-arm.ensures.unarmed)
+    let i = c.loop-arm.arm-index in
+    some_armed (λ j. IsToldAt g.D.Disk j c.args.bench.now) t (map (λ (arm : Arm). step.Arm arm) (take i t.arms)) _ (moment_of g.D.Disk c.args.bench.now.cells)
+    (moment_of g.D.Disk c.loop-arm.bench.cells) (moment_of g.D.Disk c.arm.new.self.cells) (arming_split t.arms t.steps i) c.loop-arm.invariant.played
+    (λ j. ap (λ (m : Moment). m.arms j) c.in_err-arm.ensures.kept)
 
 pub loop-arm-preserved : goal.loop-arm-preserved
 loop-arm-preserved g c =
@@ -38,12 +41,17 @@ loop-arm-preserved g c =
     let new = c.arm.new.self in
     let told = c.as_slice-arm-items.ensures in
     let arms = c.as_slice-arm-items.result.now in
-    let before = subst (λ (all : List Arm). AreArmed g.D.Disk old mid (take i all)) (sym told) inv.armed in
+    let known : ℕ → Type 0 = λ j. IsToldAt g.D.Disk j old in
+    let first : Moment = moment_of g.D.Disk old.cells in
+    let now : Moment = moment_of g.D.Disk mid.cells in
+    let next : Moment = moment_of g.D.Disk new.cells in
+    let arming : List Arm → List Step = map (λ (arm : Arm). step.Arm arm) in
+    let played = subst (λ (all : List Arm). Plays known t (arming (take i all)) first now) (sym told) inv.played in
     record {
       keeps = bench_on g.D.Disk old mid new inv.keeps e.keeps;
-      same = e.same ∙ inv.same;
-      armed = subst (λ (all : List Arm). AreArmed g.D.Disk old new (take (i + 1) all)) told
-          (armed_next g.D.Disk old mid new arms i _ c.loop-arm-test.true before (armed_one g.D.Disk mid new (get_or arms i _) e.armed e.others));
+      played = subst (λ (all : List Arm). Plays known t (arming (take (i + 1) all)) first next) told
+          (subst (λ (front : List Step). Plays known t front first next) (sym (arming_more arms i _ c.loop-arm-test.true))
+          (plays_more known t (arming (take i arms)) _ first now next played e.arms));
     }
 
 pub loop-step-init : goal.loop-step-init
@@ -54,31 +62,27 @@ loop-step-init g c =
     let mid = c.loop-arm.bench in
     let told = c.as_slice-arm-items.ensures in
     let i = c.loop-arm.arm-index in
-    let whole : take i t.arms ≡ t.arms ++ [] =
-    ap (λ (all : List Arm). take i all) (sym told) ∙ (take_all i c.as_slice-arm-items.result.now c.loop-arm-test.false ∙ (told ∙ sym (append-nil t.arms))) in
+    let arming : List Arm → List Step = map (λ (arm : Arm). step.Arm arm) in
+    let whole : arming (take i t.arms) ≡ arming t.arms ++ [] =
+    ap (λ (all : List Arm). arming (take i all)) (sym told)
+    ∙ (ap arming (take_all i c.as_slice-arm-items.result.now c.loop-arm-test.false ∙ told) ∙ sym (append-nil (arming t.arms))) in
     record {
       keeps = inv.keeps;
       of = of_kept g.D.Disk old mid inv.keeps t c.requires.of;
       connected = connected_kept g.D.Disk old mid inv.keeps t c.requires.connected;
       met = inv.keeps.met c.requires.met;
-      played = inv.same;
-      armed = subst (λ (all : List Arm). AreArmed g.D.Disk old mid all) whole inv.armed;
+      played = subst (λ (front : List Step). Plays (λ j. IsToldAt g.D.Disk j old) t front (moment_of g.D.Disk old.cells) (moment_of g.D.Disk mid.cells))
+          whole inv.played;
     }
 
 pub returns-in_err-take_step-clause-arms : goal.returns-in_err-take_step-clause-arms
 returns-in_err-take_step-clause-arms g c =
     let t = c.args.scenario.now in
     let i = c.loop-step.step-index in
-    let old = c.args.bench.now in
-    let mid = c.loop-step.bench in
-    let new = c.take_step.new.bench in
-    let told = c.as_slice-step-items.ensures in
-    let steps = c.as_slice-step-items.result.now in
-    let before = subst (λ (all : List Step). AreArmed g.D.Disk old mid (t.arms ++ arms_of (take i all))) (sym told) c.loop-step.invariant.armed in
-    subst (λ (all : List Step). ArmsMore g.D.Disk old new (t.arms ++ arms_of all)) told
-    (subst (λ (all : List Arm). ArmsMore g.D.Disk old new all) (arms_split t.arms steps i _ c.loop-step-test.true)
-    (more_on g.D.Disk old mid new (t.arms ++ arms_of (take i steps)) (arms_of (_ ∷ [])) (arms_of (drop (i + 1) steps)) before
-    c.take_step.ensures.arms))
+    let front = map (λ (arm : Arm). step.Arm arm) t.arms in
+    some_armed (λ j. IsToldAt g.D.Disk j c.args.bench.now) t (front ++ take i t.steps) _ (moment_of g.D.Disk c.args.bench.now.cells)
+    (moment_of g.D.Disk c.loop-step.bench.cells) (moment_of g.D.Disk c.take_step.new.bench.cells) (steps_split front t.steps i)
+    c.loop-step.invariant.played c.in_err-take_step.ensures.arms
 
 pub loop-step-preserved : goal.loop-step-preserved
 loop-step-preserved g c =
@@ -91,35 +95,28 @@ loop-step-preserved g c =
     let e = c.take_step.ensures in
     let told = c.as_slice-step-items.ensures in
     let steps = c.as_slice-step-items.result.now in
-    let first : Moment = moment_of old.cells in
-    let now : Moment = moment_of mid.cells in
-    let next : Moment = moment_of new.cells in
+    let first : Moment = moment_of g.D.Disk old.cells in
+    let now : Moment = moment_of g.D.Disk mid.cells in
+    let next : Moment = moment_of g.D.Disk new.cells in
     let known : ℕ → Type 0 = λ j. IsToldAt g.D.Disk j old in
-    let played = subst (λ (all : List Step). Plays known t (take i all) first now) (sym told) inv.played in
-    let before = subst (λ (all : List Step). AreArmed g.D.Disk old mid (t.arms ++ arms_of (take i all))) (sym told) inv.armed in
+    let front = map (λ (arm : Arm). step.Arm arm) t.arms in
+    let played = subst (λ (all : List Step). Plays known t (front ++ take i all) first now) (sym told) inv.played in
     record {
       keeps = bench_on g.D.Disk old mid new inv.keeps e.keeps;
       of = of_kept g.D.Disk mid new e.keeps t inv.of;
       connected = connected_kept g.D.Disk mid new e.keeps t inv.connected;
       met = e.keeps.met inv.met;
-      played = subst (λ (all : List Step). Plays known t (take (i + 1) all) first next) told
-          (subst (λ (front : List Step). Plays known t front first next) (sym (take_more steps i _ c.loop-step-test.true))
-          (plays_more known t (take i steps) _ first now next played
+      played = subst (λ (all : List Step). Plays known t (front ++ take (i + 1) all) first next) told
+          (subst (λ (some : List Step). Plays known t some first next) (sym (steps_more front steps i _ c.loop-step-test.true))
+          (plays_more known t (front ++ take i steps) _ first now next played
           (takes_told (λ j. IsToldAt g.D.Disk j mid) known t _ now next (λ j told. told_kept g.D.Disk old mid inv.keeps j told) c.in_ok-take_step.ensures.took)));
-      armed = subst (λ (all : List Step). AreArmed g.D.Disk old new (t.arms ++ arms_of (take (i + 1) all))) told
-          (subst (λ (all : List Arm). AreArmed g.D.Disk old new all) (sym (next_arms t.arms steps i _ c.loop-step-test.true))
-          (armed_on g.D.Disk old mid new (t.arms ++ arms_of (take i steps)) (arms_of (_ ∷ [])) before c.in_ok-take_step.ensures.armed));
     }
 
 pub returns-clause-arms : goal.returns-clause-arms
 returns-clause-arms g c =
     let t = c.args.scenario.now in
     let i = c.loop-step.step-index in
-    let old = c.args.bench.now in
-    let new = c.loop-step.bench in
-    let steps = c.as_slice-step-items.result.now in
-    let whole : take i steps ≡ steps = take_all i steps c.loop-step-test.false in
-    let told = c.as_slice-step-items.ensures in
-    let armed = subst (λ (all : List Step). AreArmed g.D.Disk old new (t.arms ++ arms_of (take i all))) (sym told) c.loop-step.invariant.armed in
-    more_all g.D.Disk old new (t.arms ++ arms_of t.steps)
-    (subst (λ (all : List Step). AreArmed g.D.Disk old new (t.arms ++ arms_of all)) (whole ∙ told) armed)
+    let front = map (λ (arm : Arm). step.Arm arm) t.arms in
+    let now = moment_of g.D.Disk c.loop-step.bench.cells in
+    some_armed (λ j. IsToldAt g.D.Disk j c.args.bench.now) t (front ++ take i t.steps) _ (moment_of g.D.Disk c.args.bench.now.cells)
+    now now (steps_split front t.steps i) c.loop-step.invariant.played (λ j. refl)

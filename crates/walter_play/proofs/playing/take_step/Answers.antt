@@ -1,10 +1,11 @@
 use Rattle.std.proofs.Common.{◌≡◌, ◌<◌, ◌≤◌, ℕ, length, refl, ap, sym, ◌∙◌, subst, arith, inl, inr}
 use Rattle.std.proofs.lemmas.List.{length-map}
 use Rattle.std.proofs.lemmas.List.Elements.{All-contains}
+use Rattle.walter_cluster.specs.Moments.{Moment}
+use Rattle.walter_cluster.proofs.Benches.{on_err_so}
 use Rattle.walter_cluster.proofs.Changes.{there_is}
 use Rattle.walter_psi.proofs.Lists.{contains_at}
 use Rattle.walter_scenario.specs.declared.scenario.Client.{Client}
-use Rattle.walter_play.proofs.Arming.{armed_none, more_none}
 use Rattle.walter_play.proofs.Steps.{turn_of, drops_of, turn_is}
 use Rattle.walter_play.proofs.playing.take_step.Goals as goal
 
@@ -17,75 +18,9 @@ turn-requires g c =
     let clients = length-map t.clients (λ (client : Client). client.site) in
     omega (arith, within, homes, clients)
 
-pub returns-in_err-turn-in-Call-clause-arms : goal.returns-in_err-turn-in-Call-clause-arms
-returns-in_err-turn-in-Call-clause-arms g c = more_none g.D.Disk c.args.bench.now c.turn.new.self _ (armed_none g.D.Disk c.args.bench.now c.turn.new.self c.turn.ensures.arms)
-
-pub returns-in_ok-turn-in-Call-clause-armed : goal.returns-in_ok-turn-in-Call-clause-armed
-returns-in_ok-turn-in-Call-clause-armed g c =
-    rw c.in-Call.is (armed_none g.D.Disk c.args.bench.now c.turn.new.self c.turn.ensures.arms)
-
-pub returns-in_ok-turn-in-Call-clause-arms : goal.returns-in_ok-turn-in-Call-clause-arms
-returns-in_ok-turn-in-Call-clause-arms g c =
-    more_none g.D.Disk c.args.bench.now c.turn.new.self _ (armed_none g.D.Disk c.args.bench.now c.turn.new.self c.turn.ensures.arms)
-
-pub returns-in_err-deliver-in-Deliver-clause-arms : goal.returns-in_err-deliver-in-Deliver-clause-arms
-returns-in_err-deliver-in-Deliver-clause-arms g c = more_none g.D.Disk c.args.bench.now c.deliver.new.self _ (armed_none g.D.Disk c.args.bench.now c.deliver.new.self c.deliver.ensures.arms)
-
-pub returns-in_ok-deliver-in-Deliver-clause-armed : goal.returns-in_ok-deliver-in-Deliver-clause-armed
-returns-in_ok-deliver-in-Deliver-clause-armed g c =
-    rw c.in-Deliver.is (armed_none g.D.Disk c.args.bench.now c.deliver.new.self c.deliver.ensures.arms)
-
-pub returns-in_ok-deliver-in-Deliver-clause-arms : goal.returns-in_ok-deliver-in-Deliver-clause-arms
-returns-in_ok-deliver-in-Deliver-clause-arms g c =
-    more_none g.D.Disk c.args.bench.now c.deliver.new.self _ (armed_none g.D.Disk c.args.bench.now c.deliver.new.self c.deliver.ensures.arms)
-
-pub returns-in_err-advance-in-Advance-clause-arms : goal.returns-in_err-advance-in-Advance-clause-arms
-returns-in_err-advance-in-Advance-clause-arms g c = more_none g.D.Disk c.args.bench.now c.advance.new.self _ (armed_none g.D.Disk c.args.bench.now c.advance.new.self c.advance.ensures.arms)
-
-pub returns-in_ok-advance-in-Advance-clause-armed : goal.returns-in_ok-advance-in-Advance-clause-armed
-returns-in_ok-advance-in-Advance-clause-armed g c =
-    rw c.in-Advance.is (armed_none g.D.Disk c.args.bench.now c.advance.new.self c.advance.ensures.arms)
-
-pub returns-in_ok-advance-in-Advance-clause-arms : goal.returns-in_ok-advance-in-Advance-clause-arms
-returns-in_ok-advance-in-Advance-clause-arms g c =
-    more_none g.D.Disk c.args.bench.now c.advance.new.self _ (armed_none g.D.Disk c.args.bench.now c.advance.new.self c.advance.ensures.arms)
-
-pub returns-in_err-tick-in-Tick-clause-arms : goal.returns-in_err-tick-in-Tick-clause-arms
-returns-in_err-tick-in-Tick-clause-arms g c = more_none g.D.Disk c.args.bench.now c.tick.new.self _ (armed_none g.D.Disk c.args.bench.now c.tick.new.self c.tick.ensures.arms)
-
-pub returns-in_ok-tick-in-Tick-clause-armed : goal.returns-in_ok-tick-in-Tick-clause-armed
-returns-in_ok-tick-in-Tick-clause-armed g c =
-    rw c.in-Tick.is (armed_none g.D.Disk c.args.bench.now c.tick.new.self c.tick.ensures.arms)
-
-pub returns-in_ok-tick-in-Tick-clause-arms : goal.returns-in_ok-tick-in-Tick-clause-arms
-returns-in_ok-tick-in-Tick-clause-arms g c =
-    more_none g.D.Disk c.args.bench.now c.tick.new.self _ (armed_none g.D.Disk c.args.bench.now c.tick.new.self c.tick.ensures.arms)
-
-pub returns-in_err-stop-in-Stop-clause-arms : goal.returns-in_err-stop-in-Stop-clause-arms
-returns-in_err-stop-in-Stop-clause-arms g c = more_none g.D.Disk c.args.bench.now c.stop.new.self _ (armed_none g.D.Disk c.args.bench.now c.stop.new.self c.stop.ensures.arms)
-
-pub returns-in_ok-stop-in-Stop-clause-armed : goal.returns-in_ok-stop-in-Stop-clause-armed
-returns-in_ok-stop-in-Stop-clause-armed g c =
-    rw c.in-Stop.is (armed_none g.D.Disk c.args.bench.now c.stop.new.self c.stop.ensures.arms)
-
-pub returns-in_ok-stop-in-Stop-clause-arms : goal.returns-in_ok-stop-in-Stop-clause-arms
-returns-in_ok-stop-in-Stop-clause-arms g c =
-    more_none g.D.Disk c.args.bench.now c.stop.new.self _ (armed_none g.D.Disk c.args.bench.now c.stop.new.self c.stop.ensures.arms)
-
-pub returns-in_err-restart-in-Restart-clause-arms : goal.returns-in_err-restart-in-Restart-clause-arms
-returns-in_err-restart-in-Restart-clause-arms g c = more_none g.D.Disk c.args.bench.now c.restart.new.self _ (armed_none g.D.Disk c.args.bench.now c.restart.new.self c.restart.ensures.arms)
-
-pub returns-in_ok-restart-in-Restart-clause-armed : goal.returns-in_ok-restart-in-Restart-clause-armed
-returns-in_ok-restart-in-Restart-clause-armed g c =
-    rw c.in-Restart.is (armed_none g.D.Disk c.args.bench.now c.restart.new.self c.restart.ensures.arms)
-
-pub returns-in_ok-restart-in-Restart-clause-arms : goal.returns-in_ok-restart-in-Restart-clause-arms
-returns-in_ok-restart-in-Restart-clause-arms g c =
-    more_none g.D.Disk c.args.bench.now c.restart.new.self _ (armed_none g.D.Disk c.args.bench.now c.restart.new.self c.restart.ensures.arms)
-
 pub returns-in_err-arm-in-Arm-clause-arms : goal.returns-in_err-arm-in-Arm-clause-arms
 returns-in_err-arm-in-Arm-clause-arms g c =
-    more_none g.D.Disk c.args.bench.now c.arm.new.self _ (armed_none g.D.Disk c.args.bench.now c.arm.new.self c.in_err-arm-in-Arm.ensures.unarmed)
+    on_err_so c.from_residual-in_err-arm-in-Arm.result _ (λ i. ap (λ (m : Moment). m.arms i) c.in_err-arm-in-Arm.ensures.kept)
 
 pub returns-in_ok-turn-in-Call-clause-took : goal.returns-in_ok-turn-in-Call-clause-took
 returns-in_ok-turn-in-Call-clause-took g c =
