@@ -1,5 +1,5 @@
 -- What a run comes to whose bench was built over the disks of a rack, driven, and taken apart.
-use Rattle.std.proofs.Common.{◌≡◌, ℕ, ◌<◌, ◌≤◌, List, [], ◌++◌, length, map, slice_get, reverse, Bool, Option, Some, None, option_map, ap, sym, ◌∙◌, subst, arith, inl, inr}
+use Rattle.std.proofs.Common.{◌≡◌, ℕ, ◌<◌, ◌≤◌, List, [], ◌++◌, length, map, slice_get, reverse, Bool, Option, Some, None, option_map, refl, ap, sym, ◌∙◌, subst, arith, inl, inr}
 use Rattle.std.specs.Prelude.{IfSome, count_by}
 use Rattle.std.proofs.lemmas.List.{length-map}
 use Rattle.std.proofs.lemmas.Option.{slice_get-map, slice_get_within}
@@ -17,8 +17,8 @@ use Rattle.walter_disk.specs.declared.disk.Disk.{Ghosts}
 use Rattle.walter_engine.specs.Begins.{HasNoRecord}
 use Rattle.walter_linked.specs.Catalogs.{IsWhole}
 use Rattle.walter_machine.specs.Comings.{is_faulty}
-use Rattle.walter_play.specs.Scripts.{Plays, ArmsMore, AreArmed, arms_for, arms_of, all_arms}
-use Rattle.walter_play.proofs.Arming.{for_more}
+use Rattle.walter_play.specs.Scripts.{Plays, ArmsMore, AreArmed, arms_for, arms_of, all_arms, all_steps}
+use Rattle.walter_play.proofs.Arming.{for_more, all_armed}
 use Rattle.walter_play.proofs.Steps.{plays_told}
 use Rattle.walter_rules.specs.declared.entry.Entry.{Entry}
 use Rattle.walter_rules.specs.Knowledge.{site_at}
@@ -72,7 +72,7 @@ module _ {D : Type 0} (g : Ghosts D) (t : Scenario) (before mid after : RackAt D
     (keeps : Keeps g built bench)
     (is : IsBench bench)
     (sound : AtEach bench.cells (λ i c. IsSound g c.node × IsCell c))
-    (more : ArmsMore g built bench (t.arms ++ arms_of t.steps))
+    (more : ArmsMore (moment_of g built.cells) (moment_of g bench.cells) (t.arms ++ arms_of t.steps))
     (trails_are : trails ≡ trails_of bench.cells)
     (disks_are : map (λ (d : D). Some d) back ≡ disks_of bench.cells)
     (linked : AreLinked trails)
@@ -150,17 +150,20 @@ module _ {D : Type 0} (g : Ghosts D) (t : Scenario) (before mid after : RackAt D
       (subst (λ (k : Catalog). LeavesOn g k (site_at i) cell.0.node.trail disk) (of.catalogs i cell.0 cell.1)
       (subst (λ (n : SiteId). LeavesOn g cell.0.node.catalog n cell.0.node.trail disk) (is.cells i cell.0 cell.1).site leaves))
 
-  -- the arms of the disk of a site are those that were armed
-  armed_at : (arms : List Arm) → AreArmed g built bench arms → (i : ℕ) (disk : D) → slice_get back i ≡ Some disk
+  -- the arms of the disk of a site are those of its cell
+  arms_are : (i : ℕ) (disk : D) → slice_get back i ≡ Some disk → (g.known disk).arms ≡ arms_at g bench.cells i
+  arms_are i disk at =
+      let cell = cell_of i disk at in
+      sym (field_at (λ (c : CellValue D). arms_under g c.node.disk) bench.cells i cell.0 None cell.1
+      ∙ ap (λ (o : Option D). arms_under g o) cell.2)
+
+  -- they are those that were armed
+  armed_at : (arms : List Arm) → AreArmed (moment_of g built.cells) (moment_of g bench.cells) arms → (i : ℕ) (disk : D) → slice_get back i ≡ Some disk
       → IfSome (g.known disk).arms (λ told. told ≡ arms_for i arms)
   armed_at arms armed i disk at =
-      let cell = cell_of i disk at in
       let was = taken_at i (below_back i disk at) in
-      let now : arms_at g bench.cells i ≡ (g.known disk).arms =
-      field_at (λ (c : CellValue D). arms_under g c.node.disk) bench.cells i cell.0 None cell.1
-      ∙ ap (λ (o : Option D). arms_under g o) cell.2 in
       arms_from (g.known was.0).arms (g.known disk).arms (arms_for i arms) (has.taken.fresh i was.0 was.1).unarmed
-      (sym now ∙ (armed i ∙ ap (λ o. option_map (λ told. told ++ arms_for i arms) o) (has.arms i was.0 was.1)))
+      (arms_are i disk at ∙ (armed i ∙ ap (λ o. option_map (λ told. told ++ arms_for i arms) o) (has.arms i was.0 was.1)))
 
   disk_of_run : (i : ℕ) (disk : D) → slice_get back i ≡ Some disk
       → IsDiskOfRun rack t trails i (g.known disk) (g.may_leave disk)
@@ -170,12 +173,19 @@ module _ {D : Type 0} (g : Ghosts D) (t : Scenario) (before mid after : RackAt D
     first_arms = arms_front (g.known disk).arms t i more.0 more.1 more.2 (armed_at more.0 more.3 i disk at);
   }
 
-  disk_of_whole : AreArmed g built bench (t.arms ++ arms_of t.steps) → (i : ℕ) (disk : D) → slice_get back i ≡ Some disk
-      → IsDiskOfWhole rack t trails i (g.known disk) (g.may_leave disk)
+  disk_of_whole : AreArmed (moment_of g built.cells) (moment_of g bench.cells) (t.arms ++ arms_of t.steps)
+      → (i : ℕ) (disk : D) → slice_get back i ≡ Some disk
+      → IsDiskOfWhole rack t trails (arms_at g bench.cells) i (g.known disk) (g.may_leave disk)
   disk_of_whole armed i disk at = record {
     of_run = disk_of_run i disk at;
-    arms = armed_at (t.arms ++ arms_of t.steps) armed i disk at;
+    all_told = armed_at (t.arms ++ arms_of t.steps) armed i disk at;
+    arms_are = arms_are i disk at;
   }
+
+  -- the steps arm so
+  armed_by_play : Plays (λ i. IsToldAt g i built) t (all_steps t) (moment_of g built.cells) (moment_of g bench.cells)
+      → AreArmed (moment_of g built.cells) (moment_of g bench.cells) (t.arms ++ arms_of t.steps)
+  armed_by_play plays = all_armed (λ i. IsToldAt g i built) t _ _ plays
 
   pub run_is : IsWhole t.catalog → IsRun rack t trails
   run_is whole = record {
@@ -204,19 +214,21 @@ module _ {D : Type 0} (g : Ghosts D) (t : Scenario) (before mid after : RackAt D
 
   -- where it was driven to its end
   pub whole_is : IsWhole t.catalog
-      → Plays (λ i. IsToldAt g i built) t t.steps (moment_of built.cells) (moment_of bench.cells)
-      → AreArmed g built bench (t.arms ++ arms_of t.steps) → IsWholeRun rack t trails
-  whole_is whole plays armed = record {
+      → Plays (λ i. IsToldAt g i built) t (all_steps t) (moment_of g built.cells) (moment_of g bench.cells)
+      → IsWholeRun rack t trails (arms_at g bench.cells)
+  whole_is whole plays = record {
     run = run_is whole;
     how_driven = record {
-      first = moment_of built.cells;
-      last = moment_of bench.cells;
+      first = moment_of g built.cells;
+      last = moment_of g bench.cells;
       begins = has.first;
       plays = plays_below;
       ends = sym trails_are;
+      arms_are = λ i. refl;
     };
-    disks = subst (λ (n : ℕ). rack.handed n (λ i. IsDiskOfWhole rack t trails i)) long_taken
-        (handed_back g before mid after has.disks back returned (λ i. IsDiskOfWhole rack t trails i) (disk_of_whole armed));
+    disks = subst (λ (n : ℕ). rack.handed n (λ i. IsDiskOfWhole rack t trails (arms_at g bench.cells) i)) long_taken
+        (handed_back g before mid after has.disks back returned
+        (λ i. IsDiskOfWhole rack t trails (arms_at g bench.cells) i) (disk_of_whole (armed_by_play plays)));
   }
     where
       told_built : (i : ℕ) → IsTold rack i → IsToldAt g i built
@@ -226,15 +238,17 @@ module _ {D : Type 0} (g : Ghosts D) (t : Scenario) (before mid after : RackAt D
           let was = taken_at i below in
           has.told i was.0 was.1 (told_reads g before.disks i was.0 (has.taken.told i was.0 was.1) told) cell at
 
-      plays_below : Plays (λ i. IsTold rack i) t t.steps (moment_of built.cells) (moment_of bench.cells)
-      plays_below = plays_told (λ i. IsToldAt g i built) (λ i. IsTold rack i) t t.steps _ _ told_built plays
+      plays_below : Plays (λ i. IsTold rack i) t (all_steps t) (moment_of g built.cells) (moment_of g bench.cells)
+      plays_below = plays_told (λ i. IsToldAt g i built) (λ i. IsTold rack i) t (all_steps t) _ _ told_built plays
 
   -- and all disks were given back
-  pub whole_back : AreArmed g built bench (t.arms ++ arms_of t.steps) → after.faults ≡ mid.faults
-      → rack.all t.catalog.sites (λ i. IsDiskOfWhole rack t trails i)
-  whole_back armed same =
-      subst (λ (n : ℕ). rack.all n (λ i. IsDiskOfWhole rack t trails i)) long_taken
-      (all_back g before mid after has.disks back returned (λ i. IsDiskOfWhole rack t trails i) same (disk_of_whole armed))
+  pub whole_back : Plays (λ i. IsToldAt g i built) t (all_steps t) (moment_of g built.cells) (moment_of g bench.cells)
+      → after.faults ≡ mid.faults
+      → rack.all t.catalog.sites (λ i. IsDiskOfWhole rack t trails (arms_at g bench.cells) i)
+  whole_back plays same =
+      subst (λ (n : ℕ). rack.all n (λ i. IsDiskOfWhole rack t trails (arms_at g bench.cells) i)) long_taken
+      (all_back g before mid after has.disks back returned
+      (λ i. IsDiskOfWhole rack t trails (arms_at g bench.cells) i) same (disk_of_whole (armed_by_play plays)))
 
 -- ---- how a run ends
 

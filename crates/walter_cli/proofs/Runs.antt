@@ -105,8 +105,9 @@ module _ (words : List (String Global)) (rack : Racked) (before after : Outside)
       source = taken.source;
       scenario = s;
       reading = taken.reading;
-      run = run.0;
-      disks_given_back = run.1;
+      arms = run.0;
+      run = run.1;
+      disks_given_back = run.2;
       trace = trace;
       asked = line;
       bytes_written = written;

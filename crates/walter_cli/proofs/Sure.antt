@@ -8,7 +8,7 @@ use Rattle.walter_disk.specs.declared.disk.Disk.{Ghosts}
 use Rattle.walter_engine.specs.Begins.{HasNoRecord}
 use Rattle.walter_cluster.proofs.Changes.{there_is}
 use Rattle.walter_play.proofs.Steps.{plays_told}
-use Rattle.walter_play.specs.Scripts.{all_arms}
+use Rattle.walter_play.specs.Scripts.{all_arms, all_steps}
 use Rattle.walter_scenario.specs.declared.scenario.Scenario.{Scenario}
 use Rattle.walter_stream.specs.Streams.{Appends, AppendsFront}
 use Rattle.walter_cli.specs.declared.ended.Ended.{Ended}
@@ -132,14 +132,16 @@ module _ (words : List (String Global)) {D : Type 0} (g : Ghosts D) (first last 
       reading = is.reading;
       run = is.run.run;
     });
+    arms = is.arms;
     disks = is.disks_given_back;
     how_driven = record {
       first = is.run.how_driven.first;
       last = is.run.how_driven.last;
       begins = is.run.how_driven.begins;
-      plays = plays_told (λ i. IsTold rack i) (λ i. Unit {0}) is.scenario is.scenario.steps _ _ (λ i all. told i)
+      plays = plays_told (λ i. IsTold rack i) (λ i. Unit {0}) is.scenario (all_steps is.scenario) _ _ (λ i all. told i)
           is.run.how_driven.plays;
       ends = is.run.how_driven.ends;
+      arms_are = is.run.how_driven.arms_are;
     };
     trace = is.trace;
     asked = is.asked;

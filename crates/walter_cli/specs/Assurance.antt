@@ -15,7 +15,7 @@ use Rattle.walter_scenario.specs.Scenarios.{IsReading, IsRefusedAt}
 use Rattle.walter_stream.specs.Streams.{Appends, AppendsFront}
 use Rattle.walter_cli.specs.declared.ended.Ended.{Ended}
 use Rattle.walter_cli.specs.declared.ended.Fault.TheVariants as fault
-use Rattle.walter_cli.specs.Headline.{Outside, IsSource, HasNoReading, AreCallsOf, AreTold, IsDiskOfRun, IsDiskOfWhole, trail_at}
+use Rattle.walter_cli.specs.Headline.{Outside, IsSource, HasNoReading, AreCallsOf, AreTold, ArmsOfSites, IsDiskOfRun, IsDiskOfWhole, trail_at}
 use Rattle.walter_cli.specs.Racks.{Racked, IsUntouched, rack_at, racked}
 use Rattle.walter_cli.specs.Statuses.{status_of}
 use Rattle.walter_cli.specs.Texts.{text_of}
@@ -39,12 +39,14 @@ pub record IsSureRun (rack : Racked) (before after : Outside) (trails : List (Li
       → count_by (λ e. is_faulty e.came.outcome) (trail_at trails i) ≡ 0
   pub disks : rack.all scenario.catalog.sites (λ i. IsDiskOfRun rack scenario trails i)
 
--- it was driven by the steps of the scenario, to the last, each disk has all its arms, and this was written of its report
+-- it was driven by the steps of the scenario, to the last, which armed the disks so, each disk has all its arms, and this was
+-- written of its report
 pub record IsSureReport (words : List (String Global)) (rack : Racked) (before after : Outside)
     (trails : List (List Entry)) (Written : List ℕ → Type 0) : Type 0 where
   pub run : IsSureRun rack before after trails
-  pub disks : rack.all run.scenario.catalog.sites (λ i. IsDiskOfWhole rack run.scenario trails i)
-  pub how_driven : IsPlayed (λ i. Unit {0}) run.scenario trails
+  pub arms : ArmsOfSites
+  pub how_driven : IsPlayed (λ i. Unit {0}) run.scenario trails arms
+  pub disks : rack.all run.scenario.catalog.sites (λ i. IsDiskOfWhole rack run.scenario trails arms i)
   pub trace : Bool
   pub asked : IsPlayLine trace words
   pub bytes_written : Written (text_of trace run.scenario trails)

@@ -14,7 +14,7 @@ use Rattle.walter_cli.specs.declared.ended.Fault.{Fault}
 use Rattle.walter_cli.specs.declared.ended.Fault.TheVariants.{Usage, Scenario as ScenarioFault, Read, Write, Memory, Rack, Journal}
 use Rattle.walter_cli.specs.declared.ended.JournalCause.TheVariants.{Foreign, Damaged, Used}
 use Rattle.walter_cli.specs.Disks.{AreTaken}
-use Rattle.walter_cli.specs.Headline.{IsSource, HasNoReading, IsRun, IsWholeRun, IsDiskOfWhole, IsRackFault, IsFirstUnfit}
+use Rattle.walter_cli.specs.Headline.{IsSource, HasNoReading, IsRun, ArmsOfSites, IsWholeRun, IsDiskOfWhole, IsRackFault, IsFirstUnfit}
 use Rattle.walter_cli.specs.Racks.{RackAt, Racked, IsUntouched, IsFaultlessBefore, FailsToTake, FailsToLoad}
 use Rattle.walter_cli.specs.Texts.{text_of}
 
@@ -49,7 +49,7 @@ pub record IsBuilt {D : Type 0} (g : Ghosts D) (before after : RackAt D) (t : Sc
   pub told : (i : ℕ) (disk : D) → slice_get disks i ≡ Some disk → IsSome (g.known disk).reads → IsToldAt g i bench
   pub connected : AreAllConnected t bench
   pub met : AreMet bench
-  pub first : IsFirst t.catalog.sites (moment_of bench.cells)
+  pub first : IsFirst t.catalog.sites (moment_of g bench.cells)
   pub arms : (i : ℕ) (disk : D) → slice_get disks i ≡ Some disk
       → arms_at g bench.cells i ≡ (g.known disk).arms
 
@@ -75,8 +75,8 @@ MayHaveRun rack s trails = ((trails ≡ []) × IsUntouched rack) ⊎ IsRun rack 
 
 -- it is a whole run, and all disks were given back
 abbrev pub IsWholeBack : Racked → Scenario → List (List Entry) → Type 0
-IsWholeBack rack s trails =
-    IsWholeRun rack s trails × rack.all s.catalog.sites (λ i. IsDiskOfWhole rack s trails i)
+IsWholeBack rack s trails = (arms : ArmsOfSites) × IsWholeRun rack s trails arms
+    × rack.all s.catalog.sites (λ i. IsDiskOfWhole rack s trails arms i)
 
 -- what a run over a sink comes to: its trails, and what was written of its report
 abbrev pub EndsRun : Racked → Bool → Scenario → (holds holds' : Option (List ℕ)) → (faults faults' : ℕ)

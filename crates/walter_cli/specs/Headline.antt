@@ -118,11 +118,16 @@ pub record IsDiskOfRun (rack : Racked) (s : Scenario) (trails : List (List Entry
   pub records : IsTold rack i → LeavesRecords s i (trail_at trails i) images
   pub first_arms : IfSome known.arms (λ arms. (more : List (ℕ × ℕ)) × (all_arms s i ≡ arms ++ more))
 
--- behind a whole run it has all these arms
-pub record IsDiskOfWhole (rack : Racked) (s : Scenario) (trails : List (List Entry)) (i : ℕ) (known : DiskState)
-    (images : List ℕ → Type 0) : Type 0 where
+-- the arms of the disk of each site, where it tells them
+abbrev pub ArmsOfSites : Type 0
+ArmsOfSites = ℕ → Option (List (ℕ × ℕ))
+
+-- behind a whole run it has all these arms, and they are those to which the steps came
+pub record IsDiskOfWhole (rack : Racked) (s : Scenario) (trails : List (List Entry)) (arms : ArmsOfSites) (i : ℕ)
+    (known : DiskState) (images : List ℕ → Type 0) : Type 0 where
   pub of_run : IsDiskOfRun rack s trails i known images
-  pub arms : IfSome known.arms (λ arms. arms ≡ all_arms s i)
+  pub all_told : IfSome known.arms (λ told. told ≡ all_arms s i)
+  pub arms_are : known.arms ≡ arms i
 
 -- the trails of a run of a scenario over disks without records: one for each site, which begins with the opening and
 -- has rising stamps; each call is one of its client's at its site, in order; what is delivered was put out before; where
@@ -139,11 +144,12 @@ pub record IsRun (rack : Racked) (s : Scenario) (trails : List (List Entry)) : T
   pub disks : rack.handed s.catalog.sites (λ i. IsDiskOfRun rack s trails i)
   pub given_back : rack.failed ⊎ rack.all s.catalog.sites (λ i. IsDiskOfRun rack s trails i)
 
--- it was driven by the steps of the scenario, to the last; and all disks were handed back, armed as it says
-pub record IsWholeRun (rack : Racked) (s : Scenario) (trails : List (List Entry)) : Type 0 where
+-- it was driven by the steps of the scenario, to the last, and armed the disks so; all disks were handed back, armed as it
+-- says
+pub record IsWholeRun (rack : Racked) (s : Scenario) (trails : List (List Entry)) (arms : ArmsOfSites) : Type 0 where
   pub run : IsRun rack s trails
-  pub how_driven : IsPlayed (λ i. IsTold rack i) s trails
-  pub disks : rack.handed s.catalog.sites (λ i. IsDiskOfWhole rack s trails i)
+  pub how_driven : IsPlayed (λ i. IsTold rack i) s trails arms
+  pub disks : rack.handed s.catalog.sites (λ i. IsDiskOfWhole rack s trails arms i)
 
 -- the source's bytes are a reading of a scenario, and the trails a run of it
 pub record Runs (rack : Racked) (before after : Outside) (trails : List (List Entry)) : Type 0 where
@@ -161,8 +167,9 @@ pub record RunsWhole (rack : Racked) (words : List (String Global)) (before afte
   pub source : IsSource before.left after.left bytes
   pub scenario : Scenario
   pub reading : IsReading bytes scenario
-  pub run : IsWholeRun rack scenario trails
-  pub disks_given_back : rack.all scenario.catalog.sites (λ i. IsDiskOfWhole rack scenario trails i)
+  pub arms : ArmsOfSites
+  pub run : IsWholeRun rack scenario trails arms
+  pub disks_given_back : rack.all scenario.catalog.sites (λ i. IsDiskOfWhole rack scenario trails arms i)
   pub trace : Bool
   pub asked : IsPlayLine trace words
   pub bytes_written : Written (text_of trace scenario trails)
@@ -180,7 +187,7 @@ pub record OfScenario (before after : Outside) (P : Scenario → Type 0) : Type 
 abbrev pub IsRackFault : Racked → Scenario → List (List Entry) → ℕ → Type 0
 IsRackFault rack s trails site =
     ((trails ≡ []) × IsUntouched rack × (FailsToTake rack site ⊎ FailsToLoad rack s.catalog.sites site))
-    ⊎ (IsWholeRun rack s trails × FailsToGive rack site)
+    ⊎ ((arms : ArmsOfSites) × IsWholeRun rack s trails arms × FailsToGive rack site)
 
 -- the first of the sites whose disk has bytes with which no new site can begin, and why
 pub record IsFirstUnfit (rack : Racked) (site : ℕ) (cause : JournalCause) (place : ℕ) : Type 0 where

@@ -33,7 +33,7 @@ returns-in-Ok-build-clause-built g c =
       connected = built.connected (subst (λ (clients : List Client). AreUnread clients c.in-Ok.lines.items) c.as_slice.ensures
           c.in-Ok.ensures.unread);
       met = built.met;
-      first = built.first;
+      first = built.first (λ i disk at. (was.1.fresh i disk at).unarmed);
       arms = λ i disk at. let left = built.leaves i disk at in arms_built g.R.D.Disk c.in-Ok-build.bench i disk left.0 left.1 left.2;
     }
 

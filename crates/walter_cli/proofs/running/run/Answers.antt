@@ -1,6 +1,7 @@
 use Rattle.std.proofs.Common.{◌≡◌, ◌≤◌, List, Some, None, Vec, Global, false, inr, subst, ap, sym, refl, ◌∙◌, arith}
 use Rattle.std.specs.Result.{is_err}
 use Rattle.walter_cluster.proofs.Keeping.{of_kept}
+use Rattle.walter_cluster.specs.Benches.{arms_at}
 use Rattle.walter_report.specs.Reports.{HaveFrames}
 use Rattle.walter_report.specs.Traces.{HaveSpellings}
 use Rattle.walter_rules.specs.declared.entry.Entry.{Entry}
@@ -11,7 +12,7 @@ use Rattle.walter_cli.specs.Ending.{IsBuilt, IsWholeBack, IsWriteFault}
 use Rattle.walter_cli.specs.Headline.{IsRun, IsWholeRun}
 use Rattle.walter_cli.specs.Racks.{RackAt, rack_at, Racked, racked}
 use Rattle.walter_cli.specs.Texts.{text_of}
-use Rattle.walter_cli.proofs.Finished.{returned, run_is, whole_is, whole_back as all_armed, ends_with, ends_cut}
+use Rattle.walter_cli.proofs.Finished.{returned, run_is, whole_is, whole_back as all_back_armed, ends_with, ends_cut}
 use Rattle.walter_cli.proofs.Giving.{IsReturned, ok_part, balances, fails_to_give}
 use Rattle.walter_cli.proofs.Racking.{sure_back}
 use Rattle.walter_cli.proofs.Trails.{frames, spellings}
@@ -48,14 +49,15 @@ module _ (g : Over) (c : After-give_all-given g) where
       closed.gives.trails closed.gives.disks closed.linked c.give_all-given.ensures.given c.requires.whole
 
   -- where it was driven to its end, it is a whole run
-  whole : is_err c.play-played.result ≡ false → IsWholeRun rack c.args.scenario.now trails
+  whole : is_err c.play-played.result ≡ false
+      → IsWholeRun rack c.args.scenario.now trails (arms_at g.R.D.Disk c.play-played.new.bench.cells)
   whole to_end =
       let played = c.play-played.ensures in
       let closed = c.close-trails.ensures in
       whole_is g.R.D.Disk c.args.scenario.now before mid after c.in-Ok.bench c.play-played.new.bench
       c.close-trails.result.disks.items trails built played.keeps closed.bench closed.sound played.arms
       closed.gives.trails closed.gives.disks closed.linked c.give_all-given.ensures.given c.requires.whole
-      (ok_part c.play-played.result _ played.played to_end) (ok_part c.play-played.result _ played.armed to_end)
+      (ok_part c.play-played.result _ played.played to_end)
 
   -- where the rack didn't fail either, all disks were given back
   whole_back : is_err c.play-played.result ≡ false → g.R.Rack.faults c.give_all-given.new.rack ≡ g.R.Rack.faults c.build_over.new.rack
@@ -63,11 +65,12 @@ module _ (g : Over) (c : After-give_all-given g) where
   whole_back to_end same =
       let played = c.play-played.ensures in
       let closed = c.close-trails.ensures in (
+        arms_at g.R.D.Disk c.play-played.new.bench.cells,
         whole to_end,
-        all_armed g.R.D.Disk c.args.scenario.now before mid after c.in-Ok.bench c.play-played.new.bench
+        all_back_armed g.R.D.Disk c.args.scenario.now before mid after c.in-Ok.bench c.play-played.new.bench
             c.close-trails.result.disks.items trails built played.keeps closed.bench closed.sound played.arms
             closed.gives.trails closed.gives.disks closed.linked c.give_all-given.ensures.given
-            (ok_part c.play-played.result _ played.armed to_end) same,
+            (ok_part c.play-played.result _ played.played to_end) same,
       )
 
   came_back : IsReturned g.R.D.Disk before mid after built.disks c.close-trails.result.disks.items
@@ -139,6 +142,7 @@ returns-in-Err-given-clause-run g c =
     ends_with _ c.args.traced c.args.scenario.now _ _ _ _ (trails g at) _ (Some (Rack c.in-Err-given.site)) _ (
       omega (arith, within, long, many),
       inr (
+        arms_at g.R.D.Disk c.play-played.new.bench.cells,
         whole g at (sym c.is_err.ensures.value ∙ c.if-is_err.false),
         fails_to_give g.R.D.Disk (before g at) (mid g at) (after g at) (built g at).disks c.close-trails.result.disks.items back
             c.in-Err-given.site lost,
