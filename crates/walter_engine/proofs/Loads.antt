@@ -322,9 +322,9 @@ module _ {D : Type 0} {g : Ghosts D} where
 
 module _ {D : Type 0} (g : Ghosts D) where
   -- one of its images was found
-  found_told : SizeIs g → (old new : D) (bytes : List ℕ) → (g.known old).reads ≡ Some bytes → 0 < (g.known old).size
+  found_told : SizeIs g → (old : D) (bytes : List ℕ) → (g.known old).reads ≡ Some bytes → 0 < (g.known old).size
       → bytes ≢ []
-  found_told size_is old new bytes told some none =
+  found_told size_is old bytes told some none =
       absurd (omega (arith, some, size_told g size_is old bytes told, ap length none))
 
   pub restarts_unloaded : SizeIs g → (catalog : Catalog) (capacity : ℕ) (i : SiteId) (why : JournalFault)
@@ -348,11 +348,11 @@ module _ {D : Type 0} (g : Ghosts D) where
       at (Some bytes) None told told' (fault.Damaged place claimed) cause is is_why =
           absurd (let e = ap is_some (sym told') ∙ tells ∙ ap is_some told in cc)
       at (Some bytes) (Some found) told told' fault.Foreign cause is is_why =
-          RestartsOver.over_others found (found_told size_is old new bytes told cause.not_new)
+          RestartsOver.over_others found (found_told size_is old bytes told cause.not_new)
           (subst (λ r. IsImage r (g.may_leave old)) told' cause.image)
           (inl (is_why, subst (λ r. IfSome r IsForeign) told' cause.are)) is
       at (Some bytes) (Some found) told told' (fault.Damaged place claimed) cause is is_why =
-          RestartsOver.over_others found (found_told size_is old new bytes told cause.not_new)
+          RestartsOver.over_others found (found_told size_is old bytes told cause.not_new)
           (subst (λ r. IsImage r (g.may_leave old)) told' cause.image)
           (inr (place, claimed, is_why, subst (λ r. IfSome r (λ b. IsDamaged b place claimed)) told' cause.are)) is
 

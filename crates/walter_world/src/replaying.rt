@@ -19,7 +19,12 @@ pub(crate) struct Recovery {
 }
 
 /// What the records of a trail tell.
-pub(crate) fn told_by(alloc: Global, catalog: &Catalog, id: SiteId, entries: &[Entry]) -> Mem<Recovery>
+pub(crate) fn told_by(
+    alloc: Global,
+    catalog: &Catalog,
+    id: SiteId,
+    entries: &[Entry],
+) -> Mem<Recovery>
     requires here { id.0 < catalog.now.sites }
     requires most { catalog.now.sites ≤ most_sites }
     requires fewer { catalog.now.tolerated < catalog.now.sites }
