@@ -292,8 +292,8 @@ module _ {D : Type 0} (g : Ghosts D) (old new : CellValue D) (number : ℕ) (bef
 module _ {D : Type 0} (g : Ghosts D) (told old : CellValue D) (is_told : old ≡ told) (node : NodeValue D) (number : ℕ)
     (found : Option LineValue) (before after : LineValue) (here : is_here told.lines number ≡ true)
     (at : found ≡ get_or old.lines number found) (there : found ≡ Some before) where
-  abbrev new : CellValue D
-  new = with_node old node (slice_set old.lines number (Some after))
+  abbrev after_turn : CellValue D
+  after_turn = with_node old node (slice_set old.lines number (Some after))
 
   here_old : is_here old.lines number ≡ true
   here_old = subst (λ (v : CellValue D). is_here v.lines number ≡ true) (sym is_told) here
@@ -301,44 +301,44 @@ module _ {D : Type 0} (g : Ghosts D) (told old : CellValue D) (is_told : old ≡
   was : slice_get old.lines number ≡ Some (Some before)
   was = slice_get-get_or old.lines number found (here_within old.lines number here_old) ∙ ap (λ x. Some x) (sym at ∙ there)
 
-  now : slice_get new.lines number ≡ Some (Some after)
+  now : slice_get after_turn.lines number ≡ Some (Some after)
   now = set_here old.lines number (Some after) (here_within old.lines number here_old)
 
-  others_old : AreSameBut number old.lines new.lines
+  others_old : AreSameBut number old.lines after_turn.lines
   others_old other apart = set_there old.lines number other (Some after) apart
 
-  pub others_are : AreSameBut number told.lines new.lines
-  others_are = subst (λ (v : CellValue D). AreSameBut number v.lines new.lines) is_told others_old
+  pub others_are : AreSameBut number told.lines after_turn.lines
+  others_are = subst (λ (v : CellValue D). AreSameBut number v.lines after_turn.lines) is_told others_old
 
   -- no call came
-  pub cell_used : IsSameButRoom old.node node → IsCell old → IsCell new
-  cell_used same cell = cell_kept old node new.lines (ap (λ (n : NodeValue D). n.catalog) same) (ap (λ (n : NodeValue D). n.site) same)
+  pub cell_used : IsSameButRoom old.node node → IsCell old → IsCell after_turn
+  cell_used same cell = cell_kept old node after_turn.lines (ap (λ (n : NodeValue D). n.catalog) same) (ap (λ (n : NodeValue D). n.site) same)
       (ap (λ (n : NodeValue D). n.trail) same) (here_set old.lines number after here_old) cell
 
   -- a call came
   pub cell_served : (call : Call) (stamp : ℕ) → Takes g stamp (Given (CallInput number call)) old.node node
-      → stamp ≡ clock_in old.node + 1 → IsCell old → IsCell new
+      → stamp ≡ clock_in old.node + 1 → IsCell old → IsCell after_turn
   cell_served call stamp takes next cell =
-      cell_taken old node new.lines g stamp (Given (CallInput number call)) takes (here_set old.lines number after here_old) next here_old cell
+      cell_taken old node after_turn.lines g stamp (Given (CallInput number call)) takes (here_set old.lines number after here_old) next here_old cell
 
   module _ (answer : Serve) (serves : ServesTo number (clock_in old.node) before after old.node.trail node.trail answer) where
-    pub serves_is : ServesAt number told new answer
-    serves_is = subst (λ (v : CellValue D). ServesAt number v new answer) is_told (serves_at g old new number before after answer was now serves)
+    pub serves_is : ServesAt number told after_turn answer
+    serves_is = subst (λ (v : CellValue D). ServesAt number v after_turn answer) is_told (serves_at g old after_turn number before after answer was now serves)
 
     pub turn_is : (can : Type 0) → (HasFault after → can) → (bytes : List ℕ) → IsLineAt bytes (calls_of number told.node.trail) told.lines number
-        → TurnsTo number bytes (clock_in told.node) (HasFaultAt new.lines number × can) told.node.trail node.trail answer
+        → TurnsTo number bytes (clock_in told.node) (HasFaultAt after_turn.lines number × can) told.node.trail node.trail answer
     turn_is can by = subst
         (λ (v : CellValue D). (bytes : List ℕ) → IsLineAt bytes (calls_of number v.node.trail) v.lines number
-        → TurnsTo number bytes (clock_in v.node) (HasFaultAt new.lines number × can) v.node.trail node.trail answer) is_told
-        (turn_of g old new number before after answer was now serves can by)
+        → TurnsTo number bytes (clock_in v.node) (HasFaultAt after_turn.lines number × can) v.node.trail node.trail answer) is_told
+        (turn_of g old after_turn number before after answer was now serves can by)
 
-    pub proceeds_used : IsSameButRoom old.node node → Proceeds g told new
-    proceeds_used same = subst (λ (v : CellValue D). Proceeds g v new) is_told
-        (proceeds_idle g old new number before after answer was now serves others_old same refl)
+    pub proceeds_used : IsSameButRoom old.node node → Proceeds g told after_turn
+    proceeds_used same = subst (λ (v : CellValue D). Proceeds g v after_turn) is_told
+        (proceeds_idle g old after_turn number before after answer was now serves others_old same refl)
 
-    pub proceeds_served : (stamp : ℕ) (event : Event) → Takes g stamp event old.node node → Proceeds g told new
-    proceeds_served stamp event takes = subst (λ (v : CellValue D). Proceeds g v new) is_told
-        (proceeds_called g old new number before after answer was now serves others_old stamp event takes refl)
+    pub proceeds_served : (stamp : ℕ) (event : Event) → Takes g stamp event old.node node → Proceeds g told after_turn
+    proceeds_served stamp event takes = subst (λ (v : CellValue D). Proceeds g v after_turn) is_told
+        (proceeds_called g old after_turn number before after answer was now serves others_old stamp event takes refl)
 
 -- a reply that was given to a connection behind its call: it was written, or cut off
 pub answer_put : {X E : Type 0} (r : Result X E) (client clock : ℕ) (before read after : LineValue) (old new : List Entry)

@@ -1,7 +1,6 @@
 use Rattle.std.proofs.Common.{◌≡◌, ◌+◌, ◌-◌, ◌++◌, ◌∷◌, [], ℕ, List, Some, None, length, ap, sym, ◌∙◌, subst, refl, arith, slice_get, slice_set, true, Bor, inl}
 use Rattle.std.specs.Prelude.{option_map}
 use Rattle.walter_conn.specs.Calls.{IsEnded, IsBroken}
-use Rattle.walter_conn.specs.declared.next.Next.TheVariants.{Ended, Broken}
 use Rattle.walter_rules.specs.declared.entry.Entry.{Entry}
 use Rattle.walter_rules.specs.declared.event.Event.{Event}
 use Rattle.walter_rules.specs.declared.event.Event.TheVariants.{Given}
@@ -59,13 +58,13 @@ module _ (g : Over) (c : After-next_call g) where
   abbrev read : LineValue
   read = c.next_call.new.self
 
-  abbrev used : CellValue g.row.D.Denot
-  used = record { node = c.make_ready.new.self; ins = old.ins; lines = slice_set old.lines c.args.number (Some read) }
+  abbrev idle_cell : CellValue g.row.D.Denot
+  idle_cell = record { node = c.make_ready.new.self; ins = old.ins; lines = slice_set old.lines c.args.number (Some read) }
 
   abbrev Serves : Serve → Type 0
-  Serves answer = ServesTo c.args.number (clock_in old.node) line read old.node.trail used.node.trail answer
+  Serves answer = ServesTo c.args.number (clock_in old.node) line read old.node.trail idle_cell.node.trail answer
 
-  idle : read.sent ≡ line.sent → BringsNothing line read old.node.trail used.node.trail
+  idle : read.sent ≡ line.sent → BringsNothing line read old.node.trail idle_cell.node.trail
   idle sent = record { trail = ap (λ (n : NodeValue g.row.D.Denot). n.trail) c.in_ok-make_ready.ensures.same; sent = sent }
 
   place : HasPlace (clock_in old.node + 1) old.node.trail
@@ -77,32 +76,32 @@ module _ (g : Over) (c : After-next_call g) where
   breaks : IsBroken line.incoming read.incoming → read.sent ≡ line.sent → Serves serve.Broken
   breaks broken sent = (place, inl (broken, idle sent))
 
-  others : AreSameBut c.args.number c.args.self.now.lines used.lines
-  others = others_are g.D.Disk c.args.self.now old c.self.view_is used.node c.args.number c.index_mut.result.now line read c.requires
+  others : AreSameBut c.args.number c.args.self.now.lines idle_cell.lines
+  others = others_are g.D.Disk c.args.self.now old c.self.view_is idle_cell.node c.args.number c.index_mut.result.now line read c.requires
       c.index_mut.ensures.value c.in-Some-index_mut.is
 
-  cell : IsCell used
-  cell = cell_used g.D.Disk c.args.self.now old c.self.view_is used.node c.args.number c.index_mut.result.now line read c.requires
+  cell : IsCell idle_cell
+  cell = cell_used g.D.Disk c.args.self.now old c.self.view_is idle_cell.node c.args.number c.index_mut.result.now line read c.requires
       c.index_mut.ensures.value c.in-Some-index_mut.is c.in_ok-make_ready.ensures.same c.self.invariant
 
   module _ (answer : Serve) (serves : Serves answer) where
-    proceeds : Proceeds g.D.Disk c.args.self.now used
-    proceeds = proceeds_used g.D.Disk c.args.self.now old c.self.view_is used.node c.args.number c.index_mut.result.now line read c.requires
+    proceeds : Proceeds g.D.Disk c.args.self.now idle_cell
+    proceeds = proceeds_used g.D.Disk c.args.self.now old c.self.view_is idle_cell.node c.args.number c.index_mut.result.now line read c.requires
         c.index_mut.ensures.value c.in-Some-index_mut.is answer serves c.in_ok-make_ready.ensures.same
 
-    served_so : ServesAt c.args.number c.args.self.now used answer
-    served_so = serves_is g.D.Disk c.args.self.now old c.self.view_is used.node c.args.number c.index_mut.result.now line read c.requires
+    served_so : ServesAt c.args.number c.args.self.now idle_cell answer
+    served_so = serves_is g.D.Disk c.args.self.now old c.self.view_is idle_cell.node c.args.number c.index_mut.result.now line read c.requires
         c.index_mut.ensures.value c.in-Some-index_mut.is answer serves
 
     turns : (HasFault read → CanFail g.S.Source g.K.Sink) → (bytes : List ℕ)
         → IsLineAt bytes (calls_of c.args.number c.args.self.now.node.trail) c.args.self.now.lines c.args.number
-        → TurnsTo c.args.number bytes (clock_in c.args.self.now.node) (HasFaultAt used.lines c.args.number × CanFail g.S.Source g.K.Sink)
-        c.args.self.now.node.trail used.node.trail answer
-    turns can = turn_is g.D.Disk c.args.self.now old c.self.view_is used.node c.args.number c.index_mut.result.now line read c.requires
+        → TurnsTo c.args.number bytes (clock_in c.args.self.now.node) (HasFaultAt idle_cell.lines c.args.number × CanFail g.S.Source g.K.Sink)
+        c.args.self.now.node.trail idle_cell.node.trail answer
+    turns can = turn_is g.D.Disk c.args.self.now old c.self.view_is idle_cell.node c.args.number c.index_mut.result.now line read c.requires
         c.index_mut.ensures.value c.in-Some-index_mut.is answer serves (CanFail g.S.Source g.K.Sink) can
 
   -- where memory runs out it is put back as it was
-  unserved : read.incoming ≡ line.incoming → read.sent ≡ line.sent → used.lines ≡ old.lines
+  unserved : read.incoming ≡ line.incoming → read.sent ≡ line.sent → idle_cell.lines ≡ old.lines
   unserved incoming sent =
       put_back old.lines c.args.number c.index_mut.result.now line read c.index_mut.ensures.value c.in-Some-index_mut.is
       (λ i. record { incoming = incoming i; sent = sent i })
@@ -113,7 +112,7 @@ invariant_of-self-in_err-next_call g c = cell g (goal.at.invariant_of-self-in_er
 pub returns-in_err-next_call-clause-proceeds : goal.returns-in_err-next_call-clause-proceeds
 returns-in_err-next_call-clause-proceeds g c =
     let d = (goal.at.returns-in_err-next_call-clause-proceeds g c).After-next_call in
-    subst (λ (v : CellValue g.row.D.Denot). Proceeds g.D.Disk v (used g d)) c.self.view_is
+    subst (λ (v : CellValue g.row.D.Denot). Proceeds g.D.Disk v (idle_cell g d)) c.self.view_is
     (subst (λ ls. Proceeds g.D.Disk (old g d) (record { node = c.make_ready.new.self; ins = (old g d).ins; lines = ls }))
     (sym (unserved g d c.in_err-next_call.ensures.same c.in_err-next_call.ensures.sent))
     (proceeds_room g.D.Disk (old g d) c.make_ready.new.self c.in_ok-make_ready.ensures.same))
@@ -198,8 +197,8 @@ module _ (g : Over) (c : After-served g) where
   abbrev after : LineValue
   after = c.put_reply.new.self
 
-  abbrev served : CellValue g.row.D.Denot
-  served = record { node = c.take.new.self; ins = first.ins; lines = slice_set first.lines c.args.number (Some after) }
+  abbrev served_cell : CellValue g.row.D.Denot
+  served_cell = record { node = c.take.new.self; ins = first.ins; lines = slice_set first.lines c.args.number (Some after) }
 
   abbrev event : Event
   event = Given (CallInput c.args.number c.in-Frame.call)
@@ -207,26 +206,26 @@ module _ (g : Over) (c : After-served g) where
   abbrev entry : Entry
   entry = c.in-Some-last.entry.now
 
-  takes : Takes g.D.Disk c.in-Some.stamp event first.node served.node
+  takes : Takes g.D.Disk c.in-Some.stamp event first.node served_cell.node
   takes = ready_takes g.D.Disk c.in-Some.stamp event first.node c.make_ready.new.self c.take.new.self c.in_ok-make_ready.ensures.same c.take.ensures
 
   last : entry ≡ entry_by c.in-Some.stamp event takes.came
-  last = last_came first.node.trail served.node.trail _ entry takes.trail
+  last = last_came first.node.trail served_cell.node.trail _ entry takes.trail
       (sym c.last.ensures ∙ ap (λ o. option_map (λ (b : Bor Entry). b.now) o) c.in-Some-last.is)
 
-  brings : BringsCall c.args.number before.incoming c.next_call.new.self.incoming first.node.trail served.node.trail
+  brings : BringsCall c.args.number before.incoming c.next_call.new.self.incoming first.node.trail served_cell.node.trail
   brings = record {
     call = c.in-Frame.call;
     takes = rw c.in-Frame.is at c.in_ok-next_call.ensures.answer;
     entry = entry;
-    trail = subst (λ (e : Entry). served.node.trail ≡ first.node.trail ++ e ∷ []) (sym last) takes.trail;
+    trail = subst (λ (e : Entry). served_cell.node.trail ≡ first.node.trail ++ e ∷ []) (sym last) takes.trail;
     event_is = ap (λ (e : Entry). e.event) last;
   }
 
-  serves : ServesTo c.args.number (clock_in first.node) before after first.node.trail served.node.trail c.served.result
+  serves : ServesTo c.args.number (clock_in first.node) before after first.node.trail served_cell.node.trail c.served.result
   unfolding brings
-  serves = subst (λ (s : Serve). ServesTo c.args.number (clock_in first.node) before after first.node.trail served.node.trail s) (sym c.served.ensures)
-      (answer_put c.put_reply.result c.args.number (clock_in first.node) before c.next_call.new.self after first.node.trail served.node.trail
+  serves = subst (λ (s : Serve). ServesTo c.args.number (clock_in first.node) before after first.node.trail served_cell.node.trail s) (sym c.served.ensures)
+      (answer_put c.put_reply.result c.args.number (clock_in first.node) before c.next_call.new.self after first.node.trail served_cell.node.trail
       (place_found (clock_in first.node) c.in-Some.stamp first.node.trail c.in-Some.ensures.some) c.in_ok-next_call.ensures.sent brings
       c.put_reply.ensures.written c.put_reply.ensures.faultless c.put_reply.ensures.same c.put_reply.ensures.cut c.put_reply.ensures.broken)
 
