@@ -1,5 +1,6 @@
 pub mod Benches
 pub mod Moments
+pub mod Turns
 pub mod Meetings
 pub mod Lanes
 pub mod Builds

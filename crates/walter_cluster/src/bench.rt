@@ -2,6 +2,7 @@ ghost use Rattle.std.specs.Prelude.{◌≡◌, ◌≢◌, ◌<◌, ℕ, List, le
 ghost use Rattle.walter_base.specs.declared.names.SiteId.{SiteId};
 ghost use Rattle.walter_cell.specs.Entries.{IsPlain};
 ghost use Rattle.walter_cell.specs.Lines.{CanFail, HasFaultAt, IsLineAt};
+ghost use Rattle.walter_cluster.specs.Turns.{ServesAtHome};
 ghost use Rattle.walter_rules.specs.declared.event.Event.TheVariants as event;
 ghost use Rattle.walter_rules.specs.declared.event.Input.TheVariants as input;
 ghost use Rattle.walter_trail.specs.Calls.{calls_of};
@@ -57,6 +58,12 @@ impl<D: Disk + Drop, S: Source + Drop, K: Sink + Drop> Bench<D, S, K> {
     pub fn turn(&mut self, alloc: Global, number: u32) -> Mem<Serve>
         requires { number < length self.old.homes }
         ensures keeps { Keeps D.Disk self.old self.new }
+
+        // Exactly when each answer comes, whatever the client's source tells.
+        ensures serves { (home : SiteId) → slice_get self.old.homes number ≡ Some home
+            → ServesAtHome home.0 number self.old.cells self.new.cells result }
+
+        // Where it tells its bytes.
         ensures turns { (home : SiteId) (bytes : List ℕ) → slice_get self.old.homes number ≡ Some home
             → IsLineAt bytes (calls_of number (trail_at self.old.cells home)) (lines_at self.old.cells home.0) number
             → IfOk result (TurnsAt home number bytes

@@ -53,17 +53,24 @@ fn bench_of(
     }
 }
 
-/// Gives each of these clients a turn, in order.
-fn turn_all(alloc: Global, bench: &mut MemoryBench, clients: usize, numbers: &[u32]) -> Result<()>
+/// Gives each of these clients a turn, in order, and says in a line what each came to.
+fn turn_all(
+    alloc: Global,
+    bench: &mut MemoryBench,
+    clients: usize,
+    numbers: &[u32],
+) -> Result<String>
     requires { length bench.old.homes ≡ clients }
 {
+    let mut said = String::new(alloc);
     for number in numbers {
         if *number as usize >= clients {
             bail!("no such client");
         }
-        bench.turn(alloc, *number)?;
+        let answer = bench.turn(alloc, *number)?;
+        said.push_str(&format!(in alloc; "{number}: {answer:?}\n")?)?;
     }
-    Ok(())
+    Ok(said)
 }
 
 /// What the sinks of a site's clients hold comes behind this, each in a line as hex.
@@ -78,8 +85,8 @@ fn push_held(alloc: Global, held: &mut String, lines: Vec<Option<MemoryLine>>) -
     Ok(())
 }
 
-/// What the sinks of the two clients of a scenario hold behind their turns.
-pub(crate) fn held_by_sinks(alloc: Global, text: &str) -> Result<String> {
+/// What the turns of the two clients of a scenario come to, and what their sinks hold then.
+pub(crate) fn answers_and_held(alloc: Global, text: &str) -> Result<String> {
     let Ok(scenario) = read(alloc, text.as_bytes()) else {
         bail!("no scenario");
     };
@@ -90,11 +97,10 @@ pub(crate) fn held_by_sinks(alloc: Global, text: &str) -> Result<String> {
     let first = line(alloc, first.bytes.as_slice(), ROOMS[0])?;
     let second = line(alloc, second.bytes.as_slice(), ROOMS[1])?;
     let mut bench = bench_of(alloc, &scenario, first, second)?;
-    turn_all(alloc, &mut bench, clients, &TURNS)?;
+    let mut said = turn_all(alloc, &mut bench, clients, &TURNS)?;
     let Closed { conns, .. } = bench.close();
-    let mut held = String::new(alloc);
     for lines in conns {
-        push_held(alloc, &mut held, lines)?;
+        push_held(alloc, &mut said, lines)?;
     }
-    Ok(held)
+    Ok(said)
 }

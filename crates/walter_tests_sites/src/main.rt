@@ -11,7 +11,7 @@
 //! | `memory` | what is said where memory runs out |
 //! | `random SEEDS` | whether so many runs at random are so, and enough happens in them |
 //! | `spread SEEDS` | whether behind so many runs at random all commits come to all sites |
-//! | `sinks SCENARIO` | what the sinks of a bench's two clients hold |
+//! | `sinks SCENARIO` | what the turns of a bench's two clients come to, and what their sinks hold |
 #![tactic(auto)]
 
 mod benches;
@@ -21,7 +21,7 @@ mod schedules;
 mod texts;
 mod worlds;
 
-use crate::benches::held_by_sinks;
+use crate::benches::answers_and_held;
 use crate::ending::{end, reading, want_of_memory};
 use crate::playing::{Run, legal_history, play};
 use crate::schedules::{play_at_random, spread_all};
@@ -71,7 +71,7 @@ fn answer(rt: &impl AllocGlobal, command: &str, rest: &str) -> Result<String> {
         "memory" => Ok(want_of_memory(alloc)?),
         "random" => play_at_random(rt, rest.parse().unwrap_or(0)),
         "spread" => spread_all(rt, rest.parse().unwrap_or(0)),
-        "sinks" => held_by_sinks(alloc, rest),
+        "sinks" => answers_and_held(alloc, rest),
         _ => bail!("no line of this kind"),
     }
 }
