@@ -2,7 +2,7 @@
 use Rattle.std.proofs.Common.{◌≡◌, ℕ, ◌<◌, List, [], length, map, slice_get, refl, ap, sym, ◌∙◌, subst, arith, Option, Some, true, inl, inr}
 use Rattle.std.specs.Prelude.{slice_index_or, All, Vec}
 use Rattle.std.specs.declared.alloc.Global.{Global}
-use Rattle.std.proofs.lemmas.Bool.{cases_lt, cases_eq}
+use Rattle.std.proofs.lemmas.Bool.{cases_eq}
 use Rattle.std.proofs.lemmas.List.{length-map}
 use Rattle.std.proofs.lemmas.List.Elements.{All-contains}
 use Rattle.std.proofs.lemmas.Option.{slice_get_within}
@@ -19,7 +19,8 @@ use Rattle.walter_rules.specs.Knowledge.{site_at}
 use Rattle.walter_scenario.specs.declared.scenario.Scenario.{Scenario}
 use Rattle.walter_cluster.specs.Benches.{BenchValue, IsCellAt, IsBench, IsOf, AreConnected, AreAnswered, AreAllConnected, AreAllAnswered, AtEach, EachKeeps, Keeps, IsToldAt, HasRoom, outs_at, ins_at, is_site, is_home}
 use Rattle.walter_cluster.specs.Meetings.{HaveLanes}
-use Rattle.walter_cluster.proofs.Changes.{there_is, one_there, field_at, field_past, ChangesOne}
+use Rattle.walter_cluster.proofs.Becoming.{become_self, become_on, become_same}
+use Rattle.walter_cluster.proofs.Changes.{there_is, one_there, field_at, ChangesOne}
 
 -- as many ends, by their rings
 pub outs_long : (a b : List Sending) → out_rings a ≡ out_rings b → length a ≡ length b
@@ -68,20 +69,10 @@ module _ {D : Type 0} (g : Ghosts D) where
   -- ---- all cells
 
   pub each_self : (cells : List (CellValue D)) → EachKeeps g cells cells
-  each_self cells = record {
-    long = refl;
-    each = λ i a b at is. subst (λ (c : CellValue D). cell.Keeps g a c) (one_there cells i a b at is) (keeps_self a);
-  }
+  each_self cells = become_self (cell.Keeps g) keeps_self cells
 
   pub each_on : (old mid new : List (CellValue D)) → EachKeeps g old mid → EachKeeps g mid new → EachKeeps g old new
-  each_on old mid new first second = record {
-    long = second.long ∙ first.long;
-    each = λ i a c at is.
-        let within = slice_get_within old i a at in
-        let l = first.long in
-        let m = there_is mid i (omega (arith, within, l)) in
-        keeps_on a m.0 c (first.each i a m.0 at m.1) (second.each i m.0 c m.1 is);
-  }
+  each_on old mid new first second = become_on (cell.Keeps g) keeps_on old mid new first second
 
   -- where one is another
   pub each_one : (old new : List (CellValue D)) (i : ℕ) (a x : CellValue D) → ChangesOne old new i a x
@@ -99,22 +90,7 @@ module _ {D : Type 0} (g : Ghosts D) where
   }
 
   module _ (old new : List (CellValue D)) (all : EachKeeps g old new) where
-    -- what a cell keeps is kept everywhere
-    pub kept_same : {Y Z : Type 0} (f : CellValue D → Y) (h : Y → Z) (e : Y)
-        → ((a b : CellValue D) → cell.Keeps g a b → h (f b) ≡ h (f a)) → (n : ℕ)
-        → h (slice_index_or (map f new) n e) ≡ h (slice_index_or (map f old) n e)
-    kept_same f h e same n = elim (cases_lt n (length old)) [
-      | inl within ↦
-          let l = all.long in
-          let a = there_is old n within in
-          let b = there_is new n (omega (arith, within, l)) in
-          ap h (field_at f new n b.0 e b.1) ∙ (same a.0 b.0 (all.each n a.0 b.0 a.1 b.1) ∙ ap h (sym (field_at f old n a.0 e a.1)))
-      | inr past ↦
-          let l = all.long in
-          ap h (field_past f new n e (omega (arith, past, l))) ∙ ap h (sym (field_past f old n e past))
-    ]
-
-    -- and holds of each
+    -- what a cell keeps holds of each
     pub kept_each : (P : SiteId → CellValue D → Type 0)
         → ((i : SiteId) (a b : CellValue D) → cell.Keeps g a b → P i a → P i b) → AtEach old P → AtEach new P
     kept_each P by so i b at =
@@ -125,12 +101,12 @@ module _ {D : Type 0} (g : Ghosts D) where
 
     outs_ring : (from to : ℕ) → ring_to (outs_at new from) to ≡ ring_to (outs_at old from) to
     outs_ring from to =
-        kept_same (λ (c : CellValue D). c.node.outs) (λ (os : List Sending). ring_to os to) []
+        become_same (cell.Keeps g) old new all (λ (c : CellValue D). c.node.outs) (λ (os : List Sending). ring_to os to) []
         (λ a b is. ap (λ (rs : List Ring). slice_index_or rs to no_ring) is.node.rings) from
 
     ins_ring : (to from : ℕ) → ring_from (ins_at new to) from ≡ ring_from (ins_at old to) from
     ins_ring to from =
-        kept_same (λ (c : CellValue D). c.ins) (λ (is : List Receiving). ring_from is from) []
+        become_same (cell.Keeps g) old new all (λ (c : CellValue D). c.ins) (λ (is : List Receiving). ring_from is from) []
         (λ a b is. ap (λ (rs : List Ring). slice_index_or rs from no_ring) is.ins) to
 
     -- the cells are those of a bench

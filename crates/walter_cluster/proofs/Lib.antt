@@ -5,6 +5,7 @@ pub mod Places
 pub mod Opened
 pub mod Built
 pub mod Changes
+pub mod Becoming
 pub mod Meetings
 pub mod Benches
 pub mod Arrivals

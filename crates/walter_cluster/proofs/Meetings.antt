@@ -21,7 +21,8 @@ use Rattle.walter_trail.specs.Calls.{calls_of}
 use Rattle.walter_cluster.specs.Benches.{trails_of, outs_at, ins_at, arms_at, EachKeeps}
 use Rattle.walter_cluster.specs.Meetings.{put_at, arrived_at, met_at, HaveLanes, HaveAllMet, HasStayed, HaveStayed, HasArrived, IsAsBefore}
 use Rattle.walter_cluster.specs.Moments.{trail_at}
-use Rattle.walter_cluster.proofs.Changes.{same_places, there_is, one_there, field_at, field_past, reads_same, others_same, ChangesTwo, first_now, second_was, rest_same}
+use Rattle.walter_cluster.proofs.Becoming.{become_self, become_on, become_same}
+use Rattle.walter_cluster.proofs.Changes.{same_places, there_is, one_there, field_at, reads_same, others_same, ChangesTwo, first_now, second_was, rest_same}
 use Rattle.walter_cluster.proofs.Keeping.{outs_long, ins_long}
 
 module _ {D : Type 0} where
@@ -62,37 +63,12 @@ module _ {D : Type 0} where
   -- ---- all cells
 
   pub have_stayed_self : (cells : List (CellValue D)) → HaveStayed cells cells
-  have_stayed_self cells = record {
-    long = refl;
-    each = λ i a b at is. subst (λ (c : CellValue D). HasStayed a c) (one_there cells i a b at is) (stayed_self a);
-  }
+  have_stayed_self cells = become_self HasStayed stayed_self cells
 
   pub have_stayed_on : (old mid new : List (CellValue D)) → HaveStayed old mid → HaveStayed mid new → HaveStayed old new
-  have_stayed_on old mid new first second = record {
-    long = second.long ∙ first.long;
-    each = λ i a c at is.
-        let within = slice_get_within old i a at in
-        let l = first.long in
-        let m = there_is mid i (omega (arith, within, l)) in
-        stayed_on a m.0 c (first.each i a m.0 at m.1) (second.each i m.0 c m.1 is);
-  }
+  have_stayed_on old mid new first second = become_on HasStayed stayed_on old mid new first second
 
   module _ (old new : List (CellValue D)) (stay : HaveStayed old new) where
-    -- what a cell that has stayed has as before is so everywhere
-    pub stays_same : {Y Z : Type 0} (f : CellValue D → Y) (h : Y → Z) (e : Y)
-        → ((a b : CellValue D) → HasStayed a b → h (f b) ≡ h (f a)) → (n : ℕ)
-        → h (slice_index_or (map f new) n e) ≡ h (slice_index_or (map f old) n e)
-    stays_same f h e same n = elim (cases_lt n (length old)) [
-      | inl within ↦
-          let l = stay.long in
-          let a = there_is old n within in
-          let b = there_is new n (omega (arith, within, l)) in
-          ap h (field_at f new n b.0 e b.1) ∙ (same a.0 b.0 (stay.each n a.0 b.0 a.1 b.1) ∙ ap h (sym (field_at f old n a.0 e a.1)))
-      | inr past ↦
-          let l = stay.long in
-          ap h (field_past f new n e (omega (arith, past, l))) ∙ ap h (sym (field_past f old n e past))
-    ]
-
     pub stays_map : {Y : Type 0} (f : CellValue D → Y) → ((a b : CellValue D) → HasStayed a b → f b ≡ f a) → map f new ≡ map f old
     stays_map f same = same_places (map f new) (map f old) (λ n. elim (cases_lt n (length old)) [
       | inl within ↦
@@ -114,7 +90,7 @@ module _ {D : Type 0} where
 
     pub arms_stay : (g : Ghosts D) (i : ℕ) → arms_at g new i ≡ arms_at g old i
     arms_stay g i =
-        stays_same (λ (c : CellValue D). arms_under g c.node.disk) (λ arms. arms) None
+        become_same HasStayed old new stay (λ (c : CellValue D). arms_under g c.node.disk) (λ arms. arms) None
         (λ a b is. ap (λ (n : NodeValue D). arms_under g n.disk) is.node) i
 
     pub each_stays : (g : Ghosts D) → EachKeeps g old new
@@ -122,26 +98,26 @@ module _ {D : Type 0} where
 
     pub put_stays : (from to : ℕ) → put_at new from to ≡ put_at old from to
     put_stays from to =
-        stays_same (λ (c : CellValue D). c.node.outs) (λ (os : List Sending). put_to os to) [] (λ a b is. is.sends to) from
+        become_same HasStayed old new stay (λ (c : CellValue D). c.node.outs) (λ (os : List Sending). put_to os to) [] (λ a b is. is.sends to) from
 
     pub outs_ring : (from to : ℕ) → ring_to (outs_at new from) to ≡ ring_to (outs_at old from) to
     outs_ring from to =
-        stays_same (λ (c : CellValue D). c.node.outs) (λ (os : List Sending). ring_to os to) []
+        become_same HasStayed old new stay (λ (c : CellValue D). c.node.outs) (λ (os : List Sending). ring_to os to) []
         (λ a b is. ap (λ (rs : List Ring). slice_index_or rs to no_ring) is.outs) from
 
     pub ins_ring : (to from : ℕ) → ring_from (ins_at new to) from ≡ ring_from (ins_at old to) from
     ins_ring to from =
-        stays_same (λ (c : CellValue D). c.ins) (λ (is : List Receiving). ring_from is from) []
+        become_same HasStayed old new stay (λ (c : CellValue D). c.ins) (λ (is : List Receiving). ring_from is from) []
         (λ a b is. ap (λ (rs : List Ring). slice_index_or rs from no_ring) is.ins) to
 
     outs_as_long : (from : ℕ) → length (outs_at new from) ≡ length (outs_at old from)
     outs_as_long from =
-        stays_same (λ (c : CellValue D). c.node.outs) (λ (os : List Sending). length os) []
+        become_same HasStayed old new stay (λ (c : CellValue D). c.node.outs) (λ (os : List Sending). length os) []
         (λ a b is. outs_long b.node.outs a.node.outs is.outs) from
 
     ins_as_long : (to : ℕ) → length (ins_at new to) ≡ length (ins_at old to)
     ins_as_long to =
-        stays_same (λ (c : CellValue D). c.ins) (λ (is : List Receiving). length is) []
+        become_same HasStayed old new stay (λ (c : CellValue D). c.ins) (λ (is : List Receiving). length is) []
         (λ a b is. ins_long b.ins a.ins is.ins) to
 
     pub lanes_stay : HaveLanes old → HaveLanes new

@@ -31,6 +31,11 @@ pub record BenchValue (D : Type 0) : Type 0 where
   pub cells : List (CellValue D)
   pub homes : List SiteId
 
+-- there are as many elements, and of what each was and became it is so
+pub record EachBecomes {X : Type 0} (R : (old new : X) → Type 0) (old new : List X) : Type 0 where
+  pub long : length new ≡ length old
+  pub each : (i : ℕ) (before after : X) → slice_get old i ≡ Some before → slice_get new i ≡ Some after → R before after
+
 module _ {D : Type 0} where
   abbrev pub trails_of : List (CellValue D) → List (List Entry)
   trails_of cells = map (λ (c : CellValue D). c.node.trail) cells
@@ -112,10 +117,8 @@ module _ {D : Type 0} where
     IsToldAt i bench = (c : CellValue D) → slice_get bench.cells i ≡ Some c → is_told g c.node.disk ≡ true
 
     -- each cell keeps what a call of a cell keeps
-    pub record EachKeeps (old new : List (CellValue D)) : Type 0 where
-      pub long : length new ≡ length old
-      pub each : (i : ℕ) (before after : CellValue D) → slice_get old i ≡ Some before → slice_get new i ≡ Some after
-          → cell.Keeps g before after
+    abbrev pub EachKeeps : (old new : List (CellValue D)) → Type 0
+    EachKeeps old new = EachBecomes (cell.Keeps g) old new
 
     -- what each call keeps: the cells so, the homes of clients, and that nothing arrives but where the ends of a lane meet
     pub record Keeps (old new : BenchValue D) : Type 0 where

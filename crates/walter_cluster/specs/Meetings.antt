@@ -9,7 +9,7 @@ use Rattle.walter_outbox.specs.Lanes.{put_to, arrived_from, met_to, posted, ring
 use Rattle.walter_rules.specs.declared.entry.Entry.{Entry}
 use Rattle.walter_rules.specs.Knowledge.{site_at}
 use Rattle.walter_rules.specs.Merges.{put_out_to}
-use Rattle.walter_cluster.specs.Benches.{outs_at, ins_at}
+use Rattle.walter_cluster.specs.Benches.{EachBecomes, outs_at, ins_at}
 use Rattle.walter_cluster.specs.Moments.{trail_at}
 
 module _ {D : Type 0} where
@@ -45,10 +45,8 @@ module _ {D : Type 0} where
     pub sends : (to : ℕ) → put_to new.node.outs to ≡ put_to old.node.outs to
 
   -- so it is with each cell
-  pub record HaveStayed (old new : List (CellValue D)) : Type 0 where
-    pub long : length new ≡ length old
-    pub each : (i : ℕ) (before after : CellValue D) → slice_get old i ≡ Some before
-        → slice_get new i ≡ Some after → HasStayed before after
+  abbrev pub HaveStayed : (old new : List (CellValue D)) → Type 0
+  HaveStayed old new = EachBecomes HasStayed old new
 
   -- what a site's trail puts out to another, as it lies on the lane
   abbrev pub put_by : List (CellValue D) → (from to : ℕ) → List Posted
