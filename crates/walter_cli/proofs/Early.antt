@@ -1,5 +1,5 @@
 -- What is left of a rack where no run began over its disks.
-use Rattle.std.proofs.Common.{◌≡◌, ℕ, ◌<◌, ◌≤◌, List, [], ◌++◌, length, map, slice_get, Option, Some, None, ap, sym, ◌∙◌, refl, subst, arith, inr}
+use Rattle.std.proofs.Common.{◌≡◌, ℕ, ◌<◌, ◌≤◌, List, [], length, map, slice_get, Option, Some, ap, sym, ◌∙◌, refl, subst, arith, inr}
 use Rattle.std.specs.Prelude.{IfSome, Err}
 use Rattle.std.proofs.lemmas.List.Elements.{All-nil}
 use Rattle.std.proofs.lemmas.Option.{slice_get_within}

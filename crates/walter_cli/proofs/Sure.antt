@@ -17,7 +17,7 @@ use Rattle.walter_cli.specs.declared.ended.Fault.TheVariants.{Usage, Memory, Rac
 use Rattle.walter_cli.specs.declared.ended.JournalCause.{JournalCause}
 use Rattle.walter_cli.specs.Assurance.{Assures, IsSureRun, IsSureReport}
 use Rattle.walter_cli.specs.Headline.{Outside, IsDiskOfRun, Runs, RunsWhole, IsRackFault, FailsEarly, Promise}
-use Rattle.walter_cli.specs.Racks.{RackAt, Racked, OfADisk, IsTold, Holds, AreSo, AreFirst, IsHanded, IsUntouched, IsUnarmed, HasFailed, HasCause, numbered, racked}
+use Rattle.walter_cli.specs.Racks.{RackAt, Racked, OfADisk, IsTold, Holds, AreSo, AreFirst, IsHanded, IsUntouched, IsUnarmed, HasFailed, HasCause, racked}
 use Rattle.walter_cli.specs.Statuses.{status_of}
 use Rattle.walter_cli.specs.Words.{IsLine}
 use Rattle.walter_cli.proofs.Causes.{cause_has_record}
