@@ -267,7 +267,7 @@ pub ends_cut : (r : Racked) (trace : Bool) (s : Scenario) (holds holds' : Option
     → IsWholeBack r s trails → IsWriteFault (text_of trace s trails) holds holds' faults faults' fault
     → EndsRun r trace s holds holds' faults faults' trails (Some fault)
 ends_cut r trace s holds holds' faults faults' trails Write run why = (run, why.0, why.1)
-ends_cut r trace s holds holds' faults faults' trails Memory run why = (inr run.0.run, why)
+ends_cut r trace s holds holds' faults faults' trails Memory run why = (inr run.1.run, why)
 ends_cut r trace s holds holds' faults faults' trails Usage run why = absurd why
 ends_cut r trace s holds holds' faults faults' trails (ScenarioFault place detail) run why = absurd why
 ends_cut r trace s holds holds' faults faults' trails Read run why = absurd why

@@ -133,7 +133,7 @@ module _ (words : List (String Global)) (rack : Racked) (before after : Outside)
 
     may_have_run : (s : Scenario) (site : ℕ) → IsRackFault rack s ended.trails.items site → MayHaveRun rack s ended.trails.items
     may_have_run s site (inl none) = inl (none.0, none.1)
-    may_have_run s site (inr run) = inr run.0.run
+    may_have_run s site (inr run) = inr run.1.run
 
     -- what is so at the end with this fault, or with none
     abbrev Tells : Option Fault → Type 0
@@ -190,7 +190,7 @@ module _ (words : List (String Global)) (rack : Racked) (before after : Outside)
         → FailsEarly rack ended.trails.items
     early site s ok (inl (none, untouched, inl take)) = absurd (ok take.failed)
     early site s ok (inl (none, untouched, inr load)) = (none, (site, load.failed))
-    early site s ok (inr (run, give)) = absurd (ok give.failed)
+    early site s ok (inr (arms, run, give)) = absurd (ok give.failed)
 
     -- where nothing fails, a scenario that the bytes spell is run
     completes : (fault : Option Fault) → ended.status ≡ status_of fault → Tells fault → (bytes : List ℕ) (s : Scenario)
@@ -266,7 +266,7 @@ module _ (words : List (String Global)) (rack : Racked) (before after : Outside)
           ]
           | inr run ↦
               absurd (run_has_none bytes s site cause place
-              (record { bytes = told.bytes; source = told.source; scenario = told.scenario; reading = told.reading; run = run.0.run })
+              (record { bytes = told.bytes; source = told.source; scenario = told.scenario; reading = told.reading; run = run.1.run })
               left reading within known why)
         ]))
     names (Some (Journal other c p)) named is told bytes s site cause place left reading within known why source ok =
@@ -319,11 +319,11 @@ module _ (words : List (String Global)) (rack : Racked) (before after : Outside)
     promise_run s None named taken ends =
         promise None named (whole s (Appends before.holds after.holds) taken ends.0 ends.1)
         (λ not_done not_cut. absurd (not_done (status ∙ ap status_of named)))
-        (inr (runs s taken ends.0.0.run)) (never s taken)
+        (inr (runs s taken ends.0.1.run)) (never s taken)
     promise_run s (Some Write) named taken ends =
         promise (Some Write) named (whole s (AppendsFront before.holds after.holds) taken ends.0 ends.1, ends.2)
         (λ not_done not_cut. absurd (not_cut (status ∙ ap status_of named)))
-        (inr (runs s taken ends.0.0.run)) (never s taken)
+        (inr (runs s taken ends.0.1.run)) (never s taken)
     promise_run s (Some Memory) named taken ends =
         promise (Some Memory) named tt (λ not_done not_cut. ends.1) (runs_if s taken ends.0) (never s taken)
     promise_run s (Some (Rack site)) named taken ends =

@@ -96,7 +96,7 @@ module _ (words : List (String Global)) {D : Type 0} (g : Ghosts D) (first last 
   racked_never : (site : ℕ) (s : Scenario) → IsRackFault rack s ended.trails.items site → ⊥
   racked_never site s (inl (none, untouched, inl take)) = ok take.failed
   racked_never site s (inl (none, untouched, inr load)) = never (none, (site, load.failed))
-  racked_never site s (inr (run, give)) = ok give.failed
+  racked_never site s (inr (arms, run, give)) = ok give.failed
 
   sure : Runs rack before after ended.trails.items → IsSureRun rack before after ended.trails.items
   sure runs = record {
