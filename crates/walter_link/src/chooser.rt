@@ -13,6 +13,13 @@ pub struct Rates {
     pub swap: u16,
 }
 
+/// The scripted link of a scenario: the seed of its generators, and by which rates they choose.
+#[derive(Clone, Copy, Debug, PartialEq, Eq)]
+pub struct Link {
+    pub seed: u64,
+    pub rates: Rates,
+}
+
 /// What becomes of a packet.
 #[derive(Clone, Copy, Debug, PartialEq, Eq)]
 pub struct Choice {

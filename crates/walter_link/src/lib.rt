@@ -3,4 +3,4 @@
 
 mod chooser;
 
-pub use chooser::{Choice, Chooser, Rates};
+pub use chooser::{Choice, Chooser, Link, Rates};
