@@ -41,6 +41,7 @@ impl<D: Disk + Drop> Engine<D> {
     ghost use Rattle.walter_machine.specs.Comings.{IsSized, IsFaulty};
     ghost use Rattle.walter_machine.specs.States.{AreTold, IsSizedEvent};
     ghost use Rattle.walter_packet.specs.Framed.{frame_of};
+    ghost use Rattle.walter_rules.specs.Deliveries.{IsLeastEnabled};
     ghost use Rattle.walter_rules.specs.Standing.{Standing};
     ghost use Rattle.walter_rules.specs.Trails.{standing, opening};
     ghost use Rattle.walter_rules.specs.declared.event.Event.TheVariants as happens;
@@ -86,6 +87,14 @@ impl<D: Disk + Drop> Engine<D> {
         ensures { result ≡ is_up self.now }
     {
         self.machine.is_up()
+    }
+
+    /// The least peer whose next commit can be committed here; none where the site is down.
+    pub fn least_enabled(&self) -> Option<SiteId>
+        ensures { (S : Standing) → Stands self.now S → S.up ≡ true
+            → IsLeastEnabled (catalog_in self.now) (site_in self.now) S.knows result }
+    {
+        self.machine.least_enabled()
     }
 
     /// The disk, as it is.

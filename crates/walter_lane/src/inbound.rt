@@ -44,6 +44,13 @@ impl Inbound {
         Ok(())
     }
 
+    /// How many packets have arrived.
+    pub fn count(&self) -> u32
+        ensures { result ≡ length self.now.arrived }
+    {
+        self.arrived.len() as u32
+    }
+
     /// The packet of this number among those that have arrived, from 1.
     pub fn arrived(&self, number: usize) -> Option<&Posted>
         ensures none { IsNone result ↔ ((number ≡ 0) ⊎ (length self.now.arrived < number)) }

@@ -1,5 +1,5 @@
 -- What becomes of the packets that arrive at a site, by the words of generators (docs/FORMATS.md, "The link").
-use Rattle.std.specs.Prelude.{ℕ, zero, suc, ◌+◌, ◌*◌, ◌%◌, nat_lt, Bool, true, false, if◌then◌else◌}
+use Rattle.std.specs.Prelude.{ℕ, zero, suc, ◌+◌, ◌*◌, ◌%◌, nat_lt, Bool, false, if◌then◌else◌}
 use Rattle.rand_pcg.specs.Lcg.{Lcg, started, increment_of}
 use Rattle.rand_pcg.specs.Pcg.{multiplier_64, pcg32}
 use Rattle.walter_base.specs.declared.names.SiteId.{SiteId}

@@ -50,6 +50,7 @@ impl Machine {
     ghost use Rattle.walter_machine.specs.Machines.{HasStanding, HasRoom, IsSameSite, AreFound, Settles, IsCounted};
     ghost use Rattle.walter_machine.specs.Readiness.{IsReadyFor, IsReadyAnyway, rec_in, came_in};
     ghost use Rattle.walter_machine.specs.States.{AreTold, IsSizedEvent};
+    ghost use Rattle.walter_rules.specs.Deliveries.{IsLeastEnabled};
     ghost use Rattle.walter_rules.specs.declared.event.Event.TheVariants as happens;
     ghost use Rattle.walter_rules.specs.Standing.{Standing, stands_after, up_after};
     ghost use Rattle.walter_rules.specs.Trails.{Comes, FitsIn, TakesMemory, failure, fullness, left_behind, need_of, only, want};
@@ -110,6 +111,14 @@ impl Machine {
         ensures none { IfNone result (flight_in self.now ≡ None) }
     {
         self.flight.as_ref()
+    }
+
+    /// The least peer whose next commit can be committed here; none where the site is down.
+    pub fn least_enabled(&self) -> Option<SiteId>
+        ensures { (S : Standing) → HasStanding self.now S → S.up ≡ true
+            → IsLeastEnabled (catalog_in self.now) (site_in self.now) S.knows result }
+    {
+        self.site.as_ref()?.least_enabled()
     }
 
     /// Takes the memory that any event leaves a site with.

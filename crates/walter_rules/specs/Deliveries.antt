@@ -1,6 +1,6 @@
 -- The rules of what comes from other sites, and of what is committed here of theirs (docs/SITE.md, "A site among
 -- others").
-use Rattle.std.specs.Prelude.{ℕ, ◌+◌, nat_eq, nat_le, nat_lt, Bool, true, false, not, ◌&&◌, List, [], ◌∷◌, ◌++◌, length, slice_index, Option, Some, None, if◌then◌else◌}
+use Rattle.std.specs.Prelude.{◌≡◌, ◌<◌, ℕ, ◌+◌, nat_eq, nat_le, nat_lt, Bool, true, false, not, ◌&&◌, List, [], ◌∷◌, ◌++◌, length, slice_index, Option, Some, None, if◌then◌else◌}
 use Rattle.std.specs.List.{list_all, range_with_len}
 use Rattle.std.specs.Option.{option_map_or}
 use Rattle.walter_base.specs.declared.catalog.Catalog.{Catalog}
@@ -209,3 +209,13 @@ advances K j false = passes []
 
 abbrev pub advance_rule : Catalog → SiteId → Knowledge → SiteId → Expected
 advance_rule catalog i K j = advances K j (is_peer catalog i j && is_enabled K j)
+
+-- the next commit of a peer can be committed here
+abbrev pub can_advance : Catalog → SiteId → Knowledge → SiteId → Bool
+can_advance catalog i K j = is_peer catalog i j && is_enabled K j
+
+-- this is the least peer whose next commit can be committed here; or there is none
+abbrev pub IsLeastEnabled : Catalog → SiteId → Knowledge → Option SiteId → Type 0
+IsLeastEnabled catalog i K None = (j : SiteId) → can_advance catalog i K j ≡ false
+IsLeastEnabled catalog i K (Some j) =
+    (can_advance catalog i K j ≡ true) × ((k : SiteId) → k.0 < j.0 → can_advance catalog i K k ≡ false)

@@ -6,7 +6,7 @@ use crate::plan::Plan;
 use crate::planning::plan_input;
 use crate::readying::{make_ready, ready_answer};
 use std::marker::Model;
-use walter_base::{Mem, Sends};
+use walter_base::{Mem, Sends, SiteId};
 use walter_rules::{Input, Outcome};
 use walter_session::Sessions;
 use walter_tables::{Planned, Tables};
@@ -35,6 +35,7 @@ impl Site {
     ghost use Rattle.walter_site.specs.Members.{Knows, IsStanding, input_rule, IsSizedPacket, IsSizedInput, IsShortOutcome};
     ghost use Rattle.walter_site.specs.Plans.{IsReady};
     ghost use Rattle.walter_rules.specs.declared.event.Event.{Event};
+    ghost use Rattle.walter_rules.specs.Deliveries.{IsLeastEnabled};
     ghost use Rattle.walter_rules.specs.Knowledge.{Knowledge};
     ghost use Rattle.walter_rules.specs.Learning.{after};
     ghost use Rattle.walter_rules.specs.Records.{CanFollow, IsRecordAmong};
@@ -107,6 +108,14 @@ impl Site {
         keep_any(&mut self.tables, rec, made);
         take_in(&mut self.tables, input, &outcome, asked, begun);
         (outcome, sends)
+    }
+
+    /// The least peer whose next commit can be committed here.
+    pub fn least_enabled(&self) -> Option<SiteId>
+        ensures { (K : Knowledge) → Knows self.now K
+            → IsLeastEnabled (catalog_of self.now) (site_of self.now) K result }
+    {
+        self.tables.least_enabled()
     }
 
     /// The transactions of its clients, which a site that goes down loses.

@@ -4,7 +4,7 @@ ghost use Rattle.walter_base.specs.declared.packet.Packet.{Packet as Said};
 ghost use Rattle.walter_base.specs.Vectors.{entry_at};
 ghost use Rattle.walter_locks.specs.Parts.{part_of};
 ghost use Rattle.walter_rules.specs.Conflicts.{first_conflict};
-ghost use Rattle.walter_rules.specs.Deliveries.{passes, takes, back, is_peer, is_enabled, if_greater, packet_rule, advance_rule, covers, is_unseen, answer_over, prepares};
+ghost use Rattle.walter_rules.specs.Deliveries.{passes, takes, back, is_peer, is_enabled, if_greater, packet_rule, advance_rule, can_advance, IsLeastEnabled, covers, is_unseen, answer_over, prepares};
 ghost use Rattle.walter_rules.specs.Knowledge.{Knowledge};
 ghost use Rattle.walter_rules.specs.Slow.{Free};
 ghost use Rattle.walter_tables.specs.Keeping.{GoesOn};
@@ -160,6 +160,27 @@ impl Tables {
         };
         let sends = self.back(from, Packet::Visible(seq))?;
         Ok(takes(Some(Record::Seen(from, seq)), sends))
+    }
+
+    /// Whether the next commit of the site can be committed here.
+    fn can_advance(&self, from: SiteId) -> bool
+        ensures { (K : Knowledge) → Stands self.now K
+            → result ≡ can_advance (catalog_of self.now) (site_of self.now) K from }
+    {
+        is_peer(&self.catalog, self.site, from) && self.enabled_next(from).is_some()
+    }
+
+    /// The least peer whose next commit can be committed here.
+    pub fn least_enabled(&self) -> Option<SiteId>
+        ensures { (K : Knowledge) → Stands self.now K
+            → IsLeastEnabled (catalog_of self.now) (site_of self.now) K result }
+    {
+        for from in 0..self.catalog.sites {
+            if self.can_advance(SiteId(from)) {
+                return Some(SiteId(from));
+            }
+        }
+        None
     }
 
     /// Whether all that the snapshot sees is received here.
