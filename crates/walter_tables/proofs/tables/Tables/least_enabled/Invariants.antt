@@ -2,7 +2,7 @@ use Rattle.std.proofs.Common.{◌≡◌, ◌<◌, ℕ, false}
 use Rattle.walter_rules.specs.Deliveries.{can_advance}
 use Rattle.walter_rules.specs.Knowledge.{Knowledge, site_at}
 use Rattle.walter_tables.specs.Sites.{Stands, catalog_of, site_of}
-use Rattle.walter_tables.proofs.deliveries.Tables.least_enabled.Given as goal
+use Rattle.walter_tables.proofs.tables.Tables.least_enabled.Given as goal
 
 -- none of the peers so far has a next commit that can be committed here
 abbrev pub invariant-loop-from : goal.invariant-loop-from
