@@ -5,3 +5,4 @@ pub mod Written
 pub mod Cells
 pub mod Turns
 pub mod Builds
+pub mod Pumps

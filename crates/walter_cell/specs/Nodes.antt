@@ -14,7 +14,7 @@ use Rattle.walter_rules.specs.declared.entry.Came.{Came}
 use Rattle.walter_rules.specs.declared.entry.Entry.{Entry}
 use Rattle.walter_rules.specs.declared.event.Event.{Event}
 use Rattle.walter_rules.specs.Rule.{rule}
-use Rattle.walter_rules.specs.Standing.{settled}
+use Rattle.walter_rules.specs.Standing.{Standing, settled}
 use Rattle.walter_rules.specs.Trails.{standing, clock, opening, IsRightTrail}
 use Rattle.walter_site.specs.Members.{IsShortOutcome}
 use Rattle.walter_cell.specs.Entries.{HaveRisingStamps}
@@ -41,6 +41,10 @@ pub record NodeValue (D : Type 0) : Type 0 where
 -- the stamp of its last entry
 abbrev pub clock_in : {D : Type 0} → NodeValue D → ℕ
 clock_in node = clock (reverse node.trail)
+
+-- how the site stands by its trail
+abbrev pub standing_of : {D : Type 0} → NodeValue D → Standing
+standing_of node = standing node.catalog node.site (reverse node.trail)
 
 -- there is memory for one more entry, and for what an event leaves
 pub record IsReady {D : Type 0} (node : NodeValue D) : Type 0 where

@@ -31,3 +31,14 @@ pub enum Acted {
     /// The trail has no place for another entry.
     Spent,
 }
+
+/// What a pump came to.
+#[derive(Clone, Copy, Debug, PartialEq, Eq)]
+pub enum Pumped {
+    /// An entry came to the trail.
+    Did,
+    /// Nothing was to be done.
+    Idle,
+    /// The trail has no place for another entry.
+    Spent,
+}

@@ -57,7 +57,8 @@ impl<D: Disk + Drop, S: Source + Drop, K: Sink + Drop> Cell<D, S, K> {
     ghost use Rattle.walter_cell.specs.Cells.{CellValue, IsCell, Keeps, Proceeds, HasBegun, HaveMet, HasSameTrail};
     ghost use Rattle.walter_cell.specs.Cells.{TurnsTo, Acts, MovesTo};
     ghost use Rattle.walter_cell.specs.Turns.{ServesAt, AreSameBut};
-    ghost use Rattle.walter_cell.specs.Nodes.{arms_under};
+    ghost use Rattle.walter_cell.specs.Nodes.{arms_under, is_told, standing_of};
+    ghost use Rattle.walter_rules.specs.Deliveries.{IsLeastEnabled};
 
     /// A site over its disk, up in its first epoch. Where it doesn't begin the disk comes back.
     pub fn begin(
@@ -117,6 +118,36 @@ impl<D: Disk + Drop, S: Source + Drop, K: Sink + Drop> Cell<D, S, K> {
         ensures { IsTrue result ↔ IsSpent (clock_in self.now.node + 1) self.now.node.trail }
     {
         self.node.next_stamp(0).is_none()
+    }
+
+    /// Whether the site is up.
+    pub fn is_up(&self) -> bool
+        ensures { is_told D.Disk self.now.node.disk ≡ true → result ≡ (standing_of self.now.node).up }
+    {
+        self.node.is_up()
+    }
+
+    /// The least peer whose next commit can be committed here; none where the site is down.
+    pub fn least_enabled(&self) -> Option<SiteId>
+        ensures { is_told D.Disk self.now.node.disk ≡ true → (standing_of self.now.node).up ≡ true
+            → IsLeastEnabled self.now.node.catalog self.now.node.site (standing_of self.now.node).knows result }
+    {
+        self.node.least_enabled()
+    }
+
+    /// How many packets have arrived from a site.
+    pub fn count_from(&self, from: SiteId) -> u32
+        requires { from.0 < length self.now.ins }
+        ensures { result ≡ length (arrived_from self.now.ins from.0) }
+    {
+        self.ins[usize::from(from.0)].count()
+    }
+
+    /// How many sites there are.
+    pub fn sites(&self) -> usize
+        ensures { result ≡ length self.now.ins }
+    {
+        self.ins.len()
     }
 
     /// Gives a client of this site its turn: one entry comes to the trail, or none where no call follows, where the

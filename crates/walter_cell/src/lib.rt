@@ -6,7 +6,8 @@ mod answers;
 mod cell;
 mod line;
 mod node;
+mod pumping;
 
-pub use answers::{Acted, Moved, Serve};
+pub use answers::{Acted, Moved, Pumped, Serve};
 pub use cell::Cell;
 pub use line::Line;

@@ -1,4 +1,4 @@
-ghost use Rattle.std.specs.Prelude.{◌≡◌, ◌<◌, ◌≤◌, ◌-◌, ◌++◌, ◌+◌, ◌≢◌, ◌∷◌, [], ℕ, max, slice_get, length};
+ghost use Rattle.std.specs.Prelude.{◌≡◌, ◌<◌, ◌≤◌, true, ◌-◌, ◌++◌, ◌+◌, ◌≢◌, ◌∷◌, [], ℕ, max, slice_get, length};
 ghost use Rattle.std.specs.Prelude.{vec_len, vec_capacity, option_map, Some, OnErr, OnOk, IfOk, IfErr, IfSome, IfNone};
 ghost use mathlib.Core.List.{IsPrefix};
 ghost use Rattle.walter_base.specs.Vectors.{most_sites};
@@ -66,8 +66,9 @@ impl<D: Disk> Model for Node<D> {
 }
 
 impl<D: Disk + Drop> Node<D> {
+    ghost use Rattle.walter_rules.specs.Deliveries.{IsLeastEnabled};
     ghost use Rattle.walter_rules.specs.Trails.{IsNextStamp};
-    ghost use Rattle.walter_cell.specs.Nodes.{clock_in, IsReady, IsSameButRoom, IsSameButLanes, IsSameButDisk};
+    ghost use Rattle.walter_cell.specs.Nodes.{clock_in, standing_of, IsReady, IsSameButRoom, IsSameButLanes, IsSameButDisk};
     ghost use Rattle.walter_cell.specs.Nodes.{IsSound, Takes, arms_under, is_told};
 
     /// A site over its disk, up in its first epoch. Where it doesn't begin the disk comes back.
@@ -124,6 +125,21 @@ impl<D: Disk + Drop> Node<D> {
         ensures { option_map (λ e. e.now) result ≡ slice_get self.now.trail (length self.now.trail - 1) }
     {
         self.entries.last()
+    }
+
+    /// Whether the site is up.
+    pub fn is_up(&self) -> bool
+        ensures { is_told D.Disk self.now.disk ≡ true → result ≡ (standing_of self.now).up }
+    {
+        self.engine.is_up()
+    }
+
+    /// The least peer whose next commit can be committed here; none where the site is down.
+    pub fn least_enabled(&self) -> Option<SiteId>
+        ensures { is_told D.Disk self.now.disk ≡ true → (standing_of self.now).up ≡ true
+            → IsLeastEnabled self.now.catalog self.now.site (standing_of self.now).knows result }
+    {
+        self.engine.least_enabled()
     }
 
     /// The stamp of the next entry, which brings a packet that was put out with this stamp, or none, where the stamp is

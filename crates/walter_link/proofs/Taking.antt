@@ -11,7 +11,7 @@ use Rattle.walter_link.specs.declared.chooser.Rates.{Rates}
 use Rattle.walter_link.specs.declared.pump.Sender.{Sender}
 use Rattle.walter_link.specs.declared.pump.Waiting.{Waiting}
 use Rattle.walter_link.specs.Choices.{choice_of}
-use Rattle.walter_link.specs.Pumps.{PumpValue, HasTaken, IsPump, behind_one, count_in, put_all, put_copies, put_first, put_in, sender_behind, take_of, taken_from}
+use Rattle.walter_link.specs.Pumps.{PumpValue, HasTaken, IsPump, KeepsPump, behind_one, count_in, put_all, put_copies, put_first, put_in, sender_behind, take_of, take_up_to, taken_from}
 
 -- one more is taken first
 pub one_more : (n m : ℕ) (rates : Rates) (from : SiteId) (s now : Sender) (choice : Choice) (waiting after : List Waiting)
@@ -54,12 +54,12 @@ module _ (P : Waiting → Type 0) where
       (all_first (choice_of rates s.chooser).front x waiting is all))
 
 module _ (xs : List Sender) (k : ℕ) (x : Sender) where
-  set_here : k < length xs → slice_get (set xs k x) k ≡ Some x
+  pub set_here : k < length xs → slice_get (set xs k x) k ≡ Some x
   set_here within =
       slice_get-get_or (set xs k x) k x (let l = length-set xs k x in omega (arith, within, l))
       ∙ ap (λ y. Some y) (get_or-set_same xs k x x within)
 
-  set_there : (other : ℕ) → other ≢ k → slice_get (set xs k x) other ≡ slice_get xs other
+  pub set_there : (other : ℕ) → other ≢ k → slice_get (set xs k x) other ≡ slice_get xs other
   set_there other apart =
       let l = length-set xs k x in
       elim (cases_lt other (length xs)) [
@@ -103,3 +103,42 @@ pump_taken p from arrived s at apart all =
       taken = omega (arith, most, now);
     })
     (λ k d lt. kept _ (all k d lt))
+
+-- ---- what a pump keeps
+
+pub keeps_self : (arrived : ℕ → ℕ) (p : PumpValue) → KeepsPump arrived p p
+keeps_self arrived p = record { site = refl; senders = refl; taken = λ from most. most }
+
+pub keeps_on : (arrived : ℕ → ℕ) (a b c : PumpValue) → KeepsPump arrived a b → KeepsPump arrived b c → KeepsPump arrived a c
+keeps_on arrived a b c first second = record {
+  site = second.site ∙ first.site;
+  senders = second.senders ∙ first.senders;
+  taken = λ from most. second.taken from (first.taken from most);
+}
+
+take_keeps_of : (arrived : ℕ → ℕ) (from : SiteId) (p : PumpValue) (o : Option Sender) → slice_get p.senders from.0 ≡ o
+    → KeepsPump arrived p (take_of from (arrived from.0) p o)
+take_keeps_of arrived from p None at = keeps_self arrived p
+take_keeps_of arrived from p (Some s) at =
+    let n = arrived from.0 - s.taken in
+    let within = slice_get_within p.senders from.0 s at in
+    record {
+      site = refl;
+      senders = length-set p.senders from.0 (sender_behind n s);
+      taken = λ k most. elim (cases_eq k from.0) [
+        | inl here ↦
+            let now = ap count_in (set_here p.senders from.0 (sender_behind n s) within) ∙ taken_behind n s in
+            let was = ap count_in at in
+            let same = ap (taken_from p) here in
+            let other = ap (taken_from (take_of from (arrived from.0) p (Some s))) here in
+            let some = ap arrived here in
+            omega (arith, most, now, was, same, other, some)
+        | inr other ↦
+            let same = ap count_in (set_there p.senders from.0 (sender_behind n s) k other) in
+            omega (arith, most, same)
+      ];
+    }
+
+-- taking all that has arrived of one sender
+pub take_keeps : (arrived : ℕ → ℕ) (from : SiteId) (p : PumpValue) → KeepsPump arrived p (take_up_to from (arrived from.0) p)
+take_keeps arrived from p = take_keeps_of arrived from p (slice_get p.senders from.0) refl

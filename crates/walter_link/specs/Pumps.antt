@@ -2,6 +2,7 @@
 use Rattle.std.specs.Prelude.{◌≢◌, ◌<◌, ◌≤◌, ◌+◌, ◌-◌, ℕ, zero, suc, List, [], ◌∷◌, ◌++◌, All, length, map, replicate, set, slice_get, Option, Some, None, Bool, true, false}
 use Rattle.std.specs.List.{range_with_len}
 use Rattle.walter_base.specs.declared.names.SiteId.{SiteId}
+use Rattle.walter_base.specs.Names.{same_site}
 use Rattle.walter_link.specs.declared.chooser.Choice.{Choice}
 use Rattle.walter_link.specs.declared.chooser.Link.{Link}
 use Rattle.walter_link.specs.declared.chooser.Rates.{Rates}
@@ -87,3 +88,22 @@ take_of from arrived pump (Some sender) = record pump {
 
 abbrev pub take_up_to : SiteId → ℕ → PumpValue → PumpValue
 take_up_to from arrived pump = take_of from arrived pump (slice_get pump.senders from.0)
+
+-- of another site than this; of the first so many sites, one after another; and of all. So many have arrived of each
+abbrev pub take_other : Bool → SiteId → ℕ → PumpValue → PumpValue
+take_other true from arrived pump = pump
+take_other false from arrived pump = take_up_to from arrived pump
+
+abbrev pub take_below : SiteId → (ℕ → ℕ) → ℕ → PumpValue → PumpValue
+take_below i arrived zero pump = pump
+take_below i arrived (suc n) pump =
+    let from : SiteId = record { 0 = n } in take_other (same_site from i) from (arrived n) (take_below i arrived n pump)
+
+abbrev pub take_arrived : SiteId → (ℕ → ℕ) → PumpValue → PumpValue
+take_arrived i arrived pump = take_below i arrived (length pump.senders) pump
+
+-- a pump goes on: no more is taken than has arrived, where no more was
+pub record KeepsPump (arrived : ℕ → ℕ) (old new : PumpValue) : Type 0 where
+  pub site : new.site ≡ old.site
+  pub senders : length new.senders ≡ length old.senders
+  pub taken : (from : ℕ) → taken_from old from ≤ arrived from → taken_from new from ≤ arrived from

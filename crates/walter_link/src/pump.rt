@@ -77,6 +77,12 @@ impl Pump {
         })
     }
 
+    pub fn site(&self) -> SiteId
+        ensures { result ≡ self.now.site }
+    {
+        self.site
+    }
+
     /// Takes the packets from a site that have arrived and weren't taken before, as the link chooses of each. So many have
     /// arrived in all.
     pub fn take(&mut self, from: SiteId, arrived: u32) -> Mem<()>
