@@ -10,13 +10,15 @@ import re
 MOST_BYTES, MOST_DEPTH = 16_777_216, 127
 MOST_SITES, MOST_CONTAINERS, MOST_CLIENTS = 8, 256, 1024
 LEAST_CAPACITY, MOST_CAPACITY = 19, 1_099_511_627_776
+MOST_RATE, MOST_TICKS = 1000, 10_000
 MOST_CALL, MOST_PACKET = 1_000_000, (1 << 32) - 1
-NEEDED, BESIDES = ("sites", "f", "containers", "clients", "steps"), ("capacity", "arms")
+NEEDED, BESIDES = ("sites", "f", "containers", "clients", "steps"), ("capacity", "link", "ticks", "arms")
+RATES = ("lose", "repeat", "swap")
 
 TEXTS = {
     "long": f"the text: wants at most {MOST_BYTES} bytes",
     "json": "the text: wants JSON in UTF-8, an object outermost",
-    "keys": "the keys: wants sites, f, containers, clients and steps, and takes capacity and arms besides",
+    "keys": "the keys: wants sites, f, containers, clients and steps, and takes capacity, link, ticks and arms besides",
     "sites": "sites: wants a whole number from 1 to 8",
     "f": "f: wants a whole number below sites",
     "containers": 'container {}: wants [number, "regular" or "cset", site] in a list, numbers below 2^32 that rise, a site '
@@ -24,6 +26,9 @@ TEXTS = {
     "clients": "client {}: wants [site, bytes] in a list, a site below sites, an even number of hex digits, at most 1024 of "
                "each site",
     "capacity": "the capacity: wants a whole number from 19 to 1099511627776",
+    "link": "the link: wants an object of just seed, a whole number below 2^64, and lose, repeat and swap, whole numbers "
+            "from 0 to 1000",
+    "ticks": "the ticks: wants a whole number from 0 to 10000",
     "arms": "arm {}: wants [site, nth, choice] in a list, a site below sites, an nth from 1 to 1000000, a choice below 2^64",
 }
 
@@ -35,13 +40,14 @@ PARTS = {
     "tick": ["site"],
     "stop": ["site"],
     "restart": ["site"],
+    "pump": ["site"],
     "arm": ["site", "nth", "choice"],
 }
 # What is wrong with a step, in the order in which that is looked for.
 STEP_TEXTS = {
     "steps": "the value of steps: wants a list",
     "list": "its value: wants a list",
-    "word": 'its word: wants "call", "deliver", "advance", "tick", "stop", "restart" or "arm"',
+    "word": 'its word: wants "call", "deliver", "advance", "tick", "stop", "restart", "pump" or "arm"',
     "length": "its length: wants just {}",
     "client": "its client: wants a whole number below {}, the number of clients",
     "site": "its site: wants a whole number below {}, the number of sites",
@@ -224,6 +230,11 @@ def is_client(value, sites):
             and re.fullmatch("(?:[0-9a-fA-F]{2})*", value[1]) is not None)
 
 
+def is_link(value):
+    return (type(value) is dict and set(value) == {"seed", *RATES} and is_whole(value["seed"], 0, 1 << 64)
+            and all(is_whole(value[rate], 0, MOST_RATE + 1) for rate in RATES))
+
+
 def is_arm(value, sites):
     return (are_items(value, 3) and is_site(value[0], sites) and is_whole(value[1], 1, MOST_CALL + 1)
             and is_whole(value[2], 0, 1 << 64))
@@ -322,6 +333,10 @@ def check(value):
     check_clients(value["clients"], sites)
     if "capacity" in value and not is_whole(value["capacity"], LEAST_CAPACITY, MOST_CAPACITY + 1):
         refuse("capacity")
+    if "link" in value and not is_link(value["link"]):
+        refuse("link")
+    if "ticks" in value and not is_whole(value["ticks"], 0, MOST_TICKS + 1):
+        refuse("ticks")
     if "arms" in value:
         check_items("arms", value["arms"], lambda _, item: is_arm(item, sites))
     check_steps(value["steps"], sites, len(value["clients"]))
@@ -330,11 +345,12 @@ def check(value):
 
 def plain_reading(data):
     """What Python reads, where it is a scenario and nothing in its text could be read otherwise; else None."""
-    pairs = []
+    doubled = []
 
     def members(found):
-        pairs.append(len(found))
-        return dict(found)
+        made = dict(found)
+        doubled.append(len(made) < len(found))
+        return made
 
     if b"\\" in data or b"-" in data:
         return None
@@ -342,7 +358,7 @@ def plain_reading(data):
         made = check(json.loads(data.decode(), object_pairs_hook=members))
     except (ValueError, RecursionError, Refused):
         return None
-    return made if pairs == [len(made)] else None
+    return None if any(doubled) else made
 
 
 def read(data):

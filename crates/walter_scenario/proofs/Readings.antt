@@ -1,10 +1,13 @@
--- From what is wrong with the value of one of the last two keys to what is wrong with the bytes.
+-- From what is wrong with the value of one of the last keys to what is wrong with the bytes.
 use Rattle.std.proofs.Common.{◌≡◌, ◌<◌, ◌≤◌, ℕ, List, length, Some, sym, ap, ◌∙◌, subst}
 use Rattle.serde_json.specs.Data.{Members}
 use Rattle.serde_json.specs.View.{view}
 use Rattle.walter_base.specs.declared.catalog.Catalog.{Catalog}
 use Rattle.walter_base.specs.Vectors.{most_sites}
+use Rattle.walter_link.specs.declared.chooser.Link.{Link}
 use Rattle.walter_scenario.specs.declared.members.Parts.{Parts}
+use Rattle.walter_scenario.specs.declared.place.Detail.TheVariants.{None as no_detail}
+use Rattle.walter_scenario.specs.declared.place.Place.TheVariants.{Link as AtLink, Ticks}
 use Rattle.walter_scenario.specs.declared.place.ReadFault.{ReadFault}
 use Rattle.walter_scenario.specs.declared.place.ReadFault.TheVariants.{Refused, NoMemory}
 use Rattle.walter_scenario.specs.declared.scenario.Arm.{Arm}
@@ -13,7 +16,7 @@ use Rattle.walter_scenario.specs.Faults.{IsGivenArmsFault, IsStepsFault}
 use Rattle.walter_scenario.specs.Fronts.{IsCatalog, ListsClients}
 use Rattle.walter_scenario.specs.Members.{data_in, AreParts, IsFaultOf}
 use Rattle.walter_scenario.specs.Parts.{whole}
-use Rattle.walter_scenario.specs.Scenarios.{GivesCapacity, GivesArms, HasKeys, HasSites, HasTolerated, HasContainers, HasClients, HasCapacity, HasArms, IsRefusedAt}
+use Rattle.walter_scenario.specs.Scenarios.{GivesCapacity, GivesLink, GivesTicks, GivesArms, HasKeys, HasSites, HasTolerated, HasContainers, HasClients, HasCapacity, HasLink, HasTicks, HasArms, IsRefusedAt}
 
 -- so many sites, of which so many may be lost
 pub record HasNumbers (parts : Parts) (sites tolerated : ℕ) : Type 0 where
@@ -35,10 +38,37 @@ pub record HasReadCapacity (parts : Parts) (sites tolerated : ℕ) (catalog : Ca
   pub read : HasRead parts sites tolerated catalog clients
   pub gives_capacity : GivesCapacity (data_in parts.capacity) capacity
 
+-- and the link
+pub record HasReadLink (parts : Parts) (sites tolerated : ℕ) (catalog : Catalog) (clients : List Client) (capacity : ℕ)
+    (link : Link) : Type 0 where
+  pub before : HasReadCapacity parts sites tolerated catalog clients capacity
+  pub gives_link : GivesLink (data_in parts.link) link
+
+-- and how many ticks
+pub record HasReadTicks (parts : Parts) (sites tolerated : ℕ) (catalog : Catalog) (clients : List Client) (capacity : ℕ)
+    (link : Link) (ticks : ℕ) : Type 0 where
+  pub before : HasReadLink parts sites tolerated catalog clients capacity link
+  pub gives_ticks : GivesTicks (data_in parts.ticks) ticks
+
+pub has_read_capacity : (parts : Parts) (sites tolerated : ℕ) (catalog : Catalog) (clients : List Client) (capacity : ℕ)
+    → view parts.sites.now ≡ whole sites → (1 ≤ sites) × (sites ≤ most_sites)
+    → view parts.tolerated.now ≡ whole tolerated → tolerated < sites
+    → IsCatalog sites tolerated (view parts.containers.now) catalog
+    → ListsClients sites (view parts.clients.now) clients → GivesCapacity (data_in parts.capacity) capacity
+    → HasReadCapacity parts sites tolerated catalog clients capacity
+has_read_capacity parts sites tolerated catalog clients capacity s there f fewer containers are gives = record {
+  read = record {
+    numbers = record { is_sites = s; some = there.0; most = there.1; is_tolerated = f; fewer = fewer };
+    containers = containers;
+    are_clients = are;
+  };
+  gives_capacity = gives;
+}
+
 -- and the arms
 pub record HasReadArms (parts : Parts) (sites tolerated : ℕ) (catalog : Catalog) (clients : List Client) (capacity : ℕ)
-    (arms : List Arm) : Type 0 where
-  pub before : HasReadCapacity parts sites tolerated catalog clients capacity
+    (link : Link) (ticks : ℕ) (arms : List Arm) : Type 0 where
+  pub before : HasReadTicks parts sites tolerated catalog clients capacity link ticks
   pub gives_arms : GivesArms sites (data_in parts.arms) arms
 
 has_sites : (parts : Parts) (sites tolerated : ℕ) (bytes : List ℕ) (ms : Members) → HasNumbers parts sites tolerated
@@ -91,52 +121,111 @@ has_capacity parts sites tolerated catalog clients capacity bytes ms before keys
   given = subst (λ g. GivesCapacity g capacity) (sym are.capacity) before.gives_capacity;
 }
 
-has_arms : (parts : Parts) (sites tolerated : ℕ) (catalog : Catalog) (clients : List Client) (capacity : ℕ)
-    (arms : List Arm) (bytes : List ℕ) (ms : Members)
-    → (all : HasReadArms parts sites tolerated catalog clients capacity arms) → HasKeys bytes ms → AreParts ms parts
-    → HasArms bytes ms sites tolerated all.before.read.containers.declared clients capacity arms
-has_arms parts sites tolerated catalog clients capacity arms bytes ms all keys are = record {
+has_link : (parts : Parts) (sites tolerated : ℕ) (catalog : Catalog) (clients : List Client) (capacity : ℕ)
+    (link : Link) (bytes : List ℕ) (ms : Members)
+    → (all : HasReadLink parts sites tolerated catalog clients capacity link) → HasKeys bytes ms → AreParts ms parts
+    → HasLink bytes ms sites tolerated all.before.read.containers.declared clients capacity link
+has_link parts sites tolerated catalog clients capacity link bytes ms all keys are = record {
   has_capacity = has_capacity parts sites tolerated catalog clients capacity bytes ms all.before keys are;
+  given = subst (λ g. GivesLink g link) (sym are.link) all.gives_link;
+}
+
+has_ticks : (parts : Parts) (sites tolerated : ℕ) (catalog : Catalog) (clients : List Client) (capacity : ℕ)
+    (link : Link) (ticks : ℕ) (bytes : List ℕ) (ms : Members)
+    → (all : HasReadTicks parts sites tolerated catalog clients capacity link ticks) → HasKeys bytes ms
+    → AreParts ms parts
+    → HasTicks bytes ms sites tolerated all.before.before.read.containers.declared clients capacity link ticks
+has_ticks parts sites tolerated catalog clients capacity link ticks bytes ms all keys are = record {
+  has_link = has_link parts sites tolerated catalog clients capacity link bytes ms all.before keys are;
+  given = subst (λ g. GivesTicks g ticks) (sym are.ticks) all.gives_ticks;
+}
+
+has_arms : (parts : Parts) (sites tolerated : ℕ) (catalog : Catalog) (clients : List Client) (capacity : ℕ)
+    (link : Link) (ticks : ℕ) (arms : List Arm) (bytes : List ℕ) (ms : Members)
+    → (all : HasReadArms parts sites tolerated catalog clients capacity link ticks arms) → HasKeys bytes ms
+    → AreParts ms parts
+    → HasArms bytes ms sites tolerated all.before.before.before.read.containers.declared clients capacity link ticks
+    arms
+has_arms parts sites tolerated catalog clients capacity link ticks arms bytes ms all keys are = record {
+  has_ticks = has_ticks parts sites tolerated catalog clients capacity link ticks bytes ms all.before keys are;
   given = subst (λ g. GivesArms sites g arms) (sym are.arms) all.gives_arms;
 }
 
+-- no link is given
+pub link_fault : (parts : Parts) (sites tolerated : ℕ) (catalog : Catalog) (clients : List Client) (capacity : ℕ)
+    → HasReadCapacity parts sites tolerated catalog clients capacity
+    → ((link : Link) → ¬ GivesLink (data_in parts.link) link) → IsFaultOf parts (Refused AtLink no_detail)
+link_fault parts sites tolerated catalog clients capacity before none bytes ms keys are = (
+  ms,
+  sites,
+  tolerated,
+  before.read.containers.declared,
+  clients,
+  capacity,
+  has_capacity parts sites tolerated catalog clients capacity bytes ms before keys are,
+  λ link gives. none link (subst (λ g. GivesLink g link) are.link gives),
+)
+
+-- no number of ticks is given
+pub ticks_fault : (parts : Parts) (sites tolerated : ℕ) (catalog : Catalog) (clients : List Client) (capacity : ℕ)
+    (link : Link) → HasReadLink parts sites tolerated catalog clients capacity link
+    → ((ticks : ℕ) → ¬ GivesTicks (data_in parts.ticks) ticks) → IsFaultOf parts (Refused Ticks no_detail)
+ticks_fault parts sites tolerated catalog clients capacity link before none bytes ms keys are = (
+  ms,
+  sites,
+  tolerated,
+  before.before.read.containers.declared,
+  clients,
+  capacity,
+  link,
+  has_link parts sites tolerated catalog clients capacity link bytes ms before keys are,
+  λ ticks gives. none ticks (subst (λ g. GivesTicks g ticks) are.ticks gives),
+)
+
 -- a fault of the arms
 pub arms_fault : (parts : Parts) (sites tolerated : ℕ) (catalog : Catalog) (clients : List Client) (capacity : ℕ)
-    (fault : ReadFault)
-    → HasReadCapacity parts sites tolerated catalog clients capacity → IsGivenArmsFault sites (data_in parts.arms) fault
+    (link : Link) (ticks : ℕ) (fault : ReadFault)
+    → HasReadTicks parts sites tolerated catalog clients capacity link ticks
+    → IsGivenArmsFault sites (data_in parts.arms) fault
     → IsFaultOf parts fault
-arms_fault parts sites tolerated catalog clients capacity NoMemory before wrong bytes ms keys are = tt
-arms_fault parts sites tolerated catalog clients capacity (Refused place detail) before wrong bytes ms keys are =
+arms_fault parts sites tolerated catalog clients capacity link ticks NoMemory before wrong bytes ms keys are = tt
+arms_fault parts sites tolerated catalog clients capacity link ticks (Refused place detail) before wrong bytes ms keys
+    are =
     subst (IsRefusedAt bytes) (sym wrong.2.named) (
       ms,
       sites,
       tolerated,
-      before.read.containers.declared,
+      before.before.before.read.containers.declared,
       clients,
       capacity,
+      link,
+      ticks,
       wrong.0,
-      has_capacity parts sites tolerated catalog clients capacity bytes ms before keys are,
+      has_ticks parts sites tolerated catalog clients capacity link ticks bytes ms before keys are,
       are.arms ∙ wrong.1,
       wrong.2.wrong,
     )
 
 -- a fault of the steps
 pub steps_fault : (parts : Parts) (sites tolerated : ℕ) (catalog : Catalog) (clients : List Client) (capacity : ℕ)
-    (arms : List Arm) (fault : ReadFault)
-    → HasReadArms parts sites tolerated catalog clients capacity arms
+    (link : Link) (ticks : ℕ) (arms : List Arm) (fault : ReadFault)
+    → HasReadArms parts sites tolerated catalog clients capacity link ticks arms
     → IsStepsFault sites (length clients) (view parts.steps.now) fault → IsFaultOf parts fault
-steps_fault parts sites tolerated catalog clients capacity arms NoMemory all wrong bytes ms keys are = tt
-steps_fault parts sites tolerated catalog clients capacity arms (Refused place detail) all wrong bytes ms keys are =
+steps_fault parts sites tolerated catalog clients capacity link ticks arms NoMemory all wrong bytes ms keys are = tt
+steps_fault parts sites tolerated catalog clients capacity link ticks arms (Refused place detail) all wrong bytes ms
+    keys are =
     subst (IsRefusedAt bytes) (sym wrong.named) (
       ms,
       sites,
       tolerated,
-      all.before.read.containers.declared,
+      all.before.before.before.read.containers.declared,
       clients,
       capacity,
+      link,
+      ticks,
       arms,
       view parts.steps.now,
-      has_arms parts sites tolerated catalog clients capacity arms bytes ms all keys are,
+      has_arms parts sites tolerated catalog clients capacity link ticks arms bytes ms all keys are,
       are.steps,
       wrong.wrong,
     )

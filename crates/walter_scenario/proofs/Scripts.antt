@@ -8,7 +8,7 @@ use Rattle.serde_json.specs.Data.{Data, string}
 use Rattle.walter_scenario.specs.declared.place.Place.{Place}
 use Rattle.walter_scenario.specs.declared.scenario.Arm.{Arm}
 use Rattle.walter_scenario.specs.declared.scenario.Step.{Step}
-use Rattle.walter_scenario.specs.declared.scenario.Step.TheVariants.{Call, Deliver, Advance, Tick, Stop, Restart, Arm as Armed}
+use Rattle.walter_scenario.specs.declared.scenario.Step.TheVariants.{Call, Deliver, Advance, Tick, Stop, Restart, Pump, Arm as Armed}
 use Rattle.walter_scenario.specs.Faults.{IsItem}
 use Rattle.walter_scenario.specs.Parts.{whole, list, arm_items, arm_spelled, step_spelled, IsArm, IsStep, AreSpelled, AreArms, AreSteps}
 use Rattle.walter_scenario.proofs.Spelling.{one_more, no_more, same_items}
@@ -73,6 +73,7 @@ word_of (Advance at from) = codes "advance"
 word_of (Tick site) = codes "tick"
 word_of (Stop site) = codes "stop"
 word_of (Restart site) = codes "restart"
+word_of (Pump site) = codes "pump"
 word_of (Armed arm) = codes "arm"
 
 abbrev values_of : Step → List Data
@@ -82,6 +83,7 @@ values_of (Advance at from) = whole at.0 ∷ whole from.0 ∷ []
 values_of (Tick site) = whole site.0 ∷ []
 values_of (Stop site) = whole site.0 ∷ []
 values_of (Restart site) = whole site.0 ∷ []
+values_of (Pump site) = whole site.0 ∷ []
 values_of (Armed arm) = arm_items arm
 
 step_parts : (a : Step) → step_spelled a ≡ list (string (word_of a) ∷ values_of a)
@@ -91,6 +93,7 @@ step_parts (Advance at from) = refl
 step_parts (Tick site) = refl
 step_parts (Stop site) = refl
 step_parts (Restart site) = refl
+step_parts (Pump site) = refl
 step_parts (Armed arm) = refl
 
 same_word : (a : Step) (word : List ℕ) (values : List Data) → list (string word ∷ values) ≡ step_spelled a
@@ -113,6 +116,7 @@ same_step_at (Advance a b) (Advance c d) word e =
 same_step_at (Tick m) (Tick n) word e = let same : m.0 ≡ n.0 = cc in (λ i. Tick (record { 0 = same i }))
 same_step_at (Stop m) (Stop n) word e = let same : m.0 ≡ n.0 = cc in (λ i. Stop (record { 0 = same i }))
 same_step_at (Restart m) (Restart n) word e = let same : m.0 ≡ n.0 = cc in (λ i. Restart (record { 0 = same i }))
+same_step_at (Pump m) (Pump n) word e = let same : m.0 ≡ n.0 = cc in (λ i. Pump (record { 0 = same i }))
 same_step_at (Armed a) (Armed b) word e =
     let arm : arm_spelled a ≡ arm_spelled b = cc in
     ap Armed (same_arm a b arm)

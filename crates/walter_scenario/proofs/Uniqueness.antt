@@ -1,14 +1,15 @@
 -- What bytes spell is one thing, part by part.
 use Rattle.std.proofs.Common.{◌≡◌, ℕ, List, length, codes, Option, Some, None, refl, sym, ap, ◌∙◌, subst}
 use Rattle.std.proofs.lemmas.Option.{same_Some}
-use Rattle.serde_json.specs.Data.{Data, Members}
+use Rattle.serde_json.specs.Data.{Data, Members, object}
 use Rattle.serde_json.specs.Find.{get_member}
 use Rattle.walter_base.specs.Catalogs.{Item, containers_of}
+use Rattle.walter_link.specs.declared.chooser.Link.{Link}
 use Rattle.walter_scenario.specs.declared.scenario.Arm.{Arm}
 use Rattle.walter_scenario.specs.declared.scenario.Client.{Client}
 use Rattle.walter_scenario.specs.declared.scenario.Scenario.{Scenario}
-use Rattle.walter_scenario.specs.Parts.{whole, list, SpellClients, AreArms, AreSteps}
-use Rattle.walter_scenario.specs.Scenarios.{HasMember, IsJsonObject, GivesCapacity, GivesArms, HasSites, HasTolerated, HasContainers, HasClients, HasArms, IsReading}
+use Rattle.walter_scenario.specs.Parts.{whole, list, HasMember, SpellClients, SpellLink, AreArms, AreSteps}
+use Rattle.walter_scenario.specs.Scenarios.{IsJsonObject, GivesCapacity, GivesLink, GivesTicks, GivesArms, HasSites, HasTolerated, HasContainers, HasClients, HasCapacity, HasLink, HasTicks, HasArms, IsReading}
 use Rattle.walter_scenario.proofs.Declared.{same_declared}
 use Rattle.walter_scenario.proofs.Scripts.{same_arms, same_steps}
 use Rattle.walter_scenario.proofs.Sent.{same_clients}
@@ -66,14 +67,51 @@ pub clients_object : (bytes : List ℕ) (m : Members) (s f : ℕ) (ds : List Ite
     → HasClients bytes m s f ds cs → IsJsonObject bytes m
 clients_object bytes m s f ds cs has = containers_object bytes m s f ds has.has_containers
 
+pub capacity_object : (bytes : List ℕ) (m : Members) (s f : ℕ) (ds : List Item) (cs : List Client) (capacity : ℕ)
+    → HasCapacity bytes m s f ds cs capacity → IsJsonObject bytes m
+capacity_object bytes m s f ds cs capacity has = clients_object bytes m s f ds cs has.has_clients
+
+pub link_object : (bytes : List ℕ) (m : Members) (s f : ℕ) (ds : List Item) (cs : List Client) (capacity : ℕ)
+    (link : Link) → HasLink bytes m s f ds cs capacity link → IsJsonObject bytes m
+link_object bytes m s f ds cs capacity link has = capacity_object bytes m s f ds cs capacity has.has_capacity
+
+pub ticks_object : (bytes : List ℕ) (m : Members) (s f : ℕ) (ds : List Item) (cs : List Client) (capacity : ℕ)
+    (link : Link) (ticks : ℕ) → HasTicks bytes m s f ds cs capacity link ticks → IsJsonObject bytes m
+ticks_object bytes m s f ds cs capacity link ticks has = link_object bytes m s f ds cs capacity link has.has_link
+
 pub arms_object : (bytes : List ℕ) (m : Members) (s f : ℕ) (ds : List Item) (cs : List Client) (capacity : ℕ)
-    (arms : List Arm) → HasArms bytes m s f ds cs capacity arms
+    (link : Link) (ticks : ℕ) (arms : List Arm) → HasArms bytes m s f ds cs capacity link ticks arms
     → IsJsonObject bytes m
-arms_object bytes m s f ds cs capacity arms has = clients_object bytes m s f ds cs has.has_capacity.has_clients
+arms_object bytes m s f ds cs capacity link ticks arms has =
+    ticks_object bytes m s f ds cs capacity link ticks has.has_ticks
 
 pub one_capacity : (given : Option Data) (m n : ℕ) → GivesCapacity given m → GivesCapacity given n → m ≡ n
 one_capacity None m n a b = a ∙ sym b
 one_capacity (Some value) m n a b = let e : whole m ≡ whole n = sym a.0 ∙ b.0 in cc
+
+one_spelled_link : (m n : Members) (a b : Link) → m ≡ n → SpellLink m a → SpellLink n b → a ≡ b
+one_spelled_link m n a b same s t =
+    let seed = one_number (codes "seed") m n a.seed b.seed same s.seed t.seed in
+    let lose = one_number (codes "lose") m n a.rates.lose b.rates.lose same s.lose t.lose in
+    let repeat = one_number (codes "repeat") m n a.rates.repeat b.rates.repeat same s.repeat t.repeat in
+    let swap = one_number (codes "swap") m n a.rates.swap b.rates.swap same s.swap t.swap in
+    λ i. record { seed = seed i; rates = record { lose = lose i; repeat = repeat i; swap = swap i } }
+
+pub one_link : (given : Option Data) (a b : Link) → GivesLink given a → GivesLink given b → a ≡ b
+one_link None a b s t =
+    let seed = s.0 ∙ sym t.0 in
+    let lose = s.1 ∙ sym t.1 in
+    let repeat = s.2 ∙ sym t.2 in
+    let swap = s.3 ∙ sym t.3 in
+    λ i. record { seed = seed i; rates = record { lose = lose i; repeat = repeat i; swap = swap i } }
+one_link (Some value) a b s t =
+    let e : object s.0 ≡ object t.0 = sym s.1 ∙ t.1 in
+    let same : s.0 ≡ t.0 = cc in
+    one_spelled_link s.0 t.0 a b same s.2 t.2
+
+pub one_of_ticks : (given : Option Data) (m n : ℕ) → GivesTicks given m → GivesTicks given n → m ≡ n
+one_of_ticks None m n a b = a ∙ sym b
+one_of_ticks (Some value) m n a b = let e : whole m ≡ whole n = sym a.0 ∙ b.0 in cc
 
 pub one_of_arms : (sites : ℕ) (given : Option Data) (xs ys : List Arm) → GivesArms sites given xs
     → GivesArms sites given ys → xs ≡ ys
@@ -83,8 +121,10 @@ one_of_arms sites (Some value) xs ys a b =
 
 pub one_scenario : (bytes : List ℕ) (s t : Scenario) → IsReading bytes s → IsReading bytes t → s ≡ t
 one_scenario bytes s t a b =
-    let in_s = a.has_arms.has_capacity in
-    let in_t = b.has_arms.has_capacity in
+    let ticks_s = a.has_arms.has_ticks in
+    let ticks_t = b.has_arms.has_ticks in
+    let in_s = ticks_s.has_link.has_capacity in
+    let in_t = ticks_t.has_link.has_capacity in
     let of_s = in_s.has_clients.has_containers.has_tolerated in
     let of_t = in_t.has_clients.has_containers.has_tolerated in
     let m = s.catalog.sites in
@@ -105,6 +145,13 @@ one_scenario bytes s t a b =
     let capacity =
     one_capacity (get_member (codes "capacity") b.members) s.capacity t.capacity
     (subst (λ ms. GivesCapacity (get_member (codes "capacity") ms) s.capacity) same in_s.given) in_t.given in
+    let link =
+    one_link (get_member (codes "link") b.members) s.link t.link
+    (subst (λ ms. GivesLink (get_member (codes "link") ms) s.link) same ticks_s.has_link.given)
+    ticks_t.has_link.given in
+    let ticks =
+    one_of_ticks (get_member (codes "ticks") b.members) s.ticks t.ticks
+    (subst (λ ms. GivesTicks (get_member (codes "ticks") ms) s.ticks) same ticks_s.given) ticks_t.given in
     let given = subst (λ ms. GivesArms m (get_member (codes "arms") ms) s.arms) same a.has_arms.given in
     let arms =
     one_of_arms n (get_member (codes "arms") b.members) s.arms t.arms
@@ -119,6 +166,8 @@ one_scenario bytes s t a b =
       catalog = record { sites = sites i; tolerated = tolerated i; containers = containers i };
       clients = clients i;
       capacity = capacity i;
+      link = link i;
+      ticks = ticks i;
       arms = arms i;
       steps = steps i;
     }

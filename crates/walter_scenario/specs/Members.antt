@@ -8,7 +8,8 @@ use Rattle.serde_json.specs.declared.value.Value.{Value}
 use Rattle.walter_scenario.specs.declared.members.Parts.{Parts}
 use Rattle.walter_scenario.specs.declared.place.ReadFault.{ReadFault}
 use Rattle.walter_scenario.specs.declared.scenario.Scenario.{Scenario}
-use Rattle.walter_scenario.specs.Scenarios.{HasMember, HasKeys, IsReading, IsReadFault}
+use Rattle.walter_scenario.specs.Parts.{HasMember}
+use Rattle.walter_scenario.specs.Scenarios.{HasKeys, IsReading, IsReadFault}
 
 -- the data of a value that may be absent
 abbrev pub data_in : Option (Bor Value) → Option Data
@@ -21,6 +22,8 @@ pub record AreParts (members : Members) (parts : Parts) : Type 0 where
   pub containers : HasMember members (codes "containers") (view parts.containers.now)
   pub clients : HasMember members (codes "clients") (view parts.clients.now)
   pub capacity : get_member (codes "capacity") members ≡ data_in parts.capacity
+  pub link : get_member (codes "link") members ≡ data_in parts.link
+  pub ticks : get_member (codes "ticks") members ≡ data_in parts.ticks
   pub arms : get_member (codes "arms") members ≡ data_in parts.arms
   pub steps : HasMember members (codes "steps") (view parts.steps.now)
 

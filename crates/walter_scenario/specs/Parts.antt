@@ -1,15 +1,17 @@
 -- The parts of a scenario: what the items of its lists spell (docs/FORMATS.md, "Scenarios").
-use Rattle.std.specs.Prelude.{◌≡◌, ◌≢◌, ◌⊎◌, ◌+◌, ◌≤◌, ◌<◌, ◌^◌, ℕ, nat_eq, List, [], ◌∷◌, length, map, take, codes, count_by, Ok, All}
+use Rattle.std.specs.Prelude.{◌≡◌, ◌≢◌, ◌⊎◌, ◌+◌, ◌≤◌, ◌<◌, ◌^◌, ℕ, nat_eq, List, [], ◌∷◌, length, map, take, codes, count_by, Some, Ok, All}
 use Rattle.hex.specs.Hex.{decode_of}
-use Rattle.serde_json.specs.Data.{Data, number, string, array, unsigned}
+use Rattle.serde_json.specs.Data.{Data, Members, no_members, member, number, string, array, unsigned}
+use Rattle.serde_json.specs.Find.{get_member}
 use Rattle.serde_json.specs.View.{items_of}
 use Rattle.walter_base.specs.declared.names.Kind.{Kind}
 use Rattle.walter_base.specs.declared.names.Kind.TheVariants.{Regular, Cset}
 use Rattle.walter_base.specs.Catalogs.{Item, AreRight}
+use Rattle.walter_link.specs.declared.chooser.Link.{Link}
 use Rattle.walter_scenario.specs.declared.scenario.Arm.{Arm}
 use Rattle.walter_scenario.specs.declared.scenario.Client.{Client}
 use Rattle.walter_scenario.specs.declared.scenario.Step.{Step}
-use Rattle.walter_scenario.specs.declared.scenario.Step.TheVariants.{Call, Deliver, Advance, Tick, Stop, Restart, Arm as Armed}
+use Rattle.walter_scenario.specs.declared.scenario.Step.TheVariants.{Call, Deliver, Advance, Tick, Stop, Restart, Pump, Arm as Armed}
 
 -- a whole number
 abbrev pub whole : ℕ → Data
@@ -18,6 +20,10 @@ whole n = number (unsigned n)
 -- a list of values
 abbrev pub list : List Data → Data
 list values = array (items_of values)
+
+-- the value of a key
+abbrev pub HasMember : Members → List ℕ → Data → Type 0
+HasMember members key value = get_member key members ≡ Some value
 
 -- what the objects of a container are, as a word
 abbrev pub kind_word : Kind → List ℕ
@@ -57,6 +63,31 @@ pub record AreClients (sites : ℕ) (values : List Data) (clients : List Client)
 abbrev pub IsCapacity : ℕ → Type 0
 IsCapacity n = (19 ≤ n) × (n ≤ 1099511627776)
 
+-- the keys of a link
+abbrev pub IsLinkKey : List ℕ → Type 0
+IsLinkKey key = (key ≡ codes "seed") ⊎ (key ≡ codes "lose") ⊎ (key ≡ codes "repeat") ⊎ (key ≡ codes "swap")
+
+-- no other key is there
+abbrev pub AreLinkKeys : Members → Type 0
+AreLinkKeys no_members = Unit {0}
+AreLinkKeys (member key value members) = IsLinkKey key × AreLinkKeys members
+
+-- the members spell the link: just its seed and its rates
+pub record SpellLink (members : Members) (link : Link) : Type 0 where
+  pub just : AreLinkKeys members
+  pub seed : HasMember members (codes "seed") (whole link.seed)
+  pub lose : HasMember members (codes "lose") (whole link.rates.lose)
+  pub repeat : HasMember members (codes "repeat") (whole link.rates.repeat)
+  pub swap : HasMember members (codes "swap") (whole link.rates.swap)
+  pub fits : link.seed < 2 ^ 64
+  pub losing : link.rates.lose ≤ 1000
+  pub repeating : link.rates.repeat ≤ 1000
+  pub swapping : link.rates.swap ≤ 1000
+
+-- how many ticks a site may make when it is pumped
+abbrev pub IsTicks : ℕ → Type 0
+IsTicks n = n ≤ 10000
+
 -- an arm: its site, the number of the call, and the choice
 abbrev pub arm_items : Arm → List Data
 arm_items arm = whole arm.site.0 ∷ whole arm.nth ∷ whole arm.choice ∷ []
@@ -79,6 +110,7 @@ step_spelled (Advance at from) = list (string (codes "advance") ∷ whole at.0 �
 step_spelled (Tick site) = list (string (codes "tick") ∷ whole site.0 ∷ [])
 step_spelled (Stop site) = list (string (codes "stop") ∷ whole site.0 ∷ [])
 step_spelled (Restart site) = list (string (codes "restart") ∷ whole site.0 ∷ [])
+step_spelled (Pump site) = list (string (codes "pump") ∷ whole site.0 ∷ [])
 step_spelled (Armed arm) = list (string (codes "arm") ∷ arm_items arm)
 
 -- both sites are there, and they are different
@@ -95,6 +127,7 @@ IsStep sites clients (Advance at from) = ArePeers sites at.0 from.0
 IsStep sites clients (Tick site) = site.0 < sites
 IsStep sites clients (Stop site) = site.0 < sites
 IsStep sites clients (Restart site) = site.0 < sites
+IsStep sites clients (Pump site) = site.0 < sites
 IsStep sites clients (Armed arm) = IsArm sites arm
 
 -- the values are the spellings of these items, each of which may be there

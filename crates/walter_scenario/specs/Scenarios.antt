@@ -1,20 +1,21 @@
 -- The scenario that bytes spell, and the place of what is wrong with them: JSON as serde_json reads it, whose outermost
--- value is an object with seven keys, of which two may be absent (docs/FORMATS.md, "Scenarios").
+-- value is an object with nine keys, of which four may be absent (docs/FORMATS.md, "Scenarios").
 use Rattle.std.specs.Prelude.{◌≡◌, ◌⊎◌, ◌≤◌, ◌<◌, ℕ, List, [], length, codes, Option, Some, None, IsSome, IsUtf8}
 use Rattle.serde_json.specs.Data.{Data, Members, no_members, member, object}
 use Rattle.serde_json.specs.Find.{get_member}
 use Rattle.serde_json.specs.Read.{read}
 use Rattle.walter_base.specs.Catalogs.{Item, containers_of}
 use Rattle.walter_base.specs.Vectors.{most_sites}
+use Rattle.walter_link.specs.declared.chooser.Link.{Link}
 use Rattle.walter_scenario.specs.declared.place.Place.{Place}
-use Rattle.walter_scenario.specs.declared.place.Place.TheVariants.{TooLong, Json, Key, Sites, F, Containers, Clients, Capacity, Arms, Steps}
+use Rattle.walter_scenario.specs.declared.place.Place.TheVariants.{TooLong, Json, Key, Sites, F, Containers, Clients, Capacity, Link as AtLink, Ticks, Arms, Steps}
 use Rattle.walter_scenario.specs.declared.place.ReadFault.{ReadFault}
 use Rattle.walter_scenario.specs.declared.place.ReadFault.TheVariants.{Refused, NoMemory}
 use Rattle.walter_scenario.specs.declared.scenario.Arm.{Arm}
 use Rattle.walter_scenario.specs.declared.scenario.Client.{Client}
 use Rattle.walter_scenario.specs.declared.scenario.Scenario.{Scenario}
 use Rattle.walter_scenario.specs.declared.scenario.Step.{Step}
-use Rattle.walter_scenario.specs.Parts.{whole, list, AreContainers, AreClients, IsCapacity, AreArms, AreSteps, IsWrongAt}
+use Rattle.walter_scenario.specs.Parts.{whole, list, HasMember, AreContainers, AreClients, IsCapacity, SpellLink, IsTicks, AreArms, AreSteps, IsWrongAt}
 
 -- the keys that a scenario needs
 abbrev pub IsNeeded : List ℕ → Type 0
@@ -22,18 +23,15 @@ IsNeeded key =
     (key ≡ codes "sites") ⊎ (key ≡ codes "f") ⊎ (key ≡ codes "containers") ⊎ (key ≡ codes "clients")
     ⊎ (key ≡ codes "steps")
 
--- those, and two that may be absent
+-- those, and four that may be absent
 abbrev pub IsKey : List ℕ → Type 0
-IsKey key = IsNeeded key ⊎ (key ≡ codes "capacity") ⊎ (key ≡ codes "arms")
+IsKey key =
+    IsNeeded key ⊎ (key ≡ codes "capacity") ⊎ (key ≡ codes "link") ⊎ (key ≡ codes "ticks") ⊎ (key ≡ codes "arms")
 
 -- no other key is there
 abbrev pub AreKnown : Members → Type 0
 AreKnown no_members = Unit {0}
 AreKnown (member key value members) = IsKey key × AreKnown members
-
--- the value of a key
-abbrev pub HasMember : Members → List ℕ → Data → Type 0
-HasMember members key value = get_member key members ≡ Some value
 
 -- the keys are those of a scenario: no other is there, and those that are needed are
 pub record AreKeys (members : Members) : Type 0 where
@@ -44,6 +42,17 @@ pub record AreKeys (members : Members) : Type 0 where
 abbrev pub GivesCapacity : Option Data → ℕ → Type 0
 GivesCapacity None capacity = capacity ≡ 16777216
 GivesCapacity (Some value) capacity = (value ≡ whole capacity) × IsCapacity capacity
+
+-- the link that the value of its key gives; all of it is 0 where the key is absent
+abbrev pub GivesLink : Option Data → Link → Type 0
+GivesLink None link =
+    (link.seed ≡ 0) × (link.rates.lose ≡ 0) × (link.rates.repeat ≡ 0) × (link.rates.swap ≡ 0)
+GivesLink (Some value) link = (members : Members) × (value ≡ object members) × SpellLink members link
+
+-- how many ticks the value of their key gives, or the common number where the key is absent
+abbrev pub GivesTicks : Option Data → ℕ → Type 0
+GivesTicks None ticks = ticks ≡ 100
+GivesTicks (Some value) ticks = (value ≡ whole ticks) × IsTicks ticks
 
 -- the arms that the value of their key gives, of so many sites; none where the key is absent
 abbrev pub GivesArms : ℕ → Option Data → List Arm → Type 0
@@ -100,17 +109,31 @@ pub record HasCapacity (bytes : List ℕ) (members : Members) (sites tolerated :
   pub has_clients : HasClients bytes members sites tolerated declared clients
   pub given : GivesCapacity (get_member (codes "capacity") members) capacity
 
+-- and this link
+pub record HasLink (bytes : List ℕ) (members : Members) (sites tolerated : ℕ)
+    (declared : List Item) (clients : List Client) (capacity : ℕ) (link : Link) : Type 0 where
+  pub has_capacity : HasCapacity bytes members sites tolerated declared clients capacity
+  pub given : GivesLink (get_member (codes "link") members) link
+
+-- and so many ticks
+pub record HasTicks (bytes : List ℕ) (members : Members) (sites tolerated : ℕ)
+    (declared : List Item) (clients : List Client) (capacity : ℕ) (link : Link) (ticks : ℕ) : Type 0 where
+  pub has_link : HasLink bytes members sites tolerated declared clients capacity link
+  pub given : GivesTicks (get_member (codes "ticks") members) ticks
+
 -- and these arms
 pub record HasArms (bytes : List ℕ) (members : Members) (sites tolerated : ℕ)
-    (declared : List Item) (clients : List Client) (capacity : ℕ) (arms : List Arm) : Type 0 where
-  pub has_capacity : HasCapacity bytes members sites tolerated declared clients capacity
+    (declared : List Item) (clients : List Client) (capacity : ℕ) (link : Link) (ticks : ℕ)
+    (arms : List Arm) : Type 0 where
+  pub has_ticks : HasTicks bytes members sites tolerated declared clients capacity link ticks
   pub given : GivesArms sites (get_member (codes "arms") members) arms
 
 -- the scenario is what the bytes spell
 pub record IsReading (bytes : List ℕ) (s : Scenario) : Type 0 where
   pub members : Members
   pub declared : List Item
-  pub has_arms : HasArms bytes members s.catalog.sites s.catalog.tolerated declared s.clients s.capacity s.arms
+  pub has_arms : HasArms bytes members s.catalog.sites s.catalog.tolerated declared s.clients s.capacity s.link s.ticks
+      s.arms
   pub containers : s.catalog.containers ≡ containers_of declared
   pub values : List Data
   pub spelled : HasMember members (codes "steps") (list values)
@@ -139,15 +162,25 @@ IsRefusedAt bytes Capacity =
     (members : Members) × (sites : ℕ) × (tolerated : ℕ) × (declared : List Item) × (clients : List Client)
     × HasClients bytes members sites tolerated declared clients
     × ((capacity : ℕ) → ¬ GivesCapacity (get_member (codes "capacity") members) capacity)
+IsRefusedAt bytes AtLink =
+    (members : Members) × (sites : ℕ) × (tolerated : ℕ) × (declared : List Item) × (clients : List Client)
+    × (capacity : ℕ) × HasCapacity bytes members sites tolerated declared clients capacity
+    × ((link : Link) → ¬ GivesLink (get_member (codes "link") members) link)
+IsRefusedAt bytes Ticks =
+    (members : Members) × (sites : ℕ) × (tolerated : ℕ) × (declared : List Item) × (clients : List Client)
+    × (capacity : ℕ) × (link : Link) × HasLink bytes members sites tolerated declared clients capacity link
+    × ((ticks : ℕ) → ¬ GivesTicks (get_member (codes "ticks") members) ticks)
 IsRefusedAt bytes (Arms place) =
     (members : Members) × (sites : ℕ) × (tolerated : ℕ) × (declared : List Item) × (clients : List Client)
-    × (capacity : ℕ) × (value : Data)
-    × HasCapacity bytes members sites tolerated declared clients capacity × HasMember members (codes "arms") value
+    × (capacity : ℕ) × (link : Link) × (ticks : ℕ) × (value : Data)
+    × HasTicks bytes members sites tolerated declared clients capacity link ticks
+    × HasMember members (codes "arms") value
     × IsWrongAt (λ values. (arms : List Arm) × AreArms sites values arms) value place
 IsRefusedAt bytes (Steps place) =
     (members : Members) × (sites : ℕ) × (tolerated : ℕ) × (declared : List Item) × (clients : List Client)
-    × (capacity : ℕ) × (arms : List Arm) × (value : Data)
-    × HasArms bytes members sites tolerated declared clients capacity arms × HasMember members (codes "steps") value
+    × (capacity : ℕ) × (link : Link) × (ticks : ℕ) × (arms : List Arm) × (value : Data)
+    × HasArms bytes members sites tolerated declared clients capacity link ticks arms
+    × HasMember members (codes "steps") value
     × IsWrongAt (λ values. (steps : List Step) × AreSteps sites (length clients) values steps) value place
 
 -- the place that is named is the first that is wrong; where memory ran out, nothing is said

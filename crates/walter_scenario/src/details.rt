@@ -15,6 +15,7 @@ fn form_of(word: &str) -> Option<StepForm> {
         "tick" => Some(StepForm::Tick),
         "stop" => Some(StepForm::Stop),
         "restart" => Some(StepForm::Restart),
+        "pump" => Some(StepForm::Pump),
         "arm" => Some(StepForm::Arm),
         _ => None,
     }
@@ -78,7 +79,9 @@ fn check_values(
         (StepForm::Call, [client]) => check_client(clients, client),
         (StepForm::Deliver, [site, from, number]) => check_delivery(sites, site, from, number),
         (StepForm::Advance, [site, from]) => check_peers(sites, site, from),
-        (StepForm::Tick | StepForm::Stop | StepForm::Restart, [site]) => check_site(sites, site),
+        (StepForm::Tick | StepForm::Stop | StepForm::Restart | StepForm::Pump, [site]) => {
+            check_site(sites, site)
+        }
         (StepForm::Arm, [site, nth, choice]) => check_arm(sites, site, nth, choice),
         _ => Err(StepFault::Length { form }),
     }

@@ -8,7 +8,7 @@ use crate::place::Detail;
 use serde_json::{Map, Value};
 use std::alloc::Global;
 
-/// The values of the keys. Two keys may be absent.
+/// The values of the keys. Four keys may be absent.
 #[derive(Clone, Copy)]
 pub struct Parts<'a> {
     pub sites: &'a Value,
@@ -16,6 +16,8 @@ pub struct Parts<'a> {
     pub containers: &'a Value,
     pub clients: &'a Value,
     pub capacity: Option<&'a Value>,
+    pub link: Option<&'a Value>,
+    pub ticks: Option<&'a Value>,
     pub arms: Option<&'a Value>,
     pub steps: &'a Value,
 }
@@ -25,7 +27,7 @@ fn is_key(name: &str) -> bool
 {
     matches!(
         name,
-        "sites" | "f" | "containers" | "clients" | "steps" | "capacity" | "arms"
+        "sites" | "f" | "containers" | "clients" | "steps" | "capacity" | "link" | "ticks" | "arms"
     )
 }
 
@@ -52,7 +54,7 @@ pub fn other_key(alloc: Global, members: &Map<String, Value>) -> Detail {
 }
 
 /// The value of the key, where it is there.
-fn member<'a>(members: &'a Map<String, Value>, key: &str) -> Option<&'a Value>
+pub fn member<'a>(members: &'a Map<String, Value>, key: &str) -> Option<&'a Value>
     ensures { get_member key.now (members_view members.now.entries) ≡ data_in result }
 {
     members.get(key)
@@ -73,6 +75,8 @@ pub fn parts_of(members: &Map<String, Value>) -> Option<Parts<'_>>
         containers: member(members, "containers")?,
         clients: member(members, "clients")?,
         capacity: member(members, "capacity"),
+        link: member(members, "link"),
+        ticks: member(members, "ticks"),
         arms: member(members, "arms"),
         steps: member(members, "steps")?,
     })

@@ -13,7 +13,8 @@ pub enum Place {
     #[error("the text: wants JSON in UTF-8, an object outermost")]
     Json,
     /// A key is none of a scenario's, or one is wanting.
-    #[error("the keys: wants sites, f, containers, clients and steps, and takes capacity and arms besides")]
+    #[error("the keys: wants sites, f, containers, clients and steps, \
+        and takes capacity, link, ticks and arms besides")]
     Key,
     #[error("sites: wants a whole number from 1 to 8")]
     Sites,
@@ -29,15 +30,20 @@ pub enum Place {
     Clients(usize),
     #[error("the capacity: wants a whole number from 19 to 1099511627776")]
     Capacity,
+    #[error("the link: wants an object of just seed, a whole number below 2^64, and lose, repeat and swap, \
+        whole numbers from 0 to 1000")]
+    Link,
+    #[error("the ticks: wants a whole number from 0 to 10000")]
+    Ticks,
     /// The first wrong arm, counted from 0; 0 where the value is no list.
     #[error("arm {0}: wants [site, nth, choice] in a list, a site below sites, an nth from 1 to 1000000, \
         a choice below 2^64")]
     Arms(usize),
     /// The first wrong step, counted from 0; 0 where the value is no list.
     #[error("step {0}: wants [\"call\", client], [\"deliver\", site, from, number], [\"advance\", site, from], \
-        [\"tick\", site], [\"stop\", site], [\"restart\", site] or [\"arm\", site, nth, choice] in a list, \
-        a client of the scenario, a site below sites, a from that is another one, \
-        a number from 1 to 4294967295, an nth from 1 to 1000000, a choice below 2^64")]
+        [\"tick\", site], [\"stop\", site], [\"restart\", site], [\"pump\", site] or \
+        [\"arm\", site, nth, choice] in a list, a client of the scenario, a site below sites, \
+        a from that is another one, a number from 1 to 4294967295, an nth from 1 to 1000000, a choice below 2^64")]
     Steps(usize),
 }
 

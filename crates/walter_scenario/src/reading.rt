@@ -6,6 +6,7 @@ use crate::arms::given_arms;
 use crate::capacity::capacity_of;
 use crate::clients::clients_of;
 use crate::containers::catalog_of;
+use crate::link::link_of;
 use crate::lists::{Arms, Clients, Steps};
 use crate::members::{Parts, other_key, parts_of};
 use crate::numbers::{sites_of, tolerated_of};
@@ -13,6 +14,7 @@ use crate::place::{Place, ReadFault};
 use crate::scenario::{LONGEST_TEXT, Scenario};
 use crate::steps::steps_of;
 use crate::text::{members_of, value_of};
+use crate::ticks::ticks_of;
 use std::alloc::Global;
 
 /// The scenario that the parts spell.
@@ -25,12 +27,16 @@ fn scenario_of(alloc: Global, parts: Parts<'_>) -> Result<Scenario, ReadFault>
     let catalog = catalog_of(alloc, sites, tolerated, parts.containers)?;
     let clients = clients_of(alloc, sites, parts.clients)?;
     let capacity = capacity_of(parts.capacity).ok_or(Place::Capacity)?;
+    let link = link_of(parts.link).ok_or(Place::Link)?;
+    let ticks = ticks_of(parts.ticks).ok_or(Place::Ticks)?;
     let arms = given_arms(alloc, sites, parts.arms)?;
     let steps = steps_of(alloc, sites, clients.len(), parts.steps)?;
     Ok(Scenario {
         catalog,
         clients: Clients::from(clients),
         capacity,
+        link,
+        ticks,
         arms: Arms::from(arms),
         steps: Steps::from(steps),
     })

@@ -1,5 +1,6 @@
 use crate::lists::{Arms, Clients, Steps};
 use walter_base::{Bytes, Catalog, SiteId};
+use walter_link::Link;
 
 /// The most bytes that a scenario may have.
 pub const LONGEST_TEXT: usize = 16_777_216;
@@ -15,6 +16,15 @@ pub const GREATEST_CAPACITY: u64 = 1_099_511_627_776;
 
 /// The capacity of each journal in bytes, where a scenario names none.
 pub const COMMON_CAPACITY: u64 = 16_777_216;
+
+/// The greatest rate of a link, of 1,000 packets.
+pub const GREATEST_RATE: u16 = 1000;
+
+/// The most ticks that a site may make when it is pumped.
+pub const MOST_TICKS: u32 = 10_000;
+
+/// How many ticks a site may make when it is pumped, where a scenario names no number.
+pub const COMMON_TICKS: u32 = 100;
 
 /// The last call on a disk that may be armed, counted from 1.
 pub const LAST_ARMED: u64 = 1_000_000;
@@ -57,17 +67,23 @@ pub enum Step {
     Stop(SiteId),
     /// The site is to come up.
     Restart(SiteId),
+    /// The site does the first that can be done: it comes up, is handed the packet in front of its queue, commits the
+    /// next transaction of a peer, or ticks.
+    Pump(SiteId),
     /// The site's disk is armed.
     Arm(Arm),
 }
 
 /// What is to be played: the sites and their containers, the clients by their numbers from 0, the capacity of each
-/// site's journal in bytes, what is armed before the first step, and the script.
+/// site's journal in bytes, the link between the sites, how many ticks each site may make when it is pumped, what is
+/// armed before the first step, and the script.
 #[derive(Debug, Drop)]
 pub struct Scenario {
     pub catalog: Catalog,
     pub clients: Clients,
     pub capacity: u64,
+    pub link: Link,
+    pub ticks: u32,
     pub arms: Arms,
     pub steps: Steps,
 }

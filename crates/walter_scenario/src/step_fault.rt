@@ -15,6 +15,8 @@ pub enum StepForm {
     Stop,
     #[error("[\"restart\", site]")]
     Restart,
+    #[error("[\"pump\", site]")]
+    Pump,
     #[error("[\"arm\", site, nth, choice]")]
     Arm,
 }
@@ -30,7 +32,8 @@ pub enum StepFault {
     #[error("its value: wants a list")]
     NoList,
     /// The first value is no word of a step, or isn't there.
-    #[error("its word: wants \"call\", \"deliver\", \"advance\", \"tick\", \"stop\", \"restart\" or \"arm\"")]
+    #[error("its word: wants \"call\", \"deliver\", \"advance\", \"tick\", \"stop\", \"restart\", \"pump\" \
+        or \"arm\"")]
     Word,
     /// A step of this word has more values, or fewer.
     #[error("its length: wants just {form}")]

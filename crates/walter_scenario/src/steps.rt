@@ -65,6 +65,7 @@ fn step_of_one(sites: u8, clients: usize, word: &Value, number: &Value) -> Optio
         "tick" => Some(Step::Tick(site_of(sites, number)?)),
         "stop" => Some(Step::Stop(site_of(sites, number)?)),
         "restart" => Some(Step::Restart(site_of(sites, number)?)),
+        "pump" => Some(Step::Pump(site_of(sites, number)?)),
         _ => None,
     }
 }
