@@ -50,6 +50,13 @@ pub record HasReadTicks (parts : Parts) (sites tolerated : ℕ) (catalog : Catal
   pub before : HasReadLink parts sites tolerated catalog clients capacity link
   pub gives_ticks : GivesTicks (data_in parts.ticks) ticks
 
+-- and the arms
+pub record HasReadArms (parts : Parts) (sites tolerated : ℕ) (catalog : Catalog) (clients : List Client) (capacity : ℕ)
+    (link : Link) (ticks : ℕ) (arms : List Arm) : Type 0 where
+  pub before : HasReadTicks parts sites tolerated catalog clients capacity link ticks
+  pub gives_arms : GivesArms sites (data_in parts.arms) arms
+
+-- what was read as far as the capacity, fact by fact
 pub has_read_capacity : (parts : Parts) (sites tolerated : ℕ) (catalog : Catalog) (clients : List Client) (capacity : ℕ)
     → view parts.sites.now ≡ whole sites → (1 ≤ sites) × (sites ≤ most_sites)
     → view parts.tolerated.now ≡ whole tolerated → tolerated < sites
@@ -64,12 +71,6 @@ has_read_capacity parts sites tolerated catalog clients capacity s there f fewer
   };
   gives_capacity = gives;
 }
-
--- and the arms
-pub record HasReadArms (parts : Parts) (sites tolerated : ℕ) (catalog : Catalog) (clients : List Client) (capacity : ℕ)
-    (link : Link) (ticks : ℕ) (arms : List Arm) : Type 0 where
-  pub before : HasReadTicks parts sites tolerated catalog clients capacity link ticks
-  pub gives_arms : GivesArms sites (data_in parts.arms) arms
 
 has_sites : (parts : Parts) (sites tolerated : ℕ) (bytes : List ℕ) (ms : Members) → HasNumbers parts sites tolerated
     → HasKeys bytes ms → AreParts ms parts

@@ -1,4 +1,4 @@
--- The parts of a scenario: what the items of its lists spell (docs/FORMATS.md, "Scenarios").
+-- The parts of a scenario: what its link and the items of its lists spell (docs/FORMATS.md, "Scenarios").
 use Rattle.std.specs.Prelude.{◌≡◌, ◌≢◌, ◌⊎◌, ◌+◌, ◌≤◌, ◌<◌, ◌^◌, ℕ, nat_eq, List, [], ◌∷◌, length, map, take, codes, count_by, Some, Ok, All}
 use Rattle.hex.specs.Hex.{decode_of}
 use Rattle.serde_json.specs.Data.{Data, Members, no_members, member, number, string, array, unsigned}

@@ -1,4 +1,4 @@
-ghost use Rattle.std.specs.Prelude.{◌≡◌, ◌≢◌, ◌↔◌, ◌≤◌, ◌<◌, ◌^◌, ℕ, IsTrue, IfSome, IfNone};
+ghost use Rattle.std.specs.Prelude.{◌↔◌, ◌≤◌, ℕ, IsTrue, IfSome, IfNone};
 ghost use Rattle.serde_json.specs.View.{members_view};
 ghost use Rattle.walter_link.specs.declared.chooser.Link.{Link};
 ghost use Rattle.walter_scenario.specs.Members.{data_in};
