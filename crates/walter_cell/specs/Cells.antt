@@ -1,5 +1,5 @@
 -- What contracts see of a cell, what holds of it between two events, and what its calls come to.
-use Rattle.std.specs.Prelude.{◌≡◌, ◌≢◌, ◌+◌, ◌⊎◌, ℕ, true, Option, Some, None, All}
+use Rattle.std.specs.Prelude.{◌≡◌, ◌≢◌, ◌≤◌, ◌+◌, ◌⊎◌, ℕ, true, Option, Some, None, All}
 use Rattle.std.specs.Prelude.{List, length, reverse}
 use Rattle.walter_base.specs.declared.catalog.Catalog.{Catalog}
 use Rattle.walter_base.specs.declared.names.SiteId.{SiteId}
@@ -52,11 +52,12 @@ module _ {D : Type 0} where
   HasSameTrail old new = new.node.trail ≡ old.node.trail
 
   module _ (g : Ghosts D) where
-    -- What each call keeps: the site, its lanes and its clients. Of the bytes of a client the calls in the trail were
+    -- What each call keeps: the site, its lanes, what has arrived, and its clients. Of the bytes of a client the calls in the trail were
     -- read, where they were; and what it is sent are the replies to its calls in the trail, behind what was there.
     pub record Keeps (old new : CellValue D) : Type 0 where
       pub node : KeepsNode g old.node new.node
       pub ins : in_rings new.ins ≡ in_rings old.ins
+      pub more : (from : ℕ) → length (arrived_from old.ins from) ≤ length (arrived_from new.ins from)
       pub here : (client : ℕ) → is_here new.lines client ≡ is_here old.lines client
       pub connected : (client : ℕ) (bytes : List ℕ) → IsLineAt bytes (calls_of client old.node.trail) old.lines client
           → IsLineAt bytes (calls_of client new.node.trail) new.lines client

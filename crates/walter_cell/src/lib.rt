@@ -11,3 +11,4 @@ mod pumping;
 pub use answers::{Acted, Moved, Pumped, Serve};
 pub use cell::Cell;
 pub use line::Line;
+pub use pumping::pumped;

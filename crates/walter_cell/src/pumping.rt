@@ -94,8 +94,8 @@ impl<D: Disk + Drop, S: Source + Drop, K: Sink + Drop> Cell<D, S, K> {
     }
 }
 
-// What a pump says of an event.
-fn pumped(acted: Acted) -> Pumped
+/// What a pump says of an event.
+pub fn pumped(acted: Acted) -> Pumped
     ensures { result ≡ acted_so acted }
 {
     match acted {

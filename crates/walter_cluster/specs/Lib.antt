@@ -6,3 +6,4 @@ pub mod Lanes
 pub mod Builds
 pub mod Seats
 pub mod Openings
+pub mod Pumps

@@ -1,7 +1,10 @@
 ghost use Rattle.std.specs.Prelude.{◌≡◌, ◌≢◌, ◌<◌, ℕ, List, length, slice_get, Some, true, OnErr, OnOk, IfOk};
 ghost use Rattle.walter_base.specs.declared.names.SiteId.{SiteId};
+ghost use Rattle.walter_cell.specs.Cells.{CellValue};
 ghost use Rattle.walter_cell.specs.Entries.{IsPlain};
 ghost use Rattle.walter_cell.specs.Lines.{CanFail, HasFaultAt, IsLineAt};
+ghost use Rattle.walter_cell.specs.Nodes.{is_told};
+ghost use Rattle.walter_cluster.specs.Pumps.{IsPumpAt, PumpsAt};
 ghost use Rattle.walter_cluster.specs.Turns.{ServesAtHome};
 ghost use Rattle.walter_rules.specs.declared.event.Event.TheVariants as event;
 ghost use Rattle.walter_rules.specs.declared.event.Input.TheVariants as input;
@@ -12,8 +15,9 @@ use crate::meeting::meet_all;
 use std::alloc::Global;
 use std::marker::Model;
 use walter_base::{Mem, SiteId};
-use walter_cell::{Acted, Cell, Line, Moved, Serve};
+use walter_cell::{Acted, Cell, Line, Moved, Pumped, Serve, pumped};
 use walter_disk::Disk;
+use walter_link::Pump;
 use walter_rules::{Event, Input};
 use walter_stream::{Sink, Source};
 use walter_trail::Trail;
@@ -149,6 +153,33 @@ impl<D: Disk + Drop, S: Source + Drop, K: Sink + Drop> Bench<D, S, K> {
         ensures arms { KeepsArms (moment_of D.Disk self.old.cells) (moment_of D.Disk self.new.cells) }
     {
         self.act(site, Event::Restart)
+    }
+
+    /// A site does the first of these that can be done: it is made anew, if it is down; all arrives that was put out to it,
+    /// and the packet in front of those that wait is delivered; the next commit of the least peer is committed; it says
+    /// again what its peers may have missed, while any ticks are left. It is idle where none can be done. Nothing is done
+    /// where the trail is spent.
+    pub fn pump(&mut self, alloc: Global, site: SiteId, pump: &mut Pump) -> Mem<Pumped>
+        requires there { site.0 < length self.old.cells }
+        requires pump { IsPumpAt self.old.cells site pump.old }
+        ensures keeps { Keeps D.Disk self.old self.new }
+        ensures pumps { (c : CellValue D) → slice_get self.old.cells site.0 ≡ Some c
+            → IfOk result (PumpsAt (is_told D.Disk c.node.disk ≡ true) c.node.catalog site (moment_of D.Disk self.old.cells)
+            (moment_of D.Disk self.new.cells) pump.old pump.new) }
+        ensures pump { IsPumpAt self.new.cells site pump.new }
+        ensures drops { Drops D.Disk site self.old self.new }
+        ensures kept { OnErr result (trails_of self.new.cells ≡ trails_of self.old.cells) }
+        ensures arms { KeepsArms (moment_of D.Disk self.old.cells) (moment_of D.Disk self.new.cells) }
+    {
+        let place = usize::from(site.0);
+        if self.cells[place].is_spent() {
+            return Ok(Pumped::Spent);
+        }
+        if !self.cells[place].is_up() {
+            return Ok(pumped(self.restart(site)?));
+        }
+        meet_all(&mut self.cells, place)?;
+        self.cells[place].pump_arrived(alloc, pump)
     }
 
     // An event that brings nothing comes to a site.

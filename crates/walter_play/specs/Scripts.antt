@@ -1,19 +1,47 @@
 -- How a scenario is played: by its steps, in order (docs/FORMATS.md, "Scenarios").
-use Rattle.std.specs.Prelude.{◌≡◌, ℕ, nat_eq, List, [], ◌∷◌, ◌++◌, map, slice_get, filter_map, flat_map, Option, Some, None, option_map, if◌then◌else◌}
+use Rattle.std.specs.Prelude.{◌≡◌, ℕ, nat_eq, length, List, [], ◌∷◌, ◌++◌, map, set, slice_get, filter_map, flat_map, Option, Some, None, option_map, if◌then◌else◌}
 use Rattle.walter_base.specs.declared.names.SiteId.{SiteId}
 use Rattle.walter_cell.specs.declared.answers.Acted.{Acted}
 use Rattle.walter_cell.specs.declared.answers.Moved.{Moved}
+use Rattle.walter_cell.specs.declared.answers.Pumped.{Pumped}
 use Rattle.walter_cell.specs.declared.answers.Serve.{Serve}
-use Rattle.walter_cluster.specs.Moments.{Moment, IsFirst, DropsAt, TurnsAt, ActsAt, MovesAt, ArmsAt}
+use Rattle.walter_cell.specs.Cells.{CellValue}
+use Rattle.walter_cluster.specs.Moments.{Moment, moment_of, IsFirst, DropsAt, TurnsAt, ActsAt, MovesAt, ArmsAt}
+use Rattle.walter_cluster.specs.Pumps.{IsPumpAt, PumpsAt}
+use Rattle.walter_link.specs.Pumps.{PumpValue, new_pump}
 use Rattle.walter_rules.specs.declared.entry.Entry.{Entry}
 use Rattle.walter_rules.specs.declared.event.Event.{Event}
 use Rattle.walter_rules.specs.declared.event.Event.TheVariants as event
 use Rattle.walter_rules.specs.declared.event.Input.TheVariants as input
+use Rattle.walter_disk.specs.declared.disk.Disk.{Ghosts}
+use Rattle.walter_rules.specs.Knowledge.{site_at, sites}
 use Rattle.walter_scenario.specs.declared.scenario.Arm.{Arm}
 use Rattle.walter_scenario.specs.declared.scenario.Client.{Client}
 use Rattle.walter_scenario.specs.declared.scenario.Scenario.{Scenario}
 use Rattle.walter_scenario.specs.declared.scenario.Step.{Step}
 use Rattle.walter_scenario.specs.declared.scenario.Step.TheVariants as step
+
+-- what the trails are at a moment, and what waits at each site that is pumped
+pub record Scene : Type 0 where
+  pub moment : Moment
+  pub pumps : List PumpValue
+
+-- what waits before the first step: nothing
+abbrev pub new_pumps : Scenario → List PumpValue
+new_pumps t = map (λ site. new_pump t.link site t.catalog.sites t.ticks) (sites t.catalog)
+
+-- each pump is its site's
+pub record ArePumps {D : Type 0} (cells : List (CellValue D)) (pumps : List PumpValue) : Type 0 where
+  pub long : length pumps ≡ length cells
+  pub each : (i : ℕ) (pump : PumpValue) → slice_get pumps i ≡ Some pump → IsPumpAt cells (site_at i) pump
+
+abbrev pub scene_of : {D : Type 0} → Ghosts D → List (CellValue D) → List PumpValue → Scene
+scene_of g cells pumps = record { moment = moment_of g cells; pumps = pumps }
+
+-- before the first step: the sites have their openings, and nothing waits
+pub record IsFirstScene (t : Scenario) (scene : Scene) : Type 0 where
+  pub moment : IsFirst t.catalog.sites scene.moment
+  pub pumps : scene.pumps ≡ new_pumps t
 
 -- ---- steps. Of a site that is told, that is whose disk tells what it holds, it is said what it drops.
 
@@ -38,34 +66,68 @@ pub record IsDelivery (told : ℕ → Type 0) (t : Scenario) (to from : SiteId) 
   pub moves : MovesAt to from number old new answer
   pub drops : told to.0 → DropsAt t.catalog to old new
 
--- what a step is
-abbrev pub Takes : (told : ℕ → Type 0) → Scenario → Step → (old new : Moment) → Type 0
-Takes told t (step.Call number) old new = IsTurn told t number old new
-Takes told t (step.Deliver to from number) old new = IsDelivery told t to from number old new
-Takes told t (step.Advance at from) old new = IsEventAt told t at (event.Given (input.Advance from)) old new
-Takes told t (step.Tick site) old new = IsEventAt told t site (event.Given input.Tick) old new
-Takes told t (step.Stop site) old new = IsEventAt told t site event.Stop old new
-Takes told t (step.Restart site) old new = IsEventAt told t site event.Restart old new
-Takes told t (step.Arm arm) old new = ArmsAt arm.site arm.nth arm.choice old new
+-- a site does what is next there, by what waits there and what has arrived
+pub record IsPumping (told : ℕ → Type 0) (t : Scenario) (i : SiteId) (old new : Scene) : Type 0 where
+  pub before : PumpValue
+  pub after : PumpValue
+  pub was : slice_get old.pumps i.0 ≡ Some before
+  pub now : new.pumps ≡ set old.pumps i.0 after
+  pub answer : Pumped
+  pub pumps : PumpsAt (told i.0) t.catalog i old.moment new.moment before after answer
+  pub drops : told i.0 → DropsAt t.catalog i old.moment new.moment
+
+-- what a step is but for a pump
+abbrev pub TakesPlain : (told : ℕ → Type 0) → Scenario → Step → (old new : Moment) → Type 0
+TakesPlain told t (step.Call number) old new = IsTurn told t number old new
+TakesPlain told t (step.Deliver to from number) old new = IsDelivery told t to from number old new
+TakesPlain told t (step.Advance at from) old new = IsEventAt told t at (event.Given (input.Advance from)) old new
+TakesPlain told t (step.Tick site) old new = IsEventAt told t site (event.Given input.Tick) old new
+TakesPlain told t (step.Stop site) old new = IsEventAt told t site event.Stop old new
+TakesPlain told t (step.Restart site) old new = IsEventAt told t site event.Restart old new
+TakesPlain told t (step.Pump site) old new = ⊥
+TakesPlain told t (step.Arm arm) old new = ArmsAt arm.site arm.nth arm.choice old new
+
+abbrev pub site_pumped : Step → Option SiteId
+site_pumped (step.Call number) = None
+site_pumped (step.Deliver to from number) = None
+site_pumped (step.Advance at from) = None
+site_pumped (step.Tick site) = None
+site_pumped (step.Stop site) = None
+site_pumped (step.Restart site) = None
+site_pumped (step.Pump site) = Some site
+site_pumped (step.Arm arm) = None
+
+-- what a step is: a pump, or another, which leaves what waits
+abbrev pub TakesAs : (told : ℕ → Type 0) → Scenario → Step → Option SiteId → (old new : Scene) → Type 0
+TakesAs told t one (Some site) old new = IsPumping told t site old new
+TakesAs told t one None old new = TakesPlain told t one old.moment new.moment × (new.pumps ≡ old.pumps)
+
+abbrev pub Takes : (told : ℕ → Type 0) → Scenario → Step → (old new : Scene) → Type 0
+Takes told t one old new = TakesAs told t one (site_pumped one) old new
 
 -- the steps are taken in order
-abbrev pub Plays : (told : ℕ → Type 0) → Scenario → List Step → (old new : Moment) → Type 0
+abbrev pub Plays : (told : ℕ → Type 0) → Scenario → List Step → (old new : Scene) → Type 0
 Plays told t [] old new = new ≡ old
-Plays told t (step ∷ steps) old new = (next : Moment) × Takes told t step old next × Plays told t steps next new
+Plays told t (step ∷ steps) old new = (next : Scene) × Takes told t step old next × Plays told t steps next new
 
 -- all steps of a scenario: those that arm what it arms before the first, and then its own
 abbrev pub all_steps : Scenario → List Step
 all_steps t = map (λ (arm : Arm). step.Arm arm) t.arms ++ t.steps
 
+-- from this moment on all steps are taken
+abbrev pub EndsPlay : (told : ℕ → Type 0) → Scenario → (old new : Moment) → Type 0
+EndsPlay told t old new = (pumps : List PumpValue) × Plays told t (all_steps t)
+    (record { moment = old; pumps = new_pumps t }) (record { moment = new; pumps = pumps })
+
 -- so the trails of a run come of the openings, and the arms of the disks of none
 pub record IsPlayed (told : ℕ → Type 0) (t : Scenario) (trails : List (List Entry))
     (arms : ℕ → Option (List (ℕ × ℕ))) : Type 0 where
-  pub first : Moment
-  pub last : Moment
-  pub begins : IsFirst t.catalog.sites first
+  pub first : Scene
+  pub last : Scene
+  pub begins : IsFirstScene t first
   pub plays : Plays told t (all_steps t) first last
-  pub ends : last.trails ≡ trails
-  pub arms_are : (i : ℕ) → last.arms i ≡ arms i
+  pub ends : last.moment.trails ≡ trails
+  pub arms_are : (i : ℕ) → last.moment.arms i ≡ arms i
 
 -- ---- arms
 
@@ -81,6 +143,7 @@ arms_by (step.Advance at from) = []
 arms_by (step.Tick site) = []
 arms_by (step.Stop site) = []
 arms_by (step.Restart site) = []
+arms_by (step.Pump site) = []
 arms_by (step.Arm arm) = arm ∷ []
 
 abbrev pub arms_of : List Step → List Arm
