@@ -12,7 +12,11 @@ use Rattle.walter_scenario.specs.declared.scenario.Arm.{Arm}
 use Rattle.walter_scenario.specs.declared.scenario.Scenario.{Scenario}
 use Rattle.walter_scenario.specs.declared.scenario.Step.{Step}
 use Rattle.walter_scenario.specs.declared.scenario.Step.TheVariants as step
-use Rattle.walter_play.specs.Scripts.{arms_for, arms_by, arms_of, all_steps, AreArmed, ArmsMore, Takes, Plays}
+use Rattle.walter_base.specs.declared.catalog.Catalog.{Catalog}
+use Rattle.walter_cell.specs.declared.answers.Pumped.{Pumped}
+use Rattle.walter_cluster.specs.Pumps.{PumpsAt, at_once as pumped_at_once, raises, works}
+use Rattle.walter_link.specs.Pumps.{PumpValue}
+use Rattle.walter_play.specs.Scripts.{arms_for, arms_by, arms_of, all_steps, site_pumped, AreArmed, ArmsMore, Scene, Takes, TakesAs, TakesPlain, Plays}
 
 told_more : (before : Option (List (ℕ × ℕ))) (a b : List (ℕ × ℕ))
     → option_map (λ told. told ++ b) (option_map (λ told. told ++ a) before) ≡ option_map (λ told. told ++ (a ++ b)) before
@@ -67,22 +71,51 @@ moved_none : (to from : SiteId) (number : ℕ) (old new : Moment) (answer : Move
 moved_none to from number old new answer (at_once spent same) = λ i. ap (λ (m : Moment). m.arms i) same
 moved_none to from number old new answer (arrives _ place all changes hands) = changes.arms
 
--- what is armed by a step, and by steps in order
-step_arms : (told : ℕ → Type 0) (t : Scenario) (one : Step) (old new : Moment) → Takes told t one old new → AreArmed old new (arms_by one)
-step_arms told t (step.Call number) old new takes = armed_none old new takes.turns.others.arms
-step_arms told t (step.Deliver to from number) old new takes = armed_none old new (moved_none to from number old new takes.answer takes.moves)
-step_arms told t (step.Advance at from) old new takes = armed_none old new takes.acts.others.arms
-step_arms told t (step.Tick site) old new takes = armed_none old new takes.acts.others.arms
-step_arms told t (step.Stop site) old new takes = armed_none old new takes.acts.others.arms
-step_arms told t (step.Restart site) old new takes = armed_none old new takes.acts.others.arms
-step_arms told t (step.Arm arm) old new takes = armed_one old new arm takes
+pumped_none : (told : Type 0) (catalog : Catalog) (i : SiteId) (old new : Moment) (before after : PumpValue) (answer : Pumped)
+    → PumpsAt told catalog i old new before after answer → KeepsArms old new
+pumped_none told catalog i old new before after answer (pumped_at_once spent same kept says) = λ j. ap (λ (m : Moment). m.arms j) same
+pumped_none told catalog i old new before after answer (raises acted place down acts kept says) = acts.others.arms
+pumped_none told catalog i old new before after answer (works place up all changes does) = changes.arms
 
-steps_arm : (told : ℕ → Type 0) (t : Scenario) (steps : List Step) (old new : Moment) → Plays told t steps old new
-    → AreArmed old new (arms_of steps)
-steps_arm told t [] old new same = armed_none old new (λ i. ap (λ (m : Moment). m.arms i) same)
+-- what is armed by a step, and by steps in order
+plain_arms : (told : ℕ → Type 0) (t : Scenario) (one : Step) (old new : Moment) → TakesPlain told t one old new → AreArmed old new (arms_by one)
+plain_arms told t (step.Call number) old new takes = armed_none old new takes.turns.others.arms
+plain_arms told t (step.Deliver to from number) old new takes = armed_none old new (moved_none to from number old new takes.answer takes.moves)
+plain_arms told t (step.Advance at from) old new takes = armed_none old new takes.acts.others.arms
+plain_arms told t (step.Tick site) old new takes = armed_none old new takes.acts.others.arms
+plain_arms told t (step.Stop site) old new takes = armed_none old new takes.acts.others.arms
+plain_arms told t (step.Restart site) old new takes = armed_none old new takes.acts.others.arms
+plain_arms told t (step.Pump site) old new takes = absurd takes
+plain_arms told t (step.Arm arm) old new takes = armed_one old new arm takes
+
+-- a pump arms nothing
+pumped_arms : (one : Step) (site : SiteId) → site_pumped one ≡ Some site → arms_by one ≡ []
+pumped_arms (step.Call number) site is = absurd cc
+pumped_arms (step.Deliver to from number) site is = absurd cc
+pumped_arms (step.Advance at from) site is = absurd cc
+pumped_arms (step.Tick at) site is = absurd cc
+pumped_arms (step.Stop at) site is = absurd cc
+pumped_arms (step.Restart at) site is = absurd cc
+pumped_arms (step.Pump at) site is = refl
+pumped_arms (step.Arm arm) site is = absurd cc
+
+as_arms : (told : ℕ → Type 0) (t : Scenario) (one : Step) (o : Option SiteId) (old new : Scene) → site_pumped one ≡ o
+    → TakesAs told t one o old new → AreArmed old.moment new.moment (arms_by one)
+as_arms told t one None old new is takes = plain_arms told t one old.moment new.moment takes.0
+as_arms told t one (Some site) old new is takes =
+    subst (λ (arms : List Arm). AreArmed old.moment new.moment arms) (sym (pumped_arms one site is))
+    (armed_none old.moment new.moment (pumped_none _ t.catalog site old.moment new.moment takes.before takes.after takes.answer takes.pumps))
+
+step_arms : (told : ℕ → Type 0) (t : Scenario) (one : Step) (old new : Scene) → Takes told t one old new
+    → AreArmed old.moment new.moment (arms_by one)
+step_arms told t one old new takes = as_arms told t one (site_pumped one) old new refl takes
+
+steps_arm : (told : ℕ → Type 0) (t : Scenario) (steps : List Step) (old new : Scene) → Plays told t steps old new
+    → AreArmed old.moment new.moment (arms_of steps)
+steps_arm told t [] old new same = armed_none old.moment new.moment (λ i. ap (λ (s : Scene). s.moment.arms i) same)
 steps_arm told t (one ∷ steps) old new plays =
-    subst (λ (arms : List Arm). AreArmed old new arms) (sym (flat_map-cons arms_by one steps))
-    (armed_on old plays.0 new (arms_by one) (arms_of steps) (step_arms told t one old plays.0 plays.1)
+    subst (λ (arms : List Arm). AreArmed old.moment new.moment arms) (sym (flat_map-cons arms_by one steps))
+    (armed_on old.moment plays.0.moment new.moment (arms_by one) (arms_of steps) (step_arms told t one old plays.0 plays.1)
     (steps_arm told t steps plays.0 new plays.2))
 
 -- ---- a scenario's
@@ -97,14 +130,14 @@ arms_of_all t =
     flat_map-append arms_by (map (λ (arm : Arm). step.Arm arm) t.arms) t.steps ∙ ap (λ xs. xs ++ arms_of t.steps) (arms_alone t.arms)
 
 -- where all steps are taken, all is armed
-pub all_armed : (told : ℕ → Type 0) (t : Scenario) (old new : Moment) → Plays told t (all_steps t) old new
-    → AreArmed old new (t.arms ++ arms_of t.steps)
+pub all_armed : (told : ℕ → Type 0) (t : Scenario) (old new : Scene) → Plays told t (all_steps t) old new
+    → AreArmed old.moment new.moment (t.arms ++ arms_of t.steps)
 all_armed told t old new plays =
-    subst (λ (arms : List Arm). AreArmed old new arms) (arms_of_all t) (steps_arm told t (all_steps t) old new plays)
+    subst (λ (arms : List Arm). AreArmed old.moment new.moment arms) (arms_of_all t) (steps_arm told t (all_steps t) old new plays)
 
 -- where only the first ones are, what they arm
-pub some_armed : (told : ℕ → Type 0) (t : Scenario) (some rest : List Step) (old mid new : Moment) → all_steps t ≡ some ++ rest
-    → Plays told t some old mid → KeepsArms mid new → ArmsMore old new (t.arms ++ arms_of t.steps)
+pub some_armed : (told : ℕ → Type 0) (t : Scenario) (some rest : List Step) (old mid : Scene) (new : Moment) → all_steps t ≡ some ++ rest
+    → Plays told t some old mid → KeepsArms mid.moment new → ArmsMore old.moment new (t.arms ++ arms_of t.steps)
 some_armed told t some rest old mid new all plays same = (
   arms_of some,
   arms_of rest,

@@ -22,7 +22,11 @@ use Rattle.walter_scenario.specs.declared.scenario.Scenario.{Scenario}
 use Rattle.walter_scenario.specs.declared.scenario.Step.{Step}
 use Rattle.walter_scenario.specs.declared.scenario.Step.TheVariants as step
 use Rattle.walter_trail.specs.Calls.{calls_of}
-use Rattle.walter_play.specs.Scripts.{IsTurn, IsDelivery, IsEventAt, Takes, Plays}
+use Rattle.walter_cell.specs.declared.answers.Pumped.{Pumped}
+use Rattle.walter_cell.proofs.Pumping.{works_so}
+use Rattle.walter_cluster.specs.Pumps.{IsPumpAt, PumpsAt, at_once, raises, works}
+use Rattle.walter_link.specs.Pumps.{PumpValue}
+use Rattle.walter_play.specs.Scripts.{ArePumps, IsTurn, IsDelivery, IsEventAt, IsPumping, Scene, Takes, TakesAs, TakesPlain, Plays, site_pumped}
 
 -- a turn of a connection that doesn't fail
 sure_turn : (number : ℕ) (bytes : List ℕ) (clock : ℕ) (fault : Type 0) (old new : List Entry) (answer : Serve) → (fault → ⊥)
@@ -42,38 +46,66 @@ turn_is i number bytes fault old new answer never turn = record {
 }
 
 -- what is so of the sites that are told, is so of fewer
-pub takes_told : (told fewer : ℕ → Type 0) (t : Scenario) (one : Step) (old new : Moment)
-    → ((i : ℕ) → fewer i → told i) → Takes told t one old new → Takes fewer t one old new
-takes_told told fewer t (step.Call number) old new so takes = record {
+plain_told : (told fewer : ℕ → Type 0) (t : Scenario) (one : Step) (old new : Moment)
+    → ((i : ℕ) → fewer i → told i) → TakesPlain told t one old new → TakesPlain fewer t one old new
+plain_told told fewer t (step.Call number) old new so takes = record {
   client = takes.client;
   there = takes.there;
   answer = takes.answer;
   turns = takes.turns;
   drops = λ is. takes.drops (so _ is);
 }
-takes_told told fewer t (step.Deliver to from number) old new so takes =
+plain_told told fewer t (step.Deliver to from number) old new so takes =
     record { answer = takes.answer; moves = takes.moves; drops = λ is. takes.drops (so _ is) }
-takes_told told fewer t (step.Advance at from) old new so takes =
+plain_told told fewer t (step.Advance at from) old new so takes =
     record { answer = takes.answer; acts = takes.acts; drops = λ is. takes.drops (so _ is) }
-takes_told told fewer t (step.Tick site) old new so takes =
+plain_told told fewer t (step.Tick site) old new so takes =
     record { answer = takes.answer; acts = takes.acts; drops = λ is. takes.drops (so _ is) }
-takes_told told fewer t (step.Stop site) old new so takes =
+plain_told told fewer t (step.Stop site) old new so takes =
     record { answer = takes.answer; acts = takes.acts; drops = λ is. takes.drops (so _ is) }
-takes_told told fewer t (step.Restart site) old new so takes =
+plain_told told fewer t (step.Restart site) old new so takes =
     record { answer = takes.answer; acts = takes.acts; drops = λ is. takes.drops (so _ is) }
-takes_told told fewer t (step.Arm arm) old new so takes = takes
+plain_told told fewer t (step.Arm arm) old new so takes = takes
+plain_told told fewer t (step.Pump site) old new so takes = takes
 
-pub plays_told : (told fewer : ℕ → Type 0) (t : Scenario) (steps : List Step) (old new : Moment)
+pumps_told : (told fewer : Type 0) (catalog : Catalog) (i : SiteId) (old new : Moment) (before after : PumpValue) (answer : Pumped)
+    → (fewer → told) → PumpsAt told catalog i old new before after answer → PumpsAt fewer catalog i old new before after answer
+pumps_told told fewer catalog i old new before after answer so (at_once spent same kept says) = at_once spent same kept says
+pumps_told told fewer catalog i old new before after answer so (raises acted place down acts kept says) =
+    raises acted place (λ is. down (so is)) acts kept says
+pumps_told told fewer catalog i old new before after answer so (works place up all changes does) =
+    works place (λ is. up (so is)) all changes
+    (works_so _ _ _ _ _ _ _ _ _ after answer (λ first moved taken moves. moves) (λ happens acted acts. acts) (λ still. still)
+    (λ least is_least is. is_least (so is)) does)
+
+takes_as_told : (told fewer : ℕ → Type 0) (t : Scenario) (one : Step) (o : Option SiteId) (old new : Scene)
+    → ((i : ℕ) → fewer i → told i) → TakesAs told t one o old new → TakesAs fewer t one o old new
+takes_as_told told fewer t one None old new so takes = (plain_told told fewer t one old.moment new.moment so takes.0, takes.1)
+takes_as_told told fewer t one (Some site) old new so takes = record {
+  before = takes.before;
+  after = takes.after;
+  was = takes.was;
+  now = takes.now;
+  answer = takes.answer;
+  pumps = pumps_told (told site.0) (fewer site.0) t.catalog site old.moment new.moment takes.before takes.after takes.answer (so site.0) takes.pumps;
+  drops = λ is. takes.drops (so _ is);
+}
+
+pub takes_told : (told fewer : ℕ → Type 0) (t : Scenario) (one : Step) (old new : Scene)
+    → ((i : ℕ) → fewer i → told i) → Takes told t one old new → Takes fewer t one old new
+takes_told told fewer t one old new so takes = takes_as_told told fewer t one (site_pumped one) old new so takes
+
+pub plays_told : (told fewer : ℕ → Type 0) (t : Scenario) (steps : List Step) (old new : Scene)
     → ((i : ℕ) → fewer i → told i) → Plays told t steps old new → Plays fewer t steps old new
 plays_told told fewer t [] old new so plays = plays
 plays_told told fewer t (one ∷ steps) old new so plays =
     (plays.0, takes_told told fewer t one old plays.0 so plays.1, plays_told told fewer t steps plays.0 new so plays.2)
 
 -- one more step
-pub plays_more : (told : ℕ → Type 0) (t : Scenario) (steps : List Step) (one : Step) (old now new : Moment)
+pub plays_more : (told : ℕ → Type 0) (t : Scenario) (steps : List Step) (one : Step) (old now new : Scene)
     → Plays told t steps old now → Takes told t one now new → Plays told t (steps ++ one ∷ []) old new
 plays_more told t [] one old now new plays takes =
-    (new, subst (λ (m : Moment). Takes told t one m new) plays takes, refl)
+    (new, subst (λ (m : Scene). Takes told t one m new) plays takes, refl)
 plays_more told t (first ∷ steps) one old now new plays takes =
     (plays.0, plays.1, plays_more told t steps one plays.0 now new plays.2 takes)
 

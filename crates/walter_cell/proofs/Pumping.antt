@@ -1,0 +1,31 @@
+-- What a site does that is pumped, in other words.
+use Rattle.std.proofs.Common.{◌≡◌, ◌∷◌, ◌<◌, ℕ, List, [], drop, slice_get, refl, ap, sym, ◌∙◌, Option, Some, None}
+use Rattle.walter_base.specs.declared.names.SiteId.{SiteId}
+use Rattle.walter_link.specs.Pumps.{PumpValue, HasTaken}
+use Rattle.walter_link.specs.declared.pump.Waiting.{Waiting}
+use Rattle.walter_rules.specs.declared.event.Event.{Event}
+use Rattle.walter_cell.specs.declared.answers.Acted.{Acted}
+use Rattle.walter_cell.specs.declared.answers.Moved.{Moved}
+use Rattle.walter_cell.specs.declared.answers.Pumped.{Pumped}
+use Rattle.walter_cell.specs.Pumps.{Works, hands, advances, ticks, idle}
+
+-- the first of a list, and the rest
+pub first_front : {X : Type 0} (xs : List X) (x : X) → slice_get xs 0 ≡ Some x → xs ≡ x ∷ drop 1 xs
+first_front [] x first = absurd cc
+first_front (y ∷ ys) x first = let same : Some y ≡ Some x = first in cc
+
+-- what is said of deliveries, of events, of rest and of the least peer may be said otherwise
+pub works_so : (Delivers Delivers' : SiteId → ℕ → Moved → Type 0) (Happens Happens' : Event → Acted → Type 0) (rests rests' : Type 0)
+    (IsLeast IsLeast' : Option SiteId → Type 0) (pump after : PumpValue) (answer : Pumped)
+    → ((first : Waiting) (moved : Moved) → HasTaken pump first → Delivers first.from first.number moved → Delivers' first.from first.number moved)
+    → ((happens : Event) (acted : Acted) → Happens happens acted → Happens' happens acted) → (rests → rests')
+    → ((least : Option SiteId) → IsLeast least → IsLeast' least)
+    → Works Delivers Happens rests IsLeast pump after answer → Works Delivers' Happens' rests' IsLeast' pump after answer
+works_so D D' H H' r r' L L' pump after answer delivers happens rests least (hands first rest moved is taken moves left says) =
+    hands first rest moved is taken (delivers first moved taken moves) left says
+works_so D D' H H' r r' L L' pump after answer delivers happens rests least (advances from acted none is acts same says) =
+    advances from acted none (least (Some from) is) (happens _ acted acts) same says
+works_so D D' H H' r r' L L' pump after answer delivers happens rests least (ticks acted none is some acts left says) =
+    ticks acted none (least None is) some (happens _ acted acts) left says
+works_so D D' H H' r r' L L' pump after answer delivers happens rests least (idle none is no_ticks still same says) =
+    idle none (least None is) no_ticks (rests still) same says
