@@ -5,12 +5,19 @@
 
 The scenario is JSON or a script. Bytes that are none are refused as the program refuses them: by the same place, with the same
 text and the same status.
+
+    python3 bench/model.py load --seed 7 --calls 2000
+    python3 bench/model.py load --seed 7 --calls 2000 --scenario > load.json
+
+The first plays a made scenario, and writes the summary that `walter load` is to write of it. The second writes the scenario.
 """
 
+import json
 import os
 import sys
 from collections import Counter
 
+import loads
 import model
 import readings
 
@@ -48,17 +55,36 @@ def taken(path):
         raise ends.End(ends.NOT_READ, "the scenario could not be read to its end") from None
 
 
-def written(text):
+def written(text, what):
     try:
         ends.write(text)
     except ends.End as end:
-        raise ends.End(end.status, "the report could not be written to its end") from None
+        raise ends.End(end.status, f"the {what} could not be written to its end") from None
 
 
-def main():
+def play(words):
     parser = ends.Parser(__doc__, prog="model.py")
     parser.add_argument("file", nargs="?", help="a scenario, as JSON or as a script; standard input without it")
     parser.add_argument("--trace", action="store_true", help="write a line for each event too, behind the report")
-    words = parser.parse_args()
-    made = scenario_of(taken(words.file), ends.name_of(words.file))
-    written(model.played(made, Counter()).text(words.trace))
+    given = parser.parse_args(words)
+    made = scenario_of(taken(given.file), ends.name_of(given.file))
+    written(model.played(made, Counter()).text(given.trace), "report")
+
+
+def load(words):
+    parser = ends.Parser(loads.__doc__, prog="model.py load")
+    parser.add_argument("--seed", type=ends.number_to(loads.MOST_SEED), required=True, metavar="N", help="the seed, below 2^64")
+    parser.add_argument("--calls", type=ends.number_to(loads.MOST_CALLS), required=True, metavar="M",
+                        help=f"how many calls there are, to {loads.MOST_CALLS:,}")
+    parser.add_argument("--scenario", action="store_true", help="write the scenario, and play nothing")
+    given = parser.parse_args(words)
+    made = loads.made(given.seed, given.calls)
+    if given.scenario:
+        written(json.dumps(made, separators=(",", ":")) + "\n", "scenario")
+    else:
+        written(loads.summary(given.seed, given.calls, model.played(made, Counter())), "summary")
+
+
+def main():
+    words = sys.argv[1:]
+    return load(words[1:]) if words[:1] == ["load"] else play(words)

@@ -3,13 +3,14 @@
 It says again what docs/SITE.md and docs/FORMATS.md say, and docs/DECISIONS.md of the disk, and shares nothing with the
 program: a site keeps the transactions that it has, by version, and what they did, by object; it computes each answer anew
 from these, and after a stop it learns all its records again. It takes scenarios that are right: readings.py refuses others,
-and command.py is the command over both. It doesn't know want of memory, the end of a trail at 100,000 entries, or the step
-that pumps.
+and command.py is the command over both. What the step `pump` takes, and in which order, is drawn by link.py, and loads.py makes
+the scenarios of the command `load`. It doesn't know want of memory, or the end of a trail at 100,000 entries.
 """
 
 import struct
 from collections import Counter, defaultdict, namedtuple
 
+import link
 from disks import Disk, Failed, Full, Journal
 from spelled import *
 
@@ -172,6 +173,10 @@ class Site:
     def own(self):
         return self.committed[self.me]
 
+    def last_epoch(self):
+        """The epoch of the last Boot, at a site that is down too."""
+        return next((fields[0] for kind, *fields in reversed(self.records) if kind == BOOT), 0)
+
     def home(self, oid):
         return self.containers[oid[0]][1]
 
@@ -302,13 +307,18 @@ class Site:
         self.up = True
         return self.enter(stamp, "restart", "taken", kept, boot)
 
+    def is_enabled(self, j):
+        """Whether the next commit of another site may be committed here."""
+        number = self.committed[j] + 1
+        return number <= min(self.got[j], self.durable_at[j]) and covers(self.committed, self.log[j, number].start)
+
     def advance(self, j):
         stamp, event = self.clock + 1, f"advance:{j}"
         if not self.up:
             return self.enter(stamp, event, "down")
         number = self.committed[j] + 1
-        enabled = number <= min(self.got[j], self.durable_at[j]) and covers(self.committed, self.log[j, number].start)
-        plan = Plan("taken", (SEEN, j, number), sends=lambda: [(j, (VISIBLE, number))]) if enabled else Plan("passed")
+        is_next = self.is_enabled(j)
+        plan = Plan("taken", (SEEN, j, number), sends=lambda: [(j, (VISIBLE, number))]) if is_next else Plan("passed")
         return self.carry_out(plan, stamp, event)
 
     def tick(self):
@@ -581,8 +591,7 @@ def site_line(site):
             version = (site.me, fields[0]) if kind == OWN else (fields[0], fields[1])
             own_or[SEEN][version[0]] += 1
             log.append("%d:%d" % version)
-    epoch = next((fields[0] for kind, *fields in reversed(site.records) if kind == BOOT), 0)
-    return (f"site {site.me} {'up' if site.up else 'down'} epoch {epoch} events {len(site.entries)} "
+    return (f"site {site.me} {'up' if site.up else 'down'} epoch {site.last_epoch()} events {len(site.entries)} "
             f"records {len(site.records)} got {listed(own_or[GOT])} committed {listed(own_or[SEEN])} "
             f"log {','.join(log) or '-'}")
 
@@ -618,6 +627,10 @@ class Run:
         self.calls = [calls_of(bytes.fromhex(sent), met) for _, sent in self.clients]
         self.replies = [[] for _ in self.clients]
         self.arrived = {(i, j): 0 for i in range(len(self.sites)) for j in self.sites[i].peers}
+        rates = link.rates_of(scenario)
+        self.met, self.inboxes = met, [link.Inbox(rates, site.me, site.peers, met) for site in self.sites]
+        # How many ticks a site's pump may still make.
+        self.ticks = [scenario.get("ticks", link.TICKS)] * len(self.sites)
         for site, *arm in scenario.get("arms", []):
             self.sites[site].disk.arm = tuple(arm)
 
@@ -628,18 +641,48 @@ class Run:
                 self.replies[number].append(self.sites[self.clients[number][0]].call(number, request))
         elif word == "arm":
             self.sites[number].disk.arm = tuple(rest)
-        elif word == "deliver":
-            self.deliver(number, *rest)
+        elif word in ("deliver", "pump"):
+            getattr(self, word)(number, *rest)
         else:
             getattr(self.sites[number], word)(*rest)
 
-    def deliver(self, i, j, place):
-        """All that was put out to the site arrives, and then the packet is delivered, if there is one of this number."""
+    def arrive(self, i):
+        """All that was put out to the site arrives there."""
         for k in self.sites[i].peers:
             self.arrived[i, k] = len(self.sites[k].put_out[i])
             self.sites[k].waiting[i] = 0
+
+    def deliver(self, i, j, place):
+        """What is under way arrives, and then the packet is delivered, if there is one of this number."""
+        self.arrive(i)
         if place <= self.arrived[i, j]:
             self.sites[i].deliver(j, place, *self.sites[j].put_out[i][place - 1])
+        else:
+            self.met["packet of no such number"] += 1
+
+    def pump(self, i):
+        """Does at the site the first thing that can be done, if there is one."""
+        site = self.sites[i]
+        if site.up:
+            self.arrive(i)
+            self.inboxes[i].take({k: self.arrived[i, k] for k in site.peers})
+        word, *rest = self.next_of_pump(site)
+        self.met[f"pump {word}"] += 1
+        self.ticks[i] -= word == "tick"
+        if word != "idle":
+            self.step(word, i, *rest)
+
+    def next_of_pump(self, site):
+        """The step that is the first of a pump's that can be done."""
+        queue = self.inboxes[site.me].queue
+        if not site.up:
+            return "restart",
+        if queue:
+            return "deliver", *queue.popleft()
+        for k in site.peers:
+            if site.is_enabled(k):
+                return "advance", k
+        return ("tick" if self.ticks[site.me] > 0 else "idle"),
 
     def text(self, trace=True):
         return report(self.sites, self.clients, self.replies, trace)

@@ -2,6 +2,7 @@
 
 import argparse
 import os
+import re
 import signal
 import sys
 
@@ -29,6 +30,16 @@ class Parser(argparse.ArgumentParser):
     def _print_message(self, message, file=None):
         if message:
             write(message)
+
+
+def number_to(most):
+    """What reads a word that is a whole number, this at most."""
+    def number(text):
+        if not re.fullmatch("[0-9]{1,20}", text) or int(text) > most:
+            raise argparse.ArgumentTypeError(f"{text!r}: wants a whole number to {most}")
+        return int(text)
+
+    return number
 
 
 def name_of(path):
