@@ -8,6 +8,7 @@ import runs
 import scripts
 
 LONGEST = 120
+A_SUMMARY = ": it is the summary of a load, which has no replies and no trace: `bench/model.py load .. --scenario` writes its scenario"
 
 
 def wrong_in(path, text):
@@ -36,6 +37,8 @@ def quoted(text, wrong):
 def read_run(scenario, report, make=runs.Run, needs_trace=False):
     """The run that a scenario and a report tell, by the files that they are in."""
     made, text = scenario_of(scenario), ends.text_of(report)
+    if reports.is_summary(text):
+        raise wrong_in(report, A_SUMMARY)
     try:
         told = reports.read(text)
         if needs_trace and not told.entries:
@@ -43,3 +46,12 @@ def read_run(scenario, report, make=runs.Run, needs_trace=False):
         return make(made, told)
     except reports.Wrong as wrong:
         raise wrong_in(report, f", {wrong}{quoted(text, wrong)}") from None
+
+
+def read_summary(path):
+    """The summary of a load, by the file that it is in."""
+    text = ends.text_of(path)
+    try:
+        return reports.read_summary(text)
+    except reports.Wrong as wrong:
+        raise wrong_in(path, f", {wrong}{quoted(text, wrong)}") from None

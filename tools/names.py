@@ -73,11 +73,19 @@ class Course:
             self.settle(*item.fields)
 
     def step(self, word, *fields):
+        before = [len(site.entries) for site in self.run.sites]
         self.run.step(word, *fields)
         self.steps.append([word, *fields])
         self.places.append(self.place)
-        if word == "deliver" and fields[2] <= self.run.arrived[fields[0], fields[1]]:
-            self.came[fields[0], fields[1]][fields[2]] = len(self.steps)
+        if word in ("deliver", "pump"):
+            self.hear_of(fields[0], before[fields[0]])
+
+    def hear_of(self, here, before):
+        """Keeps which packet came to a site, if one did, that had so many entries before."""
+        for entry in self.run.sites[here].entries[before:]:
+            event = entry.event.split(":")
+            if event[0] == "deliver":
+                self.came[here, int(event[1])][int(event[2])] = len(self.steps)
 
     def turn(self, item):
         begins = self.ends[item.client]

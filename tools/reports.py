@@ -6,6 +6,7 @@ import struct
 from collections import namedtuple
 
 MOST_BODY, MOST_ENTRIES, MOST_UPDATES, MOST_IDS, MOST_SITES = 65536, 100_000, 256, 4095, 8
+LOAD_SITES, MOST_CALLS = 3, 20_000
 PACKETS = ("propagate", "ack", "dsmark", "visible", "prepare", "vote", "release", "released")
 CALLS = ("start", "read", "write", "setadd", "setdel", "setread", "setreadid", "commit", "abort", "level", "bad")
 
@@ -23,6 +24,8 @@ Record = namedtuple("Record", "kind site number transaction name objects marks",
 # An update is its kind, `write`, `setadd` or `setdel`, the object, and its bytes or its id.
 Transaction = namedtuple("Transaction", "name slow snapshot updates")
 Reply = namedtuple("Reply", "kind fields")
+# The summary of a load: how many replies there were of each kind, and the lines of its sites, of which `log` is a count.
+Summary = namedtuple("Summary", "seed calls replies lines")
 
 WHOLE = "(?:0|[1-9][0-9]{0,19})"
 VERSION = f"{WHOLE}:{WHOLE}"
@@ -33,6 +36,10 @@ CLIENT_LINE = re.compile(f"client {NUMBER} site {NUMBER} replies {NUMBER} {HEX}"
 SITE_LINE = re.compile(f"site {NUMBER} (up|down) epoch {NUMBER} events {NUMBER} records {NUMBER} "
                        f"got {LIST} committed {LIST} log {VERSIONS}")
 ENTRY_LINE = re.compile(rf"e {NUMBER} {NUMBER} (\S+) (\S+) {HEX} {HEX} {HEX} (\S+) {NUMBER}")
+COUNTED = ("started", "ended", "done", "read", "committed", "aborted", "deciding", "level", "unsure", "refused")
+LOAD_LINE = re.compile(f"load seed {NUMBER} calls {NUMBER}")
+COUNTS_LINE = re.compile("replies " + " ".join(f"{kind} {NUMBER}" for kind in COUNTED))
+LOAD_SITE_LINE = re.compile(f"site {NUMBER} (up|down) epoch {NUMBER} events {NUMBER} records {NUMBER} log {NUMBER}")
 # Events and outcomes, by their words.
 EVENTS = {
     "call": re.compile(f"(call):{NUMBER}:({'|'.join(CALLS)})"),
@@ -270,6 +277,26 @@ class Reading:
             entries.append(self.entry(entries[-1] if entries else None, count))
         return Report(sites, tolerated, clients, lines, entries)
 
+    def summary(self):
+        seed, calls = map(int, self.match(LOAD_LINE, "load seed N calls N").groups())
+        self.check(seed < 1 << 64 and calls <= MOST_CALLS, f"a seed below 2^64, and at most {MOST_CALLS} calls")
+        counts = map(int, self.match(COUNTS_LINE, "replies " + " ".join(f"{kind} N" for kind in COUNTED)).groups())
+        replies = dict(zip(COUNTED, counts))
+        self.check(sum(replies.values()) == calls, f"a reply to each of {calls} calls, and not {sum(replies.values())}")
+        lines = [self.load_site(number) for number in range(LOAD_SITES)]
+        self.at += 1
+        self.check(self.at > len(self.lines), "nothing there")
+        return Summary(seed, calls, replies, lines)
+
+    def load_site(self, number):
+        wants = f"site {number} up or down, epoch E events N records N log N"
+        match = self.match(LOAD_SITE_LINE, wants)
+        self.check(int(match[1]) == number, wants)
+        epoch, events, records, log = map(int, match.groups()[2:])
+        # An entry has two records where its restart has found one.
+        self.check(log <= records <= 2 * events, "no more commits than records, and events enough for these")
+        return SiteLine(self.at, match[2] == "up", epoch, events, records, None, None, log)
+
     def client(self, number):
         match = self.match(CLIENT_LINE, f"client {number} site S replies K HEX")
         who, site, count = map(int, match.groups()[:3])
@@ -382,3 +409,12 @@ def read(text):
     if report.entries:
         check_trails(report)
     return report
+
+
+def is_summary(text):
+    """Whether a text is the summary of a load, and no report."""
+    return text.startswith("load ")
+
+
+def read_summary(text):
+    return Reading(text).summary()

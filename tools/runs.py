@@ -4,13 +4,18 @@ A trace names the kinds of packets alone. What they say follows from the records
 many commits the sender has received, a DSMARK how many of its own are durable, and so on.
 """
 
+import os
 import struct
+import sys
 from collections import Counter, namedtuple
 
 import reports
 import scripts
 import transactions
 import wants
+
+sys.path.append(os.path.join(os.path.dirname(os.path.abspath(__file__)), "..", "bench"))
+import link
 
 Wrong = reports.Wrong
 # How many own commits above what a peer has acknowledged are sent to it.
@@ -73,6 +78,7 @@ class Scenario:
         self.homes = [site for site, _ in script.clients]
         self.calls, self.rests = zip(*(calls_of(bytes(sent)) for _, sent in script.clients)) if script.clients else ((), ())
         self.arms, self.steps = script.arms, script.steps
+        self.rates, self.ticks = link.rates_of(script.head()), link.TICKS if script.ticks is None else script.ticks
         self.places = [None] * len(self.steps) if is_json else script.places
 
     def home(self, oid):
@@ -87,11 +93,12 @@ class Scenario:
 
 
 class Packet:
-    """A packet: who put it out, to whom, its number and its kind; what it says; the moments that put it out and took it."""
+    """A packet: who put it out, to whom, its number and its kind; what it says; the moments that put it out and took it; and
+    whether the link lost it."""
 
     def __init__(self, sender, receiver, number, kind, says, moment):
         self.sender, self.receiver, self.number, self.kind = sender, receiver, number, kind
-        self.says, self.put_out, self.came = says, moment, []
+        self.says, self.put_out, self.came, self.is_lost = says, moment, [], False
 
 
 # What packets say: a number, and behind it a transaction, the objects of a PREPARE, or what stands in the way of a YES.
@@ -99,13 +106,14 @@ Says = namedtuple("Says", "number transaction name objects against", defaults=(N
 
 
 class Moment:
-    """An entry, with the call or the packet that it took, what was wanting to change anything, and what it put out."""
+    """An entry, with the call or the packet that it took, what was wanting to change anything, and what it put out; and
+    whether a pump brought it."""
 
     def __init__(self, entry):
         self.entry, self.site = entry, entry.site
         # `name` is the transaction of a call, and `acked` how many commits the sender of an ACK had acknowledged before.
         self.call = self.packet = self.news = self.name = self.acked = self.wanting = None
-        self.sends = []
+        self.sends, self.is_pumped = [], False
 
 
 class Lock:
@@ -424,6 +432,12 @@ class Steps:
         self.run, self.scenario = run, run.scenario
         self.trails = [[moment for moment in run.moments if moment.site == site] for site in range(self.scenario.sites)]
         self.at, self.turns, self.out, self.armed = Counter(), Counter(), Counter(), {}
+        # Which sites are up, what waits for the pump of each, and how many ticks it has made.
+        self.up, self.ticks = set(), Counter()
+        self.inboxes = [link.Inbox(self.scenario.rates, me, self.peers(me), Counter()) for me in range(self.scenario.sites)]
+
+    def peers(self, me):
+        return [peer for peer in range(self.scenario.sites) if peer != me]
 
     def all(self):
         for site, trail in enumerate(self.trails):
@@ -434,7 +448,13 @@ class Steps:
         left = [trail[self.at[site]] for site, trail in enumerate(self.trails) if self.at[site] < len(trail)]
         for moment in left:
             raise reports.wrong(moment.entry.place, "no such entry: no step brings it")
+        self.tell_lost()
         return steps
+
+    def tell_lost(self):
+        for me, inbox in enumerate(self.inboxes):
+            for (peer, number), copies in inbox.copies.items():
+                self.run.lanes[peer, me][number - 1].is_lost = copies == 0
 
     def step(self, place, made):
         step, (word, where, *more) = Step(place, self.scenario.places[place], made), made
@@ -444,9 +464,33 @@ class Steps:
             return self.turn(step, where)
         if self.is_spent(where):
             return step._replace(why=f"the trail of site {where} is spent")
+        if word == "pump":
+            return self.pump(step, where)
         if word == "deliver" and more[1] > self.out[more[0], where]:
             return step._replace(why=f"no such packet was put out: site {more[0]} had put out {self.out[more[0], where]} to it")
         return step._replace(moment=self.next_of(where, (word, *more), step))
+
+    def pump(self, step, site):
+        event = self.next_of_pump(site)
+        if event is None:
+            return step._replace(why=f"site {site} has nothing to do, and its pump has made all of its ticks")
+        moment = self.next_of(site, event, step)
+        moment.is_pumped = True
+        self.ticks[site] += event[0] == "tick"
+        return step._replace(moment=moment)
+
+    def next_of_pump(self, site):
+        """The event that a pump brings at a site, or None. An Advance that changes nothing is none of a pump's."""
+        if site not in self.up:
+            return ("restart",)
+        inbox, trail, at = self.inboxes[site], self.trails[site], self.at[site]
+        inbox.take({peer: self.out[peer, site] for peer in self.peers(site)})
+        if inbox.queue:
+            return "deliver", *inbox.queue.popleft()
+        entry = trail[at].entry if at < len(trail) else None
+        if entry and entry.event[0] == "advance" and entry.outcome[0] != "passed":
+            return entry.event
+        return ("tick",) if self.ticks[site] < self.scenario.ticks else None
 
     def turn(self, step, client):
         site, calls = self.scenario.homes[client], self.scenario.calls[client]
@@ -474,6 +518,10 @@ class Steps:
             self.out[packet.sender, packet.receiver] += 1
         if moment.entry.flight or moment.entry.outcome[0] == "failed":
             self.came(moment)
+        if reports.goes_down(moment.entry):
+            self.up.discard(site)
+        elif event[0] == "restart" and moment.entry.outcome[0] == "taken":
+            self.up.add(site)
         return moment
 
     def said(self, step):

@@ -42,11 +42,14 @@ NUMBERS = {
     "id": (">Q", " ", "an id, a whole number below 2^64"),
     "transaction": (">BIQ", ".", "a transaction as site.epoch.number"),
 }
-STEPS = ("arm", "stop", "restart", "deliver", "advance", "tick")
+STEPS = ("arm", "stop", "restart", "deliver", "advance", "tick", "pump")
+LINK = ("seed", "lose", "repeat", "swap")
+MOST_RATE, MOST_TICKS = 1000, 10_000
 MOST_SITES, MOST_CONTAINERS, MOST_CLIENTS, MOST_PACKET = 8, 256, 1024, (1 << 32) - 1
 LEAST_CAPACITY, MOST_CAPACITY, MOST_BYTES = 19, 1 << 40, 16_777_216
-# No step, container, client or arm takes as much in a scenario, but for a client's bytes.
-MOST_WORDS = 64
+# No step, container, client or arm takes as much in a scenario, but for a client's bytes, and all else together less than four
+# times as much.
+MOST_WORDS, MOST_ELSE = 64, 4
 # How many faults of a script are told.
 MOST_FAULTS = 20
 
@@ -227,7 +230,7 @@ class Script:
 
     def __init__(self):
         self.place = 0
-        self.sites = self.tolerated = self.capacity = None
+        self.sites = self.tolerated = self.capacity = self.link = self.ticks = None
         self.containers, self.arms, self.armed_at = [], [], []
         self.clients, self.numbers, self.items = [], {}, []
         self.steps, self.places = [], []
@@ -267,6 +270,14 @@ class Script:
     def take_capacity(self, size):
         self.capacity = number(size, LEAST_CAPACITY, MOST_CAPACITY + 1,
                                f"a number of bytes from {LEAST_CAPACITY} to {MOST_CAPACITY}")
+
+    def take_link(self, seed, *rates):
+        seed = number(seed, 0, 1 << 64, "a seed below 2^64")
+        rates = [number(rate, 0, MOST_RATE + 1, f"of {MOST_RATE} packets so many, to {MOST_RATE}") for rate in rates]
+        self.link = dict(zip(LINK, [seed, *rates]))
+
+    def take_ticks(self, count):
+        self.ticks = number(count, 0, MOST_TICKS + 1, f"a number of ticks to {MOST_TICKS}")
 
     def take_container(self, which, kind, site):
         least = self.containers[-1][0] + 1 if self.containers else 0
@@ -319,6 +330,9 @@ class Script:
 
     def take_tick(self, site):
         self.step("tick", self.site(site))
+
+    def take_pump(self, site):
+        self.step("pump", self.site(site))
 
     def take_settle(self, site):
         self.named("settle", None if site is None else self.site(site))
@@ -399,8 +413,9 @@ class Script:
     def head(self):
         """What a scenario has beside its clients and its steps."""
         made = {"sites": self.sites, "f": self.tolerated, "containers": self.containers}
-        if self.capacity is not None:
-            made["capacity"] = self.capacity
+        for key in "capacity", "link", "ticks":
+            if getattr(self, key) is not None:
+                made[key] = getattr(self, key)
         if self.arms:
             made["arms"] = self.arms
         return made
@@ -434,6 +449,8 @@ def packet_kind(kind, which):
 FORMS = {
     "sites N tolerated F": Script.take_sites,
     "capacity N": Script.take_capacity,
+    "link seed N lose N repeat N swap N": Script.take_link,
+    "ticks N": Script.take_ticks,
     "container N regular|set at SITE": Script.take_container,
     "client NAME at SITE": Script.take_client,
     "armed SITE call N choice N": Script.take_armed,
@@ -447,6 +464,7 @@ FORMS = {
     "advance SITE from SITE": Script.take_advance,
     "advance to SITE": Script.take_advance_to,
     "tick SITE": Script.take_tick,
+    "pump SITE": Script.take_pump,
     "settle [SITE]": Script.take_settle,
 }
 Form = namedtuple("Form", "text parts pattern take")
@@ -525,7 +543,8 @@ def read_script(text):
 def check_length(script):
     """Refuses a script whose scenario is too long, at the line that makes it so."""
     sent = sum(len(its) for _, its in script.clients)
-    if 2 * sent + MOST_WORDS * sum(map(len, (script.steps, script.containers, script.clients, script.arms))) < MOST_BYTES:
+    items = sum(map(len, (script.steps, script.containers, script.clients, script.arms)))
+    if 2 * sent + MOST_WORDS * (items + MOST_ELSE) < MOST_BYTES:
         return
     sizes = Counter()
     for item in script.items:
@@ -568,13 +587,23 @@ def line_of(item, names):
 
 def head_lines(script, names):
     """The lines in front of the items of a script: its clients have these names, and those that have none are left out."""
-    lines = [f"sites {script.sites} tolerated {script.tolerated}"]
-    if script.capacity is not None:
-        lines.append(f"capacity {script.capacity}")
-    for which, kind, site in script.containers:
-        lines.append(f"container {which} {'set' if kind == 'cset' else kind} at {site}")
+    lines = catalog_lines(script.head())
     lines += [f"client {name} at {site}" for name, (site, _) in zip(names, script.clients) if name is not None]
     return lines + [words_of_step("armed", *arm) for arm in script.arms]
+
+
+def catalog_lines(made):
+    """The lines of what a scenario has beside its clients, its arms and its steps."""
+    lines = [f"sites {made['sites']} tolerated {made['f']}"]
+    if "capacity" in made:
+        lines.append(f"capacity {made['capacity']}")
+    if "link" in made:
+        lines.append(words_of_step("link", *(made["link"][part] for part in LINK)))
+    if "ticks" in made:
+        lines.append(f"ticks {made['ticks']}")
+    for which, kind, site in made["containers"]:
+        lines.append(f"container {which} {'set' if kind == 'cset' else kind} at {site}")
+    return lines
 
 
 def turn_lines(name, frame):
@@ -596,11 +625,7 @@ def write(made):
     sent = [bytes.fromhex(sent) for _, sent in made["clients"]]
     # How many of each client's bytes its turns have sent so far.
     ends = [0] * len(sent)
-    lines = [f"sites {made['sites']} tolerated {made['f']}"]
-    if "capacity" in made:
-        lines.append(f"capacity {made['capacity']}")
-    for which, kind, site in made["containers"]:
-        lines.append(f"container {which} {'set' if kind == 'cset' else kind} at {site}")
+    lines = catalog_lines(made)
     lines += [f"client client{place} at {site}" for place, (site, _) in enumerate(made["clients"])]
     lines += [words_of_step("armed", *arm) for arm in made.get("arms", [])]
     for word, where, *more in made["steps"]:

@@ -1,7 +1,7 @@
 """A script with its deliveries by a random link, and with stops: another run of it for each seed.
 
-What the script says of clients, stops, restarts and arms is played in its order. In the place of its deliveries, advances and
-ticks the link does something or nothing, and a `settle` lasts until nothing more comes of what the link does.
+What the script says of clients, stops, restarts and arms is played in its order. In the place of its deliveries, advances,
+ticks and pumps the link does something or nothing, and a `settle` lasts until nothing more comes of what the link does.
 """
 
 import copy
@@ -16,7 +16,7 @@ import words
 # How likely a packet is lost, comes twice or comes before those that wait, of 1,000; and how many stops there are.
 Link = namedtuple("Link", "lose repeat swap stops", defaults=(0, 0, 0, 0))
 MOST_ACTS, MOST_ROUNDS, MOST_DOWN = 4, 100, 12
-LINKED = ("deliver", "advance", "tick", "lose")
+LINKED = ("deliver", "advance", "tick", "lose", "pump")
 
 
 def word_of(item):

@@ -269,7 +269,7 @@ def moment_line(scenario, moment, whole=True):
         came = f"{route(moment.packet, whole)}: {outcome(moment, whole)}"
     else:
         came = f"{scripts.words_of_step(word, moment.site, *fields)} -> {outcome(moment, whole)}"
-    return came + behind(moment)
+    return (f"pump {moment.site}: " if moment.is_pumped else "") + came + behind(moment)
 
 
 # ---- steps
@@ -299,7 +299,7 @@ def lines(run, packets=False):
         if step.made[0] == "arm":
             yield arm_line(run.scenario, "arm", next(played))
         elif step.moment:
-            put_out = sends(step.moment.sends) if packets and step.made[0] != "tick" else ""
+            put_out = sends(step.moment.sends) if packets and step.moment.entry.event[0] != "tick" else ""
             yield moment_line(run.scenario, step.moment) + (f" | {put_out}" if put_out else "")
         elif step.reply:
             yield f"{call(run.scenario, step.call)} -> {reply(step.reply)}"
@@ -322,7 +322,18 @@ def left_over(run):
     for lane in run.lanes.values():
         for one in lane:
             if not one.came:
-                yield f"never delivered: {route(one)}"
+                yield f"{'lost by the link' if one.is_lost else 'never delivered'}: {route(one)}"
+
+
+def summary_lines(summary):
+    """The lines of the summary of a load."""
+    yield f"the load of seed {summary.seed}: " + many(summary.calls, "call")
+    for kind, count in summary.replies.items():
+        if count:
+            yield f"{kind}: {count:,}"
+    for site, line in enumerate(summary.lines):
+        yield (f"site {site} is {'up' if line.up else 'down'} in epoch {line.epoch}: {many(line.events, 'event')}, "
+               f"{many(line.records, 'record')}, {many(line.log, 'commit')}")
 
 
 def why_no_call(calls):
