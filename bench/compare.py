@@ -1,23 +1,26 @@
 #!/usr/bin/env python3
 """Plays random scenarios, and compares each report and trace with those of the plain model in model.py.
 
-They are those of generator.py: of one site and of several, one of ten made to come to a limit; with --several those of two
-to eight sites alone, as many as are asked for. Says how often each reply, reason of a refusal, outcome, record and packet
-was met, and each limit, with a number at it and with one above it; and which of these were not met. Ends with status 1 where
-a scenario differs, and prints its seed and the first line that does. With --unproved the program is run without any proof,
-by `rt try`, on all scenarios together, and what this says of each that differs is printed; with --model the model plays
-alone, and nothing is compared.
+They are those of generator.py: of one site and of several, some by a link, one of thirteen made to come to a limit; with
+--several those of two to eight sites alone, as many as are asked for. Says how often each reply, reason of a refusal, outcome,
+record and packet was met, what the pumps did and the link chose, and each limit, with a number at it and with one above it;
+and which of these were not met. Then some made scenarios of the command `load` are played, and their summaries compared. Ends
+with status 1 where a scenario differs, and prints its seed and the first line that does. With --unproved the program is run
+without any proof, by `rt try`, on all scenarios together but those of `load`, and what this says of each that differs is
+printed; with --model the model plays alone, and nothing is compared.
 """
 
 import argparse
 import itertools
 import json
 import os
+import random
 import subprocess
 import sys
 import tempfile
 from collections import Counter
 
+import loads
 import model
 from generator import scenario
 from spelled import *
@@ -42,6 +45,8 @@ VOTES = ["VOTE YES", "VOTE LATER", "VOTE NO modified", "VOTE NO locked", "VOTE N
 # What the model counts while it plays: why a peer is to be asked again, and an ACK of several commits at once.
 RULES = ["LATER before all is received", "LATER over the lock of a cause", "ACK that jumps"]
 DELIVERIES = [f"packet {how}" for how in ("in order", "late", "again", "never", "of no such number")]
+PUMPS = [f"pump {word}" for word in ("restart", "deliver", "advance", "tick", "idle")]
+LINKS = [f"link {choice}" for choice in ("loses", "hands over once", "hands over twice", "swaps")]
 SITES = [f"sites {number}" for number in range(1, 9)]
 AT_LIMITS = {
     "open transactions": 256,
@@ -54,7 +59,9 @@ AT_LIMITS = {
     "commits in a window": 64,
 }
 LIMITS = [f"{what} {number:,}" for what, limit in AT_LIMITS.items() for number in (limit, limit + 1)]
-ALL = SITES + REPLIES + OUTCOMES + RECORDED + VOTES + RULES + DELIVERIES + LIMITS
+ALL = SITES + REPLIES + OUTCOMES + RECORDED + VOTES + RULES + DELIVERIES + PUMPS + LINKS + LIMITS
+# How many calls a made scenario may have.
+CALLS = [0, 1, 2, 10, 100, 500, 1000, 2000, 4000]
 
 
 # What a run met
@@ -97,13 +104,11 @@ def packets_met(run):
             yield from ["packet never"] * (len(put_out) - len(came))
 
 
-def count_met(run, steps, met):
+def count_met(run, met):
     met[f"sites {len(run.sites)}"] += 1
     met.update(reply_met(reply[4:]) for frames in run.replies for reply in frames)
     met.update(one for site in run.sites for entry in site.entries for one in entry_met(entry))
     met.update(packets_met(run))
-    came = sum(entry.event.startswith("deliver") for site in run.sites for entry in site.entries)
-    met["packet of no such number"] += sum(step[0] == "deliver" for step in steps) - came
 
 
 # The comparison
@@ -123,11 +128,25 @@ def built():
     return os.path.join(TOP, "crates", "walter", "out", "walter")
 
 
-def compare(program, seed, made, expected):
-    played = subprocess.run([program, "play", "--trace"], input=json.dumps(made), capture_output=True, text=True)
+def compare(words, name, source, expected):
+    played = subprocess.run(words, input=source, capture_output=True, text=True)
     if played.returncode != 0 or played.stdout != expected:
         line, wanted = first_difference(played.stdout, expected)
-        sys.exit(f"seed {seed}, status {played.returncode}\nplayed: {line[:300]}\nmodel:  {wanted[:300]}")
+        sys.exit(f"{name}, status {played.returncode}\nplayed: {line[:300]}\nmodel:  {wanted[:300]}")
+
+
+def loads_from(first, count):
+    """So many made scenarios, each as its seed and its calls."""
+    rng = random.Random(first)
+    return [(rng.choice([at, rng.getrandbits(64)]), rng.choice(CALLS)) for at in range(count)]
+
+
+def compare_load(program, seed, calls):
+    """Plays a made scenario in the model and, where one is named, by the program."""
+    expected = loads.summary(seed, calls, model.played(loads.made(seed, calls), Counter()))
+    if program:
+        words = [program, "load", "--seed", str(seed), "--calls", str(calls)]
+        compare(words, f"load of seed {seed} with {calls} calls", "", expected)
 
 
 def write_file(path, text):
@@ -153,6 +172,7 @@ def made_from(first, count, several):
 def main():
     parser = argparse.ArgumentParser(description=__doc__, formatter_class=argparse.RawDescriptionHelpFormatter)
     parser.add_argument("--scenarios", type=int, default=1000, metavar="N", help="how many are played; 1000 without it")
+    parser.add_argument("--loads", type=int, default=12, metavar="N", help="how many loads are played behind them; 12 without it")
     parser.add_argument("--several", action="store_true", help="play those of two to eight sites alone, and count only these")
     parser.add_argument("--seed", type=int, default=0, metavar="N", help="the seed of the first; 0 without it")
     parser.add_argument("--program", metavar="PATH", help="the program; without it that of this repository, which "
@@ -167,18 +187,22 @@ def main():
         for seed, made in made_from(words.seed, words.scenarios, words.several):
             run = model.played(made, met)
             if program:
-                compare(program, seed, made, run.text())
+                compare([program, "play", "--trace"], f"seed {seed}", json.dumps(made), run.text())
             elif words.unproved:
                 write_file(os.path.join(folder, f"seed_{seed}"), json.dumps(made))
                 write_file(os.path.join(folder, f"seed_{seed}.stdout"), run.text())
-            count_met(run, made["steps"], met)
+            count_met(run, met)
         if words.unproved:
             compare_unproved(folder, words.scenarios)
+    made_loads = [] if words.unproved else loads_from(words.seed, words.loads)
+    for seed, calls in made_loads:
+        compare_load(program, seed, calls)
     print("met: " + "; ".join(f"{kind}: {met[kind]:,}" for kind in ALL if met[kind]))
     print("not met: " + ("; ".join(kind for kind in ALL if not met[kind]) or "none"))
     how = "played by the model" if words.model else "the same"
     which = "scenarios of several sites" if words.several else "scenarios"
-    print(f"{words.scenarios:,} {which} from seed {words.seed}: {how}")
+    and_loads = f" and {len(made_loads)} loads" if made_loads else ""
+    print(f"{words.scenarios:,} {which} from seed {words.seed}{and_loads}: {how}")
 
 
 if __name__ == "__main__":

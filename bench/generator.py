@@ -1,9 +1,10 @@
-"""Random scenarios, each by its seed: of one site and of several, and some that come to a limit.
+"""Random scenarios, each by its seed: of one site and of several, some by a link, and some that come to a limit.
 
-Of ten seeds in a row one makes a scenario that comes to a limit: a site's open transactions, the updates and the bytes of a
-transaction, the ids of a set, the bytes of a value and of a frame, the packets of a lane, the commits in a window. Two make
-one of one site, and seven one of several, in the kinds of `SEVERAL`. These are made beside a run of the plain model, which
-tells which packets there are: so most deliveries find one, in order or not, again, late or never.
+Of thirteen seeds in a row one makes a scenario that comes to a limit: a site's open transactions, the updates and the bytes of
+a transaction, the ids of a set, the bytes of a value and of a frame, the packets of a lane, the commits in a window, the ticks
+of a pump. Two make one of one site, and ten one of several, in the kinds of `SEVERAL`. These are made beside a run of the plain
+model, which tells which packets there are: so most deliveries find one, in order or not, again, late or never. In three of the
+kinds sites are pumped too, by a link of any rates, and so they are in some of one site.
 """
 
 import random
@@ -19,6 +20,9 @@ BAD_BODIES = CUT + [b"\0", b"\x0b", b"\1\0", b"\4" + bytes(21)]
 BAD_ENDS = [b"\0\0", struct.pack(">I", 70000) + b"\1", struct.pack(">I", 9) + b"\1"]
 START, COMMIT, ABORT = (bytes([operation]) for operation in (model.START, model.COMMIT, model.ABORT))
 CHOICES = [0, 1, 1, 2, 7, 256, 257]
+SEEDS = [0, 1, 7, 2**32, 2**64 - 1]
+RATES = [0, 0, 0, 20, 100, 100, 300, 500, 999, 1000]
+TICKS = [0, 1, 2, 3, 5, 10, 30]
 
 
 def frames(bodies):
@@ -88,7 +92,19 @@ def arm(rng, site):
     return ["arm", site, rng.randint(1, rng.choice([4, 12])), rng.choice(CHOICES)]
 
 
-def step(rng, clients, calm):
+def link_of(rng):
+    """The link of a scenario and how many ticks its pumps may make, of which one may be absent."""
+    link = {"seed": rng.choice([*SEEDS, rng.getrandbits(64)]), **{rate: rng.choice(RATES) for rate in ("lose", "repeat", "swap")}}
+    made = {"link": link, "ticks": rng.choice([*TICKS, 100, 10_000])}
+    for key in "link", "ticks":
+        if rng.random() < 0.15:
+            del made[key]
+    return made
+
+
+def step(rng, clients, calm, pumps):
+    if rng.random() < pumps:
+        return ["pump", 0]
     if rng.random() < calm:
         return ["call", rng.randrange(clients)]
     word = rng.choice(["stop", "restart", "restart", "arm"])
@@ -98,8 +114,10 @@ def step(rng, clients, calm):
 def small(rng):
     """What some clients send, and steps in any order."""
     clients = [sent(rng) for _ in range(rng.randint(1, 5))]
-    calm = rng.choice([1, 0.97, 0.85])
-    made = of_one(clients, [step(rng, len(clients), calm) for _ in range(rng.randint(5, 200))])
+    calm, pumps = rng.choice([1, 0.97, 0.85]), rng.choice([0, 0, 0.3])
+    made = of_one(clients, [step(rng, len(clients), calm, pumps) for _ in range(rng.randint(5, 200))])
+    if pumps:
+        made.update(link_of(rng))
     if rng.random() < 0.3:
         made["arms"] = [[0, rng.randint(1, 30), rng.choice([0, 1, 7, 257])] for _ in range(rng.randint(1, 2))]
     if rng.random() < 0.3:
@@ -177,17 +195,21 @@ def long_frame(rng):
 # Scenarios of several sites
 
 # How many sites there are, the weights of the steps, how many of the packets are lost, and how many come in any order or
-# again, how often disks are armed from the start, whether journals are short, and how much clients read.
+# again, how often disks are armed from the start, whether journals are short, and how much clients read. Where sites are
+# pumped, there is a link.
 Kind = namedtuple("Kind", "sites weights lost mixed arms short reads")
-WORDS = ["call", "deliver", "advance", "tick", "stop", "restart", "arm"]
+WORDS = ["call", "deliver", "advance", "tick", "stop", "restart", "arm", "pump"]
 SEVERAL = {
-    "quiet": Kind((2, 3, 3, 4), (40, 50, 18, 2, 0, 0.1, 0), 0, 0.05, 0, False, 0.3),
-    "lossy": Kind((2, 3, 4), (30, 50, 14, 10, 0.3, 1, 0), 0.3, 0.4, 0, False, 0.3),
-    "stopped": Kind((2, 2, 3, 4), (30, 45, 12, 10, 3, 6, 0), 0.1, 0.2, 0, False, 0.3),
-    "failing": Kind((2, 2, 3), (30, 40, 12, 8, 1, 6, 6), 0.05, 0.2, 0.7, False, 0.2),
-    "short": Kind((2, 2, 3, 4), (40, 50, 14, 8, 2.5, 8, 0.5), 0.05, 0.1, 0.2, True, 0),
-    "wide": Kind((5, 6, 7, 8), (30, 70, 22, 2, 0.3, 1, 0.3), 0.05, 0.1, 0.1, False, 0.2),
-    "fought over": Kind((2, 3, 3, 4), (50, 60, 6, 4, 0.3, 2, 2), 0.05, 0.15, 0.1, False, 0),
+    "quiet": Kind((2, 3, 3, 4), (40, 50, 18, 2, 0, 0.1, 0, 0), 0, 0.05, 0, False, 0.3),
+    "lossy": Kind((2, 3, 4), (30, 50, 14, 10, 0.3, 1, 0, 0), 0.3, 0.4, 0, False, 0.3),
+    "stopped": Kind((2, 2, 3, 4), (30, 45, 12, 10, 3, 6, 0, 0), 0.1, 0.2, 0, False, 0.3),
+    "failing": Kind((2, 2, 3), (30, 40, 12, 8, 1, 6, 6, 0), 0.05, 0.2, 0.7, False, 0.2),
+    "short": Kind((2, 2, 3, 4), (40, 50, 14, 8, 2.5, 8, 0.5, 0), 0.05, 0.1, 0.2, True, 0),
+    "wide": Kind((5, 6, 7, 8), (30, 70, 22, 2, 0.3, 1, 0.3, 0), 0.05, 0.1, 0.1, False, 0.2),
+    "fought over": Kind((2, 3, 3, 4), (50, 60, 6, 4, 0.3, 2, 2, 0), 0.05, 0.15, 0.1, False, 0),
+    "pumped": Kind((2, 2, 3, 4), (25, 0.5, 0.3, 0.3, 0.8, 0.2, 0.8, 70), 0, 0.3, 0.2, False, 0.2),
+    "pumped and more": Kind((2, 3, 4), (30, 15, 4, 3, 1, 2, 1, 45), 0.1, 0.3, 0.2, False, 0.2),
+    "pumped and short": Kind((2, 3, 5, 8), (20, 8, 3, 2, 1, 2, 1, 65), 0.1, 0.2, 0.2, True, 0.1),
 }
 
 
@@ -218,6 +240,8 @@ class Maker:
             self.made["capacity"] = rng.randint(*rng.choice([(19, 60), (150, 190), (150, 190), (190, 400), (400, 1300)]))
         if rng.random() < kind.arms:
             self.made["arms"] = [arm(rng, rng.randrange(self.sites))[1:] for _ in range(rng.randint(1, 3))]
+        if kind.weights[-1]:
+            self.made.update(link_of(rng))
         self.run = model.Run(self.made, Counter())
         # Up to where each lane has come, in order.
         self.come = Counter()
@@ -301,6 +325,9 @@ class Maker:
         self.take(["arm", here, self.rng.randint(1, 4), self.rng.choice(CHOICES)])
         return ["deliver", here, there, self.come[here, there] + 1]
 
+    def pump(self):
+        return ["pump", self.rng.randrange(self.sites)]
+
     def scenario(self, count):
         for _ in range(count):
             self.take(getattr(self, self.rng.choices(WORDS, self.kind.weights)[0])())
@@ -343,15 +370,23 @@ def full_window(rng):
     return {**made, "steps": steps}
 
 
+def many_ticks(rng):
+    """A site is pumped about as often as it may make ticks, and it makes one by a step."""
+    ticks = rng.choice([0, 1, 100, 100, 2000])
+    steps = [["pump", 0]] * near(rng, ticks + 1) + [["tick", 0], ["stop", 0]] + [["pump", 0]] * 2
+    made = {**of_one([], steps), "link": {"seed": rng.getrandbits(64), "lose": 0, "repeat": 0, "swap": 0}}
+    return made if ticks == 100 else {**made, "ticks": ticks}
+
+
 # The kinds, by seed
 
-AT_LIMIT = [many_open, many_updates, many_bytes, many_ids, long_value, long_frame, full_lane, full_window]
-# Of ten seeds in a row: what is made by each but the first.
+AT_LIMIT = [many_open, many_updates, many_bytes, many_ids, long_value, long_frame, full_lane, full_window, many_ticks]
+# Of so many seeds in a row: what is made by each but the first.
 BY_SEED = [None, "one", "one", *SEVERAL]
 
 
 def scenario(seed):
-    rng, kind = random.Random(seed), BY_SEED[seed % 10]
+    rng, kind = random.Random(seed), BY_SEED[seed % len(BY_SEED)]
     if kind is None:
-        return AT_LIMIT[seed // 10 % len(AT_LIMIT)](rng)
+        return AT_LIMIT[seed // len(BY_SEED) % len(AT_LIMIT)](rng)
     return small(rng) if kind == "one" else several(rng, kind)
