@@ -6,6 +6,8 @@ the least time of five runs of each, and their ratio: about 2 where a call costs
 holds. Then the same of 2,500 and of 5,000 transactions at three sites, each of which reaches every site and is durable and
 visible in the end; these runs' reports are looked at too, and the memory is printed that the 5,000 take. Then one site of
 three commits 5,000 transactions, and 10,000, while its peers hear nothing, and all of them go over as the window lets them.
+Last come the made scenarios of the command `load`, with 2,000, 6,000 and 20,000 calls: of each the least processor time, its
+events, the time that each event took, and this as a ratio to that of the first: about 1 where an event costs the same in all.
 
 With --example it plays nothing, and writes one of the two big examples. Both are made so, and the scripts beside them:
 
@@ -17,7 +19,6 @@ With --example it plays nothing, and writes one of the two big examples. Both ar
 
 import argparse
 import json
-import os
 import re
 import subprocess
 import sys
@@ -26,19 +27,15 @@ import time
 from collections import Counter
 from string import ascii_lowercase
 
+from compare import built
+from measured import events_of, load_words, measured, microseconds
 from model import WINDOW
 
-HERE = os.path.dirname(os.path.abspath(__file__))
 CLIENTS = 10
 SITES = 3
 MOST_BYTES, MOST_ENTRIES = 16_777_216, 100_000
 START, COMMIT = "0000000101", "0000000108"
-# In a small process of its own: what a child took is never told as less than its parent had.
-MEMORY_OF = """
-import resource, subprocess, sys
-subprocess.run(sys.argv[1:], stdout=subprocess.DEVNULL, check=True)
-print(resource.getrusage(resource.RUSAGE_CHILDREN).ru_maxrss)
-"""
+LOADS, SEED, RUNS = (2_000, 6_000, 20_000), 7, 5
 
 
 def write(container, local, value="a"):
@@ -196,21 +193,21 @@ def memory(program, text):
     with tempfile.TemporaryFile("w+") as source:
         source.write(text)
         source.seek(0)
-        measured = subprocess.run([sys.executable, "-c", MEMORY_OF, program, "play"], stdin=source, stdout=subprocess.PIPE,
-                                  check=True)
-    return int(measured.stdout) * 1024 / 1_000_000
+        return measured([program, "play"], source).megabytes
 
 
-def main():
-    parser = argparse.ArgumentParser(description=__doc__, formatter_class=argparse.RawDescriptionHelpFormatter)
-    parser.add_argument("program", nargs="?", default=os.path.join(HERE, "..", "walter"), help="the program; without it "
-                        "./walter of this repository, which proves and builds it where that isn't done yet")
-    parser.add_argument("--example", choices=EXAMPLES, help="write this example, and play nothing")
-    words = parser.parse_args()
-    if words.example:
-        print(EXAMPLES[words.example]())
-        return
-    program = words.program
+def load_lines(program):
+    """A line for each load."""
+    first = None
+    for calls in LOADS:
+        runs = [measured(load_words([program], SEED, calls)) for _ in range(RUNS)]
+        least, events = min(run.seconds for run in runs), events_of(runs[0].written)
+        first = first or least / events
+        told = f"; ratio {least / events / first:.2f}" if calls != LOADS[0] else ""
+        yield f"load of {calls:,} calls: {least:.3f} s; {events:,} events; {microseconds(least, events)}{told}"
+
+
+def play_growing(program):
     fewer, more = (least_time(program, scenario(calls)) for calls in (10_000, 20_000))
     print(f"10,000 calls: {fewer:.3f} s; 20,000 calls: {more:.3f} s; ratio {more / fewer:.2f}")
     fewer, more = (time_of(program, spread(transactions), transactions) for transactions in (2_500, 5_000))
@@ -219,6 +216,23 @@ def main():
     fewer, more = (time_of(program, behind(transactions), transactions) for transactions in (5_000, 10_000))
     print(f"two peers that hear nothing first, 5,000 transactions: {fewer:.3f} s; 10,000 transactions: {more:.3f} s; "
           f"ratio {more / fewer:.2f}")
+
+
+def main():
+    parser = argparse.ArgumentParser(description=__doc__, formatter_class=argparse.RawDescriptionHelpFormatter)
+    parser.add_argument("program", nargs="?", help="the program; without it that of this repository, which ./walter proves "
+                        "and builds first where that isn't done yet")
+    parser.add_argument("--loads", action="store_true", help="play only the made scenarios of the command load")
+    parser.add_argument("--example", choices=EXAMPLES, help="write this example, and play nothing")
+    words = parser.parse_args()
+    if words.example:
+        print(EXAMPLES[words.example]())
+        return
+    program = words.program or built()
+    if not words.loads:
+        play_growing(program)
+    for line in load_lines(program):
+        print(line, flush=True)
 
 
 if __name__ == "__main__":

@@ -83,7 +83,7 @@ class Readme(unittest.TestCase):
     def test_the_commands_of_the_page_of_tools_run(self):
         page = file_text(os.path.join(TOP, "docs", "TOOLS.md"))
         commands = [one for one in COMMAND.findall(page) if "vary" not in one and one != "tools/play examples"]
-        self.assertEqual(len(commands), 4)
+        self.assertEqual(len(commands), 6)
         with tempfile.TemporaryDirectory() as folder:
             with_folders(folder)
             for command in commands:

@@ -1,0 +1,88 @@
+"""What bench/speed.py and bench/growth.py measure of loads, by programs that are scripts here."""
+
+import contextlib
+import io
+import os
+import sys
+import unittest
+from unittest import mock
+
+from played import InFolder, TOP
+import growth
+import measured
+import speed
+
+MODEL = f'#!/bin/sh\nexec {sys.executable} {os.path.join(TOP, "bench", "model.py")} "$@"\n'
+TIME = r"\d+\.\d{3} s, \d+\.\d\d us an event"
+SIDE = rf"least {TIME}; median {TIME}; memory \d+ MB"
+RATIO = r"\d+\.\d\d"
+
+
+def run_speed(*words):
+    """The status or the fault of bench/speed.py, and what it wrote."""
+    out = io.StringIO()
+    with mock.patch.object(sys, "argv", ["speed.py", *words]), contextlib.redirect_stdout(out):
+        try:
+            return speed.main(), out.getvalue()
+        except SystemExit as end:
+            return end.code, out.getvalue()
+
+
+class Speed(InFolder):
+    def program(self, name, text):
+        return self.write(name, text, is_program=True)
+
+    def test_two_programs_are_compared(self):
+        program, words = self.program("one", MODEL), ["--calls", "5", "--seed", "3", "--runs", "2"]
+        status, told = run_speed(program, "--program", program, *words)
+        self.assertIsNone(status)
+        lines = told.splitlines()
+        self.assertEqual(len(lines), 4)
+        for line, wanted in zip(lines, [r"load of seed 3 with 5 calls: 23 events, 2 runs of each in turn",
+                                        f"the program: {SIDE}", f"the other: {SIDE}",
+                                        f"ratio of the least times {RATIO}, of the medians {RATIO}, of the memory {RATIO}"]):
+            self.assertRegex(line, f"^{wanted}$")
+
+    def test_they_run_in_turn_and_the_other_with_its_words(self):
+        log = os.path.join(self.folder, "log")
+        one, other = (self.program(name, f'#!/bin/sh\necho {name} "$@" >> {log}\necho "site 0 up epoch 1 events 4 records 1"\n')
+                      for name in ("one", "other"))
+        status, _ = run_speed(f"{other} --stage 2", "--program", one, "--calls", "9", "--runs", "2")
+        self.assertIsNone(status)
+        with open(log, encoding="utf-8") as file:
+            self.assertEqual(file.read(), "one load --seed 7 --calls 9\nother --stage 2 load --seed 7 --calls 9\n" * 2)
+
+    def test_other_summaries_are_told(self):
+        one, other = (self.program(name, f"#!/bin/sh\necho same\necho {name}\n") for name in ("one", "other"))
+        self.assertEqual(run_speed(other, "--program", one),
+                         ("the two write different summaries\nthe program: one\nthe other: other", ""))
+
+    def test_a_program_that_fails_is_told(self):
+        one = self.program("one", "#!/bin/sh\necho no such load >&2\nexit 5\n")
+        self.assertEqual(run_speed(one, "--program", one), (f"{one} ended with status 5\nno such load", ""))
+        self.assertEqual(run_speed(one, "--program", "/none"), ("/none ended with status 1\nNo such file or directory", ""))
+
+    def test_a_run_is_measured(self):
+        words = [sys.executable, "-c", "print(len(b'x' * 60_000_000) + sum(range(5_000_000)))"]
+        run = measured.measured(words)
+        self.assertEqual(run.written, f"{60_000_000 + sum(range(5_000_000))}\n")
+        self.assertGreater(run.megabytes, 60)
+        self.assertTrue(0.01 < run.seconds < 60)
+
+    def test_a_run_reads_a_file(self):
+        with open(self.write("source", "hello\n"), encoding="utf-8") as source:
+            self.assertEqual(measured.measured(["cat"], source).written, "hello\n")
+
+    def test_events_are_those_of_all_sites(self):
+        self.assertEqual(measured.events_of("load seed 1 calls 1\nsite 0 up epoch 1 events 4 records 1 log 0\n"
+                                            "site 1 down epoch 1 events 30 records 1 log 0\n"), 34)
+
+    def test_loads_grow(self):
+        with mock.patch.object(growth, "LOADS", (5, 10)), mock.patch.object(growth, "RUNS", 1):
+            first, second = growth.load_lines(self.program("one", MODEL))
+        self.assertRegex(first, r"^load of 5 calls: \d\.\d{3} s; 23 events; \d+\.\d\d us an event$")
+        self.assertRegex(second, rf"^load of 10 calls: \d\.\d{{3}} s; 43 events; \d+\.\d\d us an event; ratio {RATIO}$")
+
+
+if __name__ == "__main__":
+    unittest.main()
