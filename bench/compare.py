@@ -45,7 +45,7 @@ VOTES = ["VOTE YES", "VOTE LATER", "VOTE NO modified", "VOTE NO locked", "VOTE N
 # What the model counts while it plays: why a peer is to be asked again, and an ACK of several commits at once.
 RULES = ["LATER before all is received", "LATER over the lock of a cause", "ACK that jumps"]
 DELIVERIES = [f"packet {how}" for how in ("in order", "late", "again", "never", "of no such number")]
-PUMPS = [f"pump {word}" for word in ("restart", "deliver", "advance", "tick", "idle")]
+PUMPS = [f"pump {word}" for word in ("restart", "deliver", "advance", "tick", "idle")] + ["pump advance, where several may be"]
 LINKS = [f"link {choice}" for choice in ("loses", "hands over once", "hands over twice", "swaps")]
 SITES = [f"sites {number}" for number in range(1, 9)]
 AT_LIMITS = {
@@ -172,7 +172,8 @@ def made_from(first, count, several):
 def main():
     parser = argparse.ArgumentParser(description=__doc__, formatter_class=argparse.RawDescriptionHelpFormatter)
     parser.add_argument("--scenarios", type=int, default=1000, metavar="N", help="how many are played; 1000 without it")
-    parser.add_argument("--loads", type=int, default=12, metavar="N", help="how many loads are played behind them; 12 without it")
+    parser.add_argument("--loads", type=int, default=12, metavar="N", help="how many loads are played behind them; 12 without "
+                        "it")
     parser.add_argument("--several", action="store_true", help="play those of two to eight sites alone, and count only these")
     parser.add_argument("--seed", type=int, default=0, metavar="N", help="the seed of the first; 0 without it")
     parser.add_argument("--program", metavar="PATH", help="the program; without it that of this repository, which "

@@ -94,8 +94,8 @@ def arm(rng, site):
 
 def link_of(rng):
     """The link of a scenario and how many ticks its pumps may make, of which one may be absent."""
-    link = {"seed": rng.choice([*SEEDS, rng.getrandbits(64)]), **{rate: rng.choice(RATES) for rate in ("lose", "repeat", "swap")}}
-    made = {"link": link, "ticks": rng.choice([*TICKS, 100, 10_000])}
+    rates = {rate: rng.choice(RATES) for rate in ("lose", "repeat", "swap")}
+    made = {"link": {"seed": rng.choice([*SEEDS, rng.getrandbits(64)]), **rates}, "ticks": rng.choice([*TICKS, 100, 10_000])}
     for key in "link", "ticks":
         if rng.random() < 0.15:
             del made[key]
@@ -243,8 +243,8 @@ class Maker:
         if kind.weights[-1]:
             self.made.update(link_of(rng))
         self.run = model.Run(self.made, Counter())
-        # Up to where each lane has come, in order.
-        self.come = Counter()
+        # Up to where each lane has come, in order; and a site that is pumped seldom, and then many times, if there is one.
+        self.come, self.sleeper = Counter(), rng.choice([None, rng.randrange(self.sites)])
 
     def regular(self):
         """The containers of regular objects: more where there are more sites, so that a slow commit may ask several."""
@@ -325,8 +325,20 @@ class Maker:
         self.take(["arm", here, self.rng.randint(1, 4), self.rng.choice(CHOICES)])
         return ["deliver", here, there, self.come[here, there] + 1]
 
+    def is_busy(self, site):
+        """Whether a pump finds something to do there beside a tick."""
+        inbox, waits = self.run.inboxes[site.me], (len(self.run.sites[k].put_out[site.me]) for k in site.peers)
+        return (not site.up or len(inbox.queue) > 0 or sum(waits) > sum(inbox.taken.values())
+                or any(map(site.is_enabled, site.peers)))
+
     def pump(self):
-        return ["pump", self.rng.randrange(self.sites)]
+        """Mostly where there is something to do."""
+        awake = [site for site in self.run.sites if site.me != self.sleeper]
+        if self.sleeper is not None and self.rng.random() < 0.02:
+            for _ in range(self.rng.randint(1, 40)):
+                self.take(["pump", self.sleeper])
+        busy = list(filter(self.is_busy, awake)) if self.rng.random() < 0.7 else []
+        return ["pump", self.rng.choice(busy or awake).me]
 
     def scenario(self, count):
         for _ in range(count):

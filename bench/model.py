@@ -679,9 +679,10 @@ class Run:
             return "restart",
         if queue:
             return "deliver", *queue.popleft()
-        for k in site.peers:
-            if site.is_enabled(k):
-                return "advance", k
+        enabled = [k for k in site.peers if site.is_enabled(k)]
+        self.met["pump advance, where several may be"] += len(enabled) > 1
+        if enabled:
+            return "advance", enabled[0]
         return ("tick" if self.ticks[site.me] > 0 else "idle"),
 
     def text(self, trace=True):

@@ -17,7 +17,7 @@ import sys
 from compare import built, first_difference
 from measured import events_of, load_words, measured, microseconds
 
-LEAST_RUNS = 7
+RUNS = 7
 
 
 class Side:
@@ -75,7 +75,7 @@ def main():
                         "proves and builds first where that isn't done yet")
     parser.add_argument("--seed", type=int, default=7, metavar="N", help="the seed of the load; 7 without it")
     parser.add_argument("--calls", type=int, default=20_000, metavar="M", help="how many calls it has; 20000 without it")
-    parser.add_argument("--runs", type=int, default=LEAST_RUNS, metavar="K", help=f"how often each runs; {LEAST_RUNS} without it")
+    parser.add_argument("--runs", type=int, default=RUNS, metavar="K", help=f"how often each runs; {RUNS} without it")
     words = parser.parse_args()
     if words.runs < 1:
         parser.error("--runs wants a number from 1")

@@ -37,7 +37,7 @@ REPORT = file_of("crates", "walter", "stdout")
 # The part that is wrong in a step of two sites and one client, the step, and what is said of it.
 STEPS = [
     ("value", "{}", "its value: wants a list"),
-    ("word", '["poll",0]', readings.STEP_TEXTS["word"]),
+    ("word", '["push",0]', readings.STEP_TEXTS["word"]),
     ("length", '["deliver",0,1]', 'its length: wants just ["deliver", site, from, number]'),
     ("client", '["call",1]', "its client: wants a whole number below 1, the number of clients"),
     ("site", '["tick",2]', "its site: wants a whole number below 2, the number of sites"),
@@ -63,9 +63,6 @@ CASES = [
     ("containers out of order", ["play"], scenario(containers='[2,"cset",0],[1,"cset",0]'), None, 2,
      NO_READING + readings.TEXTS["containers"].format(1), ""),
     ("a capacity of 10", ["play"], scenario(more=',"capacity":10'), None, 2, NO_READING + readings.TEXTS["capacity"], ""),
-    ("a link without a seed", ["play"], scenario(more=',"link":{"lose":0,"repeat":0,"swap":0}'), None, 2,
-     NO_READING + readings.TEXTS["link"], ""),
-    ("10,001 ticks", ["play"], scenario(more=',"ticks":10001'), None, 2, NO_READING + readings.TEXTS["ticks"], ""),
     ("an arm of no site", ["play"], scenario(more=',"arms":[[1,1,1]]'), None, 2, NO_READING + readings.TEXTS["arms"].format(0),
      ""),
     *((f"a step with a wrong {part}", ["play"], scenario("2", '[0,""]', steps=f'["tick",0],{step}'), None, 2,

@@ -1,12 +1,29 @@
-"""Of several sites alone, bench/compare.py plays those that their seeds make, and skips the others."""
+"""What bench/compare.py plays: of several sites alone those that their seeds make, without the others; and loads, by a program."""
 
+import contextlib
+import io
+import os
+import sys
 import unittest
+from unittest import mock
 
-from played import random_scenario
+from played import InFolder, TOP, random_scenario
 import compare
 
+MODEL = f'#!/bin/sh\nexec {sys.executable} {os.path.join(TOP, "bench", "model.py")} "$@"\n'
 
-class Compare(unittest.TestCase):
+
+def run_compare(*words):
+    """The status or the fault of bench/compare.py, and the last line that it wrote."""
+    out = io.StringIO()
+    with mock.patch.object(sys, "argv", ["compare.py", *words]), contextlib.redirect_stdout(out):
+        try:
+            return compare.main(), out.getvalue().splitlines()[-1]
+        except SystemExit as end:
+            return end.code, out.getvalue()
+
+
+class Compare(InFolder):
     def test_of_several_sites_alone(self):
         made = list(compare.made_from(3, 30, True))
         self.assertEqual(len(made), 30)
@@ -15,6 +32,19 @@ class Compare(unittest.TestCase):
 
     def test_of_any_number_of_sites(self):
         self.assertEqual(list(compare.made_from(3, 5, False)), [(seed, random_scenario(seed)) for seed in range(3, 8)])
+
+    def test_loads_are_played_by_the_program(self):
+        program = self.write("program", MODEL, is_program=True)
+        self.assertEqual(run_compare("--program", program, "--scenarios", "0", "--loads", "4"),
+                         (None, "0 scenarios from seed 0 and 4 loads: the same"))
+        self.assertEqual(run_compare("--model", "--scenarios", "2", "--loads", "0"),
+                         (None, "2 scenarios from seed 0: played by the model"))
+
+    def test_a_load_that_differs_is_told(self):
+        program = self.write("program", MODEL.replace('"$@"', '"$@" | sed s/records/recorded/'), is_program=True)
+        status, told = run_compare("--program", program, "--scenarios", "0", "--loads", "1")
+        self.assertRegex(status, r"^load of seed \d+ with \d+ calls, status 0\nplayed: site 0 .* recorded .*\nmodel:  site 0 .* records ")
+        self.assertEqual(told, "")
 
 
 if __name__ == "__main__":
