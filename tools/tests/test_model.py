@@ -16,6 +16,7 @@ import statuses
 
 MODEL = [sys.executable, os.path.join(TOP, "bench", "model.py")]
 RIGHT = {"sites": 2, "f": 0, "containers": [[1, "regular", 0]], "clients": [[0, "00"], [1, ""]], "steps": []}
+LINK = {"seed": 1, "lose": 0, "repeat": 0, "swap": 0}
 NO_JSON, JSON = "the text is no JSON: ", readings.TEXTS["json"]
 
 # What the program says of these bytes, as it was told by it.
@@ -48,6 +49,10 @@ PLACES = [
     ("clients", [[0, ""]] * 1024 + [[1, ""]], None), ("clients", [[1, ""]] * 3 + [[0, ""]] * 1025, "clients", 1027),
     ("clients", [[0, "0 0"]], "clients", 0), ("capacity", 18, "capacity"), ("capacity", 19, None),
     ("capacity", 1099511627776, None), ("capacity", 1099511627777, "capacity"), ("capacity", None, "capacity"),
+    ("link", LINK, None), ("link", {**LINK, "seed": 2**64 - 1, "lose": 1000}, None), ("link", [], "link"),
+    ("link", {**LINK, "seed": 2**64}, "link"), ("link", {**LINK, "swap": 1001}, "link"), ("link", {**LINK, "repeat": -1}, "link"),
+    ("link", {**LINK, "ticks": 1}, "link"), ("link", {"seed": 1, "lose": 1, "repeat": 1}, "link"), ("link", None, "link"),
+    ("ticks", 0, None), ("ticks", 10000, None), ("ticks", 10001, "ticks"), ("ticks", None, "ticks"),
     ("arms", 5, "arms", 0), ("arms", [], None), ("arms", [[0, 0, 0]], "arms", 0), ("arms", [[0, 1000001, 0]], "arms", 0),
     ("arms", [[0, 1000000, 2**64 - 1]], None), ("arms", [[0, 1, 1], [0, 1, 2**64]], "arms", 1),
     ("steps", [["deliver", 0, 1, 4294967295], ["arm", 1, 1000000, 2**64 - 1]], None),
@@ -67,6 +72,7 @@ STEPS = [
     (["advance", 9, 9, 9], 'its length: wants just ["advance", site, from]'),
     (["tick", 0, 1], 'its length: wants just ["tick", site]'), (["stop"], 'its length: wants just ["stop", site]'),
     (["restart", 0, 0, 0, 0], 'its length: wants just ["restart", site]'),
+    (["pump"], 'its length: wants just ["pump", site]'), (["pump", 2], SITE),
     (["arm", 0, 1], 'its length: wants just ["arm", site, nth, choice]'),
     (["call", 2], CLIENT), (["call", "0"], CLIENT), (["call", 4294967296], CLIENT), (["tick", 2], SITE), (["stop", True], SITE),
     (["restart", -1], SITE), (["advance", 2, 2], SITE), (["deliver", 256, 1, 0], SITE), (["arm", 1.0, 0, -1], SITE),
