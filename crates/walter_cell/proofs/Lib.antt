@@ -7,4 +7,4 @@ pub mod Written
 pub mod Taken
 pub mod Turns
 pub mod Meeting
-pub mod Pumping
+pub mod Works

@@ -1,6 +1,7 @@
 //! What a site does that is pumped: all that has arrived is taken, as the link chooses; then comes the packet in front, or
 //! the next commit of a peer, or a tick.
-ghost use Rattle.std.specs.Prelude.{◌≡◌, ◌<◌, ◌∷◌, [], None, List, true, drop, length, slice_get, Some, IfOk, OnErr, OnOk};
+ghost use Rattle.std.specs.Prelude.{◌≡◌, ◌<◌, ◌≤◌, ◌∷◌, [], None, List, true, drop, length, slice_get, Some, IfOk, OnErr, OnOk};
+ghost use Rattle.walter_base.specs.Vectors.{most_sites};
 ghost use Rattle.walter_cell.specs.Cells.{HasSameTrail, Proceeds};
 ghost use Rattle.walter_cell.specs.Pumps.{IsLeastAt, Pumps, WorksAt, acted_so, counts_in};
 ghost use Rattle.walter_link.specs.Pumps.{HasTaken, KeepsPump, take_arrived};
@@ -17,6 +18,7 @@ impl<D: Disk + Drop, S: Source + Drop, K: Sink + Drop> Cell<D, S, K> {
     /// The site, which is up, does the first of these that can be done: the packet in front is delivered, and leaves; the
     /// least peer's next commit is committed; a tick is made, while any are left.
     pub fn pump_arrived(&mut self, alloc: Global, pump: &mut Pump) -> Mem<Pumped>
+        requires few { length self.old.ins ≤ most_sites }
         requires site { pump.old.site ≡ self.old.node.site }
         requires senders { length pump.old.senders ≡ length self.old.ins }
         ensures proceeds { Proceeds D.Disk self.old self.new }
@@ -36,6 +38,7 @@ impl<D: Disk + Drop, S: Source + Drop, K: Sink + Drop> Cell<D, S, K> {
 
     // Takes all that has arrived, of one sender after another.
     fn take_arrived(&self, pump: &mut Pump) -> Mem<()>
+        requires few { length self.now.ins ≤ most_sites }
         requires site { pump.old.site ≡ self.now.node.site }
         requires senders { length pump.old.senders ≡ length self.now.ins }
         ensures taken { OnOk result

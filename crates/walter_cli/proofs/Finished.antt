@@ -17,7 +17,7 @@ use Rattle.walter_disk.specs.declared.disk.Disk.{Ghosts}
 use Rattle.walter_engine.specs.Begins.{HasNoRecord}
 use Rattle.walter_linked.specs.Catalogs.{IsWhole}
 use Rattle.walter_machine.specs.Comings.{is_faulty}
-use Rattle.walter_play.specs.Scripts.{Plays, ArmsMore, AreArmed, arms_for, arms_of, all_arms, all_steps}
+use Rattle.walter_play.specs.Scripts.{Plays, EndsPlay, new_pumps, ArmsMore, AreArmed, arms_for, arms_of, all_arms, all_steps}
 use Rattle.walter_play.proofs.Arming.{for_more, all_armed}
 use Rattle.walter_play.proofs.Steps.{plays_told}
 use Rattle.walter_rules.specs.declared.entry.Entry.{Entry}
@@ -183,9 +183,9 @@ module _ {D : Type 0} (g : Ghosts D) (t : Scenario) (before mid after : RackAt D
   }
 
   -- the steps arm so
-  armed_by_play : Plays (λ i. IsToldAt g i built) t (all_steps t) (moment_of g built.cells) (moment_of g bench.cells)
+  armed_by_play : EndsPlay (λ i. IsToldAt g i built) t (moment_of g built.cells) (moment_of g bench.cells)
       → AreArmed (moment_of g built.cells) (moment_of g bench.cells) (t.arms ++ arms_of t.steps)
-  armed_by_play plays = all_armed (λ i. IsToldAt g i built) t _ _ plays
+  armed_by_play plays = all_armed (λ i. IsToldAt g i built) t _ _ plays.1
 
   pub run_is : IsWhole t.catalog → IsRun rack t trails
   run_is whole = record {
@@ -214,14 +214,14 @@ module _ {D : Type 0} (g : Ghosts D) (t : Scenario) (before mid after : RackAt D
 
   -- where it was driven to its end
   pub whole_is : IsWhole t.catalog
-      → Plays (λ i. IsToldAt g i built) t (all_steps t) (moment_of g built.cells) (moment_of g bench.cells)
+      → EndsPlay (λ i. IsToldAt g i built) t (moment_of g built.cells) (moment_of g bench.cells)
       → IsWholeRun rack t trails (arms_at g bench.cells)
   whole_is whole plays = record {
     run = run_is whole;
     how_driven = record {
-      first = moment_of g built.cells;
-      last = moment_of g bench.cells;
-      begins = has.first;
+      first = record { moment = moment_of g built.cells; pumps = new_pumps t };
+      last = record { moment = moment_of g bench.cells; pumps = plays.0 };
+      begins = record { moment = has.first; pumps = refl };
       plays = plays_below;
       ends = sym trails_are;
       arms_are = λ i. refl;
@@ -238,11 +238,12 @@ module _ {D : Type 0} (g : Ghosts D) (t : Scenario) (before mid after : RackAt D
           let was = taken_at i below in
           has.told i was.0 was.1 (told_reads g before.disks i was.0 (has.taken.told i was.0 was.1) told) cell at
 
-      plays_below : Plays (λ i. IsTold rack i) t (all_steps t) (moment_of g built.cells) (moment_of g bench.cells)
-      plays_below = plays_told (λ i. IsToldAt g i built) (λ i. IsTold rack i) t (all_steps t) _ _ told_built plays
+      plays_below : Plays (λ i. IsTold rack i) t (all_steps t) (record { moment = moment_of g built.cells; pumps = new_pumps t })
+          (record { moment = moment_of g bench.cells; pumps = plays.0 })
+      plays_below = plays_told (λ i. IsToldAt g i built) (λ i. IsTold rack i) t (all_steps t) _ _ told_built plays.1
 
   -- and all disks were given back
-  pub whole_back : Plays (λ i. IsToldAt g i built) t (all_steps t) (moment_of g built.cells) (moment_of g bench.cells)
+  pub whole_back : EndsPlay (λ i. IsToldAt g i built) t (moment_of g built.cells) (moment_of g bench.cells)
       → after.faults ≡ mid.faults
       → rack.all t.catalog.sites (λ i. IsDiskOfWhole rack t trails (arms_at g bench.cells) i)
   whole_back plays same =

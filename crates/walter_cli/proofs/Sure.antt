@@ -88,7 +88,7 @@ module _ (words : List (String Global)) {D : Type 0} (g : Ghosts D) (first last 
         | inr runs ↦
             let l = ap length (sym early.0) in
             let one = runs.run.one_each in
-            let some = runs.reading.has_arms.has_capacity.has_clients.has_containers.has_tolerated.has_sites.some in
+            let some = runs.reading.has_arms.has_ticks.has_link.has_capacity.has_clients.has_containers.has_tolerated.has_sites.some in
             omega (arith, l, one, some)
       ]
 

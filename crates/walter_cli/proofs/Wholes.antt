@@ -8,5 +8,5 @@ use Rattle.walter_scenario.specs.Scenarios.{IsReading}
 pub reading_whole : (bytes : List ℕ) (s : Scenario) → IsReading bytes s → IsWhole s.catalog
 reading_whole bytes s reading =
     right_whole s.catalog reading.declared
-    reading.has_arms.has_capacity.has_clients.has_containers.are.right
+    reading.has_arms.has_ticks.has_link.has_capacity.has_clients.has_containers.are.right
     reading.containers

@@ -12,11 +12,21 @@ use Rattle.walter_base.specs.declared.packet.Packet.{Packet}
 use Rattle.walter_base.specs.Names.{same_site}
 use Rattle.walter_cell.specs.declared.answers.Moved.{Moved}
 use Rattle.walter_cell.specs.declared.answers.Moved.TheVariants as moved
-use Rattle.walter_cell.specs.Cells.{CellValue, MovesTo, arrival}
+use Rattle.walter_cell.specs.declared.answers.Acted.{Acted}
+use Rattle.walter_cell.specs.declared.answers.Pumped.{Pumped}
+use Rattle.walter_cell.proofs.Works.{works_so}
+use Rattle.walter_cell.specs.Pumps.{Works, WorksAt, IsLeastAt, counts_in}
+use Rattle.walter_link.specs.Pumps.{PumpValue, HasTaken, KeepsPump, take_arrived, taken_from}
+use Rattle.walter_link.specs.declared.pump.Waiting.{Waiting}
+use Rattle.walter_rules.specs.Deliveries.{IsLeastEnabled}
+use Rattle.walter_rules.specs.declared.event.Event.{Event}
+use Rattle.walter_rules.specs.Standing.{Standing}
+use Rattle.walter_cluster.specs.Pumps.{IsPumpAt, PumpsAt, standing_at, works}
+use Rattle.walter_cell.specs.Cells.{CellValue, Acts, MovesTo, arrival}
 use Rattle.walter_cell.specs.Cells as cell
 use Rattle.walter_cell.specs.Entries.{Grows, HasPlace, IsSpent}
 use Rattle.walter_machine.specs.Comings.{IsSized}
-use Rattle.walter_cell.specs.Nodes.{NodeValue, MayDrop, clock_in, is_told}
+use Rattle.walter_cell.specs.Nodes.{NodeValue, MayDrop, clock_in, is_told, standing_of}
 use Rattle.walter_disk.specs.declared.disk.Disk.{Ghosts}
 use Rattle.walter_lane.specs.Lanes.{Receiving}
 use Rattle.walter_lane.specs.declared.posted.Posted.{Posted}
@@ -30,13 +40,13 @@ use Rattle.walter_rules.specs.declared.event.Input.TheVariants.{Deliver}
 use Rattle.walter_rules.specs.Knowledge.{site_at}
 use Rattle.walter_rules.specs.Merges.{Stamped, sent_to, put_out_to, trail_of}
 use Rattle.walter_rules.specs.Sending.{Send}
-use Rattle.walter_rules.specs.Trails.{clock}
+use Rattle.walter_rules.specs.Trails.{clock, standing}
 use Rattle.walter_rules.proofs.Membership.{given_from}
 use Rattle.walter_cluster.specs.Benches.{IsBench, Keeps, trails_of}
 use Rattle.walter_cluster.specs.Meetings.{arrived_at, HaveAllMet, HaveStayed, HasArrived, IsAsBefore}
 use Rattle.walter_cluster.specs.Moments.{moment_of, clock_at, KeepsArms, ChangesAt, AllArrive, put_out_as, HandsOver, MovesAt, DropsAt, Drops, arrives as moves_after}
 use Rattle.walter_cluster.proofs.Changes.{there_is, field_at, field_past, ChangesOne}
-use Rattle.walter_cluster.proofs.Keeping.{ins_long, each_on, each_one}
+use Rattle.walter_cluster.proofs.Keeping.{ins_long, each_on, each_one, more_arrived}
 use Rattle.walter_cluster.proofs.Meetings.{trails_stay, arms_stay, each_stays}
 use Rattle.walter_cluster.proofs.Benches.{changes_at, none_arrive, all_met_kept, arms_kept, trail_was, trail_now, drops_at}
 
@@ -90,6 +100,14 @@ hands_over sites from number (Some st) last old new moved.Did own moves =
     let same = same_packet sites st.1 moves.1.1 (own st refl) spelled (ap (λ (p : Posted). p.framed.bytes) there ∙ framed.bytes) in
     (moves.0, (st, refl, subst (λ (p : Packet). Grows (Given (Deliver from number p)) old new) (sym same) moves.1.4))
 
+-- a packet of a number that was put out is there
+put_there : (trails : List (List Entry)) (to from : SiteId) (number : ℕ) → 1 ≤ number
+    → number ≤ length (put_out_to to (trail_of trails from)) → put_out_as trails to from number ≡ None → ⊥
+put_there trails to from zero first most none = absurd (omega (arith, first))
+put_there trails to from (suc before) first most none =
+    let there = there_is (put_out_to to (trail_of trails from)) before (omega (arith, most)) in
+    let e : Some there.0 ≡ None = sym there.1 ∙ none in absurd cc
+
 module _ {D : Type 0} (g : Ghosts D) (homes : List SiteId)
     (old mid : List (CellValue D)) (stay : HaveStayed old mid) (is : IsBench (record { cells = old; homes = homes })) (to : SiteId)
     (below : to.0 < length old)
@@ -142,11 +160,11 @@ module _ {D : Type 0} (g : Ghosts D) (homes : List SiteId)
     clock_on = ap (λ es. clock (reverse es)) trail_on
 
     -- the delivery of a packet from another site
-    pub moves_at : (from : SiteId) (number : ℕ) (answer : Moved) → from ≢ to → from.0 < length old
-        → HasPlace (clock_at (moment_of g old) to + 1) (trail_of (trails_of old) to)
+    hands_at : (from : SiteId) (number : ℕ) (answer : Moved) → from ≢ to → from.0 < length old
         → MovesTo from number (arrival a.ins from number) (length a.ins) (clock_in a.node) a.node.trail x.node.trail answer
-        → MovesAt to from number (moment_of g old) (moment_of g new) answer
-    moves_at from number answer apart within place moves =
+        → HandsOver from number (put_out_as (trails_of old) to from number) (clock_at (moment_of g old) to) (trail_of (trails_of old) to)
+        (trail_of (trails_of new) to) answer
+    hands_at from number answer apart within moves =
         let all = arrives from.0 within (λ e. apart (ap site_at e)) in
         let put = put_out_as (trails_of old) to from number in
         let here = ap (λ (is : List Receiving). arrived_from is from.0)
@@ -156,10 +174,114 @@ module _ {D : Type 0} (g : Ghosts D) (homes : List SiteId)
         (subst (λ (p : Option Posted). MovesTo from number p (length a.ins) (clock_in a.node) a.node.trail x.node.trail answer) arrival_here moves) in
         let hands = hands_over (length old) from number put (clock_in a.node) a.node.trail x.node.trail answer
         (λ st at. put_as_spelled (length old) (trails_of old) to from number st all.sized at) told in
-        moves_after answer place all_arrive changes_on
-        (subst (λ n. HandsOver from number put n (trail_of (trails_of old) to) (trail_of (trails_of new) to) answer) (sym clock_on)
+        subst (λ n. HandsOver from number put n (trail_of (trails_of old) to) (trail_of (trails_of new) to) answer) (sym clock_on)
         (subst (λ es. HandsOver from number put (clock_in a.node) es (trail_of (trails_of new) to) answer) (sym trail_on)
-        (subst (λ es. HandsOver from number put (clock_in a.node) a.node.trail es answer) (sym (trail_now g mid new to a x one)) hands)))
+        (subst (λ es. HandsOver from number put (clock_in a.node) a.node.trail es answer) (sym (trail_now g mid new to a x one)) hands))
+
+    pub moves_at : (from : SiteId) (number : ℕ) (answer : Moved) → from ≢ to → from.0 < length old
+        → HasPlace (clock_at (moment_of g old) to + 1) (trail_of (trails_of old) to)
+        → MovesTo from number (arrival a.ins from number) (length a.ins) (clock_in a.node) a.node.trail x.node.trail answer
+        → MovesAt to from number (moment_of g old) (moment_of g new) answer
+    moves_at from number answer apart within place moves =
+        moves_after answer place all_arrive changes_on (hands_at from number answer apart within moves)
+
+    -- ---- what is done by a pump
+
+    -- so many packets have arrived there
+    counts_now : (moment_of g new).arrived to.0 ≡ counts_in a.ins
+    counts_now = ap counts_in (field_at (λ (c : CellValue D). c.ins) new to.0 x [] one.now ∙ proceeds.ins)
+
+    count_put : (from : SiteId) → from.0 < length old → from ≢ to → counts_in a.ins from.0 ≡ length (put_out_to to (trail_of (trails_of old) from))
+    count_put from within apart =
+        ap (λ (is : List Receiving). length (arrived_from is from.0)) (sym (field_at (λ (c : CellValue D). c.ins) mid to.0 a [] one.was))
+        ∙ (ap (λ (l : List Posted). length l) (arrives from.0 within (λ e. apart (ap site_at e))).all
+        ∙ length-map (put_out_to to (trail_of (trails_of old) from)) (posted (length old)))
+
+    -- no more was taken than had arrived
+    taken_before : (before : PumpValue) → IsPumpAt old to before → (from : ℕ) → taken_from before from ≤ counts_in a.ins from
+    taken_before before is_pump from =
+        let most = is_pump.taken from in
+        let more = more_arrived g old mid (each_stays old mid stay g) to.0 from in
+        let now = ap (λ (is : List Receiving). length (arrived_from is from)) (field_at (λ (c : CellValue D). c.ins) mid to.0 a [] one.was) in
+        omega (arith, most, more, now)
+
+    -- a packet that was taken is there
+    never_missing : (pump : PumpValue) (first : Waiting) (answer : Moved) → HasTaken pump first → pump.site ≡ to → length pump.senders ≡ length old
+        → taken_from pump first.from.0 ≤ counts_in a.ins first.from.0
+        → HandsOver first.from first.number (put_out_as (trails_of old) to first.from first.number) (clock_at (moment_of g old) to)
+        (trail_of (trails_of old) to) (trail_of (trails_of new) to) answer
+        → answer ≢ moved.Nothing
+    never_missing pump first answer taken site many most hands is =
+        let within : first.from.0 < length old = (let t = taken.there in omega (arith, t, many)) in
+        let apart : first.from ≢ to = λ e. taken.apart (e ∙ sym site) in
+        let count = count_put first.from within apart in
+        let below = taken.taken in
+        let first_one = taken.first in
+        let none = subst (λ (z : Moved). HandsOver first.from first.number (put_out_as (trails_of old) to first.from first.number) (clock_at (moment_of g old) to)
+        (trail_of (trails_of old) to) (trail_of (trails_of new) to) z) is hands in
+        put_there (trails_of old) to first.from first.number (omega (arith, first_one)) (omega (arith, below, most, count)) none.1
+
+    acts_on : (happens : Event) (acted : Acted) → Acts happens (clock_in a.node) a.node.trail x.node.trail acted
+        → Acts happens (clock_at (moment_of g old) to) (trail_of (trails_of old) to) (trail_of (trails_of new) to) acted
+    acts_on happens acted acts =
+        subst (λ n. Acts happens n (trail_of (trails_of old) to) (trail_of (trails_of new) to) acted) (sym clock_on)
+        (subst (λ es. Acts happens (clock_in a.node) es (trail_of (trails_of new) to) acted) (sym trail_on)
+        (subst (λ es. Acts happens (clock_in a.node) a.node.trail es acted) (sym (trail_now g mid new to a x one)) acts))
+
+    module _ (c : CellValue D) (at : slice_get old to.0 ≡ Some c) where
+      node_was : a.node ≡ record c.node { outs = a.node.outs }
+      node_was = (stay.each to.0 c a at one.was).node
+
+      pub site_was : a.node.site ≡ to
+      site_was = ap (λ (n : NodeValue D). n.site) node_was ∙ (is.cells to.0 c at).site
+
+      -- how the site stands
+      stands_at : standing_of c.node ≡ standing_at c.node.catalog to (moment_of g old)
+      stands_at =
+          ap (λ (i : SiteId). standing c.node.catalog i (reverse c.node.trail)) (is.cells to.0 c at).site
+          ∙ ap (λ es. standing c.node.catalog to (reverse es)) (sym (field_at (λ (c : CellValue D). c.node.trail) old to.0 c [] at))
+
+      least_at : (least : Option SiteId) → IsLeastAt g a least → is_told g c.node.disk ≡ true
+          → (standing_at c.node.catalog to (moment_of g old)).up ≡ true
+          → IsLeastEnabled c.node.catalog to (standing_at c.node.catalog to (moment_of g old)).knows least
+      least_at least is_least told up =
+          let there = subst (λ (n : NodeValue D). is_told g n.disk ≡ true → (standing_of n).up ≡ true
+          → IsLeastEnabled n.catalog n.site (standing_of n).knows least) node_was is_least in
+          subst (λ (S : Standing). IsLeastEnabled c.node.catalog to S.knows least) stands_at
+          (subst (λ (i : SiteId). IsLeastEnabled c.node.catalog i (standing_of c.node).knows least) (is.cells to.0 c at).site
+          (there told (ap (λ (S : Standing). S.up) stands_at ∙ up)))
+
+      pub pumps_at : (before after : PumpValue) (answer : Pumped) → IsPumpAt old to before
+          → KeepsPump (counts_in a.ins) before (take_arrived a.node.site (counts_in a.ins) before)
+          → HasPlace (clock_at (moment_of g old) to + 1) (trail_of (trails_of old) to)
+          → (is_told g c.node.disk ≡ true → (standing_of c.node).up ≡ true)
+          → WorksAt g a x (take_arrived a.node.site (counts_in a.ins) before) after answer
+          → PumpsAt (is_told g c.node.disk ≡ true) c.node.catalog to (moment_of g old) (moment_of g new) before after answer
+      pumps_at before after answer is_pump keeps place up does =
+          let stands : is_told g c.node.disk ≡ true → (standing_at c.node.catalog to (moment_of g old)).up ≡ true =
+          λ told. ap (λ (S : Standing). S.up) (sym stands_at) ∙ up told in
+          let same : take_arrived a.node.site (counts_in a.ins) before ≡ take_arrived to ((moment_of g new).arrived to.0) before =
+          ap (λ (i : SiteId). take_arrived i (counts_in a.ins) before) site_was ∙ ap (λ (f : ℕ → ℕ). take_arrived to f before) (sym counts_now) in
+          let pump = take_arrived a.node.site (counts_in a.ins) before in
+          works place stands all_arrive changes_on
+          (subst (λ (p : PumpValue). Works (λ from number move. (move ≢ moved.Nothing) × HandsOver from number (put_out_as (trails_of old) to from number)
+          (clock_at (moment_of g old) to) (trail_of (trails_of old) to) (trail_of (trails_of new) to) move)
+          (λ happens acted. Acts happens (clock_at (moment_of g old) to) (trail_of (trails_of old) to) (trail_of (trails_of new) to) acted)
+          (trail_of (trails_of new) to ≡ trail_of (trails_of old) to)
+          (λ least. is_told g c.node.disk ≡ true → IsLeastEnabled c.node.catalog to (standing_at c.node.catalog to (moment_of g old)).knows least) p after answer) same
+          (works_so _ _ _ _ _ _ _ _ pump after answer
+          (λ first moved taken moves.
+          let many : length pump.senders ≡ length old = keeps.senders ∙ is_pump.senders in
+          let site : pump.site ≡ to = keeps.site ∙ is_pump.site in
+          let within : first.from.0 < length old = (let t = taken.there in omega (arith, t, many)) in
+          let apart : first.from ≢ to = λ e. taken.apart (e ∙ sym site) in
+          let hands = hands_at first.from first.number moved apart within moves in
+          let most = keeps.taken first.from.0 (taken_before before is_pump first.from.0) in
+          (never_missing pump first moved taken site many most hands, hands))
+          acts_on
+          (λ still. trail_now g mid new to a x one ∙ (still ∙ sym trail_on))
+          (λ least is_least told. least_at least is_least told (stands told))
+          does))
 
     -- what had been put for each site when the ends last met is what had arrived there before
     pub drops_on : (catalog : Catalog) → HaveAllMet mid

@@ -1,8 +1,8 @@
 -- What calls of cells and of benches keep, and what follows of it.
-use Rattle.std.proofs.Common.{◌≡◌, ℕ, ◌<◌, List, [], length, map, slice_get, refl, ap, sym, ◌∙◌, subst, arith, Option, Some, true, inl, inr}
+use Rattle.std.proofs.Common.{◌≡◌, ℕ, ◌<◌, ◌≤◌, List, [], length, map, slice_get, refl, ap, sym, ◌∙◌, subst, arith, Option, Some, true, inl, inr}
 use Rattle.std.specs.Prelude.{slice_index_or, All, Vec}
 use Rattle.std.specs.declared.alloc.Global.{Global}
-use Rattle.std.proofs.lemmas.Bool.{cases_eq}
+use Rattle.std.proofs.lemmas.Bool.{cases_eq, cases_lt}
 use Rattle.std.proofs.lemmas.List.{length-map}
 use Rattle.std.proofs.lemmas.List.Elements.{All-contains}
 use Rattle.std.proofs.lemmas.Option.{slice_get_within}
@@ -13,14 +13,16 @@ use Rattle.walter_cell.specs.Cells as cell
 use Rattle.walter_disk.specs.declared.disk.Disk.{Ghosts}
 use Rattle.walter_lane.specs.Lanes.{Sending, Receiving}
 use Rattle.walter_lane.specs.Rings.{Ring}
-use Rattle.walter_outbox.specs.Lanes.{ring_to, ring_from, no_ring, out_rings, in_rings}
+use Rattle.walter_outbox.specs.Lanes.{arrived_from, ring_to, ring_from, no_ring, out_rings, in_rings}
 use Rattle.walter_psi.proofs.Lists.{contains_at}
 use Rattle.walter_rules.specs.Knowledge.{site_at}
 use Rattle.walter_scenario.specs.declared.scenario.Scenario.{Scenario}
 use Rattle.walter_cluster.specs.Benches.{BenchValue, IsCellAt, IsBench, IsOf, AreConnected, AreAnswered, AreAllConnected, AreAllAnswered, AtEach, EachKeeps, Keeps, IsToldAt, HasRoom, outs_at, ins_at, is_site, is_home}
 use Rattle.walter_cluster.specs.Meetings.{HaveLanes}
+use Rattle.walter_cluster.specs.Pumps.{IsPumpAt}
+use Rattle.walter_link.specs.Pumps.{PumpValue}
 use Rattle.walter_cluster.proofs.Becoming.{become_self, become_on, become_same}
-use Rattle.walter_cluster.proofs.Changes.{there_is, one_there, field_at, ChangesOne}
+use Rattle.walter_cluster.proofs.Changes.{there_is, one_there, field_at, field_past, ChangesOne}
 
 -- as many ends, by their rings
 pub outs_long : (a b : List Sending) → out_rings a ≡ out_rings b → length a ≡ length b
@@ -46,6 +48,7 @@ module _ {D : Type 0} (g : Ghosts D) where
   keeps_self c = record {
     node = record { catalog = refl; site = refl; capacity = refl; told = refl; rings = refl };
     ins = refl;
+    more = λ from. omega arith;
     here = λ client. refl;
     connected = λ client bytes is. is;
     answered = λ client first are. are;
@@ -61,6 +64,7 @@ module _ {D : Type 0} (g : Ghosts D) where
       rings = second.node.rings ∙ first.node.rings;
     };
     ins = second.ins ∙ first.ins;
+    more = λ from. let a = first.more from in let b = second.more from in omega (arith, a, b);
     here = λ client. second.here client ∙ first.here client;
     connected = λ client bytes is. second.connected client bytes (first.connected client bytes is);
     answered = λ client before are. second.answered client before (first.answered client before are);
@@ -108,6 +112,30 @@ module _ {D : Type 0} (g : Ghosts D) where
     ins_ring to from =
         become_same (cell.Keeps g) old new all (λ (c : CellValue D). c.ins) (λ (is : List Receiving). ring_from is from) []
         (λ a b is. ap (λ (rs : List Ring). slice_index_or rs from no_ring) is.ins) to
+
+    -- no fewer packets have arrived
+    pub more_arrived : (to from : ℕ) → length (arrived_from (ins_at old to) from) ≤ length (arrived_from (ins_at new to) from)
+    more_arrived to from = elim (cases_lt to (length old)) [
+      | inl within ↦
+          let l = all.long in
+          let a = there_is old to within in
+          let b = there_is new to (omega (arith, within, l)) in
+          let more = (all.each to a.0 b.0 a.1 b.1).more from in
+          let was = ap (λ (is : List Receiving). length (arrived_from is from)) (field_at (λ (c : CellValue D). c.ins) old to a.0 [] a.1) in
+          let now = ap (λ (is : List Receiving). length (arrived_from is from)) (field_at (λ (c : CellValue D). c.ins) new to b.0 [] b.1) in
+          omega (arith, more, was, now)
+      | inr past ↦
+          let none = ap (λ (is : List Receiving). length (arrived_from is from)) (field_past (λ (c : CellValue D). c.ins) old to [] past) in
+          omega (arith, none)
+    ]
+
+    -- a pump goes on
+    pub pump_kept : (i : SiteId) (pump : PumpValue) → IsPumpAt old i pump → IsPumpAt new i pump
+    pump_kept i pump is = record {
+      site = is.site;
+      senders = is.senders ∙ sym all.long;
+      taken = λ from. let most = is.taken from in let more = more_arrived i.0 from in omega (arith, most, more);
+    }
 
     -- the cells are those of a bench
     pub bench_kept : (homes : List SiteId) → IsBench (record { cells = old; homes = homes }) → IsBench (record { cells = new; homes = homes })

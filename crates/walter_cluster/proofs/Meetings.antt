@@ -29,7 +29,7 @@ module _ {D : Type 0} where
   -- ---- one cell
 
   pub stayed_self : (c : CellValue D) → HasStayed c c
-  stayed_self c = record { node = refl; lines = refl; outs = refl; ins = refl; sends = λ to. refl }
+  stayed_self c = record { node = refl; lines = refl; outs = refl; ins = refl; more = λ from. omega arith; sends = λ to. refl }
 
   pub stayed_on : (a b c : CellValue D) → HasStayed a b → HasStayed b c → HasStayed a c
   stayed_on a b c first second = record {
@@ -37,6 +37,7 @@ module _ {D : Type 0} where
     lines = second.lines ∙ first.lines;
     outs = second.outs ∙ first.outs;
     ins = second.ins ∙ first.ins;
+    more = λ from. let a = first.more from in let b = second.more from in omega (arith, a, b);
     sends = λ to. second.sends to ∙ first.sends to;
   }
 
@@ -51,6 +52,7 @@ module _ {D : Type 0} where
       rings = stay.outs;
     };
     ins = stay.ins;
+    more = stay.more;
     here = λ client. ap (λ ls. is_here ls client) stay.lines;
     connected = λ client bytes is.
         subst (λ (es : List Entry). IsLineAt bytes (calls_of client es) b.lines client) (sym (ap (λ (n : NodeValue D). n.trail) stay.node))
@@ -146,6 +148,7 @@ module _ {D : Type 0} where
     lines = met.lines;
     outs = keeps.node.rings;
     ins = keeps.ins;
+    more = keeps.more;
     sends = λ k. ap (λ (n : NodeValue D). put_to n.outs k) met.node;
   }
 
@@ -155,6 +158,7 @@ module _ {D : Type 0} where
     lines = met.sender_lines;
     outs = keeps.node.rings;
     ins = keeps.ins;
+    more = keeps.more;
     sends = met.put;
   }
 

@@ -1,5 +1,5 @@
 -- What meetings of lanes' ends leave of the cells of all sites, and what they bring.
-use Rattle.std.specs.Prelude.{◌≡◌, ◌<◌, ℕ, List, length, map, slice_get, Some, All}
+use Rattle.std.specs.Prelude.{◌≡◌, ◌≢◌, ◌<◌, ◌≤◌, ◌⊎◌, ℕ, List, length, map, slice_get, Some, All}
 use mathlib.Core.List.{IsPrefix}
 use Rattle.walter_cell.specs.Cells.{CellValue}
 use Rattle.walter_machine.specs.Comings.{IsSized}
@@ -9,7 +9,7 @@ use Rattle.walter_outbox.specs.Lanes.{put_to, arrived_from, met_to, posted, ring
 use Rattle.walter_rules.specs.declared.entry.Entry.{Entry}
 use Rattle.walter_rules.specs.Knowledge.{site_at}
 use Rattle.walter_rules.specs.Merges.{put_out_to}
-use Rattle.walter_cluster.specs.Benches.{EachBecomes, outs_at, ins_at}
+use Rattle.walter_cluster.specs.Benches.{BenchValue, EachBecomes, outs_at, ins_at}
 use Rattle.walter_cluster.specs.Moments.{trail_at}
 
 module _ {D : Type 0} where
@@ -42,11 +42,24 @@ module _ {D : Type 0} where
     pub lines : new.lines ≡ old.lines
     pub outs : out_rings new.node.outs ≡ out_rings old.node.outs
     pub ins : in_rings new.ins ≡ in_rings old.ins
+    pub more : (from : ℕ) → length (arrived_from old.ins from) ≤ length (arrived_from new.ins from)
     pub sends : (to : ℕ) → put_to new.node.outs to ≡ put_to old.node.outs to
 
   -- so it is with each cell
   abbrev pub HaveStayed : (old new : List (CellValue D)) → Type 0
   HaveStayed old new = EachBecomes HasStayed old new
+
+  -- what has arrived at a site from another is as before
+  abbrev pub IsAsBefore : (old new : List (CellValue D)) → (to from : ℕ) → Type 0
+  IsAsBefore old new to from = arrived_at new to from ≡ arrived_at old to from
+
+  -- But for what arrives at one site, and what is known of that elsewhere, all is as before. Where the ends of lanes had met
+  -- they have met again.
+  pub record HasGathered (to : ℕ) (old new : BenchValue D) : Type 0 where
+    pub stays : HaveStayed old.cells new.cells
+    pub homes : new.homes ≡ old.homes
+    pub elsewhere : (i j : ℕ) → (i ≢ to) ⊎ (j ≡ to) → IsAsBefore old.cells new.cells i j
+    pub met : HaveAllMet old.cells → HaveAllMet new.cells
 
   -- what a site's trail puts out to another, as it lies on the lane
   abbrev pub put_by : List (CellValue D) → (from to : ℕ) → List Posted
@@ -56,10 +69,6 @@ module _ {D : Type 0} where
   pub record HasArrived (old new : List (CellValue D)) (to from : ℕ) : Type 0 where
     pub all : arrived_at new to from ≡ put_by old from to
     pub sized : All (λ (e : Entry). IsSized (length old) e.came) (trail_at old (site_at from))
-
-  -- what has arrived at a site from another is as before
-  abbrev pub IsAsBefore : (old new : List (CellValue D)) → (to from : ℕ) → Type 0
-  IsAsBefore old new to from = arrived_at new to from ≡ arrived_at old to from
 
   -- what has arrived at a site from another is a beginning of what that one's trail puts out to it
   abbrev pub Begins : List (CellValue D) → (to from : ℕ) → Type 0

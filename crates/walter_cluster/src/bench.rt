@@ -4,6 +4,7 @@ ghost use Rattle.walter_cell.specs.Cells.{CellValue};
 ghost use Rattle.walter_cell.specs.Entries.{IsPlain};
 ghost use Rattle.walter_cell.specs.Lines.{CanFail, HasFaultAt, IsLineAt};
 ghost use Rattle.walter_cell.specs.Nodes.{is_told};
+ghost use Rattle.walter_cluster.specs.Meetings.{HasArrived, HasGathered};
 ghost use Rattle.walter_cluster.specs.Pumps.{IsPumpAt, PumpsAt};
 ghost use Rattle.walter_cluster.specs.Turns.{ServesAtHome};
 ghost use Rattle.walter_rules.specs.declared.event.Event.TheVariants as event;
@@ -99,8 +100,18 @@ impl<D: Disk + Drop, S: Source + Drop, K: Sink + Drop> Bench<D, S, K> {
         if self.cells[place].is_spent() {
             return Ok(Moved::Spent);
         }
-        meet_all(&mut self.cells, place)?;
+        self.gather(to)?;
         self.cells[place].deliver(alloc, from, number)
+    }
+
+    // All arrives at a site that the others have put out to it.
+    fn gather(&mut self, to: SiteId) -> Mem<()>
+        requires { to.0 < length self.old.cells }
+        ensures gathers { HasGathered to.0 self.old self.new }
+        ensures arrives { OnOk result ((from : ℕ) → from < length self.old.cells → from ≢ to.0
+            → HasArrived self.old.cells self.new.cells to.0 from) }
+    {
+        meet_all(&mut self.cells, usize::from(to.0))
     }
 
     /// The next commit of another site is to be committed at this one.
@@ -178,7 +189,7 @@ impl<D: Disk + Drop, S: Source + Drop, K: Sink + Drop> Bench<D, S, K> {
         if !self.cells[place].is_up() {
             return Ok(pumped(self.restart(site)?));
         }
-        meet_all(&mut self.cells, place)?;
+        self.gather(site)?;
         self.cells[place].pump_arrived(alloc, pump)
     }
 

@@ -10,9 +10,11 @@ use Rattle.walter_cell.specs.Cells.{CellValue, TurnsTo}
 use Rattle.walter_cell.specs.Lines.{LineValue, IsLineAt}
 use Rattle.walter_cell.specs.declared.answers.Serve.{Serve}
 use Rattle.walter_cell.specs.declared.answers.Serve.TheVariants as serve
-use Rattle.walter_cluster.specs.Benches.{BenchValue, IsOf, AreMet, AreAllConnected, IsToldAt, lines_at}
+use Rattle.walter_cluster.specs.Benches.{BenchValue, Keeps, IsOf, AreMet, AreAllConnected, IsToldAt, lines_at}
 use Rattle.walter_cluster.specs.Moments.{Moment, TurnsAt, Drops, DropsAt, moment_of, trail_at}
 use Rattle.walter_cluster.proofs.Changes.{there_is, field_at}
+use Rattle.walter_cluster.proofs.Keeping.{pump_kept}
+use Rattle.walter_rules.specs.Knowledge.{site_at}
 use Rattle.walter_disk.specs.declared.disk.Disk.{Ghosts}
 use Rattle.walter_psi.proofs.Lists.{contains_at}
 use Rattle.walter_rules.specs.declared.entry.Entry.{Entry}
@@ -23,7 +25,7 @@ use Rattle.walter_scenario.specs.declared.scenario.Step.{Step}
 use Rattle.walter_scenario.specs.declared.scenario.Step.TheVariants as step
 use Rattle.walter_trail.specs.Calls.{calls_of}
 use Rattle.walter_cell.specs.declared.answers.Pumped.{Pumped}
-use Rattle.walter_cell.proofs.Pumping.{works_so}
+use Rattle.walter_cell.proofs.Works.{works_so}
 use Rattle.walter_cluster.specs.Pumps.{IsPumpAt, PumpsAt, at_once, raises, works}
 use Rattle.walter_link.specs.Pumps.{PumpValue}
 use Rattle.walter_play.specs.Scripts.{ArePumps, IsTurn, IsDelivery, IsEventAt, IsPumping, Scene, Takes, TakesAs, TakesPlain, Plays, site_pumped}
@@ -162,3 +164,11 @@ drops_of g t old new i is met site drops told =
     let long = is.sites in
     let c = there_is old.cells i.0 (omega (arith, site, long)) in
     subst (λ (k : Catalog). DropsAt k i (moment_of g old.cells) (moment_of g new.cells)) (is.catalogs i.0 c.0 c.1) (drops met told c.0 c.1)
+
+-- each pump goes on
+pub pumps_kept : {D : Type 0} (g : Ghosts D) (old new : BenchValue D) → Keeps g old new → (pumps : List PumpValue)
+    → ArePumps old.cells pumps → ArePumps new.cells pumps
+pumps_kept g old new keeps pumps are = record {
+  long = are.long ∙ sym keeps.cells.long;
+  each = λ i pump at. pump_kept g old.cells new.cells keeps.cells (site_at i) pump (are.each i pump at);
+}

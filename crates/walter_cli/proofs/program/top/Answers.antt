@@ -20,17 +20,17 @@ returns-in_default g c =
 pub run-requires-clause-some : goal.run-requires-clause-some
 run-requires-clause-some g c =
     let taken = c.in-Ok.ensures.ok in
-    λ lifetimes live. taken.reading.has_arms.has_capacity.has_clients.has_containers.has_tolerated.has_sites.some
+    λ lifetimes live. taken.reading.has_arms.has_ticks.has_link.has_capacity.has_clients.has_containers.has_tolerated.has_sites.some
 
 pub run-requires-clause-few : goal.run-requires-clause-few
 run-requires-clause-few g c =
     let taken = c.in-Ok.ensures.ok in
-    λ lifetimes live. taken.reading.has_arms.has_capacity.has_clients.has_containers.has_tolerated.has_sites.most
+    λ lifetimes live. taken.reading.has_arms.has_ticks.has_link.has_capacity.has_clients.has_containers.has_tolerated.has_sites.most
 
 pub run-requires-clause-fewer : goal.run-requires-clause-fewer
 run-requires-clause-fewer g c =
     let taken = c.in-Ok.ensures.ok in
-    λ lifetimes live. taken.reading.has_arms.has_capacity.has_clients.has_containers.has_tolerated.fewer
+    λ lifetimes live. taken.reading.has_arms.has_ticks.has_link.has_capacity.has_clients.has_containers.has_tolerated.fewer
 
 pub run-requires-clause-whole : goal.run-requires-clause-whole
 run-requires-clause-whole g c =
@@ -40,7 +40,7 @@ run-requires-clause-whole g c =
 pub run-requires-clause-within : goal.run-requires-clause-within
 run-requires-clause-within g c =
     let taken = c.in-Ok.ensures.ok in
-    λ lifetimes live. taken.reading.has_arms.has_capacity.has_clients.are.within
+    λ lifetimes live. taken.reading.has_arms.has_ticks.has_link.has_capacity.has_clients.are.within
 
 pub returns-in-Ok : goal.returns-in-Ok
 returns-in-Ok g c =

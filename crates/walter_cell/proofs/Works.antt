@@ -1,7 +1,8 @@
 -- What a site does that is pumped, in other words.
-use Rattle.std.proofs.Common.{◌≡◌, ◌∷◌, ◌<◌, ℕ, List, [], drop, slice_get, refl, ap, sym, ◌∙◌, Option, Some, None}
+use Rattle.std.proofs.Common.{◌≡◌, ◌≢◌, ◌∷◌, ◌<◌, ◌+◌, ℕ, suc, arith, List, [], drop, slice_get, refl, ap, sym, ◌∙◌, Option, Some, None}
 use Rattle.walter_base.specs.declared.names.SiteId.{SiteId}
-use Rattle.walter_link.specs.Pumps.{PumpValue, HasTaken}
+use Rattle.std.proofs.lemmas.Bool.{eq-eqb, ne_eqb}
+use Rattle.walter_link.specs.Pumps.{PumpValue, HasTaken, take_below, take_other, take_up_to}
 use Rattle.walter_link.specs.declared.pump.Waiting.{Waiting}
 use Rattle.walter_rules.specs.declared.event.Event.{Event}
 use Rattle.walter_cell.specs.declared.answers.Acted.{Acted}
@@ -29,3 +30,17 @@ works_so D D' H H' r r' L L' pump after answer delivers happens rests least (tic
     ticks acted none (least None is) some (happens _ acted acts) left says
 works_so D D' H H' r r' L L' pump after answer delivers happens rests least (idle none is no_ticks still same says) =
     idle none (least None is) no_ticks (rests still) same says
+
+-- ---- what is taken of one more sender
+
+module _ (i : SiteId) (arrived : ℕ → ℕ) (n : ℕ) (pump : PumpValue) where
+  pub below_other : n ≢ i.0 → take_below i arrived (n + 1) pump ≡ take_up_to (record { 0 = n }) (arrived n) (take_below i arrived n pump)
+  below_other apart =
+      let e : n + 1 ≡ suc n = omega arith in
+      ap (λ k. take_below i arrived k pump) e
+      ∙ ap (λ b. take_other b (record { 0 = n }) (arrived n) (take_below i arrived n pump)) (ne_eqb n i.0 apart)
+
+  pub below_own : n ≡ i.0 → take_below i arrived (n + 1) pump ≡ take_below i arrived n pump
+  below_own same =
+      let e : n + 1 ≡ suc n = omega arith in
+      ap (λ k. take_below i arrived k pump) e ∙ ap (λ b. take_other b (record { 0 = n }) (arrived n) (take_below i arrived n pump)) (eq-eqb n i.0 same)

@@ -7,7 +7,7 @@ use Rattle.walter_cluster.proofs.Changes.{there_is}
 use Rattle.walter_psi.proofs.Lists.{contains_at}
 use Rattle.walter_scenario.specs.declared.scenario.Client.{Client}
 use Rattle.walter_play.proofs.Steps.{turn_of, drops_of, turn_is}
-use Rattle.walter_play.proofs.playing.take_step.Goals as goal
+use Rattle.walter_play.proofs.playing.take_plain.Goals as goal
 
 pub turn-requires : goal.turn-requires
 turn-requires g c =
