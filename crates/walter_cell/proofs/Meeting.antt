@@ -3,7 +3,7 @@ use Rattle.std.proofs.Common.{◌≡◌, ◌≢◌, ◌<◌, ℕ, List, [], leng
 use Rattle.std.specs.Prelude.{zero, suc, ◌+◌, ◌-◌, ◌⊎◌, ◌↔◌, Result, Ok, Err, OnOk, OnErr, Option, Some, None, IsNone, IfSome, option_map, slice_get}
 use Rattle.std.proofs.lemmas.Option.{slice_get_past}
 use Rattle.std.proofs.lemmas.Bool.{cases_eq}
-use Rattle.std.proofs.lemmas.List.{append-nil, length-set, set-get_or}
+use Rattle.std.proofs.lemmas.List.{append-nil, length-append, length-set, set-get_or}
 use mathlib.Core.List.{IsPrefix}
 use Rattle.walter_base.specs.declared.names.SiteId.{SiteId}
 use Rattle.walter_lane.specs.Lanes.{Sending, Receiving}
@@ -83,6 +83,10 @@ module _ (ins : List Receiving) (from : ℕ) (inbound met : Receiving) (at : inb
         (subst (λ (l : List Posted). IsPrefix inbound.arrived l) (sym (arrived_met within)) more))
     | inr apart ↦ ([], append-nil (arrived_from ins j) ∙ sym (others_met j apart))
   ]
+
+-- the beginning of a list is no longer
+pub prefix_long : {X : Type 0} (xs ys : List X) → IsPrefix xs ys → length xs ≤ length ys
+prefix_long xs ys more = let l = ap length more.1 in let k = length-append xs more.0 in omega (arith, l, k)
 
 -- a cell at which more has arrived
 pub receiver_met : {D : Type 0} (cell : CellValue D)

@@ -145,7 +145,7 @@ module _ {D : Type 0} (old : CellValue D) (node : NodeValue D)
         → AreWrittenAt first client node.trail lines)
         → Proceeds g old with_node
     proceeds_taken here connected answered = record {
-      keeps = record { node = takes.keeps; ins = refl; here = here; connected = connected; answered = answered };
+      keeps = record { node = takes.keeps; ins = refl; more = λ from. omega arith; here = here; connected = connected; answered = answered };
       ins = refl;
       same_mets = takes.same_mets;
       arms = takes.arms;
@@ -154,10 +154,12 @@ module _ {D : Type 0} (old : CellValue D) (node : NodeValue D)
 
 -- what a call keeps that leaves the trail and the connections as they were
 pub keeps_trail : {D : Type 0} (g : Ghosts D) (old new : CellValue D) → KeepsNode g old.node new.node → in_rings new.ins ≡ in_rings old.ins
+    → ((from : ℕ) → length (arrived_from old.ins from) ≤ length (arrived_from new.ins from))
     → new.lines ≡ old.lines → new.node.trail ≡ old.node.trail → Keeps g old new
-keeps_trail g old new node ins lines trail = record {
+keeps_trail g old new node ins more lines trail = record {
   node = node;
   ins = ins;
+  more = more;
   here = λ client. ap (λ (ls : List (Option LineValue)). is_here ls client) lines;
   connected = λ client bytes is.
       subst (λ (ls : List (Option LineValue)). IsLineAt bytes (calls_of client new.node.trail) ls client) (sym lines)
@@ -186,7 +188,7 @@ module _ {D : Type 0} (old : CellValue D) (node : NodeValue D) where
         capacity = ap (λ (n : NodeValue D). n.capacity) same;
         told = told;
         rings = ap (λ (n : NodeValue D). out_rings n.outs) same;
-      }) refl refl (ap (λ (n : NodeValue D). n.trail) same)
+      }) refl (λ from. omega arith) refl (ap (λ (n : NodeValue D). n.trail) same)
 
   pub keeps_lanes : (g : Ghosts D) → IsSameButLanes old.node node → out_rings node.outs ≡ out_rings old.node.outs
       → Keeps g old (record { node = node; ins = old.ins; lines = old.lines })
@@ -197,7 +199,7 @@ module _ {D : Type 0} (old : CellValue D) (node : NodeValue D) where
         capacity = ap (λ (n : NodeValue D). n.capacity) same;
         told = ap (λ (n : NodeValue D). is_told g n.disk) same;
         rings = rings;
-      }) refl refl (ap (λ (n : NodeValue D). n.trail) same)
+      }) refl (λ from. omega arith) refl (ap (λ (n : NodeValue D). n.trail) same)
 
 -- an event of no client comes to a cell, whose connections stay
 module _ {D : Type 0} (g : Ghosts D) (old : CellValue D) (node : NodeValue D)
@@ -228,7 +230,7 @@ module _ {D : Type 0} (g : Ghosts D) (old : CellValue D) (node : NodeValue D)
 
   pub proceeds_room : Proceeds g old (record { node = node; ins = old.ins; lines = old.lines })
   proceeds_room = record {
-    keeps = keeps_trail g old (record { node = node; ins = old.ins; lines = old.lines }) (keeps_room g old.node node same) refl refl
+    keeps = keeps_trail g old (record { node = node; ins = old.ins; lines = old.lines }) (keeps_room g old.node node same) refl (λ from. omega arith) refl
         (ap (λ (n : NodeValue D). n.trail) same);
     ins = refl;
     same_mets = ap (λ (n : NodeValue D). mets n.outs) same;

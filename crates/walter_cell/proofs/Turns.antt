@@ -271,7 +271,14 @@ module _ {D : Type 0} (g : Ghosts D) (old new : CellValue D) (number : ℕ) (bef
         → (tells g old.node.disk ≡ true → MayDrop old.node.catalog old.node.site (met_to old.node.outs) old.node.trail new.node.trail)
         → Proceeds g old new
     proceeds_by node ins met arms drops = record {
-      keeps = record { node = node; ins = ap in_rings ins; here = here_kept; connected = connected; answered = answered };
+      keeps = record {
+        node = node;
+        ins = ap in_rings ins;
+        more = λ from. let same = ap (λ (is : List Receiving). length (arrived_from is from)) ins in omega (arith, same);
+        here = here_kept;
+        connected = connected;
+        answered = answered;
+      };
       ins = ins;
       same_mets = met;
       arms = arms;

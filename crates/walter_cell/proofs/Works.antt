@@ -15,6 +15,10 @@ pub first_front : {X : Type 0} (xs : List X) (x : X) → slice_get xs 0 ≡ Some
 first_front [] x first = absurd cc
 first_front (y ∷ ys) x first = let same : Some y ≡ Some x = first in cc
 
+pub no_front : {X : Type 0} (xs : List X) → slice_get xs 0 ≡ None → xs ≡ []
+no_front [] none = refl
+no_front (y ∷ ys) none = let same : Some y ≡ None = none in absurd cc
+
 -- what is said of deliveries, of events, of rest and of the least peer may be said otherwise
 pub works_so : (Delivers Delivers' : SiteId → ℕ → Moved → Type 0) (Happens Happens' : Event → Acted → Type 0) (rests rests' : Type 0)
     (IsLeast IsLeast' : Option SiteId → Type 0) (pump after : PumpValue) (answer : Pumped)

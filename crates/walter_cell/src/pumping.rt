@@ -27,9 +27,20 @@ impl<D: Disk + Drop, S: Source + Drop, K: Sink + Drop> Cell<D, S, K> {
         ensures pump { KeepsPump (counts_in self.old.ins) pump.old pump.new }
     {
         self.take_arrived(pump)?;
-        if let Some(first) = pump.first() {
-            return self.hand(alloc, pump, first);
+        match pump.first() {
+            Some(first) => self.hand(alloc, pump, first),
+            None => self.advance_least(pump),
         }
+    }
+
+    // The least peer's next commit is committed, or a tick is made.
+    fn advance_least(&mut self, pump: &mut Pump) -> Mem<Pumped>
+        requires none { pump.old.waiting ≡ [] }
+        ensures proceeds { Proceeds D.Disk self.old self.new }
+        ensures works { IfOk result (WorksAt D.Disk self.old self.new pump.old pump.new) }
+        ensures kept { OnErr result (HasSameTrail self.old self.new) }
+        ensures same { pump.new ≡ record pump.old { ticks = pump.new.ticks } }
+    {
         match self.least_enabled() {
             Some(from) => Ok(pumped(self.advance(from)?)),
             None => self.tick_left(pump),

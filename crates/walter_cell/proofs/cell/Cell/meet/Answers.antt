@@ -5,7 +5,7 @@ use Rattle.walter_lane.specs.Lanes.{Sending, Receiving}
 use Rattle.walter_outbox.specs.Lanes.{put_to, met_to, mets, arrived_from, posted}
 use Rattle.walter_rules.specs.Merges.{put_out_to}
 use Rattle.walter_cell.specs.Cells.{CellValue, Keeps, HaveMet}
-use Rattle.walter_cell.proofs.Meeting.{on_ok, receiver_met, in_rings_met, arrived_met, others_met, was_here, put_by_trail}
+use Rattle.walter_cell.proofs.Meeting.{on_ok, receiver_met, grows_met, prefix_long, in_rings_met, arrived_met, others_met, was_here, put_by_trail}
 use Rattle.walter_cell.proofs.Taken.{cell_lanes, keeps_lanes, keeps_trail}
 use Rattle.walter_cell.proofs.cell.Cell.meet.Goals as goal
 
@@ -35,7 +35,11 @@ returns-clause-keeps g c =
     let new : CellValue g.row.D.Denot = record old { ins = slice_set old.ins c.from.result c.meet.new.inbound } in (
       subst (λ (v : CellValue g.row.D.Denot). Keeps g.D.Disk v new) c.self.view_is
           (keeps_trail g.D.Disk old new (record { catalog = refl; site = refl; capacity = refl; told = refl; rings = refl })
-          (in_rings_met old.ins c.from.result c.index_mut.result.now c.meet.new.inbound c.index_mut.ensures.value c.meet.ensures.rings.1) refl refl),
+          (in_rings_met old.ins c.from.result c.index_mut.result.now c.meet.new.inbound c.index_mut.ensures.value c.meet.ensures.rings.1)
+          (λ j. prefix_long (arrived_from old.ins j) (arrived_from new.ins j)
+          (grows_met old.ins c.from.result c.index_mut.result.now c.meet.new.inbound c.index_mut.ensures.value
+          (let from : c.args.from.0 < length old.ins = rw (← c.self.view_is) at c.requires.from in
+          subst (λ n. n < length old.ins) (sym c.from.ensures) from) c.meet.ensures.more j)) refl refl),
       subst (λ (v : CellValue g.row.D.Denot). Keeps g.D.Disk v (record sender { node = c.meet.new.self })) c.sender.view_is
           (keeps_lanes sender c.meet.new.self g.D.Disk c.meet.ensures.same c.meet.ensures.rings.0),
     )
