@@ -1,5 +1,3 @@
 pub mod Reaches
 pub mod Moments
-pub mod Called
 pub mod Patching
-pub mod Walks

@@ -1,25 +1,20 @@
 -- Bytes of which pending writes may have been cut short differ at their places alone, and are made the same there.
 use Rattle.std.proofs.Common.{◌≡◌, ◌⊎◌, ◌<◌, ◌≤◌, ◌+◌, ◌-◌, ℕ, suc, zero, List, [], ◌∷◌, ◌++◌, length, take, drop, unwrap_or, get_or, refl, sym, ap, subst, ◌∙◌, inl, inr, arith}
-use Rattle.std.proofs.lemmas.Grind.{same_number_lists}
+use Rattle.std.proofs.lemmas.Grind.{same_number_lists, common_steps}
 use Rattle.std.proofs.lemmas.List.{drop_more}
-use Rattle.std.proofs.lemmas.Option.{unwrap_or-slice_get}
+use Rattle.std.proofs.lemmas.Option.{unwrap_or-slice_get, gets}
 use Rattle.std.specs.List.{slice_get}
 use Rattle.walter_disk.specs.Images.{Torn}
 use Rattle.walter_disk_memory.specs.declared.place.Place.{Place}
 use Rattle.walter_disk_memory.specs.Contents.{Content, Leaves, settled}
 use Rattle.walter_disk_memory.specs.ImageLaws.{IsSound, settled_left}
-use Rattle.walter_disk_memory.specs.Patches.{Outside, AgreeOutside, levelled, patched}
+use Rattle.walter_disk_memory.specs.Patches.{Outside, AgreeOutside, patched}
 
 get_take : (n i : ℕ) (xs : List ℕ) → i < n → slice_get (take n xs) i ≡ slice_get xs i
-get_take zero i xs within = absurd (omega arith)
-get_take (suc n) i [] within = refl
-get_take (suc n) zero (x ∷ xs) within = refl
-get_take (suc n) (suc i) (x ∷ xs) within = get_take n i xs (omega arith)
+get_take n i xs within = grind (arith, common_steps, gets)
 
 get_drop : (n i : ℕ) (xs : List ℕ) → slice_get (drop n xs) i ≡ slice_get xs (n + i)
-get_drop zero i xs = let e : 0 + i ≡ i = omega arith in rw e refl
-get_drop (suc n) i [] = refl
-get_drop (suc n) i (x ∷ xs) = let e : suc n + i ≡ suc (n + i) = omega arith in rw e (get_drop n i xs)
+get_drop n i xs = grind (arith, common_steps, gets)
 
 -- a write that a crash may have cut short changes its place alone
 torn_agrees : (place : Place) (old new : List ℕ) (i : ℕ) → Torn place.at place.count old new → (i < place.at) ⊎ (place.at + place.count ≤ i)
@@ -54,22 +49,6 @@ reads_agrees_whole content sound i outside = sym (whole_agrees content sound i o
 -- a settle's choice keeps what reads an image
 pub settled_sound : (choice : ℕ) (content : Content) → IsSound content → IsSound (record content { reads = settled choice content })
 settled_sound choice content sound = record { reads = settled_left choice content sound; whole = sound.whole }
-
-levelled_get : (from bytes : List ℕ) (i : ℕ) → slice_get bytes i ≡ slice_get from i → slice_get (levelled from bytes) i ≡ slice_get from i
-levelled_get [] [] i same = refl
-levelled_get [] (x ∷ xs) i same = refl
-levelled_get (y ∷ ys) [] i same = refl
-levelled_get (y ∷ ys) (x ∷ xs) zero same = same
-levelled_get (y ∷ ys) (x ∷ xs) (suc i) same = levelled_get ys xs i same
-
-pub levelled_agrees : (places : List Place) (from bytes : List ℕ) → AgreeOutside places bytes from → AgreeOutside places (levelled from bytes) from
-levelled_agrees places from bytes agree i outside = levelled_get from bytes i (agree i outside)
-
-pub length-levelled : (from bytes : List ℕ) → length (levelled from bytes) ≡ length from
-length-levelled [] [] = refl
-length-levelled [] (x ∷ xs) = refl
-length-levelled (y ∷ ys) [] = refl
-length-levelled (y ∷ ys) (x ∷ xs) = ap suc (length-levelled ys xs)
 
 -- the bytes are those of the others in the place, and stay outside
 spliced_get : (at count end i : ℕ) (from bytes : List ℕ) → at + count ≡ end → length bytes ≡ length from

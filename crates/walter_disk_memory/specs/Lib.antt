@@ -1,9 +1,9 @@
-pub mod Changes
 pub mod Codes
 pub mod Contents
 pub mod ImageLaws
 pub mod MemoryDisks
 pub mod MemoryRacks
+pub mod Pasts
 pub mod Patches
 pub mod Rooms
 pub mod Stops

@@ -97,6 +97,7 @@ impl Content {
     }
 
     /// A write that reaches the disk.
+    #[tactic(auto, using(crate::proofs::Reaches::reach_more))]
     pub(crate) fn write(&mut self, at: usize, from: &[u8])
         requires within { at + length from.now ≤ self.old.end }
         requires slot { 0 < self.old.slots }
@@ -113,6 +114,7 @@ impl Content {
     }
 
     /// A write that fails.
+    #[tactic(auto, using(crate::proofs::Reaches::reach_more))]
     pub(crate) fn miss(&mut self, at: usize, from: &[u8])
         requires within { at + length from.now ≤ self.old.end }
         requires slot { 0 < self.old.slots }
@@ -127,6 +129,7 @@ impl Content {
         });
     }
 
+    #[tactic(auto, using(crate::proofs::Patching::whole_agrees, crate::proofs::Patching::synced_agrees))]
     pub(crate) fn sync(&mut self)
         requires sound { IsSound self.old.content }
         ensures content { self.new.content ≡ after Sync self.old.content }
@@ -138,6 +141,7 @@ impl Content {
         self.pending.clear();
     }
 
+    #[tactic(auto, using(crate::proofs::Patching::settled_sound))]
     pub(crate) fn settle(&mut self, choice: u64)
         requires sound { IsSound self.old.content }
         ensures content { self.new.content ≡ after (Settle choice) self.old.content }
@@ -149,6 +153,7 @@ impl Content {
     }
 
     // What reads is what the choice finds. It still pends.
+    #[tactic(auto, using(crate::proofs::Patching::reads_agrees, crate::proofs::Patching::reads_agrees_whole))]
     fn choose(&mut self, choice: u64)
         requires sound { IsSound self.old.content }
         ensures content { self.new.content ≡ record self.old.content { reads = settled choice self.old.content } }
@@ -167,6 +172,7 @@ impl Content {
 }
 
 // Makes the bytes the same as others, from which they differ at these places alone. It costs what these hold.
+#[tactic(auto, using(crate::proofs::Patching::patched_agrees))]
 fn copy_places(bytes: &mut Vec<u8>, from: &[u8], places: &[Place])
     requires room { length from.now ≤ vec_capacity bytes.old }
     requires agree { AgreeOutside places.now bytes.old.items from.now }

@@ -1,12 +1,11 @@
 //! Disks in memory, and a rack of them. A disk keeps its calls, and fails where it is told to.
 #![tactic(auto)]
 
-mod change;
 mod content;
-mod ghost_disks;
-mod history;
+mod event;
 mod memory_disk;
 mod memory_rack;
+mod past;
 mod place;
 mod stops;
 

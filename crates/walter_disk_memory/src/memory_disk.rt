@@ -3,9 +3,9 @@ ghost use Rattle.walter_disk_memory.specs.Contents.{Write, FailedWrite, Sync, Se
 ghost use Rattle.walter_disk_memory.specs.MemoryDisks.{holding, content_of, called, after_pass, after_fault, after_mend, with_room, FailsOnlyIfArmed};
 ghost use Rattle.walter_disk_memory.specs.Stops.{fails, armed, choice_made};
 
-use crate::change::Change;
 use crate::content::Content;
-use crate::history::History;
+use crate::event::Event;
+use crate::past::Past;
 use crate::stops::Stops;
 use std::alloc::Global;
 use std::marker::Model;
@@ -16,7 +16,7 @@ use walter_disk::{Disk, Failed, Mem};
 pub struct MemoryDisk {
     first: Vec<u8>,
     content: Content,
-    history: History,
+    past: Past,
     stops: Stops,
     room_calls: usize,
 }
@@ -30,14 +30,14 @@ impl Model for MemoryDisk {
 
     ghost view = { λ s. record {
       first = s.first.items;
-      calls = s.history.calls;
+      calls = s.past.calls;
       stops = s.stops;
       room_end = s.content.end;
       room_calls = s.room_calls;
     } };
 
     ghost invariant = { λ s.
-        (s.content.content ≡ replayed s.history.calls (at_rest s.first.items))
+        (s.content.content ≡ replayed s.past.calls (at_rest s.first.items))
         × (s.room_calls ≤ s.content.slots) };
 }
 
@@ -49,7 +49,7 @@ impl MemoryDisk {
         MemoryDisk {
             first: Vec::new(alloc),
             content: Content::new(alloc),
-            history: History::new(),
+            past: Past::of(&Event::Begin),
             stops: Stops::new(alloc),
             room_calls: 0,
         }
@@ -62,7 +62,7 @@ impl MemoryDisk {
         Ok(MemoryDisk {
             first: bytes.to_vec(alloc)?,
             content: Content::holding(alloc, bytes)?,
-            history: History::new(),
+            past: Past::of(&Event::Begin),
             stops: Stops::new(alloc),
             room_calls: 0,
         })
@@ -98,6 +98,7 @@ impl MemoryDisk {
         Ok(())
     }
 
+    #[tactic(auto, using(crate::proofs::Moments::replayed_more))]
     fn write_bytes(&mut self, at: usize, from: &[u8]) -> Result<(), Failed>
         requires end { at + length from.now ≤ self.old.room_end }
         requires calls { 0 < self.old.room_calls }
@@ -110,16 +111,17 @@ impl MemoryDisk {
         match outcome {
             Ok(()) => {
                 self.content.write(at, from);
-                self.history = self.history.and(&Change::Write(at, from));
+                self.past = Past::of(&Event::Write(&self.past, at, from));
             }
             Err(Failed) => {
                 self.content.miss(at, from);
-                self.history = self.history.and(&Change::FailedWrite(at, from));
+                self.past = Past::of(&Event::FailedWrite(&self.past, at, from));
             }
         }
         outcome
     }
 
+    #[tactic(auto, using(crate::proofs::Moments::replayed_more))]
     fn sync_bytes(&mut self) -> Result<(), Failed>
         requires { 0 < self.old.room_calls }
         ensures fails { is_err result ≡ fails self.old.stops }
@@ -129,10 +131,11 @@ impl MemoryDisk {
         self.stops.call()?;
         self.room_calls -= 1;
         self.content.sync();
-        self.history = self.history.and(&Change::Sync);
+        self.past = Past::of(&Event::Sync(&self.past));
         Ok(())
     }
 
+    #[tactic(auto, using(crate::proofs::Moments::replayed_more))]
     fn settle_bytes(&mut self)
         requires { 0 < self.old.room_calls }
         ensures { self.new ≡ called (Settle (choice_made self.old.stops)) (after_mend self.old) }
@@ -140,7 +143,7 @@ impl MemoryDisk {
         let choice = self.stops.mend();
         self.room_calls -= 1;
         self.content.settle(choice);
-        self.history = self.history.and(&Change::Settle(choice));
+        self.past = Past::of(&Event::Settle(&self.past, choice));
     }
 }
 
@@ -220,6 +223,7 @@ impl Disk for MemoryDisk {
         self.read_bytes(at as usize, into)
     }
 
+    #[tactic(auto, using(crate::proofs::Moments::writes))]
     fn write_at(&mut self, at: u64, from: &[u8]) -> Result<(), Failed>
         requires begins { at ≤ (known_of self.old).size }
         requires end { at + length from.now ≤ self.old.room_end }
@@ -241,6 +245,7 @@ impl Disk for MemoryDisk {
         self.write_bytes(at as usize, from)
     }
 
+    #[tactic(auto, using(crate::proofs::Moments::replayed_more))]
     fn sync(&mut self) -> Result<(), Failed>
         requires calls { 0 < self.old.room_calls }
         ensures durable { OnOk result (IsDurable (known_of self.new).reads (may_leave_of self.new)) }
@@ -261,6 +266,7 @@ impl Disk for MemoryDisk {
         self.sync_bytes()
     }
 
+    #[tactic(auto, using(crate::proofs::Moments::replayed_more))]
     fn settle(&mut self) -> Result<(), Failed>
         requires calls { 0 < self.old.room_calls }
         ensures tells { is_some (known_of self.new).reads ≡ is_some (known_of self.old).reads }

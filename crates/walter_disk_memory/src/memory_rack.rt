@@ -3,8 +3,9 @@ ghost use Rattle.walter_disk_memory.specs.MemoryDisks.{FailsOnlyIfArmed};
 ghost use Rattle.walter_disk_memory.specs.MemoryRacks.{contents_of, disk_of, rack_of, unfailing_of, HandsOutNoBytes};
 ghost use Rattle.walter_faults.specs.Schedules.{planned, NextFails, AddsCall};
 
-use crate::ghost_disks::GhostDisks;
+use crate::event::Event;
 use crate::memory_disk::{MemoryDisk, unarmed_never_failed};
+use crate::past::Past;
 use std::alloc::Global;
 use std::marker::Model;
 use walter_disk::{Failed, Mem, Rack};
@@ -18,7 +19,7 @@ pub struct MemoryRack {
     contents: Vec<Vec<u8>>,
     taken: GhostCount,
     given: Vec<(u8, MemoryDisk)>,
-    handed: GhostDisks,
+    handed: Past,
     schedule: Schedule,
 }
 
@@ -72,7 +73,7 @@ impl MemoryRack {
             contents,
             taken: GhostCount::zero(),
             given: Vec::new(alloc),
-            handed: GhostDisks::none(),
+            handed: Past::of(&Event::Begin),
             schedule: Schedule::new(Vec::new(alloc)),
         }
     }
@@ -183,7 +184,7 @@ impl Rack for MemoryRack {
         ensures room { self.old.room ≤ self.new.room + 1 }
     {
         unarmed_never_failed(&disk);
-        self.handed = self.handed.and(site, &disk);
+        self.handed = Past::of(&Event::Hand(&self.handed, site, &disk));
         if self.schedule.fails() {
             return Err(Failed);
         }

@@ -2,18 +2,8 @@ use Rattle.std.proofs.Common.{◌≡◌, [], length, drop, arith, subst}
 use Rattle.std.proofs.lemmas.Grind.{common_steps}
 use Rattle.std.proofs.lemmas.List.{drop_all}
 use Rattle.walter_disk_memory.specs.Patches.{AgreeOutside}
-use Rattle.walter_disk_memory.proofs.Patching.{patched_agrees, same_bytes}
+use Rattle.walter_disk_memory.proofs.Patching.{same_bytes}
 use Rattle.walter_disk_memory.proofs.content.copy_places.Goals as goal
-
-pub loop-place-preserved : goal.loop-place-preserved
-loop-place-preserved c =
-    let bytes = c.loop-place.bytes.items in
-    let fits : length bytes ≡ length c.args.from.now = grind (arith, common_steps) in
-    record {
-      agree = rw c.patch.ensures.items (patched_agrees c.args.places.now c.loop-place.place-index _ c.args.from.now bytes c.loop-place-test.true fits c.loop-place.invariant.agree);
-      level = omega (arith, c.patch.ensures.len, c.loop-place.invariant.level);
-      capacity = omega (arith, c.loop-place.invariant.capacity, c.patch.ensures.capacity);
-    }
 
 pub returns-clause-items : goal.returns-clause-items
 returns-clause-items c =

@@ -1,17 +1,13 @@
-use Rattle.walter_disk_memory.specs.Stops.{passed}
-use Rattle.walter_disk_memory.proofs.Called.{either, on_ok, sync_known, sync_durable, sync_crash}
+use Rattle.walter_disk_memory.specs.ImageLaws.{always_sound}
+use Rattle.walter_disk_memory.specs.MemoryDisks.{content_of}
+use Rattle.walter_disk_memory.proofs.Moments.{either, on_ok, replayed_more, sync_narrows}
 use Rattle.walter_disk_memory.proofs.memory_disk.MemoryDiskDisk.sync.Goals as goal
 
 pub returns-clause-durable : goal.returns-clause-durable
-returns-clause-durable c =
-    let disk = c.args.self.now in
-    on_ok c.sync_bytes.result c.sync_bytes.ensures.ok (λ is. rw is (sync_durable disk (passed disk.stops)))
-
-pub returns-clause-same : goal.returns-clause-same
-returns-clause-same c = on_ok c.sync_bytes.result c.sync_bytes.ensures.ok (λ is. rw is (sync_known c.args.self.now))
+returns-clause-durable c = on_ok c.sync_bytes.result c.sync_bytes.ensures.ok (λ is. rw (is, replayed_more) (λ image same. same))
 
 pub returns-clause-crash : goal.returns-clause-crash
 returns-clause-crash c =
     let disk = c.args.self.now in
     either c.sync_bytes.result c.sync_bytes.ensures.ok c.sync_bytes.ensures.err
-    (λ is. rw is (sync_crash disk (passed disk.stops))) (λ is. rw is (λ image left. left))
+    (λ is. rw (is, replayed_more) (sync_narrows (content_of disk) (always_sound disk.first disk.calls))) (λ is. rw is (λ image left. left))
