@@ -1,5 +1,5 @@
 -- The bodies of a journal, and the records that they spell.
-use Rattle.std.proofs.Common.{◌≡◌, ℕ, zero, suc, ◌+◌, ◌-◌, ◌<◌, List, [], ◌∷◌, ◌++◌, length, map, take, get_or, Option, Some, Result, Ok, Err, refl, ap, sym, ◌∙◌, subst}
+use Rattle.std.proofs.Common.{◌≡◌, ℕ, zero, suc, ◌+◌, ◌<◌, List, [], ◌∷◌, ◌++◌, length, map, take, get_or, Option, Some, Result, Ok, Err, refl, ap, sym, ◌∙◌, subst}
 use Rattle.std.specs.Prelude.{All, IfSome, IfErr, slice_get, option_map}
 use Rattle.std.specs.List.{AllByRecursion}
 use Rattle.std.proofs.lemmas.List.{map-append, take-map, map_more}
@@ -23,17 +23,13 @@ use Rattle.walter_tables.specs.declared.tables.Tables.{Tables}
 use Rattle.walter_tables.specs.Replaying.{IsReplayFault}
 use Rattle.walter_tables.specs.Sites.{site_of, catalog_of, Stands, Follows}
 
--- a body spells one record
-pub spells_one : (sites : ℕ) (body : List ℕ) (a b : Record) → HasRecordSpelling sites a → HasRecordSpelling sites b → body ≡ record_spelled a → body ≡ record_spelled b → a ≡ b
-spells_one sites body a b has_a has_b is_a is_b = same_record sites a b has_a has_b (sym is_a ∙ is_b)
-
 pub some_is : {A : Type 0} (P : A → Type 0) (o : Option A) (x : A) → o ≡ Some x → IfSome o P → P x
 some_is P o x is holds = subst (λ o. IfSome o P) is holds
 
 pub spells_none : (catalog : Catalog) (i : SiteId) (K : Knowledge) (body : List ℕ) (rec : Record) → HasRecordSpelling catalog.sites rec → body ≡ record_spelled rec
     → ¬ CanFollow catalog i K rec → SpellsNone catalog i K body
 spells_none catalog i K body rec has is wrong other other_has other_is follows =
-    wrong (subst (λ r. CanFollow catalog i K r) (spells_one catalog.sites body other rec other_has has other_is is) follows)
+    wrong (subst (λ r. CanFollow catalog i K r) (same_record catalog.sites other rec other_has has (sym other_is ∙ is)) follows)
 
 -- a body whose record is not replayed
 pub unfit : (tables : Tables) (body : List ℕ) (rec : Record) {A : Type 0} (result : Result A ReplayFault)

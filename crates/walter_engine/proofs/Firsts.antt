@@ -13,7 +13,8 @@ use Rattle.walter_engine.specs.declared.answers.BeginFault.TheVariants as unbegu
 use Rattle.walter_engine.specs.Begins.{HasOnly, MayHaveBegun, IsBegun, IsFaultOfBegin}
 use Rattle.walter_engine.specs.Effects.{IsRefusedOver, AreCallsFor}
 use Rattle.walter_engine.specs.Firsts.{IsAnswerTo, IsBegunOver, MayHaveFirst, not_loaded_by}
-use Rattle.walter_engine.specs.Raises.{LiesIn, Raises, IsRaised}
+use Rattle.walter_engine.specs.Raises.{LiesIn, Raises}
+use Rattle.walter_engine.specs.Restarts.{ComesOf}
 use Rattle.walter_engine.specs.Stores.{IsLeft}
 use Rattle.walter_engine.specs.declared.answers.RefusedRestart.{RefusedRestart}
 use Rattle.walter_engine.specs.declared.answers.RefusedRestart.TheVariants as refused
@@ -37,10 +38,6 @@ use Rattle.walter_rules.specs.Knowledge.{fresh}
 use Rattle.walter_rules.specs.Records.{replayed}
 use Rattle.walter_rules.specs.Standing.{unmade, stands_after, up_after}
 use Rattle.walter_rules.specs.Trails.{Comes, IsFound, standing, opening}
-
-pub no_bodies : {A : Type 0} (f : A → List ℕ) (xs : List A) → length xs ≡ 0 → map f xs ≡ []
-no_bodies f [] none = refl
-no_bodies f (x ∷ xs) none = absurd (omega arith)
 
 pub no_items : {A : Type 0} (xs : List A) → length xs ≡ 0 → xs ≡ []
 no_items [] none = refl
@@ -101,18 +98,16 @@ opens catalog capacity i came kept sends dropped taken (inr (Comes.full rec brin
 -- ---- what is answered
 
 -- what a restart over no bodies came to can be answered
-pub can_answer : (catalog : Catalog) (i : SiteId) (left : ℕ) (bodies : List (List ℕ)) (Same : Type 0)
+pub can_answer : (catalog : Catalog) (i : SiteId) (left : ℕ) (bodies : List (List ℕ)) (wrote : Option Record)
     (why : Option RefusedRestart) (outcome : Outcome) → 10 ≤ left → bodies ≡ []
-    → IfSome why (λ cause. Same × IsRefusedOver catalog i bodies cause) → IsRaised left why outcome
-    → (answer : Result (Unit {0}) BeginFault) × IsAnswerTo outcome answer
-can_answer catalog i left bodies Same why Taken place none over is = (Ok tt, refl)
-can_answer catalog i left bodies Same why Failed place none over is = (Err unbegun.Failed, refl)
-can_answer catalog i left bodies Same why Memory place none over is = (Err unbegun.NoMemory, refl)
-can_answer catalog i left bodies Same why (Full need free) place none over is = absurd (omega (arith, place, is))
-can_answer catalog i left bodies Same None Refused place none over is = absurd (cc)
-can_answer catalog i left bodies Same (Some cause) Refused place none over is =
-    absurd (not_refused catalog i bodies cause none over.1)
-can_answer catalog i left bodies Same why outcome place none over is = absurd is
+    → ComesOf catalog i left bodies wrote why outcome → (answer : Result (Unit {0}) BeginFault) × IsAnswerTo outcome answer
+can_answer catalog i left bodies wrote why Taken place none over = (Ok tt, refl)
+can_answer catalog i left bodies wrote why Failed place none over = (Err unbegun.Failed, refl)
+can_answer catalog i left bodies wrote why Memory place none over = (Err unbegun.NoMemory, refl)
+can_answer catalog i left bodies wrote why (Full need free) place none over = absurd (omega (arith, place, over.2))
+can_answer catalog i left bodies wrote why Refused place none over =
+    absurd (not_refused catalog i bodies over.0 none over.2)
+can_answer catalog i left bodies wrote why outcome place none over = absurd over
 
 pub answer_up : (outcome : Outcome) (answer : Result (Unit {0}) BeginFault) → IsAnswerTo outcome answer
     → up_after Restart outcome false ≡ is_ok answer

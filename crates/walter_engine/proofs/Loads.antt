@@ -37,7 +37,7 @@ use Rattle.walter_record.specs.Spelling.{record_spelled, HasRecordSpelling}
 use Rattle.walter_rules.specs.declared.entry.Came.{Came}
 use Rattle.walter_rules.specs.declared.event.Event.{Event}
 use Rattle.walter_rules.specs.declared.event.Event.TheVariants.{Restart}
-use Rattle.walter_rules.specs.declared.outcome.Outcome.TheVariants.{Failed, Memory, Refused}
+use Rattle.walter_rules.specs.declared.outcome.Outcome.TheVariants.{Refused}
 use Rattle.walter_rules.specs.Standing.{Standing, settled, stands_after}
 use Rattle.walter_rules.specs.Trails.{Comes, IsFound, TakesMemory, only}
 

@@ -1,16 +1,18 @@
 -- A restart of a site that is down, by the bodies of its journal.
-use Rattle.std.proofs.Common.{◌≡◌, ℕ, ◌+◌, ◌<◌, List, [], map, Option, Some, None, refl, ap, sym, ◌∙◌, subst, inl, inr}
+use Rattle.std.proofs.Common.{◌≡◌, ◌⊎◌, ℕ, ◌+◌, ◌<◌, List, [], map, false, Option, Some, None, refl, ap, sym, ◌∙◌, subst, inl, inr}
+use Rattle.std.specs.Prelude.{IfSome, IsSome, is_some}
 use Rattle.walter_base.specs.declared.catalog.Catalog.{Catalog}
 use Rattle.walter_base.specs.declared.message.Record.{Record}
 use Rattle.walter_base.specs.declared.message.Record.TheVariants.{Boot}
 use Rattle.walter_base.specs.declared.names.SiteId.{SiteId}
 use Rattle.walter_disk.specs.declared.disk.Disk.{Ghosts}
 use Rattle.walter_disk.specs.Images.{LeavesOnly}
-use Rattle.walter_engine.specs.declared.answers.RefusedRestart.TheVariants.{LastEpoch}
+use Rattle.walter_engine.specs.declared.answers.RefusedRestart.{RefusedRestart}
+use Rattle.walter_engine.specs.declared.answers.RefusedRestart.TheVariants.{Foreign, Damaged, Unreadable, LastEpoch}
 use Rattle.walter_engine.specs.Contents.{MayHaveNext}
-use Rattle.walter_engine.specs.Effects.{IsUnreadable, IsRefusedOver, TakesNoEpoch}
-use Rattle.walter_engine.specs.Raises.{LiesIn, Raises, IsRaised}
-use Rattle.walter_engine.specs.Replays.{Tells}
+use Rattle.walter_engine.specs.Effects.{Tell, IsUnreadable, IsRefusedOver, TakesNoEpoch}
+use Rattle.walter_engine.specs.Raises.{LiesIn, Raises, hindered_by}
+use Rattle.walter_engine.specs.Replays.{Tells, IsReadyOver}
 use Rattle.walter_engine.specs.Restarts.{ComesOf}
 use Rattle.walter_engine.specs.Writings.{IsOutcomeOf}
 use Rattle.walter_engine.proofs.Bodies.{readable, one_list}
@@ -25,27 +27,21 @@ use Rattle.walter_machine.specs.declared.ready.Ready.{Ready}
 use Rattle.walter_machine.specs.declared.ready.Step.{Step}
 use Rattle.walter_machine.specs.declared.ready.Step.TheVariants.{Answer, Apply, Fall, Rise}
 use Rattle.walter_machine.specs.Steps.{IsStep, record_of, outcome_of, sends_of}
-use Rattle.walter_machine.specs.Comings.{IsRest}
+use Rattle.walter_machine.specs.Comings.{IsRest, is_faulty}
 use Rattle.walter_machine.specs.Machines.{catalog_in, HasStanding}
-use Rattle.walter_machine.specs.Readiness.{rec_in, came_in, IsReadyAnyway}
+use Rattle.walter_machine.specs.Readiness.{rec_in, came_in, IsReadyFor, IsReadyAnyway}
 use Rattle.walter_record.specs.Spelling.{record_spelled}
 use Rattle.walter_rules.specs.declared.entry.Came.{Came}
 use Rattle.walter_rules.specs.declared.event.Event.TheVariants.{Restart}
 use Rattle.walter_rules.specs.declared.outcome.Outcome.{Outcome}
-use Rattle.walter_rules.specs.declared.outcome.Outcome.TheVariants.{Taken, Failed, Full, Memory, Refused}
+use Rattle.walter_rules.specs.declared.outcome.Outcome.TheVariants.{Taken, Refused}
 use Rattle.walter_rules.specs.Knowledge.{Knowledge, fresh}
 use Rattle.walter_rules.specs.Records.{replayed}
-use Rattle.walter_rules.specs.Standing.{Standing, stands_after}
+use Rattle.walter_rules.specs.Standing.{Standing, stands_after, up_after}
 use Rattle.walter_rules.specs.Trails.{Comes, TakesMemory, need_of, only}
 use Rattle.walter_tables.specs.declared.tables.Tables.{Tables}
-use Rattle.walter_tables.specs.Sites.{values_of, Stands}
-
--- what is so of equal parts of a site that is down
-pub named : (P : Catalog → SiteId → Option Tables → Type 0) (catalog catalog' : Catalog) (i i' : SiteId)
-    (site : Option Tables) → catalog' ≡ catalog → i' ≡ i → site ≡ None → P catalog' i' None → P catalog i site
-named P catalog catalog' i i' site same_catalog same_site none is =
-    subst (λ (o : Option Tables). P catalog i o) (sym none)
-    (same_parts (λ x k. P x k None) catalog' catalog i' i (sym same_catalog) (sym same_site) is)
+use Rattle.walter_site.specs.Members.{IsShortOutcome}
+use Rattle.walter_tables.specs.Sites.{values_of, site_of, catalog_of, Stands}
 
 -- a site that is down and restarts with a record takes its next epoch
 rises_by : (catalog : Catalog) (i : SiteId) (S : Standing) (step : Step) (rec : Record)
@@ -60,33 +56,66 @@ pub rises : (catalog : Catalog) (i : SiteId) (ready : Ready) (rec : Record) → 
     → rec_in ready ≡ Some rec → ((came_in ready).outcome ≡ Taken) × ((came_in ready).sends ≡ [])
 rises catalog i ready rec anyway some = rises_by catalog i anyway.S ready.step rec anyway.ready_for.step some
 
-pub raised_outcome : (catalog : Catalog) (i : SiteId) (ready : Ready) (left epoch : ℕ) (outcome : Outcome)
-    → IsReadyAnyway catalog i None Restart ready → rec_in ready ≡ Some (Boot epoch)
-    → IsOutcomeOf Restart ready left outcome → IsRaised left None outcome
-raised_outcome catalog i ready left epoch outcome anyway boots (inl is) =
-    subst (λ (o : Outcome). IsRaised left None o) (sym (is ∙ (rises catalog i ready (Boot epoch) anyway boots).0)) tt
-raised_outcome catalog i ready left epoch outcome anyway boots (inr (inl is)) =
-    subst (λ (o : Outcome). IsRaised left None o) (sym is) tt
-raised_outcome catalog i ready left epoch outcome anyway boots (inr (inr (inl failed))) =
-    subst (λ (o : Outcome). IsRaised left None o) (sym failed.1) tt
-raised_outcome catalog i ready left epoch outcome anyway boots (inr (inr (inr full))) =
-    let named : Some full.rec ≡ Some (Boot epoch) = sym full.is ∙ boots in
-    let same : full.rec ≡ Boot epoch = cc in
-    subst (λ (o : Outcome). IsRaised left None o) (sym full.outcome_is)
-    (subst (λ (r : Record). left < need_of r) same full.less)
+-- a restart is ready behind the bodies that the tables stand for
+pub is_ready_over : (catalog : Catalog) (i : SiteId) (bodies : List (List ℕ)) (tables : Tables) (ready : Ready)
+    → catalog_of tables ≡ catalog → site_of tables ≡ i → Tells catalog i bodies tables
+    → IsReadyAnyway (catalog_of tables) (site_of tables) None Restart ready
+    → ((S : Standing) → S.up ≡ false → Stands tables S.knows → IsReadyFor (catalog_of tables) (site_of tables) None S Restart ready)
+    → rec_in ready ≡ Some (Boot ((values_of tables).epoch + 1)) → ((values_of tables).epoch ≡ 4294967295 → ⊥)
+    → IsReadyOver catalog i bodies ready
+is_ready_over catalog i bodies tables ready same_catalog same_site tells anyway ready_for boots left = record {
+  records = tells.records;
+  tell = tells.tell;
+  anyway = same_parts (λ x k. IsReadyAnyway x k None Restart ready) (catalog_of tables) catalog (site_of tables) i (sym same_catalog) (sym same_site) anyway;
+  ready_for = λ S down knows.
+      same_parts (λ x k. IsReadyFor x k None S Restart ready) (catalog_of tables) catalog (site_of tables) i (sym same_catalog) (sym same_site)
+      (ready_for S down (subst (λ (K : Knowledge). Stands tables K) knows tells.stands));
+  boots = boots ∙ ap (λ (n : ℕ). Some (Boot (n + 1))) tells.stands.epoch;
+  left = λ last. left (tells.stands.epoch ∙ last);
+}
 
--- what comes of the bodies that the tables stand for
-pub comes_of : (catalog : Catalog) (i : SiteId) (left : ℕ) (bodies : List (List ℕ)) (tables : Tables)
-    → Tells catalog i bodies tables → (wrote : Option Record) (outcome : Outcome) → IsRaised left None outcome
-    → (outcome ≡ Taken → wrote ≡ Some (Boot ((values_of tables).epoch + 1)))
+-- what comes of bodies behind which one is ready
+pub comes_of : (catalog : Catalog) (i : SiteId) (left : ℕ) (bodies : List (List ℕ)) (ready : Ready)
+    → IsReadyOver catalog i bodies ready → (wrote : Option Record) (outcome : Outcome)
+    → IsOutcomeOf Restart ready left outcome → (outcome ≡ Taken → wrote ≡ rec_in ready)
     → ComesOf catalog i left bodies wrote None outcome
-comes_of catalog i left bodies tables tells wrote Taken raised writes =
-    (tells.records, tells.tell, writes refl ∙ ap (λ (n : ℕ). Some (Boot (n + 1))) tells.stands.epoch)
-comes_of catalog i left bodies tables tells wrote (Full need free) raised writes = (tells.records, tells.tell, raised)
-comes_of catalog i left bodies tables tells wrote Failed raised writes = refl
-comes_of catalog i left bodies tables tells wrote Memory raised writes = refl
-comes_of catalog i left bodies tables tells wrote Refused raised writes = absurd (cc)
-comes_of catalog i left bodies tables tells wrote outcome raised writes = absurd raised
+comes_of catalog i left bodies ready over wrote outcome (inl is) writes =
+    let taken = is ∙ (rises catalog i ready (Boot ((replayed catalog i fresh over.records).epoch + 1)) over.anyway over.boots).0 in
+    subst (λ (o : Outcome). ComesOf catalog i left bodies wrote None o) (sym taken)
+    (over.records, over.tell, writes taken ∙ over.boots)
+comes_of catalog i left bodies ready over wrote outcome (inr (inl is)) writes =
+    subst (λ (o : Outcome). ComesOf catalog i left bodies wrote None o) (sym is) refl
+comes_of catalog i left bodies ready over wrote outcome (inr (inr (inl failed))) writes =
+    subst (λ (o : Outcome). ComesOf catalog i left bodies wrote None o) (sym failed.1) refl
+comes_of catalog i left bodies ready over wrote outcome (inr (inr (inr full))) writes =
+    let named : Some full.rec ≡ Some (Boot ((replayed catalog i fresh over.records).epoch + 1)) = sym full.is ∙ over.boots in
+    let same : full.rec ≡ Boot ((replayed catalog i fresh over.records).epoch + 1) = cc in
+    subst (λ (o : Outcome). ComesOf catalog i left bodies wrote None o) (sym full.outcome_is)
+    (over.records, over.tell, subst (λ (r : Record). left < need_of r) same full.less)
+
+-- and of those behind which none is
+pub comes_hindered : (catalog : Catalog) (i : SiteId) (left : ℕ) (bodies : List (List ℕ)) (wrote : Option Record)
+    (outcome : Outcome) (why : Option RefusedRestart) → IfSome why (IsRefusedOver catalog i bodies)
+    → outcome ≡ hindered_by why → ComesOf catalog i left bodies wrote why outcome
+comes_hindered catalog i left bodies wrote outcome None refused is =
+    subst (λ (o : Outcome). ComesOf catalog i left bodies wrote None o) (sym is) refl
+comes_hindered catalog i left bodies wrote outcome (Some cause) refused is =
+    subst (λ (o : Outcome). ComesOf catalog i left bodies wrote (Some cause) o) (sym is) (cause, refl, refused)
+
+pub hindered_is : (why : Option RefusedRestart) → IsRest (hindered_by why) × IsShortOutcome (hindered_by why)
+    × (is_faulty (hindered_by why) ≡ false) × (up_after Restart (hindered_by why) false ≡ false)
+hindered_is None = (tt, tt, refl, refl)
+hindered_is (Some cause) = (tt, tt, refl, refl)
+
+module _ (catalog : Catalog) (i : SiteId) (left : ℕ) (bodies : List (List ℕ)) (wrote : Option Record)
+    (why : Option RefusedRestart) (outcome : Outcome) (over : ComesOf catalog i left bodies wrote why outcome) where
+  -- it is refused for a cause
+  pub has_cause : outcome ≡ Refused → IsSome why
+  has_cause refused = ap is_some (subst (λ (o : Outcome). ComesOf catalog i left bodies wrote why o) refused over).1
+
+  -- and taken with a record
+  pub has_written : outcome ≡ Taken → IsSome wrote
+  has_written taken = ap is_some (subst (λ (o : Outcome). ComesOf catalog i left bodies wrote why o) taken over).2
 
 -- behind the last epoch
 pub refused_last : (catalog : Catalog) (i : SiteId) (bodies : List (List ℕ)) (tables : Tables)
@@ -102,12 +131,20 @@ module _ {D : Type 0} {g : Ghosts D} (catalog : Catalog) (i : SiteId) (S : Stand
       (record { spell = lies.is; spelled = lies.spelled.records; follow = lies.told.follow }) bad
 
   -- and tells what the site knows
-  pub knows_here : (tables : Tables) → Tells catalog i bodies tables → Stands tables S.knows
-  knows_here tables tells =
-      let same = one_list catalog.sites tells.records S.records tells.tell.spelled lies.spelled.records
-      (sym tells.tell.spell ∙ lies.is) in
-      subst (λ (K : Knowledge). Stands tables K)
-      (ap (replayed catalog i fresh) same ∙ sym lies.told.tell ∙ lies.told.rests lies.down) tells.stands
+  pub knows_here : (records : List Record) → Tell catalog i bodies records → replayed catalog i fresh records ≡ S.knows
+  knows_here records tell =
+      ap (replayed catalog i fresh)
+      (one_list catalog.sites records S.records tell.spelled lies.spelled.records (sym tell.spell ∙ lies.is))
+      ∙ sym lies.told.tell ∙ lies.told.rests lies.down
+
+  -- it is refused behind its last epoch alone
+  only_last : (why : Option RefusedRestart) → IfSome why (IsRefusedOver catalog i bodies)
+      → IfSome why (λ cause. (cause ≡ LastEpoch) × (S.knows.epoch ≡ 4294967295))
+  only_last None over = tt
+  only_last (Some Foreign) over = absurd over
+  only_last (Some (Damaged at length)) over = absurd over
+  only_last (Some (Unreadable index)) over = absurd (readable_here index over)
+  only_last (Some LastEpoch) over = (refl, ap (λ (K : Knowledge). K.epoch) (sym (knows_here over.0 over.1)) ∙ over.2)
 
   pub stands_here : StandsFor journal (map record_spelled S.records)
   stands_here = subst (λ (b : List (List ℕ)). StandsFor journal b) lies.is lies.stands
@@ -121,34 +158,27 @@ module _ {D : Type 0} {g : Ghosts D} (catalog : Catalog) (i : SiteId) (S : Stand
 
   module _ (size_is : SizeIs g) (m : Machine) (catalog_is : catalog_in m ≡ catalog) (capacity : ℕ) (came : Came)
       (standing : HasStanding m (stands_after catalog i S Restart came)) where
-    takes_none : (outcome : Outcome) → IsRest outcome → came ≡ only outcome → TakesNoEpoch came
-    takes_none outcome rest is =
-        subst (λ (c : Came). TakesNoEpoch c) (sym is) (record { rest = rest; wrote = refl; flight = refl })
+    comes_to : (why : Option RefusedRestart) → came ≡ only (hindered_by why)
+        → (came.outcome ≡ Refused) ⊎ Comes catalog capacity i S Restart came
+    comes_to None is =
+        inr (Comes.no_memory (subst (λ up. TakesMemory up Restart) (sym lies.down) tt)
+        (record {
+          outcome_is = ap (λ (c : Came). c.outcome) is;
+          wrote = ap (λ (c : Came). c.wrote) is;
+          flight_is = ap (λ (c : Came). c.flight) is;
+          sends = ap (λ (c : Came). c.sends) is;
+          dropped = ap (λ (c : Came). c.dropped) is;
+        }))
+    comes_to (Some cause) is = inl (ap (λ (c : Came). c.outcome) is)
 
-    -- memory ran out
-    pub raises_memory : came ≡ only Memory → Raises {g = g} catalog capacity i S came None m journal
-    raises_memory is = record {
-      comes = inr (Comes.no_memory (subst (λ up. TakesMemory up Restart) (sym lies.down) tt)
-          (record {
-            outcome_is = ap (λ (c : Came). c.outcome) is;
-            wrote = ap (λ (c : Came). c.wrote) is;
-            flight_is = ap (λ (c : Came). c.flight) is;
-            sends = ap (λ (c : Came). c.sends) is;
-            dropped = ap (λ (c : Came). c.dropped) is;
-          }));
+    -- where none is ready
+    pub raises_hindered : (why : Option RefusedRestart) → IfSome why (IsRefusedOver catalog i bodies)
+        → came ≡ only (hindered_by why) → Raises {g = g} catalog capacity i S came why m journal
+    raises_hindered why refused is = record {
+      comes = comes_to why is;
       leaves = leaves_same {g = g} size_is catalog i S Restart lies.spelled m catalog_is came standing journal stands_here
           (ap (λ (c : Came). c.wrote) is) (ap (λ (c : Came). c.flight) is);
-      last = tt;
-      takes_none = λ last. takes_none Memory tt is;
-    }
-
-    -- the site has had its last epoch
-    pub raises_refused : came ≡ only Refused → S.knows.epoch ≡ 4294967295
-        → Raises {g = g} catalog capacity i S came (Some LastEpoch) m journal
-    raises_refused is last = record {
-      comes = inl (ap (λ (c : Came). c.outcome) is);
-      leaves = leaves_same {g = g} size_is catalog i S Restart lies.spelled m catalog_is came standing journal stands_here
-          (ap (λ (c : Came). c.wrote) is) (ap (λ (c : Came). c.flight) is);
-      last = (refl, last);
-      takes_none = λ last. takes_none Refused tt is;
+      last = only_last why refused;
+      takes_none = λ last.
+          subst (λ (c : Came). TakesNoEpoch c) (sym is) (record { rest = (hindered_is why).0; wrote = refl; flight = refl });
     }

@@ -36,9 +36,6 @@ may_have_begun records None image has = content_begun image _ has
 may_have_begun records (Some rec) image (inl has) = content_begun image _ has
 may_have_begun records (Some rec) image (inr has) = content_begun image _ has
 
-is_told : (reads : Option (List ℕ)) (bytes : List ℕ) → reads ≡ Some bytes → IsSome reads
-is_told reads bytes told = ap is_some told
-
 -- the size is above 0 where what reads may be a journal
 begun_by : (reads : Option (List ℕ)) (size : ℕ) (images : List ℕ → Type 0) (records : List Record) (flight : Option Record) → IsSome reads → IfSome reads (λ bytes. size ≡ length bytes)
     → ((image : List ℕ) → images image → MayHaveRecords records flight image) → IsImage reads images → 0 < size
@@ -71,7 +68,7 @@ module _ {D : Type 0} (g : Ghosts D) where
   on_disk : SizeIs → (S : Standing) (journal : Journal D g) → StandsFor journal (map record_spelled S.records)
       → IsOnDisk g S (disk_of journal)
   on_disk size_is S journal stands = record {
-    told = is_told _ stands.bytes stands.told;
+    told = ap is_some stands.told;
     begun = omega (arith, size_told size_is (disk_of journal) stands.bytes stands.told, content_begun stands.bytes _ stands.content);
     images = λ image left.
         may_have S.records S.flight image (leaves_bodies journal (map record_spelled S.records) stands image left);
@@ -90,7 +87,7 @@ module _ {D : Type 0} (g : Ghosts D) where
       (IsBeforeOrBehind (map record_spelled records) (record_spelled rec))
       → T.records ≡ records → T.flight ≡ Some rec → IsOnDisk g T (disk_of new)
   stored_failed size_is counts_now records rec T old new stands fails run same flight = record {
-    told = fails.tells ∙ is_told _ stands.bytes stands.told;
+    told = fails.tells ∙ ap is_some stands.told;
     begun = omega (arith, fails.no_smaller, size_told size_is (disk_of old) stands.bytes stands.told, content_begun stands.bytes _ stands.content);
     images = λ image left.
         let has = before_or_behind records rec image (left_now counts_now (disk_of old) (disk_of new) _ run image left) in

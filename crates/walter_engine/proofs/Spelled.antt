@@ -4,7 +4,7 @@ use Rattle.std.specs.Prelude.{All, IfSome}
 use Rattle.std.proofs.lemmas.List.Elements.{All-push}
 use Rattle.walter_base.specs.declared.catalog.Catalog.{Catalog}
 use Rattle.walter_base.specs.declared.message.Record.{Record}
-use Rattle.walter_base.specs.declared.message.Record.TheVariants.{Boot, Own, Got, Seen, Prepared, Released, SlowBegin, SlowEnd, Marks}
+use Rattle.walter_base.specs.declared.message.Record.TheVariants.{Own, Got, SlowBegin}
 use Rattle.walter_base.specs.declared.names.SiteId.{SiteId}
 use Rattle.walter_engine.specs.Contents.{AreSpelled}
 use Rattle.walter_record.specs.Spelling.{HasRecordSpelling, AreInRange}
@@ -17,27 +17,17 @@ use Rattle.walter_rules.specs.Standing.{Standing, records_after, flight_after, s
 
 -- what has a spelling among so many sites has the sizes of a record among them
 pub sized_among : (sites : ℕ) (rec : Record) → HasRecordSpelling sites rec → IsRecordAmong sites rec
-sized_among sites (Boot epoch) has = has.sizes
 sized_among sites (Own seq tx) has = (has.among, has.sizes)
 sized_among sites (Got from seq tx) has = (has.among, has.sizes)
-sized_among sites (Seen from seq) has = has.sizes
-sized_among sites (Prepared from slow tid objects) has = has.sizes
-sized_among sites (Released from slow) has = has.sizes
 sized_among sites (SlowBegin slow tx) has = (has.among, has.sizes)
-sized_among sites (SlowEnd slow) has = has.sizes
-sized_among sites (Marks durable visible) has = has.sizes
+sized_among sites rec has = has.sizes
 
 -- and what has these sizes, and numbers in their ranges, has a spelling
 pub spelled_among : (sites : ℕ) (rec : Record) → IsRecordAmong sites rec → AreInRange rec → HasRecordSpelling sites rec
-spelled_among sites (Boot epoch) is ranges = record { among = tt; sizes = is; ranges = ranges }
 spelled_among sites (Own seq tx) is ranges = record { among = is.0; sizes = is.1; ranges = ranges }
 spelled_among sites (Got from seq tx) is ranges = record { among = is.0; sizes = is.1; ranges = ranges }
-spelled_among sites (Seen from seq) is ranges = record { among = tt; sizes = is; ranges = ranges }
-spelled_among sites (Prepared from slow tid objects) is ranges = record { among = tt; sizes = is; ranges = ranges }
-spelled_among sites (Released from slow) is ranges = record { among = tt; sizes = is; ranges = ranges }
 spelled_among sites (SlowBegin slow tx) is ranges = record { among = is.0; sizes = is.1; ranges = ranges }
-spelled_among sites (SlowEnd slow) is ranges = record { among = tt; sizes = is; ranges = ranges }
-spelled_among sites (Marks durable visible) is ranges = record { among = tt; sizes = is; ranges = ranges }
+spelled_among sites rec is ranges = record { among = tt; sizes = is; ranges = ranges }
 
 module _ (P : Record → Type 0) where
   all_after : (wrote : Option Record) (records : List Record) → All P records → IfSome wrote P

@@ -5,7 +5,7 @@ use Rattle.std.proofs.lemmas.Bool.{cases_lt}
 use Rattle.std.proofs.lemmas.List.{map-append}
 use Rattle.walter_base.specs.declared.catalog.Catalog.{Catalog}
 use Rattle.walter_base.specs.declared.message.Record.{Record}
-use Rattle.walter_base.specs.declared.message.Record.TheVariants.{Boot, Own, Got, Seen, Prepared, Released, SlowBegin, SlowEnd, Marks}
+use Rattle.walter_base.specs.declared.message.Record.TheVariants.{Boot}
 use Rattle.walter_base.specs.declared.names.SiteId.{SiteId}
 use Rattle.walter_base.specs.Sizes.{CanBeRecorded}
 use Rattle.walter_engine.specs.Effects.{AreCalls, AreCallsFor}
@@ -16,6 +16,7 @@ use Rattle.walter_engine.specs.declared.store.Store.TheVariants.{Open, Closed}
 use Rattle.walter_engine.specs.Contents.{AreSpelled}
 use Rattle.walter_engine.specs.Stores.{IsStored, IsLeft}
 use Rattle.walter_engine.specs.Writings.{IsSpelling, IsSpellingIfAny, IsOutcomeOf}
+use Rattle.walter_engine.proofs.Bodies.{some_is}
 use Rattle.walter_engine.proofs.Resting.{SizeIs, CountsNow, stored, stored_failed}
 use Rattle.walter_engine.proofs.Room.{fits, need_is, left_is}
 use Rattle.walter_engine.proofs.Spelled.{spelled_among, spelled_after}
@@ -34,8 +35,8 @@ use Rattle.walter_machine.specs.Machines.{catalog_in, tables_in, is_up, HasStand
 use Rattle.walter_record.specs.Spelling.{record_spelled, HasRecordSpelling, AreInRange}
 use Rattle.walter_rules.specs.declared.entry.Came.{Came}
 use Rattle.walter_rules.specs.declared.event.Event.{Event}
-use Rattle.walter_rules.specs.declared.event.Event.TheVariants.{Given, Stop, Restart}
-use Rattle.walter_rules.specs.declared.event.Input.TheVariants.{Call, Deliver, Advance, Tick}
+use Rattle.walter_rules.specs.declared.event.Event.TheVariants.{Given}
+use Rattle.walter_rules.specs.declared.event.Input.TheVariants.{Call}
 use Rattle.walter_rules.specs.declared.outcome.Outcome.{Outcome}
 use Rattle.walter_rules.specs.declared.outcome.Outcome.TheVariants.{Refused, Taken}
 use Rattle.walter_rules.specs.Allowed.{IsKind, boots}
@@ -129,38 +130,18 @@ pub failure_is : (event : Event) (rec : Record)
     → (is_faulty (failure event rec) ≡ true) × (is_refusal (failure event rec) ≡ false)
     × IsShortOutcome (failure event rec) × ((up : Bool) → up_after event (failure event rec) up ≡ false) × (is_taken (failure event rec) ≡ false)
 failure_is (Given (Call client call)) (Boot epoch) = (refl, refl, tt, λ up. refl, refl)
-failure_is (Given (Call client call)) (Own seq tx) = (refl, refl, tt, λ up. refl, refl)
-failure_is (Given (Call client call)) (Got from seq tx) = (refl, refl, tt, λ up. refl, refl)
-failure_is (Given (Call client call)) (Seen from seq) = (refl, refl, tt, λ up. refl, refl)
-failure_is (Given (Call client call)) (Prepared from slow tid objects) = (refl, refl, tt, λ up. refl, refl)
-failure_is (Given (Call client call)) (Released from slow) = (refl, refl, tt, λ up. refl, refl)
-failure_is (Given (Call client call)) (SlowBegin slow tx) = (refl, refl, tt, λ up. refl, refl)
-failure_is (Given (Call client call)) (SlowEnd slow) = (refl, refl, tt, λ up. refl, refl)
-failure_is (Given (Call client call)) (Marks durable visible) = (refl, refl, tt, λ up. refl, refl)
-failure_is (Given (Deliver from number packet)) rec = (refl, refl, tt, λ up. refl, refl)
-failure_is (Given (Advance from)) rec = (refl, refl, tt, λ up. refl, refl)
-failure_is (Given Tick) rec = (refl, refl, tt, λ up. refl, refl)
-failure_is Stop rec = (refl, refl, tt, λ up. refl, refl)
-failure_is Restart rec = (refl, refl, tt, λ up. refl, refl)
+failure_is event rec = (refl, refl, tt, λ up. refl, refl)
 
 pub want_is : (event : Event) → (is_faulty (want event) ≡ false) × (is_refusal (want event) ≡ false)
     × IsShortOutcome (want event) × ((up : Bool) → up_after event (want event) up ≡ up) × (is_taken (want event) ≡ false)
 want_is (Given (Call client call)) = (refl, refl, tt, λ up. refl, refl)
-want_is (Given (Deliver from number packet)) = (refl, refl, tt, λ up. refl, refl)
-want_is (Given (Advance from)) = (refl, refl, tt, λ up. refl, refl)
-want_is (Given Tick) = (refl, refl, tt, λ up. refl, refl)
-want_is Stop = (refl, refl, tt, λ up. refl, refl)
-want_is Restart = (refl, refl, tt, λ up. refl, refl)
+want_is event = (refl, refl, tt, λ up. refl, refl)
 
 pub fullness_is : (event : Event) (need left : ℕ) → (is_faulty (fullness event need left) ≡ false)
     × (is_refusal (fullness event need left) ≡ false) × IsShortOutcome (fullness event need left)
     × ((up : Bool) → up_after event (fullness event need left) up ≡ up) × (is_taken (fullness event need left) ≡ false)
 fullness_is (Given (Call client call)) need left = (refl, refl, tt, λ up. refl, refl)
-fullness_is (Given (Deliver from number packet)) need left = (refl, refl, tt, λ up. refl, refl)
-fullness_is (Given (Advance from)) need left = (refl, refl, tt, λ up. refl, refl)
-fullness_is (Given Tick) need left = (refl, refl, tt, λ up. refl, refl)
-fullness_is Stop need left = (refl, refl, tt, λ up. refl, refl)
-fullness_is Restart need left = (refl, refl, tt, λ up. refl, refl)
+fullness_is event need left = (refl, refl, tt, λ up. refl, refl)
 
 -- only a restart that reads its journal is refused
 pub unrefused : (catalog : Catalog) (i : SiteId) (site : Option Tables) (event : Event) (ready : Ready) (left : ℕ)
@@ -175,9 +156,6 @@ unrefused catalog i site event ready left outcome anyway (inr (inr (inr is))) =
     ap is_refusal is.outcome_is ∙ (fullness_is event is.need is.free).1
 
 -- ---- the parts of what came
-
-pub some_holds : (P : Record → Type 0) (o : Option Record) (rec : Record) → o ≡ Some rec → IfSome o P → P rec
-some_holds P o rec is holds = subst (λ (o : Option Record). IfSome o P) is holds
 
 pub holds_some : (P : Record → Type 0) (o : Option Record) (rec : Record) → o ≡ Some rec → P rec → IfSome o P
 holds_some P o rec is holds = subst (λ (o : Option Record). IfSome o P) (sym is) holds
@@ -214,7 +192,7 @@ module _ (catalog : Catalog) (i : SiteId) (site : Option Tables) (S : Standing) 
   brings = sym (ap (λ (e : Expected). e.wrote) ready_for.rule) ∙ is
 
   pub has : AreInRange rec → HasRecordSpelling catalog.sites rec
-  has ranges = spelled_among catalog.sites rec (some_holds (CanBeNext catalog i S) (rec_in ready) rec is ready_for.next).sizes ranges
+  has ranges = spelled_among catalog.sites rec (some_is (CanBeNext catalog i S) (rec_in ready) rec is ready_for.next).sizes ranges
 
   -- it finds its place in the journal
   pub fits_here : {D : Type 0} {g : Ghosts D} (mid : Journal D g) (capacity : ℕ) → capacity_of mid ≡ capacity

@@ -34,9 +34,5 @@ IsBegun bytes (Err NoMemory) = Unit {0}
 
 -- the disk's faults rise exactly where a first restart failed
 abbrev pub IsFaultOfBegin : Result (Unit {0}) BeginFault → ℕ → ℕ → Type 0
-IsFaultOfBegin (Ok done) old new = new ≡ old
 IsFaultOfBegin (Err Failed) old new = old < new
-IsFaultOfBegin (Err Foreign) old new = new ≡ old
-IsFaultOfBegin (Err (Damaged at length)) old new = new ≡ old
-IsFaultOfBegin (Err Used) old new = new ≡ old
-IsFaultOfBegin (Err NoMemory) old new = new ≡ old
+IsFaultOfBegin result old new = new ≡ old

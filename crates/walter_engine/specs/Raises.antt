@@ -1,5 +1,5 @@
 -- What a restart comes to over a journal that was loaded.
-use Rattle.std.specs.Prelude.{◌≡◌, ◌⊎◌, ◌<◌, ℕ, false, List, map, Option, Some, None, IsSome, IfSome}
+use Rattle.std.specs.Prelude.{◌≡◌, ◌⊎◌, ℕ, false, List, map, Option, Some, None, IfSome}
 use Rattle.walter_base.specs.declared.catalog.Catalog.{Catalog}
 use Rattle.walter_base.specs.declared.names.SiteId.{SiteId}
 use Rattle.walter_disk.specs.declared.disk.Disk.{Ghosts}
@@ -18,7 +18,7 @@ use Rattle.walter_record.specs.Spelling.{record_spelled}
 use Rattle.walter_rules.specs.declared.entry.Came.{Came}
 use Rattle.walter_rules.specs.declared.event.Event.TheVariants.{Restart}
 use Rattle.walter_rules.specs.declared.outcome.Outcome.{Outcome}
-use Rattle.walter_rules.specs.declared.outcome.Outcome.TheVariants.{Taken, Failed, Full, Memory, Refused}
+use Rattle.walter_rules.specs.declared.outcome.Outcome.TheVariants.{Failed, Memory, Refused}
 use Rattle.walter_rules.specs.Standing.{Standing, stands_after}
 use Rattle.walter_rules.specs.Trails.{Comes}
 
@@ -40,14 +40,10 @@ pub record Raises {D : Type 0} {g : Ghosts D} (catalog : Catalog) (capacity : �
   pub last : IfSome why (λ cause. (cause ≡ refused.LastEpoch) × (S.knows.epoch ≡ 4294967295))
   pub takes_none : S.knows.epoch ≡ 4294967295 → TakesNoEpoch came
 
--- its outcomes: it is refused for a cause, and finds no place where fewer bytes are left than a Boot needs
-abbrev pub IsRaised : ℕ → Option RefusedRestart → Outcome → Type 0
-IsRaised left why Taken = Unit {0}
-IsRaised left why Failed = Unit {0}
-IsRaised left why (Full need free) = left < 10
-IsRaised left why Memory = Unit {0}
-IsRaised left why Refused = IsSome why
-IsRaised left why outcome = ⊥
+-- where none is ready over the bodies
+abbrev pub hindered_by : Option RefusedRestart → Outcome
+hindered_by None = Memory
+hindered_by (Some cause) = Refused
 
 -- where no journal was loaded
 abbrev pub unloaded_by : JournalFault → Outcome × Option RefusedRestart

@@ -1,8 +1,11 @@
 -- What the bodies of a journal make of a site.
-use Rattle.std.specs.Prelude.{◌≡◌, ℕ, List, Some}
+use Rattle.std.specs.Prelude.{◌≡◌, ◌≢◌, ◌+◌, ℕ, false, List, Some, None}
 use Rattle.walter_base.specs.declared.catalog.Catalog.{Catalog}
 use Rattle.walter_base.specs.declared.message.Record.{Record}
+use Rattle.walter_base.specs.declared.message.Record.TheVariants.{Boot}
 use Rattle.walter_base.specs.declared.names.SiteId.{SiteId}
+use Rattle.walter_machine.specs.declared.ready.Ready.{Ready}
+use Rattle.walter_machine.specs.Readiness.{rec_in, IsReadyFor, IsReadyAnyway}
 use Rattle.walter_record.specs.Spelling.{record_spelled, HasRecordSpelling}
 use Rattle.walter_tables.specs.declared.replay.ReplayFault.{ReplayFault}
 use Rattle.walter_tables.specs.declared.replay.ReplayFault.TheVariants.{Unfit, NoMemory}
@@ -11,9 +14,9 @@ use Rattle.walter_tables.specs.Sites.{site_of, catalog_of, Stands}
 use Rattle.walter_rules.specs.Knowledge.{Knowledge, fresh}
 use Rattle.walter_rules.specs.Learning.{recorded}
 use Rattle.walter_rules.specs.Records.{CanFollow, replayed}
-use Rattle.walter_engine.specs.Effects.{Tell, IsUnreadable}
-use Rattle.walter_engine.specs.declared.replaying.ReadFault.{ReadFault}
-use Rattle.walter_engine.specs.declared.replaying.ReadFault.TheVariants as fault
+use Rattle.walter_rules.specs.declared.event.Event.TheVariants.{Restart}
+use Rattle.walter_rules.specs.Standing.{Standing}
+use Rattle.walter_engine.specs.Effects.{Tell}
 
 -- the body spells a record that can follow, which leaves this
 pub record Takes (old : Tables) (body : List ℕ) (new : Tables) : Type 0 where
@@ -38,6 +41,12 @@ pub record Tells (catalog : Catalog) (i : SiteId) (bodies : List (List ℕ)) (ta
   pub tell : Tell catalog i bodies records
   pub stands : Stands tables (replayed catalog i fresh records)
 
-abbrev pub IsReadFault : Catalog → SiteId → List (List ℕ) → ReadFault → Type 0
-IsReadFault catalog i bodies (fault.Unreadable index) = IsUnreadable catalog i bodies index
-IsReadFault catalog i bodies fault.NoMemory = Unit {0}
+-- a restart is ready behind these bodies, which leave it an epoch
+pub record IsReadyOver (catalog : Catalog) (i : SiteId) (bodies : List (List ℕ)) (ready : Ready) : Type 0 where
+  pub records : List Record
+  pub tell : Tell catalog i bodies records
+  pub anyway : IsReadyAnyway catalog i None Restart ready
+  pub ready_for : (S : Standing) → S.up ≡ false → replayed catalog i fresh records ≡ S.knows
+      → IsReadyFor catalog i None S Restart ready
+  pub boots : rec_in ready ≡ Some (Boot ((replayed catalog i fresh records).epoch + 1))
+  pub left : (replayed catalog i fresh records).epoch ≢ 4294967295

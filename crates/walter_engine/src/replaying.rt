@@ -1,50 +1,71 @@
-ghost use Rattle.std.specs.Prelude.{◌≡◌, ◌≤◌, ◌<◌, map, IfOk, IfErr, OnOk};
+ghost use Rattle.std.specs.Prelude.{◌≡◌, ◌≤◌, ◌<◌, map, IfOk, IfErr, IfSome, OnOk};
 ghost use Rattle.walter_tables.specs.Sites.{site_of, catalog_of};
-ghost use Rattle.walter_engine.specs.Replays.{Takes, IsUnfit, Tells, IsReadFault};
+ghost use Rattle.walter_engine.specs.Effects.{IsRefusedOver};
+ghost use Rattle.walter_engine.specs.Replays.{Takes, IsUnfit, Tells, IsReadyOver};
 ghost use Rattle.walter_base.specs.Vectors.{most_sites};
 
+use crate::answers::RefusedRestart;
 use std::alloc::Global;
 use walter_base::{Catalog, NoMemory, SiteId};
+use walter_machine::{BootFault, Ready};
 use walter_tables::{ReplayFault, Tables};
 
-/// Why bodies make no site.
-#[derive(Clone, Copy, Drop)]
-pub(crate) enum ReadFault {
-    /// The body with this index spells no record, or one that can't follow.
-    Unreadable { index: u64 },
-    NoMemory,
-}
-
-/// The tables of the site that these bodies tell.
-pub(crate) fn replay_all(
+/// A restart that is ready behind these bodies. There is none where it is refused for what they are, or memory ran out.
+pub(crate) fn ready_over(
     alloc: Global,
     catalog: &Catalog,
     id: SiteId,
     bodies: &[Vec<u8>],
-) -> Result<Tables, ReadFault>
+) -> Result<Ready, Option<RefusedRestart>>
+    requires here { id.0 < catalog.now.sites }
+    requires most { catalog.now.sites ≤ most_sites }
+    requires fewer { catalog.now.tolerated < catalog.now.sites }
+    ensures ready { IfOk result (IsReadyOver catalog.now id (map (λ body. body.items) bodies.now)) }
+    ensures refused { IfErr result (λ why.
+        IfSome why (IsRefusedOver catalog.now id (map (λ body. body.items) bodies.now))) }
+{
+    let tables = match replay_all(alloc, catalog, id, bodies) {
+        Ok(tables) => tables,
+        Err(why) => return Err(why),
+    };
+    match Ready::boot(alloc, tables) {
+        Ok(ready) => Ok(ready),
+        Err(BootFault::LastEpoch) => Err(Some(RefusedRestart::LastEpoch)),
+        Err(BootFault::NoMemory) => Err(None),
+    }
+}
+
+// The tables of the site that these bodies tell.
+fn replay_all(
+    alloc: Global,
+    catalog: &Catalog,
+    id: SiteId,
+    bodies: &[Vec<u8>],
+) -> Result<Tables, Option<RefusedRestart>>
     requires here { id.0 < catalog.now.sites }
     requires most { catalog.now.sites ≤ most_sites }
     requires fewer { catalog.now.tolerated < catalog.now.sites }
     ensures site { IfOk result (λ tables. site_of tables ≡ id) }
     ensures catalog { IfOk result (λ tables. catalog_of tables ≡ catalog.now) }
     ensures told { IfOk result (Tells catalog.now id (map (λ body. body.items) bodies.now)) }
-    ensures fault { IfErr result (IsReadFault catalog.now id (map (λ body. body.items) bodies.now)) }
+    ensures refused { IfErr result (λ why.
+        IfSome why (IsRefusedOver catalog.now id (map (λ body. body.items) bodies.now))) }
 {
     let Ok(copy) = catalog.clone() else {
-        return Err(ReadFault::NoMemory);
+        return Err(None);
     };
     let Ok(mut tables) = Tables::new(alloc, copy, id) else {
-        return Err(ReadFault::NoMemory);
+        return Err(None);
     };
     for (index, body) in bodies.iter().enumerate() {
         match replay_body(alloc, &mut tables, body, catalog.sites) {
             Ok(()) => {}
             Err(ReplayFault::Unfit) => {
-                return Err(ReadFault::Unreadable {
+                return Err(Some(RefusedRestart::Unreadable {
                     index: index as u64,
-                });
+                }));
             }
-            Err(ReplayFault::NoMemory) => return Err(ReadFault::NoMemory),
+            Err(ReplayFault::NoMemory) => return Err(None),
         }
     }
     Ok(tables)

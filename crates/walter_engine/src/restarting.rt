@@ -1,23 +1,22 @@
-ghost use Rattle.std.specs.Prelude.{◌≡◌, [], None, false, map, length, is_some, IfSome, IsSome};
+ghost use Rattle.std.specs.Prelude.{◌≡◌, [], None, false, map, length, is_some, IfSome};
 ghost use Rattle.walter_disk.specs.Images.{LeavesOnly};
 ghost use Rattle.walter_engine.specs.Contents.{MayHaveNext};
 ghost use Rattle.walter_engine.specs.Effects.{AreCalls, IsRefusedOver};
-ghost use Rattle.walter_engine.specs.Raises.{LiesIn, Raises, IsRaised, unloaded_by};
+ghost use Rattle.walter_engine.specs.Raises.{LiesIn, Raises, hindered_by, unloaded_by};
 ghost use Rattle.walter_engine.specs.Restarts.{ComesOf};
 ghost use Rattle.walter_journal.specs.Journals.{disk_of, capacity_of, left_of};
 ghost use Rattle.walter_machine.specs.Comings.{IsSized, IsFaulty};
 ghost use Rattle.walter_machine.specs.Machines.{catalog_in, site_in, tables_in, records_in, is_up, HasStanding, HasRoom, IsSameSite};
 ghost use Rattle.walter_rules.specs.Standing.{Standing, up_after};
 ghost use Rattle.walter_rules.specs.declared.event.Event.TheVariants as event;
-ghost use Rattle.walter_rules.specs.declared.outcome.Outcome.TheVariants as outcome;
 
 use crate::answers::RefusedRestart;
-use crate::replaying::{ReadFault, replay_all};
+use crate::replaying::ready_over;
 use crate::writing::write;
 use std::alloc::Global;
 use walter_disk::Disk;
 use walter_journal::{Journal, JournalFault};
-use walter_machine::{BootFault, Machine, Ready};
+use walter_machine::Machine;
 use walter_rules::{Came, Event, Outcome};
 
 /// The site comes up that the bodies of its journal tell, in its next epoch, which is journaled. The record in flight
@@ -41,11 +40,9 @@ pub(crate) fn raise<D: Disk>(
         (MayHaveNext (catalog_in machine.old) (site_in machine.old) S event.Restart None) }
     ensures refused { IfSome result.1 (λ why. (disk_of journal.new ≡ disk_of journal.old)
         × IsRefusedOver (catalog_in machine.old) (site_in machine.old) (map (λ body. body.items) bodies.now) why) }
-    ensures outcome { IsRaised (left_of journal.old) result.1 result.0.outcome }
     // over any bodies
     ensures over { ComesOf (catalog_in machine.old) (site_in machine.old) (left_of journal.old)
         (map (λ body. body.items) bodies.now) result.0.wrote result.1 result.0.outcome }
-    ensures rises { result.0.outcome ≡ outcome.Taken → IsSome result.0.wrote }
     ensures up { is_up machine.new ≡ up_after event.Restart result.0.outcome false }
     ensures sized { IsSized (catalog_in machine.old).sites result.0 }
     ensures none_sent { result.0.sends ≡ [] }
@@ -58,24 +55,22 @@ pub(crate) fn raise<D: Disk>(
     ensures capacity { capacity_of journal.new ≡ capacity_of journal.old }
     ensures same { IsSameSite machine.old machine.new }
 {
-    let tables = match replay_all(alloc, machine.catalog(), machine.id(), bodies) {
-        Ok(tables) => tables,
-        Err(ReadFault::Unreadable { index }) => {
-            let why = RefusedRestart::Unreadable { index };
-            return (machine.rest(Outcome::Refused), Some(why));
-        }
-        Err(ReadFault::NoMemory) => return (machine.rest(Outcome::Memory), None),
-    };
-    match Ready::boot(alloc, tables) {
+    match ready_over(alloc, machine.catalog(), machine.id(), bodies) {
         Ok(ready) => {
             let (came, _) = write(alloc, machine, journal, &Event::Restart, ready);
             (came, None)
         }
-        Err(BootFault::LastEpoch) => (
-            machine.rest(Outcome::Refused),
-            Some(RefusedRestart::LastEpoch),
-        ),
-        Err(BootFault::NoMemory) => (machine.rest(Outcome::Memory), None),
+        Err(why) => (machine.rest(hindrance(why)), why),
+    }
+}
+
+// What a restart comes to where none is ready.
+fn hindrance(why: Option<RefusedRestart>) -> Outcome
+    ensures { result ≡ hindered_by why }
+{
+    match why {
+        Some(_) => Outcome::Refused,
+        None => Outcome::Memory,
     }
 }
 

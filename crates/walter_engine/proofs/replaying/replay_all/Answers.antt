@@ -2,8 +2,8 @@ use Rattle.std.proofs.Common.{◌∙◌}
 use Rattle.walter_engine.proofs.Bodies.{tells_none, tells_next, unreadable_at}
 use Rattle.walter_engine.proofs.replaying.replay_all.Goals as goal
 
-pub returns-in-Err-Unfit-clause-fault : goal.returns-in-Err-Unfit-clause-fault
-returns-in-Err-Unfit-clause-fault c =
+pub returns-in-Err-Unfit-clause-refused : goal.returns-in-Err-Unfit-clause-refused
+returns-in-Err-Unfit-clause-refused c =
     let l = c.loop-index in
     unreadable_at (λ body. body.items) _ _ c.args.bodies.now l.index c.index-bodies-index.result c.deref.result.now _ l.invariant.catalog_is l.invariant.site_is c.loop-index-test.true c.index-bodies-index.is c.deref.ensures.value l.invariant.tells
     c.in-Err-Unfit.field-0 c.in-Err-Unfit.field-0-is c.in-Err-Unfit.ensures.unfit

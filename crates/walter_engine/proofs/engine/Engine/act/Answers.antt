@@ -6,7 +6,7 @@ use Rattle.walter_engine.specs.Contents.{AreSpelled, MayHaveNext}
 use Rattle.walter_engine.specs.Stores.{disk_under, disk_of_store, IsLeft, IsStored, IsOfCapacity}
 use Rattle.walter_engine.specs.declared.store.Store.TheVariants.{Open, Closed}
 use Rattle.walter_journal.specs.Journals.{disk_of}
-use Rattle.walter_machine.specs.Machines.{catalog_in, site_in, tables_in, is_up}
+use Rattle.walter_machine.specs.Machines.{catalog_in, site_in, tables_in}
 use Rattle.walter_machine.specs.Readiness.{rec_in, IsReadyFor}
 use Rattle.walter_rules.specs.declared.entry.Came.{Came}
 use Rattle.walter_rules.specs.Standing.{stands_after}
@@ -23,120 +23,105 @@ use Rattle.walter_rules.specs.Calls.{Expected}
 use Rattle.walter_rules.specs.Rule.{rule}
 use Rattle.walter_rules.specs.Sending.{Send}
 
-pub returns-in_default-prepare-clause-taken : goal.returns-in_default-prepare-clause-taken
-returns-in_default-prepare-clause-taken g c =
+pub returns-in_default-prepare : goal.returns-in_default-prepare
+returns-in_default-prepare g c =
     let was = sym c.replace.ensures.value ∙ c.in-Some-Open.is ∙ ap Some c.in-Some-Open.field-0-is in
     let before = ap disk_under was in
     let came = c.want.ensures.came in
     let free = c.in_default-prepare.ensures.free in
     record {
-      comes = λ S stands.
-          let up = state_up S (tables_in c.args.self.now.machine) stands.machine.state in
-          let takes = subst (λ (b : Bool). TakesMemory b c.args.event.now) (sym up) free in
-          let standing = c.prepare.ensures.stands S stands.machine in
-          let stored = subst (λ o. IsStored {g = g.D.Disk} S o) was stands.store in
-          let spelled = subst (λ (x : Catalog). AreSpelled x.sites S) (sym c.prepare.ensures.same.catalog) stands.spelled in
-          let left = leaves_same {g = g.D.Disk} g.met.D.Disk.size_is (catalog_in c.prepare.new.self) (site_in c.prepare.new.self) S c.args.event.now spelled c.prepare.new.self refl c.want.result
-          (c.want.ensures.stands S standing takes) c.in-Some-Open.journal stored (ap (λ (x : Came). x.wrote) came) (ap (λ (x : Came). x.flight) came) in
-          let store_is = ap (λ (b : Bool). Some (if b then Open c.in-Some-Open.journal else Closed (disk_of c.in-Some-Open.journal))) (sym (c.prepare.ensures.up ∙ c.requires.up)) in
-          let comes = same_parts (λ x k. Comes x c.args.self.now.capacity k S c.args.event.now c.want.result) (catalog_in c.prepare.new.self) (catalog_in c.args.self.now.machine) (site_in c.prepare.new.self) (site_in c.args.self.now.machine) (sym c.prepare.ensures.same.catalog) (sym c.prepare.ensures.same.id)
-          (c.want.ensures.comes c.args.self.now.capacity S takes) in
-          let left_here = same_parts (λ x k. IsLeft {g = g.D.Disk} c.prepare.new.self (stands_after x k S c.args.event.now c.want.result) c.in-Some-Open.journal) (catalog_in c.prepare.new.self) (catalog_in c.args.self.now.machine) (site_in c.prepare.new.self) (site_in c.args.self.now.machine) (sym c.prepare.ensures.same.catalog) (sym c.prepare.ensures.same.id) left in
-          come_as {g = g.D.Disk} (catalog_in c.args.self.now.machine) c.args.self.now.capacity (site_in c.args.self.now.machine) S c.args.event.now c.want.result _ (ap (λ (x : Came). x.kept) came)
-          (λ down restart. absurd (let e = sym (up ∙ c.requires.up) ∙ down in cc)) comes
-          (stands_left {g = g.D.Disk} _ _ c.in-Some-Open.journal left_here store_is);
-      any_moment = λ S stands.
+      taken =
+          record {
+            comes = λ S stands.
+                let up = state_up S (tables_in c.args.self.now.machine) stands.machine.state in
+                let takes = subst (λ (b : Bool). TakesMemory b c.args.event.now) (sym up) free in
+                let standing = c.prepare.ensures.stands S stands.machine in
+                let stored = subst (λ o. IsStored {g = g.D.Disk} S o) was stands.store in
+                let spelled = subst (λ (x : Catalog). AreSpelled x.sites S) (sym c.prepare.ensures.same.catalog) stands.spelled in
+                let left = leaves_same {g = g.D.Disk} g.met.D.Disk.size_is (catalog_in c.prepare.new.self) (site_in c.prepare.new.self) S c.args.event.now spelled c.prepare.new.self refl c.want.result
+                (c.want.ensures.stands S standing takes) c.in-Some-Open.journal stored (ap (λ (x : Came). x.wrote) came) (ap (λ (x : Came). x.flight) came) in
+                let store_is = ap (λ (b : Bool). Some (if b then Open c.in-Some-Open.journal else Closed (disk_of c.in-Some-Open.journal))) (sym (c.prepare.ensures.up ∙ c.requires.up)) in
+                let comes = same_parts (λ x k. Comes x c.args.self.now.capacity k S c.args.event.now c.want.result) (catalog_in c.prepare.new.self) (catalog_in c.args.self.now.machine) (site_in c.prepare.new.self) (site_in c.args.self.now.machine) (sym c.prepare.ensures.same.catalog) (sym c.prepare.ensures.same.id)
+                (c.want.ensures.comes c.args.self.now.capacity S takes) in
+                let left_here = same_parts (λ x k. IsLeft {g = g.D.Disk} c.prepare.new.self (stands_after x k S c.args.event.now c.want.result) c.in-Some-Open.journal) (catalog_in c.prepare.new.self) (catalog_in c.args.self.now.machine) (site_in c.prepare.new.self) (site_in c.args.self.now.machine) (sym c.prepare.ensures.same.catalog) (sym c.prepare.ensures.same.id) left in
+                come_as {g = g.D.Disk} (catalog_in c.args.self.now.machine) c.args.self.now.capacity (site_in c.args.self.now.machine) S c.args.event.now c.want.result _ (ap (λ (x : Came). x.kept) came)
+                (λ down restart. absurd (let e = sym (up ∙ c.requires.up) ∙ down in cc)) comes
+                (stands_left {g = g.D.Disk} _ _ c.in-Some-Open.journal left_here store_is);
+            any_moment = λ S stands.
+                rw before
+                (unmoved_next {g = g.D.Disk} g.met.D.Disk.only_now c.in-Some-Open.journal (catalog_in c.args.self.now.machine) (site_in c.args.self.now.machine) S c.args.event.now c.want.result.kept (subst (λ o. IsStored {g = g.D.Disk} S o) was stands.store));
+            refused = always (λ (bytes : List ℕ). Unit {0}) (g.D.Disk.known (disk_of c.in-Some-Open.journal)).reads (λ bytes. tt);
+            why = λ refused. absurd (let e = sym (ap is_refusal refused) ∙ ap (λ (x : Came). is_refusal x.outcome) came ∙ (want_is c.args.event.now).1 in cc);
+            sized = sized_as _ c.want.result _ came (sized_only _ (want c.args.event.now) (want_is c.args.event.now).2);
+            framed =
+                let none : map (λ (s : Send). frame_of (catalog_in c.args.self.now.machine).sites s.1) c.want.result.sends ≡ [] = ap (λ (x : Came). map (λ (s : Send). frame_of (catalog_in c.args.self.now.machine).sites s.1) x.sends) came in
+                cc;
+            none_dropped = ap (λ (x : Came). x.dropped) came;
+            faults = rw before
+                (faults_as c.want.result false _ _ (ap (λ (x : Came). is_faulty x.outcome) came ∙ (want_is c.args.event.now).0) refl);
+            arms = rw before refl;
+            tells = rw before refl;
+            engine = record { catalog = c.prepare.ensures.same.catalog; site = c.prepare.ensures.same.id; capacity = refl };
+          };
+      device =
           rw before
-          (unmoved_next {g = g.D.Disk} g.met.D.Disk.only_now c.in-Some-Open.journal (catalog_in c.args.self.now.machine) (site_in c.args.self.now.machine) S c.args.event.now c.want.result.kept (subst (λ o. IsStored {g = g.D.Disk} S o) was stands.store));
-      refused = always (λ (bytes : List ℕ). Unit {0}) (g.D.Disk.known (disk_of c.in-Some-Open.journal)).reads (λ bytes. tt);
-      why = λ refused. absurd (let e = sym (ap is_refusal refused) ∙ ap (λ (x : Came). is_refusal x.outcome) came ∙ (want_is c.args.event.now).1 in cc);
-      sized = sized_as _ c.want.result _ came (sized_only _ (want c.args.event.now) (want_is c.args.event.now).2);
-      framed =
-          let none : map (λ (s : Send). frame_of (catalog_in c.args.self.now.machine).sites s.1) c.want.result.sends ≡ [] = ap (λ (x : Came). map (λ (s : Send). frame_of (catalog_in c.args.self.now.machine).sites s.1) x.sends) came in
-          cc;
-      none_dropped = ap (λ (x : Came). x.dropped) came;
-      faults = rw before
-          (faults_as c.want.result false _ _ (ap (λ (x : Came). is_faulty x.outcome) came ∙ (want_is c.args.event.now).0) refl);
-      arms = rw before refl;
-      tells = rw before refl;
-      engine = record { catalog = c.prepare.ensures.same.catalog; site = c.prepare.ensures.same.id; capacity = refl };
+          (calls_as c.want.result None None _ _ (ap (λ (x : Came). x.wrote) came) (ap (λ (x : Came). x.flight) came) refl);
+      stops = λ stop. sym before;
     }
 
-pub returns-in_default-prepare-clause-device : goal.returns-in_default-prepare-clause-device
-returns-in_default-prepare-clause-device g c =
-    let was = sym c.replace.ensures.value ∙ c.in-Some-Open.is ∙ ap Some c.in-Some-Open.field-0-is in
-    let before = ap disk_under was in
-    let came = c.want.ensures.came in
-    rw before
-    (calls_as c.want.result None None _ _ (ap (λ (x : Came). x.wrote) came) (ap (λ (x : Came). x.flight) came) refl)
-
-pub returns-in_default-prepare-clause-stops : goal.returns-in_default-prepare-clause-stops
-returns-in_default-prepare-clause-stops g c stop =
-    let was = sym c.replace.ensures.value ∙ c.in-Some-Open.is ∙ ap Some c.in-Some-Open.field-0-is in
-    let before = ap disk_under was in
-    sym before
-
-pub returns-clause-taken : goal.returns-clause-taken
-returns-clause-taken g c =
+pub returns : goal.returns
+returns g c =
     let was = sym c.replace.ensures.value ∙ c.in-Some-Open.is ∙ ap Some c.in-Some-Open.field-0-is in
     let before = ap disk_under was in
     let now = ap Some c.store_of.ensures.disk in
     record {
-      comes = λ S stands.
-          let up = state_up S (tables_in c.args.self.now.machine) stands.machine.state in
-          let standing = c.prepare.ensures.stands S stands.machine in
-          let stored = subst (λ o. IsStored {g = g.D.Disk} S o) was stands.store in
-          let spelled = subst (λ (x : Catalog). AreSpelled x.sites S) (sym c.prepare.ensures.same.catalog) stands.spelled in
-          let ready_for = (same_parts (λ x k. IsReadyFor x k (tables_in c.prepare.new.self) S c.args.event.now c.in-Ok.ready) (catalog_in c.args.self.now.machine) (catalog_in c.prepare.new.self) (site_in c.args.self.now.machine) (site_in c.prepare.new.self) c.prepare.ensures.same.catalog c.prepare.ensures.same.id
-          (c.in-Ok.ensures.ready S stands.machine)) in
-          let counted = counted_up c.prepare.new.self S (rec_in c.in-Ok.ready) (up ∙ c.requires.up) standing in
-          let store_is = ap Some (c.store_of.ensures.is
-          ∙ ap (λ (b : Bool). if b then Open c.write-came.new.journal else Closed (disk_of c.write-came.new.journal)) c.is_up.ensures) in
-          let comes = same_parts (λ x k. Comes x c.args.self.now.capacity k S c.args.event.now c.write-came.result.0) (catalog_in c.prepare.new.self) (catalog_in c.args.self.now.machine) (site_in c.prepare.new.self) (site_in c.args.self.now.machine) (sym c.prepare.ensures.same.catalog) (sym c.prepare.ensures.same.id)
-          (subst (λ (n : ℕ). Comes (catalog_in c.prepare.new.self) n (site_in c.prepare.new.self) S c.args.event.now c.write-came.result.0) (subst (λ o. IsOfCapacity c.args.self.now.capacity o) was c.args.self.now.of)
-          (c.write-came.ensures.comes S standing counted ready_for spelled stored)) in
-          let left = same_parts (λ x k. IsLeft {g = g.D.Disk} c.write-came.new.machine (stands_after x k S c.args.event.now c.write-came.result.0) c.write-came.new.journal) (catalog_in c.prepare.new.self) (catalog_in c.args.self.now.machine) (site_in c.prepare.new.self) (site_in c.args.self.now.machine) (sym c.prepare.ensures.same.catalog) (sym c.prepare.ensures.same.id)
-          (c.write-came.ensures.leaves S standing counted ready_for spelled stored) in
-          come_as {g = g.D.Disk} (catalog_in c.args.self.now.machine) c.args.self.now.capacity (site_in c.args.self.now.machine) S c.args.event.now c.write-came.result.0 _ c.write-came.ensures.none_kept
-          (λ down restart. absurd (let e = sym (up ∙ c.requires.up) ∙ down in cc)) comes
-          (stands_left {g = g.D.Disk} _ _ c.write-came.new.journal left store_is);
-      any_moment = λ S stands.
-          let ready_for = (same_parts (λ x k. IsReadyFor x k (tables_in c.prepare.new.self) S c.args.event.now c.in-Ok.ready) (catalog_in c.args.self.now.machine) (catalog_in c.prepare.new.self) (site_in c.args.self.now.machine) (site_in c.prepare.new.self) c.prepare.ensures.same.catalog c.prepare.ensures.same.id
-          (c.in-Ok.ensures.ready S stands.machine)) in
-          rw (before, c.store_of.ensures.disk)
-          (same_parts (λ x k. LeavesOnly g.D.Disk.moment g.D.Disk.left_since (disk_of c.in-Some-Open.journal) (disk_of c.write-came.new.journal) (MayHaveNext x k S c.args.event.now c.write-came.result.0.kept))
-          (catalog_in c.prepare.new.self) (catalog_in c.args.self.now.machine) (site_in c.prepare.new.self) (site_in c.args.self.now.machine) (sym c.prepare.ensures.same.catalog) (sym c.prepare.ensures.same.id)
-          (subst (λ (o : Option Record). LeavesOnly g.D.Disk.moment g.D.Disk.left_since (disk_of c.in-Some-Open.journal) (disk_of c.write-came.new.journal) (MayHaveNext (catalog_in c.prepare.new.self) (site_in c.prepare.new.self) S c.args.event.now o))
-          (sym c.write-came.ensures.none_kept) (c.write-came.ensures.any_moment S ready_for (subst (λ o. IsStored {g = g.D.Disk} S o) was stands.store))));
-      refused = always (λ (bytes : List ℕ). Unit {0}) (g.D.Disk.known (disk_of_store c.store_of.result)).reads (λ bytes. tt);
-      why = λ refused. absurd (let e = sym (ap is_refusal refused)
-          ∙ unrefused _ _ _ c.args.event.now c.in-Ok.ready _ _ c.in-Ok.ensures.anyway c.write-came.ensures.outcome in cc);
-      sized = subst (λ (x : Catalog). IsSized x.sites c.write-came.result.0) c.prepare.ensures.same.catalog c.write-came.ensures.sized;
-      framed = subst (λ (x : Catalog). c.write-came.result.1.items ≡ map (λ (s : Send). frame_of x.sites s.1) c.write-came.result.0.sends)
-          c.prepare.ensures.same.catalog c.write-came.ensures.framed;
-      none_dropped = c.write-came.ensures.none_dropped;
-      faults = rw (before, c.store_of.ensures.disk) c.write-came.ensures.faults;
-      arms = rw (before, c.store_of.ensures.disk) c.write-came.ensures.arms;
-      tells = rw (before, c.store_of.ensures.disk) c.write-came.ensures.tells;
-      engine = record {
-        catalog = c.write-came.ensures.same.catalog ∙ c.prepare.ensures.same.catalog;
-        site = c.write-came.ensures.same.id ∙ c.prepare.ensures.same.id;
-        capacity = refl;
-      };
+      taken =
+          record {
+            comes = λ S stands.
+                let up = state_up S (tables_in c.args.self.now.machine) stands.machine.state in
+                let standing = c.prepare.ensures.stands S stands.machine in
+                let stored = subst (λ o. IsStored {g = g.D.Disk} S o) was stands.store in
+                let spelled = subst (λ (x : Catalog). AreSpelled x.sites S) (sym c.prepare.ensures.same.catalog) stands.spelled in
+                let ready_for = (same_parts (λ x k. IsReadyFor x k (tables_in c.prepare.new.self) S c.args.event.now c.in-Ok.ready) (catalog_in c.args.self.now.machine) (catalog_in c.prepare.new.self) (site_in c.args.self.now.machine) (site_in c.prepare.new.self) c.prepare.ensures.same.catalog c.prepare.ensures.same.id
+                (c.in-Ok.ensures.ready S stands.machine)) in
+                let counted = counted_up c.prepare.new.self S (rec_in c.in-Ok.ready) (up ∙ c.requires.up) standing in
+                let store_is = ap Some (c.store_of.ensures.is
+                ∙ ap (λ (b : Bool). if b then Open c.write-came.new.journal else Closed (disk_of c.write-came.new.journal)) c.is_up.ensures) in
+                let comes = same_parts (λ x k. Comes x c.args.self.now.capacity k S c.args.event.now c.write-came.result.0) (catalog_in c.prepare.new.self) (catalog_in c.args.self.now.machine) (site_in c.prepare.new.self) (site_in c.args.self.now.machine) (sym c.prepare.ensures.same.catalog) (sym c.prepare.ensures.same.id)
+                (subst (λ (n : ℕ). Comes (catalog_in c.prepare.new.self) n (site_in c.prepare.new.self) S c.args.event.now c.write-came.result.0) (subst (λ o. IsOfCapacity c.args.self.now.capacity o) was c.args.self.now.of)
+                (c.write-came.ensures.comes S standing counted ready_for spelled stored)) in
+                let left = same_parts (λ x k. IsLeft {g = g.D.Disk} c.write-came.new.machine (stands_after x k S c.args.event.now c.write-came.result.0) c.write-came.new.journal) (catalog_in c.prepare.new.self) (catalog_in c.args.self.now.machine) (site_in c.prepare.new.self) (site_in c.args.self.now.machine) (sym c.prepare.ensures.same.catalog) (sym c.prepare.ensures.same.id)
+                (c.write-came.ensures.leaves S standing counted ready_for spelled stored) in
+                come_as {g = g.D.Disk} (catalog_in c.args.self.now.machine) c.args.self.now.capacity (site_in c.args.self.now.machine) S c.args.event.now c.write-came.result.0 _ c.write-came.ensures.none_kept
+                (λ down restart. absurd (let e = sym (up ∙ c.requires.up) ∙ down in cc)) comes
+                (stands_left {g = g.D.Disk} _ _ c.write-came.new.journal left store_is);
+            any_moment = λ S stands.
+                let ready_for = (same_parts (λ x k. IsReadyFor x k (tables_in c.prepare.new.self) S c.args.event.now c.in-Ok.ready) (catalog_in c.args.self.now.machine) (catalog_in c.prepare.new.self) (site_in c.args.self.now.machine) (site_in c.prepare.new.self) c.prepare.ensures.same.catalog c.prepare.ensures.same.id
+                (c.in-Ok.ensures.ready S stands.machine)) in
+                rw (before, c.store_of.ensures.disk)
+                (same_parts (λ x k. LeavesOnly g.D.Disk.moment g.D.Disk.left_since (disk_of c.in-Some-Open.journal) (disk_of c.write-came.new.journal) (MayHaveNext x k S c.args.event.now c.write-came.result.0.kept))
+                (catalog_in c.prepare.new.self) (catalog_in c.args.self.now.machine) (site_in c.prepare.new.self) (site_in c.args.self.now.machine) (sym c.prepare.ensures.same.catalog) (sym c.prepare.ensures.same.id)
+                (subst (λ (o : Option Record). LeavesOnly g.D.Disk.moment g.D.Disk.left_since (disk_of c.in-Some-Open.journal) (disk_of c.write-came.new.journal) (MayHaveNext (catalog_in c.prepare.new.self) (site_in c.prepare.new.self) S c.args.event.now o))
+                (sym c.write-came.ensures.none_kept) (c.write-came.ensures.any_moment S ready_for (subst (λ o. IsStored {g = g.D.Disk} S o) was stands.store))));
+            refused = always (λ (bytes : List ℕ). Unit {0}) (g.D.Disk.known (disk_of_store c.store_of.result)).reads (λ bytes. tt);
+            why = λ refused. absurd (let e = sym (ap is_refusal refused)
+                ∙ unrefused _ _ _ c.args.event.now c.in-Ok.ready _ _ c.in-Ok.ensures.anyway c.write-came.ensures.outcome in cc);
+            sized = subst (λ (x : Catalog). IsSized x.sites c.write-came.result.0) c.prepare.ensures.same.catalog c.write-came.ensures.sized;
+            framed = subst (λ (x : Catalog). c.write-came.result.1.items ≡ map (λ (s : Send). frame_of x.sites s.1) c.write-came.result.0.sends)
+                c.prepare.ensures.same.catalog c.write-came.ensures.framed;
+            none_dropped = c.write-came.ensures.none_dropped;
+            faults = rw (before, c.store_of.ensures.disk) c.write-came.ensures.faults;
+            arms = rw (before, c.store_of.ensures.disk) c.write-came.ensures.arms;
+            tells = rw (before, c.store_of.ensures.disk) c.write-came.ensures.tells;
+            engine = record {
+              catalog = c.write-came.ensures.same.catalog ∙ c.prepare.ensures.same.catalog;
+              site = c.write-came.ensures.same.id ∙ c.prepare.ensures.same.id;
+              capacity = refl;
+            };
+          };
+      device = rw (before, c.store_of.ensures.disk) c.write-came.ensures.device;
+      stops = λ stop.
+          let none = ap (λ (e : Expected). e.wrote) c.in-Ok.ensures.anyway.ready_for.rule
+          ∙ ap (λ e. (rule (catalog_in c.args.self.now.machine) (site_in c.args.self.now.machine) c.in-Ok.ensures.anyway.S e).wrote) stop ∙ stop_brings (catalog_in c.args.self.now.machine) (site_in c.args.self.now.machine) c.in-Ok.ensures.anyway.S in
+          now ∙ ap Some (c.write-came.ensures.untouched none) ∙ sym before;
     }
-
-pub returns-clause-device : goal.returns-clause-device
-returns-clause-device g c =
-    let was = sym c.replace.ensures.value ∙ c.in-Some-Open.is ∙ ap Some c.in-Some-Open.field-0-is in
-    let before = ap disk_under was in
-    let now = ap Some c.store_of.ensures.disk in
-    rw (before, c.store_of.ensures.disk) c.write-came.ensures.device
-
-pub returns-clause-stops : goal.returns-clause-stops
-returns-clause-stops g c stop =
-    let was = sym c.replace.ensures.value ∙ c.in-Some-Open.is ∙ ap Some c.in-Some-Open.field-0-is in
-    let before = ap disk_under was in
-    let now = ap Some c.store_of.ensures.disk in
-    let none = ap (λ (e : Expected). e.wrote) c.in-Ok.ensures.anyway.ready_for.rule
-    ∙ ap (λ e. (rule (catalog_in c.args.self.now.machine) (site_in c.args.self.now.machine) c.in-Ok.ensures.anyway.S e).wrote) stop ∙ stop_brings (catalog_in c.args.self.now.machine) (site_in c.args.self.now.machine) c.in-Ok.ensures.anyway.S in
-    now ∙ ap Some (c.write-came.ensures.untouched none) ∙ sym before

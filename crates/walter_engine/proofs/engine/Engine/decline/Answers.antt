@@ -18,7 +18,6 @@ use Rattle.walter_engine.proofs.engine.Engine.decline.Goals as goal
 use Rattle.walter_machine.specs.Comings.{is_faulty, IsFaulty}
 use Rattle.walter_packet.specs.Framed.{frame_of}
 use Rattle.walter_rules.specs.Calls.{Expected}
-use Rattle.walter_rules.specs.Rule.{rule}
 use Rattle.walter_rules.specs.Sending.{Send}
 
 pub unreachable-requires : goal.unreachable-requires
@@ -29,49 +28,47 @@ pub keep-came-requires-clause-anyway : goal.keep-came-requires-clause-anyway
 keep-came-requires-clause-anyway g c =
     same_parts (λ x k. IsReadyAnyway x k (tables_in c.prepare.new.self) c.args.event.now c.in-Ok.ready) (catalog_in c.args.self.now.machine) (catalog_in c.prepare.new.self) (site_in c.args.self.now.machine) (site_in c.prepare.new.self) c.prepare.ensures.same.catalog c.prepare.ensures.same.id c.in-Ok.ensures.anyway
 
-pub returns-clause-taken : goal.returns-clause-taken
-returns-clause-taken g c =
+pub returns : goal.returns
+returns g c =
     let came = c.keep-came.ensures.came in
     let none = brings_none _ _ (tables_in c.prepare.new.self) c.in-Ok.ensures.anyway.S c.args.event.now c.in-Ok.ready.step
     (none_of (tables_in c.prepare.new.self) (c.prepare.ensures.up ∙ c.requires.down)) c.requires.stays c.in-Ok.ensures.anyway.ready_for.step in
     record {
-      comes = λ S stands.
-          let down = state_up S (tables_in c.args.self.now.machine) stands.machine.state ∙ c.requires.down in
-          let standing = c.prepare.ensures.stands S stands.machine in
-          let ready_for = (same_parts (λ x k. IsReadyFor x k (tables_in c.prepare.new.self) S c.args.event.now c.in-Ok.ready) (catalog_in c.args.self.now.machine) (catalog_in c.prepare.new.self) (site_in c.args.self.now.machine) (site_in c.prepare.new.self) c.prepare.ensures.same.catalog c.prepare.ensures.same.id
-          (c.in-Ok.ensures.ready S stands.machine)) in
-          let counted = subst (λ (o : Option Record). IsCounted c.prepare.new.self S o) (sym none) tt in
-          let after = c.keep-came.ensures.stands S standing counted ready_for in
-          let comes = same_parts (λ x k. Comes x c.args.self.now.capacity k S c.args.event.now c.keep-came.result.0) (catalog_in c.prepare.new.self) (catalog_in c.args.self.now.machine) (site_in c.prepare.new.self) (site_in c.args.self.now.machine) (sym c.prepare.ensures.same.catalog) (sym c.prepare.ensures.same.id)
-          (c.keep-came.ensures.comes c.args.self.now.capacity S ready_for (subst (λ (o : Option Record). IfSome o (FitsIn c.args.self.now.capacity S)) (sym none) tt)) in
-          let here = same_parts (λ x k. HasStanding c.keep-came.new.self (stands_after x k S c.args.event.now c.keep-came.result.0)) (catalog_in c.prepare.new.self) (catalog_in c.args.self.now.machine) (site_in c.prepare.new.self) (site_in c.args.self.now.machine) (sym c.prepare.ensures.same.catalog) (sym c.prepare.ensures.same.id) after in
-          come_as {g = g.D.Disk} (catalog_in c.args.self.now.machine) c.args.self.now.capacity (site_in c.args.self.now.machine) S c.args.event.now c.keep-came.result.0 _ (ap (λ (x : Came). x.kept) came)
-          (λ down restart. c.requires.stays restart) comes
-          (stands_same {g = g.D.Disk} _ (catalog_in c.args.self.now.machine) (site_in c.args.self.now.machine) S c.args.event.now c.keep-came.result.0 here
-          (subst (λ (x : Catalog). AreSpelled x.sites S) (sym (c.keep-came.ensures.same.catalog ∙ c.prepare.ensures.same.catalog)) stands.spelled) stands.store
-          (ap (λ (x : Came). x.wrote) came ∙ none) (ap (λ (x : Came). x.flight) came)
-          (ap (λ (x : Came). is_full x.outcome) came ∙ ap (λ (e : Expected). is_full e.outcome) ready_for.rule
-          ∙ rule_fits (catalog_in c.prepare.new.self) (site_in c.prepare.new.self) S c.args.event.now));
-      any_moment = λ S stands. disk_next {g = g.D.Disk} g.met.D.Disk.only_now (catalog_in c.args.self.now.machine) (site_in c.args.self.now.machine) S c.args.event.now c.keep-came.result.0.kept c.args.self.now.store stands.store (c.args.self.now.«open» ∙ c.requires.down);
-      refused = always (λ d. IfSome (g.D.Disk.known d).reads (λ bytes. Unit {0})) (disk_under c.args.self.now.store) (λ d. always (λ (bytes : List ℕ). Unit {0}) (g.D.Disk.known d).reads (λ bytes. tt));
-      why = λ refused. absurd (let e = sym (ap is_refusal refused) ∙ ap (λ (x : Came). is_refusal x.outcome) came
-          ∙ ap (λ (e : Expected). is_refusal e.outcome) c.in-Ok.ensures.anyway.ready_for.rule ∙ rule_allows _ _ c.in-Ok.ensures.anyway.S c.args.event.now in cc);
-      sized = sized_as _ c.keep-came.result.0 _ came c.in-Ok.ensures.anyway.ready_for.sized;
-      framed = c.keep-came.ensures.framed ∙ c.in-Ok.ensures.anyway.ready_for.framed ∙ ap (λ (x : Came). map (λ (s : Send). frame_of (catalog_in c.args.self.now.machine).sites s.1) x.sends) (sym came);
-      none_dropped = ap (λ (x : Came). x.dropped) came;
-      faults = if_twice (disk_under c.args.self.now.store) (λ b n. IsFaulty c.keep-came.result.0 (g.D.Disk.known b).faults (g.D.Disk.known n).faults) (λ disk. faults_as c.keep-came.result.0 false _ _ (ap (λ (x : Came). is_faulty x.outcome) came ∙ c.in-Ok.ensures.anyway.ready_for.fine) refl);
-      arms = if_twice (disk_under c.args.self.now.store) (λ b n. (g.D.Disk.known n).arms ≡ (g.D.Disk.known b).arms) (λ disk. refl);
-      tells = if_twice (disk_under c.args.self.now.store) (λ b n. is_some (g.D.Disk.known n).reads ≡ is_some (g.D.Disk.known b).reads) (λ disk. refl);
-      engine = record {
-        catalog = c.keep-came.ensures.same.catalog ∙ c.prepare.ensures.same.catalog;
-        site = c.keep-came.ensures.same.id ∙ c.prepare.ensures.same.id;
-        capacity = refl;
-      };
+      taken =
+          record {
+            comes = λ S stands.
+                let down = state_up S (tables_in c.args.self.now.machine) stands.machine.state ∙ c.requires.down in
+                let standing = c.prepare.ensures.stands S stands.machine in
+                let ready_for = (same_parts (λ x k. IsReadyFor x k (tables_in c.prepare.new.self) S c.args.event.now c.in-Ok.ready) (catalog_in c.args.self.now.machine) (catalog_in c.prepare.new.self) (site_in c.args.self.now.machine) (site_in c.prepare.new.self) c.prepare.ensures.same.catalog c.prepare.ensures.same.id
+                (c.in-Ok.ensures.ready S stands.machine)) in
+                let counted = subst (λ (o : Option Record). IsCounted c.prepare.new.self S o) (sym none) tt in
+                let after = c.keep-came.ensures.stands S standing counted ready_for in
+                let comes = same_parts (λ x k. Comes x c.args.self.now.capacity k S c.args.event.now c.keep-came.result.0) (catalog_in c.prepare.new.self) (catalog_in c.args.self.now.machine) (site_in c.prepare.new.self) (site_in c.args.self.now.machine) (sym c.prepare.ensures.same.catalog) (sym c.prepare.ensures.same.id)
+                (c.keep-came.ensures.comes c.args.self.now.capacity S ready_for (subst (λ (o : Option Record). IfSome o (FitsIn c.args.self.now.capacity S)) (sym none) tt)) in
+                let here = same_parts (λ x k. HasStanding c.keep-came.new.self (stands_after x k S c.args.event.now c.keep-came.result.0)) (catalog_in c.prepare.new.self) (catalog_in c.args.self.now.machine) (site_in c.prepare.new.self) (site_in c.args.self.now.machine) (sym c.prepare.ensures.same.catalog) (sym c.prepare.ensures.same.id) after in
+                come_as {g = g.D.Disk} (catalog_in c.args.self.now.machine) c.args.self.now.capacity (site_in c.args.self.now.machine) S c.args.event.now c.keep-came.result.0 _ (ap (λ (x : Came). x.kept) came)
+                (λ down restart. c.requires.stays restart) comes
+                (stands_same {g = g.D.Disk} _ (catalog_in c.args.self.now.machine) (site_in c.args.self.now.machine) S c.args.event.now c.keep-came.result.0 here
+                (subst (λ (x : Catalog). AreSpelled x.sites S) (sym (c.keep-came.ensures.same.catalog ∙ c.prepare.ensures.same.catalog)) stands.spelled) stands.store
+                (ap (λ (x : Came). x.wrote) came ∙ none) (ap (λ (x : Came). x.flight) came)
+                (ap (λ (x : Came). is_full x.outcome) came ∙ ap (λ (e : Expected). is_full e.outcome) ready_for.rule
+                ∙ rule_fits (catalog_in c.prepare.new.self) (site_in c.prepare.new.self) S c.args.event.now));
+            any_moment = λ S stands. disk_next {g = g.D.Disk} g.met.D.Disk.only_now (catalog_in c.args.self.now.machine) (site_in c.args.self.now.machine) S c.args.event.now c.keep-came.result.0.kept c.args.self.now.store stands.store (c.args.self.now.«open» ∙ c.requires.down);
+            refused = always (λ d. IfSome (g.D.Disk.known d).reads (λ bytes. Unit {0})) (disk_under c.args.self.now.store) (λ d. always (λ (bytes : List ℕ). Unit {0}) (g.D.Disk.known d).reads (λ bytes. tt));
+            why = λ refused. absurd (let e = sym (ap is_refusal refused) ∙ ap (λ (x : Came). is_refusal x.outcome) came
+                ∙ ap (λ (e : Expected). is_refusal e.outcome) c.in-Ok.ensures.anyway.ready_for.rule ∙ rule_allows _ _ c.in-Ok.ensures.anyway.S c.args.event.now in cc);
+            sized = sized_as _ c.keep-came.result.0 _ came c.in-Ok.ensures.anyway.ready_for.sized;
+            framed = c.keep-came.ensures.framed ∙ c.in-Ok.ensures.anyway.ready_for.framed ∙ ap (λ (x : Came). map (λ (s : Send). frame_of (catalog_in c.args.self.now.machine).sites s.1) x.sends) (sym came);
+            none_dropped = ap (λ (x : Came). x.dropped) came;
+            faults = if_twice (disk_under c.args.self.now.store) (λ b n. IsFaulty c.keep-came.result.0 (g.D.Disk.known b).faults (g.D.Disk.known n).faults) (λ disk. faults_as c.keep-came.result.0 false _ _ (ap (λ (x : Came). is_faulty x.outcome) came ∙ c.in-Ok.ensures.anyway.ready_for.fine) refl);
+            arms = if_twice (disk_under c.args.self.now.store) (λ b n. (g.D.Disk.known n).arms ≡ (g.D.Disk.known b).arms) (λ disk. refl);
+            tells = if_twice (disk_under c.args.self.now.store) (λ b n. is_some (g.D.Disk.known n).reads ≡ is_some (g.D.Disk.known b).reads) (λ disk. refl);
+            engine = record {
+              catalog = c.keep-came.ensures.same.catalog ∙ c.prepare.ensures.same.catalog;
+              site = c.keep-came.ensures.same.id ∙ c.prepare.ensures.same.id;
+              capacity = refl;
+            };
+          };
+      device = if_twice (disk_under c.args.self.now.store) (λ b n. AreCalls c.keep-came.result.0 (g.D.Disk.device_calls b) (g.D.Disk.device_calls n)) (λ disk. calls_as c.keep-came.result.0 None None _ _ (ap (λ (x : Came). x.wrote) came ∙ none) (ap (λ (x : Came). x.flight) came) refl);
+      disk = refl;
     }
-
-pub returns-clause-device : goal.returns-clause-device
-returns-clause-device g c =
-    let came = c.keep-came.ensures.came in
-    let none = brings_none _ _ (tables_in c.prepare.new.self) c.in-Ok.ensures.anyway.S c.args.event.now c.in-Ok.ready.step
-    (none_of (tables_in c.prepare.new.self) (c.prepare.ensures.up ∙ c.requires.down)) c.requires.stays c.in-Ok.ensures.anyway.ready_for.step in
-    if_twice (disk_under c.args.self.now.store) (λ b n. AreCalls c.keep-came.result.0 (g.D.Disk.device_calls b) (g.D.Disk.device_calls n)) (λ disk. calls_as c.keep-came.result.0 None None _ _ (ap (λ (x : Came). x.wrote) came ∙ none) (ap (λ (x : Came). x.flight) came) refl)
