@@ -1,6 +1,6 @@
 -- The ends of two sites' lanes where all that one has put for the other arrives.
 use Rattle.std.proofs.Common.{◌≡◌, ◌≢◌, ◌<◌, ℕ, List, [], length, map, reverse, get_or, slice_set, refl, ap, sym, ◌∙◌, subst, arith, inl, inr}
-use Rattle.std.specs.Prelude.{zero, suc, ◌+◌, ◌-◌, ◌⊎◌, ◌↔◌, Result, Ok, Err, OnOk, OnErr, Option, Some, None, IsNone, IfSome, option_map, slice_get}
+use Rattle.std.specs.Prelude.{zero, suc, ◌≤◌, ◌+◌, ◌-◌, ◌⊎◌, ◌↔◌, Result, Ok, Err, OnOk, OnErr, Option, Some, None, IsNone, IfSome, option_map, slice_get}
 use Rattle.std.proofs.lemmas.Option.{slice_get_past}
 use Rattle.std.proofs.lemmas.Bool.{cases_eq}
 use Rattle.std.proofs.lemmas.List.{append-nil, length-append, length-set, set-get_or}

@@ -27,7 +27,8 @@ use Rattle.walter_cell.specs.Lines.{Sent, LineValue, HasFault, HasFaultAt, is_th
 use Rattle.walter_cell.specs.Nodes.{NodeValue, KeepsNode, IsSameButRoom, Takes, MayDrop, clock_in, arms_under, is_told as tells}
 use Rattle.walter_cell.specs.Turns.{BringsCall, LosesReply, ServesTo, ServesAt, AreSameBut}
 use Rattle.walter_cell.specs.Written.{AreWritten, AreWrittenAt, IsCutOff, framed_reply, replies_to}
-use Rattle.walter_outbox.specs.Lanes.{mets, met_to, in_rings}
+use Rattle.walter_lane.specs.Lanes.{Receiving}
+use Rattle.walter_outbox.specs.Lanes.{arrived_from, mets, met_to, in_rings}
 use Rattle.walter_cell.proofs.Lines.{line_next, line_called, not_broken, calls_more, calls_same, set_here, set_there}
 use Rattle.walter_cell.proofs.Taken.{with_node, cell_kept, cell_taken, keeps_room}
 use Rattle.walter_cell.proofs.Written.{replies_more, replies_same, written_next, written_more, written_short}

@@ -1,5 +1,5 @@
 -- What a site does that is pumped, in other words.
-use Rattle.std.proofs.Common.{◌≡◌, ◌≢◌, ◌∷◌, ◌<◌, ◌+◌, ℕ, suc, arith, List, [], drop, slice_get, refl, ap, sym, ◌∙◌, Option, Some, None}
+use Rattle.std.proofs.Common.{◌≡◌, ◌≢◌, ◌∷◌, ◌+◌, ℕ, suc, arith, List, [], drop, slice_get, refl, ap, ◌∙◌, Option, Some, None}
 use Rattle.walter_base.specs.declared.names.SiteId.{SiteId}
 use Rattle.std.proofs.lemmas.Bool.{eq-eqb, ne_eqb}
 use Rattle.walter_link.specs.Pumps.{PumpValue, HasTaken, take_below, take_other, take_up_to}

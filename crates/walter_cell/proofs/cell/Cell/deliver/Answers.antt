@@ -1,4 +1,4 @@
-use Rattle.std.proofs.Common.{◌≡◌, ◌<◌, ◌+◌, ◌-◌, ◌^◌, max, List, length, refl, ap, sym, ◌∙◌, subst, arith, Option, Some, None, Bor}
+use Rattle.std.proofs.Common.{◌≡◌, ◌<◌, ◌+◌, ◌^◌, max, List, length, refl, ap, sym, ◌∙◌, subst, arith, Option, Some, None, Bor}
 use Rattle.std.specs.Prelude.{option_map}
 use Rattle.walter_lane.specs.Lanes.{Receiving}
 use Rattle.walter_lane.specs.declared.posted.Posted.{Posted}

@@ -1,8 +1,8 @@
-use Rattle.std.proofs.Common.{rules, ◌≡◌, ◌≢◌, ◌+◌, ℕ, ap, sym, ◌∙◌, subst}
+use Rattle.std.proofs.Common.{rules, ◌≡◌, ◌≢◌, ℕ, ap, sym, ◌∙◌, subst}
 use Rattle.walter_base.specs.declared.names.SiteId.{SiteId}
 use Rattle.walter_cell.specs.Pumps.{counts_in}
 use Rattle.walter_cell.proofs.Works.{below_other, below_own}
-use Rattle.walter_link.specs.Pumps.{PumpValue, KeepsPump, take_below, take_up_to}
+use Rattle.walter_link.specs.Pumps.{PumpValue, KeepsPump, take_up_to}
 use Rattle.walter_link.proofs.Taking.{keeps_on, take_keeps}
 use Rattle.walter_cell.proofs.cell.Cell.take_arrived.Goals.{then-ne+in_ok-take, else-ne}
 use Rattle.walter_cell.proofs.cell.Cell.take_arrived.Goals as goal
