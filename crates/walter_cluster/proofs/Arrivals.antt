@@ -198,7 +198,7 @@ module _ {D : Type 0} (g : Ghosts D) (homes : List SiteId)
         ∙ length-map (put_out_to to (trail_of (trails_of old) from)) (posted (length old)))
 
     -- no more was taken than had arrived
-    taken_before : (before : PumpValue) → IsPumpAt old to before → (from : ℕ) → taken_from before from ≤ counts_in a.ins from
+    pub taken_before : (before : PumpValue) → IsPumpAt old to before → (from : ℕ) → taken_from before from ≤ counts_in a.ins from
     taken_before before is_pump from =
         let most = is_pump.taken from in
         let more = more_arrived g old mid (each_stays old mid stay g) to.0 from in

@@ -1,5 +1,5 @@
 -- The cells of all sites, of which one is another.
-use Rattle.std.proofs.Common.{◌≡◌, ◌≢◌, ℕ, ◌<◌, List, [], ◌∷◌, ◌++◌, length, reverse, get_or, set, refl, ap, sym, ◌∙◌, subst, arith, Option, None, option_map, Result, Ok, Err}
+use Rattle.std.proofs.Common.{◌≡◌, ℕ, ◌<◌, List, [], ◌∷◌, ◌++◌, length, reverse, get_or, set, refl, ap, sym, ◌∙◌, subst, arith, Option, None, option_map, Result, Ok, Err}
 use Rattle.std.specs.Prelude.{slice_index_or, OnErr}
 use Rattle.std.proofs.Math.Path.{fun_ext}
 use Rattle.std.proofs.lemmas.List.{length-map}

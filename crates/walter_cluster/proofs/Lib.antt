@@ -10,3 +10,4 @@ pub mod Meetings
 pub mod Benches
 pub mod Arrivals
 pub mod Closings
+pub mod Gathering
