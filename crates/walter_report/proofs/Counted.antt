@@ -17,7 +17,7 @@ map-range_same f g a (suc n) same = λ j. same a (omega arith) j ∷ map-range_s
     (λ k le. same k (omega arith)) j
 
 -- one more at a place, in a list by places
-map-range_one : (f g : ℕ → ℕ) (a n place at : ℕ) → at ≡ a + place → g at ≡ f at + 1
+pub map-range_one : (f g : ℕ → ℕ) (a n place at : ℕ) → at ≡ a + place → g at ≡ f at + 1
     → ((k : ℕ) → (k ≡ at → ⊥) → g k ≡ f k)
     → map g (range_with_len a n) ≡ one_more place (map f (range_with_len a n))
 map-range_one f g a zero place at is here others = refl
@@ -28,19 +28,19 @@ map-range_one f g a (suc n) zero at is here others =
 map-range_one f g a (suc n) (suc place) at is here others =
     λ j. others a (λ e. omega (arith, e, is)) j ∷ map-range_one f g (a + 1) n place at (omega (arith, is)) here others j
 
-count_by_yes : (test : Record → Bool) (recs : List Record) (rec : Record) → test rec ≡ true
-    → count_by test (recs ++ rec ∷ []) ≡ count_by test recs + 1
-count_by_yes test recs rec is =
-    sum_by_push (λ x. cond (test x) 1 0) recs rec ∙ ap (λ (b : Bool). count_by test recs + cond {A = ℕ} b 1 0) is
+pub count_by_yes : {X : Type 0} (test : X → Bool) (xs : List X) (x : X) → test x ≡ true
+    → count_by test (xs ++ x ∷ []) ≡ count_by test xs + 1
+count_by_yes test xs x is =
+    sum_by_push (λ y. cond (test y) 1 0) xs x ∙ ap (λ (b : Bool). count_by test xs + cond {A = ℕ} b 1 0) is
 
-count_by_no : (test : Record → Bool) (recs : List Record) (rec : Record) → test rec ≡ false
-    → count_by test (recs ++ rec ∷ []) ≡ count_by test recs
-count_by_no test recs rec is =
-    let more : count_by test (recs ++ rec ∷ []) ≡ count_by test recs + 0 =
-    sum_by_push (λ x. cond (test x) 1 0) recs rec ∙ ap (λ (b : Bool). count_by test recs + cond {A = ℕ} b 1 0) is in
+pub count_by_no : {X : Type 0} (test : X → Bool) (xs : List X) (x : X) → test x ≡ false
+    → count_by test (xs ++ x ∷ []) ≡ count_by test xs
+count_by_no test xs x is =
+    let more : count_by test (xs ++ x ∷ []) ≡ count_by test xs + 0 =
+    sum_by_push (λ y. cond (test y) 1 0) xs x ∙ ap (λ (b : Bool). count_by test xs + cond {A = ℕ} b 1 0) is in
     omega (arith, more)
 
-apart : (a b : ℕ) → (b ≡ a → ⊥) → nat_eq a b ≡ false
+pub apart : (a b : ℕ) → (b ≡ a → ⊥) → nat_eq a b ≡ false
 apart a b differ = elim (nat_eq a b) as (λ t. nat_eq a b ≡ t → t ≡ false) [
   | true ↦ λ same. absurd (differ (sym (eqb-true a b same)))
   | false ↦ λ other. refl

@@ -1,3 +1,4 @@
+pub mod Columned
 pub mod Counted
 pub mod Joined
 pub mod Logged

@@ -1,5 +1,5 @@
 -- The text of a log, where there is one commit more.
-use Rattle.std.proofs.Common.{◌≡◌, ℕ, ◌<◌, List, [], ◌∷◌, ◌++◌, All, length, refl, sym, ap, ◌∙◌, append_assoc, append-nil, arith}
+use Rattle.std.proofs.Common.{◌≡◌, ℕ, ◌+◌, ◌<◌, List, [], ◌∷◌, ◌++◌, All, length, refl, sym, ap, ◌∙◌, append_assoc, append-nil, arith}
 use Rattle.std.specs.Fmt.{decimal}
 use Rattle.std.specs.List.{join_with_byte}
 use Rattle.std.specs.Prelude.{codes, Result, OnOk}
@@ -74,6 +74,10 @@ log_pieces_more : (i : SiteId) (recs : List Record) (rec : Record)
     → log_pieces i (recs ++ rec ∷ []) ≡ log_pieces i recs ++ logged i rec
 log_pieces_more i recs rec = flat_map-append (logged i) recs (rec ∷ [])
     ∙ ap (λ t. log_pieces i recs ++ t) (append-nil (logged i rec))
+
+pub length_log_pieces : (i : SiteId) (recs : List Record) (rec : Record)
+    → length (log_pieces i (recs ++ rec ∷ [])) ≡ length (log_pieces i recs) + length (logged i rec)
+length_log_pieces i recs rec = ap length (log_pieces_more i recs rec) ∙ length-append (log_pieces i recs) (logged i rec)
 
 -- a record that tells a commit to be committed
 log_followed : (i : SiteId) (recs : List Record) (rec : Record) (piece : List ℕ) → logged i rec ≡ piece ∷ []

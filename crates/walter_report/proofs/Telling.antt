@@ -6,9 +6,9 @@ use Rattle.walter_base.specs.declared.names.SiteId.{SiteId}
 use Rattle.walter_rules.specs.declared.entry.Entry.{Entry}
 use Rattle.walter_rules.specs.Learning.{epoch_after}
 use Rattle.walter_rules.specs.Standing.{up_after}
-use Rattle.walter_report.specs.declared.told.Told.{Told}
+use Rattle.walter_report.specs.declared.overview.Overview.{Overview}
 use Rattle.walter_report.specs.Sites.{record_in, records, is_up, last_epoch}
-use Rattle.walter_report.specs.Told.{Tells}
+use Rattle.walter_report.specs.Overviews.{Tells}
 use Rattle.walter_report.proofs.Stands.{up_from-append}
 use Rattle.walter_report.proofs.Tallied.{flat_map-take_more}
 
@@ -37,16 +37,16 @@ pub records_of_front : (trail : List Entry) (k : ℕ) → k ≤ length trail →
 records_of_front trail k le = omega (arith, records_few (take k trail), length-take-le k trail le)
 
 -- the entry at this place is taken
-pub Tells-more : (told : Told) (sites : ℕ) (i : SiteId) (trail : List Entry) (k : ℕ) (e d : Entry)
+pub Tells-more : (overview : Overview) (sites : ℕ) (i : SiteId) (trail : List Entry) (k : ℕ) (e d : Entry)
     → k < length trail → e ≡ get_or trail k d
-    → Tells told sites i (up_after e.event e.came.outcome (is_up (take k trail)))
+    → Tells overview sites i (up_after e.event e.came.outcome (is_up (take k trail)))
     (records (take k trail) ++ (record_in e.came.kept ++ record_in e.came.wrote))
-    → Tells told sites i (is_up (take (k + 1) trail)) (records (take (k + 1) trail))
-Tells-more told sites i trail k e d within is tells =
+    → Tells overview sites i (is_up (take (k + 1) trail)) (records (take (k + 1) trail))
+Tells-more overview sites i trail k e d within is tells =
     let up : up_after e.event e.came.outcome (is_up (take k trail)) ≡ is_up (take (k + 1) trail) =
     sym (up_from-append false (take k trail) (e ∷ [])) ∙ ap (λ x. is_up (take k trail ++ x ∷ [])) is
     ∙ ap is_up (sym (take_more trail k d within)) in
     let of_entry = λ (entry : Entry). record_in entry.came.kept ++ record_in entry.came.wrote in
     let recs = sym (flat_map-take_more of_entry trail k e d within is) in
-    subst (λ u. Tells told sites i u (records (take (k + 1) trail))) up
-    (subst (λ rs. Tells told sites i (up_after e.event e.came.outcome (is_up (take k trail))) rs) recs tells)
+    subst (λ u. Tells overview sites i u (records (take (k + 1) trail))) up
+    (subst (λ rs. Tells overview sites i (up_after e.event e.came.outcome (is_up (take k trail))) rs) recs tells)

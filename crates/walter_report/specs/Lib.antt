@@ -3,5 +3,6 @@ pub mod Adding
 pub mod Sites
 pub mod Reports
 pub mod Tallies
-pub mod Told
+pub mod Overviews
 pub mod Traces
+pub mod Summaries

@@ -4,12 +4,12 @@ ghost use Rattle.std.specs.String.{string_bytes};
 ghost use Rattle.walter_base.specs.declared.message.Record.{Record};
 ghost use Rattle.walter_base.specs.declared.names.SiteId.{SiteId};
 ghost use Rattle.walter_report.specs.Sites.{records, is_up, events_part, lists_part, commits_part, site_line, site_lines};
-ghost use Rattle.walter_report.specs.Told.{Tells};
+ghost use Rattle.walter_report.specs.Overviews.{Tells};
 ghost use Rattle.walter_report.specs.Words.{listed};
 ghost use Rattle.walter_rules.specs.Knowledge.{site_at};
 
+use crate::overview::Overview;
 use crate::text::{list_of, text_or_dash};
-use crate::told::Told;
 use std::alloc::Global;
 use walter_base::Mem;
 use walter_rules::Entry;
@@ -38,19 +38,24 @@ fn push_site_line(
 ) -> Mem<()>
     ensures { OnOk result (string_bytes text.new ≡ string_bytes text.old ++ site_line sites site trail.now) }
 {
-    let told = Told::from_trail(alloc, sites, site, trail)?;
-    push_events(text, site, trail, &told)?;
-    push_commits(alloc, text, &told)
+    let overview = Overview::from_trail(alloc, sites, site, trail)?;
+    push_events(text, site, trail, &overview)?;
+    push_commits(alloc, text, &overview)
 }
 
-fn push_events(text: &mut String, site: usize, trail: &[Entry], told: &Told) -> Mem<()>
-    ensures { (sites : ℕ) → Tells told.now sites (site_at site) (is_up trail.now) (records trail.now)
+pub(crate) fn push_events(
+    text: &mut String,
+    site: usize,
+    trail: &[Entry],
+    overview: &Overview,
+) -> Mem<()>
+    ensures { (sites : ℕ) → Tells overview.now sites (site_at site) (is_up trail.now) (records trail.now)
         → OnOk result (string_bytes text.new ≡ string_bytes text.old ++ events_part site trail.now) }
 {
-    let up = if told.up { "up" } else { "down" };
-    let epoch = told.epoch;
+    let up = if overview.up { "up" } else { "down" };
+    let epoch = overview.epoch;
     let events = trail.len();
-    let records = told.records;
+    let records = overview.records;
     write!(
         text,
         "site {site} {up} epoch {epoch} events {events} records {records}"
@@ -58,13 +63,13 @@ fn push_events(text: &mut String, site: usize, trail: &[Entry], told: &Told) -> 
     Ok(())
 }
 
-fn push_commits(alloc: Global, text: &mut String, told: &Told) -> Mem<()>
-    ensures { (sites : ℕ) (i : SiteId) (up : Bool) (recs : List Record) → Tells told.now sites i up recs
+fn push_commits(alloc: Global, text: &mut String, overview: &Overview) -> Mem<()>
+    ensures { (sites : ℕ) (i : SiteId) (up : Bool) (recs : List Record) → Tells overview.now sites i up recs
         → OnOk result (string_bytes text.new ≡ string_bytes text.old ++ commits_part sites i recs) }
 {
-    let got = text_of_counts(alloc, told.got.as_slice())?;
-    let committed = text_of_counts(alloc, told.seen.as_slice())?;
-    let log = text_or_dash(&told.log);
+    let got = text_of_counts(alloc, overview.got.as_slice())?;
+    let committed = text_of_counts(alloc, overview.seen.as_slice())?;
+    let log = text_or_dash(&overview.log);
     push_lists(text, &got, &committed, log)
 }
 

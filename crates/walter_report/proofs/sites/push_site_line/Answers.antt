@@ -15,6 +15,6 @@ returns c =
     let commits = commits_part sites i (records trail) in
     IfOk-equal c.push_commits.result (string_bytes c.push_commits.new.text)
     (string_bytes c.push_events.new.text ++ commits) (before ++ (events ++ commits))
-    (c.push_commits.ensures sites i (is_up trail) (records trail) c.in_ok-told.ensures)
-    (ap (λ t. t ++ commits) (c.in_ok-push_events.ensures sites c.in_ok-told.ensures)
+    (c.push_commits.ensures sites i (is_up trail) (records trail) c.in_ok-overview.ensures)
+    (ap (λ t. t ++ commits) (c.in_ok-push_events.ensures sites c.in_ok-overview.ensures)
     ∙ append_assoc before events commits)
