@@ -6,7 +6,7 @@ use walter_base::Reply;
 use walter_rules::{Entry, Event, Input, Outcome};
 use walter_trail::Trail;
 
-/// How many columns there are.
+// How many columns there are.
 pub(crate) const COLUMNS: usize = 10;
 
 // How many replies of trails are in each column. No memory has more of them than a count can tell.

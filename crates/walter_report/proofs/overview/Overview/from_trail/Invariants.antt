@@ -6,4 +6,5 @@ use Rattle.walter_report.proofs.overview.Overview.from_trail.Given as goal
 
 abbrev pub invariant-loop-entry : goal.invariant-loop-entry
 invariant-loop-entry l =
-    Tells l.overview l.sites (site_at l.site) (is_up (take l.entry-index l.trail)) (records (take l.entry-index l.trail))
+    Tells l.overview l.sites (site_at l.site) (is_up (take l.entry-index l.trail))
+    (records (take l.entry-index l.trail))
