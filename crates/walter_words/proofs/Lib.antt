@@ -1,0 +1,6 @@
+pub mod Longs
+pub mod Turns
+pub mod Levels
+pub mod Loads
+pub mod Asking
+pub mod Entered

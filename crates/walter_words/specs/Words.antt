@@ -1,0 +1,93 @@
+-- What the words behind the program's name ask for.
+use Rattle.std.specs.Prelude.{◌≡◌, ◌⊎◌, ◌≤◌, ◌<◌, ◌^◌, ◌++◌, ℕ, Bool, List, [], ◌∷◌, codes, ⊤, if◌then◌else◌, Option, Some, Result, Ok, Err, MatchResult, ◌≢◌}
+use Rattle.std.specs.Str.Parse.{IsNumeral, digits_value, without_leading_plus}
+use Rattle.clap.specs.Words.{Row, Text, one_of}
+use Rattle.clap.specs.Kinds.{IsAmong, Kinds}
+use Rattle.clap.specs.declared.error.kind.ErrorKind.{ErrorKind}
+use Rattle.clap.specs.declared.error.kind.ErrorKind.TheVariants.{DisplayHelp, DisplayVersion, OutOfMemory}
+use Rattle.walter_words.specs.declared.asked.WordsFault.{WordsFault}
+use Rattle.walter_words.specs.declared.asked.WordsFault.TheVariants.{Usage, Memory}
+use Rattle.walter_words.specs.declared.asked.Command.{Command}
+use Rattle.walter_words.specs.declared.asked.Command.TheVariants.{Play, Load, Say}
+
+-- the text is decimal digits, behind a plus or not, that write the number
+abbrev pub Writes : Text → ℕ → Type 0
+Writes text n = IsNumeral 10 (without_leading_plus text) × (digits_value 10 (without_leading_plus text) ≡ n)
+
+-- the first words are `--name=value`, or `--name` and `value`
+abbrev pub BeginsBy : Text → Text → List Text → List Text → Type 0
+BeginsBy name value words rest =
+    (words ≡ (45 ∷ 45 ∷ (name ++ 61 ∷ value)) ∷ rest) ⊎ (words ≡ (45 ∷ 45 ∷ name) ∷ value ∷ rest)
+
+-- nothing more, or `--`
+abbrev pub IsEnd : List Text → Type 0
+IsEnd words = (words ≡ []) ⊎ (words ≡ codes "--" ∷ [])
+
+abbrev pub trace_words : Bool → List Text → List Text
+trace_words trace rest = if trace then codes "--trace" ∷ rest else rest
+
+-- `play`, or `play --trace`
+abbrev pub IsPlay : Bool → List Text → Type 0
+IsPlay trace words = (rest : List Text) × IsEnd rest × (words ≡ codes "play" ∷ trace_words trace rest)
+
+-- the two options once each, in any order
+abbrev pub AreOptions : Text → Text → List Text → List Text → Type 0
+AreOptions seed calls words rest = (between : List Text)
+    × ((BeginsBy (codes "seed") seed words between × BeginsBy (codes "calls") calls between rest)
+    ⊎ (BeginsBy (codes "calls") calls words between × BeginsBy (codes "seed") seed between rest))
+
+-- `load --seed N --calls M`
+abbrev pub IsLoad : ℕ → ℕ → List Text → Type 0
+IsLoad seed calls words = (s : Text) × (c : Text) × (options : List Text) × (rest : List Text)
+    × (words ≡ codes "load" ∷ options) × AreOptions s c options rest × IsEnd rest
+    × Writes s seed × Writes c calls × (seed < 2 ^ 64) × (calls ≤ 20000)
+
+-- the words ask for a run, and for just this one
+abbrev pub AsksFor : Command → List Text → Type 0
+AsksFor (Play trace) words = IsPlay trace words
+AsksFor (Load seed calls) words = IsLoad seed calls words
+AsksFor (Say text) words = ⊥
+
+abbrev pub IsText : Command → Type 0
+IsText (Say text) = ⊤
+IsText _ = ⊥
+
+-- what a run's command is read from, in the matches of the command that was entered
+abbrev pub IsReadAs : Option (Text × List Row) → Command → Type 0
+IsReadAs entered (Play trace) = (rows : List Row) × (entered ≡ Some (codes "play", rows))
+    × (one_of (codes "trace") rows ≡ Some (if trace then codes "true" else codes "false"))
+IsReadAs entered (Load seed calls) = (rows : List Row) × (s : Text) × (c : Text)
+    × (entered ≡ Some (codes "load", rows))
+    × (one_of (codes "seed") rows ≡ Some s) × (one_of (codes "calls") rows ≡ Some c)
+    × Writes s seed × Writes c calls × (seed < 2 ^ 64) × (calls ≤ 20000)
+IsReadAs entered (Say text) = ⊥
+
+-- the answer is this run, unless memory is wanting
+abbrev pub IsGiven : Command → Result Command WordsFault → Type 0
+IsGiven command result = MatchResult result (λ given. given ≡ command) (λ fault. fault ≡ Memory)
+
+-- the answer is a text, unless memory is wanting
+abbrev pub IsSaid : Result Command WordsFault → Type 0
+IsSaid result = MatchResult result IsText (λ fault. fault ≡ Memory)
+
+-- the words ask for a help, or for the version
+abbrev pub AsksForText : List Text → Type 0
+AsksForText words = (words ≡ codes "--help" ∷ []) ⊎ (words ≡ codes "play" ∷ codes "--help" ∷ [])
+    ⊎ (words ≡ codes "load" ∷ codes "--help" ∷ []) ⊎ (words ≡ codes "--version" ∷ [])
+
+abbrev pub IsTextKind : ErrorKind → Type 0
+IsTextKind kind = (kind ≡ DisplayHelp) ⊎ (kind ≡ DisplayVersion)
+
+-- what is said for an error of this kind
+abbrev pub IsTold : ErrorKind → Result Command WordsFault → Type 0
+IsTold kind (Ok command) = IsText command × IsTextKind kind
+IsTold kind (Err (Usage text)) = ¬ IsTextKind kind × (kind ≢ OutOfMemory)
+IsTold kind (Err Memory) = ⊤
+
+-- a run comes where no kind of error does, a text where help or the version is shown, and Usage where another kind comes
+abbrev pub FollowsFrom : Kinds → Result Command WordsFault → Type 0
+FollowsFrom kinds (Ok (Say text)) = IsAmong DisplayHelp kinds ⊎ IsAmong DisplayVersion kinds
+FollowsFrom kinds (Ok (Play trace)) = kinds ≡ []
+FollowsFrom kinds (Ok (Load seed calls)) = kinds ≡ []
+FollowsFrom kinds (Err (Usage text)) = (kind : ErrorKind) × IsAmong kind kinds × (¬ IsTextKind kind)
+FollowsFrom kinds (Err Memory) = ⊤

@@ -1,0 +1,106 @@
+ghost use Rattle.std.specs.Prelude.{◌≡◌, ◌⊎◌, ℕ, Bool, List, IfOk, Some, codes, if◌then◌else◌, map, string_bytes, ◌<◌, ◌≤◌, ◌^◌};
+ghost use Rattle.clap.specs.Words.{found_of, kind_of, one_of, rows_of, subcommand_rows_of};
+ghost use Rattle.clap.specs.Faults.{fault_of};
+ghost use Rattle.walter_words.specs.Lines.{walter_line};
+ghost use Rattle.walter_words.specs.Words.{AsksFor, AsksForText, FollowsFrom, IsGiven, IsReadAs, IsSaid, IsText, IsTold};
+ghost use Rattle.walter_words.specs.Words.{Writes};
+
+use crate::lines::walter;
+use clap::error::ErrorKind;
+use clap::{ArgMatches, Error};
+use std::alloc::Global;
+use thiserror::Error as ThisError;
+
+/// What the words ask for.
+#[derive(Debug, Drop, PartialEq, Eq)]
+pub enum Command {
+    /// To play the scenario on standard input.
+    Play {
+        /// Whether a line for each event comes behind the report.
+        trace: bool,
+    },
+    /// To play a scenario that is made.
+    Load {
+        /// The number that the scenario is made of.
+        seed: u64,
+        /// How many calls the clients make.
+        calls: u32,
+    },
+    /// To write this text, of a help or of the version, to standard output.
+    Say(String),
+}
+
+/// Why the words ask for nothing that can be done.
+#[derive(Debug, Drop, PartialEq, Eq, ThisError)]
+pub enum WordsFault {
+    #[error("{0}")]
+    Usage(String),
+    #[error("out of memory")]
+    Memory,
+}
+
+/// The run of `play` with these matches.
+fn play_of(play: &ArgMatches<'_>) -> Command
+    ensures { (trace : Bool) → one_of (codes "trace") (rows_of (found_of play.now))
+        ≡ Some (if trace then codes "true" else codes "false") → result ≡ Command.Play trace }
+{
+    Command::Play { trace: play.get_flag("trace") }
+}
+
+/// The run of `load` with these matches, if they have both numbers.
+fn load_of(load: &ArgMatches<'_>) -> Option<Command>
+    ensures { (s : List ℕ) (c : List ℕ) (seed : ℕ) (calls : ℕ) → one_of (codes "seed") (rows_of (found_of load.now)) ≡ Some s
+        → one_of (codes "calls") (rows_of (found_of load.now)) ≡ Some c
+        → Writes s seed → Writes c calls → seed < 2 ^ 64 → calls ≤ 20000 → result ≡ Some (Command.Load seed calls) }
+{
+    Some(Command::Load {
+        seed: load.get_one::<u64>("seed")?,
+        calls: load.get_one::<u32>("calls")?,
+    })
+}
+
+/// The run with these matches, if they are of `play` or `load`.
+fn run_of(matches: &ArgMatches<'_>) -> Option<Command>
+    ensures { (command : Command) → IsReadAs (subcommand_rows_of matches.now) command → result ≡ Some command }
+{
+    if let Some(play) = matches.subcommand_matches("play") {
+        return Some(play_of(play));
+    }
+    load_of(matches.subcommand_matches("load")?)
+}
+
+/// What is said where there are no matches.
+fn told_of(alloc: Global, error: &Error) -> Result<Command, WordsFault>
+    ensures { IsTold (kind_of error.now) result }
+{
+    let kind = error.kind();
+    if kind == ErrorKind::OutOfMemory {
+        return Err(WordsFault::Memory);
+    }
+    let Ok(text) = error.to_string(alloc) else {
+        return Err(WordsFault::Memory);
+    };
+    match kind {
+        ErrorKind::DisplayHelp | ErrorKind::DisplayVersion => Ok(Command::Say(text)),
+        _ => Err(WordsFault::Usage(text)),
+    }
+}
+
+/// What the words behind the program's name ask for.
+pub fn command_of(alloc: Global, words: &[String]) -> Result<Command, WordsFault>
+    ensures given { (command : Command) → AsksFor command (map string_bytes words.now) → IsGiven command result }
+    ensures asked { IfOk result (λ command. AsksFor command (map string_bytes words.now) ⊎ IsText command) }
+    ensures said { AsksForText (map string_bytes words.now) → IsSaid result }
+    ensures follows { FollowsFrom (fault_of walter_line (map string_bytes words.now)) result }
+{
+    let Ok(walter) = walter(alloc) else {
+        return Err(WordsFault::Memory);
+    };
+    match walter.try_get_matches_from(words) {
+        Ok(matches) => match run_of(&matches) {
+            Some(command) => Ok(command),
+            None => unreachable!(),
+        },
+        Err(error) => told_of(alloc, &error),
+    }
+}

@@ -1,0 +1,127 @@
+ghost use Rattle.std.specs.Prelude.{◌≡◌, IfOk, false};
+ghost use Rattle.clap.specs.Words.{app_of};
+ghost use Rattle.clap.specs.declared.builder.command.Command.TheViews.{out-Command as fields_of};
+ghost use Rattle.walter_words.specs.Lines.{load_line, play_line, walter_line};
+
+use clap::{Arg, ArgAction, Command, value_parser};
+use std::alloc::{AllocError, Global};
+
+/// The version of the program.
+static VERSION: &str = "0.1.0";
+
+static WALTER_ABOUT: &str = "Plays scenarios against a geo-replicated transactional key-value store, and reports what it answers";
+
+static WALTER_REST: &str = "\
+play reads a scenario from standard input. load makes one of a seed and reads nothing. What comes of it is
+written to standard output. Each fault is told on standard error.
+
+Statuses:
+  0  all was written
+  1  the words are wrong
+  2  the input is no scenario; standard error says where, and what is wanted there
+  3  the input could not be read to its end
+  4  the output could not be written to its end; a front of it was
+  5  memory ran out
+  6  a disk could not be taken or given back
+  7  a disk has something on it with which no site can begin
+But for 0 and 4 nothing is written.
+
+Example:
+  ./walter play --trace < examples/first_run.json";
+
+static PLAY_ABOUT: &str = "Plays the scenario on standard input, and writes its report to standard output";
+
+static PLAY_REST: &str = "\
+A scenario is one JSON object: its sites, containers, clients with all that they send, and steps. The report
+has each client's replies and each site's log; with --trace a line for each event stands behind it.
+docs/FORMATS.md has both byte by byte.
+
+Statuses:
+  0  the whole report was written
+  1  the words are wrong
+  2  the input is no scenario; standard error says where, and what is wanted there
+  3  the input could not be read to its end
+  4  the report could not be written to its end; a front of it was
+  5  memory ran out
+  6  a disk could not be taken or given back
+  7  a disk has something on it with which no site can begin
+But for 0 and 4 nothing is written.
+
+Example:
+  ./walter play --trace < examples/first_run.json";
+
+static LOAD_ABOUT: &str = "Makes a scenario of a seed, plays it, and writes a summary to standard output";
+
+static LOAD_REST: &str = "\
+It reads nothing. The same seed and number of calls give the same scenario and the same summary.
+
+Statuses:
+  0  the whole summary was written
+  1  the words are wrong
+  2, 3  don't come, since nothing is read
+  4  the summary could not be written to its end; a front of it was
+  5  memory ran out
+  6  a disk could not be taken or given back
+  7  a disk has something on it with which no site can begin
+But for 0 and 4 nothing is written.
+
+Example:
+  ./walter load --seed 7 --calls 1000";
+
+/// What `play` takes.
+fn play<'a>(alloc: Global) -> Result<Command<'a>, AllocError>
+    ensures line { IfOk result (λ command. app_of command ≡ play_line) }
+    ensures local { IfOk result (λ command. (fields_of command).has_globals ≡ false) }
+{
+    let trace = Arg::new(alloc, "trace")
+        .long("trace")
+        .action(ArgAction::SetTrue)
+        .help("Writes a line for each event too, behind the report");
+    Command::new(alloc, "play")
+        .about(PLAY_ABOUT)
+        .after_help(PLAY_REST)
+        .arg(trace)
+}
+
+/// What `load` takes.
+fn load<'a>(alloc: Global) -> Result<Command<'a>, AllocError>
+    ensures line { IfOk result (λ command. app_of command ≡ load_line) }
+    ensures local { IfOk result (λ command. (fields_of command).has_globals ≡ false) }
+{
+    let seed = Arg::new(alloc, "seed")
+        .long("seed")
+        .value_name("N")
+        .required(true)
+        .action(ArgAction::Set)
+        .value_parser(value_parser!(u64))
+        .help("The number that the scenario is made of");
+    let calls = Arg::new(alloc, "calls")
+        .long("calls")
+        .value_name("M")
+        .required(true)
+        .action(ArgAction::Set)
+        .value_parser(value_parser!(u64).range(..=20_000))
+        .help("How many calls the clients make, 20000 at most");
+    Command::new(alloc, "load")
+        .about(LOAD_ABOUT)
+        .after_help(LOAD_REST)
+        .arg(seed)?
+        .arg(calls)
+}
+
+/// What the program takes.
+pub fn walter<'a>(alloc: Global) -> Result<Command<'a>, AllocError>
+    ensures { IfOk result (λ command. app_of command ≡ walter_line) }
+{
+    let play = play(alloc)?;
+    let load = load(alloc)?;
+    Command::new(alloc, "walter")
+        .version(VERSION)
+        .about(WALTER_ABOUT)
+        .after_help(WALTER_REST)
+        .bin_name("walter")?
+        .no_binary_name(true)
+        .subcommand_required(true)
+        .subcommand(play)?
+        .subcommand(load)
+}
