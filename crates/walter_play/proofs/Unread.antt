@@ -1,5 +1,5 @@
 -- The connections of clients whose bytes are in memory.
-use Rattle.std.proofs.Common.{◌≡◌, ℕ, List, [], ◌∷◌, ◌++◌, length, slice_get, Some, arith, inl, inr, ap, sym, ◌∙◌, subst}
+use Rattle.std.proofs.Common.{◌≡◌, List, [], ◌∷◌, ◌++◌, length, slice_get, arith, inl, inr, ap, sym, ◌∙◌, subst}
 use Rattle.walter_psi.proofs.Lists.{slice_get-push_cases}
 use Rattle.walter_cell.specs.Lines.{LineValue, IsLine}
 use Rattle.walter_cluster.specs.Builds.{AreUnread}

@@ -1,4 +1,4 @@
-use Rattle.std.proofs.Common.{◌+◌, List, [], length, take, ap, arith, subst}
+use Rattle.std.proofs.Common.{◌+◌, List, length, take, ap, arith, subst}
 use Rattle.std.proofs.lemmas.List.{length-take, length_push, take_all}
 use Rattle.walter_cluster.specs.Builds.{AreUnread}
 use Rattle.walter_psi.proofs.CheckerLists.{take_one}

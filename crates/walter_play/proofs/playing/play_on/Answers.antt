@@ -1,4 +1,4 @@
-use Rattle.std.proofs.Common.{◌≡◌, ◌<◌, ◌≤◌, ◌+◌, ◌∷◌, ◌++◌, [], ℕ, List, length, map, take, drop, get_or, subst, sym, ap, ◌∙◌, refl, arith}
+use Rattle.std.proofs.Common.{◌≡◌, ◌+◌, ◌++◌, [], ℕ, List, map, take, subst, sym, ap, ◌∙◌, refl}
 use Rattle.std.proofs.lemmas.List.{take_all, append-nil}
 use Rattle.walter_cluster.specs.Benches.{IsToldAt}
 use Rattle.walter_cluster.proofs.Keeping.{bench_self, bench_on, of_kept, connected_kept, told_kept}
@@ -6,7 +6,7 @@ use Rattle.walter_cluster.specs.Moments.{Moment, moment_of}
 use Rattle.walter_scenario.specs.declared.scenario.Arm.{Arm}
 use Rattle.walter_scenario.specs.declared.scenario.Step.{Step}
 use Rattle.walter_scenario.specs.declared.scenario.Step.TheVariants as step
-use Rattle.walter_play.specs.Scripts.{Plays, Scene, Takes, all_steps, scene_of}
+use Rattle.walter_play.specs.Scripts.{Plays, Scene, scene_of}
 use Rattle.walter_play.proofs.Arming.{some_armed}
 use Rattle.walter_play.proofs.Steps.{plays_more, pumps_kept, takes_told, arming_more, steps_more, arming_split, steps_split}
 use Rattle.walter_play.proofs.playing.play_on.Goals as goal
