@@ -1,28 +1,25 @@
 -- The words ask for a run where clap takes them, and only there.
-use Rattle.std.proofs.Common.{◌≡◌, ◌⊎◌, ◌∙◌, ◌==◌, ◌<◌, ◌≤◌, ◌^◌, ℕ, Bool, true, false, not, List, [], ◌∷◌, Option, Some, None, codes, refl, sym, ap, inl, inr, subst, arith, Result, Ok, Err}
-use Rattle.std.specs.Prelude.{if◌then◌else◌}
-use Rattle.std.specs.Str.{bytes_eq}
+use Rattle.std.proofs.Common.{◌≡◌, ◌⊎◌, ◌∙◌, ◌==◌, ◌<◌, ◌≤◌, ◌^◌, ℕ, Bool, true, false, List, [], ◌∷◌, Option, Some, None, codes, refl, sym, ap, inl, inr, subst, arith, Result, Ok, Err}
 use Rattle.std.specs.Str.Parse.{IsNumeral, ParsesUnsigned, digits_value, without_leading_plus}
 use Rattle.std.proofs.lemmas.Bool.{eqb-true}
-use Rattle.clap.specs.Lexer.{long_of, short_of}
 use Rattle.clap.specs.Matches.{ReadsOne}
 use Rattle.clap.specs.Values.{IsUnsignedIn}
 use Rattle.clap.specs.declared.error.kind.ErrorKind.{ErrorKind}
 use Rattle.clap.specs.declared.error.kind.ErrorKind.TheVariants.{DisplayHelp, DisplayVersion, OutOfMemory}
 use Rattle.walter_words.specs.declared.asked.WordsFault.{WordsFault}
 use Rattle.walter_words.specs.declared.asked.WordsFault.TheVariants.{Usage, Memory}
-use Rattle.clap.specs.Walk.{Row, Text, idle, nothing_held, one_of, rows_after}
+use Rattle.clap.specs.Walk.{Row, Text, idle, nothing_held, rows_after}
 use Rattle.clap.specs.Simple.{is_simple, subcommand_of}
-use Rattle.clap.specs.Kinds.{IsAmong, Kinds, or_else}
+use Rattle.clap.specs.Kinds.{IsAmong, Kinds}
 use Rattle.clap.specs.Faults.{fault_of, is_simple_and_free, level_fault, walk_fault}
 use Rattle.clap.proofs.OnLiterals.{clap_on_literals}
 use Rattle.walter_words.specs.declared.asked.Command.{Command}
 use Rattle.walter_words.specs.declared.asked.Command.TheVariants.{Play, Load, Say}
 use Rattle.walter_words.specs.Lines.{walter_line}
-use Rattle.walter_words.specs.Words.{AreOptions, AsksFor, AsksForText, FollowsFrom, IsEnd, IsGiven, IsLoad, IsPlay, IsReadAs, IsSaid, IsTextKind, IsTold, Writes, trace_words}
-use Rattle.walter_words.proofs.Levels.{behind_play, first_word, load_fault, load_level, load_rows, play_fault, play_level, play_rows}
+use Rattle.walter_words.specs.Words.{AsksFor, AsksForText, FollowsFrom, IsEnd, IsGiven, IsLoad, IsPlay, IsReadAs, IsSaid, IsTextKind, IsTold, Writes, trace_words}
+use Rattle.walter_words.proofs.Levels.{behind_play, first_word, load_fault, load_rows, play_fault, play_level}
 use Rattle.walter_words.proofs.Loads.{IsNoFlag, TwoOptions, behind_load, load_passes, row}
-use Rattle.walter_words.proofs.Turns.{at_word, both_empty, hyphens}
+use Rattle.walter_words.proofs.Turns.{at_word, both_empty}
 
 -- a number is no flag
 no_flag : (v : Text) (n : ℕ) → Writes v n → IsNoFlag v

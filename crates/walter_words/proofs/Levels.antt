@@ -3,13 +3,13 @@ use Rattle.std.proofs.Common.{◌≡◌, ◌⊎◌, ◌∙◌, ◌==◌, ℕ, Bo
 use Rattle.std.specs.Str.{bytes_eq}
 use Rattle.std.proofs.lemmas.Slice.Eq.{bytes_eq-Decides}
 use Rattle.clap.specs.Lexer.{long_of}
-use Rattle.clap.specs.Walk.{Held, Names, Row, Rule, Text, Walk, answers_to, finished, has_row, settled, walk_from, arg_by_index, arg_by_long, arg_by_short, idle, nothing_held, rows_after, subcommand_met, takes_values, walk, walked}
-use Rattle.clap.specs.Simple.{App, Shape, filled, help_rule, version_rule, built, built_leaf, entered, inherited, marked_built, names_of, subcommand_of, with_leaf_noted}
+use Rattle.clap.specs.Walk.{Held, Names, Row, Rule, Text, Walk, finished, has_row, settled, walk_from, arg_by_long, arg_by_short, idle, nothing_held, rows_after, subcommand_met, takes_values, walked}
+use Rattle.clap.specs.Simple.{Shape, filled, help_rule, version_rule, built, built_leaf, entered, inherited, marked_built, names_of, subcommand_of, with_leaf_noted}
 use Rattle.clap.specs.declared.error.kind.ErrorKind.TheVariants.{ArgumentConflict, DisplayHelp, DisplayVersion, TooManyValues}
 use Rattle.clap.specs.declared.parser.matches.ValueSource.TheVariants.{CommandLine}
 use Rattle.clap.specs.declared.builder.value_parser.Reading.TheVariants.{AsWritten}
 use Rattle.clap.specs.Kinds.{Kinds, or_else}
-use Rattle.clap.specs.Faults.{check_fault, defaults_fault, entered_fault, fault_of, level_fault, long_fault, react_fault, settle_fault, turn_fault, walk_fault}
+use Rattle.clap.specs.Faults.{check_fault, defaults_fault, entered_fault, fault_of, level_fault, long_fault, react_fault, settle_fault, walk_fault}
 use Rattle.clap.proofs.OnLiterals.{clap_on_literals}
 use Rattle.walter_words.specs.Lines.{load_line, play_line, trace_rule, walter_line}
 use Rattle.walter_words.proofs.Longs.{long_without, same_some}
@@ -123,6 +123,7 @@ play_flags name a e = go (bytes_eq (codes "trace") name) refl
     help : (b : Bool) → bytes_eq (codes "trace") name ≡ false → bytes_eq (codes "help") name ≡ b → ((name ≡ codes "trace") × (a ≡ trace_flag)) ⊎ IsRequest play_level a
     help true first is = inr (is_request play_level help_flag a (help_request play_level) (rw (first, is) at e))
     help false first is = let bad : None ≡ Some a = rw (first, is) at e in cc
+
     go : (b : Bool) → bytes_eq (codes "trace") name ≡ b → ((name ≡ codes "trace") × (a ≡ trace_flag)) ⊎ IsRequest play_level a
     go true is = inl (sym ((bytes_eq-Decides _ _).0 is), sym (same_some _ _ (rw is at e)))
     go false is = help (bytes_eq (codes "help") name) is refl
@@ -192,6 +193,7 @@ top_shorts x a h e = go (104 == x) refl
     second : (b : Bool) → (104 == x) ≡ false → (86 == x) ≡ b → (takes_values a ≡ false) × (react_fault top_level.rules top_level.args_override_self a [] h ≡ [] → ⊥)
     second true first is = let r = is_request top_level version_flag a (version_request top_level) (rw (first, is) at e) in (r.0, r.1 h)
     second false first is = let bad : None ≡ Some a = rw (first, is) at e in cc
+
     go : (b : Bool) → (104 == x) ≡ b → (takes_values a ≡ false) × (react_fault top_level.rules top_level.args_override_self a [] h ≡ [] → ⊥)
     go true is = let r = is_request top_level help_flag a (help_request top_level) (rw is at e) in (r.0, r.1 h)
     go false is = second (86 == x) is refl
@@ -202,6 +204,7 @@ top_flags name a e = go (bytes_eq (codes "help") name) refl
     second : (b : Bool) → bytes_eq (codes "help") name ≡ false → bytes_eq (codes "version") name ≡ b → IsRequest top_level a
     second true first is = is_request top_level version_flag a (version_request top_level) (rw (first, is) at e)
     second false first is = let bad : None ≡ Some a = rw (first, is) at e in cc
+
     go : (b : Bool) → bytes_eq (codes "help") name ≡ b → IsRequest top_level a
     go true is = is_request top_level help_flag a (help_request top_level) (rw is at e)
     go false is = second (bytes_eq (codes "version") name) is refl
@@ -233,10 +236,12 @@ first_word (word ∷ rest) e = go (bytes_eq (codes "play") word) refl
         → (more : List Text) × ((word ∷ rest ≡ codes "play" ∷ more) ⊎ (word ∷ rest ≡ codes "load" ∷ more))
     third true first second is = absurd (help_first rest (subst (λ w. fault_of walter_line (w ∷ rest) ≡ []) (sym ((bytes_eq-Decides _ _).0 is)) e))
     third false first second is = absurd (no_command word rest (rw (first, second, is) refl) e)
+
     second : (b : Bool) → bytes_eq (codes "play") word ≡ false → bytes_eq (codes "load") word ≡ b
         → (more : List Text) × ((word ∷ rest ≡ codes "play" ∷ more) ⊎ (word ∷ rest ≡ codes "load" ∷ more))
     second true first is = (rest, inr (ap (λ w. w ∷ rest) (sym ((bytes_eq-Decides _ _).0 is))))
     second false first is = third (bytes_eq (codes "help") word) first is refl
+
     go : (b : Bool) → bytes_eq (codes "play") word ≡ b → (more : List Text) × ((word ∷ rest ≡ codes "play" ∷ more) ⊎ (word ∷ rest ≡ codes "load" ∷ more))
     go true is = (rest, inl (ap (λ w. w ∷ rest) (sym ((bytes_eq-Decides _ _).0 is))))
     go false is = second (bytes_eq (codes "load") word) is refl

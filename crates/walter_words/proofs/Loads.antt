@@ -3,24 +3,23 @@ use Rattle.std.proofs.Common.{◌≡◌, ◌⊎◌, ◌∙◌, ◌==◌, ℕ, Bo
 use Rattle.std.specs.Str.{bytes_eq}
 use Rattle.std.proofs.lemmas.Slice.Eq.{bytes_eq-Decides}
 use Rattle.clap.specs.Lexer.{long_of, short_of}
-use Rattle.clap.specs.Walk.{Held, Row, Rule, Step, Text, Waiting, Walk, after_step, arg_by_long, arg_by_short, finished, idle, nothing_held, option, plain_word, positional, rows_after, settled, takes_values, used, walk, walk_from, walked, with_default, word_met}
-use Rattle.clap.specs.Simple.{filled, help_rule}
+use Rattle.clap.specs.Walk.{Held, Row, Rule, Step, Text, Waiting, Walk, after_step, arg_by_long, arg_by_short, finished, idle, nothing_held, option, plain_word, positional, rows_after, settled, takes_values, used, walked, with_default, word_met}
+use Rattle.clap.specs.Simple.{filled}
 use Rattle.clap.specs.Values.{IsUnsignedIn, refused_kind}
 use Rattle.clap.specs.ValueTests.{accepts}
 use Rattle.clap.proofs.ValueTestLemmas.{Accepts-accepts, accepts-Accepts}
 use Rattle.clap.specs.declared.builder.value_parser.ValueParser.{ValueParser}
 use Rattle.clap.specs.declared.builder.value_parser.ValueParser.TheVariants.{Unsigned}
 use Rattle.clap.specs.Kinds.{Kinds, or_else, value_kinds}
-use Rattle.clap.specs.Faults.{check_fault, defaults_fault, level_fault, long_fault, option_fault, react_fault, repeat_fault, settle_fault, turn_fault, use_fault, walk_fault}
+use Rattle.clap.specs.Faults.{check_fault, defaults_fault, level_fault, long_fault, react_fault, repeat_fault, settle_fault, turn_fault, use_fault, walk_fault}
 use Rattle.clap.proofs.OnLiterals.{clap_on_literals}
-use Rattle.clap.specs.declared.error.kind.ErrorKind.TheVariants.{ArgumentConflict, WrongNumberOfValues}
 use Rattle.clap.specs.declared.parser.matches.ValueSource.TheVariants.{CommandLine}
 use Rattle.clap.specs.declared.builder.value_parser.Reading.TheVariants.{AsWritten}
 use Rattle.walter_words.specs.Lines.{calls_rule, seed_rule}
 use Rattle.walter_words.specs.Words.{BeginsBy, IsEnd}
 use Rattle.walter_words.proofs.Longs.{long_with, long_without, same_some}
 use Rattle.walter_words.proofs.Levels.{IsRequest, help_flag, help_request, is_request, load_level, request_fails}
-use Rattle.walter_words.proofs.Turns.{IsFlagRead, at_word, both_empty, hyphens, idle_turn, one_word, value_fails, waiting_turn}
+use Rattle.walter_words.proofs.Turns.{at_word, both_empty, hyphens, idle_turn, one_word, value_fails, waiting_turn}
 
 -- the seed, or the number of calls
 abbrev pub name_of : Bool → Text
@@ -54,10 +53,12 @@ load_flags name a e = go (bytes_eq (codes "seed") name) refl
         → ((b : Bool) × (name ≡ name_of b) × (a ≡ option_of b)) ⊎ IsRequest load_level a
     third true first second is = inr (is_request load_level help_flag a (help_request load_level) (rw (first, second, is) at e))
     third false first second is = let bad : None ≡ Some a = rw (first, second, is) at e in cc
+
     second : (b : Bool) → bytes_eq (codes "seed") name ≡ false → bytes_eq (codes "calls") name ≡ b
         → ((b : Bool) × (name ≡ name_of b) × (a ≡ option_of b)) ⊎ IsRequest load_level a
     second true first is = inl (false, sym ((bytes_eq-Decides _ _).0 is), sym (same_some _ _ (rw (first, is) at e)))
     second false first is = third (bytes_eq (codes "help") name) first is refl
+
     go : (b : Bool) → bytes_eq (codes "seed") name ≡ b → ((b : Bool) × (name ≡ name_of b) × (a ≡ option_of b)) ⊎ IsRequest load_level a
     go true is = inl (true, sym ((bytes_eq-Decides _ _).0 is), sym (same_some _ _ (rw is at e)))
     go false is = second (bytes_eq (codes "calls") name) is refl
@@ -443,9 +444,9 @@ option_passes b v rows pending words rest (inr is) plain none fit =
       pushed_faults b v now ∙ fit,
       pushed_rows b v now,
       ap (λ w. walk_fault load_level [] (at_word rows pending idle false) w) is ∙ (past _ _ (v ∷ rest) waiting (parted_turn b rows pending none) step
-      ∙ past waiting v rest (at_word now (Some (name_of b, v ∷ [])) idle false) (value_turn b v now plain) next),
+          ∙ past waiting v rest (at_word now (Some (name_of b, v ∷ [])) idle false) (value_turn b v now plain) next),
       ap (λ w. after rows pending w) is ∙ (ap (λ w. fold (walked load_level.rules []) (walked load_level.rules [] w v) rest) step
-      ∙ ap (λ w. fold (walked load_level.rules []) w rest) next),
+          ∙ ap (λ w. fold (walked load_level.rules []) w rest) next),
     )
 
 number_use : (b : Bool) (v : Text) → IsUnsignedIn 0 (most b) v → use_fault false (option_of b) (v ∷ []) [] ≡ []
@@ -481,10 +482,9 @@ load_passes b v u words between rest first second over plain plain2 fits fits2 =
     let walk_is : walk_fault load_level [] (at_word [] None idle false) words ≡ [] = one.4 ∙ (two.4 ∙ end_passes rest two.0 two.1 over) in
     let held_is : (after [] None words).held ≡ held two.0 two.1 = ap (λ (w : Walk). w.held) (one.5 ∙ two.5) ∙ ends_held rest two.0 two.1 over in
     let behind : Held → Kinds = λ h. or_else (settle_fault load_level.rules false h) (or_else (defaults_fault (settled load_level.rules h).rows load_level.rules)
-    (check_fault load_level (finished load_level.rules h) false)) in
-    (
+    (check_fault load_level (finished load_level.rules h) false)) in (
       ap₂ (λ x (h : Held). or_else x (behind h)) walk_is held_is
-      ∙ (ap₂ (λ x rows. or_else x (or_else (defaults_fault rows load_level.rules) (check_fault load_level (fold with_default rows load_level.rules) false))) two.2 rows2
-      ∙ nothing_missing b v u),
+          ∙ (ap₂ (λ x rows. or_else x (or_else (defaults_fault rows load_level.rules) (check_fault load_level (fold with_default rows load_level.rules) false))) two.2 rows2
+          ∙ nothing_missing b v u),
       ap (λ (h : Held). finished load_level.rules h) held_is ∙ (ap (λ rows. fold with_default rows load_level.rules) rows2 ∙ no_defaults b v u),
     )

@@ -1,7 +1,7 @@
 -- The word that a long flag is read from.
-use Rattle.std.proofs.Common.{◌≡◌, ◌∙◌, ◌==◌, ℕ, Bool, true, false, List, [], ◌∷◌, ◌++◌, Option, Some, None, refl, sym, ap, arith}
+use Rattle.std.proofs.Common.{◌≡◌, ◌∙◌, ◌==◌, ℕ, Bool, true, false, [], ◌∷◌, ◌++◌, Option, Some, None, refl, sym, ap}
 use native.Mathlib.Numerals.{one-add, unary_clauses}
-use Rattle.std.specs.List.{after_first, before_first, list_any}
+use Rattle.std.specs.List.{after_first, before_first}
 use Rattle.std.specs.Prelude.{unwrap_or}
 use Rattle.std.proofs.lemmas.Bool.{eqb-true}
 use Rattle.clap.specs.Lexer.{has_byte, long_of, name_and_value}
@@ -54,6 +54,7 @@ long_text (x ∷ xs) p e = one (x == 45) refl xs e
         let same : Some (name_and_value (z ∷ zs)) ≡ Some p = rw is at f in
         (z ∷ zs, ap (λ a. a ∷ y ∷ z ∷ zs) first ∙ ap (λ a. 45 ∷ a ∷ z ∷ zs) (eqb-true y 45 is), same_some _ _ same)
     two first y ys false is f = let bad : None ≡ Some p = rw is at f in cc
+
     one : (b : Bool) → (x == 45) ≡ b → (ys : Text) → long_of (x ∷ ys) ≡ Some p → (t : Text) × (x ∷ ys ≡ 45 ∷ 45 ∷ t) × (name_and_value t ≡ p)
     one true is [] f = let bad : None ≡ Some p = rw is at f in cc
     one true is (y ∷ ys) f = two (eqb-true x 45 is) y ys (y == 45) refl (rw (eqb-true x 45 is) at f)

@@ -1,11 +1,10 @@
 -- What a word may be at a level that has no positionals, and whose short flags all ask for a text.
-use Rattle.std.proofs.Common.{◌≡◌, ◌⊎◌, ◌∙◌, ℕ, Bool, true, false, not, List, [], ◌∷◌, ◌++◌, length, drop, Option, Some, None, is_some, refl, sym, ap, inl, inr, subst, ⊎_elim}
-use Rattle.std.specs.Prelude.{slice_get, encode_utf8, zero, suc, if◌then◌else◌}
+use Rattle.std.proofs.Common.{◌≡◌, ◌⊎◌, ℕ, Bool, true, false, List, [], ◌∷◌, length, drop, Option, Some, None, is_some, refl, inl, inr}
+use Rattle.std.specs.Prelude.{slice_get, encode_utf8, if◌then◌else◌}
 use Rattle.std.specs.Str.{bytes_eq, chars}
 use Rattle.std.proofs.lemmas.Slice.Eq.{bytes_eq-Decides}
 use Rattle.clap.specs.Lexer.{long_of, short_of}
-use Rattle.clap.specs.Walk.{Held, Names, Outcome, Row, Rule, Step, Text, Waiting, Walk, after_step, after_flag, arg_by_id, arg_by_index, arg_by_long, arg_by_short, attached_value, bundle, bundle_met, bundle_step, idle, option, long_or_other, long_word, plain, plain_word, reacted, short_or_plain, short_word, settled, subcommand_met, takes_values, trailing, value, walked, word_met}
-
+use Rattle.clap.specs.Walk.{Held, Names, Row, Rule, Step, Text, Waiting, Walk, after_flag, arg_by_index, arg_by_long, arg_by_short, attached_value, bundle_met, bundle_step, idle, option, long_or_other, plain, plain_word, reacted, short_or_plain, settled, subcommand_met, takes_values, trailing, value, walked, word_met}
 use Rattle.clap.specs.Simple.{Shape}
 use Rattle.std.specs.Option.{option_map_or}
 use Rattle.clap.specs.declared.error.kind.ErrorKind.TheVariants.{InvalidSubcommand, TooManyValues, UnknownArgument}
@@ -48,7 +47,6 @@ stray false e = cc
 module _ (s : Shape) (values : arg_by_index s.rules 1 ≡ None)
     (shorts : (x : ℕ) (a : Rule) (h : Held) → arg_by_short s.rules x ≡ Some a
     → (takes_values a ≡ false) × (react_fault s.rules s.args_override_self a [] h ≡ [] → ⊥)) where
-
   pub value_fails : (h : Held) → step_fault s 1 h value ≡ [] → ⊥
   value_fails h e = stray s.is_leaf (rw values at e)
 

@@ -1,5 +1,6 @@
 -- What the words behind the program's name ask for.
-use Rattle.std.specs.Prelude.{◌≡◌, ◌⊎◌, ◌≤◌, ◌<◌, ◌^◌, ◌++◌, ℕ, Bool, List, [], ◌∷◌, codes, ⊤, if◌then◌else◌, Option, Some, Result, Ok, Err, MatchResult, ◌≢◌}
+use Rattle.std.specs.Prelude.{◌≡◌, ◌≢◌, ◌⊎◌, ◌≤◌, ◌<◌, ◌^◌, ◌++◌, ℕ, Bool, List, [], ◌∷◌, codes, ⊤}
+use Rattle.std.specs.Prelude.{if◌then◌else◌, Option, Some, Result, Ok, Err, MatchResult}
 use Rattle.std.specs.Str.Parse.{IsNumeral, digits_value, without_leading_plus}
 use Rattle.clap.specs.Words.{Row, Text, one_of}
 use Rattle.clap.specs.Kinds.{IsAmong, Kinds}
@@ -84,7 +85,8 @@ IsTold kind (Ok command) = IsText command × IsTextKind kind
 IsTold kind (Err (Usage text)) = ¬ IsTextKind kind × (kind ≢ OutOfMemory)
 IsTold kind (Err Memory) = ⊤
 
--- a run comes where no kind of error does, a text where help or the version is shown, and Usage where another kind comes
+-- a run comes where no kind of error does, a text where help or the version is to be shown, and Usage where
+-- another kind comes
 abbrev pub FollowsFrom : Kinds → Result Command WordsFault → Type 0
 FollowsFrom kinds (Ok (Say text)) = IsAmong DisplayHelp kinds ⊎ IsAmong DisplayVersion kinds
 FollowsFrom kinds (Ok (Play trace)) = kinds ≡ []

@@ -1,9 +1,10 @@
-ghost use Rattle.std.specs.Prelude.{◌≡◌, ◌⊎◌, ℕ, Bool, List, IfOk, Some, codes, if◌then◌else◌, map, string_bytes, ◌<◌, ◌≤◌, ◌^◌};
+ghost use Rattle.std.specs.Prelude.{◌≡◌, ◌⊎◌, ◌<◌, ◌≤◌, ◌^◌, ℕ, Bool, List, IfOk, Some, codes, map};
+ghost use Rattle.std.specs.Prelude.{if◌then◌else◌, string_bytes};
 ghost use Rattle.clap.specs.Words.{found_of, kind_of, one_of, rows_of, subcommand_rows_of};
 ghost use Rattle.clap.specs.Faults.{fault_of};
 ghost use Rattle.walter_words.specs.Lines.{walter_line};
-ghost use Rattle.walter_words.specs.Words.{AsksFor, AsksForText, FollowsFrom, IsGiven, IsReadAs, IsSaid, IsText, IsTold};
-ghost use Rattle.walter_words.specs.Words.{Writes};
+ghost use Rattle.walter_words.specs.Words.{AsksFor, AsksForText, FollowsFrom, IsGiven, IsReadAs, IsSaid};
+ghost use Rattle.walter_words.specs.Words.{IsText, IsTold, Writes};
 
 use crate::lines::walter;
 use clap::error::ErrorKind;
@@ -44,12 +45,15 @@ fn play_of(play: &ArgMatches<'_>) -> Command
     ensures { (trace : Bool) → one_of (codes "trace") (rows_of (found_of play.now))
         ≡ Some (if trace then codes "true" else codes "false") → result ≡ Command.Play trace }
 {
-    Command::Play { trace: play.get_flag("trace") }
+    Command::Play {
+        trace: play.get_flag("trace"),
+    }
 }
 
 /// The run of `load` with these matches, if they have both numbers.
 fn load_of(load: &ArgMatches<'_>) -> Option<Command>
-    ensures { (s : List ℕ) (c : List ℕ) (seed : ℕ) (calls : ℕ) → one_of (codes "seed") (rows_of (found_of load.now)) ≡ Some s
+    ensures { (s : List ℕ) (c : List ℕ) (seed : ℕ) (calls : ℕ)
+        → one_of (codes "seed") (rows_of (found_of load.now)) ≡ Some s
         → one_of (codes "calls") (rows_of (found_of load.now)) ≡ Some c
         → Writes s seed → Writes c calls → seed < 2 ^ 64 → calls ≤ 20000 → result ≡ Some (Command.Load seed calls) }
 {
@@ -86,7 +90,8 @@ fn told_of(alloc: Global, error: &Error) -> Result<Command, WordsFault>
     }
 }
 
-/// What the words behind the program's name ask for.
+/// What the words behind the program's name ask for. A run comes of the words that ask for it, and of no others: so of
+/// none whose first is neither `play` nor `load`.
 pub fn command_of(alloc: Global, words: &[String]) -> Result<Command, WordsFault>
     ensures given { (command : Command) → AsksFor command (map string_bytes words.now) → IsGiven command result }
     ensures asked { IfOk result (λ command. AsksFor command (map string_bytes words.now) ⊎ IsText command) }

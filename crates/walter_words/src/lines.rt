@@ -9,7 +9,8 @@ use std::alloc::{AllocError, Global};
 /// The version of the program.
 static VERSION: &str = "0.1.0";
 
-static WALTER_ABOUT: &str = "Plays scenarios against a geo-replicated transactional key-value store, and reports what it answers";
+static WALTER_ABOUT: &str =
+    "Plays scenarios against a geo-replicated transactional key-value store, and reports what it answers";
 
 static WALTER_REST: &str = "\
 play reads a scenario from standard input. load makes one of a seed and reads nothing. What comes of it is
@@ -29,7 +30,8 @@ But for 0 and 4 nothing is written.
 Example:
   ./walter play --trace < examples/first_run.json";
 
-static PLAY_ABOUT: &str = "Plays the scenario on standard input, and writes its report to standard output";
+static PLAY_ABOUT: &str =
+    "Plays the scenario on standard input, and writes its report to standard output";
 
 static PLAY_REST: &str = "\
 A scenario is one JSON object: its sites, containers, clients with all that they send, and steps. The report
@@ -50,7 +52,8 @@ But for 0 and 4 nothing is written.
 Example:
   ./walter play --trace < examples/first_run.json";
 
-static LOAD_ABOUT: &str = "Makes a scenario of a seed, plays it, and writes a summary to standard output";
+static LOAD_ABOUT: &str =
+    "Makes a scenario of a seed, plays it, and writes a summary to standard output";
 
 static LOAD_REST: &str = "\
 It reads nothing. The same seed and number of calls give the same scenario and the same summary.

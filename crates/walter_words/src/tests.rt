@@ -45,7 +45,9 @@ fn texts_name_the_statuses(rt: HostRuntime) -> Result<(), Fail> {
     let alloc = rt.alloc();
     for line in ["--help", "play --help", "load --help"] {
         let text = said(alloc, line)?;
-        for status in ["\n  0  ", "\n  1  ", "\n  2", "3  ", "\n  4  ", "\n  5  ", "\n  6  ", "\n  7  "] {
+        for status in [
+            "\n  0  ", "\n  1  ", "\n  2", "3  ", "\n  4  ", "\n  5  ", "\n  6  ", "\n  7  ",
+        ] {
             assert!(rt; text.contains(status));
         }
         assert!(rt; text.contains("\nExample:\n  ./walter "));
@@ -57,7 +59,8 @@ fn texts_name_the_statuses(rt: HostRuntime) -> Result<(), Fail> {
 #[test]
 fn mistakes_are_named(rt: HostRuntime) -> Result<(), Fail> {
     let alloc = rt.alloc();
-    let text = "error: unexpected argument '--trce' found\n\n  tip: a similar argument exists: '--trace'\n\nUsage: walter play --trace\n\nFor more information, try '--help'.\n";
+    let text =
+        "error: unexpected argument '--trce' found\n\n  tip: a similar argument exists: '--trace'\n\nUsage: walter play --trace\n\nFor more information, try '--help'.\n";
     assert!(rt; message(alloc, "play --trce")?.as_str() == text);
     assert!(rt; message(alloc, "")?.contains("requires a subcommand"));
     assert!(rt; message(alloc, "plai")?.contains("'plai'"));

@@ -1,13 +1,13 @@
-use Rattle.std.proofs.Common.{◌≡◌, ◌∙◌, ◌⊎◌, List, [], ◌∷◌, Some, None, Option, map, true, inl, inr, ap, sym, subst}
+use Rattle.std.proofs.Common.{◌≡◌, ◌∙◌, ◌⊎◌, [], ◌∷◌, Some, None, map, inl, ap, sym, subst}
 use Rattle.std.specs.Prelude.{string_bytes, Ok}
-use Rattle.clap.specs.Words.{app_of, kind_of, subcommand_of, subcommand_rows_of}
+use Rattle.clap.specs.Words.{kind_of, subcommand_of, subcommand_rows_of}
 use Rattle.clap.specs.Simple.{is_simple}
 use Rattle.clap.specs.Faults.{fault_of, is_simple_and_free}
 use Rattle.clap.specs.Kinds.{IsAmong}
 use Rattle.clap.specs.declared.error.kind.ErrorKind.TheVariants.{OutOfMemory}
 use Rattle.walter_words.specs.Lines.{walter_line}
 use Rattle.walter_words.specs.Words.{AsksFor, FollowsFrom}
-use Rattle.walter_words.proofs.Asking.{asked, is_free_line, is_simple_line, read_back, run_follows, taken, text_kinds, told_follows, told_given, told_said}
+use Rattle.walter_words.proofs.Asking.{is_free_line, is_simple_line, read_back, run_follows, taken, text_kinds, told_follows, told_given, told_said}
 use Rattle.walter_words.proofs.Longs.{same_some}
 use Rattle.walter_words.proofs.asked.command_of.Goals as goal
 

@@ -1,10 +1,8 @@
-use Rattle.std.proofs.Common.{◌≡◌, ◌∙◌, ◌<◌, ◌≤◌, ℕ, Some, None, codes, ap, ap₂, arith, sym}
+use Rattle.std.proofs.Common.{◌≡◌, ◌∙◌, Some, codes, arith}
 use Rattle.std.specs.Str.Parse.{ParsesUnsigned, ExplainsUnsignedError, HasUnsignedDigitsIfOk}
 use Rattle.clap.specs.Words.{found_of}
 use Rattle.clap.proofs.WalkLemmas.{one_text-rows}
-use Rattle.walter_words.specs.declared.asked.Command.TheVariants.{Load}
 use Rattle.walter_words.proofs.Asking.{number_read}
-use Rattle.walter_words.proofs.Longs.{same_some}
 use Rattle.walter_words.proofs.asked.load_of.Goals as goal
 
 pub returns-in_err-get_one : goal.returns-in_err-get_one

@@ -1,5 +1,5 @@
 use Rattle.std.proofs.Common.{ℕ, codes, rules, true, ap, ap₂, false, ◌≡◌, ◌∙◌, ◌||◌}
-use Rattle.std.specs.Prelude.{Some, Option}
+use Rattle.std.specs.Prelude.{Some}
 use Rattle.std.proofs.lemmas.Result.{IfOk-weaker}
 use Rattle.clap.specs.Words.{Rule, Text, app_of, new_app, rule_of, with_rule}
 use Rattle.clap.specs.declared.builder.arg.Arg.{Arg}
@@ -7,7 +7,7 @@ use Rattle.clap.specs.declared.builder.action.ArgAction.TheVariants.{Set}
 use Rattle.clap.specs.declared.builder.command.Command.TheViews.{out-Command as fields_of}
 use Rattle.clap.specs.declared.builder.value_parser.ValueParser.{ValueParser}
 use Rattle.clap.specs.declared.builder.value_parser.ValueParser.TheVariants.{Unsigned}
-use Rattle.walter_words.specs.Lines.{calls_rule, load_line, seed_rule}
+use Rattle.walter_words.specs.Lines.{calls_rule, seed_rule}
 use Rattle.walter_words.proofs.lines.load.Goals as goal
 
 -- a required option of one number
@@ -40,8 +40,8 @@ returns c =
     let one = c.in_ok-arg.ensures.shape seed_local in
     record {
       line = IfOk-weaker c.arg-2.result _ _ (λ d added. added.shape calls_local
-      ∙ ap₂ with_rule (one ∙ ap₂ with_rule new_app_is seed_is) calls_is) c.arg-2.ensures;
+          ∙ ap₂ with_rule (one ∙ ap₂ with_rule new_app_is seed_is) calls_is) c.arg-2.ensures;
       local = IfOk-weaker c.arg-2.result _ _ (λ d added. added.globals
-      ∙ (ap (λ b. b || c.help-calls.result.global) c.in_ok-arg.ensures.globals ∙ (ap (λ b. (b || c.help-seed.result.global) || c.help-calls.result.global) new_local
-      ∙ (ap (λ b. (false || b) || c.help-calls.result.global) seed_local ∙ calls_local)))) c.arg-2.ensures;
+          ∙ (ap (λ b. b || c.help-calls.result.global) c.in_ok-arg.ensures.globals ∙ (ap (λ b. (b || c.help-seed.result.global) || c.help-calls.result.global) new_local
+          ∙ (ap (λ b. (false || b) || c.help-calls.result.global) seed_local ∙ calls_local)))) c.arg-2.ensures;
     }

@@ -1,7 +1,7 @@
-use Rattle.std.proofs.Common.{rules, ap, ap₂, true, ◌≡◌, ◌∙◌}
+use Rattle.std.proofs.Common.{ap, ap₂, true, ◌≡◌, ◌∙◌}
 use Rattle.std.proofs.lemmas.Result.{IfOk-weaker}
 use Rattle.clap.specs.Words.{App, app_of, with_subcommand}
-use Rattle.walter_words.specs.Lines.{bare_line, load_line, play_line, walter_line}
+use Rattle.walter_words.specs.Lines.{bare_line}
 use Rattle.walter_words.proofs.lines.walter.Goals as goal
 
 abbrev bare : App → App
