@@ -1,5 +1,5 @@
 -- What a run comes to whose bench was built over the disks of a rack, driven, and taken apart.
-use Rattle.std.proofs.Common.{◌≡◌, ℕ, ◌<◌, ◌≤◌, List, [], ◌++◌, length, map, slice_get, reverse, Bool, Option, Some, None, option_map, refl, ap, sym, ◌∙◌, subst, arith, inl, inr}
+use Rattle.std.proofs.Common.{◌≡◌, ℕ, ◌<◌, ◌≤◌, List, [], ◌++◌, length, map, slice_get, reverse, Option, Some, None, option_map, refl, ap, sym, ◌∙◌, subst, arith, inl, inr}
 use Rattle.std.specs.Prelude.{IfSome, count_by}
 use Rattle.std.proofs.lemmas.List.{length-map}
 use Rattle.std.proofs.lemmas.Option.{slice_get-map, slice_get_within}
@@ -31,7 +31,8 @@ use Rattle.walter_cli.specs.Disks.{AreGiven}
 use Rattle.walter_cli.specs.Ending.{IsBuilt, IsWholeBack, IsWriteFault, EndsRun}
 use Rattle.walter_cli.specs.Headline.{AreCallsOf, AreTold, LeavesRecords, IsDiskOfRun, IsDiskOfWhole, IsRun, IsWholeRun, trail_at}
 use Rattle.walter_cli.specs.Racks.{RackAt, Racked, IsTold, racked}
-use Rattle.walter_cli.specs.Texts.{text_of}
+use Rattle.walter_cli.specs.Words.{written_by}
+use Rattle.walter_words.specs.declared.asked.Command.{Command}
 use Rattle.walter_cli.proofs.Giving.{IsReturned, handed_back, all_back, all_or_failed, holds_taken, told_reads}
 use Rattle.walter_cli.proofs.Trails.{field_of, field_at, trail_is, one_each, begins, stamps_rise, calls_are, told_trails}
 
@@ -254,23 +255,23 @@ module _ {D : Type 0} (g : Ghosts D) (t : Scenario) (before mid after : RackAt D
 -- ---- how a run ends
 
 -- the end of a run, told by equal trails and an equal fault
-pub ends_with : (r : Racked) (trace : Bool) (s : Scenario) (holds holds' : Option (List ℕ)) (faults faults' : ℕ)
+pub ends_with : (r : Racked) (command : Command) (s : Scenario) (holds holds' : Option (List ℕ)) (faults faults' : ℕ)
     (trails told : List (List Entry)) (fault named : Option Fault)
-    → EndsRun r trace s holds holds' faults faults' trails fault → told ≡ trails → named ≡ fault
-    → EndsRun r trace s holds holds' faults faults' told named
-ends_with r trace s holds holds' faults faults' trails told fault named ends same_trails same_fault =
-    subst (λ (f : Option Fault). EndsRun r trace s holds holds' faults faults' told f) (sym same_fault)
-    (subst (λ ts. EndsRun r trace s holds holds' faults faults' ts fault) (sym same_trails) ends)
+    → EndsRun r command s holds holds' faults faults' trails fault → told ≡ trails → named ≡ fault
+    → EndsRun r command s holds holds' faults faults' told named
+ends_with r command s holds holds' faults faults' trails told fault named ends same_trails same_fault =
+    subst (λ (f : Option Fault). EndsRun r command s holds holds' faults faults' told f) (sym same_fault)
+    (subst (λ ts. EndsRun r command s holds holds' faults faults' ts fault) (sym same_trails) ends)
 
 -- the end of a whole run whose report was not written whole
-pub ends_cut : (r : Racked) (trace : Bool) (s : Scenario) (holds holds' : Option (List ℕ)) (faults faults' : ℕ)
+pub ends_cut : (r : Racked) (command : Command) (s : Scenario) (holds holds' : Option (List ℕ)) (faults faults' : ℕ)
     (trails : List (List Entry)) (fault : Fault)
-    → IsWholeBack r s trails → IsWriteFault (text_of trace s trails) holds holds' faults faults' fault
-    → EndsRun r trace s holds holds' faults faults' trails (Some fault)
-ends_cut r trace s holds holds' faults faults' trails Write run why = (run, why.0, why.1)
-ends_cut r trace s holds holds' faults faults' trails Memory run why = (inr run.1.run, why)
-ends_cut r trace s holds holds' faults faults' trails Usage run why = absurd why
-ends_cut r trace s holds holds' faults faults' trails (ScenarioFault place detail) run why = absurd why
-ends_cut r trace s holds holds' faults faults' trails Read run why = absurd why
-ends_cut r trace s holds holds' faults faults' trails (Rack site) run why = absurd why
-ends_cut r trace s holds holds' faults faults' trails (Journal site cause place) run why = absurd why
+    → IsWholeBack r s trails → IsWriteFault (written_by command s trails) holds holds' faults faults' fault
+    → EndsRun r command s holds holds' faults faults' trails (Some fault)
+ends_cut r command s holds holds' faults faults' trails Write run why = (run, why.0, why.1)
+ends_cut r command s holds holds' faults faults' trails Memory run why = (inr run.1.run, why)
+ends_cut r command s holds holds' faults faults' trails (Usage text) run why = absurd why
+ends_cut r command s holds holds' faults faults' trails (ScenarioFault place detail) run why = absurd why
+ends_cut r command s holds holds' faults faults' trails Read run why = absurd why
+ends_cut r command s holds holds' faults faults' trails (Rack site) run why = absurd why
+ends_cut r command s holds holds' faults faults' trails (Journal site cause place) run why = absurd why

@@ -6,5 +6,4 @@ pub mod Trails
 pub mod Finished
 pub mod Runs
 pub mod Sure
-pub mod WordLines
 pub mod Wholes

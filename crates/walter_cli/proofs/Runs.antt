@@ -1,11 +1,10 @@
 -- What the parts of a call of the program promise together.
-use Rattle.std.proofs.Common.{◌≡◌, ◌≢◌, ℕ, ◌<◌, List, [], ◌++◌, length, Bool, Option, Some, None, option_map, ap, sym, ◌∙◌, subst, arith, inl, inr, ◌⊎◌}
-use Rattle.std.specs.Prelude.{String}
+use Rattle.std.proofs.Common.{◌≡◌, ◌≢◌, ℕ, ◌<◌, List, [], ◌++◌, length, map, Bool, Option, Some, None, option_map, refl, ap, sym, ◌∙◌, subst, arith, inl, inr, ◌⊎◌}
+use Rattle.std.specs.Prelude.{String, string_bytes}
 use Rattle.std.specs.Global.{Global}
 use Rattle.std.proofs.lemmas.Bool.{cases_lt}
 use Rattle.std.proofs.lemmas.List.{append-nil, length-append}
 use Rattle.walter_engine.specs.Begins.{HasNoRecord}
-use Rattle.walter_rules.specs.declared.entry.Entry.{Entry}
 use Rattle.walter_scenario.specs.declared.place.Detail.{Detail}
 use Rattle.walter_scenario.specs.declared.place.Place.{Place}
 use Rattle.walter_scenario.specs.declared.place.Place.TheVariants.{TooLong}
@@ -18,12 +17,15 @@ use Rattle.walter_cli.specs.declared.ended.Ended.{Ended}
 use Rattle.walter_cli.specs.declared.ended.Fault.{Fault}
 use Rattle.walter_cli.specs.declared.ended.Fault.TheVariants.{Usage, Scenario as ScenarioFault, Read, Write, Memory, Rack, Journal}
 use Rattle.walter_cli.specs.declared.ended.JournalCause.{JournalCause}
-use Rattle.walter_cli.specs.Ending.{IsTaken, IsTakeFault, IsWholeBack, MayHaveRun, EndsRun}
-use Rattle.walter_cli.specs.Headline.{Outside, HasNoReading, IsRun, Runs, RunsWhole, OfScenario, IsRackFault, IsFirstUnfit, FailsEarly, Promise}
+use Rattle.walter_cli.specs.Ending.{IsTakeFault, IsPoseFault, IsWholeBack, MayHaveRun, EndsRun, EndsText}
+use Rattle.walter_cli.specs.Sources.{HasNoReading, IsTaken}
+use Rattle.walter_cli.specs.Headline.{Outside, IsRun, Runs, RunsWhole, Says, OfScenario, IsRackFault, IsFirstUnfit, FailsEarly, Promise}
 use Rattle.walter_cli.specs.Racks.{Racked, AreAllTold, Holds, IsUntouched, IsFaultlessBefore, HasCause}
 use Rattle.walter_cli.specs.Statuses.{status_of}
-use Rattle.walter_cli.specs.Texts.{text_of}
-use Rattle.walter_cli.specs.Words.{IsPlayLine, IsLine}
+use Rattle.walter_cli.specs.Words.{Asks, AskForNone, IsForText, IsPosed, IsWrong, Poses, written_by}
+use Rattle.walter_words.specs.Words.{AsksForText}
+use Rattle.walter_words.specs.declared.asked.Command.{Command}
+use Rattle.walter_words.specs.declared.asked.Command.TheVariants.{Play, Load, Say}
 use Rattle.walter_cli.proofs.Causes.{cause_has_record, one_cause}
 use Rattle.walter_cli.proofs.Giving.{of_both}
 
@@ -59,13 +61,27 @@ taken_reading before after bytes s taken told = here after taken.source.end (sym
         let same : bytes ≡ taken.bytes ++ rest = cc in
         subst (λ (b : List ℕ). IsReading b s) (sym (same ∙ ap (λ r. taken.bytes ++ r) end ∙ append-nil taken.bytes)) taken.reading
 
--- the bytes of a run that are told spell its scenario
-runs_reading : (rack : Racked) (before after : Outside) (trails : List (List Entry)) (bytes : List ℕ) (s : Scenario)
-    → (runs : Runs rack before after trails) → before.left ≡ Some bytes → IsReading bytes s → runs.scenario ≡ s
-runs_reading rack before after trails bytes s runs told reading =
-    one_scenario bytes runs.scenario s
-    (taken_reading before.left after.left bytes runs.scenario
-    (record { bytes = runs.bytes; source = runs.source; reading = runs.reading }) told) reading
+-- the scenario that was run is the one that was posed
+posed_one : (command : Command) (before after : Option (List ℕ)) (t s : Scenario) → IsPosed command before after t
+    → Poses command before s → t ≡ s
+posed_one (Play trace) before after t s posed poses =
+    one_scenario poses.0 t s (taken_reading before after poses.0 t posed poses.1) poses.2
+posed_one (Load seed calls) before after t s posed poses = posed.0 ∙ sym poses
+posed_one (Say text) before after t s posed poses = absurd poses
+
+-- what is to be played
+abbrev IsPlaying : Command → Type 0
+IsPlaying (Play trace) = Unit {0}
+IsPlaying (Load seed calls) = ⊥
+IsPlaying (Say text) = ⊥
+
+-- bytes that have no reading pose nothing
+poses_none : (command : Command) (before after : Option (List ℕ)) (s : Scenario) (place : Place) → IsPlaying command
+    → Poses command before s → HasNoReading before after place → ⊥
+poses_none (Play trace) before after s place plays poses none =
+    read_nowhere_refused poses.0 s place poses.2 (none_wrong before after poses.0 place none poses.1)
+poses_none (Load seed calls) before after s place plays poses none = plays
+poses_none (Say text) before after s place plays poses none = plays
 
 -- the first site whose disk is unfit is one, for one cause
 one_unfit : (rack : Racked) (sites a b : ℕ) (c d : JournalCause) (p q : ℕ) → AreAllTold rack sites → b < sites
@@ -91,43 +107,42 @@ module _ (words : List (String Global)) (rack : Racked) (before after : Outside)
     (status : ended.status ≡ status_of ended.fault) (back : rack.balanced)
     (unfailing : rack.unfailing 16 → ¬ rack.failed)
     (one_count : (m n : ℕ) → rack.took m → rack.took n → m ≡ n) where
-  -- the end of a call that named no fault of words
-  module _ (trace : Bool) (line : IsPlayLine trace words) where
-    asked : IsLine words
-    asked = (trace, line)
-
-    -- what a run promises whatever came of its report
-    whole : (s : Scenario) (Written : List ℕ → Type 0) → IsTaken before.left after.left s
-        → IsWholeBack rack s ended.trails.items → Written (text_of trace s ended.trails.items)
-        → RunsWhole rack words before after ended.trails.items Written
-    whole s Written taken run written = record {
-      bytes = taken.bytes;
-      source = taken.source;
+  -- the end of a call whose words ask for this run, and for no other
+  module _ (command : Command) (line : Asks command words) (only : (other : Command) → Asks other words → other ≡ command) where
+    -- what a run promises whatever came of what is written
+    whole : (s : Scenario) (Written : List ℕ → Type 0) → IsPosed command before.left after.left s
+        → IsWholeBack rack s ended.trails.items → Written (written_by command s ended.trails.items)
+        → RunsWhole words rack before after ended.trails.items Written
+    whole s Written posed run written = record {
+      command = command;
+      asked = line;
       scenario = s;
-      reading = taken.reading;
+      posed = posed;
       arms = run.0;
       run = run.1;
       disks_given_back = run.2;
-      trace = trace;
-      asked = line;
       bytes_written = written;
     }
 
-    runs : (s : Scenario) → IsTaken before.left after.left s → IsRun rack s ended.trails.items
-        → Runs rack before after ended.trails.items
-    runs s taken run =
-        record { bytes = taken.bytes; source = taken.source; scenario = s; reading = taken.reading; run = run }
+    runs : (s : Scenario) → IsPosed command before.left after.left s → IsRun rack s ended.trails.items
+        → Runs words rack before after ended.trails.items
+    runs s posed run = record { command = command; asked = line; scenario = s; posed = posed; run = run }
 
-    -- what holds of a scenario that was taken
-    spelled : (s : Scenario) (P : Scenario → Type 0) → IsTaken before.left after.left s → P s → OfScenario before after P
-    spelled s P taken holds =
-        record { bytes = taken.bytes; source = taken.source; scenario = s; reading = taken.reading; holds = holds }
+    -- what holds of a scenario that was posed
+    spelled : (s : Scenario) (P : Scenario → Type 0) → IsPosed command before.left after.left s → P s → OfScenario words before after P
+    spelled s P posed holds = record { command = command; asked = line; scenario = s; posed = posed; holds = holds }
+
+    -- what was posed by any words is what was posed by these
+    is_posed : (other : Command) (t s : Scenario) → Asks other words → IsPosed other before.left after.left t → Poses command before.left s → t ≡ s
+    is_posed other t s asked posed poses =
+        posed_one command before.left after.left t s
+        (subst (λ (c : Command). IsPosed c before.left after.left t) (only other asked) posed) poses
 
     abbrev MayRun : Type 0
-    MayRun = ((ended.trails.items ≡ []) × IsUntouched rack) ⊎ Runs rack before after ended.trails.items
+    MayRun = ((ended.trails.items ≡ []) × IsUntouched rack) ⊎ Runs words rack before after ended.trails.items
 
     -- whether there was a run
-    runs_if : (s : Scenario) → IsTaken before.left after.left s → MayHaveRun rack s ended.trails.items → MayRun
+    runs_if : (s : Scenario) → IsPosed command before.left after.left s → MayHaveRun rack s ended.trails.items → MayRun
     runs_if s taken (inl none) = inl none
     runs_if s taken (inr run) = inr (runs s taken run)
 
@@ -137,30 +152,30 @@ module _ (words : List (String Global)) (rack : Racked) (before after : Outside)
 
     -- what is so at the end with this fault, or with none
     abbrev Tells : Option Fault → Type 0
-    Tells None = RunsWhole rack words before after ended.trails.items (Appends before.holds after.holds)
-    Tells (Some Usage) = ⊥
+    Tells None = RunsWhole words rack before after ended.trails.items (Appends before.holds after.holds)
+    Tells (Some (Usage text)) = ⊥
     Tells (Some (ScenarioFault place detail)) =
-        HasNoReading before.left after.left place × (ended.trails.items ≡ [])
+        HasNoReading before.left after.left place × (ended.trails.items ≡ []) × IsPlaying command
     Tells (Some Read) = (before.source_faults < after.source_faults) × (ended.trails.items ≡ [])
     Tells (Some Write) =
-        RunsWhole rack words before after ended.trails.items (AppendsFront before.holds after.holds)
+        RunsWhole words rack before after ended.trails.items (AppendsFront before.holds after.holds)
         × (before.sink_faults < after.sink_faults)
     Tells (Some Memory) = Unit {0}
     Tells (Some (Rack site)) =
-        OfScenario before after (λ s. (site < s.catalog.sites) × IsRackFault rack s ended.trails.items site)
+        OfScenario words before after (λ s. (site < s.catalog.sites) × IsRackFault rack s ended.trails.items site)
     Tells (Some (Journal site cause place)) =
-        OfScenario before after (λ s. (site < s.catalog.sites) × IsFirstUnfit rack site cause place
+        OfScenario words before after (λ s. (site < s.catalog.sites) × IsFirstUnfit rack site cause place
         × rack.each (IsFaultlessBefore site)) × (ended.trails.items ≡ [])
 
     -- so it is by the status
     at_done : (fault : Option Fault) → Tells fault → status_of fault ≡ 0
-        → RunsWhole rack words before after ended.trails.items (Appends before.holds after.holds)
+        → RunsWhole words rack before after ended.trails.items (Appends before.holds after.holds)
     at_done None told is = told
-    at_done (Some Usage) told is = absurd told
+    at_done (Some (Usage text)) told is = absurd told
     at_done _ told is = absurd (omega (arith, is))
 
     at_usage : (fault : Option Fault) → Tells fault → status_of fault ≡ 1 → ⊥
-    at_usage (Some Usage) told is = told
+    at_usage (Some (Usage text)) told is = told
     at_usage _ told is = omega (arith, is)
 
     at_unread : (fault : Option Fault) → Tells fault → status_of fault ≡ 3 → before.source_faults < after.source_faults
@@ -168,7 +183,7 @@ module _ (words : List (String Global)) (rack : Racked) (before after : Outside)
     at_unread _ told is = absurd (omega (arith, is))
 
     at_cut : (fault : Option Fault) → Tells fault → status_of fault ≡ 4
-        → RunsWhole rack words before after ended.trails.items (AppendsFront before.holds after.holds)
+        → RunsWhole words rack before after ended.trails.items (AppendsFront before.holds after.holds)
         × (before.sink_faults < after.sink_faults)
     at_cut (Some Write) told is = told
     at_cut _ told is = absurd (omega (arith, is))
@@ -177,7 +192,7 @@ module _ (words : List (String Global)) (rack : Racked) (before after : Outside)
     no_trails : (fault : Option Fault) → Tells fault → ended.status ≡ status_of fault
         → (ended.trails.items ≡ []) ⊎ (ended.status ≡ 0) ⊎ (ended.status ≡ 4) ⊎ (ended.status ≡ 5) ⊎ (ended.status ≡ 6)
     no_trails None told is = inr (inl is)
-    no_trails (Some Usage) told is = absurd told
+    no_trails (Some (Usage text)) told is = absurd told
     no_trails (Some (ScenarioFault place detail)) told is = inl told.1
     no_trails (Some Read) told is = inl told.1
     no_trails (Some Write) told is = inr (inr (inl is))
@@ -193,83 +208,81 @@ module _ (words : List (String Global)) (rack : Racked) (before after : Outside)
     early site s ok (inr (arms, run, give)) = absurd (ok give.failed)
 
     -- where nothing fails, a scenario that the bytes spell is run
-    completes : (fault : Option Fault) → ended.status ≡ status_of fault → Tells fault → (bytes : List ℕ) (s : Scenario)
-        → before.left ≡ Some bytes → IsReading bytes s → AreAllTold rack s.catalog.sites
+    completes : (fault : Option Fault) → ended.status ≡ status_of fault → Tells fault → (s : Scenario)
+        → Poses command before.left s → AreAllTold rack s.catalog.sites
         → ((i : ℕ) → i < s.catalog.sites → Holds rack i HasNoRecord)
         → after.source_faults ≡ before.source_faults → after.sink_faults ≡ before.sink_faults → ¬ rack.failed
         → (ended.status ≡ 0) ⊎ (ended.status ≡ 5) ⊎ FailsEarly rack ended.trails.items
-    completes None is told bytes s left reading known new source sink ok = inl is
-    completes (Some Usage) is told bytes s left reading known new source sink ok = absurd told
-    completes (Some (ScenarioFault place detail)) is told bytes s left reading known new source sink ok =
-        absurd (read_nowhere_refused bytes s place reading (none_wrong before.left after.left bytes place told.0 left))
-    completes (Some Read) is told bytes s left reading known new source sink ok =
+    completes None is told s poses known new source sink ok = inl is
+    completes (Some (Usage text)) is told s poses known new source sink ok = absurd told
+    completes (Some (ScenarioFault place detail)) is told s poses known new source sink ok =
+        absurd (poses_none command before.left after.left s place told.2 poses told.0)
+    completes (Some Read) is told s poses known new source sink ok =
         absurd (let rose = told.0 in omega (arith, rose, source))
-    completes (Some Write) is told bytes s left reading known new source sink ok =
+    completes (Some Write) is told s poses known new source sink ok =
         absurd (let rose = told.1 in omega (arith, rose, sink))
-    completes (Some Memory) is told bytes s left reading known new source sink ok = inr (inl is)
-    completes (Some (Rack site)) is told bytes s left reading known new source sink ok =
+    completes (Some Memory) is told s poses known new source sink ok = inr (inl is)
+    completes (Some (Rack site)) is told s poses known new source sink ok =
         inr (inr (early site told.scenario ok told.holds.1))
-    completes (Some (Journal site cause place)) is told bytes s left reading known new source sink ok =
+    completes (Some (Journal site cause place)) is told s poses known new source sink ok =
         let is = told.0 in
         let same : is.scenario ≡ s =
-        one_scenario bytes is.scenario s (taken_reading before.left after.left bytes is.scenario
-        (record { bytes = is.bytes; source = is.source; reading = is.reading }) left) reading in
+        is_posed is.command is.scenario s is.asked is.posed poses in
         let within : site < s.catalog.sites = subst (λ (t : Scenario). site < t.catalog.sites) same is.holds.0 in
         absurd (of_both (rack.bytes site) (HasCause cause place) HasNoRecord ⊥ (cause_has_record cause place)
         (known site within) is.holds.1.unfit (new site within))
 
     -- what was run over holds no record, and so has no cause of a fault
-    run_has_none : (bytes : List ℕ) (s : Scenario) (site : ℕ) (cause : JournalCause) (place : ℕ)
-        → Runs rack before after ended.trails.items → before.left ≡ Some bytes → IsReading bytes s → site < s.catalog.sites
+    run_has_none : (s : Scenario) (site : ℕ) (cause : JournalCause) (place : ℕ)
+        → Runs words rack before after ended.trails.items → Poses command before.left s → site < s.catalog.sites
         → AreAllTold rack s.catalog.sites → IsFirstUnfit rack site cause place → ⊥
-    run_has_none bytes s site cause place run left reading within known why =
-        let same = runs_reading rack before after ended.trails.items bytes s run left reading in
+    run_has_none s site cause place run poses within known why =
+        let same = is_posed run.command run.scenario s run.asked run.posed poses in
         of_both (rack.bytes site) (HasCause cause place) HasNoRecord ⊥ (cause_has_record cause place) (known site within) why.unfit
         (run.run.no_record_before site (subst (λ (t : Scenario). site < t.catalog.sites) (sym same) within))
 
-    whole_runs : (Written : List ℕ → Type 0) → RunsWhole rack words before after ended.trails.items Written
-        → Runs rack before after ended.trails.items
+    whole_runs : (Written : List ℕ → Type 0) → RunsWhole words rack before after ended.trails.items Written
+        → Runs words rack before after ended.trails.items
     whole_runs Written is = record {
-      bytes = is.bytes;
-      source = is.source;
+      command = is.command;
+      asked = is.asked;
       scenario = is.scenario;
-      reading = is.reading;
+      posed = is.posed;
       run = is.run.run;
     }
 
     -- where the disk of a site is the first that no site can begin with, just that is named
     names : (fault : Option Fault) → ended.fault ≡ fault → ended.status ≡ status_of fault → Tells fault
-        → (bytes : List ℕ) (s : Scenario) (site : ℕ) (cause : JournalCause) (place : ℕ)
-        → before.left ≡ Some bytes → IsReading bytes s → site < s.catalog.sites → AreAllTold rack s.catalog.sites
+        → (s : Scenario) (site : ℕ) (cause : JournalCause) (place : ℕ)
+        → Poses command before.left s → site < s.catalog.sites → AreAllTold rack s.catalog.sites
         → IsFirstUnfit rack site cause place → after.source_faults ≡ before.source_faults → rack.took s.catalog.sites
         → (ended.fault ≡ Some (Journal site cause place)) ⊎ (ended.status ≡ 5) ⊎ FailsEarly rack ended.trails.items
-    names None named is told bytes s site cause place left reading within known why source ok =
-        absurd (run_has_none bytes s site cause place (whole_runs (Appends before.holds after.holds) told) left reading within known why)
-    names (Some Usage) named is told bytes s site cause place left reading within known why source ok = absurd told
-    names (Some (ScenarioFault p detail)) named is told bytes s site cause place left reading within known why source ok =
-        absurd (read_nowhere_refused bytes s p reading (none_wrong before.left after.left bytes p told.0 left))
-    names (Some Read) named is told bytes s site cause place left reading within known why source ok =
+    names None named is told s site cause place poses within known why source ok =
+        absurd (run_has_none s site cause place (whole_runs (Appends before.holds after.holds) told) poses within known why)
+    names (Some (Usage text)) named is told s site cause place poses within known why source ok = absurd told
+    names (Some (ScenarioFault p detail)) named is told s site cause place poses within known why source ok =
+        absurd (poses_none command before.left after.left s p told.2 poses told.0)
+    names (Some Read) named is told s site cause place poses within known why source ok =
         absurd (let rose = told.0 in omega (arith, rose, source))
-    names (Some Write) named is told bytes s site cause place left reading within known why source ok =
-        absurd (run_has_none bytes s site cause place (whole_runs (AppendsFront before.holds after.holds) told.0) left reading within known why)
-    names (Some Memory) named is told bytes s site cause place left reading within known why source ok = inr (inl is)
-    names (Some (Rack other)) named is told bytes s site cause place left reading within known why source ok =
+    names (Some Write) named is told s site cause place poses within known why source ok =
+        absurd (run_has_none s site cause place (whole_runs (AppendsFront before.holds after.holds) told.0) poses within known why)
+    names (Some Memory) named is told s site cause place poses within known why source ok = inr (inl is)
+    names (Some (Rack other)) named is told s site cause place poses within known why source ok =
         inr (inr (elim told.holds.1 [
           | inl early ↦ elim early.2 [
             | inl take ↦
                 let same : told.scenario ≡ s =
-                one_scenario bytes told.scenario s (taken_reading before.left after.left bytes told.scenario
-                (record { bytes = told.bytes; source = told.source; reading = told.reading }) left) reading in
+                is_posed told.command told.scenario s told.asked told.posed poses in
                 let within : other < s.catalog.sites = subst (λ (t : Scenario). other < t.catalog.sites) same told.holds.0 in
                 absurd (let e = one_count other s.catalog.sites take.before ok in omega (arith, within, e))
             | inr load ↦ (early.0, (other, load.failed))
           ]
           | inr run ↦
-              absurd (run_has_none bytes s site cause place
-              (record { bytes = told.bytes; source = told.source; scenario = told.scenario; reading = told.reading; run = run.1.run })
-              left reading within known why)
+              absurd (run_has_none s site cause place
+              (record { command = told.command; asked = told.asked; scenario = told.scenario; posed = told.posed; run = run.1.run })
+              poses within known why)
         ]))
-    names (Some (Journal other c p)) named is told bytes s site cause place left reading within known why source ok =
+    names (Some (Journal other c p)) named is told s site cause place poses within known why source ok =
         let same = one_unfit rack s.catalog.sites other site c cause p place known within told.0.holds.1 why in
         inl (named
         ∙ (ap (λ n. Some (Journal n c p)) same.0
@@ -277,9 +290,13 @@ module _ (words : List (String Global)) (rack : Racked) (before after : Outside)
 
     -- where the bytes are wrong at a place, it is named, or memory ran out
     abbrev Refuses : Type 0
-    Refuses = (bytes : List ℕ) (place : Place) → before.left ≡ Some bytes → IsRefusedAt bytes place
+    Refuses = (trace : Bool) (bytes : List ℕ) (place : Place) → Asks (Play trace) words → before.left ≡ Some bytes → IsRefusedAt bytes place
         → after.source_faults ≡ before.source_faults
         → ((detail : Detail) × (ended.fault ≡ Some (ScenarioFault place detail))) ⊎ (ended.status ≡ 5)
+
+    -- what words pose that ask for a run
+    these : (other : Command) (s : Scenario) → Asks other words → Poses other before.left s → Poses command before.left s
+    these other s asked poses = subst (λ (c : Command). Poses c before.left s) (only other asked) poses
 
     -- all that is promised, by what is so with the fault
     promise : (fault : Option Fault) → ended.fault ≡ fault → Tells fault
@@ -289,32 +306,35 @@ module _ (words : List (String Global)) (rack : Racked) (before after : Outside)
         let is : ended.status ≡ status_of fault = status ∙ ap status_of named in
         record {
           status = status;
-          written = λ h. at_done fault told (sym is ∙ h);
-          usage = (λ h. absurd (at_usage fault told (sym is ∙ h)), λ other. absurd (other asked));
+          written = λ h. inl (at_done fault told (sym is ∙ h));
+          usage = λ h. absurd (at_usage fault told (sym is ∙ h));
+          unasked = λ none. absurd (none command line);
+          texts = λ asked h. at_usage fault told (sym is ∙ h);
           unreadable = λ place detail h. (subst (λ (f : Option Fault). Tells f) (sym named ∙ h) told).0;
           unread = λ h. at_unread fault told (sym is ∙ h);
-          cut = λ h. (at_cut fault told (sym is ∙ h)).0;
+          cut = λ h. inl (at_cut fault told (sym is ∙ h)).0;
           failed = λ h. (at_cut fault told (sym is ∙ h)).1;
           unracked = λ site h. subst (λ (f : Option Fault). Tells f) (sym named ∙ h) told;
           unfit = λ site cause place h. (subst (λ (f : Option Fault). Tells f) (sym named ∙ h) told).0;
-          unfit_named = λ bytes s site cause place play. names fault named is told bytes s site cause place;
+          unfit_named = λ other s site cause place asked poses. names fault named is told s site cause place (these other s asked poses);
           given_back = back;
           unfailing = unfailing;
           silent = silent;
           legal_trails = legal;
           no_trails = no_trails fault told is;
-          complete = λ bytes s play. completes fault is told bytes s;
-          refuses = λ bytes place play. refuses bytes place;
+          complete = λ other s asked poses. completes fault is told s (these other s asked poses);
+          refuses = refuses;
         }
 
     -- the bytes of a scenario that was taken are refused nowhere
-    never : (s : Scenario) → IsTaken before.left after.left s → Refuses
-    never s taken = λ bytes place left wrong source.
-        absurd (read_nowhere_refused bytes s place (taken_reading before.left after.left bytes s taken left) wrong)
+    never : (s : Scenario) → IsPosed command before.left after.left s → Refuses
+    never s posed = λ trace bytes place asked left wrong source.
+        absurd (read_nowhere_refused bytes s place (taken_reading before.left after.left bytes s
+        (subst (λ (c : Command). IsPosed c before.left after.left s) (sym (only (Play trace) asked)) posed) left) wrong)
 
-    -- a run over a scenario that was taken
-    pub promise_run : (s : Scenario) (fault : Option Fault) → ended.fault ≡ fault → IsTaken before.left after.left s
-        → EndsRun rack trace s before.holds after.holds before.sink_faults after.sink_faults ended.trails.items fault
+    -- a run over a scenario that was posed
+    pub promise_run : (s : Scenario) (fault : Option Fault) → ended.fault ≡ fault → IsPosed command before.left after.left s
+        → EndsRun rack command s before.holds after.holds before.sink_faults after.sink_faults ended.trails.items fault
         → Promise words rack before after ended
     promise_run s None named taken ends =
         promise None named (whole s (Appends before.holds after.holds) taken ends.0 ends.1)
@@ -337,55 +357,172 @@ module _ (words : List (String Global)) (rack : Racked) (before after : Outside)
           ends.0.0,
         ) (λ not_done not_cut. ends.1)
         (inl ends.0) (never s taken)
-    promise_run s (Some Usage) named taken ends = absurd ends
+    promise_run s (Some (Usage text)) named taken ends = absurd ends
     promise_run s (Some (ScenarioFault place detail)) named taken ends = absurd ends
     promise_run s (Some Read) named taken ends = absurd ends
 
     -- no scenario was taken
-    pub promise_fault : (fault : Fault) → ended.fault ≡ Some fault → ended.trails.items ≡ [] → IsUntouched rack
+    taken_not : (fault : Fault) → IsPlaying command → ended.fault ≡ Some fault → ended.trails.items ≡ [] → IsUntouched rack
         → after.holds ≡ before.holds
         → IsTakeFault before.left after.left before.source_faults after.source_faults fault
         → Promise words rack before after ended
-    promise_fault (ScenarioFault place detail) named none untouched same why =
-        promise (Some (ScenarioFault place detail)) named (why, none) (λ not_done not_cut. same) (inl (none, untouched))
-        (λ bytes other left wrong source.
+    taken_not (ScenarioFault place detail) plays named none untouched same why =
+        promise (Some (ScenarioFault place detail)) named (why, none, plays) (λ not_done not_cut. same) (inl (none, untouched))
+        (λ trace bytes other asked left wrong source.
         inl (
           detail,
           named ∙ ap (λ (p : Place). Some (ScenarioFault p detail))
               (one_refused bytes place other (none_wrong before.left after.left bytes place why left) wrong),
         ))
-    promise_fault Read named none untouched same why =
+    taken_not Read plays named none untouched same why =
         promise (Some Read) named (why, none) (λ not_done not_cut. same) (inl (none, untouched))
-        (λ bytes place left wrong source. absurd (omega (arith, why, source)))
-    promise_fault Memory named none untouched same why =
+        (λ trace bytes place asked left wrong source. absurd (omega (arith, why, source)))
+    taken_not Memory plays named none untouched same why =
         promise (Some Memory) named tt (λ not_done not_cut. same) (inl (none, untouched))
-        (λ bytes place left wrong source. inr (status ∙ ap status_of named))
-    promise_fault Usage named none untouched same why = absurd why
-    promise_fault Write named none untouched same why = absurd why
-    promise_fault (Rack site) named none untouched same why = absurd why
-    promise_fault (Journal site cause place) named none untouched same why = absurd why
+        (λ trace bytes place asked left wrong source. inr (status ∙ ap status_of named))
+    taken_not (Usage text) plays named none untouched same why = absurd why
+    taken_not Write plays named none untouched same why = absurd why
+    taken_not (Rack site) plays named none untouched same why = absurd why
+    taken_not (Journal site cause place) plays named none untouched same why = absurd why
 
-  -- the words ask for nothing
-  pub promise_usage : ¬ IsLine words → ended.fault ≡ Some Usage → ended.trails.items ≡ [] → IsUntouched rack
-      → after.holds ≡ before.holds → Promise words rack before after ended
-  promise_usage other named none untouched same =
-      let is : ended.status ≡ 1 = status ∙ ap status_of named in
-      record {
-        status = status;
-        written = λ h. absurd (omega (arith, is, h));
-        usage = (λ h. other, λ no. is);
-        unreadable = λ place detail h. absurd (let e = sym named ∙ h in cc);
-        unread = λ h. absurd (omega (arith, is, h));
-        cut = λ h. absurd (omega (arith, is, h));
-        failed = λ h. absurd (omega (arith, is, h));
-        unracked = λ site h. absurd (let e = sym named ∙ h in cc);
-        unfit = λ site cause place h. absurd (let e = sym named ∙ h in cc);
-        unfit_named = λ bytes s site cause place play. absurd (other play);
-        given_back = back;
-        unfailing = unfailing;
-        silent = λ not_done not_cut. same;
-        legal_trails = inl (none, untouched);
-        no_trails = inl none;
-        complete = λ bytes s play. absurd (other play);
-        refuses = λ bytes place play. absurd (other play);
+    -- no scenario was posed
+    pub promise_fault : (fault : Fault) → ended.fault ≡ Some fault → ended.trails.items ≡ [] → IsUntouched rack
+        → after.holds ≡ before.holds
+        → IsPoseFault command before.left after.left before.source_faults after.source_faults fault
+        → Promise words rack before after ended
+    promise_fault fault named none untouched same why = by command refl why
+      where
+        by : (other : Command) → other ≡ command
+            → IsPoseFault other before.left after.left before.source_faults after.source_faults fault
+            → Promise words rack before after ended
+        by (Play trace) is why =
+            taken_not fault (subst (λ (c : Command). IsPlaying c) is tt) named none untouched same why
+        by (Load seed calls) is why =
+            promise (Some Memory) (named ∙ ap (λ f. Some f) why.0) tt (λ not_done not_cut. same) (inl (none, untouched))
+            (λ trace bytes place asked left wrong source. inr (status ∙ ap status_of (named ∙ ap (λ f. Some f) why.0)))
+        by (Say text) is why = absurd why
+
+  -- ---- no run was begun
+
+  -- there are no trails, and nothing was read
+  module _ (none : ended.trails.items ≡ []) (untouched : IsUntouched rack)
+      (unread : (after.left ≡ before.left) × (after.source_faults ≡ before.source_faults)) where
+    -- memory ran out before it was known what the words ask for
+    pub promise_memory : ended.fault ≡ Some Memory → after.holds ≡ before.holds → Promise words rack before after ended
+    promise_memory named same =
+        let is : ended.status ≡ 5 = status ∙ ap status_of named in
+        record {
+          status = status;
+          written = λ h. absurd (omega (arith, is, h));
+          usage = λ h. absurd (omega (arith, is, h));
+          unasked = λ nothing. inr (inl is);
+          texts = λ asked h. omega (arith, is, h);
+          unreadable = λ place detail h. absurd (let e = sym named ∙ h in cc);
+          unread = λ h. absurd (omega (arith, is, h));
+          cut = λ h. absurd (omega (arith, is, h));
+          failed = λ h. absurd (omega (arith, is, h));
+          unracked = λ site h. absurd (let e = sym named ∙ h in cc);
+          unfit = λ site cause place h. absurd (let e = sym named ∙ h in cc);
+          unfit_named = λ command s site cause place asked poses within known why source ok. inr (inl is);
+          given_back = back;
+          unfailing = unfailing;
+          silent = λ not_done not_cut. same;
+          legal_trails = inl (none, untouched);
+          no_trails = inl none;
+          complete = λ command s asked poses known new source sink ok. inr (inl is);
+          refuses = λ trace bytes place asked left wrong source. inr is;
+        }
+
+    module _ (nothing : AskForNone words) where
+      -- what is wrong with the words is told
+      pub promise_usage : (text : String Global) → ended.fault ≡ Some (Usage text) → IsWrong (map string_bytes words)
+          → ¬ AsksForText (map string_bytes words) → after.holds ≡ before.holds → Promise words rack before after ended
+      promise_usage text named wrong no_text same =
+          let is : ended.status ≡ 1 = status ∙ ap status_of named in
+          record {
+            status = status;
+            written = λ h. absurd (omega (arith, is, h));
+            usage = λ h. (nothing, wrong);
+            unasked = λ nothing. inl is;
+            texts = λ asked h. no_text asked;
+            unreadable = λ place detail h. absurd (let e = sym named ∙ h in cc);
+            unread = λ h. absurd (omega (arith, is, h));
+            cut = λ h. absurd (omega (arith, is, h));
+            failed = λ h. absurd (omega (arith, is, h));
+            unracked = λ site h. absurd (let e = sym named ∙ h in cc);
+            unfit = λ site cause place h. absurd (let e = sym named ∙ h in cc);
+            unfit_named = λ command s site cause place asked. absurd (nothing command asked);
+            given_back = back;
+            unfailing = unfailing;
+            silent = λ not_done not_cut. same;
+            legal_trails = inl (none, untouched);
+            no_trails = inl none;
+            complete = λ command s asked. absurd (nothing command asked);
+            refuses = λ trace bytes place asked. absurd (nothing (Play trace) asked);
+          }
+
+      says : (text : List ℕ) (Written : List ℕ → Type 0) → Written text → Says words rack before after ended.trails.items Written
+      says text Written written = record {
+        none_asked = nothing;
+        text = text;
+        text_written = written;
+        unread = unread;
+        no_trails = none;
+        untouched = untouched;
       }
+
+      -- a text is said
+      pub promise_text : (text : List ℕ) (fault : Option Fault) → ended.fault ≡ fault → IsForText (map string_bytes words)
+          → EndsText text before.holds after.holds before.sink_faults after.sink_faults fault → Promise words rack before after ended
+      promise_text text None named asks ends =
+          let is : ended.status ≡ 0 = status ∙ ap status_of named in
+          record {
+            status = status;
+            written = λ h. inr (says text (Appends before.holds after.holds) ends);
+            usage = λ h. absurd (omega (arith, is, h));
+            unasked = λ nothing. inr (inr (inl is, asks));
+            texts = λ asked h. omega (arith, is, h);
+            unreadable = λ place detail h. absurd (let e = sym named ∙ h in cc);
+            unread = λ h. absurd (omega (arith, is, h));
+            cut = λ h. absurd (omega (arith, is, h));
+            failed = λ h. absurd (omega (arith, is, h));
+            unracked = λ site h. absurd (let e = sym named ∙ h in cc);
+            unfit = λ site cause place h. absurd (let e = sym named ∙ h in cc);
+            unfit_named = λ command s site cause place asked. absurd (nothing command asked);
+            given_back = back;
+            unfailing = unfailing;
+            silent = λ not_done not_cut. absurd (not_done is);
+            legal_trails = inl (none, untouched);
+            no_trails = inl none;
+            complete = λ command s asked. absurd (nothing command asked);
+            refuses = λ trace bytes place asked. absurd (nothing (Play trace) asked);
+          }
+      promise_text text (Some Write) named asks ends =
+          let is : ended.status ≡ 4 = status ∙ ap status_of named in
+          record {
+            status = status;
+            written = λ h. absurd (omega (arith, is, h));
+            usage = λ h. absurd (omega (arith, is, h));
+            unasked = λ nothing. inr (inr (inr is, asks));
+            texts = λ asked h. omega (arith, is, h);
+            unreadable = λ place detail h. absurd (let e = sym named ∙ h in cc);
+            unread = λ h. absurd (omega (arith, is, h));
+            cut = λ h. inr (says text (AppendsFront before.holds after.holds) ends.0);
+            failed = λ h. ends.1;
+            unracked = λ site h. absurd (let e = sym named ∙ h in cc);
+            unfit = λ site cause place h. absurd (let e = sym named ∙ h in cc);
+            unfit_named = λ command s site cause place asked. absurd (nothing command asked);
+            given_back = back;
+            unfailing = unfailing;
+            silent = λ not_done not_cut. absurd (not_cut is);
+            legal_trails = inl (none, untouched);
+            no_trails = inl none;
+            complete = λ command s asked. absurd (nothing command asked);
+            refuses = λ trace bytes place asked. absurd (nothing (Play trace) asked);
+          }
+      promise_text text (Some Memory) named asks ends = absurd ends
+      promise_text text (Some Read) named asks ends = absurd ends
+      promise_text text (Some (Usage why)) named asks ends = absurd ends
+      promise_text text (Some (ScenarioFault place detail)) named asks ends = absurd ends
+      promise_text text (Some (Rack site)) named asks ends = absurd ends
+      promise_text text (Some (Journal site cause place)) named asks ends = absurd ends

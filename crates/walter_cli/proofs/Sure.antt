@@ -1,6 +1,6 @@
 -- What a call promises over a rack that tells its disks, whose disks have no bytes and never failed where they have no
 -- arm, and of which two calls for each site don't fail.
-use Rattle.std.proofs.Common.{◌≡◌, ℕ, ◌≤◌, List, [], ◌∷◌, ◌++◌, length, Option, Some, None, ap, sym, ◌∙◌, refl, subst, arith, inl, inr}
+use Rattle.std.proofs.Common.{◌≡◌, ℕ, ◌≤◌, List, [], ◌∷◌, ◌++◌, ◌⊎◌, length, Option, Some, None, ap, sym, ◌∙◌, refl, subst, arith, inl, inr}
 use Rattle.std.specs.Prelude.{All, Contains, IfSome, String}
 use Rattle.std.specs.Global.{Global}
 use Rattle.std.proofs.lemmas.List.Elements.{All-contains}
@@ -13,13 +13,13 @@ use Rattle.walter_scenario.specs.declared.scenario.Scenario.{Scenario}
 use Rattle.walter_stream.specs.Streams.{Appends, AppendsFront}
 use Rattle.walter_cli.specs.declared.ended.Ended.{Ended}
 use Rattle.walter_cli.specs.declared.ended.Fault.{Fault}
-use Rattle.walter_cli.specs.declared.ended.Fault.TheVariants.{Usage, Memory, Rack, Journal}
+use Rattle.walter_cli.specs.declared.ended.Fault.TheVariants.{Memory, Rack, Journal}
 use Rattle.walter_cli.specs.declared.ended.JournalCause.{JournalCause}
 use Rattle.walter_cli.specs.Assurance.{Assures, IsSureRun, IsSureReport}
-use Rattle.walter_cli.specs.Headline.{Outside, IsDiskOfRun, Runs, RunsWhole, IsRackFault, FailsEarly, Promise}
+use Rattle.walter_cli.specs.Headline.{Outside, Says, IsDiskOfRun, Runs, RunsWhole, IsRackFault, FailsEarly, Promise}
 use Rattle.walter_cli.specs.Racks.{RackAt, Racked, OfADisk, IsTold, Holds, AreSo, AreFirst, IsHanded, IsUntouched, IsUnarmed, HasFailed, HasCause, racked}
 use Rattle.walter_cli.specs.Statuses.{status_of}
-use Rattle.walter_cli.specs.Words.{IsLine}
+use Rattle.walter_cli.proofs.Wholes.{posed_some}
 use Rattle.walter_cli.proofs.Causes.{cause_has_record}
 use Rattle.walter_cli.proofs.Giving.{of_both, numbered_has}
 
@@ -88,7 +88,7 @@ module _ (words : List (String Global)) {D : Type 0} (g : Ghosts D) (first last 
         | inr runs ↦
             let l = ap length (sym early.0) in
             let one = runs.run.one_each in
-            let some = runs.reading.has_arms.has_ticks.has_link.has_capacity.has_clients.has_containers.has_tolerated.has_sites.some in
+            let some = posed_some runs.command before.left after.left runs.scenario runs.posed in
             omega (arith, l, one, some)
       ]
 
@@ -98,12 +98,12 @@ module _ (words : List (String Global)) {D : Type 0} (g : Ghosts D) (first last 
   racked_never site s (inl (none, untouched, inr load)) = never (none, (site, load.failed))
   racked_never site s (inr (arms, run, give)) = ok give.failed
 
-  sure : Runs rack before after ended.trails.items → IsSureRun rack before after ended.trails.items
+  sure : Runs words rack before after ended.trails.items → IsSureRun words rack before after ended.trails.items
   sure runs = record {
-    bytes = runs.bytes;
-    source = runs.source;
+    command = runs.command;
+    asked = runs.asked;
     scenario = runs.scenario;
-    reading = runs.reading;
+    posed = runs.posed;
     whose_calls = runs.run.whose_calls;
     tells = runs.run.told (λ i below. told i);
     unarmed = λ i below none.
@@ -121,15 +121,15 @@ module _ (words : List (String Global)) {D : Type 0} (g : Ghosts D) (first last 
     disks = elim runs.run.given_back [ inl failed ↦ absurd (ok failed) | inr all ↦ all ];
   }
 
-  report : (Written : List ℕ → Type 0) → RunsWhole rack words before after ended.trails.items Written
+  report : (Written : List ℕ → Type 0) → RunsWhole words rack before after ended.trails.items Written
       → IsSureReport words rack before after ended.trails.items Written
   unfolding sure
   report Written is = record {
     run = sure (record {
-      bytes = is.bytes;
-      source = is.source;
+      command = is.command;
+      asked = is.asked;
       scenario = is.scenario;
-      reading = is.reading;
+      posed = is.posed;
       run = is.run.run;
     });
     arms = is.arms;
@@ -143,19 +143,25 @@ module _ (words : List (String Global)) {D : Type 0} (g : Ghosts D) (first last 
       ends = is.run.how_driven.ends;
       arms_are = is.run.how_driven.arms_are;
     };
-    trace = is.trace;
-    asked = is.asked;
     bytes_written = is.bytes_written;
   }
+
+  done : (Written : List ℕ → Type 0)
+      → RunsWhole words rack before after ended.trails.items Written ⊎ Says words rack before after ended.trails.items Written
+      → IsSureReport words rack before after ended.trails.items Written ⊎ Says words rack before after ended.trails.items Written
+  done Written (inl run) = inl (report Written run)
+  done Written (inr text) = inr text
 
   pub assured : Assures words rack before after ended
   assured = record {
     status = promised.status;
-    written = λ h. report (Appends before.holds after.holds) (promised.written h);
+    written = λ h. done (Appends before.holds after.holds) (promised.written h);
     usage = promised.usage;
+    unasked = promised.unasked;
+    texts = promised.texts;
     unreadable = promised.unreadable;
     unread = promised.unread;
-    cut = λ h. (report (AppendsFront before.holds after.holds) (promised.cut h), promised.failed h);
+    cut = λ h. (done (AppendsFront before.holds after.holds) (promised.cut h), promised.failed h);
     never_unracked = λ h.
         let named = rack_of ended.fault (sym promised.status ∙ h) in
         let why = promised.unracked named.0 named.1 in
@@ -168,8 +174,8 @@ module _ (words : List (String Global)) {D : Type 0} (g : Ghosts D) (first last 
     given_back = promised.given_back;
     legal_trails = elim promised.legal_trails [ inl none ↦ inl none | inr runs ↦ inr (sure runs) ];
     silent = promised.silent;
-    complete = λ bytes s play left reading source sink.
-        elim (promised.complete bytes s play left reading (λ i below. told i) (λ i below. empty i) source sink ok) [
+    complete = λ command s asked poses source sink.
+        elim (promised.complete command s asked poses (λ i below. told i) (λ i below. empty i) source sink ok) [
           | inl done ↦ inl done
           | inr other ↦ elim other [ inl memory ↦ inr memory | inr early ↦ absurd (never early) ]
         ];
@@ -178,12 +184,14 @@ module _ (words : List (String Global)) {D : Type 0} (g : Ghosts D) (first last 
 
 -- where there was no memory for the rack
 pub assured_early : (words : List (String Global)) (rack : Racked) (at : Outside) (ended : Ended) → rack.balanced
-    → IsUntouched rack → IsLine words → ended.status ≡ 5 → ended.fault ≡ Some Memory → ended.trails.items ≡ []
+    → IsUntouched rack → ended.status ≡ 5 → ended.fault ≡ Some Memory → ended.trails.items ≡ []
     → Assures words rack at at ended
-assured_early words rack at ended back untouched line is named none = record {
+assured_early words rack at ended back untouched is named none = record {
   status = is ∙ ap status_of (sym named);
   written = λ h. absurd (omega (arith, is, h));
-  usage = (λ h. absurd (omega (arith, is, h)), λ other. absurd (other line));
+  usage = λ h. absurd (omega (arith, is, h));
+  unasked = λ nothing. inr (inl is);
+  texts = λ asked h. omega (arith, is, h);
   unreadable = λ place detail h. absurd (let e = sym named ∙ h in cc);
   unread = λ h. absurd (omega (arith, is, h));
   cut = λ h. absurd (omega (arith, is, h));
@@ -192,26 +200,6 @@ assured_early words rack at ended back untouched line is named none = record {
   given_back = back;
   legal_trails = inl (none, untouched);
   silent = λ not_done not_cut. refl;
-  complete = λ bytes s play left reading source sink. inr is;
-  refuses = λ bytes place play left wrong source. inr is;
-}
-
--- the words ask for nothing
-pub assured_usage : (words : List (String Global)) (rack : Racked) (at : Outside) (ended : Ended) → rack.balanced
-    → IsUntouched rack → ¬ IsLine words → ended.status ≡ 1 → ended.fault ≡ Some Usage → ended.trails.items ≡ []
-    → Assures words rack at at ended
-assured_usage words rack at ended back untouched other is named none = record {
-  status = is ∙ ap status_of (sym named);
-  written = λ h. absurd (omega (arith, is, h));
-  usage = (λ h. other, λ no. is);
-  unreadable = λ place detail h. absurd (let e = sym named ∙ h in cc);
-  unread = λ h. absurd (omega (arith, is, h));
-  cut = λ h. absurd (omega (arith, is, h));
-  never_unracked = λ h. omega (arith, is, h);
-  never_unfit = λ h. omega (arith, is, h);
-  given_back = back;
-  legal_trails = inl (none, untouched);
-  silent = λ not_done not_cut. refl;
-  complete = λ bytes s play. absurd (other play);
-  refuses = λ bytes place play. absurd (other play);
+  complete = λ command s asked poses source sink. inr is;
+  refuses = λ trace bytes place asked left wrong source. inr is;
 }

@@ -1,12 +1,83 @@
--- The catalog of a reading is whole: each container is preferred at one of its sites.
-use Rattle.std.proofs.Common.{ℕ, List}
+-- The scenario that is run can be played.
+use Rattle.std.proofs.Common.{◌≡◌, ◌<◌, ◌+◌, ◌-◌, ℕ, List, Option, Some, None, slice_get, refl, ap, sym, ◌∙◌, subst, arith}
+use Rattle.std.proofs.lemmas.List.FromFn.{get_or-map-range_with_len, length-map-range_with_len}
+use Rattle.std.proofs.lemmas.Option.{slice_get-get_or, slice_get_within}
+use Rattle.std.specs.List.{range_with_len}
+use Rattle.std.specs.Prelude.{All, map}
+use Rattle.std.proofs.Math.Nat.{mod-lt}
+use Rattle.std.proofs.lemmas.List.Elements.{All-nil}
+use Rattle.walter_scenario.specs.Parts.{IsArm, IsCapacity}
+use Rattle.walter_scenario.specs.declared.scenario.Arm.{Arm}
+use Rattle.walter_base.specs.Catalogs.{AreRight, Item, falls, nowhere, too_many}
 use Rattle.walter_linked.proofs.Catalogs.{right_whole}
 use Rattle.walter_linked.specs.Catalogs.{IsWhole}
+use Rattle.walter_make.specs.Made.{made_catalog, made_container}
 use Rattle.walter_scenario.specs.declared.scenario.Scenario.{Scenario}
-use Rattle.walter_scenario.specs.Scenarios.{IsReading}
+use Rattle.walter_scenario.specs.Scenarios.{GivesArms, GivesCapacity, IsReading}
+use Rattle.walter_words.specs.declared.asked.Command.{Command}
+use Rattle.walter_words.specs.declared.asked.Command.TheVariants.{Play, Load, Say}
+use Rattle.walter_cli.specs.Ending.{IsPlayable}
+use Rattle.walter_cli.specs.Words.{IsPosed}
 
-pub reading_whole : (bytes : List ℕ) (s : Scenario) → IsReading bytes s → IsWhole s.catalog
-reading_whole bytes s reading =
-    right_whole s.catalog reading.declared
-    reading.has_arms.has_ticks.has_link.has_capacity.has_clients.has_containers.are.right
-    reading.containers
+-- ---- a reading
+
+-- what follows of a key that is absent, and of one that is there
+by_key : {V : Type 0} (Gives : Option V → Type 0) (Holds : Type 0) → (Gives None → Holds) → ((v : V) → Gives (Some v) → Holds)
+    → (o : Option V) → Gives o → Holds
+by_key Gives Holds none some None gives = none gives
+by_key Gives Holds none some (Some v) gives = some v gives
+
+pub reading_playable : (bytes : List ℕ) (s : Scenario) → IsReading bytes s → IsPlayable s
+reading_playable bytes s reading =
+    let capacity = reading.has_arms.has_ticks.has_link.has_capacity in
+    let containers = capacity.has_clients.has_containers in
+    let tolerated = containers.has_tolerated in
+    record {
+      some = tolerated.has_sites.some;
+      few = tolerated.has_sites.most;
+      fewer = tolerated.fewer;
+      whole = right_whole s.catalog reading.declared containers.are.right reading.containers;
+      within = capacity.has_clients.are.within;
+      capacity = by_key (λ o. GivesCapacity o s.capacity) (IsCapacity s.capacity) (λ is. (omega (arith, is), omega (arith, is)))
+          (λ v is. is.1) _ capacity.given;
+      arms = by_key (λ o. GivesArms s.catalog.sites o s.arms) (All (IsArm s.catalog.sites) s.arms)
+          (λ is. subst (λ (xs : List Arm). All (IsArm s.catalog.sites) xs) (sym is) (All-nil (IsArm s.catalog.sites)))
+          (λ v is. is.2.within) _ reading.has_arms.given;
+      steps = reading.are.within;
+    }
+
+-- ---- the containers that are made
+
+abbrev made_items : List Item
+made_items = map made_container (range_with_len 1 6)
+
+made_at : (k : ℕ) (x : Item) → slice_get made_items k ≡ Some x → made_container (1 + k) ≡ x
+made_at k x at =
+    let within = slice_get_within made_items k x at in
+    let long = length-map-range_with_len made_container 1 6 in
+    let below : k < 6 = omega (arith, within, long) in
+    let is : Some (made_container (1 + k)) ≡ Some x =
+    ap (λ i. Some i) (sym (get_or-map-range_with_len made_container 1 6 k (1 + k) x below refl)) ∙ (sym (slice_get-get_or made_items k x within) ∙ at) in
+    cc
+
+made_right : AreRight 3 made_items
+made_right place within (too_many many) =
+    let long = length-map-range_with_len made_container 1 6 in omega (arith, many, within, long)
+made_right place within (falls before last here is at there most) =
+    let l = ap (λ (i : Item). i.0) (made_at before last at) in
+    let h = ap (λ (i : Item). i.0) (made_at place here there) in
+    omega (arith, is, l, h, most)
+made_right place within (nowhere here at most) =
+    let h = ap (λ (i : Item). i.2.0) (made_at place here at) in
+    let less = mod-lt (1 + place - 1) {m = 3} (omega arith) in
+    omega (arith, h, less, most)
+
+-- their preferred sites are among the three
+pub made_whole : IsWhole made_catalog
+made_whole = right_whole made_catalog made_items made_right refl
+
+-- a scenario that is posed has a site
+pub posed_some : (command : Command) (before after : Option (List ℕ)) (s : Scenario) → IsPosed command before after s → 0 < s.catalog.sites
+posed_some (Play trace) before after s posed = (reading_playable posed.bytes s posed.reading).some
+posed_some (Load seed calls) before after s posed = subst (λ (t : Scenario). 0 < t.catalog.sites) (sym posed.0) (omega arith)
+posed_some (Say text) before after s posed = absurd posed

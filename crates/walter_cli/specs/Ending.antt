@@ -1,5 +1,5 @@
 -- What the parts of a call of the program come to.
-use Rattle.std.specs.Prelude.{◌≡◌, ◌<◌, ◌⊎◌, ℕ, Bool, List, [], Option, Some, None, IsSome, IfSome, length, slice_get}
+use Rattle.std.specs.Prelude.{◌≡◌, ◌<◌, ◌≤◌, ◌⊎◌, ℕ, All, List, [], Option, Some, None, IsSome, IfSome, length, slice_get}
 use Rattle.walter_cluster.specs.Benches.{BenchValue, IsOf, IsToldAt, AreAllConnected, AreMet, arms_at}
 use Rattle.walter_cluster.specs.Moments.{IsFirst, moment_of}
 use Rattle.walter_disk.specs.declared.disk.Disk.{Ghosts}
@@ -7,22 +7,22 @@ use Rattle.walter_engine.specs.Begins.{HasNoRecord}
 use Rattle.walter_engine.specs.declared.answers.BeginFault.{BeginFault}
 use Rattle.walter_engine.specs.declared.answers.BeginFault.TheVariants as unbegun
 use Rattle.walter_rules.specs.declared.entry.Entry.{Entry}
+use Rattle.walter_base.specs.Vectors.{most_sites}
+use Rattle.walter_linked.specs.Catalogs.{IsWhole}
+use Rattle.walter_scenario.specs.Parts.{IsArm, IsStep, IsCapacity}
+use Rattle.walter_scenario.specs.declared.scenario.Client.{Client}
 use Rattle.walter_scenario.specs.declared.scenario.Scenario.{Scenario}
-use Rattle.walter_scenario.specs.Scenarios.{IsReading}
 use Rattle.walter_stream.specs.Streams.{Appends, AppendsFront}
 use Rattle.walter_cli.specs.declared.ended.Fault.{Fault}
 use Rattle.walter_cli.specs.declared.ended.Fault.TheVariants.{Usage, Scenario as ScenarioFault, Read, Write, Memory, Rack, Journal}
 use Rattle.walter_cli.specs.declared.ended.JournalCause.TheVariants.{Foreign, Damaged, Used}
 use Rattle.walter_cli.specs.Disks.{AreTaken}
-use Rattle.walter_cli.specs.Headline.{IsSource, HasNoReading, IsRun, ArmsOfSites, IsWholeRun, IsDiskOfWhole, IsRackFault, IsFirstUnfit}
+use Rattle.walter_cli.specs.Headline.{IsRun, ArmsOfSites, IsWholeRun, IsDiskOfWhole, IsRackFault, IsFirstUnfit}
 use Rattle.walter_cli.specs.Racks.{RackAt, Racked, IsUntouched, IsFaultlessBefore, FailsToTake, FailsToLoad}
-use Rattle.walter_cli.specs.Texts.{text_of}
-
--- the scenario is a reading of the bytes of the source
-pub record IsTaken (before after : Option (List ℕ)) (s : Scenario) : Type 0 where
-  pub bytes : List ℕ
-  pub source : IsSource before after bytes
-  pub reading : IsReading bytes s
+use Rattle.walter_cli.specs.Sources.{HasNoReading}
+use Rattle.walter_cli.specs.Words.{written_by}
+use Rattle.walter_words.specs.declared.asked.Command.{Command}
+use Rattle.walter_words.specs.declared.asked.Command.TheVariants.{Play, Load, Say}
 
 -- why no scenario was taken from a source that had failed so often, and has now
 abbrev pub IsTakeFault : Option (List ℕ) → Option (List ℕ) → ℕ → ℕ → Fault → Type 0
@@ -30,6 +30,30 @@ IsTakeFault before after faults faults' (ScenarioFault place detail) = HasNoRead
 IsTakeFault before after faults faults' Read = faults < faults'
 IsTakeFault before after faults faults' Memory = Unit {0}
 IsTakeFault before after faults faults' fault = ⊥
+
+-- why none was posed: of what is to be played, so; of what is made, want of memory, and nothing was read
+abbrev pub IsPoseFault : Command → Option (List ℕ) → Option (List ℕ) → ℕ → ℕ → Fault → Type 0
+IsPoseFault (Play trace) before after faults faults' fault = IsTakeFault before after faults faults' fault
+IsPoseFault (Load seed calls) before after faults faults' fault = (fault ≡ Memory) × (after ≡ before)
+IsPoseFault (Say text) before after faults faults' fault = ⊥
+
+-- a scenario that can be played: its sites are few, and fewer may be lost; its containers, clients, arms and steps are of
+-- these sites; and a journal has place for an epoch
+pub record IsPlayable (s : Scenario) : Type 0 where
+  pub some : 0 < s.catalog.sites
+  pub few : s.catalog.sites ≤ most_sites
+  pub fewer : s.catalog.tolerated < s.catalog.sites
+  pub whole : IsWhole s.catalog
+  pub within : All (λ (client : Client). client.site.0 < s.catalog.sites) s.clients
+  pub capacity : IsCapacity s.capacity
+  pub arms : All (IsArm s.catalog.sites) s.arms
+  pub steps : All (IsStep s.catalog.sites (length s.clients)) s.steps
+
+-- a text was written, or a front of it
+abbrev pub EndsText : List ℕ → (holds holds' : Option (List ℕ)) → (faults faults' : ℕ) → Option Fault → Type 0
+EndsText text holds holds' faults faults' None = Appends holds holds' text
+EndsText text holds holds' faults faults' (Some Write) = AppendsFront holds holds' text × (faults < faults')
+EndsText text holds holds' faults faults' (Some fault) = ⊥
 
 -- the fault of a run whose site did not begin
 abbrev pub fault_of : ℕ → BeginFault → Fault
@@ -79,22 +103,22 @@ IsWholeBack rack s trails = (arms : ArmsOfSites) × IsWholeRun rack s trails arm
     × rack.all s.catalog.sites (λ i. IsDiskOfWhole rack s trails arms i)
 
 -- what a run over a sink comes to: its trails, and what was written of its report
-abbrev pub EndsRun : Racked → Bool → Scenario → (holds holds' : Option (List ℕ)) → (faults faults' : ℕ)
+abbrev pub EndsRun : Racked → Command → Scenario → (holds holds' : Option (List ℕ)) → (faults faults' : ℕ)
     → List (List Entry) → Option Fault → Type 0
-EndsRun rack trace s holds holds' faults faults' trails None =
-    IsWholeBack rack s trails × Appends holds holds' (text_of trace s trails)
-EndsRun rack trace s holds holds' faults faults' trails (Some Write) =
-    IsWholeBack rack s trails × AppendsFront holds holds' (text_of trace s trails) × (faults < faults')
-EndsRun rack trace s holds holds' faults faults' trails (Some Memory) =
+EndsRun rack command s holds holds' faults faults' trails None =
+    IsWholeBack rack s trails × Appends holds holds' (written_by command s trails)
+EndsRun rack command s holds holds' faults faults' trails (Some Write) =
+    IsWholeBack rack s trails × AppendsFront holds holds' (written_by command s trails) × (faults < faults')
+EndsRun rack command s holds holds' faults faults' trails (Some Memory) =
     MayHaveRun rack s trails × (holds' ≡ holds)
-EndsRun rack trace s holds holds' faults faults' trails (Some (Rack site)) =
+EndsRun rack command s holds holds' faults faults' trails (Some (Rack site)) =
     (site < s.catalog.sites) × IsRackFault rack s trails site × (holds' ≡ holds)
-EndsRun rack trace s holds holds' faults faults' trails (Some (Journal site cause place)) =
+EndsRun rack command s holds holds' faults faults' trails (Some (Journal site cause place)) =
     ((trails ≡ []) × IsUntouched rack) × (holds' ≡ holds) × (site < s.catalog.sites)
     × IsFirstUnfit rack site cause place × rack.each (IsFaultlessBefore site)
-EndsRun rack trace s holds holds' faults faults' trails (Some Usage) = ⊥
-EndsRun rack trace s holds holds' faults faults' trails (Some (ScenarioFault place detail)) = ⊥
-EndsRun rack trace s holds holds' faults faults' trails (Some Read) = ⊥
+EndsRun rack command s holds holds' faults faults' trails (Some (Usage text)) = ⊥
+EndsRun rack command s holds holds' faults faults' trails (Some (ScenarioFault place detail)) = ⊥
+EndsRun rack command s holds holds' faults faults' trails (Some Read) = ⊥
 
 -- why a text was not written whole
 abbrev pub IsWriteFault : List ℕ → (holds holds' : Option (List ℕ)) → (faults faults' : ℕ) → Fault → Type 0

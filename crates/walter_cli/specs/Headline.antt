@@ -1,5 +1,5 @@
 -- What a run of the program promises, on one page.
-use Rattle.std.specs.Prelude.{◌≡◌, ◌≢◌, ◌<◌, ◌≤◌, ◌↔◌, ◌⊎◌, ℕ, Bool, List, [], ◌∷◌, length, reverse, count_by, ◌++◌, slice_get, Option, Some, IfSome, String, All}
+use Rattle.std.specs.Prelude.{◌≡◌, ◌≢◌, ◌<◌, ◌≤◌, ◌⊎◌, ℕ, Bool, List, [], ◌∷◌, length, map, reverse, count_by, ◌++◌, slice_get, Option, Some, IfSome, String, string_bytes, All}
 use Rattle.std.specs.Global.{Global}
 use Rattle.walter_base.specs.declared.names.SiteId.{SiteId}
 use Rattle.walter_cell.specs.Entries.{HaveRisingStamps}
@@ -23,11 +23,10 @@ use Rattle.walter_rules.specs.Trails.{opening, standing}
 use Rattle.walter_runs.specs.Runs.{AreRightTrails}
 use Rattle.walter_scenario.specs.declared.place.Detail.{Detail}
 use Rattle.walter_scenario.specs.declared.place.Place.{Place}
-use Rattle.walter_scenario.specs.declared.place.Place.TheVariants.{TooLong}
 use Rattle.walter_scenario.specs.declared.scenario.Client.{Client}
 use Rattle.walter_scenario.specs.declared.scenario.Scenario.{Scenario}
-use Rattle.walter_scenario.specs.Scenarios.{IsReading, IsRefusedAt}
-use Rattle.walter_stream.specs.Streams.{AtEnd, TakesFront, Appends, AppendsFront}
+use Rattle.walter_scenario.specs.Scenarios.{IsRefusedAt}
+use Rattle.walter_stream.specs.Streams.{Appends, AppendsFront}
 use Rattle.walter_stream.specs.declared.sink.Sink.{Ghosts as SinkGhosts}
 use Rattle.walter_stream.specs.declared.source.Source.{Ghosts as SourceGhosts}
 use Rattle.walter_trail.specs.Calls.{calls_of}
@@ -37,8 +36,11 @@ use Rattle.walter_cli.specs.declared.ended.JournalCause.{JournalCause}
 use Rattle.walter_cli.specs.Promises.{KeepAllPromises}
 use Rattle.walter_cli.specs.Racks.{Racked, IsTold, AreAllTold, Holds, IsUntouched, HasFailed, HasCause, IsFaultlessBefore, FailsToTake, FailsToLoad, FailsToGive}
 use Rattle.walter_cli.specs.Statuses.{status_of}
-use Rattle.walter_cli.specs.Texts.{text_of}
-use Rattle.walter_cli.specs.Words.{IsPlayLine, IsLine}
+use Rattle.walter_cli.specs.Sources.{HasNoReading}
+use Rattle.walter_cli.specs.Words.{Asks, AskForNone, IsForText, IsPosed, IsWrong, Poses, written_by}
+use Rattle.walter_words.specs.Words.{AsksForText}
+use Rattle.walter_words.specs.declared.asked.Command.{Command}
+use Rattle.walter_words.specs.declared.asked.Command.TheVariants.{Play}
 
 -- ---- the outside
 
@@ -58,18 +60,6 @@ outside_at s k source sink = record {
   holds = k.holds sink;
   sink_faults = k.faults sink;
 }
-
--- these bytes were taken from a source, and nothing is left in it
-pub record IsSource (before after : Option (List ℕ)) (bytes : List ℕ) : Type 0 where
-  pub taken : TakesFront before after bytes
-  pub end : AtEnd after
-
--- the bytes of a source spell no scenario, and are wrong at this place: those that were taken, to its end; or they are
--- too many
-pub record HasNoReading (before after : Option (List ℕ)) (place : Place) : Type 0 where
-  pub front : List ℕ
-  pub taken : TakesFront before after front
-  pub wrong : (AtEnd after × IsRefusedAt front place) ⊎ ((place ≡ TooLong) × (16777216 < length front))
 
 -- ---- the run
 
@@ -151,35 +141,44 @@ pub record IsWholeRun (rack : Racked) (s : Scenario) (trails : List (List Entry)
   pub how_driven : IsPlayed (λ i. IsTold rack i) s trails arms
   pub disks : rack.handed s.catalog.sites (λ i. IsDiskOfWhole rack s trails arms i)
 
--- the source's bytes are a reading of a scenario, and the trails a run of it
-pub record Runs (rack : Racked) (before after : Outside) (trails : List (List Entry)) : Type 0 where
-  pub bytes : List ℕ
-  pub source : IsSource before.left after.left bytes
+-- the words ask for a run, and these are the trails of one of the scenario that is posed
+pub record Runs (words : List (String Global)) (rack : Racked) (before after : Outside)
+    (trails : List (List Entry)) : Type 0 where
+  pub command : Command
+  pub asked : Asks command words
   pub scenario : Scenario
-  pub reading : IsReading bytes scenario
+  pub posed : IsPosed command before.left after.left scenario
   pub run : IsRun rack scenario trails
 
--- it is a whole run, all disks were given back, and what was written of its report, with the trace behind it where one is
--- asked for, is so
-pub record RunsWhole (rack : Racked) (words : List (String Global)) (before after : Outside)
+-- it is a whole run, all disks were given back, and what was written of it is so: its report, with the trace behind it where
+-- one is asked for, or its summary
+pub record RunsWhole (words : List (String Global)) (rack : Racked) (before after : Outside)
     (trails : List (List Entry)) (Written : List ℕ → Type 0) : Type 0 where
-  pub bytes : List ℕ
-  pub source : IsSource before.left after.left bytes
+  pub command : Command
+  pub asked : Asks command words
   pub scenario : Scenario
-  pub reading : IsReading bytes scenario
+  pub posed : IsPosed command before.left after.left scenario
   pub arms : ArmsOfSites
   pub run : IsWholeRun rack scenario trails arms
   pub disks_given_back : rack.all scenario.catalog.sites (λ i. IsDiskOfWhole rack scenario trails arms i)
-  pub trace : Bool
-  pub asked : IsPlayLine trace words
-  pub bytes_written : Written (text_of trace scenario trails)
+  pub bytes_written : Written (written_by command scenario trails)
 
--- the source's bytes are a reading of a scenario of which it is so
-pub record OfScenario (before after : Outside) (P : Scenario → Type 0) : Type 0 where
-  pub bytes : List ℕ
-  pub source : IsSource before.left after.left bytes
+-- the words ask for no run, and a text was written, of a help or of the version; nothing was read, and no disk was taken
+pub record Says (words : List (String Global)) (rack : Racked) (before after : Outside) (trails : List (List Entry))
+    (Written : List ℕ → Type 0) : Type 0 where
+  pub none_asked : AskForNone words
+  pub text : List ℕ
+  pub text_written : Written text
+  pub unread : (after.left ≡ before.left) × (after.source_faults ≡ before.source_faults)
+  pub no_trails : trails ≡ []
+  pub untouched : IsUntouched rack
+
+-- the words ask for a run of a scenario that is posed, of which it is so
+pub record OfScenario (words : List (String Global)) (before after : Outside) (P : Scenario → Type 0) : Type 0 where
+  pub command : Command
+  pub asked : Asks command words
   pub scenario : Scenario
-  pub reading : IsReading bytes scenario
+  pub posed : IsPosed command before.left after.left scenario
   pub holds : P scenario
 
 -- Why a site's disk ended a call: no run began, since it could not be taken, or failed in its first loading, as that of no
@@ -203,33 +202,39 @@ FailsEarly rack trails = (trails ≡ []) × ((i : ℕ) × rack.one i HasFailed)
 pub record Promise (words : List (String Global)) (rack : Racked) (before after : Outside) (ended : Ended) : Type 0 where
   -- the status is the fault's, 0 where there is none
   pub status : ended.status ≡ status_of ended.fault
-  -- 0: the report of a whole run was written
+  -- 0: what a whole run is to write was written, or a text where no run is asked for
   pub written : ended.status ≡ 0
-      → RunsWhole rack words before after ended.trails.items (Appends before.holds after.holds)
-  -- 1: exactly where the words are neither "play" nor "play --trace"
-  pub usage : (ended.status ≡ 1) ↔ (¬ IsLine words)
+      → RunsWhole words rack before after ended.trails.items (Appends before.holds after.holds)
+      ⊎ Says words rack before after ended.trails.items (Appends before.holds after.holds)
+  -- 1: only where the words ask for no run, and what is wrong with them isn't that they ask for a text; where they ask for no
+  -- run, it is 1, or a text is said, or memory is wanting
+  pub usage : ended.status ≡ 1 → AskForNone words × IsWrong (map string_bytes words)
+  pub unasked : AskForNone words → (ended.status ≡ 1) ⊎ (ended.status ≡ 5)
+      ⊎ ((ended.status ≡ 0) ⊎ (ended.status ≡ 4)) × IsForText (map string_bytes words)
+  pub texts : AsksForText (map string_bytes words) → ended.status ≢ 1
   -- 2: the bytes spell no scenario, and the place that is named is the first that is wrong
   pub unreadable : (place : Place) (detail : Detail) → ended.fault ≡ Some (fault.Scenario place detail)
       → HasNoReading before.left after.left place
   -- 3: the source failed
   pub unread : ended.status ≡ 3 → before.source_faults < after.source_faults
-  -- 4: the sink failed, with a front of the report of a whole run written
+  -- 4: the sink failed, with a front written of what a whole run, or a text, is to write
   pub cut : ended.status ≡ 4
-      → RunsWhole rack words before after ended.trails.items (AppendsFront before.holds after.holds)
+      → RunsWhole words rack before after ended.trails.items (AppendsFront before.holds after.holds)
+      ⊎ Says words rack before after ended.trails.items (AppendsFront before.holds after.holds)
   pub failed : ended.status ≡ 4 → before.sink_faults < after.sink_faults
   -- 6: the disk of the site that is named, one of the scenario's, could not be taken, or failed before all sites were
   -- up, or could not be given back; it is the first of these
   pub unracked : (site : ℕ) → ended.fault ≡ Some (fault.Rack site)
-      → OfScenario before after (λ s. (site < s.catalog.sites) × IsRackFault rack s ended.trails.items site)
+      → OfScenario words before after (λ s. (site < s.catalog.sites) × IsRackFault rack s ended.trails.items site)
   -- 7: the disk of the site that is named, one of the scenario's, has what no new site can begin with, where it tells what
   -- it has; those of the sites before it have no record, and have not failed
   pub unfit : (site : ℕ) (cause : JournalCause) (place : ℕ) → ended.fault ≡ Some (fault.Journal site cause place)
-      → OfScenario before after (λ s. (site < s.catalog.sites) × IsFirstUnfit rack site cause place
+      → OfScenario words before after (λ s. (site < s.catalog.sites) × IsFirstUnfit rack site cause place
       × rack.each (IsFaultlessBefore site))
   -- and exactly then, where all disks are told and were taken, the source doesn't fail, and no disk does before all sites
   -- are up
-  pub unfit_named : (bytes : List ℕ) (s : Scenario) (site : ℕ) (cause : JournalCause) (place : ℕ) → IsLine words
-      → before.left ≡ Some bytes → IsReading bytes s → site < s.catalog.sites → AreAllTold rack s.catalog.sites
+  pub unfit_named : (command : Command) (s : Scenario) (site : ℕ) (cause : JournalCause) (place : ℕ) → Asks command words
+      → Poses command before.left s → site < s.catalog.sites → AreAllTold rack s.catalog.sites
       → IsFirstUnfit rack site cause place → after.source_faults ≡ before.source_faults → rack.took s.catalog.sites
       → (ended.fault ≡ Some (fault.Journal site cause place)) ⊎ (ended.status ≡ 5) ⊎ FailsEarly rack ended.trails.items
   -- whatever the status, each disk that was taken was handed back, and given back but for one at most for each fault of
@@ -240,16 +245,16 @@ pub record Promise (words : List (String Global)) (rack : Racked) (before after 
   pub silent : ended.status ≢ 0 → ended.status ≢ 4 → after.holds ≡ before.holds
   -- whatever the status, the trails answered are those of a run; or there are none, and then the disks are as no run has
   -- begun on them
-  pub legal_trails : ((ended.trails.items ≡ []) × IsUntouched rack) ⊎ Runs rack before after ended.trails.items
+  pub legal_trails : ((ended.trails.items ≡ []) × IsUntouched rack) ⊎ Runs words rack before after ended.trails.items
   -- but for 0, 4, 5 and 6 there are none
   pub no_trails : (ended.trails.items ≡ []) ⊎ (ended.status ≡ 0) ⊎ (ended.status ≡ 4) ⊎ (ended.status ≡ 5)
       ⊎ (ended.status ≡ 6)
-  -- where nothing fails, the source tells its bytes and all disks tell that they have no record: if the bytes spell a
-  -- scenario the status is 0, and if they are wrong at a place it is 2 with this place; or it is 5 for want of memory
-  pub complete : (bytes : List ℕ) (s : Scenario) → IsLine words → before.left ≡ Some bytes → IsReading bytes s
+  -- where nothing fails and all disks tell that they have no record, the scenario that is posed is run, and the status is 0;
+  -- where the source's bytes are to be played and are wrong at a place it is 2 with this place; or it is 5 for want of memory
+  pub complete : (command : Command) (s : Scenario) → Asks command words → Poses command before.left s
       → AreAllTold rack s.catalog.sites → ((i : ℕ) → i < s.catalog.sites → Holds rack i HasNoRecord)
       → after.source_faults ≡ before.source_faults → after.sink_faults ≡ before.sink_faults → ¬ rack.failed
       → (ended.status ≡ 0) ⊎ (ended.status ≡ 5) ⊎ FailsEarly rack ended.trails.items
-  pub refuses : (bytes : List ℕ) (place : Place) → IsLine words → before.left ≡ Some bytes → IsRefusedAt bytes place
-      → after.source_faults ≡ before.source_faults
+  pub refuses : (trace : Bool) (bytes : List ℕ) (place : Place) → Asks (Play trace) words → before.left ≡ Some bytes
+      → IsRefusedAt bytes place → after.source_faults ≡ before.source_faults
       → ((detail : Detail) × (ended.fault ≡ Some (fault.Scenario place detail))) ⊎ (ended.status ≡ 5)

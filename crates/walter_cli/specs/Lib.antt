@@ -1,7 +1,8 @@
 pub mod Statuses
+pub mod Sources
+pub mod Texts
 pub mod Words
 pub mod Racks
-pub mod Texts
 pub mod Promises
 pub mod Headline
 pub mod Disks

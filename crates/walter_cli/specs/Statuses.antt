@@ -5,7 +5,7 @@ use Rattle.walter_cli.specs.declared.ended.Fault.TheVariants.{Usage, Scenario, R
 
 abbrev pub status_of : Option Fault → ℕ
 status_of None = 0
-status_of (Some Usage) = 1
+status_of (Some (Usage text)) = 1
 status_of (Some (Scenario place detail)) = 2
 status_of (Some Read) = 3
 status_of (Some Write) = 4

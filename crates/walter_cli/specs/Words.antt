@@ -1,12 +1,58 @@
--- The words behind the program's name.
-use Rattle.std.specs.Prelude.{◌≡◌, Bool, true, false, List, [], ◌∷◌, map, codes, string_bytes, String}
+-- What is run of a command, and what is written of it.
+use Rattle.std.specs.Prelude.{◌≡◌, ◌≤◌, ◌⊎◌, ℕ, List, [], Option, Some, map, string_bytes, String}
 use Rattle.std.specs.Global.{Global}
+use Rattle.walter_make.specs.Made.{made}
+use Rattle.walter_report.specs.Summaries.{summary_text}
+use Rattle.walter_rules.specs.declared.entry.Entry.{Entry}
+use Rattle.walter_scenario.specs.declared.scenario.Scenario.{Scenario}
+use Rattle.walter_scenario.specs.Scenarios.{IsReading}
+use Rattle.clap.specs.Faults.{fault_of}
+use Rattle.clap.specs.Kinds.{IsAmong}
+use Rattle.clap.specs.declared.error.kind.ErrorKind.{ErrorKind}
+use Rattle.clap.specs.declared.error.kind.ErrorKind.TheVariants.{DisplayHelp, DisplayVersion}
+use Rattle.walter_words.specs.Lines.{walter_line}
+use Rattle.walter_words.specs.Words.{AsksFor, IsTextKind}
+use Rattle.walter_words.specs.declared.asked.Command.{Command}
+use Rattle.walter_words.specs.declared.asked.Command.TheVariants.{Play, Load, Say}
+use Rattle.walter_cli.specs.Sources.{IsTaken}
+use Rattle.walter_cli.specs.Texts.{text_of}
 
--- the words are "play", and "--trace" behind it where a trace is asked for
-abbrev pub IsPlayLine : Bool → List (String Global) → Type 0
-IsPlayLine false words = map string_bytes words ≡ codes "play" ∷ []
-IsPlayLine true words = map string_bytes words ≡ codes "play" ∷ codes "--trace" ∷ []
+-- the words behind the program's name ask for this run
+abbrev pub Asks : Command → List (String Global) → Type 0
+Asks command words = AsksFor command (map string_bytes words)
 
--- the words ask for something
-abbrev pub IsLine : List (String Global) → Type 0
-IsLine words = (trace : Bool) × IsPlayLine trace words
+-- they ask for no run
+abbrev pub AskForNone : List (String Global) → Type 0
+AskForNone words = (command : Command) → ¬ Asks command words
+
+-- what is wrong with them isn't that they ask for a help or for the version; or it is, by the kinds of fault that clap finds
+abbrev pub IsWrong : List (List ℕ) → Type 0
+IsWrong texts = (kind : ErrorKind) × IsAmong kind (fault_of walter_line texts) × (¬ IsTextKind kind)
+
+abbrev pub IsForText : List (List ℕ) → Type 0
+IsForText texts = IsAmong DisplayHelp (fault_of walter_line texts) ⊎ IsAmong DisplayVersion (fault_of walter_line texts)
+
+-- it is a run, of at most 20,000 calls where it is made
+abbrev pub CanBeRun : Command → Type 0
+CanBeRun (Play trace) = Unit {0}
+CanBeRun (Load seed calls) = calls ≤ 20000
+CanBeRun (Say text) = ⊥
+
+-- what is to be run: a scenario that the bytes left in the source spell, or the one that is made
+abbrev pub Poses : Command → Option (List ℕ) → Scenario → Type 0
+Poses (Play trace) left s = (bytes : List ℕ) × (left ≡ Some bytes) × IsReading bytes s
+Poses (Load seed calls) left s = s ≡ made seed calls
+Poses (Say text) left s = ⊥
+
+-- what was run: the scenario that the bytes spell that were taken from the source, to its end; or the one that was made, and
+-- nothing was read
+abbrev pub IsPosed : Command → (before after : Option (List ℕ)) → Scenario → Type 0
+IsPosed (Play trace) before after s = IsTaken before after s
+IsPosed (Load seed calls) before after s = (s ≡ made seed calls) × (after ≡ before)
+IsPosed (Say text) before after s = ⊥
+
+-- what is written of a run with these trails: its report, with the trace behind it where one is asked for, or its summary
+abbrev pub written_by : Command → Scenario → List (List Entry) → List ℕ
+written_by (Play trace) s trails = text_of trace s trails
+written_by (Load seed calls) s trails = summary_text seed calls trails
+written_by (Say text) s trails = []

@@ -19,8 +19,9 @@ pub enum JournalCause {
 /// Why a run wrote no whole report.
 #[derive(Debug, Drop, PartialEq, Eq, Error)]
 pub enum Fault {
-    #[error("usage: walter play [--trace], with a scenario on standard input; the report comes on standard output")]
-    Usage,
+    /// What is wrong with the words, in some lines, with a hint at `--help`.
+    #[error("{0}")]
+    Usage(String),
     #[error("the scenario has no reading: {}", Refusal {place: *.place, detail: .detail})]
     Scenario {
         place: Place,
@@ -74,7 +75,7 @@ impl Ended {
     {
         let status = match &fault {
             None => 0,
-            Some(Fault::Usage) => 1,
+            Some(Fault::Usage(_)) => 1,
             Some(Fault::Scenario { .. }) => 2,
             Some(Fault::Read) => 3,
             Some(Fault::Write) => 4,

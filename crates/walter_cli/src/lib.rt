@@ -1,4 +1,4 @@
-//! The program: reads a scenario, plays it, and writes the report.
+//! The program: reads a scenario or makes one, plays it, and writes what came of it.
 #![tactic(auto)]
 
 mod disks;
@@ -6,8 +6,8 @@ mod ended;
 mod memory;
 mod program;
 mod running;
+mod saying;
 mod taking;
-mod words;
 
 pub use ended::{Ended, Fault, JournalCause};
 pub use memory::top_in_memory;

@@ -3,7 +3,6 @@ ghost use Rattle.walter_cli.specs.Headline.{outside_at};
 
 use crate::ended::{Ended, Fault};
 use crate::program::top;
-use crate::words::command_of;
 use walter_disk_memory::MemoryRack;
 use walter_stream::{Sink, Source};
 
@@ -21,10 +20,6 @@ pub fn top_in_memory<X: AllocGlobal, S: Source, K: Sink>(
         result.0 }
 {
     let alloc = rt.alloc();
-    // Other words than the program's are told before memory is asked for.
-    let Some(_) = command_of(words) else {
-        return (Ended::early(alloc, Fault::Usage), MemoryRack::new(alloc));
-    };
     // For each site a disk is taken and given back.
     let Ok(mut rack) = MemoryRack::with_room(alloc, 16) else {
         return (Ended::early(alloc, Fault::Memory), MemoryRack::new(alloc));

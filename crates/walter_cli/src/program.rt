@@ -3,13 +3,14 @@ ghost use Rattle.walter_cli.specs.Racks.{rack_at, racked};
 
 use crate::ended::{Ended, Fault};
 use crate::running::run;
-use crate::taking::take_scenario;
-use crate::words::command_of;
+use crate::saying::say;
+use crate::taking::pose;
 use walter_disk::Rack;
 use walter_stream::{Sink, Source};
+use walter_words::{Command, WordsFault, command_of};
 
-/// The program: if the words, those behind the program's name, are `play` or `play --trace`, it plays the scenario that the
-/// source has over the rack's disks, and writes the report to the sink.
+/// The program, by the words behind its name: `play` plays the scenario that the source has over the rack's disks, and
+/// writes the report to the sink; `load` plays one that it makes, and writes its summary; a help and the version are said.
 pub fn top<X: AllocGlobal, S: Source, K: Sink, R: Rack>(
     rt: &X,
     words: &[String],
@@ -24,11 +25,13 @@ pub fn top<X: AllocGlobal, S: Source, K: Sink, R: Rack>(
         result }
 {
     let alloc = rt.alloc();
-    let Some(command) = command_of(words) else {
-        return Ended::early(alloc, Fault::Usage);
-    };
-    match take_scenario(alloc, source) {
-        Ok(scenario) => run(alloc, &scenario, command.trace, sink, rack),
-        Err(fault) => Ended::early(alloc, fault),
+    match command_of(alloc, words) {
+        Err(WordsFault::Usage(text)) => Ended::early(alloc, Fault::Usage(text)),
+        Err(WordsFault::Memory) => Ended::early(alloc, Fault::Memory),
+        Ok(Command::Say(text)) => say(alloc, &text, sink),
+        Ok(command) => match pose(alloc, &command, source) {
+            Ok(scenario) => run(alloc, &scenario, &command, sink, rack),
+            Err(fault) => Ended::early(alloc, fault),
+        },
     }
 }

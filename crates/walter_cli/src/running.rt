@@ -10,6 +10,8 @@ ghost use Rattle.walter_cli.specs.Ending.{EndsRun, EndsEarly, IsBuilt, IsWriteFa
 ghost use Rattle.walter_cli.specs.Racks.{rack_at, racked};
 ghost use Rattle.walter_cli.specs.Statuses.{status_of};
 ghost use Rattle.walter_cli.specs.Texts.{text_of};
+ghost use Rattle.walter_cli.specs.Words.{written_by};
+ghost use Rattle.walter_words.specs.Words.{IsText};
 
 use crate::disks::{give_all, take_all};
 use crate::ended::{Ended, Fault, JournalCause};
@@ -19,20 +21,21 @@ use walter_cluster::{Bench, Closed, Unbuilt, build};
 use walter_disk::Rack;
 use walter_engine::BeginFault;
 use walter_play::{open_lines, play};
-use walter_report::{report, trace};
+use walter_report::{report, summary, trace};
 use walter_scenario::Scenario;
 use walter_stream::{BytesSource, NullSink, Sink, write_all};
 use walter_trail::Trail;
+use walter_words::Command;
 
-/// Runs a scenario over the rack's disks, gives these back, and writes the report, with the trace behind it where one is
-/// asked for.
+/// Runs a scenario over the rack's disks, gives these back, and writes what the command says of it.
 pub fn run<K: Sink, R: Rack>(
     alloc: Global,
     scenario: &Scenario,
-    traced: bool,
+    command: &Command,
     sink: &mut K,
     rack: &mut R,
 ) -> Ended
+    requires running { ¬ IsText command.now }
     requires some { 0 < scenario.now.catalog.sites }
     requires few { scenario.now.catalog.sites ≤ most_sites }
     requires fewer { scenario.now.catalog.tolerated < scenario.now.catalog.sites }
@@ -45,7 +48,7 @@ pub fn run<K: Sink, R: Rack>(
     ensures given_back { (racked R.D.Disk (rack_at R.Rack rack.old) (rack_at R.Rack rack.new)).balanced }
     ensures unfailing { 16 ≤ R.unfailing rack.old → ¬ (R.faults rack.old < R.faults rack.new) }
     ensures run { EndsRun (racked R.D.Disk (rack_at R.Rack rack.old) (rack_at R.Rack rack.new))
-        traced scenario.now (K.holds sink.old) (K.holds sink.new) (K.faults sink.old) (K.faults sink.new)
+        command.now scenario.now (K.holds sink.old) (K.holds sink.new) (K.faults sink.old) (K.faults sink.new)
         result.trails.items result.fault }
 {
     let mut bench = match build_over(alloc, scenario, rack) {
@@ -61,7 +64,7 @@ pub fn run<K: Sink, R: Rack>(
     if let Err(site) = given {
         return Ended::late(trails, Some(Fault::Rack { site }));
     }
-    match write_report(alloc, scenario, traced, &trails, sink) {
+    match write_result(alloc, scenario, command, &trails, sink) {
         Ok(()) => Ended::late(trails, None),
         Err(fault) => Ended::late(trails, Some(fault)),
     }
@@ -121,21 +124,24 @@ fn unbegun(site: u8, why: BeginFault) -> Fault
     }
 }
 
-// Writes the report of these trails, with the trace behind it where one is asked for.
-fn write_report<K: Sink>(
+// Writes what is to be written of these trails.
+fn write_result<K: Sink>(
     alloc: Global,
     scenario: &Scenario,
-    traced: bool,
+    command: &Command,
     trails: &[Trail],
     sink: &mut K,
 ) -> Result<(), Fault>
+    requires running { ¬ IsText command.now }
     requires few { length trails.now ≤ most_sites }
     requires frames { HaveFrames trails.now }
     requires records { HaveSpellings trails.now }
-    ensures ok { OnOk result (Appends (K.holds sink.old) (K.holds sink.new) (text_of traced scenario.now trails.now)) }
-    ensures fault { IfErr result (IsWriteFault (text_of traced scenario.now trails.now) (K.holds sink.old) (K.holds sink.new) (K.faults sink.old) (K.faults sink.new)) }
+    ensures ok { OnOk result
+        (Appends (K.holds sink.old) (K.holds sink.new) (written_by command.now scenario.now trails.now)) }
+    ensures fault { IfErr result (IsWriteFault (written_by command.now scenario.now trails.now)
+        (K.holds sink.old) (K.holds sink.new) (K.faults sink.old) (K.faults sink.new)) }
 {
-    let Ok(text) = text(alloc, scenario, traced, trails) else {
+    let Ok(text) = text(alloc, scenario, command, trails) else {
         return Err(Fault::Memory);
     };
     match write_all(sink, &text) {
@@ -144,8 +150,23 @@ fn write_report<K: Sink>(
     }
 }
 
+// The report of these trails, with the trace behind it where one is asked for; or their summary.
+fn text(alloc: Global, scenario: &Scenario, command: &Command, trails: &[Trail]) -> Mem<Vec<u8>>
+    requires running { ¬ IsText command.now }
+    requires few { length trails.now ≤ most_sites }
+    requires frames { HaveFrames trails.now }
+    requires records { HaveSpellings trails.now }
+    ensures { IfOk result (λ text. text.items ≡ written_by command.now scenario.now trails.now) }
+{
+    match command {
+        Command::Play { trace } => report_text(alloc, scenario, *trace, trails),
+        Command::Load { seed, calls } => Ok(summary(alloc, *seed, *calls, trails)?.into_vec()),
+        Command::Say(_) => unreachable!(),
+    }
+}
+
 // The report of these trails, with the trace behind it where one is asked for.
-fn text(alloc: Global, scenario: &Scenario, traced: bool, trails: &[Trail]) -> Mem<Vec<u8>>
+fn report_text(alloc: Global, scenario: &Scenario, traced: bool, trails: &[Trail]) -> Mem<Vec<u8>>
     requires few { length trails.now ≤ most_sites }
     requires frames { HaveFrames trails.now }
     requires records { HaveSpellings trails.now }

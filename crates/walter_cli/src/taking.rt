@@ -1,13 +1,35 @@
 ghost use Rattle.std.specs.Prelude.{◌≡◌, IfOk, IfErr};
-ghost use Rattle.walter_cli.specs.Ending.{IsTaken, IsTakeFault};
+ghost use Rattle.walter_cli.specs.Ending.{IsPlayable, IsPoseFault, IsTakeFault};
+ghost use Rattle.walter_cli.specs.Sources.{IsTaken};
+ghost use Rattle.walter_cli.specs.Words.{CanBeRun, IsPosed};
 
 use crate::ended::Fault;
 use std::alloc::Global;
+use walter_make::make;
 use walter_scenario::{Detail, LONGEST_TEXT, Place, ReadFault, Scenario, read};
 use walter_stream::{ReadError, Source, read_to_end};
+use walter_words::Command;
 
-/// The scenario that the bytes of the source spell, read to their end.
-pub fn take_scenario<S: Source>(alloc: Global, source: &mut S) -> Result<Scenario, Fault>
+/// The scenario that is to be run: that of the source, or one that is made.
+pub fn pose<S: Source>(alloc: Global, command: &Command, source: &mut S) -> Result<Scenario, Fault>
+    requires { CanBeRun command.now }
+    ensures ok { IfOk result (IsPosed command.now (S.left source.old) (S.left source.new)) }
+    ensures playable { IfOk result IsPlayable }
+    ensures fault { IfErr result
+        (IsPoseFault command.now (S.left source.old) (S.left source.new) (S.faults source.old) (S.faults source.new)) }
+{
+    match command {
+        Command::Play { .. } => take_scenario(alloc, source),
+        Command::Load { seed, calls } => match make(alloc, *seed, *calls) {
+            Ok(scenario) => Ok(scenario),
+            Err(_) => Err(Fault::Memory),
+        },
+        Command::Say(_) => unreachable!(),
+    }
+}
+
+// The scenario that the bytes of the source spell, read to their end.
+fn take_scenario<S: Source>(alloc: Global, source: &mut S) -> Result<Scenario, Fault>
     ensures ok { IfOk result (IsTaken (S.left source.old) (S.left source.new)) }
     ensures fault { IfErr result (IsTakeFault (S.left source.old) (S.left source.new) (S.faults source.old) (S.faults source.new)) }
 {

@@ -12,7 +12,7 @@ use Rattle.walter_cli.specs.declared.ended.Ended.{Ended}
 use Rattle.walter_cli.specs.Racks.{RackAt, IsUntouched, rack_at, Holds, racked}
 use Rattle.walter_cli.proofs.Early.{untouched_before}
 use Rattle.walter_cli.proofs.Giving.{none_balances}
-use Rattle.walter_cli.proofs.Sure.{assured, assured_early, assured_usage}
+use Rattle.walter_cli.proofs.Sure.{assured, assured_early}
 use Rattle.walter_cli.proofs.memory.top_in_memory.Goals as goal
 
 -- what is known of a rack in memory
@@ -47,15 +47,8 @@ of_made words made last before after ended is assures =
 pub returns-in_default : goal.returns-in_default
 returns-in_default g c =
     let is = c.new.ensures.rack in
-    assured_usage c.args.words.now _ _ c.early.result (new_balanced _ is) (new_untouched _ is) c.in_default.ensures.none
-    c.early.ensures.status c.early.ensures.fault c.early.ensures.trails
-
-pub returns-in_default-with_room : goal.returns-in_default-with_room
-returns-in_default-with_room g c =
-    let is = c.new-in_default-with_room.ensures.rack in
-    assured_early c.args.words.now _ _ c.early-in_default-with_room.result (new_balanced _ is) (new_untouched _ is)
-    (c.in-Some.field-0.trace, c.in-Some.ensures.some) c.early-in_default-with_room.ensures.status
-    c.early-in_default-with_room.ensures.fault c.early-in_default-with_room.ensures.trails
+    assured_early c.args.words.now _ _ c.early.result (new_balanced _ is) (new_untouched _ is) c.early.ensures.status
+    c.early.ensures.fault c.early.ensures.trails
 
 pub returns : goal.returns
 returns g c =

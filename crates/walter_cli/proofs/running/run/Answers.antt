@@ -11,7 +11,7 @@ use Rattle.walter_cli.specs.declared.ended.Fault.TheVariants.{Memory, Rack}
 use Rattle.walter_cli.specs.Ending.{IsBuilt, IsWholeBack, IsWriteFault}
 use Rattle.walter_cli.specs.Headline.{IsRun, IsWholeRun}
 use Rattle.walter_cli.specs.Racks.{RackAt, rack_at, Racked, racked}
-use Rattle.walter_cli.specs.Texts.{text_of}
+use Rattle.walter_cli.specs.Words.{written_by}
 use Rattle.walter_cli.proofs.Finished.{returned, run_is, whole_is, whole_back as all_back_armed, ends_with, ends_cut}
 use Rattle.walter_cli.proofs.Giving.{IsReturned, ok_part, balances, fails_to_give}
 use Rattle.walter_cli.proofs.Racking.{sure_back}
@@ -109,11 +109,11 @@ returns-then-is_err-clause-given_back g c = back g (goal.at.returns-then-is_err-
 pub returns-in-Err-given-clause-given_back : goal.returns-in-Err-given-clause-given_back
 returns-in-Err-given-clause-given_back g c = back g (goal.at.returns-in-Err-given-clause-given_back g c).After-give_all-given
 
-pub returns-in-Ok-write_report-clause-given_back : goal.returns-in-Ok-write_report-clause-given_back
-returns-in-Ok-write_report-clause-given_back g c = back g (goal.at.returns-in-Ok-write_report-clause-given_back g c).After-give_all-given
+pub returns-in-Ok-write_result-clause-given_back : goal.returns-in-Ok-write_result-clause-given_back
+returns-in-Ok-write_result-clause-given_back g c = back g (goal.at.returns-in-Ok-write_result-clause-given_back g c).After-give_all-given
 
-pub returns-in-Err-write_report-clause-given_back : goal.returns-in-Err-write_report-clause-given_back
-returns-in-Err-write_report-clause-given_back g c = back g (goal.at.returns-in-Err-write_report-clause-given_back g c).After-give_all-given
+pub returns-in-Err-write_result-clause-given_back : goal.returns-in-Err-write_result-clause-given_back
+returns-in-Err-write_result-clause-given_back g c = back g (goal.at.returns-in-Err-write_result-clause-given_back g c).After-give_all-given
 
 pub returns-then-is_err-clause-unfailing : goal.returns-then-is_err-clause-unfailing
 returns-then-is_err-clause-unfailing g c = λ enough rose.
@@ -127,7 +127,7 @@ returns-in-Err-given-clause-unfailing g c = λ enough rose.
 pub returns-then-is_err-clause-run : goal.returns-then-is_err-clause-run
 returns-then-is_err-clause-run g c =
     let at = (goal.at.returns-then-is_err-clause-run g c).After-give_all-given in
-    ends_with _ c.args.traced c.args.scenario.now _ _ _ _ (trails g at) _ (Some Memory) _ (inr (run g at), refl)
+    ends_with _ c.args.command.now c.args.scenario.now _ _ _ _ (trails g at) _ (Some Memory) _ (inr (run g at), refl)
     (ap (λ (v : Vec Trail Global). v.items) c.late.ensures.trails) c.late.ensures.fault
 
 -- a disk could not be given back
@@ -139,7 +139,7 @@ returns-in-Err-given-clause-run g c =
     let within = lost.within in
     let long = back.long in
     let many = (built g at).many in
-    ends_with _ c.args.traced c.args.scenario.now _ _ _ _ (trails g at) _ (Some (Rack c.in-Err-given.site)) _ (
+    ends_with _ c.args.command.now c.args.scenario.now _ _ _ _ (trails g at) _ (Some (Rack c.in-Err-given.site)) _ (
       omega (arith, within, long, many),
       inr (
         arms_at g.R.D.Disk c.play-played.new.bench.cells,
@@ -151,31 +151,31 @@ returns-in-Err-given-clause-run g c =
     )
     (ap (λ (v : Vec Trail Global). v.items) c.late-in-Err-given.ensures.trails) c.late-in-Err-given.ensures.fault
 
-pub write_report-requires-clause-frames : goal.write_report-requires-clause-frames
-write_report-requires-clause-frames g c =
-    subst HaveFrames (sym c.deref.ensures.value) (short g (goal.at.write_report-requires-clause-frames g c).After-give_all-given)
+pub write_result-requires-clause-frames : goal.write_result-requires-clause-frames
+write_result-requires-clause-frames g c =
+    subst HaveFrames (sym c.deref.ensures.value) (short g (goal.at.write_result-requires-clause-frames g c).After-give_all-given)
 
-pub write_report-requires-clause-records : goal.write_report-requires-clause-records
-write_report-requires-clause-records g c =
-    subst HaveSpellings (sym c.deref.ensures.value) (spelled g (goal.at.write_report-requires-clause-records g c).After-give_all-given)
+pub write_result-requires-clause-records : goal.write_result-requires-clause-records
+write_result-requires-clause-records g c =
+    subst HaveSpellings (sym c.deref.ensures.value) (spelled g (goal.at.write_result-requires-clause-records g c).After-give_all-given)
 
 -- the report was written whole
-pub returns-in-Ok-write_report-clause-run : goal.returns-in-Ok-write_report-clause-run
-returns-in-Ok-write_report-clause-run g c =
-    let at = (goal.at.returns-in-Ok-write_report-clause-run g c).After-give_all-given in
+pub returns-in-Ok-write_result-clause-run : goal.returns-in-Ok-write_result-clause-run
+returns-in-Ok-write_result-clause-run g c =
+    let at = (goal.at.returns-in-Ok-write_result-clause-run g c).After-give_all-given in
     let is_whole = whole_back g at (sym c.is_err.ensures.value ∙ c.if-is_err.false) c.in_default.ensures.ok in
-    let written = subst (λ (ts : List (List Entry)). Appends (g.K.Sink.holds c.args.sink.now) (g.K.Sink.holds c.write_report.new.sink) (text_of c.args.traced c.args.scenario.now ts))
-    c.deref.ensures.value c.in-Ok-write_report.ensures.ok in
-    ends_with _ c.args.traced c.args.scenario.now _ _ _ _ (trails g at) _ None _ (is_whole, written)
-    (ap (λ (v : Vec Trail Global). v.items) c.late-in-Ok-write_report.ensures.trails) c.late-in-Ok-write_report.ensures.fault
+    let written = subst (λ (ts : List (List Entry)). Appends (g.K.Sink.holds c.args.sink.now) (g.K.Sink.holds c.write_result.new.sink) (written_by c.args.command.now c.args.scenario.now ts))
+    c.deref.ensures.value c.in-Ok-write_result.ensures.ok in
+    ends_with _ c.args.command.now c.args.scenario.now _ _ _ _ (trails g at) _ None _ (is_whole, written)
+    (ap (λ (v : Vec Trail Global). v.items) c.late-in-Ok-write_result.ensures.trails) c.late-in-Ok-write_result.ensures.fault
 
 -- it was not
-pub returns-in-Err-write_report-clause-run : goal.returns-in-Err-write_report-clause-run
-returns-in-Err-write_report-clause-run g c =
-    let at = (goal.at.returns-in-Err-write_report-clause-run g c).After-give_all-given in
+pub returns-in-Err-write_result-clause-run : goal.returns-in-Err-write_result-clause-run
+returns-in-Err-write_result-clause-run g c =
+    let at = (goal.at.returns-in-Err-write_result-clause-run g c).After-give_all-given in
     let is_whole = whole_back g at (sym c.is_err.ensures.value ∙ c.if-is_err.false) c.in_default.ensures.ok in
-    let why = subst (λ (ts : List (List Entry)). IsWriteFault (text_of c.args.traced c.args.scenario.now ts) (g.K.Sink.holds c.args.sink.now) (g.K.Sink.holds c.write_report.new.sink)
-    (g.K.Sink.faults c.args.sink.now) (g.K.Sink.faults c.write_report.new.sink) c.in-Err-write_report.fault) c.deref.ensures.value c.in-Err-write_report.ensures.fault in
-    ends_with _ c.args.traced c.args.scenario.now _ _ _ _ (trails g at) _ (Some c.in-Err-write_report.fault) _
-    (ends_cut _ c.args.traced c.args.scenario.now _ _ _ _ (trails g at) c.in-Err-write_report.fault is_whole why)
-    (ap (λ (v : Vec Trail Global). v.items) c.late-in-Err-write_report.ensures.trails) c.late-in-Err-write_report.ensures.fault
+    let why = subst (λ (ts : List (List Entry)). IsWriteFault (written_by c.args.command.now c.args.scenario.now ts) (g.K.Sink.holds c.args.sink.now) (g.K.Sink.holds c.write_result.new.sink)
+    (g.K.Sink.faults c.args.sink.now) (g.K.Sink.faults c.write_result.new.sink) c.in-Err-write_result.fault) c.deref.ensures.value c.in-Err-write_result.ensures.fault in
+    ends_with _ c.args.command.now c.args.scenario.now _ _ _ _ (trails g at) _ (Some c.in-Err-write_result.fault) _
+    (ends_cut _ c.args.command.now c.args.scenario.now _ _ _ _ (trails g at) c.in-Err-write_result.fault is_whole why)
+    (ap (λ (v : Vec Trail Global). v.items) c.late-in-Err-write_result.ensures.trails) c.late-in-Err-write_result.ensures.fault
