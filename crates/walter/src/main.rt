@@ -7,11 +7,22 @@ use std::process::ExitCode;
 use walter_cli::{Ended, Fault, top_in_memory};
 use walter_stream::{StdSink, StdSource};
 
+// What is said of a word that is no text.
+fn no_text(rt: &HostRuntime) -> Fault {
+    match String::from_str(
+        rt.alloc(),
+        "error: a word is no text; for more, try '--help'\n",
+    ) {
+        Ok(text) => Fault::Usage(text),
+        Err(_) => Fault::Memory,
+    }
+}
+
 // The words behind the program's name. A word that is no text is none of any line.
 fn words_of(rt: &HostRuntime) -> Result<Vec<String>, Fault> {
     let args = env::args(rt).map_err(|error| match error.kind() {
         ErrorKind::OutOfMemory => Fault::Memory,
-        _ => Fault::Usage,
+        _ => no_text(rt),
     })?;
     let mut words = Vec::new(rt.alloc());
     for word in args.skip(1) {
@@ -35,7 +46,10 @@ fn main(rt: HostRuntime) -> ExitCode {
     let Ended { status, fault, .. } = run(&rt);
     if let Some(fault) = fault {
         // The status tells it too, so it stands where standard error fails.
-        let _ = eprintln!(rt; "walter: {fault}");
+        let _ = match &fault {
+            Fault::Usage(text) => eprint!(rt; "{text}"),
+            _ => eprintln!(rt; "walter: {fault}"),
+        };
     }
     ExitCode::from(status)
 }
