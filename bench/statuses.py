@@ -1,8 +1,8 @@
 #!/usr/bin/env python3
 """Runs the program on wrong inputs, and compares how each run ends with what is wanted: its status, what it wrote on
 standard error and, where that can be read, on standard output. Prints a line for each case, and ends with status 1
-where one differs. With --model the plain model is run in its place, which is to end in the same ways: its own name stands in
-front of what it says, and what it says of wrong words is its own.
+where one differs. Then come words, of which a part of what is said is wanted. With --model the plain model is run in its
+place, on inputs alone, which is to end in the same ways: its own name stands in front of what it says.
 """
 
 import argparse
@@ -14,7 +14,6 @@ from concurrent.futures import ThreadPoolExecutor
 import readings
 
 TOP = os.path.dirname(os.path.dirname(os.path.abspath(__file__)))
-USAGE = "usage: walter play [--trace], with a scenario on standard input; the report comes on standard output"
 NO_READING = "the scenario has no reading: "
 SITES = readings.TEXTS["sites"]
 CLOSED = None
@@ -51,8 +50,6 @@ STEPS = [
 # What is tried, the words, standard input, the file that standard output goes to if it is one, and what is wanted: the
 # status, the line on standard error, and the report.
 CASES = [
-    ("no words", [], RUN, None, 1, USAGE, ""),
-    ("play --fast", ["play", "--fast"], RUN, None, 1, USAGE, ""),
     ("an open bracket", ["play"], "[", None, 2, NO_READING + "the text is no JSON: line 1, column 1", ""),
     ("nine sites", ["play"], scenario(sites="9"), None, 2, NO_READING + SITES, ""),
     ("another key", ["play"], scenario(more=',"speed":1'), None, 2, NO_READING + 'key "speed": a scenario has none', ""),
@@ -78,6 +75,22 @@ CASES = [
     ("the stored run", ["play"], RUN, None, 0, "", REPORT),
 ]
 
+# Words, and what is wanted: the status, a part of what is said on standard error, and the begin of what is written.
+WORDS = [
+    ("", 1, "requires a subcommand", ""),
+    ("run", 1, "'run'", ""),
+    ("play --fast", 1, "'--fast'", ""),
+    ("play --trace --trace", 1, "'--trace'", ""),
+    ("load --seed 7", 1, "--calls <M>", ""),
+    ("load --seed 7 --calls 20001", 1, "'20001'", ""),
+    ("load --seed -1 --calls 1", 1, "'-1'", ""),
+    ("load --seed 7 --calls 0", 0, "", "load seed 7 calls 0\n"),
+    ("--version", 0, "", "walter "),
+    ("--help", 0, "", "Plays scenarios"),
+    ("play --help", 0, "", "Plays the scenario"),
+    ("load --help", 0, "", "Makes a scenario"),
+]
+
 
 def run(program, words, stdin, sink):
     """The status, and what was written on standard error and on standard output."""
@@ -97,8 +110,8 @@ def run(program, words, stdin, sink):
 def model_run(words, stdin, sink):
     """The same of the model, in the words of the program: its words are those behind `play`."""
     model = [sys.executable, os.path.join(TOP, "bench", "model.py")]
-    status, said, written = run(model, words[1:] if words else ["no", "words"], stdin, sink)
-    return status, f"walter: {USAGE}\n" if status == 1 else said.replace("model: ", "walter: ", 1), written
+    status, said, written = run(model, words[1:], stdin, sink)
+    return status, said.replace("model: ", "walter: ", 1), written
 
 
 def differing(play, at_once=1):
@@ -113,19 +126,31 @@ def differing(play, at_once=1):
     return differ
 
 
+def differing_words(program):
+    """Runs the program on all words, with a line for each. Gives how many differ."""
+    differ = 0
+    for words, *wanted in WORDS:
+        status, said, written = run(program, words.split(), "", None)
+        same = (status, written[: len(wanted[2])]) == (wanted[0], wanted[2]) and wanted[1] in said and bool(said) == (status != 0)
+        print(f"{words or 'no words'}: {'the same' if same else f'wanted {wanted}, came {status, said, written}'}")
+        differ += not same
+    return differ
+
+
 def main():
     parser = argparse.ArgumentParser(description=__doc__, formatter_class=argparse.RawDescriptionHelpFormatter)
     parser.add_argument(
         "--program",
-        default=os.path.join(TOP, "walter"),
-        help="without it `./walter`, which proves and builds the program where that isn't done yet",
+        help="without it `./walter`, which proves and builds the program where that isn't done yet, and answers words itself",
     )
     parser.add_argument("--model", action="store_true", help="run the plain model of model.py")
     given = parser.parse_args()
-    program = [os.path.abspath(given.program)]
+    if given.model:
+        sys.exit(differing(model_run, MODELS_AT_ONCE) > 0)
+    program = [os.path.abspath(given.program or os.path.join(TOP, "walter"))]
     # The first case may have to prove the program, so its cases come one after another.
-    differ = differing(model_run, MODELS_AT_ONCE) if given.model else differing(lambda *case: run(program, *case))
-    sys.exit(differ > 0)
+    differ = differing(lambda *case: run(program, *case))
+    sys.exit(differ + (differing_words(program) if given.program else 0) > 0)
 
 
 if __name__ == "__main__":
