@@ -1,8 +1,9 @@
 #!/usr/bin/env python3
 """Runs the program on wrong inputs, and compares how each run ends with what is wanted: its status, what it wrote on
 standard error and, where that can be read, on standard output. Prints a line for each case, and ends with status 1
-where one differs. With --model the plain model is run in its place, which is to end in the same ways: its own name stands in
-front of what it says, and what it says of wrong words is its own.
+where one differs. With --model the plain model is run in its place, which is to end in the same ways: its own name
+stands in front of what it says. Of wrong words only the status and the front of what is said are compared: `./walter`
+says how it is used, the program has the text of clap, and the model its own.
 """
 
 import argparse
@@ -10,11 +11,14 @@ import os
 import subprocess
 import sys
 from concurrent.futures import ThreadPoolExecutor
+from functools import partial
 
 import readings
 
 TOP = os.path.dirname(os.path.dirname(os.path.abspath(__file__)))
-USAGE = "usage: walter play [--trace], with a scenario on standard input; the report comes on standard output"
+# What stands in front where words are wrong, said by `./walter` and by the program.
+WRONG_WORDS = ("walter: usage: ", "error: ")
+WORDS = "the words are wrong"
 NO_READING = "the scenario has no reading: "
 SITES = readings.TEXTS["sites"]
 CLOSED = None
@@ -34,6 +38,15 @@ def scenario(sites="1", clients="", more="", f="0", containers="", steps=""):
 RUN = file_of("crates", "walter", "stdin")
 REPORT = file_of("crates", "walter", "stdout")
 
+# What comes of the load of seed 7 with 20 calls.
+SUMMARY = """\
+load seed 7 calls 20
+replies started 6 ended 0 done 6 read 5 committed 1 aborted 0 deciding 1 level 0 unsure 0 refused 1
+site 0 up epoch 1 events 29 records 5 log 2
+site 1 up epoch 1 events 26 records 5 log 1
+site 2 up epoch 1 events 28 records 5 log 1
+"""
+
 # The part that is wrong in a step of two sites and one client, the step, and what is said of it.
 STEPS = [
     ("value", "{}", "its value: wants a list"),
@@ -51,8 +64,12 @@ STEPS = [
 # What is tried, the words, standard input, the file that standard output goes to if it is one, and what is wanted: the
 # status, the line on standard error, and the report.
 CASES = [
-    ("no words", [], RUN, None, 1, USAGE, ""),
-    ("play --fast", ["play", "--fast"], RUN, None, 1, USAGE, ""),
+    ("no words", [], RUN, None, 1, WORDS, ""),
+    ("play --fast", ["play", "--fast"], RUN, None, 1, WORDS, ""),
+    ("no calls", ["load", "--seed", "7"], "", None, 1, WORDS, ""),
+    ("no number", ["load", "--seed", "7", "--calls", "many"], "", None, 1, WORDS, ""),
+    ("20,001 calls", ["load", "--seed", "7", "--calls", "20001"], "", None, 1, WORDS, ""),
+    ("a seed of 2^64", ["load", "--seed", "18446744073709551616", "--calls", "5"], "", None, 1, WORDS, ""),
     ("an open bracket", ["play"], "[", None, 2, NO_READING + "the text is no JSON: line 1, column 1", ""),
     ("nine sites", ["play"], scenario(sites="9"), None, 2, NO_READING + SITES, ""),
     ("another key", ["play"], scenario(more=',"speed":1'), None, 2, NO_READING + 'key "speed": a scenario has none', ""),
@@ -76,6 +93,7 @@ CASES = [
     ("a closed standard input", ["play"], CLOSED, None, 3, "the scenario could not be read to its end", ""),
     ("a full standard output", ["play"], RUN, "/dev/full", 4, "the report could not be written to its end", ""),
     ("the stored run", ["play"], RUN, None, 0, "", REPORT),
+    ("a load", ["load", "--calls=20", "--seed", "7"], CLOSED, None, 0, "", SUMMARY),
 ]
 
 
@@ -94,11 +112,18 @@ def run(program, words, stdin, sink):
     return ended.returncode, ended.stderr, ended.stdout or ""
 
 
+def program_run(program, *case):
+    """The same of the program, where all that begins as wrong words are told is told in the same way."""
+    status, said, written = run(program, *case)
+    return status, f"walter: {WORDS}\n" if said.startswith(WRONG_WORDS) else said, written
+
+
 def model_run(words, stdin, sink):
-    """The same of the model, in the words of the program: its words are those behind `play`."""
+    """The same of the model, in the words of the program: the word `play` isn't one of its own."""
     model = [sys.executable, os.path.join(TOP, "bench", "model.py")]
-    status, said, written = run(model, words[1:] if words else ["no", "words"], stdin, sink)
-    return status, f"walter: {USAGE}\n" if status == 1 else said.replace("model: ", "walter: ", 1), written
+    own = words[1:] if words[:1] == ["play"] else words or ["no", "words"]
+    status, said, written = run(model, own, stdin, sink)
+    return status, f"walter: {WORDS}\n" if status == 1 else said.replace("model: ", "walter: ", 1), written
 
 
 def differing(play, at_once=1):
@@ -123,8 +148,8 @@ def main():
     parser.add_argument("--model", action="store_true", help="run the plain model of model.py")
     given = parser.parse_args()
     program = [os.path.abspath(given.program)]
-    # The first case may have to prove the program, so its cases come one after another.
-    differ = differing(model_run, MODELS_AT_ONCE) if given.model else differing(lambda *case: run(program, *case))
+    # A case may have to prove the program, so its cases come one after another.
+    differ = differing(model_run, MODELS_AT_ONCE) if given.model else differing(partial(program_run, program))
     sys.exit(differ > 0)
 
 
