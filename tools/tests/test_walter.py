@@ -29,11 +29,15 @@ FIRST = "walter: running without a proof, by rt try: this takes about a minute, 
 # Words of a load in any order and form, and some that are none.
 LOADS = [["--seed", "7", "--calls", "20001"], ["--calls", "5", "--seed", "7"], ["--seed=7", "--calls=5"],
          ["--calls=5", "--seed", "18446744073709551616"], ["--seed", "7", "--calls=+05"]]
-NO_LOADS = [[], ["--seed", "7"], ["--seed", "7", "--calls"], ["--calls", "7", "--calls", "5"], ["--seed", "--calls", "5"],
-            ["--seed", "-7", "--calls", "5"], ["--seed", "7", "--calls", "many"], ["--seed", "7", "--calls", ""],
+NO_LOADS = [[], ["--seed", "7"], ["--seed", "7", "--calls"], ["--calls", "7", "--calls", "5"],
+            ["--seed", "--calls", "5"], ["--seed", "-7", "--calls", "5"], ["--seed", "7", "--calls", "many"], ["--seed", "7", "--calls", ""],
             ["--seed=7", "--calls=5", "--seed=7"], ["--seed=7=7", "--calls=5"], ["--seed 7", "--calls 5"],
             ["7", "5"], ["--seed", "7", "--calls", "5", "--trace"], ["--seed", "7", "--calls", "5", "a"],
             ["--seed", "7", "--calls", "5\n6"]]
+WRONG_WORDS = [[], ["run"], ["play", "--fast"], ["play", "--trace", "--trace"], ["play", "a", "b"], ["play", ""],
+               ["--help", "play"], ["--unproved"], ["--unproved", "play", "--fast"], ["--trace", "play"],
+               ["loads", "--seed", "7", "--calls", "5"], *(["load", *words] for words in NO_LOADS),
+               *(["--unproved", "load", *words] for words in NO_LOADS)]
 TOO_MUCH = "checked: no-answer: it wrote too much\nrun=no-answer proved=no\n"
 
 
@@ -65,10 +69,7 @@ class Walter(InFolder):
         return file_text(path) if os.path.exists(path) else ""
 
     def test_what_asks_for_no_run_is_answered_at_once(self):
-        for words in [], ["run"], ["play", "--fast"], ["play", "--trace", "--trace"], ["play", "a", "b"], ["play", ""], \
-                ["--help", "play"], ["--unproved"], ["--unproved", "play", "--fast"], ["--trace", "play"], \
-                ["loads", "--seed", "7", "--calls", "5"], *(["load", *words] for words in NO_LOADS), \
-                *(["--unproved", "load", *words] for words in NO_LOADS):
+        for words in WRONG_WORDS:
             with self.subTest(words):
                 self.assertEqual(self.run_it(*words), (1, "", USAGE))
         self.assertEqual(self.calls(), "")
