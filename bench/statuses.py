@@ -1,8 +1,10 @@
 #!/usr/bin/env python3
 """Runs the program on wrong inputs, and compares how each run ends with what is wanted: its status, what it wrote on
 standard error and, where that can be read, on standard output. Prints a line for each case, and ends with status 1
-where one differs. Then come words, of which a part of what is said is wanted. With --model the plain model is run in its
-place, on inputs alone, which is to end in the same ways: its own name stands in front of what it says.
+where one differs. With --model the plain model is run in its place, which is to end in the same ways: its own name
+stands in front of what it says. Of wrong words only the status and the front of what is said are compared: `./walter`
+says how it is used, the program has the text of clap, and the model its own. With --program a part of that text is
+looked for too, and the texts of help and version are asked for.
 """
 
 import argparse
@@ -10,10 +12,14 @@ import os
 import subprocess
 import sys
 from concurrent.futures import ThreadPoolExecutor
+from functools import partial
 
 import readings
 
 TOP = os.path.dirname(os.path.dirname(os.path.abspath(__file__)))
+# What stands in front where words are wrong, said by `./walter` and by the program.
+WRONG_WORDS = ("walter: usage: ", "error: ")
+WORDS = "the words are wrong"
 NO_READING = "the scenario has no reading: "
 SITES = readings.TEXTS["sites"]
 CLOSED = None
@@ -33,6 +39,15 @@ def scenario(sites="1", clients="", more="", f="0", containers="", steps=""):
 RUN = file_of("crates", "walter", "stdin")
 REPORT = file_of("crates", "walter", "stdout")
 
+# What comes of the load of seed 7 with 20 calls.
+SUMMARY = """\
+load seed 7 calls 20
+replies started 6 ended 0 done 6 read 5 committed 1 aborted 0 deciding 1 level 0 unsure 0 refused 1
+site 0 up epoch 1 events 29 records 5 log 2
+site 1 up epoch 1 events 26 records 5 log 1
+site 2 up epoch 1 events 28 records 5 log 1
+"""
+
 # The part that is wrong in a step of two sites and one client, the step, and what is said of it.
 STEPS = [
     ("value", "{}", "its value: wants a list"),
@@ -50,6 +65,12 @@ STEPS = [
 # What is tried, the words, standard input, the file that standard output goes to if it is one, and what is wanted: the
 # status, the line on standard error, and the report.
 CASES = [
+    ("no words", [], RUN, None, 1, WORDS, ""),
+    ("play --fast", ["play", "--fast"], RUN, None, 1, WORDS, ""),
+    ("no calls", ["load", "--seed", "7"], "", None, 1, WORDS, ""),
+    ("no number", ["load", "--seed", "7", "--calls", "many"], "", None, 1, WORDS, ""),
+    ("20,001 calls", ["load", "--seed", "7", "--calls", "20001"], "", None, 1, WORDS, ""),
+    ("a seed of 2^64", ["load", "--seed", "18446744073709551616", "--calls", "5"], "", None, 1, WORDS, ""),
     ("an open bracket", ["play"], "[", None, 2, NO_READING + "the text is no JSON: line 1, column 1", ""),
     ("nine sites", ["play"], scenario(sites="9"), None, 2, NO_READING + SITES, ""),
     ("another key", ["play"], scenario(more=',"speed":1'), None, 2, NO_READING + 'key "speed": a scenario has none', ""),
@@ -73,10 +94,11 @@ CASES = [
     ("a closed standard input", ["play"], CLOSED, None, 3, "the scenario could not be read to its end", ""),
     ("a full standard output", ["play"], RUN, "/dev/full", 4, "the report could not be written to its end", ""),
     ("the stored run", ["play"], RUN, None, 0, "", REPORT),
+    ("a load", ["load", "--calls=20", "--seed", "7"], CLOSED, None, 0, "", SUMMARY),
 ]
 
-# Words, and what is wanted: the status, a part of what is said on standard error, and the begin of what is written.
-WORDS = [
+# Words to the program itself, and what is wanted: the status, a part of what is said, and the front of what is written.
+TEXTS = [
     ("", 1, "requires a subcommand", ""),
     ("run", 1, "'run'", ""),
     ("play --fast", 1, "'--fast'", ""),
@@ -84,7 +106,6 @@ WORDS = [
     ("load --seed 7", 1, "--calls <M>", ""),
     ("load --seed 7 --calls 20001", 1, "'20001'", ""),
     ("load --seed -1 --calls 1", 1, "'-1'", ""),
-    ("load --seed 7 --calls 0", 0, "", "load seed 7 calls 0\n"),
     ("--version", 0, "", "walter "),
     ("--help", 0, "", "Plays scenarios"),
     ("play --help", 0, "", "Plays the scenario"),
@@ -107,11 +128,18 @@ def run(program, words, stdin, sink):
     return ended.returncode, ended.stderr, ended.stdout or ""
 
 
+def program_run(program, *case):
+    """The same of the program, where all that begins as wrong words are told is told in the same way."""
+    status, said, written = run(program, *case)
+    return status, f"walter: {WORDS}\n" if said.startswith(WRONG_WORDS) else said, written
+
+
 def model_run(words, stdin, sink):
-    """The same of the model, in the words of the program: its words are those behind `play`."""
+    """The same of the model, in the words of the program: the word `play` isn't one of its own."""
     model = [sys.executable, os.path.join(TOP, "bench", "model.py")]
-    status, said, written = run(model, words[1:], stdin, sink)
-    return status, said.replace("model: ", "walter: ", 1), written
+    own = words[1:] if words[:1] == ["play"] else words or ["no", "words"]
+    status, said, written = run(model, own, stdin, sink)
+    return status, f"walter: {WORDS}\n" if status == 1 else said.replace("model: ", "walter: ", 1), written
 
 
 def differing(play, at_once=1):
@@ -126,13 +154,13 @@ def differing(play, at_once=1):
     return differ
 
 
-def differing_words(program):
-    """Runs the program on all words, with a line for each. Gives how many differ."""
+def differing_texts(program):
+    """Runs the program with all words, with a line for each. Gives how many differ."""
     differ = 0
-    for words, *wanted in WORDS:
+    for words, *wanted, front in TEXTS:
         status, said, written = run(program, words.split(), "", None)
-        same = (status, written[: len(wanted[2])]) == (wanted[0], wanted[2]) and wanted[1] in said and bool(said) == (status != 0)
-        print(f"{words or 'no words'}: {'the same' if same else f'wanted {wanted}, came {status, said, written}'}")
+        same = status == wanted[0] and wanted[1] in said and bool(said) == (status != 0) and written.startswith(front)
+        print(f"{words or 'no words'}: {'the same' if same else f'wanted {wanted, front}, came {status, said, written}'}")
         differ += not same
     return differ
 
@@ -141,16 +169,16 @@ def main():
     parser = argparse.ArgumentParser(description=__doc__, formatter_class=argparse.RawDescriptionHelpFormatter)
     parser.add_argument(
         "--program",
-        help="without it `./walter`, which proves and builds the program where that isn't done yet, and answers words itself",
+        help="without it `./walter`, which proves and builds the program where that isn't done yet",
     )
     parser.add_argument("--model", action="store_true", help="run the plain model of model.py")
     given = parser.parse_args()
     if given.model:
         sys.exit(differing(model_run, MODELS_AT_ONCE) > 0)
     program = [os.path.abspath(given.program or os.path.join(TOP, "walter"))]
-    # The first case may have to prove the program, so its cases come one after another.
-    differ = differing(lambda *case: run(program, *case))
-    sys.exit(differ + (differing_words(program) if given.program else 0) > 0)
+    # A case may have to prove the program, so its cases come one after another.
+    differ = differing(partial(program_run, program))
+    sys.exit(differ + (differing_texts(program) if given.program else 0) > 0)
 
 
 if __name__ == "__main__":

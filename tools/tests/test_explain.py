@@ -202,6 +202,8 @@ class Explain(unittest.TestCase):
             ("durable_and_visible", "0 <- 2 packet 1 ACK 1: durable mark 1"),
             ("stop_at_the_gate", "restart 0 -> site 0 is up in epoch 2; found Own 0:1"),
             ("two_writers", "bob commit -> aborted: 1:5 was modified by 0:1"),
+            ("pumped_link", "pump 1: tick 1 -> to 0: PREPARE 1 of 1.1.1 for 1:5 as packet 3"),
+            ("pumped_link", "lost by the link: 1 <- 0 packet 1 VOTE 1 YES"),
         ]:
             self.assertIn(line, self.explained(example_run(os.path.join(TOP, "examples", name + ".json"))))
 

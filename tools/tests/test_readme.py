@@ -45,7 +45,8 @@ class Readme(unittest.TestCase):
             os.mkdir(os.path.join(folder, "mine"))
             with open(os.path.join(folder, "mine", "first.script"), "w", encoding="utf-8") as file:
                 file.write(script)
-            self.assertEqual([run(command, folder)[0] for command in kept], [0, 0])
+            self.assertEqual([run("set -o pipefail; " + command, folder)[::2] for command in kept], [(0, "")] * 3)
+            self.assertEqual(run(kept[0], folder)[1].splitlines()[0], "the load of seed 7: 2,000 calls")
             self.assertEqual(run(kept[-1], folder)[1], "mine/first.script: passed\n1 passed, 0 failed\n")
             self.check_first_script(file_text(os.path.join(folder, "mine", "first.expect")))
 
@@ -55,6 +56,13 @@ class Readme(unittest.TestCase):
                      "1 <- 0 packet 1 VOTE 1 YES: committed 1:1", 'ann read 1:5 -> "s"', "bob level 1.1.1 -> level 5: visible",
                      "never delivered: 0 <- 1 packet 1 PREPARE 1 of 1.1.1 for 1:5"]:
             self.assertIn(line, lines.splitlines())
+
+    def test_its_words_are_those_of_the_wrapper(self):
+        known = run("./walter --help", TOP)[1]
+        commands = re.findall(r"\./walter ((?:--unproved )?(?:play|load)[^`\n]*?)(?:`|\n|  )", README)
+        self.assertTrue({"play examples/first_run.json", "--unproved play X", "load --seed 7 --calls 20000"} <= set(commands))
+        for word in set(re.findall(r"--[a-z]+", " ".join(commands))):
+            self.assertIn(word, known)
 
     def test_the_table_of_packets_is_whole(self):
         self.assertEqual([kind.lower() for kind in PACKET_ROW.findall(README)], list(reports.PACKETS))
