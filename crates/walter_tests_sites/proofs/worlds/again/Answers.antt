@@ -1,7 +1,7 @@
-use Rattle.walter_cli.proofs.Wholes.{reading_whole}
+use Rattle.walter_cli.proofs.Wholes.{reading_playable}
 use Rattle.walter_tests_sites.proofs.worlds.again.Goals as goal
 
 pub new-requires-clause-whole : goal.new-requires-clause-whole
 new-requires-clause-whole c =
     let taken = c.in-Ok.ensures.ok in
-    reading_whole c.as_bytes.result.now c.in-Ok.scenario taken
+    (reading_playable c.as_bytes.result.now c.in-Ok.scenario taken).whole
