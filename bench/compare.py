@@ -145,8 +145,7 @@ def compare_load(program, seed, calls):
     """Plays a made scenario in the model and, where one is named, by the program."""
     expected = loads.summary(seed, calls, model.played(loads.made(seed, calls), Counter()))
     if program:
-        words = [program, "load", "--seed", str(seed), "--calls", str(calls)]
-        compare(words, f"load of seed {seed} with {calls} calls", "", expected)
+        compare(loads.load_words([program], seed, calls), f"load of seed {seed} with {calls} calls", "", expected)
 
 
 def write_file(path, text):

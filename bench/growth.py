@@ -28,7 +28,8 @@ from collections import Counter
 from string import ascii_lowercase
 
 from compare import built
-from measured import events_of, load_words, measured, microseconds
+from loads import load_words
+from measured import events_of, measured, microseconds
 from model import WINDOW
 
 CLIENTS = 10

@@ -71,6 +71,11 @@ def made(seed, calls):
     }
 
 
+def load_words(command, seed, calls):
+    """The command that plays the scenario of a seed with so many calls."""
+    return [*command, "load", "--seed", str(seed), "--calls", str(calls)]
+
+
 def summary(seed, calls, run):
     """The summary of the run of that scenario."""
     met = Counter(COUNTED_AS[reply[4]] for replies in run.replies for reply in replies)

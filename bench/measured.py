@@ -1,4 +1,4 @@
-"""Runs of a program with the processor time and the memory that each took, and the loads that are measured by them."""
+"""Runs of a program with the processor time and the memory that each took, and how many events they had."""
 
 import json
 import re
@@ -32,10 +32,6 @@ def measured(words, source=None):
     if status != 0:
         sys.exit(f"{words[0]} ended with status {status}" + "".join(f"\n{line}" for line in said))
     return Measured(ended.stdout, seconds, kilobytes * 1024 / 1_000_000)
-
-
-def load_words(command, seed, calls):
-    return [*command, "load", "--seed", str(seed), "--calls", str(calls)]
 
 
 def events_of(text):

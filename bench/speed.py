@@ -15,7 +15,8 @@ import statistics
 import sys
 
 from compare import built, first_difference
-from measured import events_of, load_words, measured, microseconds
+from loads import load_words
+from measured import events_of, measured, microseconds
 
 RUNS = 7
 
