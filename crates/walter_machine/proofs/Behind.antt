@@ -1,4 +1,5 @@
 -- How a site stands behind a step, behind a fault, and behind what came to nothing.
+use Rattle.std.specs.Global.{Box}
 use Rattle.std.proofs.Common.{◌≡◌, ◌∙◌, ℕ, Bool, true, false, Option, Some, None, refl, sym, ap, subst, if◌then◌else◌}
 use Rattle.std.specs.Prelude.{IfSome, is_some}
 use Rattle.walter_base.specs.declared.catalog.Catalog.{Catalog}
@@ -141,14 +142,14 @@ fall_steps catalog i S event table stop same =
     })
 
 -- a site came up
-pub rise_steps : (catalog : Catalog) (i : SiteId) (site : Option Tables) (S : Standing) (event : Event) (tables : Tables)
-    (epoch : ℕ) → IsRise catalog i site S event tables epoch
-    → Steps catalog i S event (came_of (Rise tables epoch)) (Some tables) None
+pub rise_steps : (catalog : Catalog) (i : SiteId) (site : Option Tables) (S : Standing) (event : Event) (tables : Box Tables)
+    (epoch : ℕ) → IsRise catalog i site S event tables.value epoch
+    → Steps catalog i S event (came_of (Rise tables epoch)) (Some tables.value) None
 rise_steps catalog i site S event tables epoch is =
-    subst (λ (e : Event). Steps catalog i S e (came_of (Rise tables epoch)) (Some tables) None) (sym is.restart) (record {
+    subst (λ (e : Event). Steps catalog i S e (came_of (Rise tables epoch)) (Some tables.value) None) (sym is.restart) (record {
       state = record {
         up = refl;
-        knows = knows_booted catalog i tables S.knows epoch is.next is.stands;
+        knows = knows_booted catalog i tables.value S.knows epoch is.next is.stands;
         settled = refl;
       };
       gone = λ client. refl;

@@ -1,4 +1,5 @@
 -- What is ready where a plan is made, and where the next epoch is.
+use Rattle.std.specs.Global.{Box}
 use Rattle.std.proofs.Common.{◌≡◌, ◌∙◌, ℕ, ◌+◌, Bool, true, false, [], map, Option, Some, None, Result, Ok, Err, refl, sym, ap, subst}
 use Rattle.std.specs.Prelude.{All, IfOk, IfSome, is_some}
 use Rattle.walter_base.specs.declared.catalog.Catalog.{Catalog}
@@ -16,7 +17,7 @@ use Rattle.walter_machine.specs.Comings.{IsSized, is_faulty}
 use Rattle.walter_machine.specs.Debts.{IsDebtOf, gone_first}
 use Rattle.walter_machine.specs.Readiness.{IsReadyFor}
 use Rattle.walter_machine.specs.States.{CanBeNext, IsOf, IsUp}
-use Rattle.walter_machine.specs.Steps.{came_of, outcome_of, record_of, sends_of, expected_by, IsStep, IsPlanOf}
+use Rattle.walter_machine.specs.Steps.{came_of, outcome_of, record_of, sends_of, expected_by, IsStep, IsPlanOf, IsRise}
 use Rattle.walter_machine.proofs.Behind.{plan_stays}
 use Rattle.walter_machine.proofs.Calls.{record_takes}
 use Rattle.walter_machine.proofs.Records.{recordable}
@@ -139,19 +140,20 @@ plan_ready catalog i S old new input owing plan site_is catalog_is same_site sam
     }
 
 -- the next epoch of a site that is down
-pub boot_ready : (tables new : Tables) (S : Standing) (epoch : ℕ) (ready : Ready) → S.up ≡ false
+pub boot_ready : (tables new : Tables) (boxed : Box Tables) (S : Standing) (epoch : ℕ) (ready : Ready) → S.up ≡ false
     → epoch ≡ S.knows.epoch + 1 → site_of new ≡ site_of tables → catalog_of new ≡ catalog_of tables
     → Stands new (recorded (catalog_of tables) (site_of tables) (Some (Boot epoch)) S.knows)
-    → ready.step ≡ Rise new epoch → ready.frames.items ≡ []
+    → boxed.value ≡ new → ready.step ≡ Rise boxed epoch → ready.frames.items ≡ []
     → IsReadyFor (catalog_of tables) (site_of tables) None S Restart ready
-boot_ready tables new S epoch ready down next site catalog stands is framed =
+boot_ready tables new boxed S epoch ready down next site catalog stands same is framed =
     record {
       rule = ap expected_by is ∙ (ap (λ (n : ℕ). record { wrote = Some (Boot n); outcome = Taken; sends = [] }) next
           ∙ sym (ap (λ (up : Bool). restart_rule up S.knows) down));
       next = subst (λ (s : Step). IfSome (record_of s) (CanBeNext (catalog_of tables) (site_of tables) S)) (sym is)
           (record { sizes = tt; follows = next });
       step = subst (λ (s : Step). IsStep (catalog_of tables) (site_of tables) None S Restart s) (sym is)
-          (record { down = refl; restart = refl; next = next; of = (site, catalog); stands = stands });
+          (subst (λ (t : Tables). IsRise (catalog_of tables) (site_of tables) None S Restart t epoch) (sym same)
+          (record { down = refl; restart = refl; next = next; of = (site, catalog); stands = stands }));
       takes = subst (λ (s : Step). IfSome (record_of s) (λ rec. TakesMemory S.up Restart)) (sym is)
           (subst (λ (b : Bool). TakesMemory b Restart) (sym down) tt);
       sized = subst (λ (s : Step). IsSized (catalog_of tables).sites (came_of s)) (sym is)

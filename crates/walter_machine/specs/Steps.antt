@@ -104,7 +104,7 @@ abbrev pub IsStep : Catalog → SiteId → Option Tables → Standing → Event 
 IsStep catalog i site S event (Answer outcome) = IsIdle catalog i S event outcome
 IsStep catalog i site S event (Apply plan) = IsPlan site S event plan
 IsStep catalog i site S event Fall = IsStop site event
-IsStep catalog i site S event (Rise tables epoch) = IsRise catalog i site S event tables epoch
+IsStep catalog i site S event (Rise tables epoch) = IsRise catalog i site S event tables.value epoch
 
 -- some site stood so that the step can follow
 pub record CanStep (site : Option Tables) (event : Event) (step : Step) : Type 0 where

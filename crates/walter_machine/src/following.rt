@@ -45,7 +45,7 @@ pub fn follow(
             (Outcome::Taken, Sends::from(Vec::new(alloc)))
         }
         Step::Rise(tables, _) => {
-            *site = Some(Site::new(tables));
+            *site = Some(Site::new(Box::into_inner(tables)));
             (Outcome::Taken, Sends::from(Vec::new(alloc)))
         }
     }

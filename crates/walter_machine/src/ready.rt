@@ -33,8 +33,9 @@ pub(crate) enum Step {
     Apply(Plan),
     /// The site goes down.
     Fall,
-    /// The site comes up in this epoch, with these tables behind its Boot.
-    Rise(Tables, u32),
+    /// The site comes up in this epoch, with these tables behind its Boot. They are large beside what other steps have,
+    /// and a step is moved for each event: so they lie on the heap.
+    Rise(Box<Tables>, u32),
 }
 
 /// Why the next epoch of a site isn't ready.
@@ -64,6 +65,9 @@ impl Ready {
         };
         // The next epoch fits behind any records.
         let Ok(()) = tables.replay(Record::Boot(epoch)) else {
+            return Err(BootFault::NoMemory);
+        };
+        let Ok(tables) = Box::new(alloc, tables) else {
             return Err(BootFault::NoMemory);
         };
         Ok(Ready {

@@ -1,4 +1,4 @@
-use Rattle.std.proofs.Common.{◌≡◌, true, Option, Some, None, sym, subst}
+use Rattle.std.proofs.Common.{◌≡◌, ◌∙◌, true, Option, Some, None, sym, subst}
 use Rattle.std.specs.Prelude.{is_some}
 use Rattle.walter_rules.specs.Standing.{up_after}
 use Rattle.walter_machine.specs.declared.ready.Step.{Step}
@@ -25,7 +25,7 @@ returns-in-Rise-clause-steps c = λ catalog i S of state is.
     let rise_is = subst (λ (s : Step). IsStep catalog i site S event s) c.in-Rise.is is in
     subst (λ (s : Step). Steps catalog i S event (came_of s) (Some c.new-in-Rise.result) c.args.lost.now) (sym c.in-Rise.is)
     (subst (λ (lost : Option Table). Steps catalog i S event (came_of (Rise c.in-Rise.tables c.in-Rise.field-1)) (Some c.new-in-Rise.result) lost) (sym c.requires.unlost)
-    (subst (λ (t : Tables). Steps catalog i S event (came_of (Rise c.in-Rise.tables c.in-Rise.field-1)) (Some t) None) (sym c.new-in-Rise.ensures)
+    (subst (λ (t : Tables). Steps catalog i S event (came_of (Rise c.in-Rise.tables c.in-Rise.field-1)) (Some t) None) (sym (c.new-in-Rise.ensures ∙ c.into_inner.ensures))
     (rise_steps catalog i site S event c.in-Rise.tables c.in-Rise.field-1 rise_is)))
 
 pub returns-in-Answer-clause-up : goal.returns-in-Answer-clause-up
@@ -52,5 +52,5 @@ returns-in-Rise-clause-up c =
     let event = c.args.event.now in
     let site = c.args.site.now in
     subst (λ (s : Step). true ≡ up_after event (outcome_of s) (is_some site)) (sym c.in-Rise.is)
-    (rise_up can.catalog can.i site can.S event c.in-Rise.tables c.in-Rise.field-1
+    (rise_up can.catalog can.i site can.S event c.in-Rise.tables.value c.in-Rise.field-1
     (subst (λ (s : Step). IsStep can.catalog can.i site can.S event s) c.in-Rise.is can.is))
