@@ -314,6 +314,19 @@ impl SlowCommits {
         }
     }
 
+    /// The transaction of a slow commit that is being decided, and waits for the YES of the site.
+    pub fn waiting(&self, slow: u64, site: SiteId) -> Option<&Tx>
+        ensures { option_copied result ≡ (if waits_for (commit_of self.entry.now slow) site
+            then option_and_then (λ kept. kept.tx) (commit_of self.entry.now slow) else None) }
+    {
+        let standing = self.commits.get(&slow)?;
+        if standing.misses(site) {
+            standing.transaction()
+        } else {
+            None
+        }
+    }
+
     /// Whether the site is owed the RELEASE of the slow commit.
     pub fn owes(&self, slow: u64, site: SiteId) -> bool
         ensures { result ≡ owes (commit_of self.now slow) site }

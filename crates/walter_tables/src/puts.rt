@@ -172,10 +172,7 @@ impl Tables {
         ensures { OnOk result (sends.new.items ≡ sends.old.items
             ++ to_one to (prepare_kept (catalog_of self.now) to slow (commit_of self.now.slow slow))) }
     {
-        if !self.slow.waits(slow, to) {
-            return Ok(());
-        }
-        match self.slow.transaction(slow) {
+        match self.slow.waiting(slow, to) {
             Some(tx) => self.put_prepare(sends, to, slow, tx),
             None => Ok(()),
         }
