@@ -23,6 +23,7 @@ CHOICES = [0, 1, 1, 2, 7, 256, 257]
 SEEDS = [0, 1, 7, 2**32, 2**64 - 1]
 RATES = [0, 0, 0, 20, 100, 100, 300, 500, 999, 1000]
 TICKS = [0, 1, 2, 3, 5, 10, 30]
+THREADS = [1, 2, 8, 32]
 
 
 def frames(bodies):
@@ -93,10 +94,11 @@ def arm(rng, site):
 
 
 def link_of(rng):
-    """The link of a scenario and how many ticks its pumps may make, of which one may be absent."""
+    """The link of a scenario, how many ticks its pumps may make and how many threads it may have: each may be absent."""
     rates = {rate: rng.choice(RATES) for rate in ("lose", "repeat", "swap")}
-    made = {"link": {"seed": rng.choice([*SEEDS, rng.getrandbits(64)]), **rates}, "ticks": rng.choice([*TICKS, 100, 10_000])}
-    for key in "link", "ticks":
+    made = {"link": {"seed": rng.choice([*SEEDS, rng.getrandbits(64)]), **rates}, "ticks": rng.choice([*TICKS, 100, 10_000]),
+            "threads": rng.choice(THREADS)}
+    for key in "link", "ticks", "threads":
         if rng.random() < 0.15:
             del made[key]
     return made

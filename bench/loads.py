@@ -15,7 +15,7 @@ from spelled import *
 SITES, CONTAINERS, CLIENTS, LOCALS, IDS = 3, 6, 6, 4, 8
 MOST_CALLS, MOST_SEED = 20_000, (1 << 64) - 1
 RATES = {"lose": 50, "repeat": 50, "swap": 100}
-TICKS, CAPACITY = 10_000, 16_777_216
+TICKS, THREADS, CAPACITY = 10_000, 8, 16_777_216
 # The calls of a client, in their turn.
 CALLS = ("start", "read", "change", "change", "commit")
 # What the replies are counted as, in the order of the summary; Value, Set and Count are all reads.
@@ -67,6 +67,7 @@ def made(seed, calls):
         "capacity": CAPACITY,
         "link": {"seed": seed, **RATES},
         "ticks": TICKS,
+        "threads": THREADS,
         "steps": steps,
     }
 

@@ -10,15 +10,16 @@ import re
 MOST_BYTES, MOST_DEPTH = 16_777_216, 127
 MOST_SITES, MOST_CONTAINERS, MOST_CLIENTS = 8, 256, 1024
 LEAST_CAPACITY, MOST_CAPACITY = 19, 1_099_511_627_776
-MOST_RATE, MOST_TICKS = 1000, 10_000
+MOST_RATE, MOST_TICKS, MOST_THREADS = 1000, 10_000, 32
 MOST_CALL, MOST_PACKET = 1_000_000, (1 << 32) - 1
-NEEDED, BESIDES = ("sites", "f", "containers", "clients", "steps"), ("capacity", "link", "ticks", "arms")
+NEEDED, BESIDES = ("sites", "f", "containers", "clients", "steps"), ("capacity", "link", "ticks", "threads", "arms")
 RATES = ("lose", "repeat", "swap")
 
 TEXTS = {
     "long": f"the text: wants at most {MOST_BYTES} bytes",
     "json": "the text: wants JSON in UTF-8, an object outermost",
-    "keys": "the keys: wants sites, f, containers, clients and steps, and takes capacity, link, ticks and arms besides",
+    "keys": "the keys: wants sites, f, containers, clients and steps, and takes capacity, link, ticks, threads and arms "
+            "besides",
     "sites": "sites: wants a whole number from 1 to 8",
     "f": "f: wants a whole number below sites",
     "containers": 'container {}: wants [number, "regular" or "cset", site] in a list, numbers below 2^32 that rise, a site '
@@ -29,6 +30,7 @@ TEXTS = {
     "link": "the link: wants an object of just seed, a whole number below 2^64, and lose, repeat and swap, whole numbers "
             "from 0 to 1000",
     "ticks": "the ticks: wants a whole number from 0 to 10000",
+    "threads": "the threads: wants a whole number from 1 to 32",
     "arms": "arm {}: wants [site, nth, choice] in a list, a site below sites, an nth from 1 to 1000000, a choice below 2^64",
 }
 
@@ -337,6 +339,8 @@ def check(value):
         refuse("link")
     if "ticks" in value and not is_whole(value["ticks"], 0, MOST_TICKS + 1):
         refuse("ticks")
+    if "threads" in value and not is_whole(value["threads"], 1, MOST_THREADS + 1):
+        refuse("threads")
     if "arms" in value:
         check_items("arms", value["arms"], lambda _, item: is_arm(item, sites))
     check_steps(value["steps"], sites, len(value["clients"]))

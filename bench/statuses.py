@@ -84,6 +84,7 @@ CASES = [
     ("a link without a seed", ["play"], scenario(more=',"link":{"lose":0,"repeat":0,"swap":0}'), None, 2,
      NO_READING + readings.TEXTS["link"], ""),
     ("10,001 ticks", ["play"], scenario(more=',"ticks":10001'), None, 2, NO_READING + readings.TEXTS["ticks"], ""),
+    ("no thread", ["play"], scenario(more=',"threads":0'), None, 2, NO_READING + readings.TEXTS["threads"], ""),
     ("an arm of no site", ["play"], scenario(more=',"arms":[[1,1,1]]'), None, 2, NO_READING + readings.TEXTS["arms"].format(0),
      ""),
     *((f"a step with a wrong {part}", ["play"], scenario("2", '[0,""]', steps=f'["tick",0],{step}'), None, 2,

@@ -44,7 +44,7 @@ NUMBERS = {
 }
 STEPS = ("arm", "stop", "restart", "deliver", "advance", "tick", "pump")
 LINK = ("seed", "lose", "repeat", "swap")
-MOST_RATE, MOST_TICKS = 1000, 10_000
+MOST_RATE, MOST_TICKS, MOST_THREADS = 1000, 10_000, 32
 MOST_SITES, MOST_CONTAINERS, MOST_CLIENTS, MOST_PACKET = 8, 256, 1024, (1 << 32) - 1
 LEAST_CAPACITY, MOST_CAPACITY, MOST_BYTES = 19, 1 << 40, 16_777_216
 # No step, container, client or arm takes as much in a scenario, but for a client's bytes, and all else together less than four
@@ -230,7 +230,7 @@ class Script:
 
     def __init__(self):
         self.place = 0
-        self.sites = self.tolerated = self.capacity = self.link = self.ticks = None
+        self.sites = self.tolerated = self.capacity = self.link = self.ticks = self.threads = None
         self.containers, self.arms, self.armed_at = [], [], []
         self.clients, self.numbers, self.items = [], {}, []
         self.steps, self.places = [], []
@@ -278,6 +278,9 @@ class Script:
 
     def take_ticks(self, count):
         self.ticks = number(count, 0, MOST_TICKS + 1, f"a number of ticks to {MOST_TICKS}")
+
+    def take_threads(self, count):
+        self.threads = number(count, 1, MOST_THREADS + 1, f"a number of threads from 1 to {MOST_THREADS}")
 
     def take_container(self, which, kind, site):
         least = self.containers[-1][0] + 1 if self.containers else 0
@@ -413,7 +416,7 @@ class Script:
     def head(self):
         """What a scenario has beside its clients and its steps."""
         made = {"sites": self.sites, "f": self.tolerated, "containers": self.containers}
-        for key in "capacity", "link", "ticks":
+        for key in "capacity", "link", "ticks", "threads":
             if getattr(self, key) is not None:
                 made[key] = getattr(self, key)
         if self.arms:
@@ -451,6 +454,7 @@ FORMS = {
     "capacity N": Script.take_capacity,
     "link seed N lose N repeat N swap N": Script.take_link,
     "ticks N": Script.take_ticks,
+    "threads N": Script.take_threads,
     "container N regular|set at SITE": Script.take_container,
     "client NAME at SITE": Script.take_client,
     "armed SITE call N choice N": Script.take_armed,
@@ -599,8 +603,9 @@ def catalog_lines(made):
         lines.append(f"capacity {made['capacity']}")
     if "link" in made:
         lines.append(words_of_step("link", *(made["link"][part] for part in LINK)))
-    if "ticks" in made:
-        lines.append(f"ticks {made['ticks']}")
+    for key in "ticks", "threads":
+        if key in made:
+            lines.append(f"{key} {made[key]}")
     for which, kind, site in made["containers"]:
         lines.append(f"container {which} {'set' if kind == 'cset' else kind} at {site}")
     return lines

@@ -48,6 +48,7 @@ WRONG = [
     ("link seed 0 lose 0 swap 0", '"swap": wants repeat', LINK_FORM),
     ("link", 'behind "link": wants seed', LINK_FORM),
     ("ticks 10001", '"10001": wants a number of ticks to 10000', "ticks N"),
+    ("threads 33", '"33": wants a number of threads from 1 to 32', "threads N"),
     ("pump 2", '"2": wants a site below 2', PUMP_FORM),
     ("pump", 'behind "pump": wants SITE', PUMP_FORM),
     ("pump 0 1", '"1": wants nothing there', PUMP_FORM),
@@ -132,6 +133,7 @@ class Scripts(unittest.TestCase):
         made = scripts.read(PUMPED)
         self.assertEqual(made["link"], {"seed": 3, "lose": 300, "repeat": 200, "swap": 300})
         self.assertEqual((made["ticks"], made["steps"][3], len(made["steps"])), (2, ["pump", 0], 16))
+        self.assertNotIn("threads", made)
         back = scripts.write(made)
         self.assertIn("\nlink seed 3 lose 300 repeat 200 swap 300\nticks 2\ncontainer 1", back)
         self.assertEqual(scripts.read(back), made)

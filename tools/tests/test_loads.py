@@ -70,7 +70,8 @@ class Loads(unittest.TestCase):
 
     def test_the_scenario_is_what_it_is_to_be(self):
         made = loads.made(5, 200)
-        self.assertEqual((made["sites"], made["f"], made["ticks"], made["capacity"]), (3, 1, 10_000, 16_777_216))
+        self.assertEqual((made["sites"], made["f"], made["capacity"]), (3, 1, 16_777_216))
+        self.assertEqual((made["ticks"], made["threads"]), (10_000, 8))
         self.assertEqual(made["link"], {"seed": 5, "lose": 50, "repeat": 50, "swap": 100})
         self.assertEqual(made["containers"], [[1, "regular", 0], [2, "cset", 1], [3, "regular", 2], [4, "cset", 0],
                                               [5, "regular", 1], [6, "cset", 2]])

@@ -53,6 +53,8 @@ PLACES = [
     ("link", {**LINK, "seed": 2**64}, "link"), ("link", {**LINK, "swap": 1001}, "link"), ("link", {**LINK, "repeat": -1}, "link"),
     ("link", {**LINK, "ticks": 1}, "link"), ("link", {"seed": 1, "lose": 1, "repeat": 1}, "link"), ("link", None, "link"),
     ("ticks", 0, None), ("ticks", 10000, None), ("ticks", 10001, "ticks"), ("ticks", None, "ticks"),
+    ("threads", 1, None), ("threads", 32, None), ("threads", 0, "threads"), ("threads", 33, "threads"),
+    ("threads", 8.0, "threads"), ("threads", None, "threads"),
     ("arms", 5, "arms", 0), ("arms", [], None), ("arms", [[0, 0, 0]], "arms", 0), ("arms", [[0, 1000001, 0]], "arms", 0),
     ("arms", [[0, 1000000, 2**64 - 1]], None), ("arms", [[0, 1, 1], [0, 1, 2**64]], "arms", 1),
     ("steps", [["deliver", 0, 1, 4294967295], ["arm", 1, 1000000, 2**64 - 1]], None),

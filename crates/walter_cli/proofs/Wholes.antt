@@ -29,7 +29,7 @@ by_key Gives Holds none some (Some v) gives = some v gives
 
 pub reading_playable : (bytes : List ℕ) (s : Scenario) → IsReading bytes s → IsPlayable s
 reading_playable bytes s reading =
-    let capacity = reading.has_arms.has_ticks.has_link.has_capacity in
+    let capacity = reading.has_arms.has_threads.has_ticks.has_link.has_capacity in
     let containers = capacity.has_clients.has_containers in
     let tolerated = containers.has_tolerated in
     record {

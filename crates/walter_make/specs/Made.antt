@@ -63,6 +63,7 @@ made number calls = record {
   capacity = 16777216;
   link = made_link number;
   ticks = 10000;
+  threads = 8;
   arms = [];
   steps = steps_of (made_calls number calls);
 }

@@ -8,7 +8,9 @@ use crate::clients::{SITES, clients_of};
 use std::alloc::Global;
 use walter_base::{Catalog, Kind, Mem, NoMemory, SiteId};
 use walter_link::{Link, Rates};
-use walter_scenario::{Arms, COMMON_CAPACITY, Clients, MOST_TICKS, Scenario, Steps};
+use walter_scenario::{
+    Arms, COMMON_CAPACITY, COMMON_THREADS, Clients, MOST_TICKS, Scenario, Steps,
+};
 
 /// The scenario that is made from a number, with so many calls.
 pub fn make(alloc: Global, number: u64, calls: u32) -> Mem<Scenario>
@@ -41,6 +43,7 @@ pub fn make(alloc: Global, number: u64, calls: u32) -> Mem<Scenario>
             },
         },
         ticks: MOST_TICKS,
+        threads: COMMON_THREADS,
         arms: Arms::from(Vec::new(alloc)),
         steps: Steps::from(steps),
     })

@@ -7,7 +7,7 @@ use Rattle.walter_base.specs.Vectors.{most_sites}
 use Rattle.walter_link.specs.declared.chooser.Link.{Link}
 use Rattle.walter_scenario.specs.declared.members.Parts.{Parts}
 use Rattle.walter_scenario.specs.declared.place.Detail.TheVariants.{None as no_detail}
-use Rattle.walter_scenario.specs.declared.place.Place.TheVariants.{Link as AtLink, Ticks}
+use Rattle.walter_scenario.specs.declared.place.Place.TheVariants.{Link as AtLink, Ticks, Threads}
 use Rattle.walter_scenario.specs.declared.place.ReadFault.{ReadFault}
 use Rattle.walter_scenario.specs.declared.place.ReadFault.TheVariants.{Refused, NoMemory}
 use Rattle.walter_scenario.specs.declared.scenario.Arm.{Arm}
@@ -16,7 +16,7 @@ use Rattle.walter_scenario.specs.Faults.{IsGivenArmsFault, IsStepsFault}
 use Rattle.walter_scenario.specs.Fronts.{IsCatalog, ListsClients}
 use Rattle.walter_scenario.specs.Members.{data_in, AreParts, IsFaultOf}
 use Rattle.walter_scenario.specs.Parts.{whole}
-use Rattle.walter_scenario.specs.Scenarios.{GivesCapacity, GivesLink, GivesTicks, GivesArms, HasKeys, HasSites, HasTolerated, HasContainers, HasClients, HasCapacity, HasLink, HasTicks, HasArms, IsRefusedAt}
+use Rattle.walter_scenario.specs.Scenarios.{GivesCapacity, GivesLink, GivesTicks, GivesThreads, GivesArms, HasKeys, HasSites, HasTolerated, HasContainers, HasClients, HasCapacity, HasLink, HasTicks, HasThreads, HasArms, IsRefusedAt}
 
 -- so many sites, of which so many may be lost
 pub record HasNumbers (parts : Parts) (sites tolerated : ℕ) : Type 0 where
@@ -50,10 +50,16 @@ pub record HasReadTicks (parts : Parts) (sites tolerated : ℕ) (catalog : Catal
   pub before : HasReadLink parts sites tolerated catalog clients capacity link
   pub gives_ticks : GivesTicks (data_in parts.ticks) ticks
 
+-- and how many threads
+pub record HasReadThreads (parts : Parts) (sites tolerated : ℕ) (catalog : Catalog) (clients : List Client)
+    (capacity : ℕ) (link : Link) (ticks threads : ℕ) : Type 0 where
+  pub before : HasReadTicks parts sites tolerated catalog clients capacity link ticks
+  pub gives_threads : GivesThreads (data_in parts.threads) threads
+
 -- and the arms
 pub record HasReadArms (parts : Parts) (sites tolerated : ℕ) (catalog : Catalog) (clients : List Client) (capacity : ℕ)
-    (link : Link) (ticks : ℕ) (arms : List Arm) : Type 0 where
-  pub before : HasReadTicks parts sites tolerated catalog clients capacity link ticks
+    (link : Link) (ticks threads : ℕ) (arms : List Arm) : Type 0 where
+  pub before : HasReadThreads parts sites tolerated catalog clients capacity link ticks threads
   pub gives_arms : GivesArms sites (data_in parts.arms) arms
 
 -- what was read as far as the capacity, fact by fact
@@ -141,14 +147,26 @@ has_ticks parts sites tolerated catalog clients capacity link ticks bytes ms all
   given = subst (λ g. GivesTicks g ticks) (sym are.ticks) all.gives_ticks;
 }
 
-has_arms : (parts : Parts) (sites tolerated : ℕ) (catalog : Catalog) (clients : List Client) (capacity : ℕ)
-    (link : Link) (ticks : ℕ) (arms : List Arm) (bytes : List ℕ) (ms : Members)
-    → (all : HasReadArms parts sites tolerated catalog clients capacity link ticks arms) → HasKeys bytes ms
+has_threads : (parts : Parts) (sites tolerated : ℕ) (catalog : Catalog) (clients : List Client) (capacity : ℕ)
+    (link : Link) (ticks threads : ℕ) (bytes : List ℕ) (ms : Members)
+    → (all : HasReadThreads parts sites tolerated catalog clients capacity link ticks threads) → HasKeys bytes ms
     → AreParts ms parts
-    → HasArms bytes ms sites tolerated all.before.before.before.read.containers.declared clients capacity link ticks
-    arms
-has_arms parts sites tolerated catalog clients capacity link ticks arms bytes ms all keys are = record {
+    → HasThreads bytes ms sites tolerated all.before.before.before.read.containers.declared clients capacity link ticks
+    threads
+has_threads parts sites tolerated catalog clients capacity link ticks threads bytes ms all keys are = record {
   has_ticks = has_ticks parts sites tolerated catalog clients capacity link ticks bytes ms all.before keys are;
+  given = subst (λ g. GivesThreads g threads) (sym are.threads) all.gives_threads;
+}
+
+has_arms : (parts : Parts) (sites tolerated : ℕ) (catalog : Catalog) (clients : List Client) (capacity : ℕ)
+    (link : Link) (ticks threads : ℕ) (arms : List Arm) (bytes : List ℕ) (ms : Members)
+    → (all : HasReadArms parts sites tolerated catalog clients capacity link ticks threads arms) → HasKeys bytes ms
+    → AreParts ms parts
+    → HasArms bytes ms sites tolerated all.before.before.before.before.read.containers.declared clients capacity link
+    ticks threads arms
+has_arms parts sites tolerated catalog clients capacity link ticks threads arms bytes ms all keys are = record {
+  has_threads =
+      has_threads parts sites tolerated catalog clients capacity link ticks threads bytes ms all.before keys are;
   given = subst (λ g. GivesArms sites g arms) (sym are.arms) all.gives_arms;
 }
 
@@ -183,50 +201,71 @@ ticks_fault parts sites tolerated catalog clients capacity link before none byte
   λ ticks gives. none ticks (subst (λ g. GivesTicks g ticks) are.ticks gives),
 )
 
+-- no number of threads is given
+pub threads_fault : (parts : Parts) (sites tolerated : ℕ) (catalog : Catalog) (clients : List Client) (capacity : ℕ)
+    (link : Link) (ticks : ℕ) → HasReadTicks parts sites tolerated catalog clients capacity link ticks
+    → ((threads : ℕ) → ¬ GivesThreads (data_in parts.threads) threads) → IsFaultOf parts (Refused Threads no_detail)
+threads_fault parts sites tolerated catalog clients capacity link ticks before none bytes ms keys are = (
+  ms,
+  sites,
+  tolerated,
+  before.before.before.read.containers.declared,
+  clients,
+  capacity,
+  link,
+  ticks,
+  has_ticks parts sites tolerated catalog clients capacity link ticks bytes ms before keys are,
+  λ threads gives. none threads (subst (λ g. GivesThreads g threads) are.threads gives),
+)
+
 -- a fault of the arms
 pub arms_fault : (parts : Parts) (sites tolerated : ℕ) (catalog : Catalog) (clients : List Client) (capacity : ℕ)
-    (link : Link) (ticks : ℕ) (fault : ReadFault)
-    → HasReadTicks parts sites tolerated catalog clients capacity link ticks
+    (link : Link) (ticks threads : ℕ) (fault : ReadFault)
+    → HasReadThreads parts sites tolerated catalog clients capacity link ticks threads
     → IsGivenArmsFault sites (data_in parts.arms) fault
     → IsFaultOf parts fault
-arms_fault parts sites tolerated catalog clients capacity link ticks NoMemory before wrong bytes ms keys are = tt
-arms_fault parts sites tolerated catalog clients capacity link ticks (Refused place detail) before wrong bytes ms keys
-    are =
+arms_fault parts sites tolerated catalog clients capacity link ticks threads NoMemory before wrong bytes ms keys are =
+    tt
+arms_fault parts sites tolerated catalog clients capacity link ticks threads (Refused place detail) before wrong bytes
+    ms keys are =
     subst (IsRefusedAt bytes) (sym wrong.2.named) (
       ms,
       sites,
       tolerated,
-      before.before.before.read.containers.declared,
+      before.before.before.before.read.containers.declared,
       clients,
       capacity,
       link,
       ticks,
+      threads,
       wrong.0,
-      has_ticks parts sites tolerated catalog clients capacity link ticks bytes ms before keys are,
+      has_threads parts sites tolerated catalog clients capacity link ticks threads bytes ms before keys are,
       are.arms ∙ wrong.1,
       wrong.2.wrong,
     )
 
 -- a fault of the steps
 pub steps_fault : (parts : Parts) (sites tolerated : ℕ) (catalog : Catalog) (clients : List Client) (capacity : ℕ)
-    (link : Link) (ticks : ℕ) (arms : List Arm) (fault : ReadFault)
-    → HasReadArms parts sites tolerated catalog clients capacity link ticks arms
+    (link : Link) (ticks threads : ℕ) (arms : List Arm) (fault : ReadFault)
+    → HasReadArms parts sites tolerated catalog clients capacity link ticks threads arms
     → IsStepsFault sites (length clients) (view parts.steps.now) fault → IsFaultOf parts fault
-steps_fault parts sites tolerated catalog clients capacity link ticks arms NoMemory all wrong bytes ms keys are = tt
-steps_fault parts sites tolerated catalog clients capacity link ticks arms (Refused place detail) all wrong bytes ms
-    keys are =
+steps_fault parts sites tolerated catalog clients capacity link ticks threads arms NoMemory all wrong bytes ms keys are =
+    tt
+steps_fault parts sites tolerated catalog clients capacity link ticks threads arms (Refused place detail) all wrong
+    bytes ms keys are =
     subst (IsRefusedAt bytes) (sym wrong.named) (
       ms,
       sites,
       tolerated,
-      all.before.before.before.read.containers.declared,
+      all.before.before.before.before.read.containers.declared,
       clients,
       capacity,
       link,
       ticks,
+      threads,
       arms,
       view parts.steps.now,
-      has_arms parts sites tolerated catalog clients capacity link ticks arms bytes ms all keys are,
+      has_arms parts sites tolerated catalog clients capacity link ticks threads arms bytes ms all keys are,
       are.steps,
       wrong.wrong,
     )

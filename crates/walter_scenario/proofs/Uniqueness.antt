@@ -9,7 +9,7 @@ use Rattle.walter_scenario.specs.declared.scenario.Arm.{Arm}
 use Rattle.walter_scenario.specs.declared.scenario.Client.{Client}
 use Rattle.walter_scenario.specs.declared.scenario.Scenario.{Scenario}
 use Rattle.walter_scenario.specs.Parts.{whole, list, HasMember, SpellClients, SpellLink, AreArms, AreSteps}
-use Rattle.walter_scenario.specs.Scenarios.{IsJsonObject, GivesCapacity, GivesLink, GivesTicks, GivesArms, HasSites, HasTolerated, HasContainers, HasClients, HasCapacity, HasLink, HasTicks, HasArms, IsReading}
+use Rattle.walter_scenario.specs.Scenarios.{IsJsonObject, GivesCapacity, GivesLink, GivesTicks, GivesThreads, GivesArms, HasSites, HasTolerated, HasContainers, HasClients, HasCapacity, HasLink, HasTicks, HasThreads, HasArms, IsReading}
 use Rattle.walter_scenario.proofs.Declared.{same_declared}
 use Rattle.walter_scenario.proofs.Scripts.{same_arms, same_steps}
 use Rattle.walter_scenario.proofs.Sent.{same_clients}
@@ -79,11 +79,17 @@ pub ticks_object : (bytes : List ℕ) (m : Members) (s f : ℕ) (ds : List Item)
     (link : Link) (ticks : ℕ) → HasTicks bytes m s f ds cs capacity link ticks → IsJsonObject bytes m
 ticks_object bytes m s f ds cs capacity link ticks has = link_object bytes m s f ds cs capacity link has.has_link
 
-pub arms_object : (bytes : List ℕ) (m : Members) (s f : ℕ) (ds : List Item) (cs : List Client) (capacity : ℕ)
-    (link : Link) (ticks : ℕ) (arms : List Arm) → HasArms bytes m s f ds cs capacity link ticks arms
+pub threads_object : (bytes : List ℕ) (m : Members) (s f : ℕ) (ds : List Item) (cs : List Client) (capacity : ℕ)
+    (link : Link) (ticks threads : ℕ) → HasThreads bytes m s f ds cs capacity link ticks threads
     → IsJsonObject bytes m
-arms_object bytes m s f ds cs capacity link ticks arms has =
+threads_object bytes m s f ds cs capacity link ticks threads has =
     ticks_object bytes m s f ds cs capacity link ticks has.has_ticks
+
+pub arms_object : (bytes : List ℕ) (m : Members) (s f : ℕ) (ds : List Item) (cs : List Client) (capacity : ℕ)
+    (link : Link) (ticks threads : ℕ) (arms : List Arm) → HasArms bytes m s f ds cs capacity link ticks threads arms
+    → IsJsonObject bytes m
+arms_object bytes m s f ds cs capacity link ticks threads arms has =
+    threads_object bytes m s f ds cs capacity link ticks threads has.has_threads
 
 pub one_capacity : (given : Option Data) (m n : ℕ) → GivesCapacity given m → GivesCapacity given n → m ≡ n
 one_capacity None m n a b = a ∙ sym b
@@ -113,6 +119,10 @@ pub one_of_ticks : (given : Option Data) (m n : ℕ) → GivesTicks given m → 
 one_of_ticks None m n a b = a ∙ sym b
 one_of_ticks (Some value) m n a b = let e : whole m ≡ whole n = sym a.0 ∙ b.0 in cc
 
+pub one_of_threads : (given : Option Data) (m n : ℕ) → GivesThreads given m → GivesThreads given n → m ≡ n
+one_of_threads None m n a b = a ∙ sym b
+one_of_threads (Some value) m n a b = let e : whole m ≡ whole n = sym a.0 ∙ b.0 in cc
+
 pub one_of_arms : (sites : ℕ) (given : Option Data) (xs ys : List Arm) → GivesArms sites given xs
     → GivesArms sites given ys → xs ≡ ys
 one_of_arms sites None xs ys a b = a ∙ sym b
@@ -121,8 +131,10 @@ one_of_arms sites (Some value) xs ys a b =
 
 pub one_scenario : (bytes : List ℕ) (s t : Scenario) → IsReading bytes s → IsReading bytes t → s ≡ t
 one_scenario bytes s t a b =
-    let ticks_s = a.has_arms.has_ticks in
-    let ticks_t = b.has_arms.has_ticks in
+    let threads_s = a.has_arms.has_threads in
+    let threads_t = b.has_arms.has_threads in
+    let ticks_s = threads_s.has_ticks in
+    let ticks_t = threads_t.has_ticks in
     let in_s = ticks_s.has_link.has_capacity in
     let in_t = ticks_t.has_link.has_capacity in
     let of_s = in_s.has_clients.has_containers.has_tolerated in
@@ -152,6 +164,9 @@ one_scenario bytes s t a b =
     let ticks =
     one_of_ticks (get_member (codes "ticks") b.members) s.ticks t.ticks
     (subst (λ ms. GivesTicks (get_member (codes "ticks") ms) s.ticks) same ticks_s.given) ticks_t.given in
+    let threads =
+    one_of_threads (get_member (codes "threads") b.members) s.threads t.threads
+    (subst (λ ms. GivesThreads (get_member (codes "threads") ms) s.threads) same threads_s.given) threads_t.given in
     let given = subst (λ ms. GivesArms m (get_member (codes "arms") ms) s.arms) same a.has_arms.given in
     let arms =
     one_of_arms n (get_member (codes "arms") b.members) s.arms t.arms
@@ -168,6 +183,7 @@ one_scenario bytes s t a b =
       capacity = capacity i;
       link = link i;
       ticks = ticks i;
+      threads = threads i;
       arms = arms i;
       steps = steps i;
     }

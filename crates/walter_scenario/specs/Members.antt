@@ -24,6 +24,7 @@ pub record AreParts (members : Members) (parts : Parts) : Type 0 where
   pub capacity : get_member (codes "capacity") members ≡ data_in parts.capacity
   pub link : get_member (codes "link") members ≡ data_in parts.link
   pub ticks : get_member (codes "ticks") members ≡ data_in parts.ticks
+  pub threads : get_member (codes "threads") members ≡ data_in parts.threads
   pub arms : get_member (codes "arms") members ≡ data_in parts.arms
   pub steps : HasMember members (codes "steps") (view parts.steps.now)
 

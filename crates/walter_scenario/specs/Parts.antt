@@ -88,6 +88,10 @@ pub record SpellLink (members : Members) (link : Link) : Type 0 where
 abbrev pub IsTicks : ℕ → Type 0
 IsTicks n = n ≤ 10000
 
+-- how many client threads a threaded run may have
+abbrev pub IsThreads : ℕ → Type 0
+IsThreads n = (1 ≤ n) × (n ≤ 32)
+
 -- an arm: its site, the number of the call, and the choice
 abbrev pub arm_items : Arm → List Data
 arm_items arm = whole arm.site.0 ∷ whole arm.nth ∷ whole arm.choice ∷ []

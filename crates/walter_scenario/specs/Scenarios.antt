@@ -1,5 +1,5 @@
 -- The scenario that bytes spell, and the place of what is wrong with them: JSON as serde_json reads it, whose outermost
--- value is an object with nine keys, of which four may be absent (docs/FORMATS.md, "Scenarios").
+-- value is an object with ten keys, of which five may be absent (docs/FORMATS.md, "Scenarios").
 use Rattle.std.specs.Prelude.{◌≡◌, ◌⊎◌, ◌≤◌, ◌<◌, ℕ, List, [], length, codes, Option, Some, None, IsSome, IsUtf8}
 use Rattle.serde_json.specs.Data.{Data, Members, no_members, member, object}
 use Rattle.serde_json.specs.Find.{get_member}
@@ -8,14 +8,14 @@ use Rattle.walter_base.specs.Catalogs.{Item, containers_of}
 use Rattle.walter_base.specs.Vectors.{most_sites}
 use Rattle.walter_link.specs.declared.chooser.Link.{Link}
 use Rattle.walter_scenario.specs.declared.place.Place.{Place}
-use Rattle.walter_scenario.specs.declared.place.Place.TheVariants.{TooLong, Json, Key, Sites, F, Containers, Clients, Capacity, Link as AtLink, Ticks, Arms, Steps}
+use Rattle.walter_scenario.specs.declared.place.Place.TheVariants.{TooLong, Json, Key, Sites, F, Containers, Clients, Capacity, Link as AtLink, Ticks, Threads, Arms, Steps}
 use Rattle.walter_scenario.specs.declared.place.ReadFault.{ReadFault}
 use Rattle.walter_scenario.specs.declared.place.ReadFault.TheVariants.{Refused, NoMemory}
 use Rattle.walter_scenario.specs.declared.scenario.Arm.{Arm}
 use Rattle.walter_scenario.specs.declared.scenario.Client.{Client}
 use Rattle.walter_scenario.specs.declared.scenario.Scenario.{Scenario}
 use Rattle.walter_scenario.specs.declared.scenario.Step.{Step}
-use Rattle.walter_scenario.specs.Parts.{whole, list, HasMember, AreContainers, AreClients, IsCapacity, SpellLink, IsTicks, AreArms, AreSteps, IsWrongAt}
+use Rattle.walter_scenario.specs.Parts.{whole, list, HasMember, AreContainers, AreClients, IsCapacity, SpellLink, IsTicks, IsThreads, AreArms, AreSteps, IsWrongAt}
 
 -- the keys that a scenario needs
 abbrev pub IsNeeded : List ℕ → Type 0
@@ -23,10 +23,11 @@ IsNeeded key =
     (key ≡ codes "sites") ⊎ (key ≡ codes "f") ⊎ (key ≡ codes "containers") ⊎ (key ≡ codes "clients")
     ⊎ (key ≡ codes "steps")
 
--- those, and four that may be absent
+-- those, and five that may be absent
 abbrev pub IsKey : List ℕ → Type 0
 IsKey key =
-    IsNeeded key ⊎ (key ≡ codes "capacity") ⊎ (key ≡ codes "link") ⊎ (key ≡ codes "ticks") ⊎ (key ≡ codes "arms")
+    IsNeeded key ⊎ (key ≡ codes "capacity") ⊎ (key ≡ codes "link") ⊎ (key ≡ codes "ticks") ⊎ (key ≡ codes "threads")
+    ⊎ (key ≡ codes "arms")
 
 -- no other key is there
 abbrev pub AreKnown : Members → Type 0
@@ -53,6 +54,11 @@ GivesLink (Some value) link = (members : Members) × (value ≡ object members) 
 abbrev pub GivesTicks : Option Data → ℕ → Type 0
 GivesTicks None ticks = ticks ≡ 100
 GivesTicks (Some value) ticks = (value ≡ whole ticks) × IsTicks ticks
+
+-- how many threads the value of their key gives, or the common number where the key is absent
+abbrev pub GivesThreads : Option Data → ℕ → Type 0
+GivesThreads None threads = threads ≡ 8
+GivesThreads (Some value) threads = (value ≡ whole threads) × IsThreads threads
 
 -- the arms that the value of their key gives, of so many sites; none where the key is absent
 abbrev pub GivesArms : ℕ → Option Data → List Arm → Type 0
@@ -121,11 +127,17 @@ pub record HasTicks (bytes : List ℕ) (members : Members) (sites tolerated : �
   pub has_link : HasLink bytes members sites tolerated declared clients capacity link
   pub given : GivesTicks (get_member (codes "ticks") members) ticks
 
+-- and so many threads
+pub record HasThreads (bytes : List ℕ) (members : Members) (sites tolerated : ℕ)
+    (declared : List Item) (clients : List Client) (capacity : ℕ) (link : Link) (ticks threads : ℕ) : Type 0 where
+  pub has_ticks : HasTicks bytes members sites tolerated declared clients capacity link ticks
+  pub given : GivesThreads (get_member (codes "threads") members) threads
+
 -- and these arms
 pub record HasArms (bytes : List ℕ) (members : Members) (sites tolerated : ℕ)
-    (declared : List Item) (clients : List Client) (capacity : ℕ) (link : Link) (ticks : ℕ)
+    (declared : List Item) (clients : List Client) (capacity : ℕ) (link : Link) (ticks threads : ℕ)
     (arms : List Arm) : Type 0 where
-  pub has_ticks : HasTicks bytes members sites tolerated declared clients capacity link ticks
+  pub has_threads : HasThreads bytes members sites tolerated declared clients capacity link ticks threads
   pub given : GivesArms sites (get_member (codes "arms") members) arms
 
 -- the scenario is what the bytes spell
@@ -133,7 +145,7 @@ pub record IsReading (bytes : List ℕ) (s : Scenario) : Type 0 where
   pub members : Members
   pub declared : List Item
   pub has_arms : HasArms bytes members s.catalog.sites s.catalog.tolerated declared s.clients s.capacity s.link s.ticks
-      s.arms
+      s.threads s.arms
   pub containers : s.catalog.containers ≡ containers_of declared
   pub values : List Data
   pub spelled : HasMember members (codes "steps") (list values)
@@ -170,16 +182,21 @@ IsRefusedAt bytes Ticks =
     (members : Members) × (sites : ℕ) × (tolerated : ℕ) × (declared : List Item) × (clients : List Client)
     × (capacity : ℕ) × (link : Link) × HasLink bytes members sites tolerated declared clients capacity link
     × ((ticks : ℕ) → ¬ GivesTicks (get_member (codes "ticks") members) ticks)
+IsRefusedAt bytes Threads =
+    (members : Members) × (sites : ℕ) × (tolerated : ℕ) × (declared : List Item) × (clients : List Client)
+    × (capacity : ℕ) × (link : Link) × (ticks : ℕ)
+    × HasTicks bytes members sites tolerated declared clients capacity link ticks
+    × ((threads : ℕ) → ¬ GivesThreads (get_member (codes "threads") members) threads)
 IsRefusedAt bytes (Arms place) =
     (members : Members) × (sites : ℕ) × (tolerated : ℕ) × (declared : List Item) × (clients : List Client)
-    × (capacity : ℕ) × (link : Link) × (ticks : ℕ) × (value : Data)
-    × HasTicks bytes members sites tolerated declared clients capacity link ticks
+    × (capacity : ℕ) × (link : Link) × (ticks : ℕ) × (threads : ℕ) × (value : Data)
+    × HasThreads bytes members sites tolerated declared clients capacity link ticks threads
     × HasMember members (codes "arms") value
     × IsWrongAt (λ values. (arms : List Arm) × AreArms sites values arms) value place
 IsRefusedAt bytes (Steps place) =
     (members : Members) × (sites : ℕ) × (tolerated : ℕ) × (declared : List Item) × (clients : List Client)
-    × (capacity : ℕ) × (link : Link) × (ticks : ℕ) × (arms : List Arm) × (value : Data)
-    × HasArms bytes members sites tolerated declared clients capacity link ticks arms
+    × (capacity : ℕ) × (link : Link) × (ticks : ℕ) × (threads : ℕ) × (arms : List Arm) × (value : Data)
+    × HasArms bytes members sites tolerated declared clients capacity link ticks threads arms
     × HasMember members (codes "steps") value
     × IsWrongAt (λ values. (steps : List Step) × AreSteps sites (length clients) values steps) value place
 

@@ -18,6 +18,7 @@ mod scenario;
 mod step_fault;
 mod steps;
 mod text;
+mod threads;
 mod ticks;
 mod values;
 
@@ -26,7 +27,8 @@ pub use lists::{Arms, Clients, Steps};
 pub use place::{Detail, Place, ReadFault, Refusal};
 pub use reading::read;
 pub use scenario::{
-    Arm, COMMON_CAPACITY, COMMON_TICKS, Client, GREATEST_CAPACITY, GREATEST_RATE, LAST_ARMED,
-    LEAST_CAPACITY, LONGEST_TEXT, MOST_CLIENTS, MOST_TICKS, Scenario, Step,
+    Arm, COMMON_CAPACITY, COMMON_THREADS, COMMON_TICKS, Client, GREATEST_CAPACITY, GREATEST_RATE,
+    LAST_ARMED, LEAST_CAPACITY, LEAST_THREADS, LONGEST_TEXT, MOST_CLIENTS, MOST_THREADS,
+    MOST_TICKS, Scenario, Step,
 };
 pub use step_fault::{StepFault, StepForm};

@@ -8,7 +8,7 @@ use crate::place::Detail;
 use serde_json::{Map, Value};
 use std::alloc::Global;
 
-/// The values of the keys. Four keys may be absent.
+/// The values of the keys. Five keys may be absent.
 #[derive(Clone, Copy)]
 pub struct Parts<'a> {
     pub sites: &'a Value,
@@ -18,6 +18,7 @@ pub struct Parts<'a> {
     pub capacity: Option<&'a Value>,
     pub link: Option<&'a Value>,
     pub ticks: Option<&'a Value>,
+    pub threads: Option<&'a Value>,
     pub arms: Option<&'a Value>,
     pub steps: &'a Value,
 }
@@ -27,7 +28,16 @@ fn is_key(name: &str) -> bool
 {
     matches!(
         name,
-        "sites" | "f" | "containers" | "clients" | "steps" | "capacity" | "link" | "ticks" | "arms"
+        "sites"
+            | "f"
+            | "containers"
+            | "clients"
+            | "steps"
+            | "capacity"
+            | "link"
+            | "ticks"
+            | "threads"
+            | "arms"
     )
 }
 
@@ -77,6 +87,7 @@ pub fn parts_of(members: &Map<String, Value>) -> Option<Parts<'_>>
         capacity: member(members, "capacity"),
         link: member(members, "link"),
         ticks: member(members, "ticks"),
+        threads: member(members, "threads"),
         arms: member(members, "arms"),
         steps: member(members, "steps")?,
     })

@@ -14,7 +14,7 @@ pub enum Place {
     Json,
     /// A key is none of a scenario's, or one is wanting.
     #[error("the keys: wants sites, f, containers, clients and steps, \
-        and takes capacity, link, ticks and arms besides")]
+        and takes capacity, link, ticks, threads and arms besides")]
     Key,
     #[error("sites: wants a whole number from 1 to 8")]
     Sites,
@@ -35,6 +35,8 @@ pub enum Place {
     Link,
     #[error("the ticks: wants a whole number from 0 to 10000")]
     Ticks,
+    #[error("the threads: wants a whole number from 1 to 32")]
+    Threads,
     /// The first wrong arm, counted from 0; 0 where the value is no list.
     #[error("arm {0}: wants [site, nth, choice] in a list, a site below sites, an nth from 1 to 1000000, \
         a choice below 2^64")]

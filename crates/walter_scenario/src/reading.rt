@@ -14,6 +14,7 @@ use crate::place::{Place, ReadFault};
 use crate::scenario::{LONGEST_TEXT, Scenario};
 use crate::steps::steps_of;
 use crate::text::{members_of, value_of};
+use crate::threads::threads_of;
 use crate::ticks::ticks_of;
 use std::alloc::Global;
 
@@ -29,6 +30,7 @@ fn scenario_of(alloc: Global, parts: Parts<'_>) -> Result<Scenario, ReadFault>
     let capacity = capacity_of(parts.capacity).ok_or(Place::Capacity)?;
     let link = link_of(parts.link).ok_or(Place::Link)?;
     let ticks = ticks_of(parts.ticks).ok_or(Place::Ticks)?;
+    let threads = threads_of(parts.threads).ok_or(Place::Threads)?;
     let arms = given_arms(alloc, sites, parts.arms)?;
     let steps = steps_of(alloc, sites, clients.len(), parts.steps)?;
     Ok(Scenario {
@@ -37,6 +39,7 @@ fn scenario_of(alloc: Global, parts: Parts<'_>) -> Result<Scenario, ReadFault>
         capacity,
         link,
         ticks,
+        threads,
         arms: Arms::from(arms),
         steps: Steps::from(steps),
     })

@@ -26,6 +26,15 @@ pub const MOST_TICKS: u32 = 10_000;
 /// How many ticks a site may make when it is pumped, where a scenario names no number.
 pub const COMMON_TICKS: u32 = 100;
 
+/// The fewest client threads that a threaded run may have.
+pub const LEAST_THREADS: u8 = 1;
+
+/// The most client threads that a threaded run may have.
+pub const MOST_THREADS: u8 = 32;
+
+/// How many client threads a threaded run has, where a scenario names no number.
+pub const COMMON_THREADS: u8 = 8;
+
 /// The last call on a disk that may be armed, counted from 1.
 pub const LAST_ARMED: u64 = 1_000_000;
 
@@ -75,8 +84,8 @@ pub enum Step {
 }
 
 /// What is to be played: the sites and their containers, the clients by their numbers from 0, the capacity of each
-/// site's journal in bytes, the link between the sites, how many ticks each site may make when it is pumped, what is
-/// armed before the first step, and the script.
+/// site's journal in bytes, the link between the sites, how many ticks each site may make when it is pumped, how many
+/// client threads a threaded run has, what is armed before the first step, and the script.
 #[derive(Debug, Drop)]
 pub struct Scenario {
     pub catalog: Catalog,
@@ -84,6 +93,7 @@ pub struct Scenario {
     pub capacity: u64,
     pub link: Link,
     pub ticks: u32,
+    pub threads: u8,
     pub arms: Arms,
     pub steps: Steps,
 }
