@@ -1,5 +1,5 @@
 //! Laws of these definitions.
-ghost use Rattle.std.specs.Prelude.{◌∷◌, []};
+ghost use Rattle.std.specs.Prelude.{◌∷◌, List, []};
 ghost use Rattle.walter_base.specs.declared.names.SiteId.{SiteId};
 ghost use Rattle.walter_link.specs.Pumps.{PumpValue, new_pump};
 ghost use Rattle.walter_rules.specs.declared.entry.Entry.{Entry};
@@ -7,13 +7,12 @@ ghost use Rattle.walter_rules.specs.Trails.{opening};
 ghost use Rattle.walter_scenario.specs.declared.scenario.Scenario.{Scenario};
 ghost use Rattle.walter_work.specs.Worked.{IsWorked};
 ghost use Rattle.walter_work.specs.Working.{IsWorking};
-ghost use Rattle.std.specs.Prelude.{List};
 
-/// A site that has begun works, where nothing has come to its pump; and the trail of a site that works is worked.
-pub fn new_sites_work()
-    ensures new { (told : Type 0) (t : Scenario) (i : SiteId)
-        → IsWorking told t i (opening ∷ []) (new_pump t.link i t.catalog.sites t.ticks) }
-    ensures worked { (told : Type 0) (t : Scenario) (i : SiteId) (trail : List Entry) (pump : PumpValue)
-        → IsWorking told t i trail pump → IsWorked told t i trail }
-{
-}
+/// A site that has begun works, where nothing has come to its pump; and the trail of a site that works is worked. `Told`
+/// stands for whatever it means that the site is told.
+pub fn new_sites_work<Told>()
+    ensures new { (t : Scenario) (i : SiteId)
+        → IsWorking Told t i (opening ∷ []) (new_pump t.link i t.catalog.sites t.ticks) }
+    ensures worked { (t : Scenario) (i : SiteId) (trail : List Entry) (pump : PumpValue)
+        → IsWorking Told t i trail pump → IsWorked Told t i trail }
+{}
