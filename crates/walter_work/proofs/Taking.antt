@@ -20,19 +20,19 @@ use Rattle.walter_work.proofs.Counts.{count_in_put}
 
 -- ---- senders
 
-pub chooser_behind : (n : ℕ) (s : Sender) → (sender_behind n s).chooser ≡ behind_all n s.chooser
+chooser_behind : (n : ℕ) (s : Sender) → (sender_behind n s).chooser ≡ behind_all n s.chooser
 chooser_behind zero s = refl
 chooser_behind (suc n) s = chooser_behind n (behind_one s)
 
 -- behind so many, and so many more
-pub behind_more : (k n : ℕ) (s : Sender) → sender_behind n (sender_behind k s) ≡ sender_behind (k + n) s
+behind_more : (k n : ℕ) (s : Sender) → sender_behind n (sender_behind k s) ≡ sender_behind (k + n) s
 behind_more zero n s = let e : n ≡ 0 + n = omega arith in ap (λ m. sender_behind m s) e
 behind_more (suc k) n s =
     let e : suc (k + n) ≡ suc k + n = omega arith in
     behind_more k n (behind_one s) ∙ ap (λ m. sender_behind m s) e
 
--- a sender that is so far is so far still behind some more
-pub stays_behind : (n : ℕ) (s first : Sender) → s ≡ sender_behind s.taken first
+-- where a sender is as far as was taken of it, it is so behind some more
+stays_behind : (n : ℕ) (s first : Sender) → s ≡ sender_behind s.taken first
     → sender_behind n s ≡ sender_behind (sender_behind n s).taken first
 stays_behind n s first is =
     ap (sender_behind n) is
@@ -40,14 +40,14 @@ stays_behind n s first is =
 
 -- ---- what is due
 
--- what was taken of nothing is due nowhere
+-- nothing is due of a sender of which nothing was taken
 pub none_due : (seed : ℕ) (rates : Rates) (to from : SiteId) (number taken : ℕ) → taken ≡ 0
     → (if nat_le number taken then copies seed rates to from number else 0) ≡ 0
 none_due seed rates to from zero taken none = rw (le-leb 0 taken (omega arith)) refl
 none_due seed rates to from (suc before) taken none =
     rw (lt-leb (suc before) taken (omega (arith, none))) refl
 
--- of a site's packet: as often as the link copies it, once it was taken, where this is the sender
+-- what is due of a packet, where this is its sender
 abbrev due_here : Bool → (ℕ → ℕ) → (number taken : ℕ) → ℕ
 due_here here copied number taken = if here then if nat_le number taken then copied number else 0 else 0
 
@@ -59,15 +59,16 @@ one_more_due false copied number taken = omega arith
 one_more_due true copied number taken = elim (cases_eq number (taken + 1)) [
   | inl same ↦
       let now = ap copied same in
-      rw (eq-eqb number (taken + 1) same, lt-leb number taken (omega (arith, same)), le-leb number (taken + 1) (omega (arith, same)))
-      (omega (arith, now))
+      let before = lt-leb number taken (omega (arith, same)) in
+      let behind = le-leb number (taken + 1) (omega (arith, same)) in
+      rw (eq-eqb number (taken + 1) same, before, behind) (omega (arith, now))
   | inr other ↦ elim (cases_lt taken number) [
     | inl later ↦
-        rw (ne_eqb number (taken + 1) other, lt-leb number taken later, lt-leb number (taken + 1) (omega (arith, other, later)))
-        (omega arith)
+        let later_still = lt-leb number (taken + 1) (omega (arith, other, later)) in
+        rw (ne_eqb number (taken + 1) other, lt-leb number taken later, later_still) (omega arith)
     | inr before ↦
-        rw (ne_eqb number (taken + 1) other, le-leb number taken before, le-leb number (taken + 1) (omega (arith, before)))
-        (omega arith)
+        let before_too = le-leb number (taken + 1) (omega (arith, before)) in
+        rw (ne_eqb number (taken + 1) other, le-leb number taken before, before_too) (omega arith)
   ]
 ]
 
@@ -78,10 +79,11 @@ module _ (link : Link) (i from f : SiteId) (m : ℕ) where
   abbrev pub due_by : ℕ → ℕ
   due_by = due_here (same_site f from) copied m
 
-  -- what waits, and what is due, grow alike
+  -- what waits and what is due grow alike
   pub waits_more : (n : ℕ) (s : Sender) (waiting : List Waiting)
       → s ≡ sender_behind s.taken (new_sender link i from.0)
-      → waits_of f m (put_all n link.rates from s waiting) + due_by s.taken ≡ waits_of f m waiting + due_by (s.taken + n)
+      → waits_of f m (put_all n link.rates from s waiting) + due_by s.taken
+      ≡ waits_of f m waiting + due_by (s.taken + n)
   waits_more zero s waiting far =
       let e : s.taken ≡ s.taken + 0 = omega arith in ap (λ k. waits_of f m waiting + due_by k) e
   waits_more (suc n) s waiting far =
@@ -117,13 +119,15 @@ module _ (link : Link) (i : SiteId) (pump : PumpValue) (from : SiteId) (n : ℕ)
 
   -- of this sender so many more are due, and of another none
   pub due_more : (f : SiteId) (m : ℕ) (after : PumpValue) → after.senders ≡ senders
-      → due link i after f m + due_by link i from f m s.taken ≡ due link i pump f m + due_by link i from f m (s.taken + n)
+      → due link i after f m + due_by link i from f m s.taken
+      ≡ due link i pump f m + due_by link i from f m (s.taken + n)
   due_more f m after is =
       let of : ℕ → ℕ = λ (k : ℕ). if nat_le m k then copies link.seed link.rates i f m else 0 in
       let kept : taken_from after f.0 ≡ count_in (slice_get senders f.0) = ap (λ ss. count_in (slice_get ss f.0)) is in
       elim (cases_eq f.0 from.0) [
         | inl same ↦
-            let now = ap of (kept ∙ (ap (λ k. count_in (slice_get senders k)) same ∙ (ap count_in found_here ∙ taken_behind n s))) in
+            let so_far = ap count_in found_here ∙ taken_behind n s in
+            let now = ap of (kept ∙ (ap (λ k. count_in (slice_get senders k)) same ∙ so_far)) in
             let was = ap of (ap (taken_from pump) same ∙ ap count_in at) in
             let own : from ≡ f = ap (λ (k : ℕ). record { 0 = k }) (sym same) in
             let first = here same own s.taken in
@@ -146,7 +150,8 @@ module _ (link : Link) (i : SiteId) (pump : PumpValue) (from : SiteId) (n : ℕ)
       there other k = ap (λ b. due_here b (copies link.seed link.rates i from) m k) (ne_eqb f.0 from.0 other)
 
   -- each sender is as far as was taken of it
-  pub senders_behind : ((k : ℕ) (x : Sender) → slice_get pump.senders k ≡ Some x → x ≡ sender_behind x.taken (new_sender link i k))
+  pub senders_behind : ((k : ℕ) (x : Sender) → slice_get pump.senders k ≡ Some x
+      → x ≡ sender_behind x.taken (new_sender link i k))
       → (k : ℕ) (x : Sender) → slice_get senders k ≡ Some x → x ≡ sender_behind x.taken (new_sender link i k)
   senders_behind far k x is = elim (cases_eq k from.0) [
     | inl same ↦
@@ -163,7 +168,9 @@ module _ (link : Link) (i : SiteId) (pump : PumpValue) (from : SiteId) (n : ℕ)
 
 module _ (link : Link) (i : SiteId) (sites ticks : ℕ) where
   pub new_taken : (k : ℕ) → taken_from (new_pump link i sites ticks) k ≡ 0
-  new_taken k = ap count_in (slice_get-map (new_sender link i) (range_with_len 0 sites) k) ∙ none (slice_get (range_with_len 0 sites) k)
+  new_taken k =
+      ap count_in (slice_get-map (new_sender link i) (range_with_len 0 sites) k)
+      ∙ none (slice_get (range_with_len 0 sites) k)
     where
       none : (o : Option ℕ) → count_in (option_map (new_sender link i) o) ≡ 0
       none None = refl

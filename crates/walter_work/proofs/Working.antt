@@ -16,6 +16,7 @@ use Rattle.walter_rules.specs.declared.event.Event.{Event}
 use Rattle.walter_rules.specs.declared.event.Event.TheVariants.{Given, Restart}
 use Rattle.walter_rules.specs.declared.event.Input.TheVariants.{Advance, Call, Deliver, Tick}
 use Rattle.walter_rules.specs.Deliveries.{IsLeastEnabled}
+use Rattle.walter_rules.specs.Standing.{Standing}
 use Rattle.walter_rules.specs.Trails.{opening, standing}
 use Rattle.walter_scenario.specs.declared.scenario.Scenario.{Scenario}
 use Rattle.walter_work.specs.Worked.{HaveCome, IsWorked, MayCome, deliveries_of, is_delivery, is_tick}
@@ -40,6 +41,10 @@ module _ (told : Type 0) (t : Scenario) (i : SiteId) where
       }
 
   module _ (trail : List Entry) where
+    -- how the site stands by its trail
+    abbrev S : Standing
+    S = standing t.catalog i (reverse trail)
+
     -- ---- what is taken
 
     takes_of : (from : SiteId) (arrived : ℕ) (pump : PumpValue) (o : Option Sender) → slice_get pump.senders from.0 ≡ o
@@ -72,7 +77,8 @@ module _ (told : Type 0) (t : Scenario) (i : SiteId) where
     takes_below zero pump arrived working = working
     takes_below (suc n) pump arrived working =
         let from : SiteId = record { 0 = n } in
-        takes_other (same_site from i) from (arrived n) (take_below i arrived n pump) (takes_below n pump arrived working)
+        takes_other (same_site from i) from (arrived n) (take_below i arrived n pump)
+        (takes_below n pump arrived working)
 
     -- what has arrived is taken
     pub takes_on : (pump : PumpValue) (arrived : ℕ → ℕ) → pump.site ≡ i
@@ -83,10 +89,11 @@ module _ (told : Type 0) (t : Scenario) (i : SiteId) where
 
     -- its event might come, and the pump goes on
     pub comes_on : (pump after : PumpValue) (e : Entry) → IsWorking told t i trail pump
-        → (told → MayCome t.catalog i (standing t.catalog i (reverse trail)) e.event)
+        → (told → MayCome t.catalog i S e.event)
         → after.rates ≡ pump.rates → after.senders ≡ pump.senders
         → ((from : SiteId) (number : ℕ)
-        → (if is_delivery from number e.event then 1 else 0) + waits_of from number after.waiting ≡ waits_of from number pump.waiting)
+        → (if is_delivery from number e.event then 1 else 0) + waits_of from number after.waiting
+        ≡ waits_of from number pump.waiting)
         → (if is_tick e.event then 1 else 0) + after.ticks ≡ pump.ticks
         → IsWorking told t i (trail ++ e ∷ []) after
     comes_on pump after e working may rates senders waits ticks =
@@ -110,14 +117,15 @@ module _ (told : Type 0) (t : Scenario) (i : SiteId) where
 
     -- an event that is neither a delivery nor a tick: the pump stays
     stays_on : (pump : PumpValue) (e : Entry) (event : Event) → IsWorking told t i trail pump → e.event ≡ event
-        → (told → MayCome t.catalog i (standing t.catalog i (reverse trail)) event)
+        → (told → MayCome t.catalog i S event)
         → ((from : SiteId) (number : ℕ) → is_delivery from number event ≡ false) → is_tick event ≡ false
         → IsWorking told t i (trail ++ e ∷ []) pump
     stays_on pump e event working is may no_delivery no_tick =
-        comes_on pump pump e working (λ is_told. subst (MayCome t.catalog i (standing t.catalog i (reverse trail))) (sym is) (may is_told))
+        comes_on pump pump e working (λ is_told. subst (MayCome t.catalog i S) (sym is) (may is_told))
         refl refl
         (λ from number.
-        let none = ap {B = ℕ} (λ (b : Bool). if b then 1 else 0) (ap (is_delivery from number) is ∙ no_delivery from number) in
+        let no : is_delivery from number e.event ≡ false = ap (is_delivery from number) is ∙ no_delivery from number in
+        let none = ap {B = ℕ} (λ (b : Bool). if b then 1 else 0) no in
         omega (arith, none))
         (let none = ap {B = ℕ} (λ (b : Bool). if b then 1 else 0) (ap is_tick is ∙ no_tick) in omega (arith, none))
 
@@ -127,13 +135,13 @@ module _ (told : Type 0) (t : Scenario) (i : SiteId) where
         stays_on pump e (Given (Call client call)) working is (λ is_told. tt) (λ from number. refl) refl
 
     pub restart_on : (pump : PumpValue) (e : Entry) → IsWorking told t i trail pump → e.event ≡ Restart
-        → (told → (standing t.catalog i (reverse trail)).up ≡ false) → IsWorking told t i (trail ++ e ∷ []) pump
+        → (told → S.up ≡ false) → IsWorking told t i (trail ++ e ∷ []) pump
     restart_on pump e working is down = stays_on pump e Restart working is down (λ from number. refl) refl
 
     pub advance_on : (pump : PumpValue) (e : Entry) (from : SiteId)
         → IsWorking told t i trail pump → e.event ≡ Given (Advance from)
-        → (told → ((standing t.catalog i (reverse trail)).up ≡ true)
-        × IsLeastEnabled t.catalog i (standing t.catalog i (reverse trail)).knows (Some from))
+        → (told → (S.up ≡ true)
+        × IsLeastEnabled t.catalog i S.knows (Some from))
         → IsWorking told t i (trail ++ e ∷ []) pump
     advance_on pump e from working is may =
         stays_on pump e (Given (Advance from)) working is may (λ other number. refl) refl
@@ -142,26 +150,26 @@ module _ (told : Type 0) (t : Scenario) (i : SiteId) where
     pub delivery_on : (pump : PumpValue) (e : Entry) (first : Waiting) (rest : List Waiting) (packet : Packet)
         → IsWorking told t i trail pump → pump.waiting ≡ first ∷ rest
         → e.event ≡ Given (Deliver first.from first.number packet)
-        → (told → (standing t.catalog i (reverse trail)).up ≡ true)
+        → (told → S.up ≡ true)
         → IsWorking told t i (trail ++ e ∷ []) (record pump { waiting = rest })
     delivery_on pump e first rest packet working front is up =
-        let event : Event = Given (Deliver first.from first.number packet) in
         comes_on pump (record pump { waiting = rest }) e working
-        (λ is_told. subst (MayCome t.catalog i (standing t.catalog i (reverse trail))) (sym is) (up is_told)) refl refl
+        (λ is_told. subst (MayCome t.catalog i S) (sym is) (up is_told)) refl refl
         (λ from number.
         let one = ap {B = ℕ} (λ (x : Event). if is_delivery from number x then 1 else 0) is in
         let all = ap (waits_of from number) front in
-        let more = count_cons (λ (w : Waiting). is_delivery from number (Given (Deliver w.from w.number packet))) first rest in
+        let p : Waiting → Bool = λ w. is_delivery from number (Given (Deliver w.from w.number packet)) in
+        let more = count_cons p first rest in
         omega (arith, one, all, more))
         (let none = ap {B = ℕ} (λ (x : Event). if is_tick x then 1 else 0) is in omega (arith, none))
 
     pub tick_on : (pump : PumpValue) (e : Entry) → IsWorking told t i trail pump → 0 < pump.ticks → e.event ≡ Given Tick
-        → (told → ((standing t.catalog i (reverse trail)).up ≡ true)
-        × IsLeastEnabled t.catalog i (standing t.catalog i (reverse trail)).knows None)
+        → (told → (S.up ≡ true)
+        × IsLeastEnabled t.catalog i S.knows None)
         → IsWorking told t i (trail ++ e ∷ []) (record pump { ticks = pump.ticks - 1 })
     tick_on pump e working some is may =
         comes_on pump (record pump { ticks = pump.ticks - 1 }) e working
-        (λ is_told. subst (MayCome t.catalog i (standing t.catalog i (reverse trail))) (sym is) (may is_told)) refl refl
+        (λ is_told. subst (MayCome t.catalog i S) (sym is) (may is_told)) refl refl
         (λ from number.
         let none = ap {B = ℕ} (λ (x : Event). if is_delivery from number x then 1 else 0) is in omega (arith, none))
         (let one = ap {B = ℕ} (λ (x : Event). if is_tick x then 1 else 0) is in omega (arith, one, some))

@@ -8,8 +8,8 @@ ghost use Rattle.walter_scenario.specs.declared.scenario.Scenario.{Scenario};
 ghost use Rattle.walter_work.specs.Worked.{IsWorked};
 ghost use Rattle.walter_work.specs.Working.{IsWorking};
 
-/// A site that has begun works, where nothing has come to its pump; and the trail of a site that works is worked. `Told`
-/// stands for whatever it means that the site is told.
+/// A site that has begun works, where nothing has come to its pump; and the trail of a site that works is worked.
+/// `Told` is whatever it means that the site is told.
 pub fn new_sites_work<Told>()
     ensures new { (t : Scenario) (i : SiteId)
         → IsWorking Told t i (opening ∷ []) (new_pump t.link i t.catalog.sites t.ticks) }
