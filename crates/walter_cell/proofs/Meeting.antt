@@ -1,9 +1,9 @@
 -- The ends of two sites' lanes where all that one has put for the other arrives.
-use Rattle.std.proofs.Common.{◌≡◌, ◌≢◌, ◌<◌, ℕ, List, [], length, map, reverse, get_or, slice_set, refl, ap, sym, ◌∙◌, subst, arith, inl, inr}
+use Rattle.std.proofs.Common.{◌≡◌, ◌≢◌, ◌<◌, ℕ, List, [], length, map, reverse, ◌++◌, get_or, slice_set, refl, ap, sym, ◌∙◌, subst, arith, inl, inr}
 use Rattle.std.specs.Prelude.{zero, suc, ◌≤◌, ◌+◌, ◌-◌, ◌⊎◌, ◌↔◌, Result, Ok, Err, OnOk, OnErr, Option, Some, None, IsNone, IfSome, option_map, slice_get}
 use Rattle.std.proofs.lemmas.Option.{slice_get_past}
 use Rattle.std.proofs.lemmas.Bool.{cases_eq}
-use Rattle.std.proofs.lemmas.List.{append-nil, length-append, length-set, set-get_or}
+use Rattle.std.proofs.lemmas.List.{append-nil, append_assoc, length-append, length-set, set-get_or}
 use mathlib.Core.List.{IsPrefix}
 use Rattle.walter_base.specs.declared.names.SiteId.{SiteId}
 use Rattle.walter_lane.specs.Lanes.{Sending, Receiving}
@@ -87,6 +87,21 @@ module _ (ins : List Receiving) (from : ℕ) (inbound met : Receiving) (at : inb
 -- the beginning of a list is no longer
 pub prefix_long : {X : Type 0} (xs ys : List X) → IsPrefix xs ys → length xs ≤ length ys
 prefix_long xs ys more = let l = ap length more.1 in let k = length-append xs more.0 in omega (arith, l, k)
+
+-- a beginning of a beginning
+pub prefix_on : {X : Type 0} (xs ys zs : List X) → IsPrefix xs ys → IsPrefix ys zs → IsPrefix xs zs
+prefix_on xs ys zs first second =
+    (first.0 ++ second.0, sym (append_assoc xs first.0 second.0) ∙ (ap (λ l. l ++ second.0) first.1 ∙ second.1))
+
+-- a cell at which all has arrived that had, and maybe more
+pub cell_polled : {D : Type 0} (cell : CellValue D) (ins : List Receiving) → length ins ≡ length cell.ins
+    → ((from : ℕ) → IsPrefix (arrived_from cell.ins from) (arrived_from ins from)) → IsCell cell
+    → IsCell (record cell { ins = ins })
+cell_polled cell ins long more is = record {
+  ins = long ∙ is.ins;
+  next = next_more cell.node.site cell.ins ins more (reverse cell.node.trail) is.next;
+  calls = is.calls;
+}
 
 -- a cell at which more has arrived
 pub receiver_met : {D : Type 0} (cell : CellValue D)

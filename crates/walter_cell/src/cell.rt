@@ -17,6 +17,7 @@ ghost use Rattle.walter_rules.specs.Merges.{put_out_to};
 use crate::answers::{Acted, Moved, Serve};
 use crate::line::Line;
 use crate::node::Node;
+use crate::polling::poll_all;
 use std::alloc::Global;
 use std::marker::Model;
 use walter_base::{Catalog, Mem, SiteId};
@@ -288,6 +289,15 @@ impl<D: Disk + Drop, S: Source + Drop, K: Sink + Drop> Cell<D, S, K> {
         ensures sound { IsSound D.Disk sender.old.node }
     {
         sender.node.meet(to, &mut self.ins[usize::from(from.0)])
+    }
+
+    /// What the lanes to this site hold arrives, without a look at their other ends.
+    pub fn poll(&mut self) -> Mem<()>
+        ensures keeps { Keeps D.Disk self.old self.new }
+        ensures node { self.new.node ≡ self.old.node }
+        ensures lines { self.new.lines ≡ self.old.lines }
+    {
+        poll_all(&mut self.ins)
     }
 
     /// What has arrived from another site is a beginning of what that one has put for this one.

@@ -6,6 +6,7 @@ mod answers;
 mod cell;
 mod line;
 mod node;
+mod polling;
 mod pumping;
 
 pub use answers::{Acted, Moved, Pumped, Serve};
