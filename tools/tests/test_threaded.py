@@ -98,7 +98,8 @@ class Worked(unittest.TestCase):
     def test_what_the_model_works_is_a_threaded_run(self):
         met = Counter()
         for seed in SEEDS:
-            made = quiet(random_scenario(seed), ticks=random_scenario(seed).get("ticks", 10))
+            # A site whose journal is too short to come up again would be restarted until its trail is spent.
+            made = quiet(random_scenario(seed), ticks=random_scenario(seed).get("ticks", 10), capacity=1 << 24)
             run = worked(made, seed)
             self.assertEqual(threaded.check(made, run.text()), sum(len(site.entries) for site in run.sites), seed)
             for site in run.sites:
@@ -122,6 +123,18 @@ class Worked(unittest.TestCase):
         threaded.check(made, text)
         early = text.replace(" 1:propagate,1:dsmark 0\n", " 1:propagate 1\n", 1)
         self.check_wrong(made, early, "packets to site 1 are dropped, and fewer than 1,024 were put out to it")
+
+    def test_a_trail_may_be_spent(self):
+        one = scripts.read("sites 1 tolerated 0\ncapacity 145\ncontainer 1 regular at 0\nclient ann at 0\n"
+                           'armed 0 call 3 choice 1\nann: start\nann: write 1:5 "hello"\nann: commit\nann: start\n')
+        made, calls = quiet(one), [("call", 0)] * 3
+        # The commit fills the journal, which has no place for another epoch.
+        texts = [played(made, *calls, *[("pump", 0)] * pumps) for pumps in (15, 16, 17)]
+        self.assertIn(" 0 restart full:10:3 ", texts[0])
+        with mock.patch.object(threaded, "MOST_ENTRIES", 20):
+            self.check_wrong(made, texts[0], "line 3: site 0 isn't at its end: client 0 has calls left")
+            self.assertEqual(threaded.check(made, texts[1]), 20)
+            self.check_wrong(made, texts[2], "line 24: restart at site 0: its trail is spent")
 
     def test_an_event_that_is_not_worked_is_refused(self):
         down = {**SMALL, "arms": [[0, 1, 0]]}
