@@ -54,6 +54,10 @@ def commits(count):
     return b"".join(map(model.frame, one * count)).hex()
 
 
+def entries_of(run):
+    return sum(len(site.entries) for site in run.sites)
+
+
 def worked(made, seed):
     """A run of the model by turns and pumps in an order of the seed, until none of them does anything."""
     run, rng = model.Run(made, Counter()), random.Random(seed)
@@ -62,12 +66,13 @@ def worked(made, seed):
     steps = [("call", client) for client, (_, sent) in enumerate(made["clients"]) for _ in range(len(sent) // 10 + 1)]
     steps += pumps * (2 * len(steps) // len(pumps))
     rng.shuffle(steps)
-    before = None
-    while before != sum(len(site.entries) for site in run.sites):
-        before = sum(len(site.entries) for site in run.sites)
-        for step in steps:
-            run.step(*step)
-        steps = pumps
+    for step in steps:
+        run.step(*step)
+    before, entries = 0, entries_of(run)
+    while before < entries:
+        for pump in pumps:
+            run.step(*pump)
+        before, entries = entries, entries_of(run)
     return run
 
 
@@ -101,7 +106,7 @@ class Worked(unittest.TestCase):
             # A site whose journal is too short to come up again would be restarted until its trail is spent.
             made = quiet(random_scenario(seed), ticks=random_scenario(seed).get("ticks", 10), capacity=1 << 24)
             run = worked(made, seed)
-            self.assertEqual(threaded.check(made, run.text()), sum(len(site.entries) for site in run.sites), seed)
+            self.assertEqual(threaded.check(made, run.text()), entries_of(run), seed)
             for site in run.sites:
                 met.update(entry.event.split(":")[0] for entry in site.entries)
                 met.update("fault" for entry in site.entries if entry.flight)
