@@ -223,16 +223,20 @@ class Site:
 
     def enter(self, stamp, event, outcome, kept=None, wrote=None, flight=None, sends=()):
         """One more entry. What finds its lane full is dropped, and counted."""
-        self.clock, dropped, out = stamp, 0, []
-        for to, packet in sorted(sends, key=lambda send: (send[0], send[1][0], send[1][1])):
-            meet(self.met, "packets of a lane", self.waiting[to] + 1, LANE)
-            if self.waiting[to] == LANE:
-                dropped += 1
-                continue
-            self.waiting[to] += 1
+        self.clock = stamp
+        sends = sorted(sends, key=lambda send: (send[0], send[1][0], send[1][1]))
+        out = [send for send in sends if self.finds_place(*send)]
+        for to, packet in out:
             self.put_out[to].append((stamp, packet))
-            out.append((to, packet))
-        self.entries.append(Entry(stamp, event, outcome, kept, wrote, flight, out, dropped))
+        self.entries.append(Entry(stamp, event, outcome, kept, wrote, flight, out, len(sends) - len(out)))
+
+    def finds_place(self, to, packet):
+        """Whether a packet finds a place on its lane, which it takes then."""
+        meet(self.met, "packets of a lane", self.waiting[to] + 1, LANE)
+        if self.waiting[to] == LANE:
+            return False
+        self.waiting[to] += 1
+        return True
 
     def fall(self):
         self.gone.update({client: session.tid for client, session in self.sessions.items()})
@@ -621,8 +625,8 @@ def trace_lines(sites):
 class Run:
     """The sites and the clients of a scenario, and what was answered so far."""
 
-    def __init__(self, scenario, met):
-        self.sites = [Site(scenario, i, met) for i in range(scenario["sites"])]
+    def __init__(self, scenario, met, make=Site):
+        self.sites = [make(scenario, i, met) for i in range(scenario["sites"])]
         self.clients = scenario["clients"]
         self.calls = [calls_of(bytes.fromhex(sent), met) for _, sent in self.clients]
         self.replies = [[] for _ in self.clients]

@@ -425,6 +425,12 @@ class Arm:
         self.arm, self.moment, self.follower = arm, None, False
 
 
+def step_of(entry):
+    """The step that brings the event of an entry."""
+    word, *fields = entry.event
+    return [word, fields[0]] if word == "call" else [word, entry.site, *fields[:2]]
+
+
 class Steps:
     """The steps of a run, each with the entry that it brought."""
 
@@ -444,20 +450,29 @@ class Steps:
             self.next_of(site, ("restart",), None)
         for arm in self.scenario.arms:
             self.arm(arm)
-        steps = [self.step(place, made) for place, made in enumerate(self.scenario.steps)]
+        steps = [self.step(place, made) for place, made in enumerate(self.made())]
         left = [trail[self.at[site]] for site, trail in enumerate(self.trails) if self.at[site] < len(trail)]
         for moment in left:
             raise reports.wrong(moment.entry.place, "no such entry: no step brings it")
         self.tell_lost()
         return steps
 
+    def made(self):
+        """The steps of the scenario. A threaded run goes by none: there the events of its trace are the steps."""
+        if self.scenario.steps:
+            return self.scenario.steps
+        openings = {trail[0] for trail in self.trails}
+        return [step_of(moment.entry) for moment in self.run.moments if moment not in openings]
+
     def tell_lost(self):
         for me, inbox in enumerate(self.inboxes):
+            if not self.scenario.steps:
+                inbox.take({peer: self.out[peer, me] for peer in self.peers(me)})
             for (peer, number), copies in inbox.copies.items():
                 self.run.lanes[peer, me][number - 1].is_lost = copies == 0
 
     def step(self, place, made):
-        step, (word, where, *more) = Step(place, self.scenario.places[place], made), made
+        step, (word, where, *more) = Step(place, self.line_of(place), made), made
         if word == "arm":
             return step._replace(moment=self.arm(made[1:]))
         if word == "call":
@@ -469,6 +484,10 @@ class Steps:
         if word == "deliver" and more[1] > self.out[more[0], where]:
             return step._replace(why=f"no such packet was put out: site {more[0]} had put out {self.out[more[0], where]} to it")
         return step._replace(moment=self.next_of(where, (word, *more), step))
+
+    def line_of(self, place):
+        """The line of a step, which an event of a threaded run hasn't."""
+        return self.scenario.places[place] if self.scenario.steps else None
 
     def pump(self, step, site):
         event = self.next_of_pump(site)
@@ -542,8 +561,18 @@ class Steps:
         self.armed.pop(moment.site).moment = moment
 
 
+def told_replies(run):
+    """The replies of a threaded run, client by client: no step says in which order they were given."""
+    for client, told in enumerate(run.report.clients):
+        for place, (call, reply) in enumerate(zip(run.scenario.calls[client], told.replies)):
+            check_answer(client + 2, run.scenario.names[client], call, reports.reply_of(reply))
+            yield Step(place, None, ["call", client], call=(client, call), reply=reply)
+
+
 def replies_of(run):
     """The steps that were turns, each with its reply, where the trace wasn't written."""
+    if not run.scenario.steps:
+        yield from told_replies(run)
     turns = Counter()
     for place, made in enumerate(run.scenario.steps):
         if made[0] != "call":
