@@ -3,7 +3,7 @@ use Rattle.std.specs.Prelude.{◌≡◌, ◌<◌, ◌-◌, ℕ, true, List, [], 
 use Rattle.walter_base.specs.declared.names.SiteId.{SiteId}
 use Rattle.walter_disk.specs.declared.disk.Disk.{Ghosts}
 use Rattle.walter_lane.specs.Lanes.{Receiving}
-use Rattle.walter_link.specs.Pumps.{PumpValue, HasTaken, take_arrived}
+use Rattle.walter_link.specs.Pumps.{PumpValue, HasTaken, take_arrived, take_below}
 use Rattle.walter_link.specs.declared.pump.Waiting.{Waiting}
 use Rattle.walter_outbox.specs.Lanes.{arrived_from}
 use Rattle.walter_rules.specs.Deliveries.{IsLeastEnabled}
@@ -22,6 +22,10 @@ use Rattle.walter_cell.specs.Nodes.{clock_in, is_told, standing_of}
 -- how many packets have arrived of each site
 abbrev pub counts_in : List Receiving → ℕ → ℕ
 counts_in ins from = length (arrived_from ins from)
+
+-- all that has arrived of the first so many sites is taken
+abbrev pub TakesSome : SiteId → (ℕ → ℕ) → (old new : PumpValue) → Type 0
+TakesSome i arrived old new = (n : ℕ) × (new ≡ take_below i arrived n old)
 
 -- what a pump says of a delivery, or of another event
 abbrev pub moved_so : Moved → Pumped

@@ -3,7 +3,7 @@
 ghost use Rattle.std.specs.Prelude.{◌≡◌, ◌<◌, ◌≤◌, ◌∷◌, [], None, List, true, drop, length, slice_get, Some, IfOk, OnErr, OnOk};
 ghost use Rattle.walter_base.specs.Vectors.{most_sites};
 ghost use Rattle.walter_cell.specs.Cells.{HasSameTrail, Proceeds};
-ghost use Rattle.walter_cell.specs.Pumps.{IsLeastAt, Pumps, WorksAt, acted_so, counts_in};
+ghost use Rattle.walter_cell.specs.Pumps.{IsLeastAt, Pumps, TakesSome, WorksAt, acted_so, counts_in};
 ghost use Rattle.walter_link.specs.Pumps.{HasTaken, KeepsPump, take_arrived};
 
 use crate::answers::{Acted, Moved, Pumped};
@@ -24,6 +24,7 @@ impl<D: Disk + Drop, S: Source + Drop, K: Sink + Drop> Cell<D, S, K> {
         ensures proceeds { Proceeds D.Disk self.old self.new }
         ensures pumps { IfOk result (Pumps D.Disk self.old self.new pump.old pump.new) }
         ensures kept { OnErr result (HasSameTrail self.old self.new) }
+        ensures taken { OnErr result (TakesSome self.old.node.site (counts_in self.old.ins) pump.old pump.new) }
         ensures pump { KeepsPump (counts_in self.old.ins) pump.old pump.new }
     {
         self.take_arrived(pump)?;
@@ -40,6 +41,7 @@ impl<D: Disk + Drop, S: Source + Drop, K: Sink + Drop> Cell<D, S, K> {
         ensures works { IfOk result (WorksAt D.Disk self.old self.new pump.old pump.new) }
         ensures kept { OnErr result (HasSameTrail self.old self.new) }
         ensures same { pump.new ≡ record pump.old { ticks = pump.new.ticks } }
+        ensures unmoved { OnErr result (pump.new ≡ pump.old) }
     {
         match self.least_enabled() {
             Some(from) => Ok(pumped(self.advance(from)?)),
@@ -54,6 +56,7 @@ impl<D: Disk + Drop, S: Source + Drop, K: Sink + Drop> Cell<D, S, K> {
         requires senders { length pump.old.senders ≡ length self.now.ins }
         ensures taken { OnOk result
             (pump.new ≡ take_arrived self.now.node.site (counts_in self.now.ins) pump.old) }
+        ensures some { OnErr result (TakesSome self.now.node.site (counts_in self.now.ins) pump.old pump.new) }
         ensures pump { KeepsPump (counts_in self.now.ins) pump.old pump.new }
     {
         for from in 0..self.sites() {
@@ -75,6 +78,7 @@ impl<D: Disk + Drop, S: Source + Drop, K: Sink + Drop> Cell<D, S, K> {
         ensures works { IfOk result (WorksAt D.Disk self.old self.new pump.old pump.new) }
         ensures kept { OnErr result (HasSameTrail self.old self.new) }
         ensures same { pump.new ≡ record pump.old { waiting = pump.new.waiting } }
+        ensures unmoved { OnErr result (pump.new ≡ pump.old) }
     {
         match self.deliver(alloc, first.from, first.number)? {
             Moved::Did => {
@@ -94,6 +98,7 @@ impl<D: Disk + Drop, S: Source + Drop, K: Sink + Drop> Cell<D, S, K> {
         ensures works { IfOk result (WorksAt D.Disk self.old self.new pump.old pump.new) }
         ensures kept { OnErr result (HasSameTrail self.old self.new) }
         ensures same { pump.new ≡ record pump.old { ticks = pump.new.ticks } }
+        ensures unmoved { OnErr result (pump.new ≡ pump.old) }
     {
         if !pump.can_tick() {
             return Ok(Pumped::Idle);

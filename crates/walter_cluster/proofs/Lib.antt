@@ -11,3 +11,5 @@ pub mod Benches
 pub mod Arrivals
 pub mod Closings
 pub mod Gathering
+pub mod Sharing
+pub mod Working

@@ -7,3 +7,4 @@ pub mod Builds
 pub mod Seats
 pub mod Openings
 pub mod Pumps
+pub mod Shared

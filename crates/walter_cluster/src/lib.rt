@@ -4,11 +4,16 @@
 mod bench;
 mod closing;
 mod connecting;
+mod held;
 mod lending;
 mod meeting;
+mod name;
 mod opening;
 mod seating;
+mod shared;
 
 pub use bench::Bench;
 pub use closing::Closed;
+pub use name::Name;
 pub use opening::{Unbuilt, build};
+pub use shared::Cluster;

@@ -72,7 +72,8 @@ module _ (told : Type 0) (t : Scenario) (i : SiteId) where
     takes_other false from arrived pump working =
         takes_of from arrived pump (slice_get pump.senders from.0) refl working
 
-    takes_below : (n : ℕ) (pump : PumpValue) (arrived : ℕ → ℕ)
+    -- what has arrived of the first so many sites is taken
+    pub takes_below : (n : ℕ) (pump : PumpValue) (arrived : ℕ → ℕ)
         → IsWorking told t i trail pump → IsWorking told t i trail (take_below i arrived n pump)
     takes_below zero pump arrived working = working
     takes_below (suc n) pump arrived working =

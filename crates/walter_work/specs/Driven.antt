@@ -20,10 +20,10 @@ pub data IsSpentAt (trails : List (List Entry)) (i : SiteId) : Type 0 where
   late_packet : (from : SiteId) (place : ℕ) (put : Stamped)
       → slice_get (put_out_to i (trail_of trails from)) place ≡ Some put → 2 ^ 62 ≤ put.0 + 1 → IsSpentAt trails i
 
--- all calls of the bytes of each client of the site were made, or its connection has failed
-abbrev pub HaveAllCalled : (failed : ℕ → Type 0) → Scenario → SiteId → List Entry → Type 0
-HaveAllCalled failed t i trail = (number : ℕ) (client : Client) → slice_get t.clients number ≡ Some client → client.site ≡ i
-    → failed number ⊎ AreAllCalls client.bytes (calls_of number trail)
+-- all calls of a client's bytes were made at its site, or the trail there is spent; unless connections can fail
+abbrev pub HasAllCalled : (fails : Type 0) → List (List Entry) → ℕ → Client → Type 0
+HasAllCalled fails trails number client = fails ⊎ (IsSpentAt trails client.site
+    ⊎ AreAllCalls client.bytes (calls_of number (trail_of trails client.site)))
 
 -- Nothing is left that a pump might do at a site: all ticks were made, each packet that was put out to it was delivered as
 -- often as the link copies it, and where the site is told, it is up, and no peer's commit can be committed.
@@ -36,9 +36,10 @@ pub record IsIdleAt (told : Type 0) (t : Scenario) (trails : List (List Entry)) 
   pub none_enabled : told
       → IsLeastEnabled t.catalog i (standing t.catalog i (reverse (trail_of trails i))).knows None
 
--- each trail is worked; and at each site whose trail isn't spent all calls were made, and nothing is left for a pump
-pub record IsDriven (told failed : ℕ → Type 0) (t : Scenario) (trails : List (List Entry)) : Type 0 where
+-- each trail is worked; all clients have called to their end; and at each site whose trail isn't spent nothing is left for a
+-- pump to do
+pub record IsDriven (told : ℕ → Type 0) (fails : Type 0) (t : Scenario) (trails : List (List Entry)) : Type 0 where
   pub worked : (i : ℕ) → i < t.catalog.sites → IsWorked (told i) t (site_at i) (trail_of trails (site_at i))
-  pub calls : (i : ℕ) → i < t.catalog.sites
-      → IsSpentAt trails (site_at i) ⊎ HaveAllCalled failed t (site_at i) (trail_of trails (site_at i))
+  pub calls : (number : ℕ) (client : Client) → slice_get t.clients number ≡ Some client
+      → HasAllCalled fails trails number client
   pub pumps : (i : ℕ) → i < t.catalog.sites → IsSpentAt trails (site_at i) ⊎ IsIdleAt (told i) t trails (site_at i)

@@ -9,7 +9,7 @@ returns-in_err-poll-clause-more c =
     let ins = c.loop-from.ins.items in
     let within : c.loop-from.from < length ins = omega (arith, c.loop-from-test.true, c.len-from-end.ensures, c.loop-from.invariant.long) in
     λ from. prefix_on (arrived_from c.args.ins.now.items from) (arrived_from ins from) _ (c.loop-from.invariant.more from)
-        (grows_met ins c.loop-from.from c.index_mut.result.now c.poll.new.self c.index_mut.ensures.value within c.poll.ensures.more from)
+    (grows_met ins c.loop-from.from c.index_mut.result.now c.poll.new.self c.index_mut.ensures.value within c.poll.ensures.more from)
 
 pub loop-from-preserved : goal.loop-from-preserved
 loop-from-preserved c =

@@ -1,0 +1,323 @@
+//! The cells of all sites, each behind a lock of its own.
+ghost use Rattle.std.specs.Prelude.{◌≡◌, ◌<◌, ◌≤◌, ◌+◌, [], length, min, is_some, nat_lt, slice_get, Some, true, vec_len, vec_capacity};
+ghost use Rattle.walter_base.specs.Vectors.{most_sites};
+ghost use Rattle.walter_cell.specs.Lines.{is_here};
+ghost use Rattle.walter_cluster.specs.Benches.{HasRoom, IsBench};
+ghost use Rattle.walter_cluster.specs.Shared.{AreHeld, AreWorking, Origin, bench_before, origins_of};
+ghost use Rattle.walter_scenario.specs.declared.scenario.Scenario.{Scenario};
+
+use crate::bench::Bench;
+use crate::held::Held;
+use crate::name::Name;
+use std::alloc::Global;
+use std::marker::{Model, PhantomData};
+use std::sync::{Mutex, Wait};
+use walter_base::{Mem, SiteId};
+use walter_cell::{Cell, Line, Pumped, Serve};
+use walter_disk::Disk;
+use walter_link::Pump;
+use walter_stream::{Sink, Source};
+use walter_trail::Trail;
+
+// The cell of a site with its pump behind their lock; none where there is no such site.
+type Locked<N, D, S, K, const I: usize> = Option<Mutex<Held<N, D, S, K, I>>>;
+
+/// The cells of all sites with their pumps, each behind a lock, for as many sites as there may be. Contracts see the home of
+/// each client.
+#[derive(Drop)]
+pub struct Cluster<N: Name, D: Disk, S: Source + Drop, K: Sink + Drop> {
+    homes: Vec<SiteId>,
+    site_0: Locked<N, D, S, K, 0>,
+    site_1: Locked<N, D, S, K, 1>,
+    site_2: Locked<N, D, S, K, 2>,
+    site_3: Locked<N, D, S, K, 3>,
+    site_4: Locked<N, D, S, K, 4>,
+    site_5: Locked<N, D, S, K, 5>,
+    site_6: Locked<N, D, S, K, 6>,
+    site_7: Locked<N, D, S, K, 7>,
+    room: Mutex<Room<N, D, S, K>>,
+}
+
+impl<N: Name, D: Disk, S: Source + Drop, K: Sink + Drop> Model for Cluster<N, D, S, K> {
+    ghost use Rattle.std.specs.Prelude.{◌≡◌, ◌≤◌, List, is_some, length, nat_lt};
+    ghost use Rattle.walter_base.specs.declared.names.SiteId.{SiteId};
+    ghost use Rattle.walter_cluster.specs.Benches.{IsBench};
+    ghost use Rattle.walter_cluster.specs.Shared.{bench_before};
+
+    ghost Value = { List SiteId };
+
+    ghost view = { λ c. c.homes.items };
+
+    ghost invariant = { λ c. IsBench (bench_before N.origins c.homes.items)
+        × (is_some c.site_0 ≡ nat_lt 0 (length N.origins))
+        × (is_some c.site_1 ≡ nat_lt 1 (length N.origins))
+        × (is_some c.site_2 ≡ nat_lt 2 (length N.origins))
+        × (is_some c.site_3 ≡ nat_lt 3 (length N.origins))
+        × (is_some c.site_4 ≡ nat_lt 4 (length N.origins))
+        × (is_some c.site_5 ≡ nat_lt 5 (length N.origins))
+        × (is_some c.site_6 ≡ nat_lt 6 (length N.origins))
+        × (is_some c.site_7 ≡ nat_lt 7 (length N.origins)) };
+}
+
+// What a bench has besides, which waits for the cells to come back. It lies behind a lock, since not all of it may be
+// shared by reference.
+#[derive(Drop)]
+struct Room<N: Name, D: Disk, S: Source + Drop, K: Sink + Drop> {
+    cells: Vec<Cell<D, S, K>>,
+    pumps: Vec<Pump>,
+    trails: Vec<Trail>,
+    disks: Vec<D>,
+    conns: Vec<Vec<Option<Line<S, K>>>>,
+    of: PhantomData<N>,
+}
+
+impl<N: Name, D: Disk, S: Source + Drop, K: Sink + Drop> Model for Room<N, D, S, K> {
+    ghost use Rattle.std.specs.Prelude.{length};
+    ghost use Rattle.walter_cluster.specs.Benches.{HasRoom};
+
+    ghost Value = { Unit {0} };
+
+    ghost view = { λ _. tt };
+
+    ghost invariant = { λ r. HasRoom (length N.origins) r.cells × HasRoom (length N.origins) r.pumps
+        × HasRoom (length N.origins) r.trails × HasRoom (length N.origins) r.disks
+        × HasRoom (length N.origins) r.conns };
+}
+
+impl<N: Name, D: Disk + Drop, S: Source + Drop, K: Sink + Drop> Room<N, D, S, K> {
+    fn new(
+        cells: Vec<Cell<D, S, K>>,
+        pumps: Vec<Pump>,
+        trails: Vec<Trail>,
+        disks: Vec<D>,
+        conns: Vec<Vec<Option<Line<S, K>>>>,
+    ) -> Room<N, D, S, K>
+        requires cells { HasRoom (length N.origins) cells }
+        requires pumps { HasRoom (length N.origins) pumps }
+        requires trails { HasRoom (length N.origins) trails }
+        requires disks { HasRoom (length N.origins) disks }
+        requires conns { HasRoom (length N.origins) conns }
+    {
+        Room {
+            cells,
+            pumps,
+            trails,
+            disks,
+            conns,
+            of: PhantomData,
+        }
+    }
+
+    // A bench without cells, and a list of pumps without any, with room for all.
+    fn into_lists(
+        self,
+    ) -> (
+        Vec<Cell<D, S, K>>,
+        Vec<Pump>,
+        Vec<Trail>,
+        Vec<D>,
+        Vec<Vec<Option<Line<S, K>>>>,
+    )
+        ensures cells { HasRoom (length N.origins) result.0 }
+        ensures pumps { HasRoom (length N.origins) result.1 }
+        ensures trails { HasRoom (length N.origins) result.2 }
+        ensures disks { HasRoom (length N.origins) result.3 }
+        ensures conns { HasRoom (length N.origins) result.4 }
+    {
+        let Room {
+            cells,
+            pumps,
+            trails,
+            disks,
+            conns,
+            ..
+        } = self;
+        (cells, pumps, trails, disks, conns)
+    }
+}
+
+// Puts the cell of site `I`, if there is one, behind its lock.
+fn lock_last<N: Name, D: Disk + Drop, S: Source + Drop, K: Sink + Drop, const I: usize>(
+    cells: &mut Vec<Cell<D, S, K>>,
+    pumps: &mut Vec<Pump>,
+) -> Locked<N, D, S, K, I>
+    requires cells { vec_len cells.old ≡ min (I + 1) (length N.origins) }
+    requires pumps { vec_len pumps.old ≡ min (I + 1) (length N.origins) }
+    requires held { AreHeld D.Disk N.origins cells.old.items pumps.old.items }
+    ensures held { AreHeld D.Disk N.origins cells.new.items pumps.new.items }
+    ensures cells { vec_len cells.new ≡ min I (length N.origins) }
+    ensures pumps { vec_len pumps.new ≡ min I (length N.origins) }
+    ensures there { is_some result ≡ nat_lt I (length N.origins) }
+    ensures cells_room { vec_capacity cells.new ≡ vec_capacity cells.old }
+    ensures pumps_room { vec_capacity pumps.new ≡ vec_capacity pumps.old }
+{
+    if cells.len() <= I {
+        return None;
+    }
+    let cell = cells.pop().unwrap();
+    let pump = pumps.pop().unwrap();
+    Some(Mutex::new(Held::new(cell, pump)))
+}
+
+// Takes the cell of site `I`, if there is one, out of its lock.
+fn unlock_next<N: Name, D: Disk + Drop, S: Source + Drop, K: Sink + Drop, const I: usize>(
+    locked: Locked<N, D, S, K, I>,
+    cells: &mut Vec<Cell<D, S, K>>,
+    pumps: &mut Vec<Pump>,
+)
+    requires there { is_some locked ≡ nat_lt I (length N.origins) }
+    requires cells { vec_len cells.old ≡ min I (length N.origins) }
+    requires pumps { vec_len pumps.old ≡ min I (length N.origins) }
+    requires cells_room { length N.origins ≤ vec_capacity cells.old }
+    requires pumps_room { length N.origins ≤ vec_capacity pumps.old }
+    requires held { AreHeld D.Disk N.origins cells.old.items pumps.old.items }
+    ensures held { AreHeld D.Disk N.origins cells.new.items pumps.new.items }
+    ensures cells { vec_len cells.new ≡ min (I + 1) (length N.origins) }
+    ensures pumps { vec_len pumps.new ≡ min (I + 1) (length N.origins) }
+    ensures cells_room { vec_capacity cells.new ≡ vec_capacity cells.old }
+    ensures pumps_room { vec_capacity pumps.new ≡ vec_capacity pumps.old }
+{
+    if let Some(mutex) = locked {
+        let (cell, pump) = mutex.into_inner().into_parts();
+        cells.push_reserved(cell);
+        pumps.push_reserved(pump);
+    }
+}
+
+impl<N: Name, D: Disk + Drop, S: Source + Drop, K: Sink + Drop> Cluster<N, D, S, K> {
+    /// Puts each cell with its pump behind a lock. It takes no memory.
+    pub fn share(bench: Bench<D, S, K>, pumps: Vec<Pump>) -> Cluster<N, D, S, K>
+        requires { (t : Scenario) × (N.origins ≡ origins_of D.Disk t bench.cells)
+            × AreWorking D.Disk t bench.cells pumps.items }
+        ensures { result ≡ bench.homes }
+    {
+        let Bench {
+            mut cells,
+            homes,
+            trails,
+            disks,
+            conns,
+        } = bench;
+        let mut pumps = pumps;
+        let site_7 = lock_last::<N, D, S, K, 7>(&mut cells, &mut pumps);
+        let site_6 = lock_last::<N, D, S, K, 6>(&mut cells, &mut pumps);
+        let site_5 = lock_last::<N, D, S, K, 5>(&mut cells, &mut pumps);
+        let site_4 = lock_last::<N, D, S, K, 4>(&mut cells, &mut pumps);
+        let site_3 = lock_last::<N, D, S, K, 3>(&mut cells, &mut pumps);
+        let site_2 = lock_last::<N, D, S, K, 2>(&mut cells, &mut pumps);
+        let site_1 = lock_last::<N, D, S, K, 1>(&mut cells, &mut pumps);
+        let site_0 = lock_last::<N, D, S, K, 0>(&mut cells, &mut pumps);
+        Cluster {
+            homes,
+            site_0,
+            site_1,
+            site_2,
+            site_3,
+            site_4,
+            site_5,
+            site_6,
+            site_7,
+            room: Mutex::new(Room::new(cells, pumps, trails, disks, conns)),
+        }
+    }
+
+    /// Takes the cells and the pumps out of their locks. It takes no memory.
+    pub fn unshare(self) -> (Bench<D, S, K>, Vec<Pump>)
+        ensures homes { result.0.homes ≡ self }
+        ensures sites { length result.0.cells ≡ length N.origins }
+        ensures pumps { length result.1.items ≡ length N.origins }
+        ensures held { AreHeld D.Disk N.origins result.0.cells result.1.items }
+    {
+        let Cluster {
+            homes,
+            site_0,
+            site_1,
+            site_2,
+            site_3,
+            site_4,
+            site_5,
+            site_6,
+            site_7,
+            room,
+        } = self;
+        let (mut cells, mut pumps, trails, disks, conns) = room.into_inner().into_lists();
+        unlock_next::<N, D, S, K, 0>(site_0, &mut cells, &mut pumps);
+        unlock_next::<N, D, S, K, 1>(site_1, &mut cells, &mut pumps);
+        unlock_next::<N, D, S, K, 2>(site_2, &mut cells, &mut pumps);
+        unlock_next::<N, D, S, K, 3>(site_3, &mut cells, &mut pumps);
+        unlock_next::<N, D, S, K, 4>(site_4, &mut cells, &mut pumps);
+        unlock_next::<N, D, S, K, 5>(site_5, &mut cells, &mut pumps);
+        unlock_next::<N, D, S, K, 6>(site_6, &mut cells, &mut pumps);
+        unlock_next::<N, D, S, K, 7>(site_7, &mut cells, &mut pumps);
+        let bench = Bench {
+            cells,
+            homes,
+            trails,
+            disks,
+            conns,
+        };
+        (bench, pumps)
+    }
+
+    /// Gives a client its turn at its site, under that site's lock.
+    pub fn turn(&self, rt: &impl Wait, alloc: Global, client: u32) -> Mem<Serve>
+        requires { client < length self.now }
+    {
+        match self.homes[client as usize].0 {
+            0 => turn_at(rt, alloc, &self.site_0, client),
+            1 => turn_at(rt, alloc, &self.site_1, client),
+            2 => turn_at(rt, alloc, &self.site_2, client),
+            3 => turn_at(rt, alloc, &self.site_3, client),
+            4 => turn_at(rt, alloc, &self.site_4, client),
+            5 => turn_at(rt, alloc, &self.site_5, client),
+            6 => turn_at(rt, alloc, &self.site_6, client),
+            7 => turn_at(rt, alloc, &self.site_7, client),
+            _ => unreachable!(),
+        }
+    }
+
+    /// What has been put for a site arrives there, and the site does the first that can be done, under its lock.
+    pub fn pump(&self, rt: &impl Wait, alloc: Global, site: SiteId) -> Mem<Pumped>
+        requires { site.0 < length N.origins }
+    {
+        match site.0 {
+            0 => pump_at(rt, alloc, &self.site_0),
+            1 => pump_at(rt, alloc, &self.site_1),
+            2 => pump_at(rt, alloc, &self.site_2),
+            3 => pump_at(rt, alloc, &self.site_3),
+            4 => pump_at(rt, alloc, &self.site_4),
+            5 => pump_at(rt, alloc, &self.site_5),
+            6 => pump_at(rt, alloc, &self.site_6),
+            7 => pump_at(rt, alloc, &self.site_7),
+            _ => unreachable!(),
+        }
+    }
+}
+
+fn turn_at<N: Name, D: Disk + Drop, S: Source + Drop, K: Sink + Drop, const I: usize>(
+    rt: &impl Wait,
+    alloc: Global,
+    locked: &Locked<N, D, S, K, I>,
+    client: u32,
+) -> Mem<Serve>
+    requires there { is_some locked.now ≡ true }
+    requires home { (o : Origin) → slice_get N.origins I ≡ Some o → is_here o.cell.lines client ≡ true }
+{
+    match locked {
+        Some(mutex) => mutex.lock(rt).turn(alloc, client),
+        None => unreachable!(),
+    }
+}
+
+fn pump_at<N: Name, D: Disk + Drop, S: Source + Drop, K: Sink + Drop, const I: usize>(
+    rt: &impl Wait,
+    alloc: Global,
+    locked: &Locked<N, D, S, K, I>,
+) -> Mem<Pumped>
+    requires { is_some locked.now ≡ true }
+{
+    match locked {
+        Some(mutex) => mutex.lock(rt).pump(alloc),
+        None => unreachable!(),
+    }
+}
