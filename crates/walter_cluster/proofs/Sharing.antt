@@ -18,7 +18,7 @@ use Rattle.walter_outbox.specs.Lanes.{ring_to, ring_from, no_ring}
 use Rattle.walter_rules.specs.Knowledge.{site_at}
 use Rattle.walter_scenario.specs.declared.scenario.Scenario.{Scenario}
 use Rattle.walter_cluster.specs.Benches.{IsBench, IsCellAt, outs_at, ins_at, is_site}
-use Rattle.walter_cluster.specs.Shared.{Origin, HasGoneOn, IsHeld, AreHeld, AreWorking, bare, bench_before, origin_of, origins_of}
+use Rattle.walter_cluster.specs.Shared.{Origin, HasGoneOn, IsHeld, AreHeld, AreAtWork, bare, bench_before, origin_of, origins_of}
 use Rattle.walter_cluster.proofs.Changes.{there_is, one_there, field_at}
 use Rattle.walter_cluster.proofs.Keeping.{outs_long, ins_long, home_within}
 
@@ -95,7 +95,7 @@ module _ {D : Type 0} (g : Ghosts D) where
 
   -- cells that work are held where they are shared
   pub held_first : (t : Scenario) (origins : List Origin) (cells : List (CellValue D)) (pumps : List PumpValue)
-      → origins ≡ origins_of g t cells → AreWorking g t cells pumps → AreHeld g origins cells pumps
+      → origins ≡ origins_of g t cells → AreAtWork g t cells pumps → AreHeld g origins cells pumps
   held_first t origins cells pumps are works i c p at pumped = record {
     origin = origin_of g t c;
     there = ap (λ (os : List Origin). slice_get os i) are ∙ (slice_get-map (origin_of g t) cells i ∙ ap (option_map (origin_of g t)) at);

@@ -37,7 +37,7 @@ use Rattle.walter_rules.specs.Trails.{standing}
 use Rattle.walter_scenario.specs.declared.scenario.Scenario.{Scenario}
 use Rattle.walter_work.specs.Working.{IsWorking}
 use Rattle.walter_work.proofs.Working.{takes_below, takes_on, call_on, restart_on, advance_on, delivery_on, tick_on}
-use Rattle.walter_cluster.specs.Shared.{Works}
+use Rattle.walter_cluster.specs.Shared.{IsAtWork}
 use Rattle.walter_cluster.proofs.Keeping.{ins_long}
 
 -- what a delivery leaves of a trail, and what another event leaves
@@ -89,9 +89,9 @@ module _ (told : Type 0) (t : Scenario) (i : SiteId) (old new : List Entry) wher
 
 module _ {D : Type 0} (g : Ghosts D) (t : Scenario) (i : SiteId) where
   -- where a cell has gone on, its pump too, and its trail is that of a site that works
-  works_further : (a b : CellValue D) (p q : PumpValue) → cell.Keeps g a b → Works g t i a p → q.site ≡ p.site
+  works_further : (a b : CellValue D) (p q : PumpValue) → cell.Keeps g a b → IsAtWork g t i a p → q.site ≡ p.site
       → length q.senders ≡ length p.senders → ((from : ℕ) → taken_from q from ≤ length (arrived_from b.ins from))
-      → IsWorking (is_told g a.node.disk ≡ true) t i b.node.trail q → Works g t i b q
+      → IsWorking (is_told g a.node.disk ≡ true) t i b.node.trail q → IsAtWork g t i b q
   works_further a b p q keeps is site senders taken working = record {
     catalog = keeps.node.catalog ∙ is.catalog;
     site = keeps.node.site ∙ is.site;
@@ -104,18 +104,18 @@ module _ {D : Type 0} (g : Ghosts D) (t : Scenario) (i : SiteId) where
   }
 
   -- no more was taken than has arrived, where more may have
-  no_more_taken : (a b : CellValue D) (p : PumpValue) → cell.Keeps g a b → Works g t i a p
+  no_more_taken : (a b : CellValue D) (p : PumpValue) → cell.Keeps g a b → IsAtWork g t i a p
       → (from : ℕ) → taken_from p from ≤ length (arrived_from b.ins from)
   no_more_taken a b p keeps is from = let m = is.taken from in let n = keeps.more from in omega (arith, m, n)
 
   -- where the trail stays
   pub works_still : (a b : CellValue D) (p : PumpValue) → cell.Keeps g a b → b.node.trail ≡ a.node.trail
-      → Works g t i a p → Works g t i b p
+      → IsAtWork g t i a p → IsAtWork g t i b p
   works_still a b p keeps same is = works_further a b p p keeps is refl refl (no_more_taken a b p keeps is)
       (same_on _ t i a.node.trail b.node.trail p is.working same)
 
   -- how the site stands
-  standing_as : (a : CellValue D) (p : PumpValue) → Works g t i a p
+  standing_as : (a : CellValue D) (p : PumpValue) → IsAtWork g t i a p
       → standing_of a.node ≡ standing t.catalog i (reverse a.node.trail)
   standing_as a p is =
       ap (λ (c : Catalog). standing c a.node.site (reverse a.node.trail)) is.catalog
@@ -125,7 +125,7 @@ module _ {D : Type 0} (g : Ghosts D) (t : Scenario) (i : SiteId) where
   pub works_raised : (a b : CellValue D) (p : PumpValue) (r : Result Acted NoMemory) → cell.Keeps g a b
       → (is_told g a.node.disk ≡ true → (standing_of a.node).up ≡ false)
       → IfOk r (cell.Acts Restart (clock_in a.node) a.node.trail b.node.trail) → OnErr r (b.node.trail ≡ a.node.trail)
-      → Works g t i a p → Works g t i b p
+      → IsAtWork g t i a p → IsAtWork g t i b p
   works_raised a b p (Ok acted.Spent) keeps down acts kept is = works_still a b p keeps acts.1 is
   works_raised a b p (Ok acted.Did) keeps down acts kept is =
       works_further a b p p keeps is refl refl (no_more_taken a b p keeps is)
@@ -150,7 +150,7 @@ module _ {D : Type 0} (g : Ghosts D) (t : Scenario) (i : SiteId) where
   pub works_pumped : (a b : CellValue D) (p q : PumpValue) (r : Result Pumped NoMemory) → cell.Keeps g a b → b.ins ≡ a.ins
       → (is_told g a.node.disk ≡ true → (standing_of a.node).up ≡ true) → IfOk r (pumps.Pumps g a b p q)
       → OnErr r (b.node.trail ≡ a.node.trail) → OnErr r (pumps.TakesSome a.node.site (pumps.counts_in a.ins) p q)
-      → KeepsPump (pumps.counts_in a.ins) p q → Works g t i a p → Works g t i b q
+      → KeepsPump (pumps.counts_in a.ins) p q → IsAtWork g t i a p → IsAtWork g t i b q
   works_pumped a b p q r keeps ins up does kept some pumped is =
       works_further a b p q keeps is pumped.site pumped.senders
       (λ from. subst (λ (is : List Receiving). taken_from q from ≤ length (arrived_from is from)) (sym ins) (pumped.taken from (is.taken from)))
@@ -179,7 +179,7 @@ module _ {D : Type 0} (g : Ghosts D) (t : Scenario) (i : SiteId) where
 
   -- where a client's turn came
   pub works_served : (a b : CellValue D) (p : PumpValue) (client : ℕ) (r : Result Serve NoMemory) → cell.Keeps g a b
-      → IfOk r (ServesAt client a b) → OnErr r (b.node.trail ≡ a.node.trail) → Works g t i a p → Works g t i b p
+      → IfOk r (ServesAt client a b) → OnErr r (b.node.trail ≡ a.node.trail) → IsAtWork g t i a p → IsAtWork g t i b p
   works_served a b p client (Ok answer) keeps serves kept is =
       works_further a b p p keeps is refl refl (no_more_taken a b p keeps is)
       (serve_on client answer serves.0 serves.2.0 serves.2.2)

@@ -44,7 +44,7 @@ abbrev pub bench_before : List Origin → List SiteId → BenchValue (Unit {0})
 bench_before origins homes = record { cells = map (λ (o : Origin). o.cell) origins; homes = homes }
 
 -- a cell with its pump
-pub record Seat (D : Type 0) : Type 0 where
+pub record HeldValue (D : Type 0) : Type 0 where
   pub cell : CellValue D
   pub pump : PumpValue
 
@@ -80,7 +80,7 @@ module _ {D : Type 0} (g : Ghosts D) where
         → AreWrittenAt first client c.node.trail c.lines
 
   -- the cell and the pump of a site work, by the scenario
-  pub record Works (t : Scenario) (i : SiteId) (cell : CellValue D) (pump : PumpValue) : Type 0 where
+  pub record IsAtWork (t : Scenario) (i : SiteId) (cell : CellValue D) (pump : PumpValue) : Type 0 where
     pub catalog : cell.node.catalog ≡ t.catalog
     pub site : cell.node.site ≡ i
     pub ins : length cell.ins ≡ t.catalog.sites
@@ -91,11 +91,11 @@ module _ {D : Type 0} (g : Ghosts D) where
     pub working : IsWorking (is_told g cell.node.disk ≡ true) t i cell.node.trail pump
 
   -- what holds of the cell of a site and its pump whenever its lock is free
-  pub record IsHeld (origins : List Origin) (i : ℕ) (seat : Seat D) : Type 0 where
+  pub record IsHeld (origins : List Origin) (i : ℕ) (held : HeldValue D) : Type 0 where
     pub origin : Origin
     pub there : slice_get origins i ≡ Some origin
-    pub gone_on : HasGoneOn origin seat.cell
-    pub works : Works origin.scenario (site_at i) seat.cell seat.pump
+    pub gone_on : HasGoneOn origin held.cell
+    pub works : IsAtWork origin.scenario (site_at i) held.cell held.pump
 
   -- so it is with each of these cells and the pump at its place
   abbrev pub AreHeld : List Origin → List (CellValue D) → List PumpValue → Type 0
@@ -103,7 +103,7 @@ module _ {D : Type 0} (g : Ghosts D) where
       → slice_get pumps i ≡ Some p → IsHeld origins i (record { cell = c; pump = p })
 
   -- each cell works, with the pump at its place
-  pub record AreWorking (t : Scenario) (cells : List (CellValue D)) (pumps : List PumpValue) : Type 0 where
+  pub record AreAtWork (t : Scenario) (cells : List (CellValue D)) (pumps : List PumpValue) : Type 0 where
     pub long : length pumps ≡ length cells
     pub each : (i : ℕ) (c : CellValue D) (p : PumpValue) → slice_get cells i ≡ Some c → slice_get pumps i ≡ Some p
-        → Works t (site_at i) c p
+        → IsAtWork t (site_at i) c p

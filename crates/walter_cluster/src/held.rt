@@ -26,9 +26,9 @@ impl<N: Name, D: Disk, S: Source + Drop, K: Sink + Drop, const I: usize> Model
     ghost use Rattle.walter_base.specs.contracts.catalog.Catalog as coded_catalog;
     ghost use Rattle.walter_lane.specs.Lanes.{sending_code, receiving_code};
     ghost use Rattle.walter_rules.specs.contracts.entry.Entry as coded_entry;
-    ghost use Rattle.walter_cluster.specs.Shared.{IsHeld, Seat};
+    ghost use Rattle.walter_cluster.specs.Shared.{IsHeld, HeldValue};
 
-    ghost Value = { Seat D };
+    ghost Value = { HeldValue D };
 
     ghost coded = { Prim.hlevel (codes, coded_catalog.the_row.coded, coded_entry.the_row.coded, sending_code, receiving_code) };
 

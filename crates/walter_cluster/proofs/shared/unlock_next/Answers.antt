@@ -15,9 +15,9 @@ returns-in-Some-clause-held g c =
     let pumps = c.args.pumps.now.items in
     let long : length cells ≡ g.row.I = omega (arith, there, c.requires.cells, c.args.cells.now.ok.0) in
     let as_long : length pumps ≡ g.row.I = omega (arith, there, c.requires.pumps, c.args.pumps.now.ok.0) in
-    let seat = c.into_inner.result in
+    let held = c.into_inner.result in
     let parts = c.into_parts-cell in
     held_more g.D.Disk g.N.Name.origins g.row.I cells pumps _ _ parts.result.0 parts.result.1 long as_long
     c.push_reserved.ensures.items c.push_reserved-in-Some.ensures.items c.requires.held
     (subst (λ (x : CellValue g.row.D.Denot). IsHeld g.D.Disk g.N.Name.origins g.row.I (record { cell = x; pump = parts.result.1 })) (sym parts.ensures.cell)
-    (subst (λ (q : PumpValue). IsHeld g.D.Disk g.N.Name.origins g.row.I (record { cell = seat.cell; pump = q })) (sym parts.ensures.pump) parts.ensures.held))
+    (subst (λ (q : PumpValue). IsHeld g.D.Disk g.N.Name.origins g.row.I (record { cell = held.cell; pump = q })) (sym parts.ensures.pump) parts.ensures.held))
