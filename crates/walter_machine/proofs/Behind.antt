@@ -6,8 +6,9 @@ use Rattle.walter_base.specs.declared.catalog.Catalog.{Catalog}
 use Rattle.walter_base.specs.declared.message.Record.{Record}
 use Rattle.walter_base.specs.declared.names.SiteId.{SiteId}
 use Rattle.walter_machine.specs.declared.ready.Step.TheVariants.{Answer, Apply, Fall, Rise}
+use Rattle.walter_machine.specs.Debts.{sessions_lost}
 use Rattle.walter_machine.specs.States.{IsOf, IsState}
-use Rattle.walter_machine.specs.Steps.{came_of, IsIdle, IsPlan, IsPlanOf, IsRise, IsKnownBy, Steps}
+use Rattle.walter_machine.specs.Steps.{came_of, IsIdle, IsPlan, IsPlanOf, IsRise, IsStop, IsKnownBy, Steps}
 use Rattle.walter_rules.specs.declared.entry.Came.{Came}
 use Rattle.walter_rules.specs.declared.event.Event.{Event}
 use Rattle.walter_rules.specs.declared.event.Event.TheVariants.{Given, Stop, Restart}
@@ -20,7 +21,7 @@ use Rattle.walter_rules.specs.Learning.{after, lost}
 use Rattle.walter_rules.specs.Sessions.{Sessions, session_in}
 use Rattle.walter_rules.specs.Standing.{Standing, stands_after, up_after, goes_down, comes_up, flight_after, owed, told}
 use Rattle.walter_rules.proofs.Staying.{rule_stays}
-use Rattle.walter_session.specs.Sessions.{Table, sessions_of}
+use Rattle.walter_session.specs.Sessions.{Table}
 use Rattle.walter_site.specs.declared.plan.Plan.{Plan}
 use Rattle.walter_site.specs.Members.{Knows, input_rule, up_with}
 use Rattle.walter_site.proofs.Booted.{knows_booted}
@@ -133,12 +134,14 @@ plan_steps catalog i S Stop plan (Some t) new of state is knows = absurd is
 plan_steps catalog i S Restart plan (Some t) new of state is knows = absurd is
 
 -- a site was stopped
-pub fall_steps : (catalog : Catalog) (i : SiteId) (S : Standing) (event : Event) (table : Table) → event ≡ Stop
-    → sessions_of table ≡ S.knows.sessions → Steps catalog i S event (came_of Fall) None (Some table)
-fall_steps catalog i S event table stop same =
-    subst (λ (e : Event). Steps catalog i S e (came_of Fall) None (Some table)) (sym stop) (record {
+pub fall_steps : (catalog : Catalog) (i : SiteId) (S : Standing) (event : Event) (site : Option Tables) (lost : Option Table)
+    → IsState S site → IsStop site event → IfSome site (λ t. Knows t S.knows → sessions_lost lost ≡ S.knows.sessions)
+    → Steps catalog i S event (came_of Fall) None lost
+fall_steps catalog i S event None lost state is same = absurd is
+fall_steps catalog i S event (Some t) lost state is same =
+    subst (λ (e : Event). Steps catalog i S e (came_of Fall) None lost) (sym is) (record {
       state = refl;
-      gone = λ client. ap (λ (all : Sessions). owed (session_in client all) (S.gone client)) (sym same);
+      gone = λ client. ap (λ (all : Sessions). owed (session_in client all) (S.gone client)) (sym (same state.knows));
     })
 
 -- a site came up

@@ -39,7 +39,8 @@ use Rattle.walter_rules.specs.Standing.{Standing, unmade}
 use Rattle.walter_rules.specs.Trails.{TakesMemory}
 use Rattle.walter_site.specs.declared.plan.Plan.{Plan}
 use Rattle.walter_site.specs.Members.{Knows, IsShortOutcome, input_rule}
-use Rattle.walter_site.specs.Plans.{IsReady}
+use Rattle.walter_site.specs.Plans.{CanKeepAny, IsReady}
+use Rattle.walter_tables.specs.declared.made.Made.{Made}
 use Rattle.walter_tables.specs.declared.tables.Tables.{Tables}
 use Rattle.walter_tables.specs.Planning.{expected_of}
 use Rattle.walter_tables.specs.Sites.{site_of, catalog_of, Stands}
@@ -80,6 +81,14 @@ recorded_here sites (Some rec) sizes = recordable sites rec sizes
 takes_here : (rec : Option Record) (P : Type 0) → (is_some rec ≡ true → P) → IfSome rec (λ r. P)
 takes_here None P so = tt
 takes_here (Some rec) P so = so refl
+
+-- what goes with a record is made where there is one
+pub kept_both : (t : Tables) (rec : Option Record) (made : Option Made) → CanKeepAny t rec made
+    → is_some made ≡ is_some rec
+kept_both t None None keeps = refl
+kept_both t (Some rec) (Some made) keeps = refl
+kept_both t None (Some made) keeps = absurd keeps
+kept_both t (Some rec) None keeps = absurd keeps
 
 -- a plan
 pub plan_ready : (catalog : Catalog) (i : SiteId) (S : Standing) (old new : Tables) (input : Input) (owing : Option Tid)

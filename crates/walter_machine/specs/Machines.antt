@@ -39,11 +39,11 @@ pub record HasStanding (m : Machine) (S : Standing) : Type 0 where
   pub count : (S.up ≡ true) ⊎ IsSome S.flight → m.records ≡ length S.records
   pub owed : (client : ℕ) → S.gone client ≡ owed_by m.debts.entries m.lost client
 
--- There is memory for what an event leaves: whoever was lost is in the debts, and there are places for its record; and one
--- more record can be counted.
+-- There is memory for what an event leaves: whoever was lost is in the debts, and its record has a place in flight;
+-- and one more record can be counted.
 pub record IsRoom (has_lost : Bool) (places records : ℕ) : Type 0 where
   pub unlost : has_lost ≡ false
-  pub enough : 2 ≤ places
+  pub enough : 1 ≤ places
   pub countable : records + 1 < 2 ^ 64
 
 abbrev pub HasRoom : Machine → Type 0

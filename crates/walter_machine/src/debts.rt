@@ -16,7 +16,7 @@ pub fn debt_of(debts: &IndexMap<u32, Tid>, input: &Input) -> Option<Tid>
     ensures { IsDebtOf (λ client. of_client client debts.now.entries) input.now result }
 {
     match input {
-        Input::Call { client, .. } => debts.get(client).copied(),
+        Input::Call { client, .. } if !debts.is_empty() => debts.get(client).copied(),
         _ => None,
     }
 }

@@ -1,20 +1,24 @@
 ghost use Rattle.std.specs.Prelude.{◌≡◌, ◌+◌, ◌<◌, ◌^◌, None, Some, is_some, IfSome, IsSome};
 ghost use Rattle.walter_base.specs.declared.catalog.Catalog.{Catalog};
 ghost use Rattle.walter_base.specs.declared.names.SiteId.{SiteId};
+ghost use Rattle.walter_machine.specs.Debts.{sessions_lost};
 ghost use Rattle.walter_machine.specs.States.{IsOf, IsState};
 ghost use Rattle.walter_machine.specs.Steps.{CanStep, IsStep, IsPlan, IsKnownBy, Steps, came_of, outcome_of, sends_of, record_of, flight_behind, records_behind};
+ghost use Rattle.walter_rules.specs.Knowledge.{Knowledge};
 ghost use Rattle.walter_rules.specs.Learning.{after};
 ghost use Rattle.walter_rules.specs.Standing.{Standing, up_after};
+ghost use Rattle.walter_site.specs.Members.{Knows, IsStanding};
 ghost use Rattle.walter_tables.specs.Sites.{site_of, catalog_of};
 
+use crate::packed::PackedPlan;
 use crate::ready::Step;
 use std::alloc::Global;
 use std::mem;
 use walter_base::{MaybeRecord, Record, Sends};
 use walter_rules::{Event, Outcome};
 use walter_session::Sessions;
-use walter_site::{Plan, Site};
-use walter_tables::Planned;
+use walter_site::Site;
+use walter_tables::Tables;
 
 /// Does to a site what the step does to it, and tells what that comes to.
 pub fn follow(
@@ -39,20 +43,36 @@ pub fn follow(
         Step::Answer(outcome) => (outcome, Sends::from(Vec::new(alloc))),
         Step::Apply(plan) => apply(site, event, plan),
         Step::Fall => {
-            if let Some(site) = mem::replace(site, None) {
-                *lost = Some(site.into_sessions());
-            }
+            fall(site, lost);
             (Outcome::Taken, Sends::from(Vec::new(alloc)))
         }
         Step::Rise(tables, _) => {
-            *site = Some(Site::new(Box::into_inner(tables)));
+            rise(site, tables);
             (Outcome::Taken, Sends::from(Vec::new(alloc)))
         }
     }
 }
 
+// The site goes down, and its sessions are lost. Apart from `follow`, which each event passes: this moves a whole site.
+fn fall(site: &mut Option<Site>, lost: &mut Option<Sessions>)
+    ensures down { site.new ≡ None }
+    ensures lost { (K : Knowledge) → IfSome site.old (λ t. Knows t K → sessions_lost lost.new ≡ K.sessions) }
+{
+    if let Some(site) = mem::replace(site, None) {
+        *lost = Some(site.into_sessions());
+    }
+}
+
+// The site comes up with these tables. Apart from `follow` for the same reason.
+fn rise(site: &mut Option<Site>, tables: Box<Tables>)
+    requires { IsStanding tables.value }
+    ensures { site.new ≡ Some tables.value }
+{
+    *site = Some(Site::new(Box::into_inner(tables)));
+}
+
 // The plan of an input is applied.
-fn apply(site: &mut Option<Site>, event: &Event, plan: Plan) -> (Outcome, Sends)
+fn apply(site: &mut Option<Site>, event: &Event, plan: PackedPlan) -> (Outcome, Sends)
     requires { (S : Standing) × IsPlan site.old S event.now plan }
     ensures outcome { result.0 ≡ plan.planned.outcome }
     ensures sends { result.1 ≡ plan.planned.sends }
@@ -65,7 +85,7 @@ fn apply(site: &mut Option<Site>, event: &Event, plan: Plan) -> (Outcome, Sends)
     let Event::Given(input) = event else {
         unreachable!()
     };
-    site.apply(input, plan)
+    site.apply(input, plan.into_plan())
 }
 
 /// The record of a step that has one.
@@ -74,14 +94,7 @@ pub fn rec_of(step: Step) -> Record
     ensures { record_of step ≡ Some result }
 {
     match step {
-        Step::Apply(plan) => {
-            let Plan { planned, .. } = plan;
-            let Planned { rec, .. } = planned;
-            match rec {
-                Some(rec) => rec,
-                None => unreachable!(),
-            }
-        }
+        Step::Apply(plan) => plan.into_record(),
         Step::Rise(_, epoch) => Record::Boot(epoch),
         Step::Answer(_) | Step::Fall => unreachable!(),
     }

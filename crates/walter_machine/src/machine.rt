@@ -9,7 +9,7 @@ use crate::debts::{debt_of, forgive, owe_lost};
 use crate::following::{count_in, follow, rec_of};
 use crate::losing::lose;
 use crate::outcomes::{failure, fullness, want};
-use crate::places::{make_places, place, place_any};
+use crate::places::{make_places, place};
 use crate::preparing::{prepare_input, without_record};
 use crate::ready::{Ready, Step};
 use indexmap::IndexMap;
@@ -205,8 +205,11 @@ impl Machine {
         ensures up { is_up self.new ≡ up_after event.now result.0.outcome (is_up self.old) }
         ensures same { IsSameSite self.old self.new }
     {
-        let Ready { step, rec, frames } = ready;
-        let wrote = place_any(&mut self.places, rec);
+        let Ready {
+            step,
+            rec: wrote,
+            frames,
+        } = ready;
         let flight = mem::replace(&mut self.flight, MaybeRecord::none());
         let (records, flight) = count_in(&wrote, self.records, flight);
         self.records = records;
@@ -239,12 +242,14 @@ impl Machine {
         ensures same { IsSameSite self.old self.new }
     {
         let Ready { step, rec, .. } = ready;
-        let Some(rec) = rec else { unreachable!() };
-        let outcome = failure(event, &rec);
+        let Some(failed) = rec.as_ref() else {
+            unreachable!()
+        };
+        let outcome = failure(event, failed);
         self.flight = place(&mut self.places, rec_of(step));
         lose(&mut self.site, &mut self.lost, event, &outcome);
         Came {
-            flight: place(&mut self.places, rec),
+            flight: rec,
             ..Came::only(self.alloc, outcome)
         }
     }

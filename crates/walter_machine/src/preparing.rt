@@ -16,9 +16,10 @@ ghost use Rattle.walter_site.specs.Members.{IsStanding, IsSizedInput, IsSizedPac
 ghost use Rattle.walter_tables.specs.Sites.{site_of, catalog_of};
 
 use crate::outcomes::{gone_first, outcome_at_rest};
+use crate::packed::PackedPlan;
 use crate::ready::{Ready, Step};
 use std::alloc::Global;
-use walter_base::{Mem, Record, Refusal, Reply, Sends, Tid};
+use walter_base::{MaybeRecord, Mem, Record, RecordPlace, Refusal, Reply, Sends, Tid};
 use walter_packet::Framed;
 use walter_rules::{Input, Outcome};
 use walter_site::Site;
@@ -32,7 +33,7 @@ pub fn without_record(alloc: Global, step: Step) -> Ready
 {
     Ready {
         step,
-        rec: None,
+        rec: MaybeRecord::none(),
         frames: Vec::new(alloc),
     }
 }
@@ -88,22 +89,22 @@ fn plan(alloc: Global, site: &mut Site, sites: u8, input: &Input) -> Mem<Ready>
 {
     let plan = site.plan(input)?;
     let frames = frame_all(alloc, &plan.planned.sends, sites)?;
-    let rec = copy_any(&plan.planned.rec)?;
+    let rec = copy_any(alloc, &plan.planned.rec)?;
     Ok(Ready {
-        step: Step::Apply(plan),
+        step: Step::Apply(PackedPlan::new(alloc, plan)?),
         rec,
         frames,
     })
 }
 
 // A copy of a record, where there is one.
-fn copy_any(rec: &Option<Record>) -> Mem<Option<Record>>
+fn copy_any(alloc: Global, rec: &Option<Record>) -> Mem<MaybeRecord>
     ensures copy { IfOk result (λ copy. copy ≡ rec.now) }
     ensures free { OnErr result (is_some rec.now ≡ true) }
 {
     match rec {
-        Some(rec) => Ok(Some(rec.clone()?)),
-        None => Ok(None),
+        Some(rec) => Ok(RecordPlace::new(alloc)?.fill(rec.clone()?)),
+        None => Ok(MaybeRecord::none()),
     }
 }
 

@@ -5,11 +5,11 @@ ghost use Rattle.walter_rules.specs.Standing.{Standing};
 ghost use Rattle.walter_rules.specs.declared.event.Event.TheVariants as event;
 ghost use Rattle.walter_tables.specs.Sites.{values_of, site_of, catalog_of, Stands};
 
+use crate::packed::PackedPlan;
 use std::alloc::Global;
-use walter_base::Record;
+use walter_base::{MaybeRecord, Record, RecordPlace};
 use walter_packet::Framed;
 use walter_rules::Outcome;
-use walter_site::Plan;
 use walter_tables::Tables;
 
 /// What is to come of an event, with all that it takes. Contracts say by `IsReadyFor` of which event, and read it by
@@ -18,7 +18,7 @@ use walter_tables::Tables;
 pub struct Ready {
     pub(crate) step: Step,
     // The step's record, once more for the trail.
-    pub(crate) rec: Option<Record>,
+    pub(crate) rec: MaybeRecord,
     // The frames of the packets that are to be put out.
     pub(crate) frames: Vec<Framed>,
     ghost copy: { rec ≡ record_of step },
@@ -30,7 +30,7 @@ pub(crate) enum Step {
     /// It is answered, and what the site knows stays.
     Answer(Outcome),
     /// The plan of an input is applied.
-    Apply(Plan),
+    Apply(PackedPlan),
     /// The site goes down.
     Fall,
     /// The site comes up in this epoch, with these tables behind its Boot. They are large beside what other steps have,
@@ -70,9 +70,12 @@ impl Ready {
         let Ok(tables) = Box::new(alloc, tables) else {
             return Err(BootFault::NoMemory);
         };
+        let Ok(place) = RecordPlace::new(alloc) else {
+            return Err(BootFault::NoMemory);
+        };
         Ok(Ready {
             step: Step::Rise(tables, epoch),
-            rec: Some(Record::Boot(epoch)),
+            rec: place.fill(Record::Boot(epoch)),
             frames: Vec::new(alloc),
         })
     }

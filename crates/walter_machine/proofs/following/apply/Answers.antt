@@ -1,9 +1,20 @@
+use Rattle.std.proofs.Common.{Some, sym, subst}
+use Rattle.std.specs.Prelude.{IfSome}
+use Rattle.walter_machine.specs.Steps.{IsKnownBy, IsPlan}
 use Rattle.walter_machine.proofs.Behind.{applied_knows, applied_of}
+use Rattle.walter_rules.specs.Learning.{after}
+use Rattle.walter_site.specs.declared.plan.Plan.{Plan}
+use Rattle.walter_tables.specs.Sites.{site_of, catalog_of}
 use Rattle.walter_machine.proofs.following.apply.Goals as goal
 
 pub returns-clause-knows : goal.returns-clause-knows
 returns-clause-knows c = λ S is.
-    applied_knows c.args.site.now c.args.event.now S c.args.plan c.in-Some.site _ c.in-Given.input c.in-Some.is c.in-Given.is c.apply.ensures.knows is
+    let site = c.args.site.now in
+    let event = c.args.event.now in
+    subst (λ (p : Plan). IfSome site (λ t.
+    IsKnownBy (Some c.apply.new.self) (after (catalog_of t) (site_of t) S.knows event p.planned.outcome p.planned.rec))) c.into_plan.ensures
+    (applied_knows site event S c.into_plan.result c.in-Some.site _ c.in-Given.input c.in-Some.is c.in-Given.is c.apply.ensures.knows
+    (subst (λ (p : Plan). IsPlan site S event p) (sym c.into_plan.ensures) is))
 
 pub returns-clause-of : goal.returns-clause-of
 returns-clause-of c = λ catalog i of.

@@ -1,13 +1,24 @@
-use Rattle.std.proofs.Common.{◌≡◌, ◌∙◌, true, Option, Some, None, sym, subst}
+use Rattle.std.proofs.Common.{◌≡◌, ◌∙◌, Option, Some, None, sym, ap, subst}
 use Rattle.std.specs.Prelude.{is_some}
 use Rattle.walter_rules.specs.Standing.{up_after}
 use Rattle.walter_machine.specs.declared.ready.Step.{Step}
-use Rattle.walter_machine.specs.declared.ready.Step.TheVariants.{Apply, Rise}
+use Rattle.walter_machine.specs.declared.ready.Step.TheVariants.{Apply, Fall, Rise}
 use Rattle.walter_tables.specs.declared.tables.Tables.{Tables}
 use Rattle.walter_machine.specs.Steps.{Steps, IsStep, came_of, outcome_of}
-use Rattle.walter_machine.proofs.Behind.{plan_steps, rise_steps, idle_up, plan_up, rise_up}
+use Rattle.walter_machine.proofs.Behind.{plan_steps, fall_steps, rise_steps, idle_up, plan_up, rise_up}
+use Rattle.walter_base.specs.declared.message.Record.TheVariants.{Boot}
+use Rattle.walter_rules.specs.Learning.{recorded}
 use Rattle.walter_session.specs.Sessions.{Table}
+use Rattle.walter_site.proofs.Booted.{knows_booted}
 use Rattle.walter_machine.proofs.following.follow.Goals as goal
+
+pub rise-requires : goal.rise-requires
+rise-requires c =
+    let can = c.requires.can in
+    let rise_is = subst (λ (s : Step). IsStep can.catalog can.i c.args.site.now can.S c.args.event.now s) c.in-Rise.is can.is in (
+      recorded can.catalog can.i (Some (Boot c.in-Rise.field-1)) can.S.knows,
+      knows_booted can.catalog can.i c.in-Rise.tables.value can.S.knows c.in-Rise.field-1 rise_is.next rise_is.stands,
+    )
 
 pub returns-in-Apply-clause-steps : goal.returns-in-Apply-clause-steps
 returns-in-Apply-clause-steps c = λ catalog i S of state is.
@@ -18,14 +29,23 @@ returns-in-Apply-clause-steps c = λ catalog i S of state is.
     (subst (λ (lost : Option Table). Steps catalog i S event (came_of (Apply c.in-Apply.plan)) c.apply.new.site lost) (sym c.requires.unlost)
     (plan_steps catalog i S event c.in-Apply.plan site c.apply.new.site of state plan_is (c.apply.ensures.knows S plan_is)))
 
+pub returns-in-Fall-clause-steps : goal.returns-in-Fall-clause-steps
+returns-in-Fall-clause-steps c = λ catalog i S of state is.
+    let event = c.args.event.now in
+    let site = c.args.site.now in
+    let stop_is = subst (λ (s : Step). IsStep catalog i site S event s) c.in-Fall.is is in
+    subst (λ (s : Step). Steps catalog i S event (came_of s) c.fall.new.site c.fall.new.lost) (sym c.in-Fall.is)
+    (subst (λ (t : Option Tables). Steps catalog i S event (came_of Fall) t c.fall.new.lost) (sym c.fall.ensures.down)
+    (fall_steps catalog i S event site c.fall.new.lost state stop_is (c.fall.ensures.lost S.knows)))
+
 pub returns-in-Rise-clause-steps : goal.returns-in-Rise-clause-steps
 returns-in-Rise-clause-steps c = λ catalog i S of state is.
     let event = c.args.event.now in
     let site = c.args.site.now in
     let rise_is = subst (λ (s : Step). IsStep catalog i site S event s) c.in-Rise.is is in
-    subst (λ (s : Step). Steps catalog i S event (came_of s) (Some c.new-in-Rise.result) c.args.lost.now) (sym c.in-Rise.is)
-    (subst (λ (lost : Option Table). Steps catalog i S event (came_of (Rise c.in-Rise.tables c.in-Rise.field-1)) (Some c.new-in-Rise.result) lost) (sym c.requires.unlost)
-    (subst (λ (t : Tables). Steps catalog i S event (came_of (Rise c.in-Rise.tables c.in-Rise.field-1)) (Some t) None) (sym (c.new-in-Rise.ensures ∙ c.into_inner.ensures))
+    subst (λ (s : Step). Steps catalog i S event (came_of s) c.rise.new.site c.args.lost.now) (sym c.in-Rise.is)
+    (subst (λ (lost : Option Table). Steps catalog i S event (came_of (Rise c.in-Rise.tables c.in-Rise.field-1)) c.rise.new.site lost) (sym c.requires.unlost)
+    (subst (λ (t : Option Tables). Steps catalog i S event (came_of (Rise c.in-Rise.tables c.in-Rise.field-1)) t None) (sym c.rise.ensures)
     (rise_steps catalog i site S event c.in-Rise.tables c.in-Rise.field-1 rise_is)))
 
 pub returns-in-Answer-clause-up : goal.returns-in-Answer-clause-up
@@ -51,6 +71,6 @@ returns-in-Rise-clause-up c =
     let can = c.requires.can in
     let event = c.args.event.now in
     let site = c.args.site.now in
-    subst (λ (s : Step). true ≡ up_after event (outcome_of s) (is_some site)) (sym c.in-Rise.is)
-    (rise_up can.catalog can.i site can.S event c.in-Rise.tables.value c.in-Rise.field-1
+    subst (λ (s : Step). is_some c.rise.new.site ≡ up_after event (outcome_of s) (is_some site)) (sym c.in-Rise.is)
+    (ap is_some c.rise.ensures ∙ rise_up can.catalog can.i site can.S event c.in-Rise.tables.value c.in-Rise.field-1
     (subst (λ (s : Step). IsStep can.catalog can.i site can.S event s) c.in-Rise.is can.is))

@@ -14,7 +14,7 @@ use Rattle.walter_machine.proofs.machine.Machine.fail.Goals as goal
 pub lose-requires-clause-falls : goal.lose-requires-clause-falls
 lose-requires-clause-falls c =
     subst (λ (o : Outcome). IsFall c.args.event.now o) (sym c.failure-outcome.ensures)
-    (failure_falls c.args.event.now c.in-Some.rec)
+    (failure_falls c.args.event.now c.in-Some.failed.now)
 
 pub invariant_of-self-clause-of : goal.invariant_of-self-clause-of
 invariant_of-self-clause-of c =
@@ -30,18 +30,18 @@ invariant_of-self-clause-sized c =
 pub returns-clause-comes : goal.returns-clause-comes
 returns-clause-comes c = λ capacity S ready fits.
     let m = c.args.self.now in
-    fail_comes m.catalog capacity m.id m.site S c.args.event.now c.args.ready c.in-Some.rec _
-    (sym c.args.ready.copy ∙ c.in-Some.is)
-    (fault_made c.only.result c.failure-outcome.result c.place-2.result c.args.event.now c.in-Some.rec c.only.ensures
-    c.failure-outcome.ensures c.place-2.ensures.rec) ready fits
+    fail_comes m.catalog capacity m.id m.site S c.args.event.now c.args.ready c.in-Some.failed.now _
+    (sym c.args.ready.copy ∙ c.in-Some.ensures.some)
+    (fault_made c.only.result c.failure-outcome.result c.args.ready.rec c.args.event.now c.in-Some.failed.now c.only.ensures
+    c.failure-outcome.ensures c.in-Some.ensures.some) ready fits
 
 pub returns-clause-stands : goal.returns-clause-stands
 returns-clause-stands c = λ S has counted ready.
     let m = c.args.self.now in
-    failed_standing_by m _ S c.args.event.now c.args.ready c.in-Some.rec _ c.failure-outcome.result
-    (sym c.args.ready.copy ∙ c.in-Some.is)
-    (fault_made c.only.result c.failure-outcome.result c.place-2.result c.args.event.now c.in-Some.rec c.only.ensures
-    c.failure-outcome.ensures c.place-2.ensures.rec)
+    failed_standing_by m _ S c.args.event.now c.args.ready c.in-Some.failed.now _ c.failure-outcome.result
+    (sym c.args.ready.copy ∙ c.in-Some.ensures.some)
+    (fault_made c.only.result c.failure-outcome.result c.args.ready.rec c.args.event.now c.in-Some.failed.now c.only.ensures
+    c.failure-outcome.ensures c.in-Some.ensures.some)
     has counted ready c.requires.room.unlost m.of c.failure-outcome.ensures
     c.lose.ensures.lost c.lose.ensures.none refl refl c.lose.ensures.down
     (c.place.ensures.rec ∙ sym c.rec_of.ensures) refl refl

@@ -27,17 +27,17 @@ returns-clause-comes c = λ capacity S ready fits.
     let m = c.args.self.now in
     let out = c.follow-outcome.ensures in
     subst (λ (x : Came). Comes m.catalog capacity m.id S c.args.event.now x)
-    (sym (came_made c.only.result c.follow-outcome.result.0 c.place_any-wrote.result c.follow-outcome.result.1 c.args.ready.step
-    c.only.ensures out.outcome (c.place_any-wrote.ensures.rec ∙ c.args.ready.copy) out.sends))
+    (sym (came_made c.only.result c.follow-outcome.result.0 c.args.ready.rec c.follow-outcome.result.1 c.args.ready.step
+    c.only.ensures out.outcome c.args.ready.copy out.sends))
     (keep_comes m.catalog capacity m.id m.site S c.args.event.now c.args.ready ready fits)
 
 pub returns-clause-stands : goal.returns-clause-stands
 returns-clause-stands c = λ S has counted ready.
     let m = c.args.self.now in
     let out = c.follow-outcome.ensures in
-    let wrote_is = c.place_any-wrote.ensures.rec ∙ c.args.ready.copy in
+    let wrote_is = c.args.ready.copy in
     kept_standing m _ S c.args.event.now c.args.ready _ c.follow-outcome.result.0
-    (came_made c.only.result c.follow-outcome.result.0 c.place_any-wrote.result c.follow-outcome.result.1 c.args.ready.step
+    (came_made c.only.result c.follow-outcome.result.0 c.args.ready.rec c.follow-outcome.result.1 c.args.ready.step
     c.only.ensures out.outcome wrote_is out.sends)
     has counted ready c.requires.room.unlost (out.steps m.catalog m.id S m.of has.state ready.step) refl refl
     (c.count_in-records.ensures.flight ∙ (λ j. flight_behind (wrote_is j) (c.replace-flight.ensures.value j)))
