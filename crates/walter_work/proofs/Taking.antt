@@ -15,7 +15,7 @@ use Rattle.walter_link.specs.declared.pump.Waiting.{Waiting}
 use Rattle.walter_link.specs.Choices.{behind_all, choice_of, chooser_of, copies}
 use Rattle.walter_link.specs.Pumps.{PumpValue, behind_one, count_in, new_pump, new_sender, put_all, put_in, sender_behind, taken_from}
 use Rattle.walter_link.proofs.Taking.{set_here, set_there, taken_behind}
-use Rattle.walter_work.specs.Working.{due, waits_of}
+use Rattle.walter_work.specs.Working.{copies_taken, waits_of}
 use Rattle.walter_work.proofs.Counts.{count_in_put}
 
 -- ---- senders
@@ -119,8 +119,8 @@ module _ (link : Link) (i : SiteId) (pump : PumpValue) (from : SiteId) (n : ℕ)
 
   -- of this sender so many more are due, and of another none
   pub due_more : (f : SiteId) (m : ℕ) (after : PumpValue) → after.senders ≡ senders
-      → due link i after f m + due_by link i from f m s.taken
-      ≡ due link i pump f m + due_by link i from f m (s.taken + n)
+      → copies_taken link i after f m + due_by link i from f m s.taken
+      ≡ copies_taken link i pump f m + due_by link i from f m (s.taken + n)
   due_more f m after is =
       let of : ℕ → ℕ = λ (k : ℕ). if nat_le m k then copies link.seed link.rates i f m else 0 in
       let kept : taken_from after f.0 ≡ count_in (slice_get senders f.0) = ap (λ ss. count_in (slice_get ss f.0)) is in

@@ -15,17 +15,17 @@ use Rattle.walter_work.specs.Worked.{HaveCome, deliveries_of, ticks_in}
 abbrev pub waits_of : SiteId → ℕ → List Waiting → ℕ
 waits_of from number waiting = count_by (λ (w : Waiting). same_site from w.from && nat_eq number w.number) waiting
 
--- how often it is due by now: as often as the link copies it, once it was taken
-abbrev pub due : Link → SiteId → PumpValue → SiteId → ℕ → ℕ
-due link i pump from number =
+-- how often it was put in by now: as often as the link copies it, once it was taken
+abbrev pub copies_taken : Link → SiteId → PumpValue → SiteId → ℕ → ℕ
+copies_taken link i pump from number =
     if nat_le number (taken_from pump from.0) then copies link.seed link.rates i from number else 0
 
--- A site works: each event might come where it did, where the site is told; each packet that is due was delivered or
--- waits; the ticks that were made and those that are left are the scenario's; and the link chooses as it says.
+-- A site works: each event might come where it did, where the site is told; each packet was delivered or waits as often
+-- as it was put in; the ticks that were made and those that are left are the scenario's; and the link chooses as it says.
 pub record IsWorking (told : Type 0) (t : Scenario) (i : SiteId) (trail : List Entry) (pump : PumpValue) : Type 0 where
   pub events : told → HaveCome t.catalog i (reverse trail)
   pub packets : (from : SiteId) (number : ℕ)
-      → deliveries_of from number trail + waits_of from number pump.waiting ≡ due t.link i pump from number
+      → deliveries_of from number trail + waits_of from number pump.waiting ≡ copies_taken t.link i pump from number
   pub ticks : ticks_in trail + pump.ticks ≡ t.ticks
   pub rates : pump.rates ≡ t.link.rates
   pub senders : (from : ℕ) (sender : Sender) → slice_get pump.senders from ≡ Some sender
