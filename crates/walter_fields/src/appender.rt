@@ -8,21 +8,19 @@ use std::marker::Model;
 /// Writes fields one behind the other, into memory that is taken at the start.
 #[derive(Debug, Drop)]
 pub struct Appender {
-    // As many as there is room for in all. Those that were written stand in front.
     bytes: Vec<u8>,
-    // How many were written.
-    written: usize,
+    room: usize,
 }
 
 impl Model for Appender {
-    ghost use Rattle.std.specs.Prelude.{◌≤◌, ◌-◌, take, vec_len};
+    ghost use Rattle.std.specs.Prelude.{◌≤◌, ◌+◌, vec_len, vec_capacity};
     ghost use Rattle.walter_fields.specs.Appenders.{BytesWithRoom};
 
     ghost Value = { BytesWithRoom };
 
-    ghost view = { λ a. record { bytes = take a.written a.bytes.items; room = vec_len a.bytes - a.written } };
+    ghost view = { λ a. record { bytes = a.bytes.items; room = a.room } };
 
-    ghost invariant = { λ a. a.written ≤ vec_len a.bytes };
+    ghost invariant = { λ a. vec_len a.bytes + a.room ≤ vec_capacity a.bytes };
 }
 
 impl Appender {
@@ -31,8 +29,8 @@ impl Appender {
         ensures { IfOk result (λ a. a ≡ record { bytes = []; room = room }) }
     {
         Ok(Appender {
-            bytes: vec![in alloc; 0; room]?,
-            written: 0,
+            bytes: Vec::with_capacity(alloc, room)?,
+            room,
         })
     }
 
@@ -40,8 +38,7 @@ impl Appender {
     pub fn into_bytes(self) -> Vec<u8>
         ensures { result.items ≡ self.bytes }
     {
-        let Appender { mut bytes, written } = self;
-        bytes.truncate(written);
+        let Appender { bytes, room: _ } = self;
         bytes
     }
 
@@ -49,7 +46,7 @@ impl Appender {
     pub fn as_slice(&self) -> &[u8]
         ensures { result.now ≡ self.now.bytes }
     {
-        &self.bytes[..self.written]
+        &self.bytes
     }
 
     /// Drops the bytes that were written: their memory is room again.
@@ -57,7 +54,8 @@ impl Appender {
         ensures bytes { self.new.bytes ≡ [] }
         ensures room { self.new.room ≡ self.old.room + length self.old.bytes }
     {
-        self.written = 0;
+        self.room += self.bytes.len();
+        self.bytes.clear();
     }
 
     fn put(&mut self, bytes: &[u8])
@@ -65,20 +63,8 @@ impl Appender {
         ensures bytes { self.new.bytes ≡ self.old.bytes ++ bytes.now }
         ensures room { self.new.room + length bytes.now ≡ self.old.room }
     {
-        let end = self.written + bytes.len();
-        self.bytes[self.written..end].copy_from_slice(bytes);
-        self.written = end;
-    }
-
-    // The bytes of a number: how many they are is known when this is compiled, so that they are a single store.
-    fn put_number<const N: usize>(&mut self, bytes: [u8; N])
-        requires { N ≤ self.old.room }
-        ensures bytes { self.new.bytes ≡ self.old.bytes ++ bytes.entry }
-        ensures room { self.new.room + N ≡ self.old.room }
-    {
-        let end = self.written + N;
-        self.bytes[self.written..end].copy_from_slice(&bytes);
-        self.written = end;
+        self.bytes.extend_from_slice(bytes).unwrap();
+        self.room -= bytes.len();
     }
 
     #[tactic(auto, unfolding(crate::specs::Spellings::number_spelled))]
@@ -87,7 +73,7 @@ impl Appender {
         ensures bytes { self.new.bytes ≡ self.old.bytes ++ number_spelled 1 n }
         ensures room { self.new.room + 1 ≡ self.old.room }
     {
-        self.put_number([n]);
+        self.put(&[n]);
     }
 
     #[tactic(auto, unfolding(crate::specs::Spellings::number_spelled))]
@@ -96,7 +82,7 @@ impl Appender {
         ensures bytes { self.new.bytes ≡ self.old.bytes ++ number_spelled 2 n }
         ensures room { self.new.room + 2 ≡ self.old.room }
     {
-        self.put_number(n.to_be_bytes());
+        self.put(&n.to_be_bytes());
     }
 
     #[tactic(auto, unfolding(crate::specs::Spellings::number_spelled))]
@@ -105,7 +91,7 @@ impl Appender {
         ensures bytes { self.new.bytes ≡ self.old.bytes ++ number_spelled 4 n }
         ensures room { self.new.room + 4 ≡ self.old.room }
     {
-        self.put_number(n.to_be_bytes());
+        self.put(&n.to_be_bytes());
     }
 
     #[tactic(auto, unfolding(crate::specs::Spellings::number_spelled))]
@@ -114,7 +100,7 @@ impl Appender {
         ensures bytes { self.new.bytes ≡ self.old.bytes ++ number_spelled 8 n }
         ensures room { self.new.room + 8 ≡ self.old.room }
     {
-        self.put_number(n.to_be_bytes());
+        self.put(&n.to_be_bytes());
     }
 
     pub fn i64(&mut self, z: i64)
