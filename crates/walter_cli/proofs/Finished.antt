@@ -11,13 +11,14 @@ use Rattle.walter_cell.specs.Nodes.{IsSound, LeavesRecords as LeavesOn, arms_und
 use Rattle.walter_cluster.specs.Benches.{BenchValue, Keeps, IsOf, IsBench, IsToldAt, AtEach, arms_at, trails_of, disks_of}
 use Rattle.walter_cluster.specs.Builds.{LeavesDisk}
 use Rattle.walter_cluster.specs.Moments.{moment_of}
+use Rattle.walter_cluster.specs.Pumps.{new_pumps}
 use Rattle.walter_cluster.proofs.Changes.{there_is}
 use Rattle.walter_cluster.proofs.Keeping.{of_kept, connected_kept, told_kept}
 use Rattle.walter_disk.specs.declared.disk.Disk.{Ghosts}
 use Rattle.walter_engine.specs.Begins.{HasNoRecord}
 use Rattle.walter_linked.specs.Catalogs.{IsWhole}
 use Rattle.walter_machine.specs.Comings.{is_faulty}
-use Rattle.walter_play.specs.Scripts.{Plays, EndsPlay, new_pumps, ArmsMore, AreArmed, arms_for, arms_of, all_arms, all_steps}
+use Rattle.walter_play.specs.Scripts.{Plays, EndsPlay, ArmsMore, AreArmed, arms_for, arms_of, all_arms, all_steps}
 use Rattle.walter_play.proofs.Arming.{for_more, all_armed}
 use Rattle.walter_play.proofs.Steps.{plays_told}
 use Rattle.walter_rules.specs.declared.entry.Entry.{Entry}

@@ -6,7 +6,7 @@ use Rattle.walter_disk_memory.specs.MemoryRacks.{RackState, rack_of}
 use Rattle.walter_disk_memory.specs.contracts.memory_disk.MemoryDiskDisk.TheImpl.{ghosts as disk_ghosts}
 use Rattle.walter_disk_memory.specs.contracts.memory_rack.MemoryRackRack.TheImpl.{ghosts as rack_ghosts}
 use Rattle.walter_machine.specs.Comings.{is_faulty}
-use Rattle.walter_play.specs.Scripts.{IsPlayed, all_arms}
+use Rattle.walter_play.specs.Scripts.{all_arms}
 use Rattle.walter_rules.specs.declared.entry.Entry.{Entry}
 use Rattle.walter_scenario.specs.declared.place.Detail.{Detail}
 use Rattle.walter_scenario.specs.declared.place.Place.{Place}
@@ -15,14 +15,13 @@ use Rattle.walter_scenario.specs.Scenarios.{IsRefusedAt}
 use Rattle.walter_stream.specs.Streams.{Appends, AppendsFront}
 use Rattle.walter_cli.specs.declared.ended.Ended.{Ended}
 use Rattle.walter_cli.specs.declared.ended.Fault.TheVariants as fault
-use Rattle.walter_cli.specs.Headline.{Outside, Says, AreCallsOf, AreTold, ArmsOfSites, IsDiskOfRun, IsDiskOfWhole, trail_at}
+use Rattle.walter_cli.specs.Headline.{Outside, Says, AreCallsOf, AreTold, ArmsOfSites, IsDiskOfRun, IsDiskOfWhole, IsDrivenBy, trail_at}
 use Rattle.walter_cli.specs.Racks.{Racked, IsUntouched, rack_at, racked}
 use Rattle.walter_cli.specs.Statuses.{status_of}
 use Rattle.walter_cli.specs.Sources.{HasNoReading}
-use Rattle.walter_cli.specs.Words.{Asks, AskForNone, IsForText, IsPosed, IsWrong, Poses, written_by}
+use Rattle.walter_cli.specs.Words.{Asks, AskForNone, IsForText, IsPosed, IsRead, IsWrong, Poses, written_by}
 use Rattle.walter_words.specs.Words.{AsksForText}
 use Rattle.walter_words.specs.declared.asked.Command.{Command}
-use Rattle.walter_words.specs.declared.asked.Command.TheVariants.{Play}
 
 -- what is known of a rack in memory that was made for a call, with room for sixteen disks
 abbrev pub in_memory : RackState → Racked
@@ -43,13 +42,12 @@ pub record IsSureRun (words : List (String Global)) (rack : Racked) (before afte
       → count_by (λ e. is_faulty e.came.outcome) (trail_at trails i) ≡ 0
   pub disks : rack.all scenario.catalog.sites (λ i. IsDiskOfRun rack scenario trails i)
 
--- it was driven by the steps of the scenario, to the last, which armed the disks so, each disk has all its arms, and what was
--- written of it is so
+-- it was driven to its end, which armed the disks so, each disk has all its arms, and what was written of it is so
 pub record IsSureReport (words : List (String Global)) (rack : Racked) (before after : Outside)
     (trails : List (List Entry)) (Written : List ℕ → Type 0) : Type 0 where
   pub run : IsSureRun words rack before after trails
   pub arms : ArmsOfSites
-  pub how_driven : IsPlayed (λ i. Unit {0}) run.scenario trails arms
+  pub how_driven : IsDrivenBy run.command (λ i. Unit {0}) run.scenario trails arms
   pub disks : rack.all run.scenario.catalog.sites (λ i. IsDiskOfWhole rack run.scenario trails arms i)
   pub bytes_written : Written (written_by run.command run.scenario trails)
 
@@ -82,11 +80,11 @@ pub record Assures (words : List (String Global)) (rack : Racked) (before after 
   pub legal_trails : ((ended.trails.items ≡ []) × IsUntouched rack)
       ⊎ IsSureRun words rack before after ended.trails.items
   pub silent : ended.status ≢ 0 → ended.status ≢ 4 → after.holds ≡ before.holds
-  -- where source and sink don't fail, the scenario that is posed is run, and bytes to be played that spell none are refused
+  -- where source and sink don't fail, the scenario that is posed is run, and bytes to be read that spell none are refused
   -- at their place; or it is 5, for want of memory
   pub complete : (command : Command) (s : Scenario) → Asks command words → Poses command before.left s
       → after.source_faults ≡ before.source_faults → after.sink_faults ≡ before.sink_faults
       → (ended.status ≡ 0) ⊎ (ended.status ≡ 5)
-  pub refuses : (trace : Bool) (bytes : List ℕ) (place : Place) → Asks (Play trace) words → before.left ≡ Some bytes
-      → IsRefusedAt bytes place → after.source_faults ≡ before.source_faults
+  pub refuses : (command : Command) (bytes : List ℕ) (place : Place) → Asks command words → IsRead command
+      → before.left ≡ Some bytes → IsRefusedAt bytes place → after.source_faults ≡ before.source_faults
       → ((detail : Detail) × (ended.fault ≡ Some (fault.Scenario place detail))) ⊎ (ended.status ≡ 5)

@@ -1,5 +1,5 @@
 -- What the parts of a call of the program come to.
-use Rattle.std.specs.Prelude.{◌≡◌, ◌<◌, ◌≤◌, ◌⊎◌, ℕ, All, List, [], Option, Some, None, IsSome, IfSome, length, slice_get}
+use Rattle.std.specs.Prelude.{◌≡◌, ◌<◌, ◌≤◌, ◌⊎◌, ◌^◌, ℕ, All, List, [], Option, Some, None, IsSome, IfSome, length, slice_get}
 use Rattle.walter_cluster.specs.Benches.{BenchValue, IsOf, IsToldAt, AreAllConnected, AreMet, arms_at}
 use Rattle.walter_cluster.specs.Moments.{IsFirst, moment_of}
 use Rattle.walter_disk.specs.declared.disk.Disk.{Ghosts}
@@ -9,7 +9,7 @@ use Rattle.walter_engine.specs.declared.answers.BeginFault.TheVariants as unbegu
 use Rattle.walter_rules.specs.declared.entry.Entry.{Entry}
 use Rattle.walter_base.specs.Vectors.{most_sites}
 use Rattle.walter_linked.specs.Catalogs.{IsWhole}
-use Rattle.walter_scenario.specs.Parts.{IsArm, IsStep, IsCapacity}
+use Rattle.walter_scenario.specs.Parts.{IsArm, IsStep, IsCapacity, IsThreads}
 use Rattle.walter_scenario.specs.declared.scenario.Client.{Client}
 use Rattle.walter_scenario.specs.declared.scenario.Scenario.{Scenario}
 use Rattle.walter_stream.specs.Streams.{Appends, AppendsFront}
@@ -22,7 +22,7 @@ use Rattle.walter_cli.specs.Racks.{RackAt, Racked, IsUntouched, IsFaultlessBefor
 use Rattle.walter_cli.specs.Sources.{HasNoReading}
 use Rattle.walter_cli.specs.Words.{written_by}
 use Rattle.walter_words.specs.declared.asked.Command.{Command}
-use Rattle.walter_words.specs.declared.asked.Command.TheVariants.{Play, Load, Say}
+use Rattle.walter_words.specs.declared.asked.Command.TheVariants.{Play, Run, Load, Say}
 
 -- why no scenario was taken from a source that had failed so often, and has now
 abbrev pub IsTakeFault : Option (List ℕ) → Option (List ℕ) → ℕ → ℕ → Fault → Type 0
@@ -31,20 +31,23 @@ IsTakeFault before after faults faults' Read = faults < faults'
 IsTakeFault before after faults faults' Memory = Unit {0}
 IsTakeFault before after faults faults' fault = ⊥
 
--- why none was posed: of what is to be played, so; of what is made, want of memory, and nothing was read
+-- why none was posed: of what is read, so; of what is made, want of memory, and nothing was read
 abbrev pub IsPoseFault : Command → Option (List ℕ) → Option (List ℕ) → ℕ → ℕ → Fault → Type 0
 IsPoseFault (Play trace) before after faults faults' fault = IsTakeFault before after faults faults' fault
+IsPoseFault (Run trace) before after faults faults' fault = IsTakeFault before after faults faults' fault
 IsPoseFault (Load seed calls) before after faults faults' fault = (fault ≡ Memory) × (after ≡ before)
 IsPoseFault (Say text) before after faults faults' fault = ⊥
 
 -- a scenario that can be played: its sites are few, and fewer may be lost; its containers, clients, arms and steps are of
--- these sites; and a journal has place for an epoch
+-- these sites; its clients can be numbered, and its threads made; and a journal has place for an epoch
 pub record IsPlayable (s : Scenario) : Type 0 where
   pub some : 0 < s.catalog.sites
   pub few : s.catalog.sites ≤ most_sites
   pub fewer : s.catalog.tolerated < s.catalog.sites
   pub whole : IsWhole s.catalog
   pub within : All (λ (client : Client). client.site.0 < s.catalog.sites) s.clients
+  pub clients : length s.clients < 2 ^ 32
+  pub threads : IsThreads s.threads
   pub capacity : IsCapacity s.capacity
   pub arms : All (IsArm s.catalog.sites) s.arms
   pub steps : All (IsStep s.catalog.sites (length s.clients)) s.steps
@@ -98,21 +101,21 @@ abbrev pub MayHaveRun : Racked → Scenario → List (List Entry) → Type 0
 MayHaveRun rack s trails = ((trails ≡ []) × IsUntouched rack) ⊎ IsRun rack s trails
 
 -- it is a whole run, and all disks were given back
-abbrev pub IsWholeBack : Racked → Scenario → List (List Entry) → Type 0
-IsWholeBack rack s trails = (arms : ArmsOfSites) × IsWholeRun rack s trails arms
+abbrev pub IsWholeBack : Racked → Command → Scenario → List (List Entry) → Type 0
+IsWholeBack rack command s trails = (arms : ArmsOfSites) × IsWholeRun rack command s trails arms
     × rack.all s.catalog.sites (λ i. IsDiskOfWhole rack s trails arms i)
 
 -- what a run over a sink comes to: its trails, and what was written of its report
 abbrev pub EndsRun : Racked → Command → Scenario → (holds holds' : Option (List ℕ)) → (faults faults' : ℕ)
     → List (List Entry) → Option Fault → Type 0
 EndsRun rack command s holds holds' faults faults' trails None =
-    IsWholeBack rack s trails × Appends holds holds' (written_by command s trails)
+    IsWholeBack rack command s trails × Appends holds holds' (written_by command s trails)
 EndsRun rack command s holds holds' faults faults' trails (Some Write) =
-    IsWholeBack rack s trails × AppendsFront holds holds' (written_by command s trails) × (faults < faults')
+    IsWholeBack rack command s trails × AppendsFront holds holds' (written_by command s trails) × (faults < faults')
 EndsRun rack command s holds holds' faults faults' trails (Some Memory) =
     MayHaveRun rack s trails × (holds' ≡ holds)
 EndsRun rack command s holds holds' faults faults' trails (Some (Rack site)) =
-    (site < s.catalog.sites) × IsRackFault rack s trails site × (holds' ≡ holds)
+    (site < s.catalog.sites) × IsRackFault rack command s trails site × (holds' ≡ holds)
 EndsRun rack command s holds holds' faults faults' trails (Some (Journal site cause place)) =
     ((trails ≡ []) × IsUntouched rack) × (holds' ≡ holds) × (site < s.catalog.sites)
     × IsFirstUnfit rack site cause place × rack.each (IsFaultlessBefore site)

@@ -37,10 +37,11 @@ use Rattle.walter_cli.specs.Promises.{KeepAllPromises}
 use Rattle.walter_cli.specs.Racks.{Racked, IsTold, AreAllTold, Holds, IsUntouched, HasFailed, HasCause, IsFaultlessBefore, FailsToTake, FailsToLoad, FailsToGive}
 use Rattle.walter_cli.specs.Statuses.{status_of}
 use Rattle.walter_cli.specs.Sources.{HasNoReading}
-use Rattle.walter_cli.specs.Words.{Asks, AskForNone, IsForText, IsPosed, IsWrong, Poses, written_by}
+use Rattle.walter_cli.specs.Words.{Asks, AskForNone, IsForText, IsPosed, IsRead, IsWrong, Poses, written_by}
+use Rattle.walter_work.specs.Driven.{IsDriven}
 use Rattle.walter_words.specs.Words.{AsksForText}
 use Rattle.walter_words.specs.declared.asked.Command.{Command}
-use Rattle.walter_words.specs.declared.asked.Command.TheVariants.{Play}
+use Rattle.walter_words.specs.declared.asked.Command.TheVariants.{Play, Run, Load, Say}
 
 -- ---- the outside
 
@@ -134,11 +135,19 @@ pub record IsRun (rack : Racked) (s : Scenario) (trails : List (List Entry)) : T
   pub disks : rack.handed s.catalog.sites (λ i. IsDiskOfRun rack s trails i)
   pub given_back : rack.failed ⊎ rack.all s.catalog.sites (λ i. IsDiskOfRun rack s trails i)
 
--- it was driven by the steps of the scenario, to the last, and armed the disks so; all disks were handed back, armed as it
--- says
-pub record IsWholeRun (rack : Racked) (s : Scenario) (trails : List (List Entry)) (arms : ArmsOfSites) : Type 0 where
+-- how the sites of a scenario were driven to these trails: by its steps, to the last, which armed the disks so; or by
+-- threads, until nothing was left to do
+abbrev pub IsDrivenBy : Command → (told : ℕ → Type 0) → Scenario → List (List Entry) → ArmsOfSites → Type 0
+IsDrivenBy (Play trace) told s trails arms = IsPlayed told s trails arms
+IsDrivenBy (Run trace) told s trails arms = IsDriven told ⊥ s trails
+IsDrivenBy (Load seed calls) told s trails arms = IsPlayed told s trails arms
+IsDrivenBy (Say text) told s trails arms = ⊥
+
+-- it was driven to its end; all disks were handed back, armed as it says
+pub record IsWholeRun (rack : Racked) (command : Command) (s : Scenario) (trails : List (List Entry))
+    (arms : ArmsOfSites) : Type 0 where
   pub run : IsRun rack s trails
-  pub how_driven : IsPlayed (λ i. IsTold rack i) s trails arms
+  pub how_driven : IsDrivenBy command (λ i. IsTold rack i) s trails arms
   pub disks : rack.handed s.catalog.sites (λ i. IsDiskOfWhole rack s trails arms i)
 
 -- the words ask for a run, and these are the trails of one of the scenario that is posed
@@ -159,7 +168,7 @@ pub record RunsWhole (words : List (String Global)) (rack : Racked) (before afte
   pub scenario : Scenario
   pub posed : IsPosed command before.left after.left scenario
   pub arms : ArmsOfSites
-  pub run : IsWholeRun rack scenario trails arms
+  pub run : IsWholeRun rack command scenario trails arms
   pub disks_given_back : rack.all scenario.catalog.sites (λ i. IsDiskOfWhole rack scenario trails arms i)
   pub bytes_written : Written (written_by command scenario trails)
 
@@ -174,19 +183,20 @@ pub record Says (words : List (String Global)) (rack : Racked) (before after : O
   pub untouched : IsUntouched rack
 
 -- the words ask for a run of a scenario that is posed, of which it is so
-pub record OfScenario (words : List (String Global)) (before after : Outside) (P : Scenario → Type 0) : Type 0 where
+pub record OfScenario (words : List (String Global)) (before after : Outside) (P : Command → Scenario → Type 0)
+    : Type 0 where
   pub command : Command
   pub asked : Asks command words
   pub scenario : Scenario
   pub posed : IsPosed command before.left after.left scenario
-  pub holds : P scenario
+  pub holds : P command scenario
 
 -- Why a site's disk ended a call: no run began, since it could not be taken, or failed in its first loading, as that of no
 -- site before it did; or a run was driven to its end, and it is the first disk that could not be given back.
-abbrev pub IsRackFault : Racked → Scenario → List (List Entry) → ℕ → Type 0
-IsRackFault rack s trails site =
+abbrev pub IsRackFault : Racked → Command → Scenario → List (List Entry) → ℕ → Type 0
+IsRackFault rack command s trails site =
     ((trails ≡ []) × IsUntouched rack × (FailsToTake rack site ⊎ FailsToLoad rack s.catalog.sites site))
-    ⊎ ((arms : ArmsOfSites) × IsWholeRun rack s trails arms × FailsToGive rack site)
+    ⊎ ((arms : ArmsOfSites) × IsWholeRun rack command s trails arms × FailsToGive rack site)
 
 -- the first of the sites whose disk has bytes with which no new site can begin, and why
 pub record IsFirstUnfit (rack : Racked) (site : ℕ) (cause : JournalCause) (place : ℕ) : Type 0 where
@@ -225,11 +235,12 @@ pub record Promise (words : List (String Global)) (rack : Racked) (before after 
   -- 6: the disk of the site that is named, one of the scenario's, could not be taken, or failed before all sites were
   -- up, or could not be given back; it is the first of these
   pub unracked : (site : ℕ) → ended.fault ≡ Some (fault.Rack site)
-      → OfScenario words before after (λ s. (site < s.catalog.sites) × IsRackFault rack s ended.trails.items site)
+      → OfScenario words before after (λ command s. (site < s.catalog.sites)
+      × IsRackFault rack command s ended.trails.items site)
   -- 7: the disk of the site that is named, one of the scenario's, has what no new site can begin with, where it tells what
   -- it has; those of the sites before it have no record, and have not failed
   pub unfit : (site : ℕ) (cause : JournalCause) (place : ℕ) → ended.fault ≡ Some (fault.Journal site cause place)
-      → OfScenario words before after (λ s. (site < s.catalog.sites) × IsFirstUnfit rack site cause place
+      → OfScenario words before after (λ command s. (site < s.catalog.sites) × IsFirstUnfit rack site cause place
       × rack.each (IsFaultlessBefore site))
   -- and exactly then, where all disks are told and were taken, the source doesn't fail, and no disk does before all sites
   -- are up
@@ -250,11 +261,11 @@ pub record Promise (words : List (String Global)) (rack : Racked) (before after 
   pub no_trails : (ended.trails.items ≡ []) ⊎ (ended.status ≡ 0) ⊎ (ended.status ≡ 4) ⊎ (ended.status ≡ 5)
       ⊎ (ended.status ≡ 6)
   -- where nothing fails and all disks tell that they have no record, the scenario that is posed is run, and the status is 0;
-  -- where the source's bytes are to be played and are wrong at a place it is 2 with this place; or it is 5 for want of memory
+  -- where the source's bytes are to be read and are wrong at a place it is 2 with this place; or it is 5 for want of memory
   pub complete : (command : Command) (s : Scenario) → Asks command words → Poses command before.left s
       → AreAllTold rack s.catalog.sites → ((i : ℕ) → i < s.catalog.sites → Holds rack i HasNoRecord)
       → after.source_faults ≡ before.source_faults → after.sink_faults ≡ before.sink_faults → ¬ rack.failed
       → (ended.status ≡ 0) ⊎ (ended.status ≡ 5) ⊎ FailsEarly rack ended.trails.items
-  pub refuses : (trace : Bool) (bytes : List ℕ) (place : Place) → Asks (Play trace) words → before.left ≡ Some bytes
-      → IsRefusedAt bytes place → after.source_faults ≡ before.source_faults
+  pub refuses : (command : Command) (bytes : List ℕ) (place : Place) → Asks command words → IsRead command
+      → before.left ≡ Some bytes → IsRefusedAt bytes place → after.source_faults ≡ before.source_faults
       → ((detail : Detail) × (ended.fault ≡ Some (fault.Scenario place detail))) ⊎ (ended.status ≡ 5)

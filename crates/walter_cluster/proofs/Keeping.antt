@@ -184,29 +184,43 @@ module _ {D : Type 0} (g : Ghosts D) where
     met = λ met. second.met (first.met met);
   }
 
-  module _ (old new : BenchValue D) (keeps : Keeps g old new) where
-    pub of_kept : (t : Scenario) → IsOf t old → IsOf t new
-    of_kept t is = record {
-      sites = keeps.cells.long ∙ is.sites;
-      catalogs = kept_each old.cells new.cells keeps.cells (λ i c. c.node.catalog ≡ t.catalog) (λ i a b kept was. kept.node.catalog ∙ was) is.catalogs;
-      capacities = kept_each old.cells new.cells keeps.cells (λ i c. c.node.capacity ≡ t.capacity) (λ i a b kept was. kept.node.capacity ∙ was) is.capacities;
-      homes = keeps.homes ∙ is.homes;
+  -- where each cell keeps what a call keeps
+  module _ (old new : BenchValue D) (all : EachKeeps g old.cells new.cells) where
+    pub of_each : (t : Scenario) → new.homes ≡ old.homes → IsOf t old → IsOf t new
+    of_each t homes is = record {
+      sites = all.long ∙ is.sites;
+      catalogs = kept_each old.cells new.cells all (λ i c. c.node.catalog ≡ t.catalog) (λ i a b kept was. kept.node.catalog ∙ was) is.catalogs;
+      capacities = kept_each old.cells new.cells all (λ i c. c.node.capacity ≡ t.capacity) (λ i a b kept was. kept.node.capacity ∙ was) is.capacities;
+      homes = homes ∙ is.homes;
     }
 
-    pub connected_kept : (t : Scenario) → AreAllConnected t old → AreAllConnected t new
-    connected_kept t are = kept_each old.cells new.cells keeps.cells (λ i c. AreConnected t i c)
+    pub connected_each : (t : Scenario) → AreAllConnected t old → AreAllConnected t new
+    connected_each t are = kept_each old.cells new.cells all (λ i c. AreConnected t i c)
         (λ i a b kept was number client at here. kept.connected number client.bytes (was number client at here)) are
 
-    pub answered_kept : (t : Scenario) (before : ℕ → List ℕ) → AreAllAnswered t before old → AreAllAnswered t before new
-    answered_kept t before are = kept_each old.cells new.cells keeps.cells (λ i c. AreAnswered t before i c)
+    pub answered_each : (t : Scenario) (before : ℕ → List ℕ) → AreAllAnswered t before old → AreAllAnswered t before new
+    answered_each t before are = kept_each old.cells new.cells all (λ i c. AreAnswered t before i c)
         (λ i a b kept was number client at here. kept.answered number (before number) (was number client at here)) are
 
-    pub told_kept : (i : ℕ) → IsToldAt g i old → IsToldAt g i new
-    told_kept i told b at =
+    pub told_each : (i : ℕ) → IsToldAt g i old → IsToldAt g i new
+    told_each i told b at =
         let within = slice_get_within new.cells i b at in
-        let l = keeps.cells.long in
+        let l = all.long in
         let a = there_is old.cells i (omega (arith, within, l)) in
-        (keeps.cells.each i a.0 b a.1 at).node.told ∙ told a.0 a.1
+        (all.each i a.0 b a.1 at).node.told ∙ told a.0 a.1
+
+  module _ (old new : BenchValue D) (keeps : Keeps g old new) where
+    pub of_kept : (t : Scenario) → IsOf t old → IsOf t new
+    of_kept t is = of_each old new keeps.cells t keeps.homes is
+
+    pub connected_kept : (t : Scenario) → AreAllConnected t old → AreAllConnected t new
+    connected_kept = connected_each old new keeps.cells
+
+    pub answered_kept : (t : Scenario) (before : ℕ → List ℕ) → AreAllAnswered t before old → AreAllAnswered t before new
+    answered_kept = answered_each old new keeps.cells
+
+    pub told_kept : (i : ℕ) → IsToldAt g i old → IsToldAt g i new
+    told_kept = told_each old new keeps.cells
 
   -- ---- what a bench holds besides, for its closing
 

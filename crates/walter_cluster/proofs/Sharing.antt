@@ -1,26 +1,31 @@
 -- Cells that are shared: what they go on from, and how they stand behind their locks.
-use Rattle.std.proofs.Common.{◌≡◌, ℕ, zero, suc, ◌<◌, ◌∷◌, ◌++◌, ◌⊎◌, List, [], length, map, slice_get, refl, ap, sym, ◌∙◌, subst, arith, Option, Some, None, option_map, true, inl, inr}
-use Rattle.std.specs.Prelude.{slice_index_or, nat_lt, Bool, All}
-use Rattle.std.proofs.lemmas.Bool.{lt-ltb}
+use Rattle.std.proofs.Common.{◌≡◌, ℕ, zero, suc, ◌<◌, ◌≤◌, ◌∷◌, ◌++◌, ◌⊎◌, List, [], length, map, slice_get, refl, ap, sym, ◌∙◌, subst, arith, Option, Some, None, option_map, true, inl, inr}
+use Rattle.std.specs.Prelude.{slice_index_or, nat_lt, Bool, All, false, Result, IfOk, OnErr}
+use Rattle.std.proofs.lemmas.Bool.{cases_lt, lt-ltb}
 use Rattle.std.proofs.lemmas.List.{length-map}
 use Rattle.std.proofs.lemmas.Option.{slice_get-map, slice_get_within}
 use Rattle.walter_base.proofs.NameTests.{same_site_refl}
+use Rattle.walter_base.specs.declared.memory.NoMemory.{NoMemory}
 use Rattle.walter_base.specs.declared.names.SiteId.{SiteId}
+use Rattle.walter_cell.specs.declared.answers.Acted.{Acted}
 use Rattle.walter_cell.specs.Cells.{CellValue}
 use Rattle.walter_cell.specs.Cells as cell
 use Rattle.walter_cell.specs.Lines.{is_here}
-use Rattle.walter_cell.specs.Nodes.{arms_under}
+use Rattle.walter_cell.specs.Nodes.{arms_under, clock_in, is_told, standing_of}
 use Rattle.walter_disk.specs.declared.disk.Disk.{Ghosts}
 use Rattle.walter_lane.specs.Lanes.{Sending, Receiving}
 use Rattle.walter_lane.specs.Rings.{Ring}
-use Rattle.walter_link.specs.Pumps.{PumpValue}
-use Rattle.walter_outbox.specs.Lanes.{ring_to, ring_from, no_ring}
+use Rattle.walter_link.specs.Pumps.{PumpValue, taken_from}
+use Rattle.walter_outbox.specs.Lanes.{arrived_from, ring_to, ring_from, no_ring}
+use Rattle.walter_rules.specs.declared.event.Event.TheVariants.{Restart}
 use Rattle.walter_rules.specs.Knowledge.{site_at}
 use Rattle.walter_scenario.specs.declared.scenario.Scenario.{Scenario}
-use Rattle.walter_cluster.specs.Benches.{IsBench, IsCellAt, outs_at, ins_at, is_site}
-use Rattle.walter_cluster.specs.Shared.{Origin, HasGoneOn, IsHeld, AreHeld, AreAtWork, bare, bench_before, origin_of, origins_of}
-use Rattle.walter_cluster.proofs.Changes.{there_is, one_there, field_at}
-use Rattle.walter_cluster.proofs.Keeping.{outs_long, ins_long, home_within}
+use Rattle.walter_cluster.specs.Benches.{BenchValue, EachKeeps, IsBench, IsCellAt, IsOf, outs_at, ins_at, is_site}
+use Rattle.walter_cluster.specs.Moments.{KeepsArms, moment_of}
+use Rattle.walter_cluster.specs.Shared.{Origin, HasGoneOn, IsHeld, AreHeld, CanWork, IsAtWork, bare, bench_before, origin_of, origins_of}
+use Rattle.walter_cluster.proofs.Changes.{there_is, one_there, field_at, field_past}
+use Rattle.walter_cluster.proofs.Keeping.{outs_long, ins_long, home_within, of_each}
+use Rattle.walter_cluster.proofs.Working.{works_raised}
 
 -- ---- elements of lists by their places
 
@@ -91,17 +96,54 @@ module _ {D : Type 0} (g : Ghosts D) where
     answered = gone.answered;
   }
 
+  -- what is held goes on, where the cell keeps, its arms stay, and it is at work
+  pub held_further : (origins : List Origin) (i : ℕ) (a b : CellValue D) (p q : PumpValue)
+      → (is : IsHeld g origins i (record { cell = a; pump = p })) → cell.Keeps g a b
+      → arms_under g b.node.disk ≡ arms_under g a.node.disk → IsAtWork g is.origin.scenario (site_at i) b q
+      → IsHeld g origins i (record { cell = b; pump = q })
+  held_further origins i a b p q is keeps arms works = record {
+    origin = is.origin;
+    there = is.there;
+    gone_on = gone_further is.origin a b is.gone_on keeps arms;
+    works = works;
+  }
+
+  -- so where it was made anew, or memory ran out
+  pub held_raised : (origins : List Origin) (i : ℕ) (a b : CellValue D) (p : PumpValue) (r : Result Acted NoMemory)
+      → IsHeld g origins i (record { cell = a; pump = p }) → cell.Keeps g a b
+      → arms_under g b.node.disk ≡ arms_under g a.node.disk
+      → (is_told g a.node.disk ≡ true → (standing_of a.node).up ≡ false)
+      → IfOk r (cell.Acts Restart (clock_in a.node) a.node.trail b.node.trail) → OnErr r (b.node.trail ≡ a.node.trail)
+      → IsHeld g origins i (record { cell = b; pump = p })
+  held_raised origins i a b p r is keeps arms down acts kept =
+      held_further origins i a b p p is keeps arms
+      (works_raised g is.origin.scenario (site_at i) a b p r keeps down acts kept is.works)
+
   -- ---- what is held of all
 
   -- cells that work are held where they are shared
-  pub held_first : (t : Scenario) (origins : List Origin) (cells : List (CellValue D)) (pumps : List PumpValue)
-      → origins ≡ origins_of g t cells → AreAtWork g t cells pumps → AreHeld g origins cells pumps
-  held_first t origins cells pumps are works i c p at pumped = record {
-    origin = origin_of g t c;
-    there = ap (λ (os : List Origin). slice_get os i) are ∙ (slice_get-map (origin_of g t) cells i ∙ ap (option_map (origin_of g t)) at);
-    gone_on = gone_self t c;
-    works = works.each i c p at pumped;
-  }
+  pub held_first : (t : Scenario) (origins : List Origin) (bench : BenchValue D) (pumps : List PumpValue)
+      → origins ≡ origins_of g t bench.cells → IsBench bench → CanWork g t bench pumps → AreHeld g origins bench.cells pumps
+  held_first t origins bench pumps are is can i c p at pumped =
+      let pump = can.pumps.each i p pumped in
+      let cell = is.cells i c at in
+      record {
+        origin = origin_of g t c;
+        there = ap (λ (os : List Origin). slice_get os i) are
+            ∙ (slice_get-map (origin_of g t) bench.cells i ∙ ap (option_map (origin_of g t)) at);
+        gone_on = gone_self t c;
+        works = record {
+          catalog = can.of.catalogs i c at;
+          site = cell.site;
+          ins = cell.ins ∙ can.of.sites;
+          few = (let few = is.few in let sites = can.of.sites in omega (arith, few, sites));
+          pump_site = pump.site;
+          senders = pump.senders ∙ can.of.sites;
+          taken = λ from. subst (λ (ins : List Receiving). taken_from p from ≤ length (arrived_from ins from))
+              (field_at (λ (c : CellValue D). c.ins) bench.cells i c [] at) (pump.taken from);
+          working = can.working i c p at pumped;
+        };
+      }
 
   -- the first ones are
   pub held_front : (origins : List Origin) (cells : List (CellValue D)) (pumps : List PumpValue) (longer : List (CellValue D))
@@ -258,6 +300,84 @@ module _ {D : Type 0} (g : Ghosts D) where
               ∙ (is.lanes to from (omega (arith, below, l)) (omega (arith, within, l)) ∙ sym (first_ins to from (omega (arith, below, l))));
           within = subst (λ (n : ℕ). All (λ (home : SiteId). home.0 < n) homes) (sym l) is.within;
         }
+
+-- ---- what comes out of the locks
+
+module _ {D : Type 0} (g : Ghosts D) (t : Scenario) (origins : List Origin) (old new : BenchValue D) (pumps : List PumpValue)
+    (are : origins ≡ origins_of g t old.cells) (long : length new.cells ≡ length origins) (as_long : length pumps ≡ length origins)
+    (held : AreHeld g origins new.cells pumps) where
+  first_long : length origins ≡ length old.cells
+  first_long = ap length are ∙ length-map old.cells (origin_of g t)
+
+  -- each has gone on from the one that was at its place
+  gone_from : (i : ℕ) (a b : CellValue D) (p : PumpValue) → slice_get old.cells i ≡ Some a → slice_get new.cells i ≡ Some b
+      → slice_get pumps i ≡ Some p → HasGoneOn g (origin_of g t a) b × IsAtWork g t (site_at i) b p
+  gone_from i a b p was now pumped =
+      let is = held i b p now pumped in
+      let there : slice_get origins i ≡ Some (origin_of g t a) =
+      ap (λ (os : List Origin). slice_get os i) are ∙ (slice_get-map (origin_of g t) old.cells i ∙ ap (option_map (origin_of g t)) was) in
+      let same : is.origin ≡ origin_of g t a = one_there origins i is.origin (origin_of g t a) is.there there in (
+        subst (λ (o : Origin). HasGoneOn g o b) same is.gone_on,
+        subst (λ (o : Origin). IsAtWork g o.scenario (site_at i) b p) same is.works,
+      )
+
+  -- all keep what a call keeps
+  pub all_gone : EachKeeps g old.cells new.cells
+  all_gone =
+      let first = first_long in
+      record {
+        long = long ∙ first;
+        each = λ i a b was now.
+            let within = slice_get_within new.cells i b now in
+            let p = there_is pumps i (omega (arith, within, long, as_long)) in
+            gone_keeps g t a b (gone_from i a b p.0 was now p.1).0;
+      }
+
+  -- and their arms
+  pub all_arms : KeepsArms (moment_of g old.cells) (moment_of g new.cells)
+  all_arms i =
+      let first = first_long in
+      elim (cases_lt i (length old.cells)) [
+        | inl within ↦
+            let a = there_is old.cells i within in
+            let b = there_is new.cells i (omega (arith, within, long, first)) in
+            let p = there_is pumps i (omega (arith, within, as_long, first)) in
+            field_at (λ (c : CellValue D). arms_under g c.node.disk) new.cells i b.0 None b.1
+            ∙ ((gone_from i a.0 b.0 p.0 a.1 b.1 p.1).0.arms
+            ∙ sym (field_at (λ (c : CellValue D). arms_under g c.node.disk) old.cells i a.0 None a.1))
+        | inr past ↦
+            field_past (λ (c : CellValue D). arms_under g c.node.disk) new.cells i None (omega (arith, past, long, first))
+            ∙ sym (field_past (λ (c : CellValue D). arms_under g c.node.disk) old.cells i None past)
+      ]
+
+  -- and they can work on
+  pub all_work : new.homes ≡ old.homes → IsOf t old → CanWork g t new pumps
+  all_work homes of =
+      let first = first_long in
+      let now = of_each g old new all_gone t homes of in
+      let at_work : (i : ℕ) (b : CellValue D) (p : PumpValue) → slice_get new.cells i ≡ Some b → slice_get pumps i ≡ Some p
+      → IsAtWork g t (site_at i) b p =
+      λ i b p at pumped.
+      let within = slice_get_within new.cells i b at in
+      let a = there_is old.cells i (omega (arith, within, long, first)) in
+      (gone_from i a.0 b p a.1 at pumped).1 in
+      record {
+        of = now;
+        pumps = record {
+          long = as_long ∙ sym long;
+          each = λ i p pumped.
+              let within = slice_get_within pumps i p pumped in
+              let b = there_is new.cells i (omega (arith, within, long, as_long)) in
+              let works = at_work i b.0 p b.1 pumped in
+              record {
+                site = works.pump_site;
+                senders = works.senders ∙ sym now.sites;
+                taken = λ from. subst (λ (ins : List Receiving). taken_from p from ≤ length (arrived_from ins from))
+                    (sym (field_at (λ (c : CellValue D). c.ins) new.cells i b.0 [] b.1)) (works.taken from);
+              };
+        };
+        working = λ i b p at pumped. (at_work i b p at pumped).working;
+      }
 
 module _ (origins : List Origin) (homes : List SiteId) (client i : ℕ) (home : SiteId)
     (was : IsBench (bench_before origins homes)) (at : slice_get homes client ≡ Some home) (is : home.0 ≡ i) where

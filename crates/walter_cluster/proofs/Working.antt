@@ -52,11 +52,11 @@ ActsOn event old new acted.Spent = new ≡ old
 
 module _ (told : Type 0) (t : Scenario) (i : SiteId) (old new : List Entry) where
   -- the trail stays
-  same_on : (pump : PumpValue) → IsWorking told t i old pump → new ≡ old → IsWorking told t i new pump
+  pub same_on : (pump : PumpValue) → IsWorking told t i old pump → new ≡ old → IsWorking told t i new pump
   same_on pump is same = subst (λ (es : List Entry). IsWorking told t i es pump) (sym same) is
 
   -- an entry of this event has come
-  grown_on : (pump : PumpValue) (event : Event) → ((e : Entry) → e.event ≡ event → IsWorking told t i (old ++ e ∷ []) pump)
+  pub grown_on : (pump : PumpValue) (event : Event) → ((e : Entry) → e.event ≡ event → IsWorking told t i (old ++ e ∷ []) pump)
       → Grows event old new → IsWorking told t i new pump
   grown_on pump event on grows =
       subst (λ (es : List Entry). IsWorking told t i es pump) (sym grows.1) (on grows.0 grows.2)
@@ -89,7 +89,7 @@ module _ (told : Type 0) (t : Scenario) (i : SiteId) (old new : List Entry) wher
 
 module _ {D : Type 0} (g : Ghosts D) (t : Scenario) (i : SiteId) where
   -- where a cell has gone on, its pump too, and its trail is that of a site that works
-  works_further : (a b : CellValue D) (p q : PumpValue) → cell.Keeps g a b → IsAtWork g t i a p → q.site ≡ p.site
+  pub works_further : (a b : CellValue D) (p q : PumpValue) → cell.Keeps g a b → IsAtWork g t i a p → q.site ≡ p.site
       → length q.senders ≡ length p.senders → ((from : ℕ) → taken_from q from ≤ length (arrived_from b.ins from))
       → IsWorking (is_told g a.node.disk ≡ true) t i b.node.trail q → IsAtWork g t i b q
   works_further a b p q keeps is site senders taken working = record {

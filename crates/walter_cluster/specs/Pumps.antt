@@ -1,5 +1,5 @@
 -- What a site does that is pumped, as the trails of all sites tell (docs/FORMATS.md, "The link").
-use Rattle.std.specs.Prelude.{◌≡◌, ◌≢◌, ◌≤◌, ◌+◌, ℕ, true, false, List, length, reverse}
+use Rattle.std.specs.Prelude.{◌≡◌, ◌≢◌, ◌≤◌, ◌+◌, ℕ, true, false, List, length, map, reverse, slice_get, Some}
 use Rattle.walter_base.specs.declared.catalog.Catalog.{Catalog}
 use Rattle.walter_base.specs.declared.names.SiteId.{SiteId}
 use Rattle.walter_cell.specs.declared.answers.Acted.{Acted}
@@ -9,13 +9,15 @@ use Rattle.walter_cell.specs.declared.answers.Pumped.TheVariants as pumped
 use Rattle.walter_cell.specs.Cells.{CellValue, Acts}
 use Rattle.walter_cell.specs.Entries.{IsSpent, HasPlace}
 use Rattle.walter_cell.specs.Pumps.{Works, acted_so}
-use Rattle.walter_link.specs.Pumps.{PumpValue, take_arrived, taken_from}
+use Rattle.walter_link.specs.Pumps.{PumpValue, new_pump, take_arrived, taken_from}
 use Rattle.walter_outbox.specs.Lanes.{arrived_from}
 use Rattle.walter_rules.specs.Deliveries.{IsLeastEnabled}
 use Rattle.walter_rules.specs.declared.event.Event.TheVariants as event
+use Rattle.walter_rules.specs.Knowledge.{site_at, sites}
 use Rattle.walter_rules.specs.Merges.{trail_of}
 use Rattle.walter_rules.specs.Standing.{Standing}
 use Rattle.walter_rules.specs.Trails.{standing}
+use Rattle.walter_scenario.specs.declared.scenario.Scenario.{Scenario}
 use Rattle.walter_cluster.specs.Benches.{ins_at}
 use Rattle.walter_cluster.specs.Moments.{Moment, ActsAt, AllArrive, ChangesAt, HandsOver, clock_at, put_out_as}
 
@@ -24,6 +26,15 @@ pub record IsPumpAt {D : Type 0} (cells : List (CellValue D)) (i : SiteId) (pump
   pub site : pump.site ≡ i
   pub senders : length pump.senders ≡ length cells
   pub taken : (from : ℕ) → taken_from pump from ≤ length (arrived_from (ins_at cells i.0) from)
+
+-- each pump is its site's
+pub record ArePumps {D : Type 0} (cells : List (CellValue D)) (pumps : List PumpValue) : Type 0 where
+  pub long : length pumps ≡ length cells
+  pub each : (i : ℕ) (pump : PumpValue) → slice_get pumps i ≡ Some pump → IsPumpAt cells (site_at i) pump
+
+-- what waits at the sites of a scenario before anything has come: nothing
+abbrev pub new_pumps : Scenario → List PumpValue
+new_pumps t = map (λ site. new_pump t.link site t.catalog.sites t.ticks) (sites t.catalog)
 
 -- how a site stands by its trail
 abbrev pub standing_at : Catalog → SiteId → Moment → Standing

@@ -13,7 +13,8 @@ use Rattle.walter_rules.specs.Knowledge.{site_at}
 use Rattle.walter_scenario.specs.declared.scenario.Scenario.{Scenario}
 use Rattle.walter_trail.specs.Calls.{calls_of}
 use Rattle.walter_work.specs.Working.{IsWorking}
-use Rattle.walter_cluster.specs.Benches.{BenchValue}
+use Rattle.walter_cluster.specs.Benches.{BenchValue, IsOf}
+use Rattle.walter_cluster.specs.Pumps.{ArePumps}
 
 -- what a cell was before it was shared, without its disk; whether that tells what it holds, and its arms, where it tells
 -- them; and the scenario by which the site works
@@ -102,8 +103,10 @@ module _ {D : Type 0} (g : Ghosts D) where
   AreHeld origins cells pumps = (i : ℕ) (c : CellValue D) (p : PumpValue) → slice_get cells i ≡ Some c
       → slice_get pumps i ≡ Some p → IsHeld origins i (record { cell = c; pump = p })
 
-  -- each cell works, with the pump at its place
-  pub record AreAtWork (t : Scenario) (cells : List (CellValue D)) (pumps : List PumpValue) : Type 0 where
-    pub long : length pumps ≡ length cells
-    pub each : (i : ℕ) (c : CellValue D) (p : PumpValue) → slice_get cells i ≡ Some c → slice_get pumps i ≡ Some p
-        → IsAtWork t (site_at i) c p
+  -- The sites of a bench of a scenario work, each with the pump at its place.
+  pub record CanWork (t : Scenario) (bench : BenchValue D) (pumps : List PumpValue) : Type 0 where
+    pub of : IsOf t bench
+    pub pumps : ArePumps bench.cells pumps
+    pub working : (i : ℕ) (c : CellValue D) (p : PumpValue) → slice_get bench.cells i ≡ Some c
+        → slice_get pumps i ≡ Some p
+        → IsWorking (is_told g c.node.disk ≡ true) t (site_at i) c.node.trail p

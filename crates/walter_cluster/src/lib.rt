@@ -9,6 +9,7 @@ mod lending;
 mod meeting;
 mod name;
 mod opening;
+mod pumping;
 mod seating;
 mod shared;
 
@@ -16,4 +17,5 @@ pub use bench::Bench;
 pub use closing::Closed;
 pub use name::Name;
 pub use opening::{Unbuilt, build};
+pub use pumping::make_pumps;
 pub use shared::Cluster;

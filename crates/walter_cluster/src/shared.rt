@@ -3,7 +3,7 @@ ghost use Rattle.std.specs.Prelude.{◌≡◌, ◌<◌, ◌≤◌, ◌+◌, [], 
 ghost use Rattle.walter_base.specs.Vectors.{most_sites};
 ghost use Rattle.walter_cell.specs.Lines.{is_here};
 ghost use Rattle.walter_cluster.specs.Benches.{HasRoom, IsBench};
-ghost use Rattle.walter_cluster.specs.Shared.{AreHeld, AreAtWork, Origin, bench_before, origins_of};
+ghost use Rattle.walter_cluster.specs.Shared.{AreHeld, CanWork, Origin, bench_before, origins_of};
 ghost use Rattle.walter_scenario.specs.declared.scenario.Scenario.{Scenario};
 
 use crate::bench::Bench;
@@ -187,8 +187,7 @@ fn unlock_next<N: Name, D: Disk + Drop, S: Source + Drop, K: Sink + Drop, const 
 impl<N: Name, D: Disk + Drop, S: Source + Drop, K: Sink + Drop> Cluster<N, D, S, K> {
     /// Puts each cell with its pump behind a lock. It takes no memory.
     pub fn share(bench: Bench<D, S, K>, pumps: Vec<Pump>) -> Cluster<N, D, S, K>
-        requires { (t : Scenario) × (N.origins ≡ origins_of D.Disk t bench.cells)
-            × AreAtWork D.Disk t bench.cells pumps.items }
+        requires { (t : Scenario) × (N.origins ≡ origins_of D.Disk t bench.cells) × CanWork D.Disk t bench pumps.items }
         ensures { result ≡ bench.homes }
     {
         let Bench {

@@ -33,7 +33,7 @@ use Rattle.walter_cell.proofs.Works.{works_so}
 use Rattle.walter_cluster.specs.Pumps.{IsPumpAt, PumpsAt, at_once, raises, works}
 use Rattle.walter_link.specs.Pumps.{PumpValue, count_in, new_pump, new_sender}
 use Rattle.walter_link.specs.declared.chooser.Link.{Link}
-use Rattle.walter_play.specs.Scripts.{ArePumps, Scene, Takes, TakesAs, TakesPlain, Plays, new_pumps, site_pumped}
+use Rattle.walter_play.specs.Scripts.{Scene, Takes, TakesAs, TakesPlain, Plays, site_pumped}
 
 -- a turn of a connection that doesn't fail
 sure_turn : (number : ℕ) (bytes : List ℕ) (clock : ℕ) (fault : Type 0) (old new : List Entry) (answer : Serve) → (fault → ⊥)
@@ -170,80 +170,8 @@ drops_of g t old new i is met site drops told =
     let c = there_is old.cells i.0 (omega (arith, site, long)) in
     subst (λ (k : Catalog). DropsAt k i (moment_of g old.cells) (moment_of g new.cells)) (is.catalogs i.0 c.0 c.1) (drops met told c.0 c.1)
 
--- each pump goes on
-pub pumps_kept : {D : Type 0} (g : Ghosts D) (old new : BenchValue D) → Keeps g old new → (pumps : List PumpValue)
-    → ArePumps old.cells pumps → ArePumps new.cells pumps
-pumps_kept g old new keeps pumps are = record {
-  long = are.long ∙ sym keeps.cells.long;
-  each = λ i pump at. pump_kept g old.cells new.cells keeps.cells (site_at i) pump (are.each i pump at);
-}
-
--- a site's pump, and that of a site that was pumped
-module _ {D : Type 0} (g : Ghosts D) (old new : BenchValue D) (keeps : Keeps g old new) (pumps : List PumpValue) (are : ArePumps old.cells pumps)
-    (i : SiteId) (within : i.0 < length old.cells) (k : ℕ) (is : k ≡ i.0) where
-  pub pump_there : (d : PumpValue) → slice_get pumps i.0 ≡ Some (get_or pumps k d)
-  pump_there d =
-      let long = are.long in
-      slice_get-get_or pumps i.0 d (omega (arith, within, long)) ∙ ap (λ n. Some (get_or pumps n d)) (sym is)
-
-  pub pump_at : (d : PumpValue) → IsPumpAt old.cells i (get_or pumps k d)
-  pump_at d = are.each i.0 (get_or pumps k d) (pump_there d)
-
-  pub pumps_after : (after : PumpValue) → IsPumpAt new.cells i after → ArePumps new.cells (set pumps k after)
-  pumps_after after pumped = record {
-    long = length-set pumps k after ∙ (are.long ∙ sym keeps.cells.long);
-    each = λ j pump at. elim (cases_eq j k) [
-      | inl same ↦
-          let long = are.long in
-          let now = set_here pumps k after (omega (arith, within, long, is)) in
-          let one = one_there (set pumps k after) k after pump now (ap (slice_get (set pumps k after)) (sym same) ∙ at) in
-          subst (λ (p : PumpValue). IsPumpAt new.cells (site_at j) p) one
-          (subst (λ (n : ℕ). IsPumpAt new.cells (site_at n) after) (sym (same ∙ is)) pumped)
-      | inr apart ↦
-          (pumps_kept g old new keeps pumps are).each j pump (sym (set_there pumps k j after apart) ∙ at)
-    ];
-  }
-
 -- a step that isn't a pump leaves what waits
 pub takes_plain : (told : ℕ → Type 0) (t : Scenario) (one : Step) (old new : Scene) → site_pumped one ≡ None
     → TakesPlain told t one old.moment new.moment → new.pumps ≡ old.pumps → Takes told t one old new
 takes_plain told t one old new plain takes same =
     subst (λ (o : Option SiteId). TakesAs told t one o old new) (sym plain) (takes, same)
-
--- ---- before the first step
-
-maps_on : {X Y Z : Type 0} (f : Y → Z) (h : X → Y) (xs : List X) → map f (map h xs) ≡ map (λ x. f (h x)) xs
-maps_on f h [] = refl
-maps_on f h (x ∷ xs) = ap (λ rest. f (h x) ∷ rest) (maps_on f h xs)
-
-none_taken : (link : Link) (site : SiteId) (xs : List ℕ) (from : ℕ) → count_in (slice_get (map (new_sender link site) xs) from) ≡ 0
-none_taken link site [] from = refl
-none_taken link site (x ∷ xs) zero = refl
-none_taken link site (x ∷ xs) (suc from) = none_taken link site xs from
-
-abbrev pub pump_of : Scenario → ℕ → PumpValue
-pump_of t k = new_pump t.link (site_at k) t.catalog.sites t.ticks
-
-pub new_pumps_are : (t : Scenario) → new_pumps t ≡ map (pump_of t) (range_with_len 0 t.catalog.sites)
-new_pumps_are t = maps_on (λ site. new_pump t.link site t.catalog.sites t.ticks) site_at (range_with_len 0 t.catalog.sites)
-
--- each pump is its site's
-pub pumps_first : {D : Type 0} (t : Scenario) (bench : BenchValue D) → IsOf t bench → ArePumps bench.cells (new_pumps t)
-pumps_first t bench of = subst (λ ps. ArePumps bench.cells ps) (sym (new_pumps_are t)) (record {
-  long = length-map-range_with_len (pump_of t) 0 t.catalog.sites ∙ sym of.sites;
-  each = λ i pump at.
-      let n = t.catalog.sites in
-      let pumps = map (pump_of t) (range_with_len 0 n) in
-      let within = slice_get_within pumps i pump at in
-      let long = length-map-range_with_len (pump_of t) 0 n in
-      let below : i < n = omega (arith, within, long) in
-      let is : Some (pump_of t i) ≡ Some pump =
-      ap (λ p. Some p) (sym (get_or-map-range_with_len (pump_of t) 0 n i i pump below (omega arith)))
-      ∙ (sym (slice_get-get_or pumps i pump within) ∙ at) in
-      let same : pump_of t i ≡ pump = cc in
-      subst (λ (p : PumpValue). IsPumpAt bench.cells (site_at i) p) same (record {
-        site = refl;
-        senders = length-map-range_with_len (new_sender t.link (site_at i)) 0 n ∙ sym of.sites;
-        taken = λ from. let none = none_taken t.link (site_at i) (range_with_len 0 n) from in omega (arith, none);
-      });
-})

@@ -7,14 +7,13 @@ use Rattle.walter_cell.specs.declared.answers.Pumped.{Pumped}
 use Rattle.walter_cell.specs.declared.answers.Serve.{Serve}
 use Rattle.walter_cell.specs.Cells.{CellValue}
 use Rattle.walter_cluster.specs.Moments.{Moment, moment_of, IsFirst, DropsAt, TurnsAt, ActsAt, MovesAt, ArmsAt}
-use Rattle.walter_cluster.specs.Pumps.{IsPumpAt, PumpsAt}
-use Rattle.walter_link.specs.Pumps.{PumpValue, new_pump}
+use Rattle.walter_cluster.specs.Pumps.{PumpsAt, new_pumps}
+use Rattle.walter_link.specs.Pumps.{PumpValue}
 use Rattle.walter_rules.specs.declared.entry.Entry.{Entry}
 use Rattle.walter_rules.specs.declared.event.Event.{Event}
 use Rattle.walter_rules.specs.declared.event.Event.TheVariants as event
 use Rattle.walter_rules.specs.declared.event.Input.TheVariants as input
 use Rattle.walter_disk.specs.declared.disk.Disk.{Ghosts}
-use Rattle.walter_rules.specs.Knowledge.{site_at, sites}
 use Rattle.walter_scenario.specs.declared.scenario.Arm.{Arm}
 use Rattle.walter_scenario.specs.declared.scenario.Client.{Client}
 use Rattle.walter_scenario.specs.declared.scenario.Scenario.{Scenario}
@@ -25,15 +24,6 @@ use Rattle.walter_scenario.specs.declared.scenario.Step.TheVariants as step
 pub record Scene : Type 0 where
   pub moment : Moment
   pub pumps : List PumpValue
-
--- what waits before the first step: nothing
-abbrev pub new_pumps : Scenario → List PumpValue
-new_pumps t = map (λ site. new_pump t.link site t.catalog.sites t.ticks) (sites t.catalog)
-
--- each pump is its site's
-pub record ArePumps {D : Type 0} (cells : List (CellValue D)) (pumps : List PumpValue) : Type 0 where
-  pub long : length pumps ≡ length cells
-  pub each : (i : ℕ) (pump : PumpValue) → slice_get pumps i ≡ Some pump → IsPumpAt cells (site_at i) pump
 
 abbrev pub scene_of : {D : Type 0} → Ghosts D → List (CellValue D) → List PumpValue → Scene
 scene_of g cells pumps = record { moment = moment_of g cells; pumps = pumps }

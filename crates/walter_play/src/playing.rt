@@ -4,11 +4,12 @@ ghost use Rattle.walter_scenario.specs.Parts.{IsArm, IsStep};
 ghost use Rattle.walter_scenario.specs.declared.scenario.Client.{Client};
 ghost use Rattle.walter_cluster.specs.Benches.{Keeps, IsOf, IsToldAt, AreAllConnected, AreMet};
 ghost use Rattle.walter_cluster.specs.Moments.{KeepsArms, moment_of};
-ghost use Rattle.walter_play.specs.Scripts.{ArePumps, ArmsMore, EndsPlay, Plays, Takes, TakesPlain, all_steps, arms_of, new_pumps, scene_of, site_pumped};
+ghost use Rattle.walter_cluster.specs.Pumps.{ArePumps};
+ghost use Rattle.walter_play.specs.Scripts.{ArmsMore, EndsPlay, Plays, Takes, TakesPlain, all_steps, arms_of, scene_of, site_pumped};
 
 use std::alloc::Global;
-use walter_base::{Mem, SiteId};
-use walter_cluster::Bench;
+use walter_base::Mem;
+use walter_cluster::{Bench, make_pumps};
 use walter_disk::Disk;
 use walter_link::Pump;
 use walter_scenario::{Arm, Scenario, Step};
@@ -36,18 +37,6 @@ pub fn play<D: Disk + Drop>(
 {
     let mut pumps = make_pumps(alloc, scenario)?;
     play_on(alloc, bench, &mut pumps, scenario)
-}
-
-// What waits at each site before the first step.
-fn make_pumps(alloc: Global, scenario: &Scenario) -> Mem<Vec<Pump>>
-    ensures { IfOk result (λ pumps. pumps.items ≡ new_pumps scenario.now) }
-{
-    let sites = scenario.catalog.sites;
-    let mut pumps = Vec::with_capacity(alloc, usize::from(sites))?;
-    for site in 0..sites {
-        pumps.push_reserved(Pump::new(alloc, scenario.link, SiteId(site), sites, scenario.ticks)?);
-    }
-    Ok(pumps)
 }
 
 // Arms the disks and takes the steps, with these pumps.

@@ -1,3 +1,4 @@
 pub mod Counts
 pub mod Taking
 pub mod Working
+pub mod Driven

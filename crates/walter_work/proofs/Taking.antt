@@ -1,10 +1,11 @@
 -- What is taken of a sender waits as often as the link copies it.
-use Rattle.std.proofs.Common.{◌≡◌, ◌≢◌, ◌+◌, ◌&&◌, nat_eq, nat_le, ℕ, zero, suc, List, map, set, slice_get, refl, ap, sym, ◌∙◌, subst, arith, Option, Some, None, Bool, true, false, inl, inr, if◌then◌else◌}
+use Rattle.std.proofs.Common.{◌≡◌, ◌≢◌, ◌<◌, ◌≤◌, ◌+◌, ◌-◌, ◌&&◌, nat_eq, nat_le, ℕ, zero, suc, List, length, map, set, slice_get, refl, ap, sym, ◌∙◌, subst, arith, Option, Some, None, Bool, true, false, inl, inr, if◌then◌else◌}
 use Rattle.std.specs.List.{range_with_len}
 use Rattle.std.specs.Option.{option_map}
 use Rattle.std.proofs.lemmas.Bool.{cases_eq, cases_lt, eq-eqb, ne_eqb, le-leb, lt-leb}
+use Rattle.std.proofs.lemmas.List.{length-set}
 use Rattle.std.proofs.lemmas.List.FromFn.{get_or-map-range_with_len, length-map-range_with_len}
-use Rattle.std.proofs.lemmas.Option.{slice_get-map, slice_get_within, get_or_from_slice_get}
+use Rattle.std.proofs.lemmas.Option.{slice_get-get_or, slice_get-map, slice_get_within, get_or_from_slice_get}
 use Rattle.walter_base.specs.declared.names.SiteId.{SiteId}
 use Rattle.walter_base.specs.Names.{same_site}
 use Rattle.walter_link.specs.declared.chooser.Choice.{Choice}
@@ -13,7 +14,7 @@ use Rattle.walter_link.specs.declared.chooser.Rates.{Rates}
 use Rattle.walter_link.specs.declared.pump.Sender.{Sender}
 use Rattle.walter_link.specs.declared.pump.Waiting.{Waiting}
 use Rattle.walter_link.specs.Choices.{behind_all, choice_of, chooser_of, copies}
-use Rattle.walter_link.specs.Pumps.{PumpValue, behind_one, count_in, new_pump, new_sender, put_all, put_in, sender_behind, taken_from}
+use Rattle.walter_link.specs.Pumps.{PumpValue, behind_one, count_in, new_pump, new_sender, put_all, put_in, sender_behind, take_arrived, take_below, take_of, take_other, taken_from}
 use Rattle.walter_link.proofs.Taking.{set_here, set_there, taken_behind}
 use Rattle.walter_work.specs.Working.{copies_taken, waits_of}
 use Rattle.walter_work.proofs.Counts.{count_in_put}
@@ -187,3 +188,71 @@ module _ (link : Link) (i : SiteId) (sites ticks : ℕ) where
       ∙ get_or-map-range_with_len (new_sender link i) 0 sites k k x (omega (arith, long, within)) (omega arith) in
       let none : x.taken ≡ 0 = ap (λ (y : Sender). y.taken) same in
       same ∙ ap (λ n. sender_behind n (new_sender link i k)) (sym none)
+
+-- ---- all that has arrived
+
+module _ (i : SiteId) (arrived : ℕ → ℕ) where
+  -- what is taken of one sender
+  of_long : (p : PumpValue) (from : SiteId) (o : Option Sender)
+      → length (take_of from (arrived from.0) p o).senders ≡ length p.senders
+  of_long p from None = refl
+  of_long p from (Some s) = length-set p.senders from.0 (sender_behind (arrived from.0 - s.taken) s)
+
+  of_other : (p : PumpValue) (from : SiteId) (o : Option Sender) (k : ℕ) → k ≢ from.0
+      → taken_from (take_of from (arrived from.0) p o) k ≡ taken_from p k
+  of_other p from None k other = refl
+  of_other p from (Some s) k other =
+      ap count_in (set_there p.senders from.0 (sender_behind (arrived from.0 - s.taken) s) k other)
+
+  of_here : (p : PumpValue) (from : SiteId) (o : Option Sender) → slice_get p.senders from.0 ≡ o
+      → from.0 < length p.senders → arrived from.0 ≤ taken_from (take_of from (arrived from.0) p o) from.0
+  of_here p from None at within =
+      let there = slice_get-get_or p.senders from.0 (record { chooser = chooser_of 0 from from; taken = 0 }) within in
+      absurd cc
+  of_here p from (Some s) at within =
+      let n = arrived from.0 - s.taken in
+      let now = ap count_in (set_here p.senders from.0 (sender_behind n s) within) ∙ taken_behind n s in
+      omega (arith, now)
+
+  other_long : (own : Bool) (p : PumpValue) (from : SiteId)
+      → length (take_other own from (arrived from.0) p).senders ≡ length p.senders
+  other_long true p from = refl
+  other_long false p from = of_long p from (slice_get p.senders from.0)
+
+  other_other : (own : Bool) (p : PumpValue) (from : SiteId) (k : ℕ) → k ≢ from.0
+      → taken_from (take_other own from (arrived from.0) p) k ≡ taken_from p k
+  other_other true p from k other = refl
+  other_other false p from k other = of_other p from (slice_get p.senders from.0) k other
+
+  below_long : (n : ℕ) (p : PumpValue) → length (take_below i arrived n p).senders ≡ length p.senders
+  below_long zero p = refl
+  below_long (suc n) p =
+      let from : SiteId = record { 0 = n } in
+      other_long (same_site from i) (take_below i arrived n p) from ∙ below_long n p
+
+  below_taken : (n : ℕ) (p : PumpValue) (k : ℕ) → k < n → k ≢ i.0 → k < length p.senders
+      → arrived k ≤ taken_from (take_below i arrived n p) k
+  below_taken zero p k under apart within = absurd (omega (arith, under))
+  below_taken (suc n) p k under apart within =
+      let from : SiteId = record { 0 = n } in
+      let mid : PumpValue = take_below i arrived n p in
+      elim (cases_eq k n) [
+        | inl here ↦
+            let long = below_long n p in
+            let own = ne_eqb n i.0 (λ e. apart (here ∙ e)) in
+            let all = of_here mid from (slice_get mid.senders n) refl (omega (arith, within, here, long)) in
+            let now = ap (λ b. taken_from (take_other b from (arrived n) mid) n) own in
+            let same = ap (taken_from (take_below i arrived (suc n) p)) here in
+            let some = ap arrived here in
+            omega (arith, all, now, same, some)
+        | inr before ↦
+            let all = below_taken n p k (omega (arith, under, before)) apart within in
+            let kept = other_other (same_site from i) mid from k before in
+            omega (arith, all, kept)
+      ]
+
+  -- all that has arrived of another site is taken
+  pub all_taken : (p : PumpValue) (from : SiteId) → from ≢ i → from.0 < length p.senders
+      → arrived from.0 ≤ taken_from (take_arrived i arrived p) from.0
+  all_taken p from apart within =
+      below_taken (length p.senders) p from.0 within (λ e. apart (ap (λ (n : ℕ). record { 0 = n }) e)) within

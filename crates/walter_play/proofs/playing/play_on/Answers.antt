@@ -2,13 +2,14 @@ use Rattle.std.proofs.Common.{◌≡◌, ◌+◌, ◌++◌, [], ℕ, List, map, 
 use Rattle.std.proofs.lemmas.List.{take_all, append-nil}
 use Rattle.walter_cluster.specs.Benches.{IsToldAt}
 use Rattle.walter_cluster.proofs.Keeping.{bench_self, bench_on, of_kept, connected_kept, told_kept}
+use Rattle.walter_cluster.proofs.Pumping.{pumps_kept}
 use Rattle.walter_cluster.specs.Moments.{Moment, moment_of}
 use Rattle.walter_scenario.specs.declared.scenario.Arm.{Arm}
 use Rattle.walter_scenario.specs.declared.scenario.Step.{Step}
 use Rattle.walter_scenario.specs.declared.scenario.Step.TheVariants as step
 use Rattle.walter_play.specs.Scripts.{Plays, Scene, scene_of}
 use Rattle.walter_play.proofs.Arming.{some_armed}
-use Rattle.walter_play.proofs.Steps.{plays_more, pumps_kept, takes_told, arming_more, steps_more, arming_split, steps_split}
+use Rattle.walter_play.proofs.Steps.{plays_more, takes_told, arming_more, steps_more, arming_split, steps_split}
 use Rattle.walter_play.proofs.playing.play_on.Goals as goal
 
 pub loop-arm-init : goal.loop-arm-init

@@ -1,8 +1,9 @@
 use Rattle.std.proofs.Common.{◌++◌, map, take}
 use Rattle.walter_cluster.specs.Benches.{Keeps, IsOf, IsToldAt, AreAllConnected, AreMet}
+use Rattle.walter_cluster.specs.Pumps.{ArePumps}
 use Rattle.walter_scenario.specs.declared.scenario.Arm.{Arm}
 use Rattle.walter_scenario.specs.declared.scenario.Step.TheVariants as step
-use Rattle.walter_play.specs.Scripts.{ArePumps, Plays, scene_of}
+use Rattle.walter_play.specs.Scripts.{Plays, scene_of}
 use Rattle.walter_play.proofs.playing.play_on.Given as goal
 
 abbrev pub invariant-loop-arm : goal.invariant-loop-arm

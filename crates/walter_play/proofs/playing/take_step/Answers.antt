@@ -4,11 +4,12 @@ use Rattle.walter_base.specs.declared.catalog.Catalog.{Catalog}
 use Rattle.walter_cell.specs.Nodes.{is_told}
 use Rattle.walter_cluster.proofs.Changes.{there_is}
 use Rattle.walter_cluster.proofs.Keeping.{bench_self}
+use Rattle.walter_cluster.proofs.Pumping.{pump_at, pump_there, pumps_after, pumps_kept}
 use Rattle.walter_cluster.specs.Benches.{IsToldAt}
 use Rattle.walter_cluster.specs.Moments.{moment_of}
 use Rattle.walter_cluster.specs.Pumps.{PumpsAt}
 use Rattle.walter_play.specs.Scripts.{site_pumped}
-use Rattle.walter_play.proofs.Steps.{drops_of, pump_at, pump_there, pumps_after, pumps_kept, pumps_told, takes_plain}
+use Rattle.walter_play.proofs.Steps.{drops_of, pumps_told, takes_plain}
 use Rattle.walter_play.proofs.playing.take_step.Goals as goal
 
 pub pump-requires-clause-pump : goal.pump-requires-clause-pump

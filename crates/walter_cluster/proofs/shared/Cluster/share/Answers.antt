@@ -1,7 +1,7 @@
 use Rattle.std.proofs.Common.{◌≡◌, ◌∙◌, length, arith, ap, sym, subst}
 use Rattle.std.proofs.lemmas.List.{length-map}
 use Rattle.walter_cluster.specs.Benches.{BenchValue}
-use Rattle.walter_cluster.specs.Shared.{AreAtWork, origin_of, origins_of}
+use Rattle.walter_cluster.specs.Shared.{CanWork, origin_of, origins_of}
 use Rattle.walter_cluster.proofs.Sharing.{held_first, bench_bare}
 use Rattle.walter_cluster.proofs.shared.Cluster.share.Goals as goal
 
@@ -11,17 +11,17 @@ lock_last-site_7-requires g c =
     let cells = c.bench.inside.cells.items in
     let are : g.N.Name.origins ≡ origins_of g.D.Disk t cells =
     subst (λ (b : BenchValue g.row.D.Denot). g.N.Name.origins ≡ origins_of g.D.Disk t b.cells) (sym c.bench.view_is) c.requires.1 in
-    let works : AreAtWork g.D.Disk t cells c.args.pumps.items =
-    subst (λ (b : BenchValue g.row.D.Denot). AreAtWork g.D.Disk t b.cells c.args.pumps.items) (sym c.bench.view_is) c.requires.2 in
+    let can : CanWork g.D.Disk t (record { cells = cells; homes = c.bench.inside.homes.items }) c.args.pumps.items =
+    subst (λ (b : BenchValue g.row.D.Denot). CanWork g.D.Disk t b c.args.pumps.items) (sym c.bench.view_is) c.requires.2 in
     let long = ap length are ∙ length-map cells (origin_of g.D.Disk t) in
     let few = c.bench.invariant.0.few in
-    let as_long = works.long in (
+    let as_long = can.pumps.long in (
       omega arith,
       (
         omega (arith, long, few, c.bench.inside.cells.ok.0),
         (
           omega (arith, long, few, as_long, c.args.pumps.ok.0),
-          held_first g.D.Disk t g.N.Name.origins cells c.args.pumps.items are works,
+          held_first g.D.Disk t g.N.Name.origins _ c.args.pumps.items are c.bench.invariant.0 can,
         ),
       ),
     )

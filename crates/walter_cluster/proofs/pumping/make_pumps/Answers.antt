@@ -1,8 +1,8 @@
 use Rattle.std.proofs.Common.{◌≡◌, ◌++◌, ◌∷◌, [], length, map, ap, sym, ◌∙◌, arith}
 use Rattle.std.proofs.lemmas.List.FromFn.{length-map-range_with_len, map-range_with_len_more}
 use Rattle.std.specs.List.{range_with_len}
-use Rattle.walter_play.proofs.Steps.{new_pumps_are, pump_of}
-use Rattle.walter_play.proofs.playing.make_pumps.Goals as goal
+use Rattle.walter_cluster.proofs.Pumping.{new_pumps_are, pump_of}
+use Rattle.walter_cluster.proofs.pumping.make_pumps.Goals as goal
 
 pub push_reserved-requires : goal.push_reserved-requires
 push_reserved-requires c =

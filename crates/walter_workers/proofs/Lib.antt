@@ -1,0 +1,5 @@
+pub mod Rooms
+pub mod Work
+pub mod Turning
+pub mod Pumping
+pub mod Driving
