@@ -1,5 +1,5 @@
 -- The words ask for a run where clap takes them, and only there.
-use Rattle.std.proofs.Common.{◌≡◌, ◌⊎◌, ◌∙◌, ◌==◌, ◌<◌, ◌≤◌, ◌^◌, ℕ, Bool, true, false, List, [], ◌∷◌, Option, Some, None, codes, refl, sym, ap, inl, inr, subst, arith, Result, Ok, Err}
+use Rattle.std.proofs.Common.{◌≡◌, ◌⊎◌, ◌∙◌, ◌==◌, ◌<◌, ◌≤◌, ◌^◌, ℕ, Bool, true, false, List, [], ◌∷◌, Option, Some, None, codes, refl, sym, ap, inl, inr, subst, arith, Result, Ok, Err, if◌then◌else◌}
 use Rattle.std.specs.Str.Parse.{IsNumeral, ParsesUnsigned, digits_value, without_leading_plus}
 use Rattle.std.proofs.lemmas.Bool.{eqb-true}
 use Rattle.clap.specs.Matches.{ReadsOne}
@@ -8,16 +8,16 @@ use Rattle.clap.specs.declared.error.kind.ErrorKind.{ErrorKind}
 use Rattle.clap.specs.declared.error.kind.ErrorKind.TheVariants.{DisplayHelp, DisplayVersion, OutOfMemory}
 use Rattle.walter_words.specs.declared.asked.WordsFault.{WordsFault}
 use Rattle.walter_words.specs.declared.asked.WordsFault.TheVariants.{Usage, Memory}
-use Rattle.clap.specs.Walk.{Row, Text, idle, nothing_held, rows_after}
+use Rattle.clap.specs.Walk.{Row, Text, idle, nothing_held, one_of, rows_after}
 use Rattle.clap.specs.Simple.{is_simple, subcommand_of}
 use Rattle.clap.specs.Kinds.{IsAmong, Kinds}
 use Rattle.clap.specs.Faults.{fault_of, is_simple_and_free, level_fault, walk_fault}
 use Rattle.clap.proofs.OnLiterals.{clap_on_literals}
 use Rattle.walter_words.specs.declared.asked.Command.{Command}
-use Rattle.walter_words.specs.declared.asked.Command.TheVariants.{Play, Load, Say}
+use Rattle.walter_words.specs.declared.asked.Command.TheVariants.{Play, Run, Load, Say}
 use Rattle.walter_words.specs.Lines.{walter_line}
-use Rattle.walter_words.specs.Words.{AsksFor, AsksForText, FollowsFrom, IsEnd, IsGiven, IsLoad, IsPlay, IsReadAs, IsSaid, IsTextKind, IsTold, Writes, trace_words}
-use Rattle.walter_words.proofs.Levels.{behind_play, first_word, load_fault, load_rows, play_fault, play_level}
+use Rattle.walter_words.specs.Words.{AsksFor, AsksForText, FollowsFrom, IsEnd, IsEntered, IsGiven, IsLoad, IsReadAs, IsSaid, IsTextKind, IsTold, IsTraced, Writes, trace_words}
+use Rattle.walter_words.proofs.Levels.{behind_name, first_word, load_fault, load_rows, play_fault, play_rows, run_fault, run_rows, traced_level}
 use Rattle.walter_words.proofs.Loads.{IsNoFlag, TwoOptions, behind_load, load_passes, row}
 use Rattle.walter_words.proofs.Turns.{at_word, both_empty}
 
@@ -35,27 +35,52 @@ no_flag (d ∷ ds) n h = go (d == 45) refl
 fits : (v : Text) (n most : ℕ) → Writes v n → n < 2 ^ 64 → n ≤ most → IsUnsignedIn 0 most v
 fits v n most h low high = (h.0, rw h.1 low, omega arith, rw h.1 high)
 
--- ---- play
+-- ---- play and run
 
-play_takes : (trace : Bool) (rest : List Text) → IsEnd rest → (fault_of walter_line (codes "play" ∷ trace_words trace rest) ≡ [])
-    × IsReadAs (subcommand_of walter_line (codes "play" ∷ trace_words trace rest)) (Play trace)
+-- the level of a command takes what `IsTraced` says, and keeps whether `--trace` was there
+abbrev IsTaken : Text → Bool → List Text → Type 0
+IsTaken name trace words = (level_fault (traced_level name) [] nothing_held words false [] ≡ [])
+    × (one_of (codes "trace") (rows_after (traced_level name).rules [] words) ≡ Some (if trace then codes "true" else codes "false"))
+
+level_takes : (name : Text) (trace : Bool) (rest : List Text) → IsEnd rest → IsTaken name trace (trace_words trace rest)
 unfolding clap_on_literals
-play_takes true rest (inl none) = subst (λ r. (fault_of walter_line (codes "play" ∷ codes "--trace" ∷ r) ≡ [])
-    × IsReadAs (subcommand_of walter_line (codes "play" ∷ codes "--trace" ∷ r)) (Play true)) (sym none) (refl, (rows_after play_level.rules [] (codes "--trace" ∷ []), refl, refl))
-play_takes true rest (inr end) = subst (λ r. (fault_of walter_line (codes "play" ∷ codes "--trace" ∷ r) ≡ [])
-    × IsReadAs (subcommand_of walter_line (codes "play" ∷ codes "--trace" ∷ r)) (Play true)) (sym end) (refl, (rows_after play_level.rules [] (codes "--trace" ∷ codes "--" ∷ []), refl, refl))
-play_takes false rest (inl none) = subst (λ r. (fault_of walter_line (codes "play" ∷ r) ≡ [])
-    × IsReadAs (subcommand_of walter_line (codes "play" ∷ r)) (Play false)) (sym none) (refl, (rows_after play_level.rules [] [], refl, refl))
-play_takes false rest (inr end) = subst (λ r. (fault_of walter_line (codes "play" ∷ r) ≡ [])
-    × IsReadAs (subcommand_of walter_line (codes "play" ∷ r)) (Play false)) (sym end) (refl, (rows_after play_level.rules [] (codes "--" ∷ []), refl, refl))
+level_takes name true rest (inl none) = subst (λ r. IsTaken name true (codes "--trace" ∷ r)) (sym none) (refl, refl)
+level_takes name true rest (inr end) = subst (λ r. IsTaken name true (codes "--trace" ∷ r)) (sym end) (refl, refl)
+level_takes name false rest (inl none) = subst (IsTaken name false) (sym none) (refl, refl)
+level_takes name false rest (inr end) = subst (IsTaken name false) (sym end) (refl, refl)
 
-play_asked : (rest : List Text) → level_fault play_level [] nothing_held rest false [] ≡ [] → (trace : Bool) × IsPlay trace (codes "play" ∷ rest)
-play_asked rest e = elim (behind_play rest (both_empty (walk_fault play_level [] (at_word [] None idle false) rest) _ e).0) [
-  | inl none ↦ (false, ([], inl refl, ap (λ r. codes "play" ∷ r) none))
-  | inr (inl end) ↦ (false, (codes "--" ∷ [], inr refl, ap (λ r. codes "play" ∷ r) end))
-  | inr (inr (inl none)) ↦ (true, ([], inl refl, ap (λ r. codes "play" ∷ r) none))
-  | inr (inr (inr end)) ↦ (true, (codes "--" ∷ [], inr refl, ap (λ r. codes "play" ∷ r) end))
+-- what is behind this name is left to its level
+abbrev IsEnteredBy : Text → Type 0
+IsEnteredBy name = (rest : List Text) → (fault_of walter_line (name ∷ rest) ≡ level_fault (traced_level name) [] nothing_held rest false [])
+    × (subcommand_of walter_line (name ∷ rest) ≡ Some (name, rows_after (traced_level name).rules [] rest))
+
+play_entered : IsEnteredBy (codes "play")
+play_entered rest = (play_fault rest, play_rows rest)
+
+run_entered : IsEnteredBy (codes "run")
+run_entered rest = (run_fault rest, run_rows rest)
+
+traced_takes : (name : Text) (trace : Bool) (words : List Text) → IsEnteredBy name → IsTraced name trace words
+    → (fault_of walter_line words ≡ []) × IsEntered name trace (subcommand_of walter_line words)
+traced_takes name trace words enters asks =
+    let behind = trace_words trace asks.0 in
+    let takes = level_takes name trace asks.0 asks.1 in
+    let enter = enters behind in
+    subst (λ w. (fault_of walter_line w ≡ []) × IsEntered name trace (subcommand_of walter_line w)) (sym asks.2)
+    (enter.0 ∙ takes.0, (rows_after (traced_level name).rules [] behind, enter.1, takes.1))
+
+traced_asked : (name : Text) (rest : List Text) → level_fault (traced_level name) [] nothing_held rest false [] ≡ [] → (trace : Bool) × IsTraced name trace (name ∷ rest)
+traced_asked name rest e = elim (behind_name name rest (both_empty (walk_fault (traced_level name) [] (at_word [] None idle false) rest) _ e).0) [
+  | inl none ↦ (false, ([], inl refl, ap (λ r. name ∷ r) none))
+  | inr (inl end) ↦ (false, (codes "--" ∷ [], inr refl, ap (λ r. name ∷ r) end))
+  | inr (inr (inl none)) ↦ (true, ([], inl refl, ap (λ r. name ∷ r) none))
+  | inr (inr (inr end)) ↦ (true, (codes "--" ∷ [], inr refl, ap (λ r. name ∷ r) end))
 ]
+
+traced_only : (name : Text) (words rest : List Text) → IsEnteredBy name → words ≡ name ∷ rest → fault_of walter_line words ≡ [] → (trace : Bool) × IsTraced name trace words
+traced_only name words rest enters is e =
+    let command = traced_asked name rest (sym (enters rest).0 ∙ subst (λ w. fault_of walter_line w ≡ []) is e) in
+    (command.0, subst (IsTraced name command.0) (sym is) command.1)
 
 -- ---- load
 
@@ -84,12 +109,12 @@ load_takes seed calls words (s, c, options, rest, is, options_are, over, wrote, 
     ] in
     subst (λ w. (fault_of walter_line w ≡ []) × IsReadAs (subcommand_of walter_line w) (Load seed calls)) (sym is) done
 
--- ---- both
+-- ---- all three
 
 -- clap takes the words that ask for a run, and its matches are read as that run
 pub taken : (command : Command) (words : List Text) → AsksFor command words → (fault_of walter_line words ≡ []) × IsReadAs (subcommand_of walter_line words) command
-taken (Play trace) words asks =
-    subst (λ w. (fault_of walter_line w ≡ []) × IsReadAs (subcommand_of walter_line w) (Play trace)) (sym asks.2) (play_takes trace asks.0 asks.1)
+taken (Play trace) words asks = traced_takes (codes "play") trace words play_entered asks
+taken (Run trace) words asks = traced_takes (codes "run") trace words run_entered asks
 taken (Load seed calls) words asks = load_takes seed calls words asks
 taken (Say text) words asks = absurd asks
 
@@ -99,11 +124,14 @@ asked words e =
     let first = first_word words e in
     elim first.1 [
       | inl play ↦
-          let run = play_asked first.0 (sym (play_fault first.0) ∙ subst (λ w. fault_of walter_line w ≡ []) play e) in
-          (Play run.0, subst (IsPlay run.0) (sym play) run.1)
-      | inr load ↦
-          let run = load_asked first.0 (behind_load first.0 (sym (load_fault first.0) ∙ subst (λ w. fault_of walter_line w ≡ []) load e)) in
-          (Load run.0 run.1, subst (IsLoad run.0 run.1) (sym load) run.2)
+          let command = traced_only (codes "play") words first.0 play_entered play e in
+          (Play command.0, command.1)
+      | inr (inl run) ↦
+          let command = traced_only (codes "run") words first.0 run_entered run e in
+          (Run command.0, command.1)
+      | inr (inr load) ↦
+          let command = load_asked first.0 (behind_load first.0 (sym (load_fault first.0) ∙ subst (λ w. fault_of walter_line w ≡ []) load e)) in
+          (Load command.0 command.1, subst (IsLoad command.0 command.1) (sym load) command.2)
     ]
 
 -- ---- answers
@@ -124,17 +152,19 @@ read_back words entered result none is reads =
     let a = asked words none in
     (a.0, a.1, reads a.0 (subst (λ e. IsReadAs e a.0) (sym is) (taken a.0 words a.1).1))
 
-pub run_follows : (command : Command) (words : List Text) (kinds : Kinds) → AsksFor command words → kinds ≡ [] → FollowsFrom kinds (Ok command)
-run_follows (Play trace) words kinds asks e = e
-run_follows (Load seed calls) words kinds asks e = e
-run_follows (Say text) words kinds asks e = absurd asks
+pub command_follows : (command : Command) (words : List Text) (kinds : Kinds) → AsksFor command words → kinds ≡ [] → FollowsFrom kinds (Ok command)
+command_follows (Play trace) words kinds asks e = e
+command_follows (Run trace) words kinds asks e = e
+command_follows (Load seed calls) words kinds asks e = e
+command_follows (Say text) words kinds asks e = absurd asks
 
 pub text_kinds : (words : List Text) → AsksForText words → (kind : ErrorKind) × IsTextKind kind × (fault_of walter_line words ≡ kind ∷ [])
 unfolding clap_on_literals
 text_kinds words (inl is) = (DisplayHelp, inl refl, ap (λ w. fault_of walter_line w) is)
 text_kinds words (inr (inl is)) = (DisplayHelp, inl refl, ap (λ w. fault_of walter_line w) is)
 text_kinds words (inr (inr (inl is))) = (DisplayHelp, inl refl, ap (λ w. fault_of walter_line w) is)
-text_kinds words (inr (inr (inr is))) = (DisplayVersion, inr refl, ap (λ w. fault_of walter_line w) is)
+text_kinds words (inr (inr (inr (inl is)))) = (DisplayHelp, inl refl, ap (λ w. fault_of walter_line w) is)
+text_kinds words (inr (inr (inr (inr is)))) = (DisplayVersion, inr refl, ap (λ w. fault_of walter_line w) is)
 
 not_text : IsTextKind OutOfMemory → ⊥
 not_text (inl e) = cc
@@ -165,6 +195,7 @@ told_said words kind (Err (Usage text)) asks (inr among) told =
 
 pub told_follows : (kinds : Kinds) (kind : ErrorKind) (r : Result Command WordsFault) → (kind ≡ OutOfMemory) ⊎ IsAmong kind kinds → IsTold kind r → FollowsFrom kinds r
 told_follows kinds kind (Ok (Play trace)) has told = absurd told.0
+told_follows kinds kind (Ok (Run trace)) has told = absurd told.0
 told_follows kinds kind (Ok (Load seed calls)) has told = absurd told.0
 told_follows kinds kind (Ok (Say text)) (inl is) told = absurd (not_text (subst IsTextKind is told.1))
 told_follows kinds kind (Ok (Say text)) (inr among) told = elim told.1 [

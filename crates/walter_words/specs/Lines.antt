@@ -25,9 +25,12 @@ calls_rule = record (new_rule (codes "calls")) {
   parser = Some (Unsigned 0 20000);
 }
 
--- `play` takes `--trace`, and `load` takes `--seed` and `--calls` with a number each
+-- `play` and `run` take `--trace`, and `load` takes `--seed` and `--calls` with a number each
 abbrev pub play_line : App
 play_line = with_rule (new_app (codes "play")) trace_rule
+
+abbrev pub run_line : App
+run_line = with_rule (new_app (codes "run")) trace_rule
 
 abbrev pub load_line : App
 load_line = with_rule (with_rule (new_app (codes "load")) seed_rule) calls_rule
@@ -41,6 +44,6 @@ bare_line = record (new_app (codes "walter")) {
   };
 }
 
--- the program takes one of the two
+-- the program takes one of the three
 abbrev pub walter_line : App
-walter_line = with_subcommand (with_subcommand bare_line play_line.top) load_line.top
+walter_line = with_subcommand (with_subcommand (with_subcommand bare_line play_line.top) run_line.top) load_line.top

@@ -9,7 +9,7 @@ use Rattle.clap.specs.declared.error.kind.ErrorKind.TheVariants.{DisplayHelp, Di
 use Rattle.walter_words.specs.declared.asked.WordsFault.{WordsFault}
 use Rattle.walter_words.specs.declared.asked.WordsFault.TheVariants.{Usage, Memory}
 use Rattle.walter_words.specs.declared.asked.Command.{Command}
-use Rattle.walter_words.specs.declared.asked.Command.TheVariants.{Play, Load, Say}
+use Rattle.walter_words.specs.declared.asked.Command.TheVariants.{Play, Run, Load, Say}
 
 -- the text is decimal digits, behind a plus or not, that write the number
 abbrev pub Writes : Text → ℕ → Type 0
@@ -27,9 +27,9 @@ IsEnd words = (words ≡ []) ⊎ (words ≡ codes "--" ∷ [])
 abbrev pub trace_words : Bool → List Text → List Text
 trace_words trace rest = if trace then codes "--trace" ∷ rest else rest
 
--- `play`, or `play --trace`
-abbrev pub IsPlay : Bool → List Text → Type 0
-IsPlay trace words = (rest : List Text) × IsEnd rest × (words ≡ codes "play" ∷ trace_words trace rest)
+-- the name of a command, or it and `--trace`
+abbrev pub IsTraced : Text → Bool → List Text → Type 0
+IsTraced name trace words = (rest : List Text) × IsEnd rest × (words ≡ name ∷ trace_words trace rest)
 
 -- the two options once each, in any order
 abbrev pub AreOptions : Text → Text → List Text → List Text → Type 0
@@ -45,7 +45,8 @@ IsLoad seed calls words = (s : Text) × (c : Text) × (options : List Text) × (
 
 -- the words ask for a run, and for just this one
 abbrev pub AsksFor : Command → List Text → Type 0
-AsksFor (Play trace) words = IsPlay trace words
+AsksFor (Play trace) words = IsTraced (codes "play") trace words
+AsksFor (Run trace) words = IsTraced (codes "run") trace words
 AsksFor (Load seed calls) words = IsLoad seed calls words
 AsksFor (Say text) words = ⊥
 
@@ -53,10 +54,15 @@ abbrev pub IsText : Command → Type 0
 IsText (Say text) = ⊤
 IsText _ = ⊥
 
+-- the command of this name was entered, with `--trace` or without
+abbrev pub IsEntered : Text → Bool → Option (Text × List Row) → Type 0
+IsEntered name trace entered = (rows : List Row) × (entered ≡ Some (name, rows))
+    × (one_of (codes "trace") rows ≡ Some (if trace then codes "true" else codes "false"))
+
 -- what a run's command is read from, in the matches of the command that was entered
 abbrev pub IsReadAs : Option (Text × List Row) → Command → Type 0
-IsReadAs entered (Play trace) = (rows : List Row) × (entered ≡ Some (codes "play", rows))
-    × (one_of (codes "trace") rows ≡ Some (if trace then codes "true" else codes "false"))
+IsReadAs entered (Play trace) = IsEntered (codes "play") trace entered
+IsReadAs entered (Run trace) = IsEntered (codes "run") trace entered
 IsReadAs entered (Load seed calls) = (rows : List Row) × (s : Text) × (c : Text)
     × (entered ≡ Some (codes "load", rows))
     × (one_of (codes "seed") rows ≡ Some s) × (one_of (codes "calls") rows ≡ Some c)
@@ -74,7 +80,8 @@ IsSaid result = MatchResult result IsText (λ fault. fault ≡ Memory)
 -- the words ask for a help, or for the version
 abbrev pub AsksForText : List Text → Type 0
 AsksForText words = (words ≡ codes "--help" ∷ []) ⊎ (words ≡ codes "play" ∷ codes "--help" ∷ [])
-    ⊎ (words ≡ codes "load" ∷ codes "--help" ∷ []) ⊎ (words ≡ codes "--version" ∷ [])
+    ⊎ (words ≡ codes "run" ∷ codes "--help" ∷ []) ⊎ (words ≡ codes "load" ∷ codes "--help" ∷ [])
+    ⊎ (words ≡ codes "--version" ∷ [])
 
 abbrev pub IsTextKind : ErrorKind → Type 0
 IsTextKind kind = (kind ≡ DisplayHelp) ⊎ (kind ≡ DisplayVersion)
@@ -90,6 +97,7 @@ IsTold kind (Err Memory) = ⊤
 abbrev pub FollowsFrom : Kinds → Result Command WordsFault → Type 0
 FollowsFrom kinds (Ok (Say text)) = IsAmong DisplayHelp kinds ⊎ IsAmong DisplayVersion kinds
 FollowsFrom kinds (Ok (Play trace)) = kinds ≡ []
+FollowsFrom kinds (Ok (Run trace)) = kinds ≡ []
 FollowsFrom kinds (Ok (Load seed calls)) = kinds ≡ []
 FollowsFrom kinds (Err (Usage text)) = (kind : ErrorKind) × IsAmong kind kinds × (¬ IsTextKind kind)
 FollowsFrom kinds (Err Memory) = ⊤

@@ -20,6 +20,11 @@ pub enum Command {
         /// Whether a line for each event comes behind the report.
         trace: bool,
     },
+    /// To let threads drive the clients and the pumps of the scenario on standard input.
+    Run {
+        /// Whether a line for each event comes behind the report.
+        trace: bool,
+    },
     /// To play a scenario that is made.
     Load {
         /// The number that the scenario is made of.
@@ -40,17 +45,35 @@ pub enum WordsFault {
     Memory,
 }
 
-/// The run of `play` with these matches.
+/// Whether these matches, of `play` or of `run`, have `--trace`.
+fn is_traced(matches: &ArgMatches<'_>) -> bool
+    ensures { (trace : Bool) → one_of (codes "trace") (rows_of (found_of matches.now))
+        ≡ Some (if trace then codes "true" else codes "false") → result ≡ trace }
+{
+    matches.get_flag("trace")
+}
+
+/// The command `play` with these matches.
 fn play_of(play: &ArgMatches<'_>) -> Command
     ensures { (trace : Bool) → one_of (codes "trace") (rows_of (found_of play.now))
         ≡ Some (if trace then codes "true" else codes "false") → result ≡ Command.Play trace }
 {
     Command::Play {
-        trace: play.get_flag("trace"),
+        trace: is_traced(play),
     }
 }
 
-/// The run of `load` with these matches, if they have both numbers.
+/// The command `run` with these matches.
+fn run_of(run: &ArgMatches<'_>) -> Command
+    ensures { (trace : Bool) → one_of (codes "trace") (rows_of (found_of run.now))
+        ≡ Some (if trace then codes "true" else codes "false") → result ≡ Command.Run trace }
+{
+    Command::Run {
+        trace: is_traced(run),
+    }
+}
+
+/// The command `load` with these matches, if they have both numbers.
 fn load_of(load: &ArgMatches<'_>) -> Option<Command>
     ensures { (s : List ℕ) (c : List ℕ) (seed : ℕ) (calls : ℕ)
         → one_of (codes "seed") (rows_of (found_of load.now)) ≡ Some s
@@ -63,12 +86,15 @@ fn load_of(load: &ArgMatches<'_>) -> Option<Command>
     })
 }
 
-/// The run with these matches, if they are of `play` or `load`.
-fn run_of(matches: &ArgMatches<'_>) -> Option<Command>
+/// The command in these matches, if it is `play`, `run` or `load`.
+fn command_in(matches: &ArgMatches<'_>) -> Option<Command>
     ensures { (command : Command) → IsReadAs (subcommand_rows_of matches.now) command → result ≡ Some command }
 {
     if let Some(play) = matches.subcommand_matches("play") {
         return Some(play_of(play));
+    }
+    if let Some(run) = matches.subcommand_matches("run") {
+        return Some(run_of(run));
     }
     load_of(matches.subcommand_matches("load")?)
 }
@@ -90,8 +116,8 @@ fn told_of(alloc: Global, error: &Error) -> Result<Command, WordsFault>
     }
 }
 
-/// What the words behind the program's name ask for. A run comes of the words that ask for it, and of no others: so of
-/// none whose first is neither `play` nor `load`.
+/// What the words behind the program's name ask for. A command comes of the words that ask for it, and of no others:
+/// so of none whose first is neither `play` nor `run` nor `load`.
 pub fn command_of(alloc: Global, words: &[String]) -> Result<Command, WordsFault>
     ensures given { (command : Command) → AsksFor command (map string_bytes words.now) → IsGiven command result }
     ensures asked { IfOk result (λ command. AsksFor command (map string_bytes words.now) ⊎ IsText command) }
@@ -102,7 +128,7 @@ pub fn command_of(alloc: Global, words: &[String]) -> Result<Command, WordsFault
         return Err(WordsFault::Memory);
     };
     match walter.try_get_matches_from(words) {
-        Ok(matches) => match run_of(&matches) {
+        Ok(matches) => match command_in(&matches) {
             Some(command) => Ok(command),
             None => unreachable!(),
         },

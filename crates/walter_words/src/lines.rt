@@ -1,7 +1,7 @@
 ghost use Rattle.std.specs.Prelude.{◌≡◌, IfOk, false};
-ghost use Rattle.clap.specs.Words.{app_of};
+ghost use Rattle.clap.specs.Words.{app_of, rule_of};
 ghost use Rattle.clap.specs.declared.builder.command.Command.TheViews.{out-Command as fields_of};
-ghost use Rattle.walter_words.specs.Lines.{load_line, play_line, walter_line};
+ghost use Rattle.walter_words.specs.Lines.{load_line, play_line, run_line, trace_rule, walter_line};
 
 use clap::{Arg, ArgAction, Command, value_parser};
 use std::alloc::{AllocError, Global};
@@ -10,11 +10,11 @@ use std::alloc::{AllocError, Global};
 static VERSION: &str = "0.1.0";
 
 static WALTER_ABOUT: &str =
-    "Plays scenarios against a geo-replicated transactional key-value store, and reports what it answers";
+    "Plays or runs scenarios against a geo-replicated transactional key-value store, and reports what it answers";
 
 static WALTER_REST: &str = "\
-play reads a scenario from standard input. load makes one of a seed and reads nothing. What comes of it is
-written to standard output. Each fault is told on standard error.
+play reads a scenario from standard input. run reads one too, and lets threads drive it. load makes one of a
+seed and reads nothing. What comes of it is written to standard output. Each fault is told on standard error.
 
 Statuses:
   0  all was written
@@ -52,6 +52,29 @@ But for 0 and 4 nothing is written.
 Example:
   ./walter play --trace < examples/first_run.json";
 
+static RUN_ABOUT: &str =
+    "Runs the scenario on standard input in threads, and writes its report to standard output";
+
+static RUN_REST: &str = "\
+Worker threads serve the clients and pump the sites of the scenario, to the end. The scenario's key threads
+says how many client threads there are; its steps are read and ignored. The report is of the same kind as
+play's, and with --trace a line for each event stands behind it. Two runs of one scenario may differ; each
+report is that of a legal history. docs/FORMATS.md has scenario and report byte by byte.
+
+Statuses:
+  0  the whole report was written
+  1  the words are wrong
+  2  the input is no scenario; standard error says where, and what is wanted there
+  3  the input could not be read to its end
+  4  the report could not be written to its end; a front of it was
+  5  memory ran out
+  6  a disk could not be taken or given back
+  7  a disk has something on it with which no site can begin
+But for 0 and 4 nothing is written.
+
+Example:
+  ./walter run --trace < examples/threaded_run.json";
+
 static LOAD_ABOUT: &str =
     "Makes a scenario of a seed, plays it, and writes a summary to standard output";
 
@@ -71,19 +94,37 @@ But for 0 and 4 nothing is written.
 Example:
   ./walter load --seed 7 --calls 1000";
 
+/// The option `--trace` of `play` and of `run`.
+fn trace_option<'a>(alloc: Global) -> Arg<'a>
+    ensures rule { rule_of result ≡ trace_rule }
+    ensures local { result.global ≡ false }
+{
+    Arg::new(alloc, "trace")
+        .long("trace")
+        .action(ArgAction::SetTrue)
+        .help("Writes a line for each event too, behind the report")
+}
+
 /// What `play` takes.
 fn play<'a>(alloc: Global) -> Result<Command<'a>, AllocError>
     ensures line { IfOk result (λ command. app_of command ≡ play_line) }
     ensures local { IfOk result (λ command. (fields_of command).has_globals ≡ false) }
 {
-    let trace = Arg::new(alloc, "trace")
-        .long("trace")
-        .action(ArgAction::SetTrue)
-        .help("Writes a line for each event too, behind the report");
     Command::new(alloc, "play")
         .about(PLAY_ABOUT)
         .after_help(PLAY_REST)
-        .arg(trace)
+        .arg(trace_option(alloc))
+}
+
+/// What `run` takes.
+fn run<'a>(alloc: Global) -> Result<Command<'a>, AllocError>
+    ensures line { IfOk result (λ command. app_of command ≡ run_line) }
+    ensures local { IfOk result (λ command. (fields_of command).has_globals ≡ false) }
+{
+    Command::new(alloc, "run")
+        .about(RUN_ABOUT)
+        .after_help(RUN_REST)
+        .arg(trace_option(alloc))
 }
 
 /// What `load` takes.
@@ -117,6 +158,7 @@ pub fn walter<'a>(alloc: Global) -> Result<Command<'a>, AllocError>
     ensures { IfOk result (λ command. app_of command ≡ walter_line) }
 {
     let play = play(alloc)?;
+    let run = run(alloc)?;
     let load = load(alloc)?;
     Command::new(alloc, "walter")
         .version(VERSION)
@@ -126,5 +168,6 @@ pub fn walter<'a>(alloc: Global) -> Result<Command<'a>, AllocError>
         .no_binary_name(true)
         .subcommand_required(true)
         .subcommand(play)?
+        .subcommand(run)?
         .subcommand(load)
 }

@@ -28,10 +28,12 @@ fn message(alloc: Global, line: &str) -> Result<String, Fail> {
 }
 
 #[test]
-fn runs(rt: HostRuntime) -> Result<(), Fail> {
+fn commands(rt: HostRuntime) -> Result<(), Fail> {
     let alloc = rt.alloc();
     assert!(rt; asked(alloc, "play")? == Ok(Command::Play { trace: false }));
     assert!(rt; asked(alloc, "play --trace")? == Ok(Command::Play { trace: true }));
+    assert!(rt; asked(alloc, "run")? == Ok(Command::Run { trace: false }));
+    assert!(rt; asked(alloc, "run --trace")? == Ok(Command::Run { trace: true }));
     let load = Command::Load {
         seed: 7,
         calls: 1000,
@@ -43,7 +45,7 @@ fn runs(rt: HostRuntime) -> Result<(), Fail> {
 #[test]
 fn texts_name_the_statuses(rt: HostRuntime) -> Result<(), Fail> {
     let alloc = rt.alloc();
-    for line in ["--help", "play --help", "load --help"] {
+    for line in ["--help", "play --help", "run --help", "load --help"] {
         let text = said(alloc, line)?;
         for status in [
             "\n  0  ", "\n  1  ", "\n  2", "3  ", "\n  4  ", "\n  5  ", "\n  6  ", "\n  7  ",

@@ -7,7 +7,7 @@ use Rattle.clap.specs.Kinds.{IsAmong}
 use Rattle.clap.specs.declared.error.kind.ErrorKind.TheVariants.{OutOfMemory}
 use Rattle.walter_words.specs.Lines.{walter_line}
 use Rattle.walter_words.specs.Words.{AsksFor, FollowsFrom}
-use Rattle.walter_words.proofs.Asking.{is_free_line, is_simple_line, read_back, run_follows, taken, text_kinds, told_follows, told_given, told_said}
+use Rattle.walter_words.proofs.Asking.{is_free_line, is_simple_line, read_back, command_follows, taken, text_kinds, told_follows, told_given, told_said}
 use Rattle.walter_words.proofs.Longs.{same_some}
 use Rattle.walter_words.proofs.asked.command_of.Goals as goal
 
@@ -19,7 +19,7 @@ unreachable-requires c =
     ∙ c.in-Ok-try_get_matches_from.ensures.kinds (ap is_simple_and_free c.in-Ok.ensures ∙ is_free_line) in
     let rows : subcommand_rows_of m ≡ subcommand_of walter_line words = (c.in-Ok-try_get_matches_from.ensures.matches (ap is_simple c.in-Ok.ensures ∙ is_simple_line)).1
     ∙ ap (λ a. subcommand_of a words) c.in-Ok.ensures in
-    let back = read_back words (subcommand_rows_of m) c.run_of.result none rows c.run_of.ensures in
+    let back = read_back words (subcommand_rows_of m) c.command_in.result none rows c.command_in.ensures in
     let bad : None ≡ Some back.0 = sym c.in-None.is ∙ back.2 in
     cc
 
@@ -29,7 +29,7 @@ returns-in-Some-clause-given c = λ command asks.
     let m = c.in-Ok-try_get_matches_from.matches in
     let rows : subcommand_rows_of m ≡ subcommand_of walter_line words = (c.in-Ok-try_get_matches_from.ensures.matches (ap is_simple c.in-Ok.ensures ∙ is_simple_line)).1
     ∙ ap (λ a. subcommand_of a words) c.in-Ok.ensures in
-    let reads = c.run_of.ensures command (rw rows (taken command words asks).1) in
+    let reads = c.command_in.ensures command (rw rows (taken command words asks).1) in
     same_some _ _ (sym c.in-Some.is ∙ reads)
 
 pub returns-in-Some-clause-asked : goal.returns-in-Some-clause-asked
@@ -40,7 +40,7 @@ returns-in-Some-clause-asked c =
     ∙ c.in-Ok-try_get_matches_from.ensures.kinds (ap is_simple_and_free c.in-Ok.ensures ∙ is_free_line) in
     let rows : subcommand_rows_of m ≡ subcommand_of walter_line words = (c.in-Ok-try_get_matches_from.ensures.matches (ap is_simple c.in-Ok.ensures ∙ is_simple_line)).1
     ∙ ap (λ a. subcommand_of a words) c.in-Ok.ensures in
-    let back = read_back words (subcommand_rows_of m) c.run_of.result none rows c.run_of.ensures in
+    let back = read_back words (subcommand_rows_of m) c.command_in.result none rows c.command_in.ensures in
     inl (subst (λ command. AsksFor command words) (same_some _ _ (sym back.2 ∙ c.in-Some.is)) back.1)
 
 pub returns-in-Some-clause-said : goal.returns-in-Some-clause-said
@@ -60,8 +60,8 @@ returns-in-Some-clause-follows c =
     ∙ c.in-Ok-try_get_matches_from.ensures.kinds (ap is_simple_and_free c.in-Ok.ensures ∙ is_free_line) in
     let rows : subcommand_rows_of m ≡ subcommand_of walter_line words = (c.in-Ok-try_get_matches_from.ensures.matches (ap is_simple c.in-Ok.ensures ∙ is_simple_line)).1
     ∙ ap (λ a. subcommand_of a words) c.in-Ok.ensures in
-    let back = read_back words (subcommand_rows_of m) c.run_of.result none rows c.run_of.ensures in
-    subst (λ command. FollowsFrom (fault_of walter_line words) (Ok command)) (same_some _ _ (sym back.2 ∙ c.in-Some.is)) (run_follows back.0 words _ back.1 none)
+    let back = read_back words (subcommand_rows_of m) c.command_in.result none rows c.command_in.ensures in
+    subst (λ command. FollowsFrom (fault_of walter_line words) (Ok command)) (same_some _ _ (sym back.2 ∙ c.in-Some.is)) (command_follows back.0 words _ back.1 none)
 
 pub returns-in-Err-clause-given : goal.returns-in-Err-clause-given
 returns-in-Err-clause-given c = λ command asks.

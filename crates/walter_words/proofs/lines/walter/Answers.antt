@@ -12,7 +12,7 @@ returns c =
     let bare_is : app_of c.subcommand_required.result ≡ bare_line =
     rw (c.subcommand_required.ensures, c.no_binary_name.ensures, c.in_ok-bin_name.ensures.0, c.after_help.ensures, c.about.ensures, c.version.ensures)
     (ap bare c.new.ensures.app) in
-    let one = c.in_ok-subcommand.ensures.shape c.in_ok-play.ensures.local in
-    IfOk-weaker c.subcommand-2.result _ _ (λ d added. added.shape c.in_ok-load.ensures.local
-    ∙ ap₂ with_subcommand (one ∙ ap₂ with_subcommand bare_is (ap (λ (a : App). a.top) c.in_ok-play.ensures.line)) (ap (λ (a : App). a.top) c.in_ok-load.ensures.line))
-    c.subcommand-2.ensures
+    let top = λ (a : App). a.top in
+    let one = c.in_ok-subcommand.ensures.shape c.in_ok-play.ensures.local ∙ ap₂ with_subcommand bare_is (ap top c.in_ok-play.ensures.line) in
+    let two = c.in_ok-subcommand-2.ensures.shape c.in_ok-run.ensures.local ∙ ap₂ with_subcommand one (ap top c.in_ok-run.ensures.line) in
+    IfOk-weaker c.subcommand-3.result _ _ (λ d added. added.shape c.in_ok-load.ensures.local ∙ ap₂ with_subcommand two (ap top c.in_ok-load.ensures.line)) c.subcommand-3.ensures
