@@ -1,7 +1,7 @@
 -- What the parts of a call of the program come to.
-use Rattle.std.specs.Prelude.{◌≡◌, ◌<◌, ◌≤◌, ◌⊎◌, ◌^◌, ℕ, All, List, [], Option, Some, None, IsSome, IfSome, length, slice_get}
+use Rattle.std.specs.Prelude.{◌≡◌, ◌<◌, ◌≤◌, ◌⊎◌, ◌^◌, ℕ, All, List, [], ◌++◌, Option, Some, None, IsSome, IfSome, length, slice_get}
 use Rattle.walter_cluster.specs.Benches.{BenchValue, IsOf, IsToldAt, AreAllConnected, AreMet, arms_at}
-use Rattle.walter_cluster.specs.Moments.{IsFirst, moment_of}
+use Rattle.walter_cluster.specs.Moments.{IsFirst, Moment, moment_of}
 use Rattle.walter_disk.specs.declared.disk.Disk.{Ghosts}
 use Rattle.walter_engine.specs.Begins.{HasNoRecord}
 use Rattle.walter_engine.specs.declared.answers.BeginFault.{BeginFault}
@@ -9,10 +9,12 @@ use Rattle.walter_engine.specs.declared.answers.BeginFault.TheVariants as unbegu
 use Rattle.walter_rules.specs.declared.entry.Entry.{Entry}
 use Rattle.walter_base.specs.Vectors.{most_sites}
 use Rattle.walter_linked.specs.Catalogs.{IsWhole}
+use Rattle.walter_play.specs.Scripts.{AreArmed, EndsPlay, arms_of}
 use Rattle.walter_scenario.specs.Parts.{IsArm, IsStep, IsCapacity, IsThreads}
 use Rattle.walter_scenario.specs.declared.scenario.Client.{Client}
 use Rattle.walter_scenario.specs.declared.scenario.Scenario.{Scenario}
 use Rattle.walter_stream.specs.Streams.{Appends, AppendsFront}
+use Rattle.walter_work.specs.Driven.{IsDriven}
 use Rattle.walter_cli.specs.declared.ended.Fault.{Fault}
 use Rattle.walter_cli.specs.declared.ended.Fault.TheVariants.{Usage, Scenario as ScenarioFault, Read, Write, Memory, Rack, Journal}
 use Rattle.walter_cli.specs.declared.ended.JournalCause.TheVariants.{Foreign, Damaged, Used}
@@ -51,6 +53,20 @@ pub record IsPlayable (s : Scenario) : Type 0 where
   pub capacity : IsCapacity s.capacity
   pub arms : All (IsArm s.catalog.sites) s.arms
   pub steps : All (IsStep s.catalog.sites (length s.clients)) s.steps
+
+-- threads take no steps, so there are none where they drive
+abbrev pub HasStepsFor : Command → Scenario → Type 0
+HasStepsFor (Play trace) s = Unit {0}
+HasStepsFor (Run trace) s = s.steps ≡ []
+HasStepsFor (Load seed calls) s = Unit {0}
+HasStepsFor (Say text) s = ⊥
+
+-- the sites of a scenario were driven from this moment to that one: by all its steps; or by threads, behind its arms
+abbrev pub Drives : Command → (told : ℕ → Type 0) → Scenario → (old new : Moment) → Type 0
+Drives (Play trace) told s old new = EndsPlay told s old new
+Drives (Run trace) told s old new = IsDriven told ⊥ s new.trails × AreArmed old new (s.arms ++ arms_of s.steps)
+Drives (Load seed calls) told s old new = EndsPlay told s old new
+Drives (Say text) told s old new = ⊥
 
 -- a text was written, or a front of it
 abbrev pub EndsText : List ℕ → (holds holds' : Option (List ℕ)) → (faults faults' : ℕ) → Option Fault → Type 0

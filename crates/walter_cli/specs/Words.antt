@@ -47,15 +47,15 @@ IsRead (Load seed calls) = ⊥
 IsRead (Say text) = ⊥
 
 -- a scenario but for its steps
-abbrev pub without_steps : Scenario → Scenario
-without_steps s = record s { steps = [] }
+abbrev pub but_for_steps : Scenario → Scenario
+but_for_steps s = record s { steps = [] }
 
 -- what is to be run: a scenario that the bytes left in the source spell, where threads drive it but for its steps; or the one
 -- that is made
 abbrev pub Poses : Command → Option (List ℕ) → Scenario → Type 0
 Poses (Play trace) left s = (bytes : List ℕ) × (left ≡ Some bytes) × IsReading bytes s
 Poses (Run trace) left s = (bytes : List ℕ) × (read : Scenario) × (left ≡ Some bytes) × IsReading bytes read
-    × (s ≡ without_steps read)
+    × (s ≡ but_for_steps read)
 Poses (Load seed calls) left s = s ≡ made seed calls
 Poses (Say text) left s = ⊥
 
@@ -63,7 +63,7 @@ Poses (Say text) left s = ⊥
 -- for its steps; or the one that was made, and nothing was read
 abbrev pub IsPosed : Command → (before after : Option (List ℕ)) → Scenario → Type 0
 IsPosed (Play trace) before after s = IsTaken before after s
-IsPosed (Run trace) before after s = (read : Scenario) × IsTaken before after read × (s ≡ without_steps read)
+IsPosed (Run trace) before after s = (read : Scenario) × IsTaken before after read × (s ≡ but_for_steps read)
 IsPosed (Load seed calls) before after s = (s ≡ made seed calls) × (after ≡ before)
 IsPosed (Say text) before after s = ⊥
 

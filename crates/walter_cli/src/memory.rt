@@ -3,12 +3,14 @@ ghost use Rattle.walter_cli.specs.Headline.{outside_at};
 
 use crate::ended::{Ended, Fault};
 use crate::program::top;
+use std::sync::Wait;
+use std::thread::Threads;
 use walter_disk_memory::MemoryRack;
 use walter_stream::{Sink, Source};
 
 /// The program over disks in memory that have no bytes: `top` over a rack that is made here. It answers the rack too, with
 /// the disks as they were given back.
-pub fn top_in_memory<X: AllocGlobal, S: Source, K: Sink>(
+pub fn top_in_memory<X: AllocGlobal + Threads + Wait + Sync, S: Source, K: Sink>(
     rt: &X,
     words: &[String],
     source: &mut S,

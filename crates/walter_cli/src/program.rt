@@ -5,13 +5,16 @@ use crate::ended::{Ended, Fault};
 use crate::running::run;
 use crate::saying::say;
 use crate::taking::pose;
+use std::sync::Wait;
+use std::thread::Threads;
 use walter_disk::Rack;
 use walter_stream::{Sink, Source};
 use walter_words::{Command, WordsFault, command_of};
 
 /// The program, by the words behind its name: `play` plays the scenario that the source has over the rack's disks, and
-/// writes the report to the sink; `load` plays one that it makes, and writes its summary; a help and the version are said.
-pub fn top<X: AllocGlobal, S: Source, K: Sink, R: Rack>(
+/// writes the report to the sink; `run` lets threads drive its clients and its sites instead; `load` plays one that it
+/// makes, and writes its summary; a help and the version are said.
+pub fn top<X: AllocGlobal + Threads + Wait + Sync, S: Source, K: Sink, R: Rack>(
     rt: &X,
     words: &[String],
     source: &mut S,
@@ -30,7 +33,7 @@ pub fn top<X: AllocGlobal, S: Source, K: Sink, R: Rack>(
         Err(WordsFault::Memory) => Ended::early(alloc, Fault::Memory),
         Ok(Command::Say(text)) => say(alloc, &text, sink),
         Ok(command) => match pose(alloc, &command, source) {
-            Ok(scenario) => run(alloc, &scenario, &command, sink, rack),
+            Ok(scenario) => run(rt, alloc, &scenario, &command, sink, rack),
             Err(fault) => Ended::early(alloc, fault),
         },
     }

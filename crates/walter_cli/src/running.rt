@@ -1,12 +1,15 @@
-ghost use Rattle.std.specs.Prelude.{◌≡◌, ◌≤◌, ◌<◌, length, All, IfOk, OnOk, IfErr};
+ghost use Rattle.std.specs.Prelude.{◌≡◌, ◌≤◌, ◌<◌, ◌^◌, ◌++◌, length, All, IfOk, OnOk, IfErr};
 ghost use Rattle.walter_base.specs.Vectors.{most_sites};
+ghost use Rattle.walter_cluster.specs.Benches.{AreAllConnected, AreMet, EachKeeps, IsOf, IsToldAt};
+ghost use Rattle.walter_cluster.specs.Moments.{IsFirst, moment_of};
 ghost use Rattle.walter_linked.specs.Catalogs.{IsWhole};
+ghost use Rattle.walter_play.specs.Scripts.{ArmsMore, arms_of};
 ghost use Rattle.walter_report.specs.Reports.{HaveFrames};
 ghost use Rattle.walter_report.specs.Traces.{HaveSpellings};
 ghost use Rattle.walter_scenario.specs.declared.scenario.Client.{Client};
-ghost use Rattle.walter_scenario.specs.Parts.{IsArm, IsStep, IsCapacity};
+ghost use Rattle.walter_scenario.specs.Parts.{IsArm, IsStep, IsCapacity, IsThreads};
 ghost use Rattle.walter_stream.specs.Streams.{Appends};
-ghost use Rattle.walter_cli.specs.Ending.{EndsRun, EndsEarly, IsBuilt, IsWriteFault, fault_of};
+ghost use Rattle.walter_cli.specs.Ending.{Drives, EndsRun, EndsEarly, HasStepsFor, IsBuilt, IsWriteFault, fault_of};
 ghost use Rattle.walter_cli.specs.Racks.{rack_at, racked};
 ghost use Rattle.walter_cli.specs.Statuses.{status_of};
 ghost use Rattle.walter_cli.specs.Texts.{text_of};
@@ -16,9 +19,11 @@ ghost use Rattle.walter_words.specs.Words.{IsText};
 use crate::disks::{give_all, take_all};
 use crate::ended::{Ended, Fault, JournalCause};
 use std::alloc::Global;
+use std::sync::Wait;
+use std::thread::Threads;
 use walter_base::Mem;
 use walter_cluster::{Bench, Closed, Unbuilt, build};
-use walter_disk::Rack;
+use walter_disk::{Disk, Rack};
 use walter_engine::BeginFault;
 use walter_play::{open_lines, play};
 use walter_report::{report, summary, trace};
@@ -26,9 +31,11 @@ use walter_scenario::Scenario;
 use walter_stream::{BytesSource, NullSink, Sink, write_all};
 use walter_trail::Trail;
 use walter_words::Command;
+use walter_workers::OpenGate;
 
 /// Runs a scenario over the rack's disks, gives these back, and writes what the command says of it.
-pub fn run<K: Sink, R: Rack>(
+pub fn run<X: Threads + Wait + Sync, K: Sink, R: Rack>(
+    rt: &X,
     alloc: Global,
     scenario: &Scenario,
     command: &Command,
@@ -41,9 +48,12 @@ pub fn run<K: Sink, R: Rack>(
     requires fewer { scenario.now.catalog.tolerated < scenario.now.catalog.sites }
     requires whole { IsWhole scenario.now.catalog }
     requires within { All (λ (client : Client). client.site.0 < scenario.now.catalog.sites) scenario.now.clients }
+    requires clients { length scenario.now.clients < 2 ^ 32 }
+    requires threads { IsThreads scenario.now.threads }
     requires capacity { IsCapacity scenario.now.capacity }
     requires arms { All (IsArm scenario.now.catalog.sites) scenario.now.arms }
     requires steps { All (IsStep scenario.now.catalog.sites (length scenario.now.clients)) scenario.now.steps }
+    requires driven { HasStepsFor command.now scenario.now }
     ensures status { result.status ≡ status_of result.fault }
     ensures given_back { (racked R.D.Disk (rack_at R.Rack rack.old) (rack_at R.Rack rack.new)).balanced }
     ensures unfailing { 16 ≤ R.unfailing rack.old → ¬ (R.faults rack.old < R.faults rack.new) }
@@ -51,14 +61,14 @@ pub fn run<K: Sink, R: Rack>(
         command.now scenario.now (K.holds sink.old) (K.holds sink.new) (K.faults sink.old) (K.faults sink.new)
         result.trails.items result.fault }
 {
-    let mut bench = match build_over(alloc, scenario, rack) {
+    let bench = match build_over(alloc, scenario, rack) {
         Ok(bench) => bench,
         Err(fault) => return Ended::early(alloc, fault),
     };
-    let played = play(alloc, &mut bench, scenario);
+    let (bench, driven) = drive(rt, alloc, command, bench, scenario);
     let Closed { trails, disks, .. } = bench.close();
     let given = give_all(rack, disks);
-    if played.is_err() {
+    if driven.is_err() {
         return Ended::late(trails, Some(Fault::Memory));
     }
     if let Err(site) = given {
@@ -68,6 +78,42 @@ pub fn run<K: Sink, R: Rack>(
         Ok(()) => Ended::late(trails, None),
         Err(fault) => Ended::late(trails, Some(fault)),
     }
+}
+
+// Drives the sites to the end: by threads, or by the steps of the scenario. Where memory runs out, what was done so far
+// stands.
+fn drive<X: Threads + Wait + Sync, D: Disk + Drop + Send>(
+    rt: &X,
+    alloc: Global,
+    command: &Command,
+    bench: Bench<D, BytesSource, NullSink>,
+    scenario: &Scenario,
+) -> (Bench<D, BytesSource, NullSink>, Mem<()>)
+    requires running { ¬ IsText command.now }
+    requires of { IsOf scenario.now bench }
+    requires few { scenario.now.catalog.sites ≤ most_sites }
+    requires within { All (λ (client : Client). client.site.0 < scenario.now.catalog.sites) scenario.now.clients }
+    requires connected { AreAllConnected scenario.now bench }
+    requires met { AreMet bench }
+    requires first { IsFirst scenario.now.catalog.sites (moment_of D.Disk bench.cells) }
+    requires clients { length scenario.now.clients < 2 ^ 32 }
+    requires threads { IsThreads scenario.now.threads }
+    requires arms { All (IsArm scenario.now.catalog.sites) scenario.now.arms }
+    requires steps { All (IsStep scenario.now.catalog.sites (length scenario.now.clients)) scenario.now.steps }
+    requires driven { HasStepsFor command.now scenario.now }
+    ensures cells { EachKeeps D.Disk bench.cells result.0.cells }
+    ensures homes { result.0.homes ≡ bench.homes }
+    ensures driven { OnOk result.1 (Drives command.now (λ i. IsToldAt D.Disk i bench) scenario.now
+        (moment_of D.Disk bench.cells) (moment_of D.Disk result.0.cells)) }
+    ensures arms { ArmsMore (moment_of D.Disk bench.cells) (moment_of D.Disk result.0.cells)
+        (scenario.now.arms ++ arms_of scenario.now.steps) }
+{
+    if let Command::Run { .. } = command {
+        return walter_workers::run(rt, alloc, bench, scenario, &OpenGate);
+    }
+    let mut bench = bench;
+    let played = play(alloc, &mut bench, scenario);
+    (bench, played)
 }
 
 // The sites over the rack's disks. Where none are built the disks are given back.
@@ -159,7 +205,9 @@ fn text(alloc: Global, scenario: &Scenario, command: &Command, trails: &[Trail])
     ensures { IfOk result (λ text. text.items ≡ written_by command.now scenario.now trails.now) }
 {
     match command {
-        Command::Play { trace } => report_text(alloc, scenario, *trace, trails),
+        Command::Play { trace } | Command::Run { trace } => {
+            report_text(alloc, scenario, *trace, trails)
+        }
         Command::Load { seed, calls } => Ok(summary(alloc, *seed, *calls, trails)?.into_vec()),
         Command::Say(_) => unreachable!(),
     }

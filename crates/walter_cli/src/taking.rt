@@ -1,12 +1,12 @@
 ghost use Rattle.std.specs.Prelude.{◌≡◌, IfOk, IfErr};
 ghost use Rattle.walter_cli.specs.Ending.{IsPlayable, IsPoseFault, IsTakeFault};
 ghost use Rattle.walter_cli.specs.Sources.{IsTaken};
-ghost use Rattle.walter_cli.specs.Words.{CanBeRun, IsPosed};
+ghost use Rattle.walter_cli.specs.Words.{CanBeRun, IsPosed, but_for_steps};
 
 use crate::ended::Fault;
 use std::alloc::Global;
 use walter_make::make;
-use walter_scenario::{Detail, LONGEST_TEXT, Place, ReadFault, Scenario, read};
+use walter_scenario::{Detail, LONGEST_TEXT, Place, ReadFault, Scenario, Steps, read};
 use walter_stream::{ReadError, Source, read_to_end};
 use walter_words::Command;
 
@@ -20,11 +20,22 @@ pub fn pose<S: Source>(alloc: Global, command: &Command, source: &mut S) -> Resu
 {
     match command {
         Command::Play { .. } => take_scenario(alloc, source),
+        Command::Run { .. } => Ok(without_steps(alloc, take_scenario(alloc, source)?)),
         Command::Load { seed, calls } => match make(alloc, *seed, *calls) {
             Ok(scenario) => Ok(scenario),
             Err(_) => Err(Fault::Memory),
         },
         Command::Say(_) => unreachable!(),
+    }
+}
+
+// Threads take no steps.
+fn without_steps(alloc: Global, scenario: Scenario) -> Scenario
+    ensures { result ≡ but_for_steps scenario }
+{
+    Scenario {
+        steps: Steps::from(Vec::new(alloc)),
+        ..scenario
     }
 }
 

@@ -20,7 +20,7 @@ use Rattle.walter_work.specs.Worked.{IsWorked}
 use Rattle.walter_work.specs.Working.{IsWorking}
 use Rattle.walter_work.proofs.Working.{worked_so}
 use Rattle.walter_workers.specs.Rounds.{AreDone, HaveAllCalled, IsDoneAt}
-use Rattle.walter_workers.proofs.Pumping.{idle_fewer}
+use Rattle.walter_work.proofs.Driven.{idle_fewer}
 
 -- ---- clients
 

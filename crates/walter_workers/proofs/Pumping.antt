@@ -36,6 +36,7 @@ use Rattle.walter_scenario.specs.declared.scenario.Scenario.{Scenario}
 use Rattle.walter_work.specs.Driven.{IsIdleAt, IsSpentAt, full, late, late_packet}
 use Rattle.walter_work.specs.Working.{IsWorking}
 use Rattle.walter_work.specs.Worked.{deliveries_of, ticks_in}
+use Rattle.walter_work.proofs.Driven.{idle_fewer}
 use Rattle.walter_work.proofs.Taking.{all_taken}
 use Rattle.walter_work.proofs.Working.{all_delivered, restart_on, takes_on}
 use Rattle.walter_workers.specs.Rounds.{IsDoneAt, Moves, PumpsOne, has_done}
