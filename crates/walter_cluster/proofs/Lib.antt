@@ -13,4 +13,4 @@ pub mod Closings
 pub mod Gathering
 pub mod Sharing
 pub mod Working
-pub mod Pumping
+pub mod Pumps

@@ -125,7 +125,7 @@ module _ {D : Type 0} (g : Ghosts D) where
   pub held_first : (t : Scenario) (origins : List Origin) (bench : BenchValue D) (pumps : List PumpValue)
       → origins ≡ origins_of g t bench.cells → IsBench bench → CanWork g t bench pumps → AreHeld g origins bench.cells pumps
   held_first t origins bench pumps are is can i c p at pumped =
-      let pump = can.pumps.each i p pumped in
+      let pump = can.are.each i p pumped in
       let cell = is.cells i c at in
       record {
         origin = origin_of g t c;
@@ -306,8 +306,8 @@ module _ {D : Type 0} (g : Ghosts D) where
 module _ {D : Type 0} (g : Ghosts D) (t : Scenario) (origins : List Origin) (old new : BenchValue D) (pumps : List PumpValue)
     (are : origins ≡ origins_of g t old.cells) (long : length new.cells ≡ length origins) (as_long : length pumps ≡ length origins)
     (held : AreHeld g origins new.cells pumps) where
-  first_long : length origins ≡ length old.cells
-  first_long = ap length are ∙ length-map old.cells (origin_of g t)
+  as_many : length origins ≡ length old.cells
+  as_many = ap length are ∙ length-map old.cells (origin_of g t)
 
   -- each has gone on from the one that was at its place
   gone_from : (i : ℕ) (a b : CellValue D) (p : PumpValue) → slice_get old.cells i ≡ Some a → slice_get new.cells i ≡ Some b
@@ -324,7 +324,7 @@ module _ {D : Type 0} (g : Ghosts D) (t : Scenario) (origins : List Origin) (old
   -- all keep what a call keeps
   pub all_gone : EachKeeps g old.cells new.cells
   all_gone =
-      let first = first_long in
+      let first = as_many in
       record {
         long = long ∙ first;
         each = λ i a b was now.
@@ -336,7 +336,7 @@ module _ {D : Type 0} (g : Ghosts D) (t : Scenario) (origins : List Origin) (old
   -- and their arms
   pub all_arms : KeepsArms (moment_of g old.cells) (moment_of g new.cells)
   all_arms i =
-      let first = first_long in
+      let first = as_many in
       elim (cases_lt i (length old.cells)) [
         | inl within ↦
             let a = there_is old.cells i within in
@@ -353,7 +353,7 @@ module _ {D : Type 0} (g : Ghosts D) (t : Scenario) (origins : List Origin) (old
   -- and they can work on
   pub all_work : new.homes ≡ old.homes → IsOf t old → CanWork g t new pumps
   all_work homes of =
-      let first = first_long in
+      let first = as_many in
       let now = of_each g old new all_gone t homes of in
       let at_work : (i : ℕ) (b : CellValue D) (p : PumpValue) → slice_get new.cells i ≡ Some b → slice_get pumps i ≡ Some p
       → IsAtWork g t (site_at i) b p =
@@ -363,7 +363,7 @@ module _ {D : Type 0} (g : Ghosts D) (t : Scenario) (origins : List Origin) (old
       (gone_from i a.0 b p a.1 at pumped).1 in
       record {
         of = now;
-        pumps = record {
+        are = record {
           long = as_long ∙ sym long;
           each = λ i p pumped.
               let within = slice_get_within pumps i p pumped in

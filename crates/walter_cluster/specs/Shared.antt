@@ -106,7 +106,7 @@ module _ {D : Type 0} (g : Ghosts D) where
   -- The sites of a bench of a scenario work, each with the pump at its place.
   pub record CanWork (t : Scenario) (bench : BenchValue D) (pumps : List PumpValue) : Type 0 where
     pub of : IsOf t bench
-    pub pumps : ArePumps bench.cells pumps
+    pub are : ArePumps bench.cells pumps
     pub working : (i : ℕ) (c : CellValue D) (p : PumpValue) → slice_get bench.cells i ≡ Some c
         → slice_get pumps i ≡ Some p
         → IsWorking (is_told g c.node.disk ≡ true) t (site_at i) c.node.trail p

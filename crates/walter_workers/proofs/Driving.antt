@@ -71,7 +71,7 @@ module _ {D : Type 0} (g : Ghosts D) (t : Scenario) where
   driven fails old new pumps can same called done = record {
     worked = λ i below.
         let long = can.of.sites in
-        let as_long = can.pumps.long in
+        let as_long = can.are.long in
         let c = there_is new.cells i (omega (arith, below, long)) in
         let p = there_is pumps i (omega (arith, below, long, as_long)) in
         let worked = worked_so (is_told g c.0.node.disk ≡ true) t (site_at i) c.0.node.trail p.0 (can.working i c.0 p.0 c.1 p.1) in

@@ -49,9 +49,9 @@ use Rattle.walter_workers.proofs.Work.{can_on}
 -- what is said of a delivery at a bench, and of another event, said of the site's trail
 hands_on : (from : SiteId) (number : ℕ) (put : Option Stamped) (last : ℕ) (old new : List Entry) (move : Moved)
     → HandsOver from number put last old new move → HandsOn from number old new move
-hands_on from number put last old new moved.Did hands = (hands.1.0.1, hands.1.2)
-hands_on from number put last old new moved.Nothing hands = hands.2
-hands_on from number put last old new moved.Spent hands = hands.1
+hands_on from number put last old new moved.Did over = (over.1.0.1, over.1.2)
+hands_on from number put last old new moved.Nothing over = over.2
+hands_on from number put last old new moved.Spent over = over.1
 
 acts_on : (event : Event) (last : ℕ) (old new : List Entry) (act : Acted) → Acts event last old new act → ActsOn event old new act
 acts_on event last old new acted.Did acts = acts.1
@@ -192,7 +192,7 @@ module _ {D : Type 0} (g : Ghosts D) (t : Scenario) (old new : BenchValue D) (ke
   told = is_told g c.node.disk ≡ true
 
   is_of : IsPumpAt old.cells i before
-  is_of = can.pumps.each i.0 before was
+  is_of = can.are.each i.0 before was
 
   -- the site is told as it was
   still_told : IsToldAt g i.0 new → told
@@ -234,7 +234,7 @@ module _ {D : Type 0} (g : Ghosts D) (t : Scenario) (old new : BenchValue D) (ke
                   (sym (field_at (λ (c : CellValue D). c.node.trail) old.cells i.0 c [] at)) (can.working i.0 c before at was))
                   answer does still) [
                     | inl spent ↦ inl spent
-                    | inr idle ↦ inr (idle_fewer told (IsToldAt g i.0 new) still_told t (trails_of old.cells) i idle)
+                    | inr calm ↦ inr (idle_fewer told (IsToldAt g i.0 new) still_told t (trails_of old.cells) i calm)
                   ])
             ];
       }

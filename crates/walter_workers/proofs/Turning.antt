@@ -5,13 +5,14 @@ use Rattle.walter_base.specs.declared.memory.NoMemory.{NoMemory}
 use Rattle.walter_base.specs.declared.names.SiteId.{SiteId}
 use Rattle.walter_cell.specs.Cells.{CallComes, TurnsTo}
 use Rattle.walter_cell.specs.Entries.{IsSpent}
+use Rattle.walter_cell.specs.Nodes.{is_told}
 use Rattle.walter_cell.specs.declared.answers.Serve.{Serve}
 use Rattle.walter_cell.specs.declared.answers.Serve.TheVariants.{Served, Ended, Broken, Spent}
 use Rattle.walter_cluster.specs.Benches.{BenchValue, Keeps, trails_of}
 use Rattle.walter_cluster.specs.Moments.{Moment, ChangesAt, TurnsAt, clock_at, moment_of, trail_at}
 use Rattle.walter_cluster.specs.Shared.{CanWork}
 use Rattle.walter_cluster.proofs.Changes.{one_there}
-use Rattle.walter_cluster.proofs.Pumping.{pumps_kept}
+use Rattle.walter_cluster.proofs.Pumps.{pumps_kept}
 use Rattle.walter_cluster.proofs.Working.{same_on}
 use Rattle.walter_conn.specs.Sequences.{AreAllCalls, EndCut, EndWhole}
 use Rattle.walter_conn.specs.Frames.{Call}
@@ -42,17 +43,17 @@ spent_at trails i (inr past) = late past
 module _ (told : Type 0) (t : Scenario) (i : SiteId) (number : ℕ) (bytes : List ℕ) (fault : Type 0) (old new : List Entry)
     (pump : PumpValue) (works : IsWorking told t i old pump) where
   comes_on : CallComes number bytes old new → IsWorking told t i new pump
-  comes_on (call, (rest, (grows, are))) =
+  comes_on (call, rest, grows, are) =
       subst (λ (es : List Entry). IsWorking told t i es pump) (sym grows.1)
       (call_on told t i old pump grows.0 number call works grows.2)
 
-  pub turn_on : (clock : ℕ) (answer : Serve) → TurnsTo number bytes clock fault old new answer → IsWorking told t i new pump
-  turn_on clock Spent turns = same_on told t i old new pump works turns.1
-  turn_on clock Ended turns = same_on told t i old new pump works turns.2.1
-  turn_on clock Broken (place, inl cut) = same_on told t i old new pump works cut.1
-  turn_on clock Broken (place, inr (failed, inl same)) = same_on told t i old new pump works same
-  turn_on clock Broken (place, inr (failed, inr comes)) = comes_on comes
-  turn_on clock Served turns = comes_on turns.1
+  pub turn_on : (last : ℕ) (answer : Serve) → TurnsTo number bytes last fault old new answer → IsWorking told t i new pump
+  turn_on last Spent turns = same_on told t i old new pump works turns.1
+  turn_on last Ended turns = same_on told t i old new pump works turns.2
+  turn_on last Broken (place, inl cut) = same_on told t i old new pump works cut.1
+  turn_on last Broken (place, inr (failed, inl same)) = same_on told t i old new pump works same
+  turn_on last Broken (place, inr (failed, inr comes)) = comes_on comes
+  turn_on last Served turns = comes_on turns.1
 
 -- ---- all trails
 
@@ -71,11 +72,11 @@ module _ (fails : Type 0) (fault : Type 0) (so : fault → fails) (number : ℕ)
       go : (answer : Serve) → TurnsTo number client.bytes (clock_at old client.site) fault (trail_of old.trails client.site)
           (trail_of new.trails client.site) answer → Moves fails old.trails new.trails (is_served answer)
       go Spent turns = moves_still fails i old new changes turns.1
-      go Ended turns = moves_still fails i old new changes turns.2.1
+      go Ended turns = moves_still fails i old new changes turns.2
       go Broken (place, inl cut) = moves_still fails i old new changes cut.1
       go Broken (place, inr (failed, inl same)) = moves_still fails i old new changes same
-      go Broken (place, inr (failed, inr (call, (rest, (grows, are))))) = moves_failed fails i old new changes _ within (so failed) grows
-      go Served (place, (call, (rest, (grows, are)))) = moves_grown fails i old new changes _ within place.0 grows
+      go Broken (place, inr (failed, inr (call, rest, grows, are))) = moves_failed fails i old new changes _ within (so failed) grows
+      go Served (place, (call, rest, grows, are)) = moves_grown fails i old new changes _ within place.0 grows
 
   called_as : trail_of new.trails client.site ≡ trail_of old.trails client.site
       → AreAllCalls client.bytes (calls_of number (trail_of old.trails client.site)) → HasAllCalled fails new.trails number client
@@ -87,7 +88,7 @@ module _ (fails : Type 0) (fault : Type 0) (so : fault → fails) (number : ℕ)
   turn_called Spent (spent, same) is =
       inr (inl (spent_at new.trails client.site
       (subst (λ (es : List Entry). IsSpent (clock (reverse es) + 1) es) (sym same) spent)))
-  turn_called Ended (place, (whole, same)) is = called_as same (inl whole)
+  turn_called Ended (place, whole, same) is = called_as same (inl whole)
   turn_called Broken (place, inl (cut, same)) is = called_as same (inr cut)
   turn_called Broken (place, inr failed) is = inl (so failed.0)
   turn_called Served turns is = absurd cc
@@ -106,13 +107,13 @@ module _ {D : Type 0} (g : Ghosts D) (fails : Type 0) (t : Scenario) (number : �
       let below : client.site.0 < length (trails_of old.cells) = omega (arith, within, long) in
       record {
         works = λ pumps can.
-            can_on g t old new keeps pumps pumps can (pumps_kept g old new keeps pumps can.pumps) client.site (λ k apart. refl)
+            can_on g t old new keeps pumps pumps can (pumps_kept g old new keeps pumps can.are) client.site (λ k apart. refl)
             turn.others.others
             (λ c p q at before after works.
             let found : Some p ≡ Some q = sym before ∙ after in
             let one : p ≡ q = cc in
-            subst (λ (x : PumpValue). IsWorking _ t client.site (trail_at new.cells client.site) x) one
-            (turn_on _ t client.site number client.bytes fault _ _ p works _ answer turn.turns));
+            subst (λ (x : PumpValue). IsWorking (is_told g c.node.disk ≡ true) t client.site (trail_at new.cells client.site) x) one
+            (turn_on (is_told g c.node.disk ≡ true) t client.site number client.bytes fault _ _ p works _ answer turn.turns));
         moves = turn_moves fails fault so number client (moment_of g old.cells) (moment_of g new.cells) below answer turn;
         called = λ is other at.
             subst (λ (c : Client). HasAllCalled fails (trails_of new.cells) number c) (one_there t.clients number client other there at)
@@ -124,13 +125,13 @@ module _ {D : Type 0} (g : Ghosts D) (fails : Type 0) (t : Scenario) (number : �
   unturned e same = record {
     works = λ pumps can.
         let stays = λ (j : SiteId). ap (λ (trails : List (List Entry)). trail_of trails j) same in
-        can_on g t old new keeps pumps pumps can (pumps_kept g old new keeps pumps can.pumps) (site_at 0) (λ k apart. refl)
+        can_on g t old new keeps pumps pumps can (pumps_kept g old new keeps pumps can.are) (site_at 0) (λ k apart. refl)
         (λ j apart. stays j)
         (λ c p q at before after works.
         let found : Some p ≡ Some q = sym before ∙ after in
         let one : p ≡ q = cc in
-        subst (λ (x : PumpValue). IsWorking _ t (site_at 0) (trail_at new.cells (site_at 0)) x) one
-        (same_on _ t (site_at 0) _ _ p works (stays (site_at 0))));
+        subst (λ (x : PumpValue). IsWorking (is_told g c.node.disk ≡ true) t (site_at 0) (trail_at new.cells (site_at 0)) x) one
+        (same_on (is_told g c.node.disk ≡ true) t (site_at 0) _ _ p works (stays (site_at 0))));
     moves = tt;
     called = λ is. absurd cc;
   }

@@ -48,11 +48,11 @@ module _ {D : Type 0} (g : Ghosts D) (t : Scenario) (old new : BenchValue D) (ke
   pub can_on : CanWork g t new pumped
   can_on = record {
     of = of_kept g old new keeps t can.of;
-    pumps = are;
+    are = are;
     working = λ k c q at after.
         let within = slice_get_within new.cells k c at in
         let long = keeps.cells.long in
-        let as_long = can.pumps.long in
+        let as_long = can.are.long in
         let a = there_is old.cells k (omega (arith, within, long)) in
         let p = there_is pumps k (omega (arith, within, long, as_long)) in
         let was = field_at (λ (c : CellValue D). c.node.trail) old.cells k a.0 [] a.1 in

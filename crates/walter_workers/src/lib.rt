@@ -3,6 +3,7 @@
 
 mod gate;
 mod rounds;
+mod trial;
 mod working;
 
 pub use gate::{Gate, OpenGate};

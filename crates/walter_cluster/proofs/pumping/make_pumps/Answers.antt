@@ -1,7 +1,7 @@
 use Rattle.std.proofs.Common.{◌≡◌, ◌++◌, ◌∷◌, [], length, map, ap, sym, ◌∙◌, arith}
 use Rattle.std.proofs.lemmas.List.FromFn.{length-map-range_with_len, map-range_with_len_more}
 use Rattle.std.specs.List.{range_with_len}
-use Rattle.walter_cluster.proofs.Pumping.{new_pumps_are, pump_of}
+use Rattle.walter_cluster.proofs.Pumps.{new_pumps_are, pump_of}
 use Rattle.walter_cluster.proofs.pumping.make_pumps.Goals as goal
 
 pub push_reserved-requires : goal.push_reserved-requires

@@ -1,6 +1,6 @@
 use Rattle.std.proofs.Common.{◌≡◌, map, vec_capacity}
 use Rattle.std.specs.List.{range_with_len}
-use Rattle.walter_cluster.proofs.Pumping.{pump_of}
+use Rattle.walter_cluster.proofs.Pumps.{pump_of}
 use Rattle.walter_cluster.proofs.pumping.make_pumps.Given as goal
 
 -- those of the first sites, and room for all

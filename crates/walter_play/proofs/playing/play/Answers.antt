@@ -2,7 +2,7 @@ use Rattle.std.proofs.Common.{◌∙◌, sym, subst}
 use Rattle.std.proofs.lemmas.Result.{on_ok_weaker}
 use Rattle.walter_cluster.specs.Benches.{IsToldAt}
 use Rattle.walter_cluster.specs.Pumps.{ArePumps}
-use Rattle.walter_cluster.proofs.Pumping.{pumps_first}
+use Rattle.walter_cluster.proofs.Pumps.{pumps_first}
 use Rattle.walter_play.specs.Scripts.{Plays, all_steps, scene_of}
 use Rattle.walter_play.proofs.playing.play.Goals as goal
 

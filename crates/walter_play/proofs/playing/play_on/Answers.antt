@@ -2,7 +2,7 @@ use Rattle.std.proofs.Common.{◌≡◌, ◌+◌, ◌++◌, [], ℕ, List, map, 
 use Rattle.std.proofs.lemmas.List.{take_all, append-nil}
 use Rattle.walter_cluster.specs.Benches.{IsToldAt}
 use Rattle.walter_cluster.proofs.Keeping.{bench_self, bench_on, of_kept, connected_kept, told_kept}
-use Rattle.walter_cluster.proofs.Pumping.{pumps_kept}
+use Rattle.walter_cluster.proofs.Pumps.{pumps_kept}
 use Rattle.walter_cluster.specs.Moments.{Moment, moment_of}
 use Rattle.walter_scenario.specs.declared.scenario.Arm.{Arm}
 use Rattle.walter_scenario.specs.declared.scenario.Step.{Step}

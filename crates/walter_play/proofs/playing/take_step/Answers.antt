@@ -4,7 +4,7 @@ use Rattle.walter_base.specs.declared.catalog.Catalog.{Catalog}
 use Rattle.walter_cell.specs.Nodes.{is_told}
 use Rattle.walter_cluster.proofs.Changes.{there_is}
 use Rattle.walter_cluster.proofs.Keeping.{bench_self}
-use Rattle.walter_cluster.proofs.Pumping.{pump_at, pump_there, pumps_after, pumps_kept}
+use Rattle.walter_cluster.proofs.Pumps.{pump_at, pump_there, pumps_after, pumps_kept}
 use Rattle.walter_cluster.specs.Benches.{IsToldAt}
 use Rattle.walter_cluster.specs.Moments.{moment_of}
 use Rattle.walter_cluster.specs.Pumps.{PumpsAt}

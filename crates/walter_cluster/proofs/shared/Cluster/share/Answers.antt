@@ -15,7 +15,7 @@ lock_last-site_7-requires g c =
     subst (λ (b : BenchValue g.row.D.Denot). CanWork g.D.Disk t b c.args.pumps.items) (sym c.bench.view_is) c.requires.2 in
     let long = ap length are ∙ length-map cells (origin_of g.D.Disk t) in
     let few = c.bench.invariant.0.few in
-    let as_long = can.pumps.long in (
+    let as_long = can.are.long in (
       omega arith,
       (
         omega (arith, long, few, c.bench.inside.cells.ok.0),

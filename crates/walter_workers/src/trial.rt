@@ -1,0 +1,6 @@
+ghost use Rattle.std.specs.Prelude.{◌≡◌, ◌+◌, ℕ};
+
+pub fn trial()
+    ensures { (n : ℕ) → n + 0 ≡ n }
+{
+}
