@@ -4,6 +4,5 @@ pub mod Wrong
 pub mod Declared
 pub mod Sent
 pub mod Scripts
-pub mod Readings
 pub mod Uniqueness
 pub mod Stages

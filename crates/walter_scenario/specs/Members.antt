@@ -5,11 +5,14 @@ use Rattle.serde_json.specs.Data.{Data, Members}
 use Rattle.serde_json.specs.Find.{get_member}
 use Rattle.serde_json.specs.View.{view}
 use Rattle.serde_json.specs.declared.value.Value.{Value}
+use Rattle.walter_base.specs.Catalogs.{Item, containers_of}
+use Rattle.walter_scenario.specs.declared.grounds.Grounds.{Grounds}
 use Rattle.walter_scenario.specs.declared.members.Parts.{Parts}
 use Rattle.walter_scenario.specs.declared.place.ReadFault.{ReadFault}
 use Rattle.walter_scenario.specs.declared.scenario.Scenario.{Scenario}
+use Rattle.walter_scenario.specs.declared.settings.Settings.{Settings}
 use Rattle.walter_scenario.specs.Parts.{HasMember}
-use Rattle.walter_scenario.specs.Scenarios.{HasKeys, IsReading, IsReadFault}
+use Rattle.walter_scenario.specs.Scenarios.{GivesLink, GivesTicks, GivesThreads, HasKeys, HasCapacity, IsReading, IsReadFault}
 
 -- the data of a value that may be absent
 abbrev pub data_in : Option (Bor Value) → Option Data
@@ -37,3 +40,32 @@ IsReadingOf parts s =
 abbrev pub IsFaultOf : Parts → ReadFault → Type 0
 IsFaultOf parts fault =
     (bytes : List ℕ) (members : Members) → HasKeys bytes members → AreParts members parts → IsReadFault bytes fault
+
+-- the bytes are right up to their capacity, and these are what they spell so far
+pub record HasGrounds (bytes : List ℕ) (members : Members) (g : Grounds) : Type 0 where
+  pub declared : List Item
+  pub has_capacity : HasCapacity bytes members g.catalog.sites g.catalog.tolerated declared g.clients g.capacity
+  pub containers : g.catalog.containers ≡ containers_of declared
+
+-- the grounds of all bytes whose object has these parts
+abbrev pub AreGroundsOf : Parts → Grounds → Type 0
+AreGroundsOf parts g =
+    (bytes : List ℕ) (members : Members) → HasKeys bytes members → AreParts members parts → HasGrounds bytes members g
+
+-- the link, the ticks and the threads that the parts give
+pub record AreSettingsOf (parts : Parts) (s : Settings) : Type 0 where
+  pub link : GivesLink (data_in parts.link) s.link
+  pub ticks : GivesTicks (data_in parts.ticks) s.ticks
+  pub threads : GivesThreads (data_in parts.threads) s.threads
+
+-- the scenario of all bytes with these grounds whose object has these parts
+abbrev pub IsReadingOn : Grounds → Parts → Scenario → Type 0
+IsReadingOn grounds parts s =
+    (bytes : List ℕ) (members : Members) → HasGrounds bytes members grounds → AreParts members parts
+    → IsReading bytes s
+
+-- what a fault says of all these bytes
+abbrev pub IsFaultOn : Grounds → Parts → ReadFault → Type 0
+IsFaultOn grounds parts fault =
+    (bytes : List ℕ) (members : Members) → HasGrounds bytes members grounds → AreParts members parts
+    → IsReadFault bytes fault

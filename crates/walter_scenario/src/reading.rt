@@ -1,48 +1,48 @@
-ghost use Rattle.std.specs.Prelude.{IfOk, IfErr};
-ghost use Rattle.walter_scenario.specs.Members.{IsReadingOf, IsFaultOf};
+ghost use Rattle.std.specs.Prelude.{◌≤◌, ◌^◌, length, IfOk, IfErr};
+ghost use Rattle.walter_scenario.specs.Members.{IsReadingOf, IsFaultOf, IsReadingOn, IsFaultOn};
 ghost use Rattle.walter_scenario.specs.Scenarios.{IsReading, IsReadFault};
 
 use crate::arms::given_arms;
-use crate::capacity::capacity_of;
-use crate::clients::clients_of;
-use crate::containers::catalog_of;
-use crate::link::link_of;
-use crate::lists::{Arms, Clients, Steps};
+use crate::grounds::{Grounds, grounds_of};
+use crate::lists::{Arms, Steps};
 use crate::members::{Parts, other_key, parts_of};
-use crate::numbers::{sites_of, tolerated_of};
 use crate::place::{Place, ReadFault};
 use crate::scenario::{LONGEST_TEXT, Scenario};
+use crate::settings::settings_of;
 use crate::steps::steps_of;
 use crate::text::{members_of, value_of};
-use crate::threads::threads_of;
-use crate::ticks::ticks_of;
 use std::alloc::Global;
+
+/// The scenario that the parts spell, where they spell these grounds.
+fn scenario_on(alloc: Global, grounds: Grounds, parts: Parts<'_>) -> Result<Scenario, ReadFault>
+    requires { length grounds.clients ≤ 2 ^ 32 }
+    ensures ok { IfOk result (IsReadingOn grounds parts.entry) }
+    ensures fault { IfErr result (IsFaultOn grounds parts.entry) }
+{
+    let settings = settings_of(parts)?;
+    let sites = grounds.catalog.sites;
+    let clients = grounds.clients.as_slice().len();
+    let arms = given_arms(alloc, sites, parts.arms)?;
+    let steps = steps_of(alloc, sites, clients, parts.steps)?;
+    Ok(Scenario {
+        catalog: grounds.catalog,
+        clients: grounds.clients,
+        capacity: grounds.capacity,
+        link: settings.link,
+        ticks: settings.ticks,
+        threads: settings.threads,
+        arms: Arms::from(arms),
+        steps: Steps::from(steps),
+    })
+}
 
 /// The scenario that the parts spell.
 fn scenario_of(alloc: Global, parts: Parts<'_>) -> Result<Scenario, ReadFault>
     ensures ok { IfOk result (IsReadingOf parts.entry) }
     ensures fault { IfErr result (IsFaultOf parts.entry) }
 {
-    let sites = sites_of(parts.sites).ok_or(Place::Sites)?;
-    let tolerated = tolerated_of(sites, parts.tolerated).ok_or(Place::F)?;
-    let catalog = catalog_of(alloc, sites, tolerated, parts.containers)?;
-    let clients = clients_of(alloc, sites, parts.clients)?;
-    let capacity = capacity_of(parts.capacity).ok_or(Place::Capacity)?;
-    let link = link_of(parts.link).ok_or(Place::Link)?;
-    let ticks = ticks_of(parts.ticks).ok_or(Place::Ticks)?;
-    let threads = threads_of(parts.threads).ok_or(Place::Threads)?;
-    let arms = given_arms(alloc, sites, parts.arms)?;
-    let steps = steps_of(alloc, sites, clients.len(), parts.steps)?;
-    Ok(Scenario {
-        catalog,
-        clients: Clients::from(clients),
-        capacity,
-        link,
-        ticks,
-        threads,
-        arms: Arms::from(arms),
-        steps: Steps::from(steps),
-    })
+    let grounds = grounds_of(alloc, parts)?;
+    scenario_on(alloc, grounds, parts)
 }
 
 /// The scenario that the bytes spell. Where they spell none, it is the first place that is wrong.

@@ -1,0 +1,38 @@
+ghost use Rattle.std.specs.Prelude.{◌≤◌, ◌*◌, length, IfOk, IfErr};
+ghost use Rattle.walter_scenario.specs.Members.{AreGroundsOf, IsFaultOf};
+
+use crate::capacity::capacity_of;
+use crate::clients::clients_of;
+use crate::containers::catalog_of;
+use crate::lists::Clients;
+use crate::members::Parts;
+use crate::numbers::{sites_of, tolerated_of};
+use crate::place::{Place, ReadFault};
+use std::alloc::Global;
+use walter_base::Catalog;
+
+/// What is played on: the sites with their containers, the clients, and the capacity of each journal.
+#[derive(Drop)]
+pub struct Grounds {
+    pub catalog: Catalog,
+    pub clients: Clients,
+    pub capacity: u64,
+}
+
+/// The grounds that the parts spell.
+pub fn grounds_of(alloc: Global, parts: Parts<'_>) -> Result<Grounds, ReadFault>
+    ensures ok { IfOk result (AreGroundsOf parts.entry) }
+    ensures few { IfOk result (λ grounds. length grounds.clients ≤ 8 * 1024) }
+    ensures fault { IfErr result (IsFaultOf parts.entry) }
+{
+    let sites = sites_of(parts.sites).ok_or(Place::Sites)?;
+    let tolerated = tolerated_of(sites, parts.tolerated).ok_or(Place::F)?;
+    let catalog = catalog_of(alloc, sites, tolerated, parts.containers)?;
+    let clients = clients_of(alloc, sites, parts.clients)?;
+    let capacity = capacity_of(parts.capacity).ok_or(Place::Capacity)?;
+    Ok(Grounds {
+        catalog,
+        clients: Clients::from(clients),
+        capacity,
+    })
+}
