@@ -142,25 +142,35 @@ steps_split front steps i =
 
 -- ---- a client's turn
 
--- the site of a client, of which so much was read
+-- the site of a client
+pub home_of : {D : Type 0} (t : Scenario) (bench : BenchValue D) (number : ℕ) (client : Client) → IsOf t bench
+    → slice_get t.clients number ≡ Some client → slice_get bench.homes number ≡ Some client.site
+home_of t bench number client is there =
+    ap (λ hs. slice_get hs number) is.homes
+    ∙ (slice_get-map (λ (client : Client). client.site) t.clients number ∙ ap (option_map (λ (client : Client). client.site)) there)
+
+-- its connection, of which so much was read
+pub line_of : {D : Type 0} (t : Scenario) (bench : BenchValue D) (number : ℕ) (client : Client) (c : CellValue D)
+    → AreAllConnected t bench → slice_get t.clients number ≡ Some client → slice_get bench.cells client.site.0 ≡ Some c
+    → IsLineAt client.bytes (calls_of number (trail_at bench.cells client.site)) (lines_at bench.cells client.site.0) number
+line_of {D = D} t bench number client c connected there at =
+    subst (λ (es : List Entry). IsLineAt client.bytes (calls_of number es) (lines_at bench.cells client.site.0) number)
+    (sym (field_at (λ (c : CellValue D). c.node.trail) bench.cells client.site.0 c [] at))
+    (subst (λ (ls : List (Option LineValue)). IsLineAt client.bytes (calls_of number c.node.trail) ls number)
+    (sym (field_at (λ (c : CellValue D). c.lines) bench.cells client.site.0 c [] at))
+    (connected client.site.0 c at number client there refl))
+
 pub turn_of : {D : Type 0} (t : Scenario) (bench : BenchValue D) (number : ℕ) (client : Client) → IsOf t bench
     → AreAllConnected t bench → All (λ (client : Client). client.site.0 < t.catalog.sites) t.clients
     → slice_get t.clients number ≡ Some client
     → (slice_get bench.homes number ≡ Some client.site)
     × IsLineAt client.bytes (calls_of number (trail_at bench.cells client.site)) (lines_at bench.cells client.site.0) number
-turn_of {D = D} t bench number client is connected within there =
+turn_of t bench number client is connected within there =
     let site = All-contains (λ (client : Client). client.site.0 < t.catalog.sites) t.clients client within
     (contains_at t.clients client number there) in
     let long = is.sites in
     let c = there_is bench.cells client.site.0 (omega (arith, site, long)) in
-    let line = connected client.site.0 c.0 c.1 number client there refl in (
-      ap (λ hs. slice_get hs number) is.homes
-          ∙ (slice_get-map (λ (client : Client). client.site) t.clients number ∙ ap (option_map (λ (client : Client). client.site)) there),
-      subst (λ (es : List Entry). IsLineAt client.bytes (calls_of number es) (lines_at bench.cells client.site.0) number)
-          (sym (field_at (λ (c : CellValue D). c.node.trail) bench.cells client.site.0 c.0 [] c.1))
-          (subst (λ (ls : List (Option LineValue)). IsLineAt client.bytes (calls_of number c.0.node.trail) ls number)
-          (sym (field_at (λ (c : CellValue D). c.lines) bench.cells client.site.0 c.0 [] c.1)) line),
-    )
+    (home_of t bench number client is there, line_of t bench number client c.0 connected there c.1)
 
 -- what a site drops that is one of the scenario's
 pub drops_of : {D : Type 0} (g : Ghosts D) (t : Scenario) (old new : BenchValue D) (i : SiteId) → IsOf t old → AreMet old
