@@ -15,7 +15,7 @@ use crate::rounds::finish;
 use std::alloc::Global;
 use std::marker::Brand;
 use std::sync::Wait;
-use std::sync::atomic::{AtomicU32, Ordering};
+use std::sync::atomic::{AtomicU64, Ordering};
 use std::thread::{Threads, for_each_mut};
 use std::time::Duration;
 use walter_base::{Mem, NoMemory, SiteId};
@@ -29,8 +29,8 @@ use walter_stream::{Sink, Source};
 // As many as there may be client threads and sites.
 const MOST_WORKERS: usize = 40;
 
-// How long a pump worker sleeps that has found nothing to do, unless a client worker ends before.
-const PAUSE: Duration = Duration::from_micros(100);
+// How many microseconds a pump worker sleeps that has found nothing to do, unless a client worker ends before.
+const PAUSE: u64 = 100;
 
 /// Arms the disks as the scenario says, and lets worker threads serve its clients and pump its sites, to the end; its
 /// steps are not taken. Where memory runs out, what was done so far stands. The bench comes back in any case.
@@ -133,7 +133,7 @@ fn share_work<
 {
     let cluster: Cluster<N, D, S, K> = Cluster::share(bench, pumps);
     let shared = &cluster;
-    let ended = AtomicU32::new(0);
+    let ended = AtomicU64::new(0);
     let ended = &ended;
     let clients = scenario.clients.as_slice().len() as u32;
     let threads = usize::from(scenario.threads);
@@ -161,7 +161,7 @@ fn share_work<
 }
 
 // A client worker has ended.
-fn end(ended: &AtomicU32) {
+fn end(ended: &AtomicU64) {
     ended.fetch_add(1, Ordering::SeqCst);
     ended.wake_all();
 }
@@ -208,7 +208,7 @@ fn pump<N: Name, D: Disk + Drop, S: Source + Drop, K: Sink + Drop>(
     rt: &impl Wait,
     alloc: Global,
     cluster: &Cluster<N, D, S, K>,
-    ended: &AtomicU32,
+    ended: &AtomicU64,
     threads: u32,
     site: SiteId,
 )
@@ -219,9 +219,9 @@ fn pump<N: Name, D: Disk + Drop, S: Source + Drop, K: Sink + Drop>(
         if matches!(cluster.pump(rt, alloc, site), Ok(Pumped::Did)) {
             continue;
         }
-        if seen >= threads {
+        if seen >= u64::from(threads) {
             return;
         }
-        ended.park_timeout(rt, seen, PAUSE);
+        ended.park_timeout(rt, seen as u32, Duration::from_micros(PAUSE));
     }
 }
