@@ -331,7 +331,7 @@ class Maker:
         """Whether a pump finds something to do there beside a tick."""
         inbox, waits = self.run.inboxes[site.me], (len(self.run.sites[k].put_out[site.me]) for k in site.peers)
         return (not site.up or len(inbox.queue) > 0 or sum(waits) > sum(inbox.taken.values())
-                or any(map(site.is_enabled, site.peers)))
+                or site.least_enabled() is not None)
 
     def pump(self):
         """Mostly where there is something to do."""

@@ -316,6 +316,14 @@ class Site:
         number = self.committed[j] + 1
         return number <= min(self.got[j], self.durable_at[j]) and covers(self.committed, self.log[j, number].start)
 
+    def enabled(self):
+        """The other sites whose next commit may be committed here."""
+        return filter(self.is_enabled, self.peers)
+
+    def least_enabled(self):
+        """The least of them, if there is one."""
+        return next(self.enabled(), None)
+
     def advance(self, j):
         stamp, event = self.clock + 1, f"advance:{j}"
         if not self.up:
@@ -683,7 +691,7 @@ class Run:
             return "restart",
         if queue:
             return "deliver", *queue.popleft()
-        enabled = [k for k in site.peers if site.is_enabled(k)]
+        enabled = list(site.enabled())
         self.met["pump advance, where several may be"] += len(enabled) > 1
         if enabled:
             return "advance", enabled[0]

@@ -1,8 +1,8 @@
 #!/usr/bin/env python3
 """Runs the program on wrong inputs, and compares how each run ends with what is wanted: its status, what it wrote on
 standard error and, where that can be read, on standard output. Prints a line for each case, and ends with status 1
-where one differs. With --model the plain model is run in its place, which is to end in the same ways: its own name
-stands in front of what it says. Of wrong words only the status and the front of what is said are compared: `./walter`
+where one differs. With --model the plain model is run in its place, which is to end in the same ways, but for `run`, which
+it hasn't: its own name stands in front of what it says. Of wrong words only the status and the front of what is said are compared: `./walter`
 says how it is used, the program has the text of clap, and the model its own. With --program a part of that text is
 looked for too, and the texts of help and version are asked for.
 """
@@ -98,18 +98,30 @@ CASES = [
     ("a load", ["load", "--calls=20", "--seed", "7"], CLOSED, None, 0, "", SUMMARY),
 ]
 
+# `run` refuses what `play` refuses, steps too, which it ignores otherwise.
+CASES_OF_RUN = [(f"run: {name}", ["run", *words[1:]], *rest) for name, words, *rest in CASES if words[:1] == ["play"] and rest[2]]
+# One client alone at one site that makes no ticks: so two runs don't differ.
+CASES_OF_RUN += [
+    ("a run", ["run"], scenario(clients='[0,"0000000101"]', steps='["call",0],["stop",0]', more=',"ticks":0'), None, 0, "",
+     "sites 1 f 0 clients 1\nclient 0 site 0 replies 1 0000000e8000000000010000000000000001\n"
+     "site 0 up epoch 1 events 2 records 1 got 0 committed 0 log -\n"),
+]
+
 # Words to the program itself, and what is wanted: the status, a part of what is said, and the front of what is written.
 TEXTS = [
     ("", 1, "requires a subcommand", ""),
-    ("run", 1, "'run'", ""),
+    ("runs", 1, "'runs'", ""),
     ("play --fast", 1, "'--fast'", ""),
     ("play --trace --trace", 1, "'--trace'", ""),
+    ("run --fast", 1, "'--fast'", ""),
+    ("run --trace --trace", 1, "'--trace'", ""),
     ("load --seed 7", 1, "--calls <M>", ""),
     ("load --seed 7 --calls 20001", 1, "'20001'", ""),
     ("load --seed -1 --calls 1", 1, "'-1'", ""),
     ("--version", 0, "", "walter "),
-    ("--help", 0, "", "Plays scenarios"),
+    ("--help", 0, "", "Plays or runs scenarios"),
     ("play --help", 0, "", "Plays the scenario"),
+    ("run --help", 0, "", "Runs the scenario"),
     ("load --help", 0, "", "Makes a scenario"),
 ]
 
@@ -143,11 +155,11 @@ def model_run(words, stdin, sink):
     return status, f"walter: {WORDS}\n" if status == 1 else said.replace("model: ", "walter: ", 1), written
 
 
-def differing(play, at_once=1):
+def differing(play, cases, at_once=1):
     """Plays all cases, with a line for each. Gives how many differ."""
     differ = 0
     with ThreadPoolExecutor(at_once) as pool:
-        for case, came in zip(CASES, pool.map(lambda case: play(*case[1:4]), CASES)):
+        for case, came in zip(cases, pool.map(lambda case: play(*case[1:4]), cases)):
             name, _, _, _, status, line, report = case
             wanted = status, f"walter: {line}\n" if line else "", report
             print(f"{name}: {'the same' if came == wanted else f'wanted {wanted}, came {came}'}")
@@ -175,10 +187,10 @@ def main():
     parser.add_argument("--model", action="store_true", help="run the plain model of model.py")
     given = parser.parse_args()
     if given.model:
-        sys.exit(differing(model_run, MODELS_AT_ONCE) > 0)
+        sys.exit(differing(model_run, CASES, MODELS_AT_ONCE) > 0)
     program = [os.path.abspath(given.program or os.path.join(TOP, "walter"))]
     # A case may have to prove the program, so its cases come one after another.
-    differ = differing(partial(program_run, program))
+    differ = differing(partial(program_run, program), CASES + CASES_OF_RUN)
     sys.exit(differ + (differing_texts(program) if given.program else 0) > 0)
 
 

@@ -73,10 +73,10 @@ def step_of(site, event):
 
 
 class Check:
-    """A threaded run while its trace is read, line by line."""
+    """A threaded run while its trace is read, line by line. `met` counts what the model and the link came to."""
 
-    def __init__(self, scenario, lines):
-        self.run, self.lines = model.Run(scenario, Counter(), Site), lines
+    def __init__(self, scenario, lines, met):
+        self.run, self.lines = model.Run(scenario, met, Site), lines
         self.ticks = scenario.get("ticks", link.TICKS)
         # How many calls the bytes of each client are.
         self.calls = [len(list(model.calls_of(bytes.fromhex(sent), Counter()))) for _, sent in self.run.clients]
@@ -162,11 +162,11 @@ class Check:
         return None if self.came[site.me, sender, number] < copies else f"the link has {copies} of this packet"
 
     def unworked_advance(self, site, other):
-        least = self.enabled(site)
+        least = site.least_enabled()
         return None if other == least else f"the least that may be committed there is of {'none' if least is None else least}"
 
     def unworked_tick(self, site):
-        least = self.enabled(site)
+        least = site.least_enabled()
         if least is not None:
             return f"the next commit of {least} may be committed there"
         return None if self.ticked[site.me] < self.ticks else f"it has made its {self.ticks:,} ticks"
@@ -175,16 +175,14 @@ class Check:
         """Whether a client has a call left."""
         return len(self.run.replies[client]) < self.calls[client]
 
-    def enabled(self, site):
-        return next((peer for peer in site.peers if site.is_enabled(peer)), None)
-
     def put_out(self, site, sender):
         return self.run.sites[sender].put_out[site.me]
 
     def copies(self, site, sender, number):
         """How often the link hands over a packet."""
         inbox = self.run.inboxes[site.me]
-        inbox.take({peer: len(self.put_out(site, peer)) for peer in site.peers})
+        if (sender, number) not in inbox.copies:
+            inbox.take({peer: len(self.put_out(site, peer)) for peer in site.peers})
         return inbox.copies[sender, number]
 
     # The end
@@ -209,7 +207,7 @@ class Check:
             return f"client {left[0]} has calls left"
         if not site.up:
             return "it is down"
-        least = self.enabled(site)
+        least = site.least_enabled()
         if least is not None:
             return f"the next commit of {least} may be committed there"
         ticked = self.ticked[site.me]
@@ -224,14 +222,19 @@ class Check:
         return None
 
 
-def check(scenario, report, is_whole=True):
-    """How many entries a report has that is one of a threaded run of the scenario. Another is Wrong."""
-    run = Check(scenario, report.split("\n"))
-    run.trace()
-    run.text()
+def checked(scenario, report, is_whole=True, met=None):
+    """What the model makes of a report that is one of a threaded run of the scenario. Another is Wrong."""
+    check = Check(scenario, report.split("\n"), Counter() if met is None else met)
+    check.trace()
+    check.text()
     if is_whole:
-        run.whole()
-    return sum(run.read.values())
+        check.whole()
+    return check.run
+
+
+def check(scenario, report, is_whole=True):
+    """How many entries such a report has."""
+    return sum(len(site.entries) for site in checked(scenario, report, is_whole).sites)
 
 
 def main():

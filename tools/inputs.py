@@ -34,15 +34,17 @@ def quoted(text, wrong):
     return f"; it has: {line if len(line) <= LONGEST else line[:LONGEST] + '..'}" if line else ""
 
 
-def read_run(scenario, report, make=runs.Run, needs_trace=False):
+def read_run(scenario, report, make=runs.Run, needs_trace=False, is_threaded=False):
     """The run that a scenario and a report tell, by the files that they are in."""
     made, text = scenario_of(scenario), ends.text_of(report)
+    if is_threaded:
+        made.forget_steps()
     if reports.is_summary(text):
         raise wrong_in(report, A_SUMMARY)
     try:
         told = reports.read(text)
         if needs_trace and not told.entries:
-            raise wrong_in(report, ": it has no trace, which play --trace writes")
+            raise wrong_in(report, ": it has no trace, which --trace writes")
         return make(made, told)
     except reports.Wrong as wrong:
         raise wrong_in(report, f", {wrong}{quoted(text, wrong)}") from None

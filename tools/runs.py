@@ -81,6 +81,10 @@ class Scenario:
         self.rates, self.ticks = link.rates_of(script.head()), link.TICKS if script.ticks is None else script.ticks
         self.places = [None] * len(self.steps) if is_json else script.places
 
+    def forget_steps(self):
+        """A threaded run goes by none of the steps."""
+        self.steps, self.places = [], []
+
     def home(self, oid):
         return self.containers.get(oid[0], ("", 0))[1]
 

@@ -204,7 +204,7 @@ class Draw(unittest.TestCase):
         some = subprocess.run(tool + [source_of(slow), "--from", "3", "--to", "4"], input=text, capture_output=True, text=True)
         self.assertEqual(len(Drawn(some.stdout).all("g", "entry")), text.count("\ne 3 ") + text.count("\ne 4 "))
         for words, given, status, said in [
-            ([], without_trace(text), 2, "draw: standard input: it has no trace, which play --trace writes"),
+            ([], without_trace(text), 2, "draw: standard input: it has no trace, which --trace writes"),
             ([], "sites\n", 2, "draw: standard input, line 1: wants sites N f F clients N; it has: sites"),
             ([], "", 2, "draw: standard input, line 1: wants sites N f F clients N; it is empty"),
             (["--from", "4", "--to", "3"], text, 1, "draw: --from 4 is behind --to 3"),

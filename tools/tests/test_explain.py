@@ -471,7 +471,7 @@ ann: commit
             ([SLOW], "", 2, "standard input, line 1: wants sites N f F clients N; it is empty"),
             ([SLOW], text[:-40], 2, "standard input, line 16: wants a line feed at the end of the report; it has: e 7 1 call"),
             ([SLOW, "no such file"], "", 3, "no such file: No such file or directory"),
-            ([SLOW, "--shiviz"], without_trace(text), 2, "standard input: it has no trace, which play --trace writes"),
+            ([SLOW, "--shiviz"], without_trace(text), 2, "standard input: it has no trace, which --trace writes"),
             ([source_of(SLOW) + "x"], text, 3, source_of(SLOW) + "x: No such file or directory"),
             ([__file__], text, 2, __file__ + ', line 1: '),
             (["/dev/null"], text, 2, "/dev/null, line 1: wants sites N tolerated F"),

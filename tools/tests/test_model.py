@@ -147,7 +147,7 @@ class Model(unittest.TestCase):
     def test_it_ends_as_the_program_does(self):
         """The cases of bench/statuses.py."""
         with contextlib.redirect_stdout(io.StringIO()) as said:
-            self.assertEqual(statuses.differing(statuses.model_run, statuses.MODELS_AT_ONCE), 0, said.getvalue())
+            self.assertEqual(statuses.differing(statuses.model_run, statuses.CASES, statuses.MODELS_AT_ONCE), 0, said.getvalue())
 
     def test_a_file_standard_input_and_a_script_are_played(self):
         path = os.path.join(TOP, "examples", "slow_commit.json")

@@ -59,8 +59,8 @@ class Readme(unittest.TestCase):
 
     def test_its_words_are_those_of_the_wrapper(self):
         known = run("./walter --help", TOP)[1]
-        commands = re.findall(r"\./walter ((?:--unproved )?(?:play|load)[^`\n]*?)(?:`|\n|  )", README)
-        self.assertTrue({"play examples/first_run.json", "--unproved play X", "load --seed 7 --calls 20000"} <= set(commands))
+        commands = re.findall(r"\./walter ((?:--unproved )?(?:play|run|load)[^`\n]*?)(?:`|\n|  | \|)", README)
+        self.assertTrue({"play examples/first_run.json", "--unproved play X", "run --trace examples/threaded_run.json", "load --seed 7 --calls 20000"} <= set(commands))
         for word in set(re.findall(r"--[a-z]+", " ".join(commands))):
             self.assertIn(word, known)
 

@@ -4,13 +4,15 @@ is none. And the tools tell such a run, whose events stand in its trace alone.""
 import contextlib
 import io
 import json
+import os
 import random
+import subprocess
 import sys
 import unittest
 from collections import Counter
 from unittest import mock
 
-from played import InFolder, random_scenario, run_tool, without_trace
+from played import InFolder, TOP, file_text, random_scenario, run_tool, without_trace
 import ends
 import model
 import reports
@@ -250,6 +252,29 @@ class Told(InFolder):
         self.assertEqual(status, 0)
         self.assertEqual(told.splitlines()[:3], ["client0 start -> started 0.1.1", 'client0 write 1:5 "a" -> done',
                                                  "client0 commit -> committed 0:1"])
+
+    def test_steps_are_ignored_where_it_is_said(self):
+        made = {**SMALL, "steps": [["stop", 0], ["call", 1]]}
+        path, report = self.write("a.json", json.dumps(made)), self.write("a.report", worked(SMALL, 4).text())
+        without = run_tool("explain", self.write("b.json", json.dumps(SMALL)), report)
+        self.assertEqual(run_tool("explain", path, report, "--run"), without)
+        self.assertEqual(without[0], 0)
+        status, _, wrong = run_tool("explain", path, report)
+        self.assertEqual(status, ends.NO_SCENARIO)
+        self.assertIn("wants stop 0 to be played next at site 0", wrong)
+        self.assertEqual(run_tool("draw", path, report, "--run")[0], 0)
+        self.assertEqual(run_tool("explain", "load", report, "--run")[0], 1)
+
+    def test_the_program_of_this_repository_runs_the_example(self):
+        program = os.path.join(TOP, "crates", "walter", "out", "walter")
+        if not os.path.exists(program):
+            self.skipTest("the program isn't proved and built here")
+        text = file_text(os.path.join(TOP, "examples", "threaded_run.json"))
+        for threads in 1, 6, 32:
+            made = {**json.loads(text), "threads": threads}
+            ran = subprocess.run([program, "run", "--trace"], input=json.dumps(made), capture_output=True, text=True, timeout=60)
+            self.assertEqual((ran.returncode, ran.stderr), (0, ""))
+            threaded.check(made, ran.stdout)
 
     def test_it_is_drawn(self):
         path, report = self.write("a.json", json.dumps(SMALL)), self.write("a.report", worked(SMALL, 4).text())

@@ -7,7 +7,7 @@ import unittest
 
 from played import InFolder, TOP, file_text, seconds_of_commands
 
-USAGE = "walter: usage: walter play [--trace], with a scenario on standard input; or walter load --seed N --calls M\n"
+USAGE = "walter: usage: walter play|run [--trace], with a scenario on standard input; or walter load --seed N --calls M\n"
 SCENARIO = os.path.join(TOP, "examples", "first_run.json")
 SCRIPT = os.path.join(TOP, "examples", "first_run.script")
 IS_SCRIPT = "walter: this is a script: tools/scenario makes a scenario of it, and tools/play plays it\n"
@@ -24,7 +24,8 @@ esac
 ENDED = "checked: ended status={0}\nraces: not looked for\nrun=ended status={0} runners=1 races=unchecked proved=no\n"
 # What the program says of a number that is too large, among the lines of rt.
 TOO_LARGE = "error: 20001 is not in 0..=20000\n\nFor more information, try '--help'.\n"
-HELP = "usage: walter [--unproved] play [--trace] [FILE]\n       walter [--unproved] load --seed N --calls M\n"
+HELP = ("usage: walter [--unproved] play [--trace] [FILE]\n       walter [--unproved] run [--trace] [FILE]\n"
+        "       walter [--unproved] load --seed N --calls M\n")
 FIRST = "walter: running without a proof, by rt try: this takes about a minute, and so does the next run\n"
 # Words of a load in any order and form, and some that are none.
 LOADS = [["--seed", "7", "--calls", "20001"], ["--calls", "5", "--seed", "7"], ["--seed=7", "--calls=5"],
@@ -34,8 +35,9 @@ NO_LOADS = [[], ["--seed", "7"], ["--seed", "7", "--calls"], ["--calls", "7", "-
             ["--seed=7", "--calls=5", "--seed=7"], ["--seed=7=7", "--calls=5"], ["--seed 7", "--calls 5"],
             ["7", "5"], ["--seed", "7", "--calls", "5", "--trace"], ["--seed", "7", "--calls", "5", "a"],
             ["--seed", "7", "--calls", "5\n6"]]
-WRONG_WORDS = [[], ["run"], ["play", "--fast"], ["play", "--trace", "--trace"], ["play", "a", "b"], ["play", ""],
-               ["--help", "play"], ["--unproved"], ["--unproved", "play", "--fast"], ["--trace", "play"],
+WRONG_WORDS = [[], ["runs"], *([word, *words] for word in ("play", "run")
+                              for words in (["--fast"], ["--trace", "--trace"], ["a", "b"], [""])),
+               ["--help", "play"], ["--unproved"], ["--unproved", "run", "--fast"], ["--trace", "play"],
                ["loads", "--seed", "7", "--calls", "5"], *(["load", *words] for words in NO_LOADS),
                *(["--unproved", "load", *words] for words in NO_LOADS)]
 TOO_MUCH = "checked: no-answer: it wrote too much\nrun=no-answer proved=no\n"
@@ -75,8 +77,8 @@ class Walter(InFolder):
         self.assertEqual(self.calls(), "")
 
     def test_help_and_the_version_are_said_at_once(self):
-        for words, begins in [(["--help"], HELP), (["play", "--help"], HELP), (["load", "--help"], HELP),
-                              (["--unproved", "--help"], HELP), (["--version"], "walter of the sources ")]:
+        for words, begins in [(["--help"], HELP), (["play", "--help"], HELP), (["run", "--help"], HELP),
+                              (["load", "--help"], HELP), (["--unproved", "--help"], HELP), (["--version"], "walter of the sources ")]:
             begun = seconds_of_commands()
             status, said, wrong = self.run_it(*words)
             self.assertEqual((status, wrong, said[: len(begins)]), (0, "", begins))
@@ -89,7 +91,7 @@ class Walter(InFolder):
 
     def test_a_file_that_is_not_there_is_named(self):
         for path, why in ("none.json", "No such file or directory"), (self.folder, "Is a directory"):
-            for words in ["play", path], ["play", "--trace", path], ["--unproved", "play", path]:
+            for words in ["play", path], ["play", "--trace", path], ["--unproved", "play", path], ["run", path]:
                 self.assertEqual(self.run_it(*words), (3, "", f"walter: {path}: {why}\n"))
         self.assertEqual(self.calls(), "")
 
@@ -97,6 +99,7 @@ class Walter(InFolder):
         with open(SCRIPT, encoding="utf-8") as script:
             self.assertEqual(self.run_it("play", stdin=script), (2, "", IS_SCRIPT))
         self.assertEqual(self.run_it("play", SCRIPT), (2, "", IS_SCRIPT))
+        self.assertEqual(self.run_it("run", SCRIPT), (2, "", IS_SCRIPT))
         self.assertEqual(self.run_it("--unproved", "play", "--trace", input=file_text(SCRIPT)), (2, "", IS_SCRIPT))
         self.assertEqual(self.run_it("play", input="\n\n  sites 1 tolerated 0\n"), (2, "", IS_SCRIPT))
         self.assertEqual(self.calls(), "")
@@ -109,6 +112,9 @@ class Walter(InFolder):
             self.assertEqual(self.run_it("play", stdin=scenario), (0, played, ""))
         self.assertEqual(self.run_it("play", input=file_text(SCENARIO)), (0, played, ""))
         self.assertEqual(self.run_it("play", SCENARIO, "--trace"), (0, "play --trace\n" + file_text(SCENARIO), ""))
+        self.assertEqual(self.run_it("run", SCENARIO), (0, "run\n" + file_text(SCENARIO), ""))
+        self.assertEqual(self.run_it("run", "--trace", input=file_text(SCENARIO)),
+                         (0, "run --trace\n" + file_text(SCENARIO), ""))
         self.assertEqual(self.calls(), "run\n")
         self.assertIn("proved and built here", self.run_it("--version")[1])
 
@@ -165,7 +171,8 @@ class Walter(InFolder):
     def test_unproved_ends_as_the_program_did(self):
         self.answers("the report\n", ENDED.format(0))
         self.assertEqual(self.run_it("--unproved", "play", SCENARIO), (0, "the report\n", FIRST))
-        self.assertEqual(self.calls(), "try -- play\n")
+        self.assertEqual(self.run_it("--unproved", "run", SCENARIO), (0, "the report\n", FIRST))
+        self.assertEqual(self.calls(), "try -- play\ntry -- run\n")
         self.answers("", "walter: the scenario is none\n" + ENDED.format(2))
         self.assertEqual(self.run_it("--unproved", "play", SCENARIO), (2, "", FIRST + "walter: the scenario is none\n"))
 

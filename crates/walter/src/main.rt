@@ -31,19 +31,17 @@ fn words_of(rt: &HostRuntime) -> Result<Vec<String>, Fault> {
     Ok(words)
 }
 
-fn run(rt: &HostRuntime) -> Ended {
-    let words = match words_of(rt) {
-        Ok(words) => words,
-        Err(fault) => return Ended::early(rt.alloc(), fault),
-    };
-    let mut source = StdSource::new(rt.reader());
-    let mut sink = StdSink::new(io::writer(rt));
-    let (ended, _rack) = top_in_memory(rt, &words, &mut source, &mut sink);
-    ended
-}
-
+// Only here does the runtime have threads.
 fn main(rt: HostRuntime) -> ExitCode {
-    let Ended { status, fault, .. } = run(&rt);
+    let Ended { status, fault, .. } = match words_of(&rt) {
+        Ok(words) => {
+            let mut source = StdSource::new(rt.reader());
+            let mut sink = StdSink::new(io::writer(&rt));
+            let (ended, _rack) = top_in_memory(&rt, &words, &mut source, &mut sink);
+            ended
+        }
+        Err(fault) => Ended::early(rt.alloc(), fault),
+    };
     if let Some(fault) = fault {
         // The status tells it too, so it stands where standard error fails.
         let _ = match &fault {

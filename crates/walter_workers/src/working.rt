@@ -29,7 +29,7 @@ use walter_stream::{Sink, Source};
 // As many as there may be client threads and sites.
 const MOST_WORKERS: usize = 40;
 
-// How long a pump worker sleeps that has found nothing to do, in microseconds, unless a client worker ends before.
+// How many microseconds a pump worker sleeps that has found nothing to do, unless a client worker ends before.
 const PAUSE: u64 = 100;
 
 /// Arms the disks as the scenario says, and lets worker threads serve its clients and pump its sites, to the end; its
@@ -153,7 +153,7 @@ fn share_work<
                 end(ended);
             } else {
                 let site = SiteId((worker - threads) as u8);
-                pump(rt, alloc, shared, ended, threads as u64, site);
+                pump(rt, alloc, shared, ended, threads as u32, site);
             }
         },
     );
@@ -209,7 +209,7 @@ fn pump<N: Name, D: Disk + Drop, S: Source + Drop, K: Sink + Drop>(
     alloc: Global,
     cluster: &Cluster<N, D, S, K>,
     ended: &AtomicU64,
-    threads: u64,
+    threads: u32,
     site: SiteId,
 )
     requires { site.0 < length N.origins }
@@ -219,7 +219,7 @@ fn pump<N: Name, D: Disk + Drop, S: Source + Drop, K: Sink + Drop>(
         if matches!(cluster.pump(rt, alloc, site), Ok(Pumped::Did)) {
             continue;
         }
-        if seen >= threads {
+        if seen >= u64::from(threads) {
             return;
         }
         ended.park_timeout(rt, seen as u32, Duration::from_micros(PAUSE));

@@ -1,0 +1,126 @@
+"""What bench/threaded_runs.py has run, and what bench/threads.py measures, by programs that are scripts here."""
+
+import contextlib
+import io
+import json
+import os
+import sys
+import unittest
+from collections import Counter
+from unittest import mock
+
+from played import InFolder, TOP
+import model
+import readings
+import threaded_runs
+import threads
+
+TESTS = os.path.join(TOP, "tools", "tests")
+# Runs a scenario by the model, in some order of its turns and pumps.
+MODEL = f"""#!{sys.executable}
+import json, sys
+sys.path.insert(0, {TESTS!r})
+from test_threaded import worked
+assert sys.argv[1:] == ["run", "--trace"]
+text = worked(json.load(sys.stdin), 1).text()
+"""
+ACCEPTED = "print(text, end='')\n"
+# Refuses a last step that is no list, and has an event for each byte.
+EVENTS = """#!/bin/sh
+read -r line
+case $line in *none*) exit 2 ;; esac
+sleep 0.05
+echo "site 0 up epoch 1 events ${#line} records 1 got 0 committed 0 log $1"
+"""
+
+
+def run_bench(module, *words):
+    """The status of a command, and what it wrote."""
+    out = io.StringIO()
+    with mock.patch.object(sys, "argv", ["bench", *words]), contextlib.redirect_stdout(out):
+        try:
+            return module.main(), out.getvalue()
+        except SystemExit as end:
+            return end.code, out.getvalue()
+
+
+class Scenarios(unittest.TestCase):
+    def test_they_are_right_and_of_all_kinds(self):
+        made = [threaded_runs.scenario(seed) for seed in range(200)]
+        self.assertEqual(made, [threaded_runs.scenario(seed) for seed in range(200)])
+        for one in made:
+            self.assertEqual(readings.read(json.dumps(one).encode())["steps"], [])
+        self.assertEqual({one["sites"] for one in made}, set(range(1, 9)))
+        self.assertTrue({1, 2, 8, 32} <= {one["threads"] for one in made})
+        for some in (lambda one: "link" in one, lambda one: "arms" in one, lambda one: not one["clients"],
+                     lambda one: one["clients"] and len(one["clients"]) * 8 <= one["threads"],
+                     lambda one: len(one["clients"]) > one["threads"]):
+            self.assertGreater(len(list(filter(some, made))), 10)
+
+    def test_a_full_journal_is_none_of_several_sites_but_where_a_trail_is_to_be_spent(self):
+        """There a site might try again and again, which takes long."""
+        short = [seed for seed in range(300) if "capacity" in threaded_runs.scenario(seed)
+                 and (threaded_runs.scenario(seed)["sites"] > 1 or "arms" in threaded_runs.scenario(seed))]
+        self.assertEqual(short, [99, 199, 299])
+
+
+class Runs(InFolder):
+    def program(self, text):
+        return self.write("program", text, is_program=True)
+
+    def test_right_runs_are_accepted(self):
+        status, told = run_bench(threaded_runs, "--program", self.program(MODEL + ACCEPTED), "--scenarios", "3", "--seed", "4")
+        met, not_met, last = told.splitlines()
+        self.assertEqual(status, 0, told)
+        self.assertRegex(met, r"^met: sites \d: .*; restart taken: ")
+        self.assertRegex(not_met, "^not met: ")
+        self.assertRegex(last, r"^3 scenarios from seed 4, each with its threads and with one: 6 of 6 runs accepted, "
+                         r"with [\d,]+ entries and 0 spent trails$")
+
+    def test_wrong_runs_are_told(self):
+        for text, wanted in [
+            (MODEL + "print(text.replace(' taken ', ' passed ', 1), end='')\n", r"line \d+: the model makes of it: e 1 0 restart"),
+            (MODEL + ACCEPTED + "sys.exit('no memory')\n", "status 1, no memory"),
+            ("#!/bin/sh\nexec sleep 9\n", "it hasn't ended in 0.2 s"),
+        ]:
+            with mock.patch.object(threaded_runs, "LONGEST", 0.2 if "sleep" in text else 60):
+                status, told = run_bench(threaded_runs, "--program", self.program(text), "--scenarios", "1")
+            self.assertEqual(status, 1)
+            first, second, *_, last = told.splitlines()
+            threads_of = threaded_runs.scenario(0)["threads"]
+            self.assertRegex(first, f"^seed 0 with {threads_of} threads: {wanted}")
+            self.assertRegex(second, f"^seed 0 with 1 threads: {wanted}")
+            self.assertIn("0 of 2 runs accepted", last)
+
+    def test_a_scenario_is_written(self):
+        status, told = run_bench(threaded_runs, "--scenario", "--seed", "7")
+        self.assertEqual((status, json.loads(told)), (None, threaded_runs.scenario(7)))
+
+
+class Speed(InFolder):
+    def test_threads_are_measured(self):
+        program = self.write("program", EVENTS, is_program=True)
+        status, told = run_bench(threads, "--program", program, "--transactions", "8", "--runs", "1")
+        self.assertIsNone(status, told)
+        *lines, last = told.splitlines()
+        self.assertEqual(len(lines), 6)
+        for line, (word, sites) in zip(lines, [(word, sites) for sites in (1, 2, 4) for word in ("run", "play")]):
+            self.assertRegex(line, rf"^{word} +{sites} sites: +24 calls +[\d,]+ events +0\.\d{{3}} s +0\.\d{{3}} s together +[\d,]+ "
+                             "events a second$")
+        self.assertRegex(last, r"^4 threads to 1: \d+\.\d\d times the events a second; to play of the same calls: \d+\.\d\d times$")
+
+    def test_a_program_that_fails_is_told(self):
+        program = self.write("program", "#!/bin/sh\nexit 5\n", is_program=True)
+        self.assertEqual(run_bench(threads, "--program", program, "--runs", "1"), (f"{program} run ended with status 5", ""))
+
+    def test_a_play_of_the_calls_leaves_nothing(self):
+        for sites in threads.SITES:
+            run = model.played(threads.scenario(sites, 5, threads.steps_of(sites, 5)), Counter())
+            for site in run.sites:
+                self.assertEqual(site.committed, [5] * sites)
+                self.assertEqual(site.marks(), (5, 5))
+            self.assertEqual(threads.scenario(sites, 5)["steps"], [])
+
+
+if __name__ == "__main__":
+    unittest.main()
