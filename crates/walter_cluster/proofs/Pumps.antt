@@ -67,23 +67,30 @@ pump_of t k = new_pump t.link (site_at k) t.catalog.sites t.ticks
 pub new_pumps_are : (t : Scenario) → new_pumps t ≡ map (pump_of t) (range_with_len 0 t.catalog.sites)
 new_pumps_are t = maps_on (λ site. new_pump t.link site t.catalog.sites t.ticks) site_at (range_with_len 0 t.catalog.sites)
 
+-- the one at each place
+pub new_pump_at : (t : Scenario) (i : ℕ) (pump : PumpValue) → slice_get (new_pumps t) i ≡ Some pump
+    → (i < t.catalog.sites) × (pump ≡ pump_of t i)
+new_pump_at t i pump at =
+    let n = t.catalog.sites in
+    let pumps = map (pump_of t) (range_with_len 0 n) in
+    let here : slice_get pumps i ≡ Some pump = ap (λ ps. slice_get ps i) (sym (new_pumps_are t)) ∙ at in
+    let within = slice_get_within pumps i pump here in
+    let long = length-map-range_with_len (pump_of t) 0 n in
+    let below : i < n = omega (arith, within, long) in
+    let is : Some pump ≡ Some (pump_of t i) =
+    sym here ∙ (slice_get-get_or pumps i pump within
+    ∙ ap (λ p. Some p) (get_or-map-range_with_len (pump_of t) 0 n i i pump below (omega arith))) in
+    (below, cc)
+
 -- each pump is its site's
 pub pumps_first : {D : Type 0} (t : Scenario) (bench : BenchValue D) → IsOf t bench → ArePumps bench.cells (new_pumps t)
-pumps_first t bench of = subst (λ ps. ArePumps bench.cells ps) (sym (new_pumps_are t)) (record {
-  long = length-map-range_with_len (pump_of t) 0 t.catalog.sites ∙ sym of.sites;
+pumps_first t bench of = record {
+  long = ap length (new_pumps_are t) ∙ (length-map-range_with_len (pump_of t) 0 t.catalog.sites ∙ sym of.sites);
   each = λ i pump at.
       let n = t.catalog.sites in
-      let pumps = map (pump_of t) (range_with_len 0 n) in
-      let within = slice_get_within pumps i pump at in
-      let long = length-map-range_with_len (pump_of t) 0 n in
-      let below : i < n = omega (arith, within, long) in
-      let is : Some (pump_of t i) ≡ Some pump =
-      ap (λ p. Some p) (sym (get_or-map-range_with_len (pump_of t) 0 n i i pump below (omega arith)))
-      ∙ (sym (slice_get-get_or pumps i pump within) ∙ at) in
-      let same : pump_of t i ≡ pump = cc in
-      subst (λ (p : PumpValue). IsPumpAt bench.cells (site_at i) p) same (record {
+      subst (λ (p : PumpValue). IsPumpAt bench.cells (site_at i) p) (sym (new_pump_at t i pump at).1) (record {
         site = refl;
         senders = length-map-range_with_len (new_sender t.link (site_at i)) 0 n ∙ sym of.sites;
         taken = λ from. let none = none_taken t.link (site_at i) (range_with_len 0 n) from in omega (arith, none);
       });
-})
+}

@@ -44,17 +44,17 @@ for_other arm i apart =
 
 -- ---- one step after another
 
-armed_on : (old mid new : Moment) (xs ys : List Arm) → AreArmed old mid xs → AreArmed mid new ys → AreArmed old new (xs ++ ys)
+pub armed_on : (old mid new : Moment) (xs ys : List Arm) → AreArmed old mid xs → AreArmed mid new ys → AreArmed old new (xs ++ ys)
 armed_on old mid new xs ys first second = λ i.
     second i
     ∙ (ap (λ o. option_map (λ told. told ++ arms_for i ys) o) (first i)
     ∙ (told_more (old.arms i) (arms_for i xs) (arms_for i ys)
     ∙ ap (λ m. option_map (λ told. told ++ m) (old.arms i)) (sym (for_more i xs ys))))
 
-armed_none : (old new : Moment) → KeepsArms old new → AreArmed old new []
+pub armed_none : (old new : Moment) → KeepsArms old new → AreArmed old new []
 armed_none old new same = λ i. same i ∙ sym (told_same (old.arms i))
 
-armed_one : (old new : Moment) (arm : Arm) → ArmsAt arm.site arm.nth arm.choice old new → AreArmed old new (arm ∷ [])
+pub armed_one : (old new : Moment) (arm : Arm) → ArmsAt arm.site arm.nth arm.choice old new → AreArmed old new (arm ∷ [])
 armed_one old new arm arms = λ i. elim (cases_eq i arm.site.0) [
   | inl same ↦
       ap new.arms same

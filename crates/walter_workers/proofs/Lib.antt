@@ -3,3 +3,4 @@ pub mod Work
 pub mod Turning
 pub mod Pumping
 pub mod Driving
+pub mod Beginning
