@@ -1,5 +1,5 @@
 -- How the sites were driven, whatever the command: what it arms, and where fewer sites are told.
-use Rattle.std.proofs.Common.{◌≡◌, ℕ, List, [], ◌++◌, Bool, refl, ap, sym, ◌∙◌, subst}
+use Rattle.std.proofs.Common.{◌≡◌, ℕ, List, [], ◌++◌, Bool, Result, Ok, Err, OnOk, refl, ap, sym, ◌∙◌, subst}
 use Rattle.std.proofs.lemmas.List.{append-nil}
 use Rattle.walter_cluster.specs.Moments.{IsFirst, Moment}
 use Rattle.walter_cluster.specs.Pumps.{new_pumps}
@@ -18,11 +18,17 @@ use Rattle.walter_words.specs.Words.{IsText}
 use Rattle.walter_cli.specs.Ending.{Drives, HasStepsFor}
 use Rattle.walter_cli.specs.Headline.{ArmsOfSites, IsDrivenBy}
 
--- ---- arms
+-- ---- no steps
 
--- without steps no more is armed
-pub arms_alone : (arms : List Arm) (steps : List Step) → steps ≡ [] → arms ++ arms_of steps ≡ arms
-arms_alone arms steps none = ap (λ (xs : List Step). arms ++ arms_of xs) none ∙ append-nil arms
+-- what threads drive has no steps
+pub no_steps : (command : Command) (trace : Bool) (t : Scenario) → command ≡ Run trace → HasStepsFor command t → t.steps ≡ []
+no_steps command trace t is has = subst (λ (k : Command). HasStepsFor k t) is has
+
+-- so no more is armed than before the first
+pub arms_alone : (arms : List Arm) (steps : List Step) → steps ≡ [] → arms ≡ arms ++ arms_of steps
+arms_alone arms steps none = sym (ap (λ (xs : List Step). arms ++ arms_of xs) none ∙ append-nil arms)
+
+-- ---- arms
 
 -- what was driven is armed by all that the scenario arms
 pub armed_by : (command : Command) (told : ℕ → Type 0) (t : Scenario) (old new : Moment) → Drives command told t old new
@@ -36,12 +42,12 @@ armed_by (Say text) told t old new drives = absurd drives
 
 -- what threads did, where connections don't fail, is what `run` asks for
 pub threads_drive : (command : Command) (trace : Bool) (told : ℕ → Type 0) (fails : Type 0) (t : Scenario) (old new : Moment)
-    → command ≡ Run trace → (fails → ⊥) → t.steps ≡ []
+    → command ≡ Run trace → HasStepsFor command t → (fails → ⊥)
     → IsDriven told fails t new.trails → AreArmed old new t.arms → Drives command told t old new
-threads_drive command trace told fails t old new is never none driven armed =
+threads_drive command trace told fails t old new is has never driven armed =
     subst (λ (k : Command). Drives k told t old new) (sym is) (
       driven_fewer told told fails ⊥ (λ i at. at) never t new.trails driven,
-      subst (λ (arms : List Arm). AreArmed old new arms) (sym (arms_alone t.arms t.steps none)) armed,
+      subst (λ (arms : List Arm). AreArmed old new arms) (arms_alone t.arms t.steps (no_steps command trace t is has)) armed,
     )
 
 -- the steps that were taken are what every other run asks for
@@ -96,3 +102,8 @@ driven_by_fewer (Play trace) told fewer t trails arms so played = played_fewer t
 driven_by_fewer (Run trace) told fewer t trails arms so driven = driven_fewer told fewer ⊥ ⊥ so (λ never. never) t trails driven
 driven_by_fewer (Load seed calls) told fewer t trails arms so played = played_fewer told fewer t trails arms so played
 driven_by_fewer (Say text) told fewer t trails arms so driven = absurd driven
+
+-- ---- what comes of two things where all went well
+pub both_ok : {X E : Type 0} (r : Result X E) (P Q R : Type 0) → (P → Q → R) → OnOk r P → OnOk r Q → OnOk r R
+both_ok (Ok x) P Q R by p q = by p q
+both_ok (Err e) P Q R by p q = tt
