@@ -85,6 +85,7 @@ driven_from (Say text) told t first last trails arms begins ends arms_are drives
 
 -- ---- where fewer sites are told
 
+-- steps are taken so of fewer too
 played_fewer : (told fewer : ℕ → Type 0) (t : Scenario) (trails : List (List Entry)) (arms : ArmsOfSites)
     → ((i : ℕ) → fewer i → told i) → IsPlayed told t trails arms → IsPlayed fewer t trails arms
 played_fewer told fewer t trails arms so played = record {
@@ -96,6 +97,7 @@ played_fewer told fewer t trails arms so played = record {
   arms_are = played.arms_are;
 }
 
+-- and so is all that was driven
 pub driven_by_fewer : (command : Command) (told fewer : ℕ → Type 0) (t : Scenario) (trails : List (List Entry)) (arms : ArmsOfSites)
     → ((i : ℕ) → fewer i → told i) → IsDrivenBy command told t trails arms → IsDrivenBy command fewer t trails arms
 driven_by_fewer (Play trace) told fewer t trails arms so played = played_fewer told fewer t trails arms so played
@@ -103,7 +105,9 @@ driven_by_fewer (Run trace) told fewer t trails arms so driven = driven_fewer to
 driven_by_fewer (Load seed calls) told fewer t trails arms so played = played_fewer told fewer t trails arms so played
 driven_by_fewer (Say text) told fewer t trails arms so driven = absurd driven
 
--- ---- what comes of two things where all went well
+-- ---- answers
+
+-- what comes of two things where all went well
 pub both_ok : {X E : Type 0} (r : Result X E) (P Q R : Type 0) → (P → Q → R) → OnOk r P → OnOk r Q → OnOk r R
 both_ok (Ok x) P Q R by p q = by p q
 both_ok (Err e) P Q R by p q = tt

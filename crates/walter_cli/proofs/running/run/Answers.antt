@@ -91,6 +91,7 @@ module _ (g : Over) (c : After-give_all-given g) where
       sure_back g.R.D.Disk before mid after built.disks c.close-trails.result.disks.items built.taken
       c.give_all-given.ensures.given came_back.long (omega (arith, few, many)) enough
 
+  -- the bench that comes back is the scenario's
   is_of : IsOf c.args.scenario.now c.drive-bench.result.0
   is_of =
       let driven = c.drive-bench.ensures in
