@@ -15,12 +15,12 @@ returns-in-Play-clause-playable g c =
     IfOk-weaker c.take_scenario.result _ _ (λ s taken. reading_playable taken.bytes s taken.reading) c.take_scenario.ensures.ok
 
 -- threads drive what was read but for its steps
-pub returns-in_ok-in-Run-clause-ok : goal.returns-in_ok-in-Run-clause-ok
-returns-in_ok-in-Run-clause-ok g c = rw c.in-Run.is (c.in_ok.scenario, c.in_ok.ensures.ok, c.without_steps.ensures)
+pub returns-in_ok-take_scenario-in-Run-clause-ok : goal.returns-in_ok-take_scenario-in-Run-clause-ok
+returns-in_ok-take_scenario-in-Run-clause-ok g c = rw c.in-Run.is (c.in_ok-take_scenario-in-Run.field-0, c.in_ok-take_scenario-in-Run.ensures.ok, c.without_steps.ensures)
 
-pub returns-in_ok-in-Run-clause-playable : goal.returns-in_ok-in-Run-clause-playable
-returns-in_ok-in-Run-clause-playable g c =
-    let taken = c.in_ok.ensures.ok in
+pub returns-in_ok-take_scenario-in-Run-clause-playable : goal.returns-in_ok-take_scenario-in-Run-clause-playable
+returns-in_ok-take_scenario-in-Run-clause-playable g c =
+    let taken = c.in_ok-take_scenario-in-Run.ensures.ok in
     subst IsPlayable (sym c.without_steps.ensures) (playable_but_for_steps _ (reading_playable taken.bytes _ taken.reading))
 
 pub returns-in-Ok-clause-playable : goal.returns-in-Ok-clause-playable
@@ -31,7 +31,7 @@ returns-in-Ok-clause-playable g c =
       fewer = made.fewer;
       whole = subst (λ (t : Scenario). IsWhole t.catalog) (sym made.made) made_whole;
       within = made.within;
-      clients = subst (λ (t : Scenario). length t.clients < 2 ^ 32) (sym made.made) (made_few _ _);
+      clients = subst (λ (t : Scenario). length t.clients < 2 ^ 32) (sym made.made) (made_few c.in-Load.seed c.in-Load.calls);
       threads = subst (λ (t : Scenario). IsThreads t.threads) (sym made.made) (omega arith, omega arith);
       capacity = subst (λ (t : Scenario). IsCapacity t.capacity) (sym made.made) (omega arith, omega arith);
       arms = made.arms;
