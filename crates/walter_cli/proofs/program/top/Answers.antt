@@ -37,7 +37,7 @@ returns-in-Ok-Say g c =
 
 -- threads are given no steps
 pub run-requires-clause-driven : goal.run-requires-clause-driven
-run-requires-clause-driven g c = posed_steps c.in-Ok.command _ _ c.in-Ok-pose.scenario c.in-Ok-pose.ensures.ok
+run-requires-clause-driven g c = λ lifetimes outlive. posed_steps c.in-Ok.command _ _ c.in-Ok-pose.scenario c.in-Ok-pose.ensures.ok
 
 -- a run
 pub returns-in-Ok-pose : goal.returns-in-Ok-pose
