@@ -176,7 +176,8 @@ fn serve<N: Name, D: Disk + Drop, S: Source + Drop, K: Sink + Drop, G: Gate>(
     first: u32,
     threads: u32,
 )
-    requires { clients ≤ length cluster.now }
+    requires clients { clients ≤ length cluster.now }
+    requires threads { 0 < threads }
 {
     let mut client = first;
     while client < clients {

@@ -1,6 +1,7 @@
 use Rattle.std.proofs.Common.{◌≡◌, true, ap, sym, ◌∙◌}
 use Rattle.walter_cell.specs.Nodes.{arms_under, is_told, standing_of}
 use Rattle.walter_rules.specs.Knowledge.{site_at}
+use Rattle.walter_cluster.proofs.Keeping.{keeps_on}
 use Rattle.walter_cluster.proofs.Sharing.{held_further, held_raised}
 use Rattle.walter_cluster.proofs.Working.{works_still, works_pumped}
 use Rattle.walter_cluster.proofs.held.Held.pump.Goals as goal
@@ -46,13 +47,13 @@ invariant_of-self-2 g c =
     let polled = c.poll.ensures in
     let does = c.pump_arrived.ensures in
     let still = works_still g.D.Disk t i a b p polled.keeps (ap (λ n. n.trail) polled.node) is.works in
-    let held = held_further g.D.Disk g.N.Name.origins g.row.I a b p p is polled.keeps (ap (λ n. arms_under g.D.Disk n.disk) polled.node) still in
     let up : is_told g.D.Disk b.node.disk ≡ true → (standing_of b.node).up ≡ true =
     λ told.
     let so = c.is_up.ensures (sym (ap (λ n. is_told g.D.Disk n.disk) polled.node) ∙ told) in
     let f = c.if-not-is_up.false in
     let now : (standing_of a.node).up ≡ true = cc in
     ap (λ n. (standing_of n).up) polled.node ∙ now in
-    held_further g.D.Disk g.N.Name.origins g.row.I b e p q held does.proceeds.keeps does.proceeds.arms
+    held_further g.D.Disk g.N.Name.origins g.row.I a e p q is (keeps_on g.D.Disk a b e polled.keeps does.proceeds.keeps)
+    (does.proceeds.arms ∙ ap (λ n. arms_under g.D.Disk n.disk) polled.node)
     (works_pumped g.D.Disk t i b e p q c.pump_arrived.result does.proceeds.keeps does.proceeds.ins up does.pumps does.kept
     does.taken does.pump still)

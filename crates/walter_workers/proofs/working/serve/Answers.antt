@@ -1,0 +1,5 @@
+use Rattle.std.proofs.Common.{◌≡◌, arith}
+use Rattle.walter_workers.proofs.working.serve.Goals as goal
+
+pub loop-client-smaller : goal.loop-client-smaller
+loop-client-smaller g c = ?
