@@ -7,11 +7,16 @@ hundred is to spend a trail. Each is run with its threads, and with one. Says ho
 was met in these runs, and what the link chose, and which of these were not met; and how many runs were accepted. Ends with
 status 1 where one isn't: it has a line with its seed and what is wrong. A run that takes two minutes is taken for one that
 never ends.
+
+With --kilobytes a run has no more address space than these, so that threads are hard to make, or memory is wanting: it is to
+end all the same, with a right report or with status 5. From 4,000 on there is room for the program, and from 100,000 on for
+most threads.
 """
 
 import argparse
 import json
 import random
+import resource
 import subprocess
 import sys
 from collections import Counter, namedtuple
@@ -42,6 +47,9 @@ TICKS = [0, 1, 3, 10, 20]
 # Of so many seeds in a row the last one spends a trail, which takes seconds.
 SPENT = 100
 LONGEST = 120
+NO_MEMORY = 5
+# What the trace says where an event met want of memory, which the model doesn't know.
+WANT = (" memory ", " reply:00000002e00d ")
 # Of what compare.py counts these aren't met in a threaded run: a disk fails once at most, and no site stops otherwise, makes
 # a step that finds it down, or advances where nothing may be committed. Limits are left to compare.py.
 NEVER = {"stop taken", "stop down", "restart passed", "restart failed", "advance passed", "Boot in flight", "Boot found",
@@ -108,13 +116,22 @@ def scenario(seed):
 # The runs
 
 
-def wrong_of(program, made, met):
+def limit_to(kilobytes):
+    """What limits a program's address space, where it is to be limited."""
+    size = kilobytes and kilobytes * 1024
+    return (lambda: resource.setrlimit(resource.RLIMIT_AS, (size, size))) if size else None
+
+
+def wrong_of(program, made, met, kilobytes=None):
     """What is wrong with the program's run of a scenario, or None. What was met in it is counted."""
     try:
         ended = subprocess.run([program, "run", "--trace"], input=json.dumps(made), capture_output=True, text=True,
-                               timeout=LONGEST)
+                               timeout=LONGEST, preexec_fn=limit_to(kilobytes))
     except subprocess.TimeoutExpired:
         return f"it hasn't ended in {LONGEST} s"
+    if kilobytes and (ended.returncode == NO_MEMORY or any(one in ended.stdout for one in WANT)):
+        met["want of memory"] += 1
+        return None
     if ended.returncode != 0 or ended.stderr:
         return f"status {ended.returncode}, {ended.stderr.strip()}"
     try:
@@ -127,12 +144,12 @@ def wrong_of(program, made, met):
     return None
 
 
-def accepted(program, seed, met):
+def accepted(program, seed, met, kilobytes=None):
     """How many runs of a scenario are accepted: with its threads, and with one. The others are told."""
     made = scenario(seed)
     count = 0
     for threads in made["threads"], 1:
-        wrong = wrong_of(program, {**made, "threads": threads}, met)
+        wrong = wrong_of(program, {**made, "threads": threads}, met, kilobytes)
         if wrong:
             print(f"seed {seed} with {threads} threads: {wrong[:500]}", flush=True)
         count += wrong is None
@@ -145,6 +162,8 @@ def main():
     parser.add_argument("--seed", type=int, default=0, metavar="N", help="the seed of the first; 0 without it")
     parser.add_argument("--program", metavar="PATH", help="the program; without it that of this repository, which "
                         "./walter proves and builds first where that isn't done yet")
+    parser.add_argument("--kilobytes", type=int, metavar="N", help="how much address space each run has; without it as much as "
+                        "there is")
     parser.add_argument("--scenario", action="store_true", help="write the first scenario, and run nothing")
     words = parser.parse_args()
     if words.scenario:
@@ -152,11 +171,12 @@ def main():
         return
     program, met = words.program or compare.built(), Counter()
     seeds = range(words.seed, words.seed + words.scenarios)
-    count = sum(accepted(program, seed, met) for seed in seeds)
+    count = sum(accepted(program, seed, met, words.kilobytes) for seed in seeds)
     print("met: " + "; ".join(f"{kind}: {met[kind]:,}" for kind in ALL if met[kind]))
     print("not met: " + ("; ".join(kind for kind in ALL if not met[kind]) or "none"))
     print(f"{words.scenarios:,} scenarios from seed {words.seed}, each with its threads and with one: {count:,} of "
-          f"{2 * words.scenarios:,} runs accepted, with {met['entries']:,} entries and {met['spent']:,} spent trails")
+          f"{2 * words.scenarios:,} runs accepted, with {met['entries']:,} entries and {met['spent']:,} spent trails"
+          + (f"; {met['want of memory']:,} were without memory" if words.kilobytes else ""))
     sys.exit(count < 2 * words.scenarios)
 
 

@@ -5,8 +5,8 @@ At each site a client commits transactions that write an object of its own, pref
 swaps: so two events at different sites have nothing in common but the packets that go from one to the other. There is no tick
 but one for each site, by which it says again what a full lane has dropped.
 
-What is measured is the time that passes while the whole program runs, less that of a run that only reads the same scenario and
-refuses its last step; of several runs the one with the most events a second counts. How many events there are depends on how
+What is measured is the time that passes while the whole program runs, less the least of a run that only reads the same scenario
+and refuses its last step; of several runs the one with the most events a second counts. How many events there are depends on how
 the threads go, but not what an event takes, so runs are compared by events a second. The trails and the report are made in
 this time too, by one thread; the column `together` tells how long there was more than one. `play` plays the same calls by
 steps: a turn of each client, and then so many pumps of each site that nothing is left in the end.
@@ -32,6 +32,8 @@ from measured import events_of
 
 SITES, RUNS, TRANSACTIONS = (1, 2, 4), 5, 16_000
 TICKS = 1
+# No run takes less, however the times of two runs differ.
+LEAST = 0.001
 # How many pumps of each other site follow a transaction of each client: those of five packets and of the commit.
 PUMPS = 6
 # A run: how long it took, how long it had more than one thread, and its events.
@@ -87,15 +89,16 @@ def timed(words, made, wanted):
         return Run(seconds, lasted, events_of(written.read()))
 
 
-def measured(words, made):
-    """A run of a command on a scenario, without the time in which it reads."""
-    whole = timed(words, made, 0)
-    refused = timed(words, {**made, "steps": [*made["steps"], "none"]}, 2)
-    return whole._replace(seconds=whole.seconds - refused.seconds)
-
-
 def rate(run):
     return run.events / run.seconds
+
+
+def best(words, made, runs):
+    """The best of so many runs of a command on a scenario, without the least time in which it reads."""
+    refused = {**made, "steps": [*made["steps"], "none"]}
+    reading = min(timed(words, refused, 2).seconds for _ in range(runs))
+    whole = [timed(words, made, 0) for _ in range(runs)]
+    return max((run._replace(seconds=max(run.seconds - reading, LEAST)) for run in whole), key=rate)
 
 
 def line(word, sites, transactions, run):
@@ -110,7 +113,7 @@ def lines(program, transactions, runs):
         # As many calls in all, so that the runs are about as long.
         each = transactions // sites
         for word, steps in ("run", ()), ("play", steps_of(sites, each)):
-            run = max((measured([program, word], scenario(sites, each, steps)) for _ in range(runs)), key=rate)
+            run = best([program, word], scenario(sites, each, steps), runs)
             rates[word, sites] = rate(run)
             yield line(word, sites, each, run)
     least, most = SITES[0], SITES[-1]

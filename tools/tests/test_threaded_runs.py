@@ -92,6 +92,13 @@ class Runs(InFolder):
             self.assertRegex(second, f"^seed 0 with 1 threads: {wanted}")
             self.assertIn("0 of 2 runs accepted", last)
 
+    def test_want_of_memory_is_an_end(self):
+        for text, came in (("exit 5", "2 of 2 runs accepted"), ("exit 4", "0 of 2 runs accepted")):
+            program = self.program(f"#!/bin/sh\n[ $(ulimit -v) = 50000 ] && {text}\n")
+            told = run_bench(threaded_runs, "--program", program, "--scenarios", "1", "--kilobytes", "50000")[1]
+            self.assertIn(came, told)
+            self.assertIn("; 2 were without memory" if "5" in text else "; 0 were without memory", told)
+
     def test_a_scenario_is_written(self):
         status, told = run_bench(threaded_runs, "--scenario", "--seed", "7")
         self.assertEqual((status, json.loads(told)), (None, threaded_runs.scenario(7)))

@@ -3,6 +3,7 @@
 
 use std::env;
 use std::io::{self, ErrorKind};
+use std::mem;
 use std::process::ExitCode;
 use walter_cli::{Ended, Fault, top_in_memory};
 use walter_stream::{StdSink, StdSource};
@@ -33,15 +34,22 @@ fn words_of(rt: &HostRuntime) -> Result<Vec<String>, Fault> {
 
 // Only here does the runtime have threads.
 fn main(rt: HostRuntime) -> ExitCode {
-    let Ended { status, fault, .. } = match words_of(&rt) {
+    let Ended {
+        status,
+        fault,
+        trails,
+    } = match words_of(&rt) {
         Ok(words) => {
             let mut source = StdSource::new(rt.reader());
             let mut sink = StdSink::new(io::writer(&rt));
-            let (ended, _rack) = top_in_memory(&rt, &words, &mut source, &mut sink);
+            let (ended, rack) = top_in_memory(&rt, &words, &mut source, &mut sink);
+            mem::forget(rack);
             ended
         }
         Err(fault) => Ended::early(rt.alloc(), fault),
     };
+    // The process ends, and its memory with it: nothing is freed piece by piece.
+    mem::forget(trails);
     if let Some(fault) = fault {
         // The status tells it too, so it stands where standard error fails.
         let _ = match &fault {

@@ -1,13 +1,13 @@
 -- The sites of a new bench can work.
-use Rattle.std.proofs.Common.{◌≡◌, ◌<◌, ℕ, zero, suc, true, List, [], ◌∷◌, map, option_map, slice_get, Some, None, refl, ap, sym, ◌∙◌, subst}
+use Rattle.std.proofs.Common.{◌≡◌, ◌<◌, ℕ, zero, suc, true, List, [], ◌∷◌, length, take, option_map, slice_get, Some, None, ap, sym, ◌∙◌, subst, arith}
 use Rattle.std.specs.Prelude.{replicate}
-use Rattle.std.proofs.lemmas.Option.{slice_get-map, slice_get-get_or}
+use Rattle.std.proofs.lemmas.Option.{slice_get-map}
 use Rattle.walter_cell.specs.Cells.{CellValue}
 use Rattle.walter_cell.specs.Nodes.{is_told}
 use Rattle.walter_cluster.specs.Benches.{BenchValue, IsOf, trails_of}
 use Rattle.walter_cluster.specs.Pumps.{new_pumps}
 use Rattle.walter_cluster.specs.Shared.{CanWork}
-use Rattle.walter_cluster.proofs.Pumps.{new_pump_at, pump_of, pumps_first}
+use Rattle.walter_cluster.proofs.Pumps.{new_pump_at, pumps_first}
 use Rattle.walter_disk.specs.declared.disk.Disk.{Ghosts}
 use Rattle.walter_link.specs.Pumps.{PumpValue}
 use Rattle.walter_rules.specs.declared.entry.Entry.{Entry}
@@ -36,3 +36,10 @@ can_first {D = D} g t bench of openings = record {
       (subst (λ (q : PumpValue). IsWorking (is_told g c.node.disk ≡ true) t (site_at i) (opening ∷ []) q) (sym (new_pump_at t i p pumped).1)
       (first_works (is_told g c.node.disk ≡ true) t (site_at i)));
 }
+
+-- a place in front of so many is one of these
+pub take_short : {X : Type 0} (n : ℕ) (xs : List X) (i : ℕ) → i < length (take n xs) → i < n
+take_short zero xs i below = absurd (omega (arith, below))
+take_short (suc n) [] i below = absurd (omega (arith, below))
+take_short (suc n) (x ∷ xs) zero below = omega arith
+take_short (suc n) (x ∷ xs) (suc i) below = let before = take_short n xs i (omega (arith, below)) in omega (arith, before)

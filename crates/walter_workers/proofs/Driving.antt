@@ -1,8 +1,7 @@
 -- How rounds drive a bench to its end.
-use Rattle.std.proofs.Common.{◌≡◌, ◌<◌, ◌≤◌, ◌+◌, ◌⊎◌, ℕ, true, Bool, List, [], length, slice_get, Some, refl, ap, sym, ◌∙◌, subst, arith, inl, inr}
+use Rattle.std.proofs.Common.{◌≡◌, ◌+◌, ◌⊎◌, ℕ, true, List, [], length, slice_get, Some, ap, sym, ◌∙◌, subst, arith, inl, inr}
 use Rattle.std.proofs.lemmas.Bool.{cases_lt}
 use Rattle.std.proofs.lemmas.Option.{slice_get_within}
-use Rattle.walter_base.specs.declared.names.SiteId.{SiteId}
 use Rattle.walter_cell.specs.Cells.{CellValue}
 use Rattle.walter_cell.specs.Nodes.{is_told}
 use Rattle.walter_cluster.specs.Benches.{BenchValue, IsToldAt, Keeps, trails_of}
@@ -12,12 +11,10 @@ use Rattle.walter_disk.specs.declared.disk.Disk.{Ghosts}
 use Rattle.walter_link.specs.Pumps.{PumpValue}
 use Rattle.walter_rules.specs.declared.entry.Entry.{Entry}
 use Rattle.walter_rules.specs.Knowledge.{site_at}
-use Rattle.walter_rules.specs.Merges.{trail_of}
 use Rattle.walter_scenario.specs.declared.scenario.Client.{Client}
 use Rattle.walter_scenario.specs.declared.scenario.Scenario.{Scenario}
 use Rattle.walter_work.specs.Driven.{HasAllCalled, IsDriven, IsIdleAt, IsSpentAt}
 use Rattle.walter_work.specs.Worked.{IsWorked}
-use Rattle.walter_work.specs.Working.{IsWorking}
 use Rattle.walter_work.proofs.Working.{worked_so}
 use Rattle.walter_workers.specs.Rounds.{AreDone, HaveAllCalled, IsDoneAt}
 use Rattle.walter_work.proofs.Driven.{idle_fewer}

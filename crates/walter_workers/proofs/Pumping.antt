@@ -1,45 +1,40 @@
 -- What a pump comes to at a bench whose sites work.
-use Rattle.std.proofs.Common.{◌≡◌, ◌≢◌, ◌<◌, ◌≤◌, ◌+◌, ◌-◌, ◌⊎◌, ◌^◌, ◌++◌, ◌∷◌, [], max, ℕ, zero, suc, Bool, true, false, List, length, map, reverse, set, get_or, slice_get, Option, Some, None, Ok, Err, refl, ap, sym, ◌∙◌, subst, arith, inl, inr}
+use Rattle.std.proofs.Common.{◌≡◌, ◌≢◌, ◌<◌, ◌+◌, ◌⊎◌, [], ℕ, zero, suc, true, false, List, length, slice_get, Option, Some, None, Ok, Err, refl, ap, sym, ◌∙◌, subst, arith, inl, inr}
 use Rattle.std.proofs.lemmas.Bool.{cases_lt}
 use Rattle.std.proofs.lemmas.List.{length-map}
 use Rattle.std.proofs.lemmas.Option.{slice_get_within}
 use Rattle.walter_base.specs.declared.memory.NoMemory.{NoMemory}
 use Rattle.walter_base.specs.declared.names.SiteId.{SiteId}
 use Rattle.walter_cell.specs.Cells.{CellValue, Acts}
-use Rattle.walter_cell.specs.Entries.{Grows, IsSpent}
+use Rattle.walter_cell.specs.Entries.{IsSpent}
 use Rattle.walter_cell.specs.Nodes.{is_told}
 use Rattle.walter_cell.specs.declared.answers.Acted.{Acted}
 use Rattle.walter_cell.specs.declared.answers.Acted.TheVariants as acted
 use Rattle.walter_cell.specs.declared.answers.Moved.{Moved}
 use Rattle.walter_cell.specs.declared.answers.Moved.TheVariants as moved
 use Rattle.walter_cell.specs.declared.answers.Pumped.{Pumped}
-use Rattle.walter_cell.specs.declared.answers.Pumped.TheVariants.{Did, Idle, Spent}
-use Rattle.walter_cell.specs.Pumps.{Works, hands, advances, ticks, idle}
+use Rattle.walter_cell.specs.Pumps.{hands, advances, ticks, idle}
 use Rattle.walter_cell.proofs.Works.{works_so}
 use Rattle.walter_cluster.specs.Benches.{BenchValue, IsToldAt, Keeps, trails_of}
-use Rattle.walter_cluster.specs.Moments.{Moment, ActsAt, AllArrive, ChangesAt, HandsOver, clock_at, moment_of, put_out_as, stamp_for, trail_at}
+use Rattle.walter_cluster.specs.Moments.{Moment, AllArrive, HandsOver, clock_at, moment_of, put_out_as, stamp_for, trail_at}
 use Rattle.walter_cluster.specs.Pumps.{ArePumps, IsPumpAt, PumpsAt, at_once, raises, works, standing_at}
 use Rattle.walter_cluster.specs.Shared.{CanWork}
 use Rattle.walter_cluster.proofs.Changes.{field_at, one_there, there_is}
 use Rattle.walter_cluster.proofs.Working.{ActsOn, HandsOn, grown_on, pump_on, same_on}
 use Rattle.walter_disk.specs.declared.disk.Disk.{Ghosts}
-use Rattle.walter_link.specs.Choices.{copies}
-use Rattle.walter_link.specs.Pumps.{PumpValue, take_arrived, taken_from}
+use Rattle.walter_link.specs.Pumps.{PumpValue, take_arrived}
 use Rattle.walter_rules.specs.declared.entry.Entry.{Entry}
 use Rattle.walter_rules.specs.declared.event.Event.{Event}
-use Rattle.walter_rules.specs.declared.event.Event.TheVariants.{Given, Restart}
+use Rattle.walter_rules.specs.declared.event.Event.TheVariants.{Restart}
 use Rattle.walter_rules.specs.Deliveries.{IsLeastEnabled}
-use Rattle.walter_rules.specs.Knowledge.{site_at}
-use Rattle.walter_rules.specs.Merges.{Stamped, put_out_to, trail_of}
-use Rattle.walter_rules.specs.Trails.{clock, standing}
+use Rattle.walter_rules.specs.Merges.{Stamped, trail_of}
 use Rattle.walter_scenario.specs.declared.scenario.Scenario.{Scenario}
 use Rattle.walter_work.specs.Driven.{IsIdleAt, IsSpentAt, full, late, late_packet}
 use Rattle.walter_work.specs.Working.{IsWorking}
-use Rattle.walter_work.specs.Worked.{deliveries_of, ticks_in}
 use Rattle.walter_work.proofs.Driven.{idle_fewer}
 use Rattle.walter_work.proofs.Taking.{all_taken}
 use Rattle.walter_work.proofs.Working.{all_delivered, restart_on, takes_on}
-use Rattle.walter_workers.specs.Rounds.{IsDoneAt, Moves, PumpsOne, has_done}
+use Rattle.walter_workers.specs.Rounds.{Moves, PumpsOne, has_done}
 use Rattle.walter_workers.proofs.Rooms.{moves_grown, moves_still, moves_self}
 use Rattle.walter_workers.proofs.Turning.{spent_at}
 use Rattle.walter_workers.proofs.Work.{can_on}
@@ -172,7 +167,6 @@ module _ (told : Type 0) (t : Scenario) (i : SiteId) (old new : Moment) (before 
       inl (at_spent does.0)
   pump_done long is answer (works place up all changes (idle none least no_ticks rests left says)) still =
       inr (idle_at long is up all none least no_ticks)
-
 
 pump_others : (told : Type 0) (t : Scenario) (i : SiteId) (old new : Moment) (before after : PumpValue) (answer : Pumped)
     → PumpsAt told t.catalog i old new before after answer

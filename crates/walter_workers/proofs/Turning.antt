@@ -1,5 +1,5 @@
 -- What a client's turn comes to at a bench whose sites work.
-use Rattle.std.proofs.Common.{◌≡◌, ◌≢◌, ◌<◌, ◌≤◌, ◌+◌, ◌^◌, ◌++◌, ◌∷◌, [], ℕ, Bool, true, false, List, length, map, option_map, reverse, slice_get, Some, Ok, Err, refl, ap, sym, ◌∙◌, subst, arith, inl, inr}
+use Rattle.std.proofs.Common.{◌≡◌, ◌<◌, ◌+◌, ℕ, true, false, List, length, reverse, slice_get, Some, Ok, Err, refl, ap, sym, ◌∙◌, subst, arith, inl, inr}
 use Rattle.std.proofs.lemmas.List.{length-map}
 use Rattle.walter_base.specs.declared.memory.NoMemory.{NoMemory}
 use Rattle.walter_base.specs.declared.names.SiteId.{SiteId}
@@ -10,12 +10,10 @@ use Rattle.walter_cell.specs.declared.answers.Serve.{Serve}
 use Rattle.walter_cell.specs.declared.answers.Serve.TheVariants.{Served, Ended, Broken, Spent}
 use Rattle.walter_cluster.specs.Benches.{BenchValue, Keeps, trails_of}
 use Rattle.walter_cluster.specs.Moments.{Moment, ChangesAt, TurnsAt, clock_at, moment_of, trail_at}
-use Rattle.walter_cluster.specs.Shared.{CanWork}
 use Rattle.walter_cluster.proofs.Changes.{one_there}
 use Rattle.walter_cluster.proofs.Pumps.{pumps_kept}
 use Rattle.walter_cluster.proofs.Working.{same_on}
-use Rattle.walter_conn.specs.Sequences.{AreAllCalls, EndCut, EndWhole}
-use Rattle.walter_conn.specs.Frames.{Call}
+use Rattle.walter_conn.specs.Sequences.{AreAllCalls}
 use Rattle.walter_disk.specs.declared.disk.Disk.{Ghosts}
 use Rattle.walter_link.specs.Pumps.{PumpValue}
 use Rattle.walter_rules.specs.declared.entry.Entry.{Entry}
@@ -29,7 +27,7 @@ use Rattle.walter_work.specs.Driven.{HasAllCalled, IsSpentAt, full, late}
 use Rattle.walter_work.specs.Working.{IsWorking}
 use Rattle.walter_work.proofs.Working.{call_on}
 use Rattle.walter_workers.specs.Rounds.{Moves, TurnsOne, is_served}
-use Rattle.walter_workers.proofs.Rooms.{moves_grown, moves_failed, moves_self, moves_still}
+use Rattle.walter_workers.proofs.Rooms.{moves_grown, moves_failed, moves_still}
 use Rattle.walter_workers.proofs.Work.{can_on}
 
 -- a trail without a place is spent

@@ -3,11 +3,7 @@
 
 mod gate;
 mod rounds;
-mod trial;
 mod working;
 
 pub use gate::{Gate, OpenGate};
 pub use working::run;
-
-#[cfg(test)]
-mod tests;

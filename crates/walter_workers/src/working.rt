@@ -73,12 +73,7 @@ pub fn run<
         return (bench, Err(NoMemory));
     };
     let (mut bench, mut pumps) = share_work::<Brand, R, D, S, K, G>(
-        rt,
-        alloc,
-        bench,
-        pumps,
-        scenario,
-        gate,
+        rt, alloc, bench, pumps, scenario, gate,
     );
     let finished = finish(alloc, &mut bench, &mut pumps, scenario);
     (bench, finished)
@@ -104,8 +99,9 @@ fn arm_all<D: Disk + Drop, S: Source + Drop, K: Sink + Drop>(
     Ok(())
 }
 
-// The workers of clients and of pumps, each in a thread of its own where one can be made, over shared cells. The client
-// workers begin first, so that the work ends in one thread too.
+// The workers of pumps and of clients, each in a thread of its own where one can be made, over shared cells. Where none
+// can be made, one works behind those with greater numbers: so a pump worker, which waits for the end of all client
+// workers, has a lower number than these.
 fn share_work<
     N: Name + Send + Sync,
     R: Threads + Wait + Sync,
@@ -136,24 +132,33 @@ fn share_work<
     let ended = AtomicU64::new(0);
     let ended = &ended;
     let clients = scenario.clients.as_slice().len() as u32;
-    let threads = usize::from(scenario.threads);
     let sites = usize::from(scenario.catalog.sites);
+    let threads = usize::from(scenario.threads);
     let mut slots = [(); MOST_WORKERS];
     for_each_mut(
         rt,
-        &mut slots[..threads + sites],
-        threads + sites,
+        &mut slots[..sites + threads],
+        sites + threads,
         &|worker: usize, _slot: &mut ()|
             requires clients { clients ≤ length shared.now }
-            requires sites { worker < threads + length N.origins }
-            requires few { length N.origins ≤ most_sites }
+            requires sites { sites ≡ length N.origins }
+            requires few { sites ≤ most_sites }
+            requires threads { IsThreads threads }
+            requires worker { worker < sites + threads }
         {
-            if worker < threads {
-                serve(rt, alloc, shared, gate, clients, worker as u32, threads as u32);
-                end(ended);
+            if worker < sites {
+                pump(
+                    rt,
+                    alloc,
+                    shared,
+                    ended,
+                    threads as u32,
+                    SiteId(worker as u8),
+                );
             } else {
-                let site = SiteId((worker - threads) as u8);
-                pump(rt, alloc, shared, ended, threads as u32, site);
+                let first = (worker - sites) as u32;
+                serve(rt, alloc, shared, gate, clients, first, threads as u32);
+                end(ended);
             }
         },
     );

@@ -1,4 +1,4 @@
-use Rattle.std.proofs.Common.{◌≡◌, refl, ◌∙◌}
+use Rattle.std.proofs.Common.{refl, ◌∙◌}
 use Rattle.walter_cluster.proofs.Keeping.{bench_self, bench_on, connected_kept}
 use Rattle.walter_workers.proofs.rounds.finish.Goals as goal
 
@@ -28,6 +28,6 @@ pub loop-preserved : goal.loop-preserved
 loop-preserved g c = record {
   keeps = bench_on g.D.Disk c.args.bench.now c.loop.bench c.round.new.bench c.loop.invariant.keeps c.round.ensures.keeps;
   arms = λ i. c.round.ensures.arms i ∙ c.loop.invariant.arms i;
-  works = c.branch.ensures.works;
+  works = c.in_ok-round.ensures.works;
   connected = connected_kept g.D.Disk c.loop.bench c.round.new.bench c.round.ensures.keeps c.args.scenario.now c.loop.invariant.connected;
 }

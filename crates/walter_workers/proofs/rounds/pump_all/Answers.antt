@@ -1,4 +1,4 @@
-use Rattle.std.proofs.Common.{◌≡◌, ◌<◌, ap, ◌∙◌, sym, refl, arith, inl, inr, Ok, false}
+use Rattle.std.proofs.Common.{◌≡◌, ap, ◌∙◌, refl, arith, inl, inr, Ok, false}
 use Rattle.walter_cluster.specs.Benches.{trails_of}
 use Rattle.walter_cluster.proofs.Keeping.{bench_self, bench_on}
 use Rattle.walter_workers.proofs.Driving.{done_more}
@@ -42,9 +42,9 @@ loop-site-preserved g c =
       arms = λ i. c.pump_one.ensures.arms i ∙ inv.arms i;
       works = one.works;
       moves = moves_on ⊥ (trails_of old.cells) (trails_of mid.cells) (trails_of new.cells) c.loop-site.moved
-          c.in_ok-pump_one.field-0 c.either.result c.either.ensures.neither c.either.ensures.some inv.moves one.moves;
+          c.in_ok-pump_one.field-0 c.either-moved.result c.either-moved.ensures.neither c.either-moved.ensures.some inv.moves one.moves;
       done = λ is.
-          let both = c.either.ensures.neither is in
+          let both = c.either-moved.ensures.neither is in
           let told : Ok c.in_ok-pump_one.field-0 ≡ Ok false = ap Ok both.1 in
           elim (one.moves.same both.1) [
             | inl never ↦ absurd never
@@ -53,5 +53,6 @@ loop-site-preserved g c =
     }
 
 pub returns-clause-done : goal.returns-clause-done
-returns-clause-done g c = λ is i below.
-    c.loop-site.invariant.done cc i (omega (arith, below, c.loop-site-test.false))
+returns-clause-done g c = λ is.
+    let still : c.loop-site.moved ≡ false = cc in
+    λ i below. c.loop-site.invariant.done still i (omega (arith, below, c.loop-site-test.false))

@@ -1,4 +1,4 @@
-use Rattle.std.proofs.Common.{◌≡◌, ◌<◌, get_or, length, set, slice_get, ap, ◌∙◌, sym, refl, subst, arith, Some, true}
+use Rattle.std.proofs.Common.{◌≡◌, get_or, set, slice_get, ap, ◌∙◌, sym, subst, arith, true}
 use Rattle.walter_base.specs.declared.catalog.Catalog.{Catalog}
 use Rattle.walter_cell.specs.Nodes.{is_told}
 use Rattle.walter_cluster.specs.Moments.{moment_of}
@@ -6,7 +6,7 @@ use Rattle.walter_cluster.specs.Pumps.{PumpsAt}
 use Rattle.walter_cluster.proofs.Changes.{set_here, set_there, there_is}
 use Rattle.walter_cluster.proofs.Keeping.{bench_self}
 use Rattle.walter_cluster.proofs.Pumps.{pump_at, pump_there, pumps_after}
-use Rattle.walter_workers.proofs.Pumping.{pumped_so, unpumped}
+use Rattle.walter_workers.proofs.Pumping.{pumped_so}
 use Rattle.walter_workers.proofs.rounds.pump_one.Goals as goal
 
 pub pump-requires-clause-pump : goal.pump-requires-clause-pump

@@ -1,4 +1,4 @@
-use Rattle.std.proofs.Common.{◌≡◌, ap, ◌∙◌, Ok, false}
+use Rattle.std.proofs.Common.{◌≡◌, ap, Ok, false}
 use Rattle.walter_cell.specs.Lines.{CanFail}
 use Rattle.walter_cluster.proofs.Keeping.{bench_on}
 use Rattle.walter_workers.proofs.Driving.{driven}

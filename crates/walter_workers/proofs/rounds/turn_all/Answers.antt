@@ -1,4 +1,4 @@
-use Rattle.std.proofs.Common.{◌≡◌, ◌<◌, length, ap, ◌∙◌, sym, refl, arith}
+use Rattle.std.proofs.Common.{◌≡◌, length, ap, ◌∙◌, refl, arith, Ok, false}
 use Rattle.std.proofs.lemmas.List.{length-map}
 use Rattle.walter_cell.specs.Lines.{CanFail}
 use Rattle.walter_cluster.specs.Benches.{trails_of}
@@ -22,7 +22,7 @@ loop-number-init g c = record {
 pub turn_one-requires : goal.turn_one-requires
 turn_one-requires g c =
     let homes = ap length c.loop-number.invariant.of.homes ∙ length-map c.args.scenario.now.clients (λ (client : Client). client.site) in
-    omega (arith, homes, c.loop-number-test.true, c.as_slice.ensures, c.len.ensures, c.requires.few)
+    omega (arith, homes, c.loop-number-test.true, ap length c.as_slice.ensures)
 
 pub returns-in_err-turn_one-clause-keeps : goal.returns-in_err-turn_one-clause-keeps
 returns-in_err-turn_one-clause-keeps g c =
@@ -53,14 +53,16 @@ loop-number-preserved g c =
       connected = connected_kept g.D.Disk mid new keeps t inv.connected;
       works = λ pumps can. one.works pumps (inv.works pumps can);
       moves = moves_on fails (trails_of old.cells) (trails_of mid.cells) (trails_of new.cells) c.loop-number.moved
-          c.in_ok-turn_one.field-0 c.either.result c.either.ensures.neither c.either.ensures.some inv.moves one.moves;
+          c.in_ok-turn_one.field-0 c.either-moved.result c.either-moved.ensures.neither c.either-moved.ensures.some inv.moves one.moves;
       called = λ is.
-          let both = c.either.ensures.neither is in
+          let both = c.either-moved.ensures.neither is in
           let told : Ok c.in_ok-turn_one.field-0 ≡ Ok false = ap Ok both.1 in
           called_more fails t (trails_of mid.cells) (trails_of new.cells) c.loop-number.number (one.moves.same both.1)
           (inv.called both.0) (one.called told);
     }
 
 pub returns-clause-called : goal.returns-clause-called
-returns-clause-called g c = λ is number client below at.
-    c.loop-number.invariant.called cc number client (omega (arith, below, c.loop-number-test.false, c.as_slice.ensures, c.len.ensures, c.requires.few)) at
+returns-clause-called g c = λ is.
+    let still : c.loop-number.moved ≡ false = cc in
+    λ number client below at. c.loop-number.invariant.called still number client
+    (omega (arith, below, c.loop-number-test.false, ap length c.as_slice.ensures)) at

@@ -1,6 +1,7 @@
-use Rattle.std.proofs.Common.{◌≡◌, ◌<◌, ◌×◌, ℕ, length, ap, ◌∙◌, sym, arith}
+use Rattle.std.proofs.Common.{◌<◌, length, ap, ◌∙◌, arith}
 use Rattle.std.proofs.lemmas.List.{length-map}
 use Rattle.std.proofs.lemmas.Option.{slice_get_within}
+use Rattle.std.proofs.lemmas.Result.{err_from_is_err_and}
 use Rattle.walter_cell.specs.Lines.{CanFail, HasFaultAt}
 use Rattle.walter_cluster.specs.Benches.{lines_at}
 use Rattle.walter_cluster.proofs.Changes.{there_is}
@@ -11,8 +12,9 @@ use Rattle.walter_workers.proofs.rounds.turn_one.Goals as goal
 
 pub returns-in_err-turn-clause-turns : goal.returns-in_err-turn-clause-turns
 returns-in_err-turn-clause-turns g c = λ t of connected.
-    unturned g.D.Disk (CanFail g.S.Source g.K.Sink) t c.args.number c.args.bench.now c.turn.new.self c.turn.ensures.keeps
-    _ c.in_err-turn.ensures.kept
+    let fault = err_from_is_err_and c.from_residual.result c.from_residual.ensures.1 in
+    rw fault.1 (unturned g.D.Disk (CanFail g.S.Source g.K.Sink) t c.args.number c.args.bench.now c.turn.new.self
+    c.turn.ensures.keeps fault.0 c.in_err-turn.ensures.kept)
 
 pub returns-clause-turns : goal.returns-clause-turns
 returns-clause-turns g c = λ t of connected.

@@ -1,4 +1,4 @@
-use Rattle.std.proofs.Common.{◌≡◌, ◌+◌, ◌++◌, ◌∷◌, [], ℕ, List, take, drop, subst, sym, ap, ◌∙◌, refl}
+use Rattle.std.proofs.Common.{◌≡◌, ◌+◌, List, take, drop, subst, sym, ap, ◌∙◌, refl}
 use Rattle.std.proofs.lemmas.List.{take_all, take_more, take-append-drop}
 use Rattle.walter_cluster.proofs.Keeping.{bench_self, bench_on}
 use Rattle.walter_cluster.specs.Moments.{Moment, moment_of}
@@ -12,7 +12,7 @@ loop-arm-init g c = record {
   keeps = bench_self g.D.Disk c.args.bench.now;
   trails = refl;
   none_arrive = λ to from. refl;
-  armed = armed_none _ _ (λ i. refl);
+  armed = armed_none (moment_of g.D.Disk c.args.bench.now.cells) (moment_of g.D.Disk c.args.bench.now.cells) (λ i. refl);
 }
 
 pub loop-arm-preserved : goal.loop-arm-preserved

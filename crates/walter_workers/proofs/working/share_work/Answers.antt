@@ -1,9 +1,25 @@
-use Rattle.std.proofs.Common.{◌≡◌, ◌<◌, ◌≤◌, length, ap, sym, ◌∙◌, subst, arith}
+use Rattle.std.proofs.Common.{rules, length, ap, sym, ◌∙◌, arith}
+use Rattle.std.proofs.lemmas.List.{length-map}
+use Rattle.walter_cluster.specs.Shared.{origin_of}
 use Rattle.walter_cluster.proofs.Sharing.{all_arms, all_gone, all_work}
+use Rattle.walter_scenario.specs.declared.scenario.Client.{Client}
+use Rattle.walter_workers.proofs.Beginning.{take_short}
 use Rattle.walter_workers.proofs.working.share_work.Goals as goal
 
 pub for_each_mut-requires-clause-accepts : goal.for_each_mut-requires-clause-accepts
-for_each_mut-requires-clause-accepts g c κs within = ?
+for_each_mut-requires-clause-accepts g c κs within = λ i p below is.
+    let t = c.args.scenario.now in
+    let homes = ap length c.requires.works.of.homes ∙ length-map t.clients (λ (client : Client). client.site) in
+    let many = ap length c.requires.origins ∙ length-map c.args.bench.cells (origin_of g.D.Disk t) in (
+      omega (arith, ap length c.share-cluster.ensures, homes, ap length c.as_slice.ensures),
+      (
+        c.from-sites.ensures ∙ (sym c.requires.works.of.sites ∙ sym many),
+        (
+          omega (arith, c.from-sites.ensures, c.requires.sites),
+          (rw c.from-threads.ensures c.requires.threads, (take_short _ _ i below, search rules)),
+        ),
+      ),
+    )
 
 pub returns-clause-cells : goal.returns-clause-cells
 returns-clause-cells g c =
