@@ -3,6 +3,8 @@ use crate::playing::legal_history;
 use crate::texts::cut;
 use anyhow::Result;
 use std::alloc::Global;
+use std::sync::Wait;
+use std::thread::Threads;
 use walter_base::Mem;
 use walter_cli::{Ended, Fault, top};
 use walter_disk_memory::MemoryRack;
@@ -72,7 +74,7 @@ fn said(alloc: Global, ended: &Ended, written: &str, disks: &str) -> Mem<String>
 /// What comes of these words and this scenario. Given are the numbers of the reads, the writes and the calls of the
 /// rack that fail, and what the disks hold, as in `reads=2 writes=1 racks=2,3 disks=00,ff`.
 pub(crate) fn end(
-    rt: &impl AllocGlobal,
+    rt: &(impl AllocGlobal + Threads + Wait + Sync),
     words: &str,
     given: &str,
     scenario: &str,

@@ -6,6 +6,7 @@
 //! | `report SCENARIO`, `trace SCENARIO` | what `play`, or `play --trace`, writes of it; that its history is legal; and that its events come to the same at sites without disks |
 //! | `brief SCENARIO` | the last three lines of what `play` writes of it, each without its middle where it is long |
 //! | `ends GIVEN.. SCENARIO` | how `play` ends over sources, sinks, racks and disks that are given: see `ending` |
+//! | `runs GIVEN.. SCENARIO` | the same of `run` |
 //! | `called WORDS..` | how the program ends that is called with these words, where nothing can be read |
 //! | `read SCENARIO`, `bytes HEX` | the scenario that the text or the bytes spell, or what is wrong with them |
 //! | `memory` | what is said where memory runs out |
@@ -28,6 +29,8 @@ use crate::schedules::{play_at_random, spread_all};
 use crate::texts::{end_of, expanded};
 use crate::worlds::is_same_in_a_world;
 use anyhow::{Result, bail};
+use std::sync::Wait;
+use std::thread::Threads;
 
 // What is said of the run of a scenario, behind its report.
 fn told(rt: &impl AllocGlobal, scenario: &str, run: &Run) -> Result<&'static str> {
@@ -39,32 +42,48 @@ fn told(rt: &impl AllocGlobal, scenario: &str, run: &Run) -> Result<&'static str
     }
 }
 
-fn play_line(rt: &impl AllocGlobal, command: &str, scenario: &str) -> Result<String> {
+fn play_line(
+    rt: &(impl AllocGlobal + Threads + Wait + Sync),
+    command: &str,
+    scenario: &str,
+) -> Result<String> {
     let run = play(rt, command == "trace", scenario)?;
     let told = told(rt, scenario, &run)?;
     Ok(format!(in rt.alloc(); "{}{told}", run.report)?)
 }
 
-fn play_in_brief(rt: &impl AllocGlobal, scenario: &str) -> Result<String> {
+fn play_in_brief(
+    rt: &(impl AllocGlobal + Threads + Wait + Sync),
+    scenario: &str,
+) -> Result<String> {
     let run = play(rt, false, scenario)?;
     Ok(end_of(rt.alloc(), &run.report)?)
 }
 
-// What is given stands before the scenario, which has no space.
-fn end_line(rt: &impl AllocGlobal, given_and_scenario: &str) -> Result<String> {
+// How the command ends. What is given stands before the scenario, which has no space.
+fn end_line(
+    rt: &(impl AllocGlobal + Threads + Wait + Sync),
+    command: &str,
+    given_and_scenario: &str,
+) -> Result<String> {
     let (given, scenario) = given_and_scenario
         .rsplit_once(' ')
         .unwrap_or(("", given_and_scenario));
-    end(rt, "play", given, scenario)
+    end(rt, command, given, scenario)
 }
 
 // What a command comes to.
-fn answer(rt: &impl AllocGlobal, command: &str, rest: &str) -> Result<String> {
+fn answer(
+    rt: &(impl AllocGlobal + Threads + Wait + Sync),
+    command: &str,
+    rest: &str,
+) -> Result<String> {
     let alloc = rt.alloc();
     match command {
         "report" | "trace" => play_line(rt, command, rest),
         "brief" => play_in_brief(rt, rest),
-        "ends" => end_line(rt, rest),
+        "ends" => end_line(rt, "play", rest),
+        "runs" => end_line(rt, "run", rest),
         "called" => end(rt, rest, "", ""),
         "read" => Ok(reading(alloc, rest.as_bytes())?),
         "bytes" => Ok(reading(alloc, &hex::decode(alloc, rest)?)?),
@@ -77,7 +96,7 @@ fn answer(rt: &impl AllocGlobal, command: &str, rest: &str) -> Result<String> {
 }
 
 // What a line of input comes to.
-fn answer_line(rt: &impl AllocGlobal, line: &str) -> Result<String> {
+fn answer_line(rt: &(impl AllocGlobal + Threads + Wait + Sync), line: &str) -> Result<String> {
     match line.split_once(' ') {
         Some(("#", _)) => Ok(String::from_str(rt.alloc(), line)?),
         Some((command, rest)) => answer(rt, command, &expanded(rt.alloc(), rest)?),

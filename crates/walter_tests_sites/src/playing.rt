@@ -1,6 +1,8 @@
 //! Scenarios, played by the program over empty disks in memory.
 use anyhow::{Result, bail};
 use std::alloc::Global;
+use std::sync::Wait;
+use std::thread::Threads;
 use walter_cli::{Ended, top};
 use walter_disk_memory::MemoryRack;
 use walter_psi::first_illegal;
@@ -25,7 +27,11 @@ fn words_for(alloc: Global, is_traced: bool) -> Result<Vec<String>> {
     Ok(words)
 }
 
-pub(crate) fn play(rt: &impl AllocGlobal, is_traced: bool, scenario: &str) -> Result<Run> {
+pub(crate) fn play(
+    rt: &(impl AllocGlobal + Threads + Wait + Sync),
+    is_traced: bool,
+    scenario: &str,
+) -> Result<Run> {
     let alloc = rt.alloc();
     let words = words_for(alloc, is_traced)?;
     let mut source = BytesSource::from(scenario.as_bytes().to_vec(alloc)?);

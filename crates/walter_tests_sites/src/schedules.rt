@@ -8,6 +8,8 @@ use anyhow::{Result, bail};
 use rand_core::Rng;
 use rand_pcg::Pcg32;
 use std::alloc::Global;
+use std::sync::Wait;
+use std::thread::Threads;
 use walter_base::{Cause, Mem};
 use walter_psi::Step;
 use walter_trail::Trail;
@@ -291,7 +293,10 @@ struct Played {
 }
 
 // What a schedule comes to that ends here.
-fn play_so_far(rt: &impl AllocGlobal, schedule: &mut Schedule) -> Result<Played> {
+fn play_so_far(
+    rt: &(impl AllocGlobal + Threads + Wait + Sync),
+    schedule: &mut Schedule,
+) -> Result<Played> {
     let scenario = format!(in rt.alloc(); "{}]}}", schedule.text)?;
     let Run { trails, .. } = play(rt, false, &scenario)?;
     schedule.count_all(&trails);
@@ -299,7 +304,10 @@ fn play_so_far(rt: &impl AllocGlobal, schedule: &mut Schedule) -> Result<Played>
 }
 
 // What a schedule comes to behind all its blocks.
-fn play_blocks(rt: &impl AllocGlobal, schedule: &mut Schedule) -> Result<Played> {
+fn play_blocks(
+    rt: &(impl AllocGlobal + Threads + Wait + Sync),
+    schedule: &mut Schedule,
+) -> Result<Played> {
     for _ in 1..BLOCKS {
         schedule.block()?;
         let _ = play_so_far(rt, schedule)?;
@@ -346,7 +354,7 @@ impl Met {
         }
     }
 
-    fn play(&mut self, rt: &impl AllocGlobal, seed: u64) -> Result<()> {
+    fn play(&mut self, rt: &(impl AllocGlobal + Threads + Wait + Sync), seed: u64) -> Result<()> {
         let mut schedule = Schedule::new(rt.alloc(), seed)?;
         let Played { scenario, trails } = play_blocks(rt, &mut schedule)?;
         if is_same_in_a_world(rt.alloc(), &scenario, &trails)? {
@@ -358,7 +366,10 @@ impl Met {
 }
 
 /// Plays so many runs at random, each of which spells a legal history.
-pub(crate) fn play_at_random(rt: &impl AllocGlobal, runs: u64) -> Result<String> {
+pub(crate) fn play_at_random(
+    rt: &(impl AllocGlobal + Threads + Wait + Sync),
+    runs: u64,
+) -> Result<String> {
     let mut met = Met::nothing();
     for seed in 0..runs {
         met.play(rt, seed)?;
@@ -370,7 +381,7 @@ pub(crate) fn play_at_random(rt: &impl AllocGlobal, runs: u64) -> Result<String>
 }
 
 // Plays a schedule, and rounds behind it in which all comes: then each commit has come to each site.
-fn spread(rt: &impl AllocGlobal, seed: u64) -> Result<()> {
+fn spread(rt: &(impl AllocGlobal + Threads + Wait + Sync), seed: u64) -> Result<()> {
     let mut schedule = Schedule::new(rt.alloc(), seed)?;
     let mut last = play_blocks(rt, &mut schedule)?;
     for _ in 0..ROUNDS {
@@ -387,7 +398,10 @@ fn spread(rt: &impl AllocGlobal, seed: u64) -> Result<()> {
 }
 
 /// Plays so many runs at random, behind each of which all commits come to all sites.
-pub(crate) fn spread_all(rt: &impl AllocGlobal, runs: u64) -> Result<String> {
+pub(crate) fn spread_all(
+    rt: &(impl AllocGlobal + Threads + Wait + Sync),
+    runs: u64,
+) -> Result<String> {
     for seed in 0..runs {
         spread(rt, seed)?;
     }
