@@ -1,10 +1,9 @@
 //! The program `walter`: `top_in_memory` over standard input, standard output and the process.
 #![tactic(auto)]
 
-use std::env;
 use std::io::{self, ErrorKind};
-use std::mem;
 use std::process::ExitCode;
+use std::{env, mem};
 use walter_cli::{Ended, Fault, top_in_memory};
 use walter_stream::{StdSink, StdSource};
 
