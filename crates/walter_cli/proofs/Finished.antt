@@ -8,19 +8,17 @@ use Rattle.walter_base.specs.declared.names.SiteId.{SiteId}
 use Rattle.walter_cell.specs.Cells.{CellValue, IsCell}
 use Rattle.walter_cell.specs.Entries.{HaveRisingStamps}
 use Rattle.walter_cell.specs.Nodes.{IsSound, LeavesRecords as LeavesOn, arms_under}
-use Rattle.walter_cluster.specs.Benches.{BenchValue, Keeps, IsOf, IsBench, IsToldAt, AtEach, arms_at, trails_of, disks_of}
+use Rattle.walter_cluster.specs.Benches.{BenchValue, EachKeeps, IsOf, IsBench, IsToldAt, AtEach, arms_at, trails_of, disks_of}
 use Rattle.walter_cluster.specs.Builds.{LeavesDisk}
 use Rattle.walter_cluster.specs.Moments.{moment_of}
-use Rattle.walter_cluster.specs.Pumps.{new_pumps}
 use Rattle.walter_cluster.proofs.Changes.{there_is}
-use Rattle.walter_cluster.proofs.Keeping.{of_kept, connected_kept, told_kept}
+use Rattle.walter_cluster.proofs.Keeping.{of_each, connected_each, told_each}
 use Rattle.walter_disk.specs.declared.disk.Disk.{Ghosts}
 use Rattle.walter_engine.specs.Begins.{HasNoRecord}
 use Rattle.walter_linked.specs.Catalogs.{IsWhole}
 use Rattle.walter_machine.specs.Comings.{is_faulty}
-use Rattle.walter_play.specs.Scripts.{Plays, EndsPlay, ArmsMore, AreArmed, arms_for, arms_of, all_arms, all_steps}
-use Rattle.walter_play.proofs.Arming.{for_more, all_armed}
-use Rattle.walter_play.proofs.Steps.{plays_told}
+use Rattle.walter_play.specs.Scripts.{ArmsMore, AreArmed, arms_for, arms_of, all_arms}
+use Rattle.walter_play.proofs.Arming.{for_more}
 use Rattle.walter_rules.specs.declared.entry.Entry.{Entry}
 use Rattle.walter_rules.specs.Knowledge.{site_at}
 use Rattle.walter_rules.specs.Merges.{AreLinked}
@@ -29,11 +27,12 @@ use Rattle.walter_scenario.specs.declared.scenario.Scenario.{Scenario}
 use Rattle.walter_cli.specs.declared.ended.Fault.{Fault}
 use Rattle.walter_cli.specs.declared.ended.Fault.TheVariants.{Usage, Scenario as ScenarioFault, Read, Write, Memory, Rack, Journal}
 use Rattle.walter_cli.specs.Disks.{AreGiven}
-use Rattle.walter_cli.specs.Ending.{IsBuilt, IsWholeBack, IsWriteFault, EndsRun}
+use Rattle.walter_cli.specs.Ending.{Drives, IsBuilt, IsWholeBack, IsWriteFault, EndsRun}
 use Rattle.walter_cli.specs.Headline.{AreCallsOf, AreTold, LeavesRecords, IsDiskOfRun, IsDiskOfWhole, IsRun, IsWholeRun, trail_at}
 use Rattle.walter_cli.specs.Racks.{RackAt, Racked, IsTold, racked}
 use Rattle.walter_cli.specs.Words.{written_by}
 use Rattle.walter_words.specs.declared.asked.Command.{Command}
+use Rattle.walter_cli.proofs.Driven.{armed_by, driven_from, driven_by_fewer}
 use Rattle.walter_cli.proofs.Giving.{IsReturned, handed_back, all_back, all_or_failed, holds_taken, told_reads}
 use Rattle.walter_cli.proofs.Trails.{field_of, field_at, trail_is, one_each, begins, stamps_rise, calls_are, told_trails}
 
@@ -71,7 +70,8 @@ arms_built {D = D} g bench i disk now at left =
 module _ {D : Type 0} (g : Ghosts D) (t : Scenario) (before mid after : RackAt D) (built bench : BenchValue D)
     (back : List D) (trails : List (List Entry))
     (has : IsBuilt g before mid t built)
-    (keeps : Keeps g built bench)
+    (keeps : EachKeeps g built.cells bench.cells)
+    (homes : bench.homes ≡ built.homes)
     (is : IsBench bench)
     (sound : AtEach bench.cells (λ i c. IsSound g c.node × IsCell c))
     (more : ArmsMore (moment_of g built.cells) (moment_of g bench.cells) (t.arms ++ arms_of t.steps))
@@ -83,7 +83,7 @@ module _ {D : Type 0} (g : Ghosts D) (t : Scenario) (before mid after : RackAt D
   rack = racked g before after
 
   of : IsOf t bench
-  of = of_kept g built bench keeps t has.of
+  of = of_each g built bench keeps t homes has.of
 
   -- as many disks as sites
   long_back : length back ≡ t.catalog.sites
@@ -114,7 +114,7 @@ module _ {D : Type 0} (g : Ghosts D) (t : Scenario) (before mid after : RackAt D
   told_at : (i : ℕ) → i < t.catalog.sites → IsTold rack i → IsToldAt g i bench
   told_at i below told =
       let was = taken_at i below in
-      told_kept g built bench keeps i (has.told i was.0 was.1 (told_reads g before.disks i was.0 (has.taken.told i was.0 was.1) told))
+      told_each g built bench keeps i (has.told i was.0 was.1 (told_reads g before.disks i was.0 (has.taken.told i was.0 was.1) told))
 
   -- the cell whose disk is given back
   cell_of : (i : ℕ) (disk : D) → slice_get back i ≡ Some disk
@@ -184,11 +184,6 @@ module _ {D : Type 0} (g : Ghosts D) (t : Scenario) (before mid after : RackAt D
     arms_are = arms_are i disk at;
   }
 
-  -- the steps arm so
-  armed_by_play : EndsPlay (λ i. IsToldAt g i built) t (moment_of g built.cells) (moment_of g bench.cells)
-      → AreArmed (moment_of g built.cells) (moment_of g bench.cells) (t.arms ++ arms_of t.steps)
-  armed_by_play plays = all_armed (λ i. IsToldAt g i built) t _ _ plays.1
-
   pub run_is : IsWhole t.catalog → IsRun rack t trails
   run_is whole = record {
     one_each = ap length trails_are ∙ one_each g t bench of is sound;
@@ -197,7 +192,7 @@ module _ {D : Type 0} (g : Ghosts D) (t : Scenario) (before mid after : RackAt D
         subst (λ (ts : List (List Entry)). HaveRisingStamps (reverse (trail_at ts i))) (sym trails_are)
         (stamps_rise g t bench of is sound i below);
     whose_calls = subst (λ (ts : List (List Entry)). AreCallsOf t.clients ts) (sym trails_are)
-        (calls_are g t bench of is sound (connected_kept g built bench keeps t has.connected));
+        (calls_are g t bench of is sound (connected_each g built bench keeps t has.connected));
     linked = linked;
     no_record_before = λ i below.
         let was = taken_at i below in
@@ -215,43 +210,34 @@ module _ {D : Type 0} (g : Ghosts D) (t : Scenario) (before mid after : RackAt D
   }
 
   -- where it was driven to its end
-  pub whole_is : IsWhole t.catalog
-      → EndsPlay (λ i. IsToldAt g i built) t (moment_of g built.cells) (moment_of g bench.cells)
-      → IsWholeRun rack t trails (arms_at g bench.cells)
-  whole_is whole plays = record {
-    run = run_is whole;
-    how_driven = record {
-      first = record { moment = moment_of g built.cells; pumps = new_pumps t };
-      last = record { moment = moment_of g bench.cells; pumps = plays.0 };
-      begins = record { moment = has.first; pumps = refl };
-      plays = plays_below;
-      ends = sym trails_are;
-      arms_are = λ i. refl;
-    };
-    disks = subst (λ (n : ℕ). rack.handed n (λ i. IsDiskOfWhole rack t trails (arms_at g bench.cells) i)) long_taken
-        (handed_back g before mid after has.disks back returned
-        (λ i. IsDiskOfWhole rack t trails (arms_at g bench.cells) i) (disk_of_whole (armed_by_play plays)));
-  }
-    where
-      told_built : (i : ℕ) → IsTold rack i → IsToldAt g i built
-      told_built i told cell at =
-          let within = slice_get_within built.cells i cell at in
-          let below : i < t.catalog.sites = (let l = has.of.sites in omega (arith, within, l)) in
-          let was = taken_at i below in
-          has.told i was.0 was.1 (told_reads g before.disks i was.0 (has.taken.told i was.0 was.1) told) cell at
+  module _ (command : Command) (drives : Drives command (λ i. IsToldAt g i built) t (moment_of g built.cells) (moment_of g bench.cells)) where
+    armed : AreArmed (moment_of g built.cells) (moment_of g bench.cells) (t.arms ++ arms_of t.steps)
+    armed = armed_by command (λ i. IsToldAt g i built) t (moment_of g built.cells) (moment_of g bench.cells) drives
 
-      plays_below : Plays (λ i. IsTold rack i) t (all_steps t) (record { moment = moment_of g built.cells; pumps = new_pumps t })
-          (record { moment = moment_of g bench.cells; pumps = plays.0 })
-      plays_below = plays_told (λ i. IsToldAt g i built) (λ i. IsTold rack i) t (all_steps t) _ _ told_built plays.1
+    pub whole_is : IsWhole t.catalog → IsWholeRun rack command t trails (arms_at g bench.cells)
+    whole_is whole = record {
+      run = run_is whole;
+      how_driven = driven_by_fewer command (λ i. IsToldAt g i built) (λ i. IsTold rack i) t trails (arms_at g bench.cells) told_built
+          (driven_from command (λ i. IsToldAt g i built) t (moment_of g built.cells) (moment_of g bench.cells) trails
+          (arms_at g bench.cells) has.first (sym trails_are) (λ i. refl) drives);
+      disks = subst (λ (n : ℕ). rack.handed n (λ i. IsDiskOfWhole rack t trails (arms_at g bench.cells) i)) long_taken
+          (handed_back g before mid after has.disks back returned
+          (λ i. IsDiskOfWhole rack t trails (arms_at g bench.cells) i) (disk_of_whole armed));
+    }
+      where
+        told_built : (i : ℕ) → IsTold rack i → IsToldAt g i built
+        told_built i told cell at =
+            let within = slice_get_within built.cells i cell at in
+            let below : i < t.catalog.sites = (let l = has.of.sites in omega (arith, within, l)) in
+            let was = taken_at i below in
+            has.told i was.0 was.1 (told_reads g before.disks i was.0 (has.taken.told i was.0 was.1) told) cell at
 
-  -- and all disks were given back
-  pub whole_back : EndsPlay (λ i. IsToldAt g i built) t (moment_of g built.cells) (moment_of g bench.cells)
-      → after.faults ≡ mid.faults
-      → rack.all t.catalog.sites (λ i. IsDiskOfWhole rack t trails (arms_at g bench.cells) i)
-  whole_back plays same =
-      subst (λ (n : ℕ). rack.all n (λ i. IsDiskOfWhole rack t trails (arms_at g bench.cells) i)) long_taken
-      (all_back g before mid after has.disks back returned
-      (λ i. IsDiskOfWhole rack t trails (arms_at g bench.cells) i) same (disk_of_whole (armed_by_play plays)))
+    -- and all disks were given back
+    pub whole_back : after.faults ≡ mid.faults → rack.all t.catalog.sites (λ i. IsDiskOfWhole rack t trails (arms_at g bench.cells) i)
+    whole_back same =
+        subst (λ (n : ℕ). rack.all n (λ i. IsDiskOfWhole rack t trails (arms_at g bench.cells) i)) long_taken
+        (all_back g before mid after has.disks back returned
+        (λ i. IsDiskOfWhole rack t trails (arms_at g bench.cells) i) same (disk_of_whole armed))
 
 -- ---- how a run ends
 
@@ -267,7 +253,7 @@ ends_with r command s holds holds' faults faults' trails told fault named ends s
 -- the end of a whole run whose report was not written whole
 pub ends_cut : (r : Racked) (command : Command) (s : Scenario) (holds holds' : Option (List ℕ)) (faults faults' : ℕ)
     (trails : List (List Entry)) (fault : Fault)
-    → IsWholeBack r s trails → IsWriteFault (written_by command s trails) holds holds' faults faults' fault
+    → IsWholeBack r command s trails → IsWriteFault (written_by command s trails) holds holds' faults faults' fault
     → EndsRun r command s holds holds' faults faults' trails (Some fault)
 ends_cut r command s holds holds' faults faults' trails Write run why = (run, why.0, why.1)
 ends_cut r command s holds holds' faults faults' trails Memory run why = (inr run.1.run, why)

@@ -3,6 +3,7 @@ pub mod Giving
 pub mod Early
 pub mod Causes
 pub mod Trails
+pub mod Driven
 pub mod Finished
 pub mod Runs
 pub mod Sure

@@ -1,5 +1,5 @@
 -- What the parts of a call of the program promise together.
-use Rattle.std.proofs.Common.{◌≡◌, ◌≢◌, ℕ, ◌<◌, List, [], ◌++◌, length, map, Bool, Option, Some, None, option_map, refl, ap, sym, ◌∙◌, subst, arith, inl, inr, ◌⊎◌}
+use Rattle.std.proofs.Common.{◌≡◌, ◌≢◌, ℕ, ◌<◌, List, [], ◌++◌, length, map, Option, Some, None, option_map, refl, ap, sym, ◌∙◌, subst, arith, inl, inr, ◌⊎◌}
 use Rattle.std.specs.Prelude.{String, string_bytes}
 use Rattle.std.specs.Global.{Global}
 use Rattle.std.proofs.lemmas.Bool.{cases_lt}
@@ -22,10 +22,10 @@ use Rattle.walter_cli.specs.Sources.{HasNoReading, IsTaken}
 use Rattle.walter_cli.specs.Headline.{Outside, IsRun, Runs, RunsWhole, Says, OfScenario, IsRackFault, IsFirstUnfit, FailsEarly, Promise}
 use Rattle.walter_cli.specs.Racks.{Racked, AreAllTold, Holds, IsUntouched, IsFaultlessBefore, HasCause}
 use Rattle.walter_cli.specs.Statuses.{status_of}
-use Rattle.walter_cli.specs.Words.{Asks, AskForNone, IsForText, IsPosed, IsWrong, Poses, written_by}
+use Rattle.walter_cli.specs.Words.{Asks, AskForNone, IsForText, IsPosed, IsRead, IsWrong, Poses, but_for_steps, written_by}
 use Rattle.walter_words.specs.Words.{AsksForText}
 use Rattle.walter_words.specs.declared.asked.Command.{Command}
-use Rattle.walter_words.specs.declared.asked.Command.TheVariants.{Play, Load, Say}
+use Rattle.walter_words.specs.declared.asked.Command.TheVariants.{Play, Run, Load, Say}
 use Rattle.walter_cli.proofs.Causes.{cause_has_record, one_cause}
 use Rattle.walter_cli.proofs.Giving.{of_both}
 
@@ -66,22 +66,35 @@ posed_one : (command : Command) (before after : Option (List ℕ)) (t s : Scenar
     → Poses command before s → t ≡ s
 posed_one (Play trace) before after t s posed poses =
     one_scenario poses.0 t s (taken_reading before after poses.0 t posed poses.1) poses.2
+posed_one (Run trace) before after t s posed poses =
+    let same = one_scenario poses.0 posed.0 poses.1 (taken_reading before after poses.0 posed.0 posed.1 poses.2) poses.3 in
+    posed.2 ∙ (ap but_for_steps same ∙ sym poses.4)
 posed_one (Load seed calls) before after t s posed poses = posed.0 ∙ sym poses
 posed_one (Say text) before after t s posed poses = absurd poses
 
--- what is to be played
-abbrev IsPlaying : Command → Type 0
-IsPlaying (Play trace) = Unit {0}
-IsPlaying (Load seed calls) = ⊥
-IsPlaying (Say text) = ⊥
+-- bytes that are read and pose a scenario have a reading
+poses_reading : (command : Command) (left : Option (List ℕ)) (s : Scenario) → IsRead command → Poses command left s
+    → (bytes : List ℕ) × (read : Scenario) × (left ≡ Some bytes) × IsReading bytes read
+poses_reading (Play trace) left s reads poses = (poses.0, s, poses.1, poses.2)
+poses_reading (Run trace) left s reads poses = (poses.0, poses.1, poses.2, poses.3)
+poses_reading (Load seed calls) left s reads poses = absurd reads
+poses_reading (Say text) left s reads poses = absurd reads
 
 -- bytes that have no reading pose nothing
-poses_none : (command : Command) (before after : Option (List ℕ)) (s : Scenario) (place : Place) → IsPlaying command
+poses_none : (command : Command) (before after : Option (List ℕ)) (s : Scenario) (place : Place) → IsRead command
     → Poses command before s → HasNoReading before after place → ⊥
-poses_none (Play trace) before after s place plays poses none =
-    read_nowhere_refused poses.0 s place poses.2 (none_wrong before after poses.0 place none poses.1)
-poses_none (Load seed calls) before after s place plays poses none = plays
-poses_none (Say text) before after s place plays poses none = plays
+poses_none command before after s place reads poses none =
+    let is = poses_reading command before s reads poses in
+    read_nowhere_refused is.0 is.1 place is.3 (none_wrong before after is.0 place none is.2)
+
+-- what was read and posed has a reading, which bytes that are told spell
+posed_reading : (command : Command) (before after : Option (List ℕ)) (bytes : List ℕ) (s : Scenario) → IsRead command
+    → IsPosed command before after s → before ≡ Some bytes → (read : Scenario) × IsReading bytes read
+posed_reading (Play trace) before after bytes s reads posed told = (s, taken_reading before after bytes s posed told)
+posed_reading (Run trace) before after bytes s reads posed told =
+    (posed.0, taken_reading before after bytes posed.0 posed.1 told)
+posed_reading (Load seed calls) before after bytes s reads posed told = absurd reads
+posed_reading (Say text) before after bytes s reads posed told = absurd reads
 
 -- the first site whose disk is unfit is one, for one cause
 one_unfit : (rack : Racked) (sites a b : ℕ) (c d : JournalCause) (p q : ℕ) → AreAllTold rack sites → b < sites
@@ -111,7 +124,7 @@ module _ (words : List (String Global)) (rack : Racked) (before after : Outside)
   module _ (command : Command) (line : Asks command words) (only : (other : Command) → Asks other words → other ≡ command) where
     -- what a run promises whatever came of what is written
     whole : (s : Scenario) (Written : List ℕ → Type 0) → IsPosed command before.left after.left s
-        → IsWholeBack rack s ended.trails.items → Written (written_by command s ended.trails.items)
+        → IsWholeBack rack command s ended.trails.items → Written (written_by command s ended.trails.items)
         → RunsWhole words rack before after ended.trails.items Written
     whole s Written posed run written = record {
       command = command;
@@ -129,7 +142,8 @@ module _ (words : List (String Global)) (rack : Racked) (before after : Outside)
     runs s posed run = record { command = command; asked = line; scenario = s; posed = posed; run = run }
 
     -- what holds of a scenario that was posed
-    spelled : (s : Scenario) (P : Scenario → Type 0) → IsPosed command before.left after.left s → P s → OfScenario words before after P
+    spelled : (s : Scenario) (P : Command → Scenario → Type 0) → IsPosed command before.left after.left s → P command s
+        → OfScenario words before after P
     spelled s P posed holds = record { command = command; asked = line; scenario = s; posed = posed; holds = holds }
 
     -- what was posed by any words is what was posed by these
@@ -146,7 +160,7 @@ module _ (words : List (String Global)) (rack : Racked) (before after : Outside)
     runs_if s taken (inl none) = inl none
     runs_if s taken (inr run) = inr (runs s taken run)
 
-    may_have_run : (s : Scenario) (site : ℕ) → IsRackFault rack s ended.trails.items site → MayHaveRun rack s ended.trails.items
+    may_have_run : (s : Scenario) (site : ℕ) → IsRackFault rack command s ended.trails.items site → MayHaveRun rack s ended.trails.items
     may_have_run s site (inl none) = inl (none.0, none.1)
     may_have_run s site (inr run) = inr run.1.run
 
@@ -155,16 +169,16 @@ module _ (words : List (String Global)) (rack : Racked) (before after : Outside)
     Tells None = RunsWhole words rack before after ended.trails.items (Appends before.holds after.holds)
     Tells (Some (Usage text)) = ⊥
     Tells (Some (ScenarioFault place detail)) =
-        HasNoReading before.left after.left place × (ended.trails.items ≡ []) × IsPlaying command
+        HasNoReading before.left after.left place × (ended.trails.items ≡ []) × IsRead command
     Tells (Some Read) = (before.source_faults < after.source_faults) × (ended.trails.items ≡ [])
     Tells (Some Write) =
         RunsWhole words rack before after ended.trails.items (AppendsFront before.holds after.holds)
         × (before.sink_faults < after.sink_faults)
     Tells (Some Memory) = Unit {0}
     Tells (Some (Rack site)) =
-        OfScenario words before after (λ s. (site < s.catalog.sites) × IsRackFault rack s ended.trails.items site)
+        OfScenario words before after (λ k s. (site < s.catalog.sites) × IsRackFault rack k s ended.trails.items site)
     Tells (Some (Journal site cause place)) =
-        OfScenario words before after (λ s. (site < s.catalog.sites) × IsFirstUnfit rack site cause place
+        OfScenario words before after (λ k s. (site < s.catalog.sites) × IsFirstUnfit rack site cause place
         × rack.each (IsFaultlessBefore site)) × (ended.trails.items ≡ [])
 
     -- so it is by the status
@@ -201,11 +215,11 @@ module _ (words : List (String Global)) (rack : Racked) (before after : Outside)
     no_trails (Some (Journal site cause place)) told is = inl told.1
 
     -- a fault of the rack that isn't the rack's own
-    early : (site : ℕ) (s : Scenario) → ¬ rack.failed → IsRackFault rack s ended.trails.items site
+    early : (site : ℕ) (k : Command) (s : Scenario) → ¬ rack.failed → IsRackFault rack k s ended.trails.items site
         → FailsEarly rack ended.trails.items
-    early site s ok (inl (none, untouched, inl take)) = absurd (ok take.failed)
-    early site s ok (inl (none, untouched, inr load)) = (none, (site, load.failed))
-    early site s ok (inr (arms, run, give)) = absurd (ok give.failed)
+    early site k s ok (inl (none, untouched, inl take)) = absurd (ok take.failed)
+    early site k s ok (inl (none, untouched, inr load)) = (none, (site, load.failed))
+    early site k s ok (inr (arms, run, give)) = absurd (ok give.failed)
 
     -- where nothing fails, a scenario that the bytes spell is run
     completes : (fault : Option Fault) → ended.status ≡ status_of fault → Tells fault → (s : Scenario)
@@ -223,7 +237,7 @@ module _ (words : List (String Global)) (rack : Racked) (before after : Outside)
         absurd (let rose = told.1 in omega (arith, rose, sink))
     completes (Some Memory) is told s poses known new source sink ok = inr (inl is)
     completes (Some (Rack site)) is told s poses known new source sink ok =
-        inr (inr (early site told.scenario ok told.holds.1))
+        inr (inr (early site told.command told.scenario ok told.holds.1))
     completes (Some (Journal site cause place)) is told s poses known new source sink ok =
         let is = told.0 in
         let same : is.scenario ≡ s =
@@ -290,8 +304,8 @@ module _ (words : List (String Global)) (rack : Racked) (before after : Outside)
 
     -- where the bytes are wrong at a place, it is named, or memory ran out
     abbrev Refuses : Type 0
-    Refuses = (trace : Bool) (bytes : List ℕ) (place : Place) → Asks (Play trace) words → before.left ≡ Some bytes → IsRefusedAt bytes place
-        → after.source_faults ≡ before.source_faults
+    Refuses = (other : Command) (bytes : List ℕ) (place : Place) → Asks other words → IsRead other → before.left ≡ Some bytes
+        → IsRefusedAt bytes place → after.source_faults ≡ before.source_faults
         → ((detail : Detail) × (ended.fault ≡ Some (ScenarioFault place detail))) ⊎ (ended.status ≡ 5)
 
     -- what words pose that ask for a run
@@ -328,9 +342,9 @@ module _ (words : List (String Global)) (rack : Racked) (before after : Outside)
 
     -- the bytes of a scenario that was taken are refused nowhere
     never : (s : Scenario) → IsPosed command before.left after.left s → Refuses
-    never s posed = λ trace bytes place asked left wrong source.
-        absurd (read_nowhere_refused bytes s place (taken_reading before.left after.left bytes s
-        (subst (λ (c : Command). IsPosed c before.left after.left s) (sym (only (Play trace) asked)) posed) left) wrong)
+    never s posed = λ other bytes place asked reads left wrong source.
+        let is = posed_reading command before.left after.left bytes s (subst IsRead (only other asked) reads) posed left in
+        absurd (read_nowhere_refused bytes is.0 place is.1 wrong)
 
     -- a run over a scenario that was posed
     pub promise_run : (s : Scenario) (fault : Option Fault) → ended.fault ≡ fault → IsPosed command before.left after.left s
@@ -348,11 +362,11 @@ module _ (words : List (String Global)) (rack : Racked) (before after : Outside)
         promise (Some Memory) named tt (λ not_done not_cut. ends.1) (runs_if s taken ends.0) (never s taken)
     promise_run s (Some (Rack site)) named taken ends =
         promise (Some (Rack site)) named
-        (spelled s (λ t. (site < t.catalog.sites) × IsRackFault rack t ended.trails.items site) taken (ends.0, ends.1))
+        (spelled s (λ k t. (site < t.catalog.sites) × IsRackFault rack k t ended.trails.items site) taken (ends.0, ends.1))
         (λ not_done not_cut. ends.2) (runs_if s taken (may_have_run s site ends.1)) (never s taken)
     promise_run s (Some (Journal site cause place)) named taken ends =
         promise (Some (Journal site cause place)) named (
-          spelled s (λ t. (site < t.catalog.sites) × IsFirstUnfit rack site cause place × rack.each (IsFaultlessBefore site)) taken
+          spelled s (λ k t. (site < t.catalog.sites) × IsFirstUnfit rack site cause place × rack.each (IsFaultlessBefore site)) taken
               (ends.2, ends.3, ends.4),
           ends.0.0,
         ) (λ not_done not_cut. ends.1)
@@ -362,28 +376,28 @@ module _ (words : List (String Global)) (rack : Racked) (before after : Outside)
     promise_run s (Some Read) named taken ends = absurd ends
 
     -- no scenario was taken
-    taken_not : (fault : Fault) → IsPlaying command → ended.fault ≡ Some fault → ended.trails.items ≡ [] → IsUntouched rack
+    taken_not : (fault : Fault) → IsRead command → ended.fault ≡ Some fault → ended.trails.items ≡ [] → IsUntouched rack
         → after.holds ≡ before.holds
         → IsTakeFault before.left after.left before.source_faults after.source_faults fault
         → Promise words rack before after ended
-    taken_not (ScenarioFault place detail) plays named none untouched same why =
-        promise (Some (ScenarioFault place detail)) named (why, none, plays) (λ not_done not_cut. same) (inl (none, untouched))
-        (λ trace bytes other asked left wrong source.
+    taken_not (ScenarioFault place detail) reads named none untouched same why =
+        promise (Some (ScenarioFault place detail)) named (why, none, reads) (λ not_done not_cut. same) (inl (none, untouched))
+        (λ k bytes other asked is_read left wrong source.
         inl (
           detail,
           named ∙ ap (λ (p : Place). Some (ScenarioFault p detail))
               (one_refused bytes place other (none_wrong before.left after.left bytes place why left) wrong),
         ))
-    taken_not Read plays named none untouched same why =
+    taken_not Read reads named none untouched same why =
         promise (Some Read) named (why, none) (λ not_done not_cut. same) (inl (none, untouched))
-        (λ trace bytes place asked left wrong source. absurd (omega (arith, why, source)))
-    taken_not Memory plays named none untouched same why =
+        (λ k bytes place asked is_read left wrong source. absurd (omega (arith, why, source)))
+    taken_not Memory reads named none untouched same why =
         promise (Some Memory) named tt (λ not_done not_cut. same) (inl (none, untouched))
-        (λ trace bytes place asked left wrong source. inr (status ∙ ap status_of named))
-    taken_not (Usage text) plays named none untouched same why = absurd why
-    taken_not Write plays named none untouched same why = absurd why
-    taken_not (Rack site) plays named none untouched same why = absurd why
-    taken_not (Journal site cause place) plays named none untouched same why = absurd why
+        (λ k bytes place asked is_read left wrong source. inr (status ∙ ap status_of named))
+    taken_not (Usage text) reads named none untouched same why = absurd why
+    taken_not Write reads named none untouched same why = absurd why
+    taken_not (Rack site) reads named none untouched same why = absurd why
+    taken_not (Journal site cause place) reads named none untouched same why = absurd why
 
     -- no scenario was posed
     pub promise_fault : (fault : Fault) → ended.fault ≡ Some fault → ended.trails.items ≡ [] → IsUntouched rack
@@ -395,11 +409,11 @@ module _ (words : List (String Global)) (rack : Racked) (before after : Outside)
         by : (other : Command) → other ≡ command
             → IsPoseFault other before.left after.left before.source_faults after.source_faults fault
             → Promise words rack before after ended
-        by (Play trace) is why =
-            taken_not fault (subst (λ (c : Command). IsPlaying c) is tt) named none untouched same why
+        by (Play trace) is why = taken_not fault (subst IsRead is tt) named none untouched same why
+        by (Run trace) is why = taken_not fault (subst IsRead is tt) named none untouched same why
         by (Load seed calls) is why =
             promise (Some Memory) (named ∙ ap (λ f. Some f) why.0) tt (λ not_done not_cut. same) (inl (none, untouched))
-            (λ trace bytes place asked left wrong source. inr (status ∙ ap status_of (named ∙ ap (λ f. Some f) why.0)))
+            (λ k bytes place asked is_read left wrong source. inr (status ∙ ap status_of (named ∙ ap (λ f. Some f) why.0)))
         by (Say text) is why = absurd why
 
   -- ---- no run was begun
@@ -430,7 +444,7 @@ module _ (words : List (String Global)) (rack : Racked) (before after : Outside)
           legal_trails = inl (none, untouched);
           no_trails = inl none;
           complete = λ command s asked poses known new source sink ok. inr (inl is);
-          refuses = λ trace bytes place asked left wrong source. inr is;
+          refuses = λ k bytes place asked is_read left wrong source. inr is;
         }
 
     module _ (nothing : AskForNone words) where
@@ -458,7 +472,7 @@ module _ (words : List (String Global)) (rack : Racked) (before after : Outside)
             legal_trails = inl (none, untouched);
             no_trails = inl none;
             complete = λ command s asked. absurd (nothing command asked);
-            refuses = λ trace bytes place asked. absurd (nothing (Play trace) asked);
+            refuses = λ k bytes place asked. absurd (nothing k asked);
           }
 
       says : (text : List ℕ) (Written : List ℕ → Type 0) → Written text → Says words rack before after ended.trails.items Written
@@ -495,7 +509,7 @@ module _ (words : List (String Global)) (rack : Racked) (before after : Outside)
             legal_trails = inl (none, untouched);
             no_trails = inl none;
             complete = λ command s asked. absurd (nothing command asked);
-            refuses = λ trace bytes place asked. absurd (nothing (Play trace) asked);
+            refuses = λ k bytes place asked. absurd (nothing k asked);
           }
       promise_text text (Some Write) named asks ends =
           let is : ended.status ≡ 4 = status ∙ ap status_of named in
@@ -518,7 +532,7 @@ module _ (words : List (String Global)) (rack : Racked) (before after : Outside)
             legal_trails = inl (none, untouched);
             no_trails = inl none;
             complete = λ command s asked. absurd (nothing command asked);
-            refuses = λ trace bytes place asked. absurd (nothing (Play trace) asked);
+            refuses = λ k bytes place asked. absurd (nothing k asked);
           }
       promise_text text (Some Memory) named asks ends = absurd ends
       promise_text text (Some Read) named asks ends = absurd ends

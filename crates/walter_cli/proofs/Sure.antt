@@ -7,8 +7,7 @@ use Rattle.std.proofs.lemmas.List.Elements.{All-contains}
 use Rattle.walter_disk.specs.declared.disk.Disk.{Ghosts}
 use Rattle.walter_engine.specs.Begins.{HasNoRecord}
 use Rattle.walter_cluster.proofs.Changes.{there_is}
-use Rattle.walter_play.proofs.Steps.{plays_told}
-use Rattle.walter_play.specs.Scripts.{all_arms, all_steps}
+use Rattle.walter_play.specs.Scripts.{all_arms}
 use Rattle.walter_scenario.specs.declared.scenario.Scenario.{Scenario}
 use Rattle.walter_stream.specs.Streams.{Appends, AppendsFront}
 use Rattle.walter_cli.specs.declared.ended.Ended.{Ended}
@@ -19,8 +18,10 @@ use Rattle.walter_cli.specs.Assurance.{Assures, IsSureRun, IsSureReport}
 use Rattle.walter_cli.specs.Headline.{Outside, Says, IsDiskOfRun, Runs, RunsWhole, IsRackFault, FailsEarly, Promise}
 use Rattle.walter_cli.specs.Racks.{RackAt, Racked, OfADisk, IsTold, Holds, AreSo, AreFirst, IsHanded, IsUntouched, IsUnarmed, HasFailed, HasCause, racked}
 use Rattle.walter_cli.specs.Statuses.{status_of}
+use Rattle.walter_words.specs.declared.asked.Command.{Command}
 use Rattle.walter_cli.proofs.Wholes.{posed_some}
 use Rattle.walter_cli.proofs.Causes.{cause_has_record}
+use Rattle.walter_cli.proofs.Driven.{driven_by_fewer}
 use Rattle.walter_cli.proofs.Giving.{of_both, numbered_has}
 
 none_of_none : {X : Type 0} (arms : Option (List X)) (all : List X) → all ≡ []
@@ -93,10 +94,10 @@ module _ (words : List (String Global)) {D : Type 0} (g : Ghosts D) (first last 
       ]
 
   -- so no disk is named
-  racked_never : (site : ℕ) (s : Scenario) → IsRackFault rack s ended.trails.items site → ⊥
-  racked_never site s (inl (none, untouched, inl take)) = ok take.failed
-  racked_never site s (inl (none, untouched, inr load)) = never (none, (site, load.failed))
-  racked_never site s (inr (arms, run, give)) = ok give.failed
+  racked_never : (site : ℕ) (command : Command) (s : Scenario) → IsRackFault rack command s ended.trails.items site → ⊥
+  racked_never site command s (inl (none, untouched, inl take)) = ok take.failed
+  racked_never site command s (inl (none, untouched, inr load)) = never (none, (site, load.failed))
+  racked_never site command s (inr (arms, run, give)) = ok give.failed
 
   sure : Runs words rack before after ended.trails.items → IsSureRun words rack before after ended.trails.items
   sure runs = record {
@@ -134,15 +135,8 @@ module _ (words : List (String Global)) {D : Type 0} (g : Ghosts D) (first last 
     });
     arms = is.arms;
     disks = is.disks_given_back;
-    how_driven = record {
-      first = is.run.how_driven.first;
-      last = is.run.how_driven.last;
-      begins = is.run.how_driven.begins;
-      plays = plays_told (λ i. IsTold rack i) (λ i. Unit {0}) is.scenario (all_steps is.scenario) _ _ (λ i all. told i)
-          is.run.how_driven.plays;
-      ends = is.run.how_driven.ends;
-      arms_are = is.run.how_driven.arms_are;
-    };
+    how_driven = driven_by_fewer is.command (λ i. IsTold rack i) (λ i. Unit {0}) is.scenario ended.trails.items is.arms (λ i all. told i)
+        is.run.how_driven;
     bytes_written = is.bytes_written;
   }
 
@@ -165,7 +159,7 @@ module _ (words : List (String Global)) {D : Type 0} (g : Ghosts D) (first last 
     never_unracked = λ h.
         let named = rack_of ended.fault (sym promised.status ∙ h) in
         let why = promised.unracked named.0 named.1 in
-        racked_never named.0 why.scenario why.holds.1;
+        racked_never named.0 why.command why.scenario why.holds.1;
     never_unfit = λ h.
         let named = journal_of ended.fault (sym promised.status ∙ h) in
         let why = (promised.unfit named.0 named.1 named.2 named.3).holds.1 in
@@ -201,5 +195,5 @@ assured_early words rack at ended back untouched is named none = record {
   legal_trails = inl (none, untouched);
   silent = λ not_done not_cut. refl;
   complete = λ command s asked poses source sink. inr is;
-  refuses = λ trace bytes place asked left wrong source. inr is;
+  refuses = λ command bytes place asked reads left wrong source. inr is;
 }

@@ -1,23 +1,25 @@
 -- The scenario that is run can be played.
-use Rattle.std.proofs.Common.{◌≡◌, ◌<◌, ◌+◌, ◌-◌, ℕ, List, Option, Some, None, slice_get, refl, ap, sym, ◌∙◌, subst, arith}
+use Rattle.std.proofs.Common.{◌≡◌, ◌<◌, ◌+◌, ◌-◌, ◌^◌, ℕ, List, Option, Some, None, length, slice_get, refl, ap, sym, ◌∙◌, subst, arith}
 use Rattle.std.proofs.lemmas.List.FromFn.{get_or-map-range_with_len, length-map-range_with_len}
 use Rattle.std.proofs.lemmas.Option.{slice_get-get_or, slice_get_within}
 use Rattle.std.specs.List.{range_with_len}
 use Rattle.std.specs.Prelude.{All, map}
 use Rattle.std.proofs.Math.Nat.{mod-lt}
 use Rattle.std.proofs.lemmas.List.Elements.{All-nil}
-use Rattle.walter_scenario.specs.Parts.{IsArm, IsCapacity}
+use Rattle.walter_scenario.proofs.Sent.{all_sites}
+use Rattle.walter_scenario.specs.Parts.{IsArm, IsCapacity, IsStep, IsThreads}
 use Rattle.walter_scenario.specs.declared.scenario.Arm.{Arm}
 use Rattle.walter_base.specs.Catalogs.{AreRight, Item, falls, nowhere, too_many}
 use Rattle.walter_linked.proofs.Catalogs.{right_whole}
 use Rattle.walter_linked.specs.Catalogs.{IsWhole}
-use Rattle.walter_make.specs.Made.{made_catalog, made_container}
+use Rattle.walter_make.specs.Calls.{made_calls}
+use Rattle.walter_make.specs.Made.{made, made_catalog, made_client, made_container}
 use Rattle.walter_scenario.specs.declared.scenario.Scenario.{Scenario}
-use Rattle.walter_scenario.specs.Scenarios.{GivesArms, GivesCapacity, IsReading}
+use Rattle.walter_scenario.specs.Scenarios.{GivesArms, GivesCapacity, GivesThreads, IsReading}
 use Rattle.walter_words.specs.declared.asked.Command.{Command}
-use Rattle.walter_words.specs.declared.asked.Command.TheVariants.{Play, Load, Say}
-use Rattle.walter_cli.specs.Ending.{IsPlayable}
-use Rattle.walter_cli.specs.Words.{IsPosed}
+use Rattle.walter_words.specs.declared.asked.Command.TheVariants.{Play, Run, Load, Say}
+use Rattle.walter_cli.specs.Ending.{HasStepsFor, IsPlayable}
+use Rattle.walter_cli.specs.Words.{IsPosed, but_for_steps}
 
 -- ---- a reading
 
@@ -29,15 +31,20 @@ by_key Gives Holds none some (Some v) gives = some v gives
 
 pub reading_playable : (bytes : List ℕ) (s : Scenario) → IsReading bytes s → IsPlayable s
 reading_playable bytes s reading =
-    let capacity = reading.has_arms.has_threads.has_ticks.has_link.has_capacity in
-    let containers = capacity.has_clients.has_containers in
+    let threads = reading.has_arms.has_threads in
+    let capacity = threads.has_ticks.has_link.has_capacity in
+    let clients = capacity.has_clients in
+    let containers = clients.has_containers in
     let tolerated = containers.has_tolerated in
     record {
       some = tolerated.has_sites.some;
       few = tolerated.has_sites.most;
       fewer = tolerated.fewer;
       whole = right_whole s.catalog reading.declared containers.are.right reading.containers;
-      within = capacity.has_clients.are.within;
+      within = clients.are.within;
+      clients = let few = all_sites s.catalog.sites clients.values s.clients clients.are in let most = tolerated.has_sites.most in omega (arith, few, most);
+      threads = by_key (λ o. GivesThreads o s.threads) (IsThreads s.threads) (λ is. (omega (arith, is), omega (arith, is)))
+          (λ v is. is.1) _ threads.given;
       capacity = by_key (λ o. GivesCapacity o s.capacity) (IsCapacity s.capacity) (λ is. (omega (arith, is), omega (arith, is)))
           (λ v is. is.1) _ capacity.given;
       arms = by_key (λ o. GivesArms s.catalog.sites o s.arms) (All (IsArm s.catalog.sites) s.arms)
@@ -45,6 +52,21 @@ reading_playable bytes s reading =
           (λ v is. is.2.within) _ reading.has_arms.given;
       steps = reading.are.within;
     }
+
+-- what can be played can be but for its steps
+pub playable_but_for_steps : (s : Scenario) → IsPlayable s → IsPlayable (but_for_steps s)
+playable_but_for_steps s is = record {
+  some = is.some;
+  few = is.few;
+  fewer = is.fewer;
+  whole = is.whole;
+  within = is.within;
+  clients = is.clients;
+  threads = is.threads;
+  capacity = is.capacity;
+  arms = is.arms;
+  steps = All-nil (IsStep s.catalog.sites (length s.clients));
+}
 
 -- ---- the containers that are made
 
@@ -76,8 +98,24 @@ made_right place within (nowhere here at most) =
 pub made_whole : IsWhole made_catalog
 made_whole = right_whole made_catalog made_items made_right refl
 
+-- the clients are six
+pub made_few : (seed calls : ℕ) → length (made seed calls).clients < 2 ^ 32
+made_few seed calls = let long = length-map-range_with_len (made_client (made_calls seed calls)) 0 6 in omega (arith, long)
+
+-- ---- what is posed
+
 -- a scenario that is posed has a site
 pub posed_some : (command : Command) (before after : Option (List ℕ)) (s : Scenario) → IsPosed command before after s → 0 < s.catalog.sites
 posed_some (Play trace) before after s posed = (reading_playable posed.bytes s posed.reading).some
+posed_some (Run trace) before after s posed =
+    subst (λ (t : Scenario). 0 < t.catalog.sites) (sym posed.2) (reading_playable posed.1.bytes posed.0 posed.1.reading).some
 posed_some (Load seed calls) before after s posed = subst (λ (t : Scenario). 0 < t.catalog.sites) (sym posed.0) (omega arith)
 posed_some (Say text) before after s posed = absurd posed
+
+-- and no steps where threads drive it
+pub posed_steps : (command : Command) (before after : Option (List ℕ)) (s : Scenario) → IsPosed command before after s
+    → HasStepsFor command s
+posed_steps (Play trace) before after s posed = tt
+posed_steps (Run trace) before after s posed = ap (λ (t : Scenario). t.steps) posed.2
+posed_steps (Load seed calls) before after s posed = tt
+posed_steps (Say text) before after s posed = posed

@@ -8,6 +8,7 @@ use Rattle.walter_cli.specs.Words.{Asks, AskForNone}
 use Rattle.walter_cli.proofs.Early.{untouched_before}
 use Rattle.walter_cli.proofs.Giving.{none_balances, one_count}
 use Rattle.walter_cli.proofs.Runs.{promise_run, promise_fault, promise_text, promise_usage}
+use Rattle.walter_cli.proofs.Wholes.{posed_steps}
 use Rattle.walter_cli.proofs.program.top.Goals as goal
 
 -- what is wrong with the words
@@ -33,6 +34,10 @@ returns-in-Ok-Say g c =
     (none_balances g.R.D.Disk at at refl refl refl (omega arith)) (λ many rose. omega (arith, rose)) (one_count g.R.D.Disk at at)
     c.say.ensures.trails (untouched_before g.R.D.Disk at at refl) (refl, refl) nothing (string_bytes c.in-Ok-Say.text) c.say.result.fault refl
     (rw is at c.in-Ok-Say.ensures.follows) c.say.ensures.ends
+
+-- threads are given no steps
+pub run-requires-clause-driven : goal.run-requires-clause-driven
+run-requires-clause-driven g c = λ lifetimes outlive. posed_steps c.in-Ok.command _ _ c.in-Ok-pose.scenario c.in-Ok-pose.ensures.ok
 
 -- a run
 pub returns-in-Ok-pose : goal.returns-in-Ok-pose

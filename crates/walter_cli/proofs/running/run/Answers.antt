@@ -1,7 +1,7 @@
 use Rattle.std.proofs.Common.{◌≡◌, ◌≤◌, List, Some, None, Vec, Global, false, inr, subst, ap, sym, refl, ◌∙◌, arith}
 use Rattle.std.specs.Result.{is_err}
-use Rattle.walter_cluster.proofs.Keeping.{of_kept}
-use Rattle.walter_cluster.specs.Benches.{arms_at}
+use Rattle.walter_cluster.proofs.Keeping.{of_each}
+use Rattle.walter_cluster.specs.Benches.{IsOf, arms_at}
 use Rattle.walter_report.specs.Reports.{HaveFrames}
 use Rattle.walter_report.specs.Traces.{HaveSpellings}
 use Rattle.walter_rules.specs.declared.entry.Entry.{Entry}
@@ -42,43 +42,43 @@ module _ (g : Over) (c : After-give_all-given g) where
 
   run : IsRun rack c.args.scenario.now trails
   run =
-      let played = c.play-played.ensures in
+      let driven = c.drive-bench.ensures in
       let closed = c.close-trails.ensures in
-      run_is g.R.D.Disk c.args.scenario.now before mid after c.in-Ok.bench c.play-played.new.bench
-      c.close-trails.result.disks.items trails built played.keeps closed.bench closed.sound played.arms
+      run_is g.R.D.Disk c.args.scenario.now before mid after c.in-Ok.bench c.drive-bench.result.0
+      c.close-trails.result.disks.items trails built driven.cells driven.homes closed.bench closed.sound driven.arms
       closed.gives.trails closed.gives.disks closed.linked c.give_all-given.ensures.given c.requires.whole
 
   -- where it was driven to its end, it is a whole run
-  whole : is_err c.play-played.result ≡ false
-      → IsWholeRun rack c.args.scenario.now trails (arms_at g.R.D.Disk c.play-played.new.bench.cells)
+  whole : is_err c.drive-bench.result.1 ≡ false
+      → IsWholeRun rack c.args.command.now c.args.scenario.now trails (arms_at g.R.D.Disk c.drive-bench.result.0.cells)
   whole to_end =
-      let played = c.play-played.ensures in
+      let driven = c.drive-bench.ensures in
       let closed = c.close-trails.ensures in
-      whole_is g.R.D.Disk c.args.scenario.now before mid after c.in-Ok.bench c.play-played.new.bench
-      c.close-trails.result.disks.items trails built played.keeps closed.bench closed.sound played.arms
-      closed.gives.trails closed.gives.disks closed.linked c.give_all-given.ensures.given c.requires.whole
-      (ok_part c.play-played.result _ played.played to_end)
+      whole_is g.R.D.Disk c.args.scenario.now before mid after c.in-Ok.bench c.drive-bench.result.0
+      c.close-trails.result.disks.items trails built driven.cells driven.homes closed.bench closed.sound driven.arms
+      closed.gives.trails closed.gives.disks closed.linked c.give_all-given.ensures.given c.args.command.now
+      (ok_part c.drive-bench.result.1 _ driven.driven to_end) c.requires.whole
 
   -- where the rack didn't fail either, all disks were given back
-  whole_back : is_err c.play-played.result ≡ false → g.R.Rack.faults c.give_all-given.new.rack ≡ g.R.Rack.faults c.build_over.new.rack
-      → IsWholeBack rack c.args.scenario.now trails
+  whole_back : is_err c.drive-bench.result.1 ≡ false → g.R.Rack.faults c.give_all-given.new.rack ≡ g.R.Rack.faults c.build_over.new.rack
+      → IsWholeBack rack c.args.command.now c.args.scenario.now trails
   whole_back to_end same =
-      let played = c.play-played.ensures in
+      let driven = c.drive-bench.ensures in
       let closed = c.close-trails.ensures in (
-        arms_at g.R.D.Disk c.play-played.new.bench.cells,
+        arms_at g.R.D.Disk c.drive-bench.result.0.cells,
         whole to_end,
-        all_back_armed g.R.D.Disk c.args.scenario.now before mid after c.in-Ok.bench c.play-played.new.bench
-            c.close-trails.result.disks.items trails built played.keeps closed.bench closed.sound played.arms
-            closed.gives.trails closed.gives.disks closed.linked c.give_all-given.ensures.given
-            (ok_part c.play-played.result _ played.played to_end) same,
+        all_back_armed g.R.D.Disk c.args.scenario.now before mid after c.in-Ok.bench c.drive-bench.result.0
+            c.close-trails.result.disks.items trails built driven.cells driven.homes closed.bench closed.sound driven.arms
+            closed.gives.trails closed.gives.disks closed.linked c.give_all-given.ensures.given c.args.command.now
+            (ok_part c.drive-bench.result.1 _ driven.driven to_end) same,
       )
 
   came_back : IsReturned g.R.D.Disk before mid after built.disks c.close-trails.result.disks.items
   came_back =
-      let played = c.play-played.ensures in
+      let driven = c.drive-bench.ensures in
       let closed = c.close-trails.ensures in
-      returned g.R.D.Disk c.args.scenario.now before mid after c.in-Ok.bench c.play-played.new.bench
-      c.close-trails.result.disks.items trails built played.keeps closed.bench closed.sound played.arms
+      returned g.R.D.Disk c.args.scenario.now before mid after c.in-Ok.bench c.drive-bench.result.0
+      c.close-trails.result.disks.items trails built driven.cells driven.homes closed.bench closed.sound driven.arms
       closed.gives.trails closed.gives.disks closed.linked c.give_all-given.ensures.given
 
   back : rack.balanced
@@ -91,16 +91,20 @@ module _ (g : Over) (c : After-give_all-given g) where
       sure_back g.R.D.Disk before mid after built.disks c.close-trails.result.disks.items built.taken
       c.give_all-given.ensures.given came_back.long (omega (arith, few, many)) enough
 
+  -- the bench that comes back is the scenario's
+  is_of : IsOf c.args.scenario.now c.drive-bench.result.0
+  is_of =
+      let driven = c.drive-bench.ensures in
+      of_each g.R.D.Disk c.in-Ok.bench c.drive-bench.result.0 driven.cells c.args.scenario.now driven.homes built.of
+
   short : HaveFrames trails
   short = subst HaveFrames (sym c.close-trails.ensures.gives.trails)
-      (frames g.R.D.Disk c.args.scenario.now c.play-played.new.bench
-      (of_kept g.R.D.Disk c.in-Ok.bench c.play-played.new.bench c.play-played.ensures.keeps c.args.scenario.now built.of)
+      (frames g.R.D.Disk c.args.scenario.now c.drive-bench.result.0 is_of
       c.close-trails.ensures.bench c.close-trails.ensures.sound)
 
   spelled : HaveSpellings trails
   spelled = subst HaveSpellings (sym c.close-trails.ensures.gives.trails)
-      (spellings g.R.D.Disk c.args.scenario.now c.play-played.new.bench
-      (of_kept g.R.D.Disk c.in-Ok.bench c.play-played.new.bench c.play-played.ensures.keeps c.args.scenario.now built.of)
+      (spellings g.R.D.Disk c.args.scenario.now c.drive-bench.result.0 is_of
       c.close-trails.ensures.bench c.close-trails.ensures.sound)
 
 pub returns-then-is_err-clause-given_back : goal.returns-then-is_err-clause-given_back
@@ -142,7 +146,7 @@ returns-in-Err-given-clause-run g c =
     ends_with _ c.args.command.now c.args.scenario.now _ _ _ _ (trails g at) _ (Some (Rack c.in-Err-given.site)) _ (
       omega (arith, within, long, many),
       inr (
-        arms_at g.R.D.Disk c.play-played.new.bench.cells,
+        arms_at g.R.D.Disk c.drive-bench.result.0.cells,
         whole g at (sym c.is_err.ensures.value ∙ c.if-is_err.false),
         fails_to_give g.R.D.Disk (before g at) (mid g at) (after g at) (built g at).disks c.close-trails.result.disks.items back
             c.in-Err-given.site lost,

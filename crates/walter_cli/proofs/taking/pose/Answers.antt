@@ -1,9 +1,10 @@
-use Rattle.std.proofs.Common.{sym, subst, arith}
+use Rattle.std.proofs.Common.{◌<◌, ◌^◌, length, sym, subst, arith}
 use Rattle.std.proofs.lemmas.Result.{IfOk-weaker}
 use Rattle.walter_linked.specs.Catalogs.{IsWhole}
-use Rattle.walter_scenario.specs.Parts.{IsCapacity}
+use Rattle.walter_scenario.specs.Parts.{IsCapacity, IsThreads}
 use Rattle.walter_scenario.specs.declared.scenario.Scenario.{Scenario}
-use Rattle.walter_cli.proofs.Wholes.{made_whole, reading_playable}
+use Rattle.walter_cli.specs.Ending.{IsPlayable}
+use Rattle.walter_cli.proofs.Wholes.{made_few, made_whole, playable_but_for_steps, reading_playable}
 use Rattle.walter_cli.proofs.taking.pose.Goals as goal
 
 pub make-requires : goal.make-requires
@@ -13,6 +14,15 @@ pub returns-in-Play-clause-playable : goal.returns-in-Play-clause-playable
 returns-in-Play-clause-playable g c =
     IfOk-weaker c.take_scenario.result _ _ (λ s taken. reading_playable taken.bytes s taken.reading) c.take_scenario.ensures.ok
 
+-- threads drive what was read but for its steps
+pub returns-in_ok-take_scenario-in-Run-clause-ok : goal.returns-in_ok-take_scenario-in-Run-clause-ok
+returns-in_ok-take_scenario-in-Run-clause-ok g c = rw c.in-Run.is (c.in_ok-take_scenario-in-Run.field-0, c.in_ok-take_scenario-in-Run.ensures.ok, c.without_steps.ensures)
+
+pub returns-in_ok-take_scenario-in-Run-clause-playable : goal.returns-in_ok-take_scenario-in-Run-clause-playable
+returns-in_ok-take_scenario-in-Run-clause-playable g c =
+    let taken = c.in_ok-take_scenario-in-Run.ensures.ok in
+    subst IsPlayable (sym c.without_steps.ensures) (playable_but_for_steps _ (reading_playable taken.bytes _ taken.reading))
+
 pub returns-in-Ok-clause-playable : goal.returns-in-Ok-clause-playable
 returns-in-Ok-clause-playable g c =
     let made = c.in-Ok.ensures in record {
@@ -21,6 +31,8 @@ returns-in-Ok-clause-playable g c =
       fewer = made.fewer;
       whole = subst (λ (t : Scenario). IsWhole t.catalog) (sym made.made) made_whole;
       within = made.within;
+      clients = subst (λ (t : Scenario). length t.clients < 2 ^ 32) (sym made.made) (made_few c.in-Load.seed c.in-Load.calls);
+      threads = subst (λ (t : Scenario). IsThreads t.threads) (sym made.made) (omega arith, omega arith);
       capacity = subst (λ (t : Scenario). IsCapacity t.capacity) (sym made.made) (omega arith, omega arith);
       arms = made.arms;
       steps = made.steps;
