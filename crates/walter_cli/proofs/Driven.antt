@@ -53,10 +53,10 @@ threads_drive command trace told fails t old new is has never driven armed =
 -- the steps that were taken are what every other run asks for
 pub steps_drive : (command : Command) (told : ℕ → Type 0) (t : Scenario) (old new : Moment) → ¬ IsText command
     → ((trace : Bool) → command ≡ Run trace → ⊥) → EndsPlay told t old new → Drives command told t old new
-steps_drive (Play trace) told t old new runs plays_it plays = plays
-steps_drive (Run trace) told t old new runs plays_it plays = absurd (plays_it trace refl)
-steps_drive (Load seed calls) told t old new runs plays_it plays = plays
-steps_drive (Say text) told t old new runs plays_it plays = absurd (runs tt)
+steps_drive (Play trace) told t old new no_text no_run plays = plays
+steps_drive (Run trace) told t old new no_text no_run plays = absurd (no_run trace refl)
+steps_drive (Load seed calls) told t old new no_text no_run plays = plays
+steps_drive (Say text) told t old new no_text no_run plays = absurd (no_text tt)
 
 -- steps that were taken from the first moment on make the trails and the arms of the last
 played_from : (told : ℕ → Type 0) (t : Scenario) (first last : Moment) (trails : List (List Entry)) (arms : ArmsOfSites)

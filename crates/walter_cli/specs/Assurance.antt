@@ -1,6 +1,6 @@
 -- What a user of the program may rest on: a call over disks in memory, which tell what they hold and fail only
 -- where the scenario arms them. Nothing here has a premise on disks.
-use Rattle.std.specs.Prelude.{◌≡◌, ◌≢◌, ◌<◌, ◌⊎◌, ℕ, Bool, List, [], count_by, map, Some, String, string_bytes}
+use Rattle.std.specs.Prelude.{◌≡◌, ◌≢◌, ◌<◌, ◌⊎◌, ℕ, List, [], count_by, map, Some, String, string_bytes}
 use Rattle.std.specs.Global.{Global}
 use Rattle.walter_disk_memory.specs.MemoryRacks.{RackState, rack_of}
 use Rattle.walter_disk_memory.specs.contracts.memory_disk.MemoryDiskDisk.TheImpl.{ghosts as disk_ghosts}

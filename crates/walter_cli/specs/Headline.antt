@@ -1,5 +1,5 @@
 -- What a run of the program promises, on one page.
-use Rattle.std.specs.Prelude.{◌≡◌, ◌≢◌, ◌<◌, ◌≤◌, ◌⊎◌, ℕ, Bool, List, [], ◌∷◌, length, map, reverse, count_by, ◌++◌, slice_get, Option, Some, IfSome, String, string_bytes, All}
+use Rattle.std.specs.Prelude.{◌≡◌, ◌≢◌, ◌<◌, ◌≤◌, ◌⊎◌, ℕ, List, [], ◌∷◌, length, map, reverse, count_by, ◌++◌, slice_get, Option, Some, IfSome, String, string_bytes, All}
 use Rattle.std.specs.Global.{Global}
 use Rattle.walter_base.specs.declared.names.SiteId.{SiteId}
 use Rattle.walter_cell.specs.Entries.{HaveRisingStamps}

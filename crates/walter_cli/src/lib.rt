@@ -1,4 +1,4 @@
-//! The program: reads a scenario or makes one, plays it, and writes what came of it.
+//! The program: reads a scenario or makes one, plays it or lets threads run it, and writes what came of it.
 #![tactic(auto)]
 
 mod disks;
