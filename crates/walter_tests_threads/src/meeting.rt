@@ -1,7 +1,4 @@
 //! Two who wait for each other: only two threads at once come past that.
-ghost use Rattle.std.specs.Prelude.{◌≡◌, ◌≤◌, length, take, min, Some, IfOk};
-ghost use Rattle.walter_stream.specs.Streams.{AtEnd, TakesFront};
-
 use std::sync::atomic::{AtomicBool, Ordering};
 use std::thread::yield_now;
 use walter_stream::{BytesSource, Failed, Source};
@@ -95,10 +92,7 @@ impl Source for MeetingSource<'_> {
 
     ghost left = { λ s. Some s.source };
 
-    fn read(&mut self, into: &mut [u8]) -> Result<usize, Failed>
-        ensures count { result ≡ Ok (min (length self.old.source) (length into.old)) }
-        ensures taken { IfOk result (λ n. TakesFront (Some self.old.source) (Some self.new.source) (take n into.new)) }
-    {
+    fn read(&mut self, into: &mut [u8]) -> Result<usize, Failed> {
         self.meeting.come(self.number);
         self.source.read(into)
     }

@@ -95,7 +95,7 @@ fn push_link(random: &mut Pcg32, text: &mut String, sites: u32) -> Mem<()>
     Ok(())
 }
 
-/// A scenario of up to eleven clients.
+/// A scenario of up to six clients.
 fn scenario_of(alloc: Global, seed: u64) -> Mem<String> {
     let mut random = Pcg32::new(seed, 1);
     let mut text = String::new(alloc);
@@ -109,7 +109,7 @@ fn scenario_of(alloc: Global, seed: u64) -> Mem<String> {
     )?;
     push_link(&mut random, &mut text, sites)?;
     text.push_str("\"clients\":[")?;
-    let clients = below(&mut random, 12);
+    let clients = below(&mut random, 7);
     push_clients(&mut random, &mut text, sites, clients)?;
     text.push_str("],\"arms\":[")?;
     let arms = below(&mut random, 3);

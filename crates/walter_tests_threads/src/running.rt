@@ -20,7 +20,8 @@ pub(crate) fn run(
     let words = vec![in alloc; String::from_str(alloc, "run")?]?;
     let mut source = BytesSource::from(scenario.as_bytes().to_vec(alloc)?);
     let mut sink = MemorySink::with_room(alloc, 1_000_000, Vec::new(alloc))?;
-    let (Ended { status, trails, .. }, _rack) = top_in_memory(rt, &words, &mut source, &mut sink);
+    let (ended, _rack) = top_in_memory(rt, &words, &mut source, &mut sink);
+    let Ended { status, trails, .. } = ended;
     if status != 0 {
         bail!("the program ends with the status {status}");
     }
