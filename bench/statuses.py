@@ -2,9 +2,9 @@
 """Runs the program on wrong inputs, and compares how each run ends with what is wanted: its status, what it wrote on
 standard error and, where that can be read, on standard output. Prints a line for each case, and ends with status 1
 where one differs. With --model the plain model is run in its place, which is to end in the same ways, but for `run`, which
-it hasn't: its own name stands in front of what it says. Of wrong words only the status and the front of what is said are compared: `./walter`
-says how it is used, the program has the text of clap, and the model its own. With --program a part of that text is
-looked for too, and the texts of help and version are asked for.
+it hasn't: its own name stands in front of what it says. Of wrong words only the status and the front of what is said are
+compared: `./walter` says how it is used, the program has the text of clap, and the model its own. With --program a part of
+that text is looked for too, and the texts of help and version are asked for.
 """
 
 import argparse

@@ -105,6 +105,16 @@ def tool(name):
     return module
 
 
+def run_bench(module, *words):
+    """Runs a command of bench/ in this process: its status or its fault, and what it wrote."""
+    out = io.StringIO()
+    with mock.patch.object(sys, "argv", [f"{module.__name__}.py", *words]), contextlib.redirect_stdout(out):
+        try:
+            return module.main(), out.getvalue()
+        except SystemExit as end:
+            return end.code, out.getvalue()
+
+
 def run_tool(name, *words):
     """Runs a tool in this process, which is much faster than another: its status, and what it wrote."""
     out, wrong = io.StringIO(), io.StringIO()

@@ -1,13 +1,11 @@
 """What bench/speed.py and bench/growth.py measure of loads, by programs that are scripts here."""
 
-import contextlib
-import io
 import os
 import sys
 import unittest
 from unittest import mock
 
-from played import InFolder, TOP
+from played import InFolder, TOP, run_bench
 import growth
 import measured
 import speed
@@ -18,23 +16,13 @@ SIDE = rf"least {TIME}; median {TIME}; memory \d+ MB"
 RATIO = r"\d+\.\d\d"
 
 
-def run_speed(*words):
-    """The status or the fault of bench/speed.py, and what it wrote."""
-    out = io.StringIO()
-    with mock.patch.object(sys, "argv", ["speed.py", *words]), contextlib.redirect_stdout(out):
-        try:
-            return speed.main(), out.getvalue()
-        except SystemExit as end:
-            return end.code, out.getvalue()
-
-
 class Speed(InFolder):
     def program(self, name, text):
         return self.write(name, text, is_program=True)
 
     def test_two_programs_are_compared(self):
         program, words = self.program("one", MODEL), ["--calls", "5", "--seed", "3", "--runs", "2"]
-        status, told = run_speed(program, "--program", program, *words)
+        status, told = run_bench(speed, program, "--program", program, *words)
         self.assertIsNone(status)
         lines = told.splitlines()
         self.assertEqual(len(lines), 4)
@@ -47,20 +35,20 @@ class Speed(InFolder):
         log = os.path.join(self.folder, "log")
         one, other = (self.program(name, f'#!/bin/sh\necho {name} "$@" >> {log}\necho "site 0 up epoch 1 events 4 records 1"\n')
                       for name in ("one", "other"))
-        status, _ = run_speed(f"{other} --stage 2", "--program", one, "--calls", "9", "--runs", "2")
+        status, _ = run_bench(speed, f"{other} --stage 2", "--program", one, "--calls", "9", "--runs", "2")
         self.assertIsNone(status)
         with open(log, encoding="utf-8") as file:
             self.assertEqual(file.read(), "one load --seed 7 --calls 9\nother --stage 2 load --seed 7 --calls 9\n" * 2)
 
     def test_other_summaries_are_told(self):
         one, other = (self.program(name, f"#!/bin/sh\necho same\necho {name}\n") for name in ("one", "other"))
-        self.assertEqual(run_speed(other, "--program", one),
+        self.assertEqual(run_bench(speed, other, "--program", one),
                          ("the two write different summaries\nthe program: one\nthe other: other", ""))
 
     def test_a_program_that_fails_is_told(self):
         one = self.program("one", "#!/bin/sh\necho no such load >&2\nexit 5\n")
-        self.assertEqual(run_speed(one, "--program", one), (f"{one} ended with status 5\nno such load", ""))
-        self.assertEqual(run_speed(one, "--program", "/none"), ("/none ended with status 1\nNo such file or directory", ""))
+        self.assertEqual(run_bench(speed, one, "--program", one), (f"{one} ended with status 5\nno such load", ""))
+        self.assertEqual(run_bench(speed, one, "--program", "/none"), ("/none ended with status 1\nNo such file or directory", ""))
 
     def test_a_run_is_measured(self):
         words = [sys.executable, "-c", "print(len(b'x' * 60_000_000) + sum(range(5_000_000)))"]

@@ -1,7 +1,5 @@
 """What bench/threaded_runs.py has run, and what bench/threads.py measures, by programs that are scripts here."""
 
-import contextlib
-import io
 import json
 import os
 import sys
@@ -9,7 +7,7 @@ import unittest
 from collections import Counter
 from unittest import mock
 
-from played import InFolder, TOP
+from played import InFolder, TOP, run_bench
 import model
 import readings
 import threaded_runs
@@ -32,16 +30,6 @@ case $line in *none*) exit 2 ;; esac
 sleep 0.05
 echo "site 0 up epoch 1 events ${#line} records 1 got 0 committed 0 log $1"
 """
-
-
-def run_bench(module, *words):
-    """The status of a command, and what it wrote."""
-    out = io.StringIO()
-    with mock.patch.object(sys, "argv", ["bench", *words]), contextlib.redirect_stdout(out):
-        try:
-            return module.main(), out.getvalue()
-        except SystemExit as end:
-            return end.code, out.getvalue()
 
 
 class Scenarios(unittest.TestCase):
