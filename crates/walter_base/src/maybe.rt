@@ -1,4 +1,4 @@
-ghost use Rattle.std.specs.Prelude.{◌≡◌, Some, None, IfSome, IfNone};
+ghost use Rattle.std.specs.Prelude.{◌≡◌, Some, None, IfSome, IfNone, IfOk};
 
 use crate::memory::Mem;
 use crate::message::Record;
@@ -26,6 +26,25 @@ impl MaybeRecord {
         ensures { result ≡ None }
     {
         MaybeRecord { place: None }
+    }
+
+    /// The record, which goes to the heap.
+    pub fn some(alloc: Global, rec: Record) -> Mem<MaybeRecord>
+        ensures { IfOk result (λ m. m ≡ Some rec) }
+    {
+        Ok(MaybeRecord {
+            place: Some(Box::new(alloc, rec)?),
+        })
+    }
+
+    /// The option itself, with the record off the heap.
+    pub fn into_option(self) -> Option<Record>
+        ensures { result ≡ self }
+    {
+        match self.place {
+            Some(place) => Some(Box::into_inner(place)),
+            None => None,
+        }
     }
 
     pub fn as_ref(&self) -> Option<&Record>

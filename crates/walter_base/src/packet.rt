@@ -3,8 +3,8 @@ ghost use Rattle.walter_base.specs.Sending.{kind_of, number_of};
 
 use crate::lists::Objects;
 use crate::names::{SiteId, Tid};
+use crate::snapshot::Snapshot;
 use crate::transaction::{Conflict, Tx};
-use crate::vts::Vts;
 use std::alloc::AllocError;
 use std::marker::Model;
 
@@ -31,7 +31,7 @@ pub enum Packet {
     /// So many of the receiver's commits are committed at the sender, from the first on.
     Visible(u64),
     /// The sender's slow commit of this number, of this transaction with this snapshot, asks for these objects.
-    Prepare(u64, Tid, Vts, Objects),
+    Prepare(u64, Tid, Snapshot, Objects),
     /// What the sender answers to the receiver's slow commit of this number.
     Vote(u64, Answer),
     /// The sender's slow commit of this number is over, without a commit.
@@ -84,7 +84,7 @@ impl Clone for Packet {
             Packet::Dsmark(durable) => Ok(Packet::Dsmark(*durable)),
             Packet::Visible(committed) => Ok(Packet::Visible(*committed)),
             Packet::Prepare(slow, tid, start, objects) => {
-                Ok(Packet::Prepare(*slow, *tid, *start, objects.clone()?))
+                Ok(Packet::Prepare(*slow, *tid, start.clone()?, objects.clone()?))
             }
             Packet::Vote(slow, answer) => Ok(Packet::Vote(*slow, *answer)),
             Packet::Release(slow) => Ok(Packet::Release(*slow)),

@@ -2,17 +2,17 @@ ghost use Rattle.std.specs.Prelude.{◌≡◌, ◌<◌, ◌^◌};
 ghost use Rattle.walter_base.specs.Sizes.{size_of};
 
 use crate::names::{ObjId, Tid, Version};
+use crate::snapshot::Snapshot;
 use crate::update::{Updates, size_of_updates};
-use crate::vts::Vts;
 use std::alloc::AllocError;
 
 /// A transaction with updates. `slow` is 0 for a fast commit, else the number of the slow commit at its site. `start`
-/// is its snapshot.
+/// is its snapshot. A copy takes no memory.
 #[derive(Debug, Drop)]
 pub struct Tx {
     pub tid: Tid,
     pub slow: u64,
-    pub start: Vts,
+    pub start: Snapshot,
     pub updates: Updates,
 }
 
@@ -33,7 +33,7 @@ impl Clone for Tx {
         Ok(Tx {
             tid: self.tid,
             slow: self.slow,
-            start: self.start,
+            start: self.start.clone()?,
             updates: self.updates.clone()?,
         })
     }

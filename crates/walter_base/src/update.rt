@@ -1,11 +1,12 @@
-ghost use Rattle.std.specs.Prelude.{◌≡◌, ◌<◌, ◌^◌};
+ghost use Rattle.std.specs.Prelude.{◌≡◌, ◌<◌, ◌^◌, IfOk};
 ghost use Rattle.walter_base.specs.Sizes.{size_of_update, size_of_updates};
 ghost use Rattle.walter_base.specs.Values.{object_of};
 
 use crate::bytes::Bytes;
 use crate::names::{ObjId, Version};
-use std::alloc::AllocError;
+use std::alloc::{AllocError, Global};
 use std::marker::Model;
+use std::sync::ArcSlice;
 
 /// One change of a transaction.
 #[derive(Debug, Drop)]
@@ -59,22 +60,32 @@ pub struct Row {
     pub update: Update,
 }
 
-/// The updates of a transaction, in order. Contracts see the list of them.
+/// The updates of a transaction, in order. They are on the heap once, for all that speak of the transaction: a copy
+/// takes no memory. Contracts see the list of them.
 #[derive(Debug, Drop)]
 pub struct Updates {
-    items: Vec<Update>,
+    items: ArcSlice<Update, Global>,
 }
 
 impl Model for Updates {
     ghost use Rattle.std.specs.Prelude.{List};
+    ghost use Rattle.std.specs.Arc.{arc_slice_items};
     ghost use Rattle.walter_base.specs.declared.update.Update.{Update};
 
     ghost Value = { List Update };
 
-    ghost view = { λ u. u.items.items };
+    ghost view = { λ u. arc_slice_items u.items };
 }
 
 impl Updates {
+    pub fn from_vec(items: Vec<Update>) -> Result<Updates, AllocError>
+        ensures { IfOk result (λ u. u ≡ items.items) }
+    {
+        Ok(Updates {
+            items: ArcSlice::from_vec(items)?,
+        })
+    }
+
     pub fn as_slice(&self) -> &[Update]
         ensures { result.now ≡ self.now }
     {
@@ -89,14 +100,6 @@ impl Clone for Updates {
         Ok(Updates {
             items: self.items.clone()?,
         })
-    }
-}
-
-impl From<Vec<Update>> for Updates {
-    ghost from_gives = { λ v u. u ≡ v.items };
-
-    fn from(items: Vec<Update>) -> Updates {
-        Updates { items }
     }
 }
 

@@ -58,7 +58,8 @@ impl Appender {
         self.bytes.clear();
     }
 
-    fn put(&mut self, bytes: &[u8])
+    /// The bytes as they are.
+    pub fn bytes(&mut self, bytes: &[u8])
         requires { length bytes.now ≤ self.old.room }
         ensures bytes { self.new.bytes ≡ self.old.bytes ++ bytes.now }
         ensures room { self.new.room + length bytes.now ≡ self.old.room }
@@ -73,7 +74,7 @@ impl Appender {
         ensures bytes { self.new.bytes ≡ self.old.bytes ++ number_spelled 1 n }
         ensures room { self.new.room + 1 ≡ self.old.room }
     {
-        self.put(&[n]);
+        self.bytes(&[n]);
     }
 
     #[tactic(auto, unfolding(crate::specs::Spellings::number_spelled))]
@@ -82,7 +83,7 @@ impl Appender {
         ensures bytes { self.new.bytes ≡ self.old.bytes ++ number_spelled 2 n }
         ensures room { self.new.room + 2 ≡ self.old.room }
     {
-        self.put(&n.to_be_bytes());
+        self.bytes(&n.to_be_bytes());
     }
 
     #[tactic(auto, unfolding(crate::specs::Spellings::number_spelled))]
@@ -91,7 +92,7 @@ impl Appender {
         ensures bytes { self.new.bytes ≡ self.old.bytes ++ number_spelled 4 n }
         ensures room { self.new.room + 4 ≡ self.old.room }
     {
-        self.put(&n.to_be_bytes());
+        self.bytes(&n.to_be_bytes());
     }
 
     #[tactic(auto, unfolding(crate::specs::Spellings::number_spelled))]
@@ -100,7 +101,7 @@ impl Appender {
         ensures bytes { self.new.bytes ≡ self.old.bytes ++ number_spelled 8 n }
         ensures room { self.new.room + 8 ≡ self.old.room }
     {
-        self.put(&n.to_be_bytes());
+        self.bytes(&n.to_be_bytes());
     }
 
     pub fn i64(&mut self, z: i64)
@@ -119,6 +120,6 @@ impl Appender {
         ensures room { self.new.room + (4 + length bytes.now) ≡ self.old.room }
     {
         self.u32(bytes.len() as u32);
-        self.put(bytes);
+        self.bytes(bytes);
     }
 }

@@ -2,26 +2,20 @@ ghost use Rattle.std.specs.Prelude.{◌≡◌, Some, true, is_some, option_map, 
 
 use std::alloc::Global;
 use std::marker::Model;
-use walter_base::{Mem, NoMemory, Record, Sends, Update};
+use walter_base::{MaybeRecord, Mem, Record, Sends, Update};
 use walter_rules::Outcome;
 use walter_site::Plan;
 use walter_tables::{Made, Planned};
 
-/// A plan as it lies in a step. A step is moved for each event, and few events have a record: so that lies on the heap,
-/// with what goes with it. Contracts see the plan.
+/// A plan as it lies in a step. A step is moved for each event, and few events have a record: so what goes with one lies
+/// on the heap, as the record does. Contracts see the plan.
 #[derive(Drop)]
 pub struct PackedPlan {
     outcome: Outcome,
     sends: Sends,
     asked: Option<Update>,
-    kept: Option<Box<Kept>>,
-}
-
-/// A record, and what goes with it.
-#[derive(Drop)]
-struct Kept {
-    rec: Record,
-    made: Made,
+    rec: MaybeRecord,
+    made: Option<Box<Made>>,
 }
 
 impl Model for PackedPlan {
@@ -31,14 +25,14 @@ impl Model for PackedPlan {
     ghost Value = { Plan };
 
     ghost view = { λ p. record {
-      planned = record { rec = option_map (λ b. b.value.rec) p.kept; outcome = p.outcome; sends = p.sends };
-      made = option_map (λ b. b.value.made) p.kept;
+      planned = record { rec = p.rec; outcome = p.outcome; sends = p.sends };
+      made = option_map (λ b. b.value) p.made;
       asked = p.asked;
     } };
 }
 
 impl PackedPlan {
-    /// The plan, whose record, if there is one, goes to the heap.
+    /// The plan; what goes with its record, if there is one, goes to the heap.
     pub fn new(alloc: Global, plan: Plan) -> Mem<PackedPlan>
         requires together { is_some plan.made ≡ is_some plan.planned.rec }
         ensures plan { IfOk result (λ packed. packed ≡ plan) }
@@ -58,7 +52,8 @@ impl PackedPlan {
             outcome,
             sends,
             asked,
-            kept: keep_any(alloc, rec, made)?,
+            rec,
+            made: box_any(alloc, made)?,
         })
     }
 
@@ -70,14 +65,12 @@ impl PackedPlan {
             outcome,
             sends,
             asked,
-            kept,
+            rec,
+            made,
         } = self;
-        let (rec, made) = match kept {
-            Some(kept) => {
-                let Kept { rec, made } = Box::into_inner(kept);
-                (Some(rec), Some(made))
-            }
-            None => (None, None),
+        let made = match made {
+            Some(made) => Some(Box::into_inner(made)),
+            None => None,
         };
         Plan {
             planned: Planned {
@@ -95,30 +88,21 @@ impl PackedPlan {
         requires { is_some self.planned.rec ≡ true }
         ensures { self.planned.rec ≡ Some result }
     {
-        let PackedPlan { kept, .. } = self;
-        match kept {
-            Some(kept) => {
-                let Kept { rec, .. } = Box::into_inner(kept);
-                rec
-            }
+        let PackedPlan { rec, .. } = self;
+        match rec.into_option() {
+            Some(rec) => rec,
             None => unreachable!(),
         }
     }
 }
 
-// A record and what goes with it, on the heap.
-fn keep_any(alloc: Global, rec: Option<Record>, made: Option<Made>) -> Mem<Option<Box<Kept>>>
-    requires together { is_some made ≡ is_some rec }
-    ensures rec { IfOk result (λ kept. option_map (λ b. b.value.rec) kept ≡ rec) }
-    ensures made { IfOk result (λ kept. option_map (λ b. b.value.made) kept ≡ made) }
-    ensures free { OnErr result (is_some rec ≡ true) }
+// What goes with a record, on the heap.
+fn box_any(alloc: Global, made: Option<Made>) -> Mem<Option<Box<Made>>>
+    ensures made { IfOk result (λ boxed. option_map (λ b. b.value) boxed ≡ made) }
+    ensures free { OnErr result (is_some made ≡ true) }
 {
-    let Some(rec) = rec else {
-        return Ok(None);
-    };
-    let Some(made) = made else { unreachable!() };
-    match Box::new(alloc, Kept { rec, made }) {
-        Ok(kept) => Ok(Some(kept)),
-        Err(_) => Err(NoMemory),
+    match made {
+        Some(made) => Ok(Some(Box::new(alloc, made)?)),
+        None => Ok(None),
     }
 }

@@ -19,7 +19,7 @@ use crate::outcomes::{gone_first, outcome_at_rest};
 use crate::packed::PackedPlan;
 use crate::ready::{Ready, Step};
 use std::alloc::Global;
-use walter_base::{MaybeRecord, Mem, Record, RecordPlace, Refusal, Reply, Sends, Tid};
+use walter_base::{MaybeRecord, Mem, Refusal, Reply, Sends, Tid};
 use walter_packet::Framed;
 use walter_rules::{Input, Outcome};
 use walter_site::Site;
@@ -98,12 +98,12 @@ fn plan(alloc: Global, site: &mut Site, sites: u8, input: &Input) -> Mem<Ready>
 }
 
 // A copy of a record, where there is one.
-fn copy_any(alloc: Global, rec: &Option<Record>) -> Mem<MaybeRecord>
+fn copy_any(alloc: Global, rec: &MaybeRecord) -> Mem<MaybeRecord>
     ensures copy { IfOk result (λ copy. copy ≡ rec.now) }
     ensures free { OnErr result (is_some rec.now ≡ true) }
 {
-    match rec {
-        Some(rec) => Ok(RecordPlace::new(alloc)?.fill(rec.clone()?)),
+    match rec.as_ref() {
+        Some(rec) => MaybeRecord::some(alloc, rec.clone()?),
         None => Ok(MaybeRecord::none()),
     }
 }

@@ -10,7 +10,7 @@ ghost use Rattle.walter_txcode.specs.Kinds.{IsSuchOfKind};
 
 use crate::answers::read_vote;
 use std::alloc::Global;
-use walter_base::{Mem, NoMemory, Objects, Packet, Tid, Vts};
+use walter_base::{Mem, NoMemory, Objects, Packet, Snapshot, Tid, Vts};
 use walter_fields::Cursor;
 use walter_names::read_tid;
 use walter_txcode::{DecodeFault, read_numbered, read_objects, read_vector};
@@ -66,6 +66,7 @@ fn read_fields(
         }
         5 => {
             let (slow, (tid, (start, objects))) = read_prepare(alloc, cursor, sites)?;
+            let start = Snapshot::new(alloc, start)?;
             Ok(Packet::Prepare(slow, tid, start, objects))
         }
         6 => {

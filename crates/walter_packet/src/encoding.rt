@@ -39,7 +39,7 @@ fn write_fields(out: &mut Appender, packet: &Packet)
         Packet::Prepare(slow, tid, start, objects) => {
             out.u64(*slow);
             write_tid(out, *tid);
-            write_vector(out, start);
+            write_vector(out, start.vector());
             write_objects(out, objects);
         }
         Packet::Vote(slow, answer) => {

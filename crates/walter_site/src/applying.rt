@@ -11,22 +11,22 @@ ghost use Rattle.walter_rules.specs.Records.{CanFollow, IsRecordAmong};
 ghost use Rattle.walter_tables.specs.Answering.{begun_in};
 ghost use Rattle.walter_tables.specs.Sites.{site_of, catalog_of, Stands};
 
-use walter_base::{Call, Packet, Record, SiteId, Update};
+use walter_base::{Call, MaybeRecord, Packet, Record, SiteId, Update};
 use walter_rules::{Input, Outcome};
 use walter_tables::{Made, Tables};
 
 /// The number of the slow commit that the record begins, if it begins one.
-pub fn number_begun(rec: &Option<Record>) -> Option<u64>
+pub fn number_begun(rec: &MaybeRecord) -> Option<u64>
     ensures { result ≡ begun_in rec.now }
 {
-    match rec {
+    match rec.as_ref() {
         Some(Record::SlowBegin(slow, _)) => Some(*slow),
         _ => None,
     }
 }
 
 /// Keeps what the record tells, if there is one.
-pub fn keep_any(tables: &mut Tables, rec: Option<Record>, made: Option<Made>)
+pub fn keep_any(tables: &mut Tables, rec: MaybeRecord, made: Option<Made>)
     requires keeps { CanKeepAny tables.old rec made }
     ensures stands { (K : Knowledge) → Stands tables.old K
         → IfSome rec (CanFollow (catalog_of tables.old) (site_of tables.old) K)
@@ -37,7 +37,7 @@ pub fn keep_any(tables: &mut Tables, rec: Option<Record>, made: Option<Made>)
     ensures site { site_of tables.new ≡ site_of tables.old }
     ensures catalog { catalog_of tables.new ≡ catalog_of tables.old }
 {
-    let Some(rec) = rec else {
+    let Some(rec) = rec.into_option() else {
         return;
     };
     let Some(made) = made else {

@@ -60,9 +60,9 @@ fn plan_delivery(tables: &Tables, from: SiteId, packet: &Packet) -> Mem<Planned>
         Packet::Propagate(seq, tx) => tables.plan_propagate(from, *seq, tx),
         Packet::Ack(got) => tables.plan_ack(from, *got),
         Packet::Dsmark(durable) => Ok(tables.plan_dsmark(from, *durable)),
-        Packet::Visible(committed) => Ok(tables.plan_visible(from, *committed)),
+        Packet::Visible(committed) => tables.plan_visible(from, *committed),
         Packet::Prepare(slow, tid, start, objects) => {
-            tables.plan_prepare(from, *slow, *tid, start, objects)
+            tables.plan_prepare(from, *slow, *tid, start.vector(), objects)
         }
         Packet::Vote(slow, answer) => tables.plan_vote(from, *slow, answer),
         Packet::Release(slow) => tables.plan_release(from, *slow),

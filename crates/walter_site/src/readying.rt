@@ -9,12 +9,12 @@ ghost use Rattle.walter_tables.specs.Answering.{IsAskedBy, TakesRoom};
 ghost use Rattle.walter_tables.specs.Keeping.{GoesOn};
 ghost use Rattle.walter_tables.specs.Sites.{site_of, catalog_of, Stands};
 
-use walter_base::{Call, Mem, Record, Reply, Update};
+use walter_base::{Call, MaybeRecord, Mem, Reply, Update};
 use walter_rules::{Input, Outcome};
 use walter_tables::{Made, Tables, update_of};
 
 /// What goes with the record, if there is one, and room for what it brings.
-pub fn make_ready(tables: &mut Tables, rec: &Option<Record>) -> Mem<Option<Made>>
+pub fn make_ready(tables: &mut Tables, rec: &MaybeRecord) -> Mem<Option<Made>>
     requires on { IfSome rec.now (GoesOn tables.old) }
     ensures keeps { IfOk result (CanKeepAny tables.new rec.now) }
     ensures free { OnErr result (IsSome rec.now) }
@@ -23,7 +23,7 @@ pub fn make_ready(tables: &mut Tables, rec: &Option<Record>) -> Mem<Option<Made>
     ensures site { site_of tables.new ≡ site_of tables.old }
     ensures catalog { catalog_of tables.new ≡ catalog_of tables.old }
 {
-    match rec {
+    match rec.as_ref() {
         Some(rec) => {
             let made = tables.make(rec)?;
             tables.reserve(rec, &made)?;

@@ -1,5 +1,5 @@
 //! What comes of the numbers that a peer says of own commits, and of a tick.
-ghost use Rattle.std.specs.Prelude.{◌≡◌, IfOk, IfSome, IsTrue, Option, Some};
+ghost use Rattle.std.specs.Prelude.{◌≡◌, IfOk, IfSome, IsTrue};
 ghost use Rattle.walter_base.specs.declared.packet.Packet.{Packet as Said};
 ghost use Rattle.walter_rules.specs.Deliveries.{if_marks, is_news, is_peer, packet_rule, passes};
 ghost use Rattle.walter_rules.specs.Knowledge.{Knowledge, peers};
@@ -11,16 +11,17 @@ ghost use Rattle.walter_tables.specs.Sites.{values_of, site_of, catalog_of, Stan
 use crate::deliveries::{passes, takes};
 use crate::plan::Planned;
 use crate::tables::Tables;
-use walter_base::{Mem, Record, SiteId};
+use std::alloc::Global;
+use walter_base::{MaybeRecord, Mem, Record, SiteId};
 
 /// A record of the marks, where one of them rose.
-fn marks(rose: bool, durable: u64, visible: u64) -> Option<Record>
-    ensures { result ≡ if_marks rose durable visible }
+fn marks(alloc: Global, rose: bool, durable: u64, visible: u64) -> Mem<MaybeRecord>
+    ensures { IfOk result (λ rec. rec ≡ if_marks rose durable visible) }
 {
     if rose {
-        Some(Record::Marks(durable, visible))
+        MaybeRecord::some(alloc, Record::Marks(durable, visible))
     } else {
-        None
+        Ok(MaybeRecord::none())
     }
 }
 
@@ -47,25 +48,25 @@ impl Tables {
         let before = self.durable_mark();
         let now = self.durable_mark_with_acknowledged(from, got);
         let sends = self.acknowledged_sends(from, said, got, before, now)?;
-        let rec = marks(before < now, now, self.visible_mark());
+        let rec = marks(self.alloc, before < now, now, self.visible_mark())?;
         Ok(takes(rec, sends))
     }
 
     /// What comes of a VISIBLE.
-    pub fn plan_visible(&self, from: SiteId, committed: u64) -> Planned
+    pub fn plan_visible(&self, from: SiteId, committed: u64) -> Mem<Planned>
         requires peer { IsTrue (is_peer (catalog_of self.now) (site_of self.now) from) }
-        ensures rule { (K : Knowledge) → Stands self.now K
-            → expected_of result ≡ packet_rule (catalog_of self.now) (site_of self.now) K from (Said.Visible committed) }
-        ensures on { IfSome result.rec (GoesOn self.now) }
+        ensures rule { IfOk result (λ p. (K : Knowledge) → Stands self.now K
+            → expected_of p ≡ packet_rule (catalog_of self.now) (site_of self.now) K from (Said.Visible committed)) }
+        ensures on { IfOk result (λ p. IfSome p.rec (GoesOn self.now)) }
     {
         let said = self.durable.visible(from);
         if !self.is_news(said, committed) {
-            return passes(self.nothing());
+            return Ok(passes(self.nothing()));
         }
         let before = self.visible_mark();
         let now = self.visible_mark_with_visible(from, committed);
-        let rec = marks(before < now, self.durable_mark(), now);
-        takes(rec, self.nothing())
+        let rec = marks(self.alloc, before < now, self.durable_mark(), now)?;
+        Ok(takes(rec, self.nothing()))
     }
 
     /// What comes of a tick.

@@ -16,8 +16,10 @@ ghost use Rattle.walter_tables.specs.Sites.{values_of, site_of, catalog_of, Stan
 
 use crate::plan::Planned;
 use crate::tables::Tables;
+use std::alloc::Global;
 use walter_base::{
-    Cause, Conflict, Mem, NoMemory, Objects, Record, Refusal, Reply, Tx, Updates, Version,
+    Cause, Conflict, MaybeRecord, Mem, NoMemory, Objects, Record, Refusal, Reply, Snapshot, Tx,
+    Updates, Version,
 };
 use walter_objects::{are_local, objects_at, objects_of, participants};
 use walter_rules::Outcome;
@@ -35,14 +37,14 @@ fn cause_of(conflict: Conflict) -> Cause
 }
 
 /// The session's transaction, under the number of its slow commit, 0 for a fast one.
-fn transaction_of(session: &Session, slow: u64) -> Mem<Tx>
+fn transaction_of(alloc: Global, session: &Session, slow: u64) -> Mem<Tx>
     ensures { IfOk result (λ tx. tx ≡ tx_of (with_slow slow (session_view session.now))) }
 {
     Ok(Tx {
         tid: session.tid,
         slow,
-        start: session.snapshot,
-        updates: Updates::from(session.updates.clone()?),
+        start: Snapshot::new(alloc, session.snapshot)?,
+        updates: Updates::from_vec(session.updates.clone()?)?,
     })
 }
 
@@ -54,7 +56,7 @@ impl Tables {
         ensures none { result.rec ≡ None }
     {
         Planned {
-            rec: None,
+            rec: MaybeRecord::none(),
             outcome: Outcome::Replied(reply),
             sends: self.nothing(),
         }
@@ -153,7 +155,7 @@ impl Tables {
         ensures on { IfOk result (λ p. IfSome p.rec (GoesOn self.now)) }
     {
         let seq = self.next_seq()?;
-        let tx = transaction_of(session, 0)?;
+        let tx = transaction_of(self.alloc, session, 0)?;
         let version = Version {
             site: self.site,
             seq,
@@ -171,11 +173,11 @@ impl Tables {
     {
         // No memory reaches so far that a slow commit has no number.
         let slow = self.slow.last().checked_add(1).ok_or(NoMemory)?;
-        let tx = transaction_of(session, slow)?;
+        let tx = transaction_of(self.alloc, session, slow)?;
         let asked = participants(self.alloc, &self.catalog, self.site, written.as_slice())?;
         let sends = self.prepares(slow, &tx, &asked)?;
         Ok(Planned {
-            rec: Some(Record::SlowBegin(slow, tx)),
+            rec: MaybeRecord::some(self.alloc, Record::SlowBegin(slow, tx))?,
             outcome: Outcome::Replied(Reply::Deciding(session.tid)),
             sends,
         })

@@ -14,7 +14,9 @@ ghost use Rattle.walter_tables.specs.Versions.{are_regular};
 
 use crate::plan::Planned;
 use crate::tables::Tables;
-use walter_base::{Answer, Conflict, Mem, Objects, Packet, Record, Sends, SiteId, Tid, Tx, Vts};
+use walter_base::{
+    Answer, Conflict, MaybeRecord, Mem, Objects, Packet, Record, Sends, SiteId, Tid, Tx, Vts,
+};
 use walter_objects::{are_lockable, is_peer};
 use walter_rules::Outcome;
 
@@ -24,14 +26,14 @@ pub fn passes(sends: Sends) -> Planned
     ensures none { result.rec ≡ None }
 {
     Planned {
-        rec: None,
+        rec: MaybeRecord::none(),
         outcome: Outcome::Passed,
         sends,
     }
 }
 
 /// What is known changes, with this record or without one, and this is put out.
-pub fn takes(rec: Option<Record>, sends: Sends) -> Planned
+pub fn takes(rec: MaybeRecord, sends: Sends) -> Planned
     ensures plan { expected_of result ≡ takes rec sends }
     ensures wrote { result.rec ≡ rec }
 {
@@ -48,7 +50,7 @@ impl Tables {
     fn back(&self, to: SiteId, packet: Packet) -> Mem<Sends>
         ensures { IfOk result (λ sends. sends ≡ back to packet) }
     {
-        let mut sends = Vec::new(self.alloc);
+        let mut sends = Vec::with_capacity(self.alloc, 1)?;
         sends.push((to, packet))?;
         Ok(Sends::from(sends))
     }
@@ -73,7 +75,7 @@ impl Tables {
         ensures none { result.rec ≡ None }
     {
         if is_greater {
-            takes(None, self.nothing())
+            takes(MaybeRecord::none(), self.nothing())
         } else {
             passes(self.nothing())
         }
@@ -105,7 +107,8 @@ impl Tables {
         if self.locks.dead(from, slow) {
             return Ok(passes(sends));
         }
-        Ok(takes(Some(Record::Released(from, slow)), sends))
+        let rec = MaybeRecord::some(self.alloc, Record::Released(from, slow))?;
+        Ok(takes(rec, sends))
     }
 
     pub fn plan_propagate(&self, from: SiteId, seq: u64, tx: &Tx) -> Mem<Planned>
@@ -117,7 +120,8 @@ impl Tables {
         if self.accepts(from, seq, tx) {
             let tx = tx.clone()?;
             let sends = self.back(from, Packet::Ack(seq))?;
-            return Ok(takes(Some(Record::Got(from, seq, tx)), sends));
+            let rec = MaybeRecord::some(self.alloc, Record::Got(from, seq, tx))?;
+            return Ok(takes(rec, sends));
         }
         let got = self.spread.got().get(from);
         if seq > got {
@@ -139,7 +143,7 @@ impl Tables {
         }
         let seq = committed + 1;
         let tx = self.log.commit_at(from, seq)?;
-        if self.spread.enabled(from, &tx.start) {
+        if self.spread.enabled(from, tx.start.vector()) {
             Some(seq)
         } else {
             None
@@ -159,7 +163,8 @@ impl Tables {
             return Ok(passes(self.nothing()));
         };
         let sends = self.back(from, Packet::Visible(seq))?;
-        Ok(takes(Some(Record::Seen(from, seq)), sends))
+        let rec = MaybeRecord::some(self.alloc, Record::Seen(from, seq))?;
+        Ok(takes(rec, sends))
     }
 
     /// Whether the next commit of the site can be committed here.
@@ -235,7 +240,8 @@ impl Tables {
         }
         let objects = objects.clone()?;
         let sends = self.back(from, Packet::Vote(slow, Answer::Yes))?;
-        Ok(takes(Some(Record::Prepared(from, slow, tid, objects)), sends))
+        let rec = MaybeRecord::some(self.alloc, Record::Prepared(from, slow, tid, objects))?;
+        Ok(takes(rec, sends))
     }
 
     pub fn plan_prepare(

@@ -102,7 +102,7 @@ impl Tables {
         ensures on { IsTrue result → (seq ≡ entry_at self.now.spread.got from + 1) × (tx.now.tid.site ≡ from) }
     {
         tx.tid.site == from
-            && self.is_next(from, seq, &tx.start)
+            && self.is_next(from, seq, tx.start.vector())
             && are_declared(&self.catalog, tx.updates.as_slice())
     }
 
@@ -142,7 +142,7 @@ impl Tables {
             → Covers (values_of self.now).spread.committed tx.start) }
     {
         match self.log.commit_at(from, seq) {
-            Some(tx) => self.spread.committed().covers(&tx.start),
+            Some(tx) => self.spread.committed().covers(tx.start.vector()),
             None => true,
         }
     }

@@ -20,7 +20,7 @@ ghost use Rattle.walter_tables.specs.Sites.{values_of, site_of, catalog_of, Stan
 use crate::deliveries::{passes, takes};
 use crate::plan::Planned;
 use crate::tables::Tables;
-use walter_base::{Answer, Mem, NoMemory, Record, SiteId, Tx};
+use walter_base::{Answer, MaybeRecord, Mem, NoMemory, Record, SiteId, Tx};
 use walter_objects::homes;
 use walter_rules::Outcome;
 use walter_slow::Verdict;
@@ -49,7 +49,7 @@ impl Tables {
         let now = self.durable_mark_with_own(&homes);
         let sends = self.own_sends(seq, &tx, before, now)?;
         Ok(Planned {
-            rec: Some(Record::Own(seq, tx)),
+            rec: MaybeRecord::some(self.alloc, Record::Own(seq, tx))?,
             outcome,
             sends,
         })
@@ -79,7 +79,7 @@ impl Tables {
         }
         match self.slow.verdict(from, slow, &Answer::Yes) {
             Verdict::Commit => self.plan_decided(slow),
-            _ => Ok(takes(None, self.nothing())),
+            _ => Ok(takes(MaybeRecord::none(), self.nothing())),
         }
     }
 
@@ -121,6 +121,7 @@ impl Tables {
             return Ok(passes(self.nothing()));
         };
         let sends = self.releases(slow, asked)?;
-        Ok(takes(Some(Record::SlowEnd(slow)), sends))
+        let rec = MaybeRecord::some(self.alloc, Record::SlowEnd(slow))?;
+        Ok(takes(rec, sends))
     }
 }

@@ -145,7 +145,8 @@ impl Tables {
     {
         let written = objects_of(self.alloc, tx.updates.as_slice())?;
         let objects = objects_at(self.alloc, &self.catalog, to, written.as_slice())?;
-        sends.push((to, Packet::Prepare(slow, tx.tid, tx.start, objects)))?;
+        let start = tx.start.clone()?;
+        sends.push((to, Packet::Prepare(slow, tx.tid, start, objects)))?;
         Ok(())
     }
 

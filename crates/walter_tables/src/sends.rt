@@ -41,7 +41,7 @@ impl Tables {
             sends ≡ to_each (participants catalog K (site_of self.now) tx.now.updates)
             (λ k. prepare_of catalog K slow tx.now k ∷ [])) }
     {
-        let mut sends = Vec::new(self.alloc);
+        let mut sends = Vec::with_capacity(self.alloc, asked.as_slice().len())?;
         for to in asked.as_slice() {
             self.put_prepare(&mut sends, *to, slow, tx)?;
         }

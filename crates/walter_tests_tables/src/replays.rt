@@ -6,7 +6,7 @@ ghost use Rattle.walter_tables.specs.Sites.{catalog_of};
 use std::alloc::Global;
 use std::test::Fail;
 use walter_base::{
-    Bytes, Catalog, Kind, Mem, ObjId, Objects, Record, SiteId, Tid, Tx, Update, Updates, Vts,
+    Bytes, Catalog, Kind, Mem, ObjId, Objects, Record, SiteId, Snapshot, Tid, Tx, Update, Updates, Vts,
 };
 use walter_tables::{ReplayFault, Tables};
 
@@ -86,8 +86,8 @@ fn tx_of(alloc: Global, site: SiteId, slow: u64, container: u32) -> Mem<Tx>
     Ok(Tx {
         tid: tid(site, slow),
         slow,
-        start: Vts::zero(2),
-        updates: Updates::from(updates),
+        start: Snapshot::new(alloc, Vts::zero(2))?,
+        updates: Updates::from_vec(updates)?,
     })
 }
 

@@ -2,7 +2,7 @@ ghost use Rattle.std.specs.Prelude.{◌≡◌, ◌+◌, OnOk};
 
 use std::alloc::Global;
 use std::test::Fail;
-use walter_base::{Answer, Conflict, Mem, ObjId, SiteId, Sites, Tid, Tx, Updates, Version, Vts};
+use walter_base::{Answer, Conflict, Mem, ObjId, SiteId, Sites, Snapshot, Tid, Tx, Updates, Version, Vts};
 use walter_slow::{SlowCommits, Verdict};
 
 const FIRST: SiteId = SiteId(1);
@@ -59,8 +59,8 @@ fn tx_of(alloc: Global, slow: u64) -> Tx {
             number: slow,
         },
         slow,
-        start: Vts::zero(4),
-        updates: Updates::from(Vec::new(alloc)),
+        start: Snapshot::new(alloc, Vts::zero(4))?,
+        updates: Updates::from_vec(Vec::new(alloc))?,
     }
 }
 

@@ -11,7 +11,7 @@ use crate::fault::DecodeFault;
 use crate::updates::read_updates;
 use crate::vectors::read_vector;
 use std::alloc::Global;
-use walter_base::{Mem, NoMemory, Tid, Tx, Vts};
+use walter_base::{Mem, NoMemory, Snapshot, Tid, Tx, Vts};
 use walter_fields::Cursor;
 use walter_names::read_tid;
 
@@ -57,7 +57,7 @@ pub fn read_transaction(alloc: Global, cursor: &mut Cursor, sites: u8) -> Result
     Ok(Tx {
         tid,
         slow,
-        start,
+        start: Snapshot::new(alloc, start)?,
         updates,
     })
 }

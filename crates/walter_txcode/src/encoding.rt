@@ -34,7 +34,7 @@ pub fn append(out: &mut Appender, tx: &Tx)
     ensures room { out.new.room + size_of tx.now ≡ out.old.room }
     ensures ranges { IsInRange tx.now }
 {
-    write_head(out, tx.tid, tx.slow, &tx.start);
+    write_head(out, tx.tid, tx.slow, tx.start.vector());
     write_updates(out, tx.updates.as_slice());
 }
 

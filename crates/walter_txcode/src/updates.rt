@@ -90,7 +90,7 @@ pub(crate) fn read_updates(alloc: Global, cursor: &mut Cursor) -> Result<Updates
     if count < FEWEST_UPDATES || count > MOST_UPDATES {
         return Err(DecodeFault::Unspelled);
     }
-    Ok(Updates::from(read_each(alloc, cursor, count)?))
+    Ok(Updates::from_vec(read_each(alloc, cursor, count)?)?)
 }
 
 fn write_value(out: &mut Appender, oid: ObjId, bytes: &Bytes)

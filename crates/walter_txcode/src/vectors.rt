@@ -5,6 +5,7 @@ ghost use Rattle.walter_txcode.specs.Faults.{IfUnspelled};
 ghost use Rattle.walter_txcode.specs.Spelling.{numbers_spelled, vector_spelled};
 
 use crate::fault::DecodeFault;
+use byteorder::{BigEndian, ByteOrder};
 use walter_base::{MOST_SITES, SiteId, Vts};
 use walter_fields::{Appender, Cursor, Short};
 
@@ -60,7 +61,7 @@ pub fn write_vector(out: &mut Appender, vector: &Vts)
     ensures room { out.new.room + 64 ≡ out.old.room }
     ensures ranges { All (λ number. number < 2 ^ 64) vector.now }
 {
-    for site in 0..MOST_SITES as u8 {
-        out.u64(vector.get(SiteId(site)));
-    }
+    let mut bytes = [0; 64];
+    BigEndian::write_u64_into(vector.entries(), &mut bytes);
+    out.bytes(&bytes);
 }
