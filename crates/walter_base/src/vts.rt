@@ -1,4 +1,4 @@
-ghost use Rattle.std.specs.Prelude.{◌≡◌, ◌<◌, ◌≤◌, ◌-◌, ◌++◌, ◌↔◌, IsTrue, ℕ, max, replicate, length, slice_set};
+ghost use Rattle.std.specs.Prelude.{◌≡◌, ◌<◌, ◌≤◌, ◌↔◌, IsTrue, ℕ, max, replicate, length, slice_set};
 ghost use Rattle.walter_base.specs.Vectors.{most_sites, entry_at, IsSeenBy, Covers, NoneFrom};
 
 use crate::names::{SiteId, Version};
@@ -50,14 +50,6 @@ impl Vts {
         ensures { result ≡ entry_at self.now site }
     {
         self.entries.get(usize::from(site.0)).copied().unwrap_or(0)
-    }
-
-    /// The numbers of all sites that there may be: 0 behind those of the vector.
-    #[tactic(auto, using(crate::specs::Padding::filled))]
-    pub fn entries(&self) -> &[u64; MOST_SITES]
-        ensures { result.now ≡ self.now ++ replicate (most_sites - length self.now) 0 }
-    {
-        &self.entries
     }
 
     /// Whether it is at least as great as the other one at each site.
