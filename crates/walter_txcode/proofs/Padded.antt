@@ -1,8 +1,7 @@
 -- A vector, number by number.
 use Rattle.std.proofs.Common.{◌≡◌, ℕ, zero, suc, ◌+◌, ◌-◌, ◌<◌, ◌≤◌, max, List, [], ◌∷◌, ◌++◌, length, get_or, set, take, replicate, refl, ap, ◌∙◌, arith, add-one}
-use Rattle.std.specs.Prelude.{slice_index}
 use Rattle.std.proofs.Math.Seq.{take-suc-set}
-use Rattle.std.proofs.lemmas.List.{append-nil, length-append, length-replicate, take_more}
+use Rattle.std.proofs.lemmas.List.{append-nil, length-append, length-replicate}
 use Rattle.std.proofs.lemmas.List.Concat.{flat_map-append, flat_map-cons}
 use Rattle.walter_base.specs.Vectors.{most_sites, NoneFrom}
 use Rattle.walter_fields.specs.Spellings.{number_spelled}
@@ -27,7 +26,7 @@ zero_at (suc k) zero = refl
 zero_at (suc k) (suc i) = zero_at k i
 
 -- behind a vector, where it is filled up by 0, there is nothing new
-padded_at : (v : List ℕ) (k i : ℕ) → get_or (v ++ replicate k 0) i 0 ≡ get_or v i 0
+pub padded_at : (v : List ℕ) (k i : ℕ) → get_or (v ++ replicate k 0) i 0 ≡ get_or v i 0
 padded_at [] k i = zero_at k i
 padded_at (n ∷ v) k zero = refl
 padded_at (n ∷ v) k (suc i) = padded_at v k i
@@ -37,9 +36,3 @@ padded v = v ++ replicate (most_sites - length v) 0
 
 pub length-padded : (v : List ℕ) → length v ≤ most_sites → length (padded v) ≡ most_sites
 length-padded v few = omega (arith, length-append v (replicate (most_sites - length v) 0), length-replicate {A = ℕ} (most_sites - length v) 0)
-
-pub padded_more : (v : List ℕ) (i : ℕ) → length v ≤ most_sites → i < most_sites → numbers_spelled (take (i + 1) (padded v)) ≡ numbers_spelled (take i (padded v)) ++ number_spelled 8 (slice_index v i)
-padded_more v i few within =
-    let long = length-padded v few in
-    ap numbers_spelled (take_more (padded v) i 0 (omega arith)) ∙ numbers_push (take i (padded v)) (get_or (padded v) i 0)
-    ∙ ap (λ n. numbers_spelled (take i (padded v)) ++ number_spelled 8 n) (padded_at v (most_sites - length v) i)

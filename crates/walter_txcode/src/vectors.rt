@@ -1,4 +1,4 @@
-ghost use Rattle.std.specs.Prelude.{◌≡◌, ◌≢◌, ◌↔◌, ◌+◌, ◌*◌, ◌≤◌, ◌<◌, ◌^◌, ◌++◌, ℕ, List, length, replicate, All, IsErr, IfOk, IfErr};
+ghost use Rattle.std.specs.Prelude.{◌≡◌, ◌≢◌, ◌↔◌, ◌+◌, ◌-◌, ◌*◌, ◌≤◌, ◌<◌, ◌^◌, ◌++◌, ℕ, List, length, replicate, All, IsErr, IfOk, IfErr};
 ghost use Rattle.walter_base.specs.Vectors.{most_sites};
 ghost use Rattle.walter_fields.specs.Cursors.{Takes};
 ghost use Rattle.walter_txcode.specs.Faults.{IfUnspelled};
@@ -53,6 +53,19 @@ pub fn read_vector(cursor: &mut Cursor, sites: u8) -> Result<Vts, DecodeFault>
     Ok(vector)
 }
 
+/// The numbers of all sites that there may be.
+fn numbers_of(vector: &Vts) -> [u64; MOST_SITES]
+    requires sites { length vector.now ≤ most_sites }
+    ensures all { result ≡ vector.now ++ replicate (most_sites - length vector.now) 0 }
+    ensures ranges { All (λ number. number < 2 ^ 64) vector.now }
+{
+    let mut numbers = [0; MOST_SITES];
+    for site in 0..MOST_SITES {
+        numbers[site] = vector.get(SiteId(site as u8));
+    }
+    numbers
+}
+
 /// Writes the vector's spelling behind what was written.
 pub fn write_vector(out: &mut Appender, vector: &Vts)
     requires sites { length vector.now ≤ most_sites }
@@ -62,6 +75,6 @@ pub fn write_vector(out: &mut Appender, vector: &Vts)
     ensures ranges { All (λ number. number < 2 ^ 64) vector.now }
 {
     let mut bytes = [0; 64];
-    BigEndian::write_u64_into(vector.entries(), &mut bytes);
+    BigEndian::write_u64_into(&numbers_of(vector), &mut bytes);
     out.bytes(&bytes);
 }

@@ -1,6 +1,6 @@
-use Rattle.std.proofs.Common.{arith}
+use Rattle.std.proofs.Common.{sym, subst, arith}
 use Rattle.walter_base.specs.declared.transaction.Tx.{Tx}
-use Rattle.walter_txcode.specs.Spelling.{head_spelled, updates_spelled}
+use Rattle.walter_txcode.specs.Spelling.{head_spelled, updates_spelled, HasSpelling}
 use Rattle.walter_txcode.proofs.Failures.{IfUnspelled-weaker, is_fault, Begins, IsRead, moved, no_head, no_transaction, too_long, is_transaction}
 use Rattle.walter_txcode.proofs.decoding.read_transaction.Goals as goal
 
@@ -67,4 +67,5 @@ returns-clause-spelled c =
       bytes = moved c.args.cursor.now c.read_head.new.cursor c.read_updates.new.cursor (head_spelled head.tid head.slow head.start) (updates_spelled found.updates) c.place-from.result c.place.result
           head.ensures.taken found.ensures.taken c.place-from.ensures c.place.ensures;
     } in
-    is_transaction sites tx left mid after c.place-from.result c.place.result read c.if-length-gt-LONGEST.false
+    subst (λ start. HasSpelling sites (record tx { start = start })) (sym c.in_ok-new.ensures)
+    (is_transaction sites tx left mid after c.place-from.result c.place.result read c.if-length-gt-LONGEST.false)
