@@ -50,6 +50,12 @@ abbrev pub ActsOn : Event → (old new : List Entry) → Acted → Type 0
 ActsOn event old new acted.Did = Grows event old new
 ActsOn event old new acted.Spent = new ≡ old
 
+-- what is said of an event in a cell, said of its trail
+pub acts_as : (event : Event) (clock : ℕ) (old new : List Entry) (act : Acted) → cell.Acts event clock old new act
+    → ActsOn event old new act
+acts_as event clock old new acted.Did acts = acts.1
+acts_as event clock old new acted.Spent acts = acts.1
+
 module _ (told : Type 0) (t : Scenario) (i : SiteId) (old new : List Entry) where
   -- the trail stays
   pub same_on : (pump : PumpValue) → IsWorking told t i old pump → new ≡ old → IsWorking told t i new pump
@@ -134,17 +140,12 @@ module _ {D : Type 0} (g : Ghosts D) (t : Scenario) (i : SiteId) where
       (λ so. sym (ap (λ S. S.up) (standing_as a p is)) ∙ down so)) acts.1)
   works_raised a b p (Err out) keeps down acts kept is = works_still a b p keeps kept is
 
-  -- what is said of deliveries in a cell, and of other events, said of its trail
+  -- what is said of deliveries in a cell, said of its trail
   hands_as : (from : SiteId) (number sites clock : ℕ) (post : Option Posted) (old new : List Entry) (move : Moved)
       → cell.MovesTo from number post sites clock old new move → HandsOn from number old new move
   hands_as from number sites clock post old new moved.Did moves = (moves.1.1, moves.1.4)
   hands_as from number sites clock post old new moved.Nothing moves = moves.2
   hands_as from number sites clock post old new moved.Spent moves = moves.1
-
-  acts_as : (event : Event) (clock : ℕ) (old new : List Entry) (act : Acted) → cell.Acts event clock old new act
-      → ActsOn event old new act
-  acts_as event clock old new acted.Did acts = acts.1
-  acts_as event clock old new acted.Spent acts = acts.1
 
   -- where it was pumped
   pub works_pumped : (a b : CellValue D) (p q : PumpValue) (r : Result Pumped NoMemory) → cell.Keeps g a b → b.ins ≡ a.ins

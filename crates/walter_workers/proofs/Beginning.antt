@@ -1,6 +1,7 @@
 -- The sites of a new bench can work.
 use Rattle.std.proofs.Common.{◌≡◌, ◌<◌, ℕ, zero, suc, true, List, [], ◌∷◌, length, take, option_map, slice_get, Some, None, ap, sym, ◌∙◌, subst, arith}
 use Rattle.std.specs.Prelude.{replicate}
+use Rattle.std.proofs.lemmas.List.{length-take}
 use Rattle.std.proofs.lemmas.Option.{slice_get-map}
 use Rattle.walter_cell.specs.Cells.{CellValue}
 use Rattle.walter_cell.specs.Nodes.{is_told}
@@ -39,7 +40,4 @@ can_first {D = D} g t bench of openings = record {
 
 -- a place in front of so many is one of these
 pub take_short : {X : Type 0} (n : ℕ) (xs : List X) (i : ℕ) → i < length (take n xs) → i < n
-take_short zero xs i below = absurd (omega (arith, below))
-take_short (suc n) [] i below = absurd (omega (arith, below))
-take_short (suc n) (x ∷ xs) zero below = omega arith
-take_short (suc n) (x ∷ xs) (suc i) below = let before = take_short n xs i (omega (arith, below)) in omega (arith, before)
+take_short n xs i below = let front = length-take n xs in omega (arith, below, front)

@@ -20,7 +20,7 @@ use Rattle.walter_cluster.specs.Moments.{Moment, AllArrive, HandsOver, clock_at,
 use Rattle.walter_cluster.specs.Pumps.{ArePumps, IsPumpAt, PumpsAt, at_once, raises, works, standing_at}
 use Rattle.walter_cluster.specs.Shared.{CanWork}
 use Rattle.walter_cluster.proofs.Changes.{field_at, one_there, there_is}
-use Rattle.walter_cluster.proofs.Working.{ActsOn, HandsOn, grown_on, pump_on, same_on}
+use Rattle.walter_cluster.proofs.Working.{HandsOn, acts_as, grown_on, pump_on, same_on}
 use Rattle.walter_disk.specs.declared.disk.Disk.{Ghosts}
 use Rattle.walter_link.specs.Pumps.{PumpValue, take_arrived}
 use Rattle.walter_rules.specs.declared.entry.Entry.{Entry}
@@ -41,16 +41,12 @@ use Rattle.walter_workers.proofs.Work.{can_on}
 
 -- ---- one trail
 
--- what is said of a delivery at a bench, and of another event, said of the site's trail
+-- what is said of a delivery at a bench, said of the site's trail
 hands_on : (from : SiteId) (number : ℕ) (put : Option Stamped) (last : ℕ) (old new : List Entry) (move : Moved)
     → HandsOver from number put last old new move → HandsOn from number old new move
 hands_on from number put last old new moved.Did over = (over.1.0.1, over.1.2)
 hands_on from number put last old new moved.Nothing over = over.2
 hands_on from number put last old new moved.Spent over = over.1
-
-acts_on : (event : Event) (last : ℕ) (old new : List Entry) (act : Acted) → Acts event last old new act → ActsOn event old new act
-acts_on event last old new acted.Did acts = acts.1
-acts_on event last old new acted.Spent acts = acts.1
 
 module _ (told : Type 0) (t : Scenario) (i : SiteId) (old new : Moment) (before after : PumpValue) (site : before.site ≡ i) where
   -- a site that works goes on to
@@ -70,7 +66,7 @@ module _ (told : Type 0) (t : Scenario) (i : SiteId) (old new : Moment) (before 
       (takes_on told t i (trail_of old.trails i) before (new.arrived i.0) site is) up
       (works_so _ _ _ _ _ _ _ _ _ after answer
       (λ first move taken moves. hands_on first.from first.number (put_out_as old.trails i first.from first.number) (clock_at old i) _ _ move moves.1)
-      (λ event act acts. acts_on event (clock_at old i) _ _ act acts) (λ same. same) (λ least one so. one so) does)
+      (λ event act acts. acts_as event (clock_at old i) _ _ act acts) (λ same. same) (λ least one so. one so) does)
 
   -- ---- all trails
 

@@ -3,10 +3,9 @@ ghost use Rattle.std.specs.Prelude.{◌≡◌, ◌<◌, ◌≤◌, ◌+◌, ◌^
 ghost use Rattle.walter_base.specs.Vectors.{most_sites};
 ghost use Rattle.walter_cell.specs.Lines.{CanFail};
 ghost use Rattle.walter_cluster.specs.Benches.{AreAllConnected, EachKeeps, IsOf, IsToldAt, Keeps, trails_of};
-ghost use Rattle.walter_cluster.specs.Moments.{IsFirst, KeepsArms, NoneArrive, moment_of};
+ghost use Rattle.walter_cluster.specs.Moments.{IsFirst, KeepsArms, moment_of};
 ghost use Rattle.walter_cluster.specs.Shared.{CanWork, origins_of};
 ghost use Rattle.walter_play.specs.Scripts.{AreArmed, ArmsMore};
-ghost use Rattle.walter_scenario.specs.declared.scenario.Client.{Client};
 ghost use Rattle.walter_scenario.specs.Parts.{IsArm, IsThreads};
 ghost use Rattle.walter_work.specs.Driven.{IsDriven};
 
@@ -48,7 +47,6 @@ pub fn run<
     gate: &G,
 ) -> (Bench<D, S, K>, Mem<()>)
     requires of { IsOf scenario.now bench }
-    requires within { All (λ (client : Client). client.site.0 < scenario.now.catalog.sites) scenario.now.clients }
     requires connected { AreAllConnected scenario.now bench }
     requires first { IsFirst scenario.now.catalog.sites (moment_of D.Disk bench.cells) }
     requires sites { scenario.now.catalog.sites ≤ most_sites }
@@ -88,7 +86,6 @@ fn arm_all<D: Disk + Drop, S: Source + Drop, K: Sink + Drop>(
     requires arms { All (IsArm scenario.now.catalog.sites) scenario.now.arms }
     ensures keeps { Keeps D.Disk bench.old bench.new }
     ensures trails { trails_of bench.new.cells ≡ trails_of bench.old.cells }
-    ensures none_arrive { NoneArrive (moment_of D.Disk bench.old.cells) (moment_of D.Disk bench.new.cells) }
     ensures armed { OnOk result (AreArmed (moment_of D.Disk bench.old.cells) (moment_of D.Disk bench.new.cells)
         scenario.now.arms) }
     ensures arms { ArmsMore (moment_of D.Disk bench.old.cells) (moment_of D.Disk bench.new.cells) scenario.now.arms }

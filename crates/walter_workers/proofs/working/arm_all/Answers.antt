@@ -11,7 +11,6 @@ pub loop-arm-init : goal.loop-arm-init
 loop-arm-init g c = record {
   keeps = bench_self g.D.Disk c.args.bench.now;
   trails = refl;
-  none_arrive = λ to from. refl;
   armed = armed_none (moment_of g.D.Disk c.args.bench.now.cells) (moment_of g.D.Disk c.args.bench.now.cells) (λ i. refl);
 }
 
@@ -32,7 +31,6 @@ loop-arm-preserved g c =
     record {
       keeps = bench_on g.D.Disk old mid new inv.keeps e.keeps;
       trails = e.arms.trails ∙ inv.trails;
-      none_arrive = λ to from. e.arms.none_arrive to from ∙ inv.none_arrive to from;
       armed = subst (λ (all : List Arm). AreArmed first next (take (i + 1) all)) told
           (subst (λ (some : List Arm). AreArmed first next some) (sym (take_more arms i _ c.loop-arm-test.true))
           (armed_on first now next (take i arms) _ before (armed_one now next _ e.arms)));
@@ -45,10 +43,6 @@ returns-in_err-arm-clause-keeps g c =
 pub returns-in_err-arm-clause-trails : goal.returns-in_err-arm-clause-trails
 returns-in_err-arm-clause-trails g c =
     ap (λ (m : Moment). m.trails) c.in_err-arm.ensures.kept ∙ c.loop-arm.invariant.trails
-
-pub returns-in_err-arm-clause-none_arrive : goal.returns-in_err-arm-clause-none_arrive
-returns-in_err-arm-clause-none_arrive g c = λ to from.
-    ap (λ (m : Moment). m.arrived to from) c.in_err-arm.ensures.kept ∙ c.loop-arm.invariant.none_arrive to from
 
 pub returns-in_err-arm-clause-arms : goal.returns-in_err-arm-clause-arms
 returns-in_err-arm-clause-arms g c =
