@@ -8,7 +8,7 @@ use Rattle.std.specs.List.{AllByRecursion}
 use Rattle.std.specs.Prelude.{sum_by}
 use Rattle.byteorder.specs.Numbers.{big_number-reads_back}
 use Rattle.byteorder.specs.Endian.{big_bytes, big_number}
-use Rattle.walter_journal.specs.Layout.{header, record_of, records, end_behind, IsShort, HasContent, ClaimsTooMuch, IsDamaged}
+use Rattle.walter_journal.specs.Layout.{header, record_of, records, end_behind, span_of, IsShort, HasBehind, HasContent, ClaimsTooMuch, IsDamaged}
 
 -- the length at the front of a record
 pub record_length : (body next : List ℕ) → IsShort body → big_number 4 (record_of body ++ next) ≡ length body
@@ -91,6 +91,9 @@ pub length-records : (bodies : List (List ℕ)) → length (records bodies) ≡ 
 length-records [] = refl
 length-records (x ∷ bodies) = omega (arith, length-append (1 ∷ record_of x) (records bodies), length-records bodies, sum_by-cons (λ body. 5 + length body) x bodies)
 
+pub span_is : (front : List ℕ) (bodies : List (List ℕ)) → length (front ++ records bodies) + 1 ≡ length front + span_of bodies
+span_is front bodies = omega (arith, length-append front (records bodies), length-records bodies)
+
 pub end_is : (bodies : List (List ℕ)) → length (header ++ records bodies) + 1 ≡ end_behind bodies
 end_is bodies = omega (arith, length-append header (records bodies), length-records bodies)
 
@@ -99,10 +102,10 @@ pub end_within : (bytes : List ℕ) (bodies : List (List ℕ)) → HasContent by
 end_within bytes bodies content =
     omega (arith, ap length content.is, length-append (header ++ records bodies) (content.gate ∷ content.rest), end_is bodies)
 
-pub content_to : (bytes rest : List ℕ) (bodies : List (List ℕ)) → bytes ≡ header ++ records bodies ++ rest → All IsShort bodies → 0 < length rest → get_or rest 0 0 ≢ 1
-    → HasContent bytes bodies × (length bytes - length rest + 1 ≡ end_behind bodies)
-content_to bytes [] bodies is fit more closed = absurd (omega arith)
-content_to bytes (gate ∷ rest) bodies is fit more closed = (
+pub behind_to : (front bytes rest : List ℕ) (bodies : List (List ℕ)) → bytes ≡ front ++ records bodies ++ rest → All IsShort bodies → 0 < length rest → get_or rest 0 0 ≢ 1
+    → HasBehind front bytes bodies × (length bytes - length rest + 1 ≡ length front + span_of bodies)
+behind_to front bytes [] bodies is fit more closed = absurd (omega arith)
+behind_to front bytes (gate ∷ rest) bodies is fit more closed = (
   record { gate = gate; rest = rest; is = is; closed = closed; fit = fit },
-  omega (arith, ap length is, length-append (header ++ records bodies) (gate ∷ rest), end_is bodies),
+  omega (arith, ap length is, length-append (front ++ records bodies) (gate ∷ rest), span_is front bodies),
 )

@@ -1,6 +1,7 @@
-mod Appending
+pub mod Appending
 mod Beginning
-mod Gates
+pub mod Gates
 pub mod Layouts
 mod Reading
-mod Told
+pub mod Standing
+pub mod Told

@@ -2,7 +2,7 @@
 use Rattle.std.specs.Prelude.{◌≡◌, ◌<◌, ℕ, List, IfSome}
 use Rattle.walter_disk.specs.Disks.{DiskState}
 use Rattle.walter_disk.specs.Images.{IsImage}
-use Rattle.walter_journal.specs.Layout.{IsForeign, IsDamaged}
+use Rattle.walter_journal.specs.Layout.{IsForeign, IsDamaged, IsDamagedBehind}
 use Rattle.walter_journal.specs.declared.fault.JournalFault.{JournalFault}
 use Rattle.walter_journal.specs.declared.fault.JournalFault.TheVariants.{Failed, Foreign, Damaged, NoMemory}
 
@@ -12,6 +12,13 @@ IsWrong bytes Failed = ⊥
 IsWrong bytes Foreign = IsForeign bytes
 IsWrong bytes (Damaged at length) = IsDamaged bytes at length
 IsWrong bytes NoMemory = Unit {0}
+
+-- what a fault says of bytes that were read behind others in front
+abbrev pub IsWrongBehind : List ℕ → List ℕ → JournalFault → Type 0
+IsWrongBehind front bytes Failed = ⊥
+IsWrongBehind front bytes Foreign = ⊥
+IsWrongBehind front bytes (Damaged at length) = IsDamagedBehind front bytes at length
+IsWrongBehind front bytes NoMemory = Unit {0}
 
 -- a disk that isn't new was found with such bytes, which a crash might have left
 pub record Finds (P : List ℕ → Type 0) (images : List ℕ → Type 0) (old new : DiskState) : Type 0 where

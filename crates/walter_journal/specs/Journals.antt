@@ -2,7 +2,7 @@
 use Rattle.std.specs.Prelude.{◌≡◌, ◌==◌, ◌+◌, ◌-◌, ◌≤◌, if◌then◌else◌, ℕ, false, List, [], ◌∷◌, ◌++◌, length, Some, Result, Ok, Err, vec_capacity}
 use Rattle.walter_disk.specs.Images.{Only}
 use Rattle.walter_disk.specs.declared.disk.Disk.{Ghosts}
-use Rattle.walter_journal.specs.Layout.{HasContent, end_behind}
+use Rattle.walter_journal.specs.Layout.{HasContent, HasBehind, end_behind, span_of}
 use Rattle.walter_journal.specs.declared.fault.JournalFault.{JournalFault}
 use Rattle.walter_journal.specs.declared.journal.Journal.{Journal}
 
@@ -17,6 +17,10 @@ end_of journal = journal.end
 -- the place that its end may not pass
 abbrev pub capacity_of : {D : Type 0} {g : Ghosts D} → Journal D g → ℕ
 capacity_of journal = journal.capacity
+
+-- for how many bytes of a write it has memory
+abbrev pub staged_of : {D : Type 0} {g : Ghosts D} → Journal D g → ℕ
+staged_of journal = vec_capacity journal.staged
 
 -- how many bytes are left behind its end
 abbrev pub left_of : {D : Type 0} {g : Ghosts D} → Journal D g → ℕ
@@ -34,6 +38,15 @@ pub record StandsFor {D : Type 0} {g : Ghosts D} (journal : Journal D g) (bodies
   pub whole : (g.known (disk_of journal)).broken ≡ false
   pub durable : Only bytes (g.may_leave (disk_of journal))
   pub end : end_of journal ≡ end_behind bodies
+
+-- the same of bodies that stand behind other bytes than the header
+pub record StandsBehind {D : Type 0} {g : Ghosts D} (front : List ℕ) (journal : Journal D g) (bodies : List (List ℕ)) : Type 0 where
+  pub bytes : List ℕ
+  pub told : (g.known (disk_of journal)).reads ≡ Some bytes
+  pub content : HasBehind front bytes bodies
+  pub whole : (g.known (disk_of journal)).broken ≡ false
+  pub durable : Only bytes (g.may_leave (disk_of journal))
+  pub end : end_of journal ≡ length front + span_of bodies
 
 -- there is room to append a body of so many bytes
 pub record HasRoom {D : Type 0} {g : Ghosts D} (journal : Journal D g) (n : ℕ) : Type 0 where

@@ -19,13 +19,21 @@ records bodies = flat_map (λ body. 1 ∷ record_of body) bodies
 abbrev pub IsShort : List ℕ → Type 0
 IsShort body = length body ≤ 65536
 
--- the bytes of a journal with these bodies
-pub record HasContent (bytes : List ℕ) (bodies : List (List ℕ)) : Type 0 where
+-- bytes that begin with others in front, behind which stand the records of these bodies and a closed gate
+pub record HasBehind (front bytes : List ℕ) (bodies : List (List ℕ)) : Type 0 where
   pub gate : ℕ
   pub rest : List ℕ
-  pub is : bytes ≡ header ++ records bodies ++ gate ∷ rest
+  pub is : bytes ≡ front ++ records bodies ++ gate ∷ rest
   pub closed : gate ≢ 1
   pub fit : All IsShort bodies
+
+-- the bytes of a journal with these bodies
+abbrev pub HasContent : List ℕ → List (List ℕ) → Type 0
+HasContent bytes bodies = HasBehind header bytes bodies
+
+-- how many bytes the gates and records of these bodies have, with the gate that ends them
+abbrev pub span_of : List (List ℕ) → ℕ
+span_of bodies = 1 + sum_by (λ body. 5 + length body) bodies
 
 -- the place behind the first closed gate
 abbrev pub end_behind : List (List ℕ) → ℕ
@@ -42,14 +50,22 @@ ClaimsTooMuch behind claimed =
     ((length behind < 4) × (claimed ≡ 0))
     ⊎ ((4 ≤ length behind) × (claimed ≡ big_number 4 behind) × ((65536 < claimed) ⊎ (length behind ≤ 4 + claimed)))
 
--- the open gate at this place is followed by a length that claims too much
-pub record IsDamaged (bytes : List ℕ) (at claimed : ℕ) : Type 0 where
+-- behind these bytes in front the open gate at this place is followed by a length that claims too much
+pub record IsDamagedBehind (front bytes : List ℕ) (at claimed : ℕ) : Type 0 where
   pub bodies : List (List ℕ)
   pub behind : List ℕ
-  pub is : bytes ≡ header ++ records bodies ++ 1 ∷ behind
+  pub is : bytes ≡ front ++ records bodies ++ 1 ∷ behind
   pub fit : All IsShort bodies
-  pub place : at ≡ length (header ++ records bodies)
+  pub place : at ≡ length (front ++ records bodies)
   pub wrong : ClaimsTooMuch behind claimed
+
+-- and behind the header
+abbrev pub IsDamaged : List ℕ → ℕ → ℕ → Type 0
+IsDamaged bytes at claimed = IsDamagedBehind header bytes at claimed
+
+-- bytes with these bodies behind others in front, or with one more behind them
+abbrev pub IsBehindOrOneMore : List ℕ → List (List ℕ) → List ℕ → List ℕ → Type 0
+IsBehindOrOneMore front bodies body image = HasBehind front image bodies ⊎ HasBehind front image (bodies ++ body ∷ [])
 
 -- the bytes of a journal with these bodies, or with one more behind them
 abbrev pub IsBeforeOrBehind : List (List ℕ) → List ℕ → List ℕ → Type 0

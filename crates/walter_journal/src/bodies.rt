@@ -19,7 +19,7 @@ impl Model for Bodies {
 }
 
 impl Bodies {
-    pub(crate) fn new(alloc: Global) -> Bodies
+    pub fn new(alloc: Global) -> Bodies
         ensures { result ≡ [] }
     {
         Bodies {
@@ -29,12 +29,22 @@ impl Bodies {
     }
 
     /// Adds a copy of the body.
-    pub(crate) fn push(&mut self, body: &[u8]) -> Result<(), AllocError>
+    pub fn push(&mut self, body: &[u8]) -> Result<(), AllocError>
         ensures ok { OnOk result (self.new ≡ self.old ++ body.now ∷ []) }
         ensures err { OnErr result (self.new ≡ self.old) }
     {
         let copy = Vec::from_slice(self.alloc, body)?;
         self.items.push(copy)?;
+        Ok(())
+    }
+
+    /// Adds the others behind its own.
+    pub fn append(&mut self, others: Bodies) -> Result<(), AllocError>
+        ensures { OnOk result (self.new ≡ self.old ++ others) }
+    {
+        for body in others.items {
+            self.items.push(body)?;
+        }
         Ok(())
     }
 

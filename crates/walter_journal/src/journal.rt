@@ -1,12 +1,12 @@
-ghost use Rattle.std.specs.Prelude.{◌≡◌, ◌+◌, ◌<◌, ◌≤◌, ◌++◌, ◌∷◌, [], ℕ, List, length, is_some, option_map, vec_capacity, true, Err, OnOk, OnErr};
-ghost use Rattle.walter_disk.specs.Disks.{Fails};
-ghost use Rattle.walter_disk.specs.Images.{Narrows, LeavesOnly};
-ghost use Rattle.walter_journal.specs.Layout.{record_of, IsBeforeOrBehind};
+ghost use Rattle.std.specs.Prelude.{◌≡◌, ◌+◌, ◌<◌, ◌≤◌, ◌++◌, ◌∷◌, [], ℕ, List, length, is_some, option_map, vec_capacity, true, false, Err, OnOk, OnErr};
+ghost use Rattle.walter_disk.specs.Disks.{written, Breaks, Fails, MakesRoom, TakesRoom};
+ghost use Rattle.walter_disk.specs.Images.{Torn, Only, IsDurable, Follows, Narrows, Elapses, LeavesOnly};
+ghost use Rattle.walter_journal.specs.Layout.{record_of, IsBeforeOrBehind, IsBehindOrOneMore};
 
 use crate::fault::AppendFault;
 use byteorder::{BigEndian, ByteOrder};
 use std::alloc::Global;
-use walter_disk::{Disk, Mem, NoMemory, write_and_sync};
+use walter_disk::{Disk, Failed, Mem, NoMemory, write_and_sync};
 
 /// A journal on a disk. Clauses see the lists of bodies that it stands for.
 #[derive(Drop)]
@@ -21,10 +21,10 @@ pub struct Journal<D: Disk> {
 }
 
 impl<D: Disk> Journal<D> {
-    ghost use Rattle.walter_journal.specs.Journals.{disk_of, end_of, capacity_of, left_of, need_of, StandsFor, HasRoom, Appends};
+    ghost use Rattle.walter_journal.specs.Journals.{disk_of, end_of, capacity_of, left_of, need_of, staged_of, StandsFor, StandsBehind, HasRoom, Appends};
 
-    // The journal on a disk that has it, with the place behind its bodies.
-    pub(crate) fn new(alloc: Global, disk: D, capacity: u64, end: u64) -> Journal<D>
+    /// The journal on a disk that has it, with the place behind its bodies.
+    pub fn new(alloc: Global, disk: D, capacity: u64, end: u64) -> Journal<D>
         requires begun { 9 ≤ end }
         requires within { end ≤ (D.known disk).size }
         ensures disk { disk_of result ≡ disk }
@@ -61,6 +61,8 @@ impl<D: Disk> Journal<D> {
         ensures room { (n : ℕ) → HasRoom self.old n → HasRoom self.new n }
         ensures stands { (bodies : List (List ℕ))
             → StandsFor self.old bodies → StandsFor self.new bodies }
+        ensures stands_behind { (front : List ℕ) (bodies : List (List ℕ))
+            → StandsBehind front self.old bodies → StandsBehind front self.new bodies }
         ensures crash { Narrows (D.may_leave (disk_of self.old)) (D.may_leave (disk_of self.new)) }
         ensures any_moment { LeavesOnly D.moment D.left_since (disk_of self.old) (disk_of self.new)
             (D.may_leave (disk_of self.old)) }
@@ -77,6 +79,8 @@ impl<D: Disk> Journal<D> {
         ensures device { D.device_calls (disk_of self.new) ≡ D.device_calls (disk_of self.old) }
         ensures stands { (bodies : List (List ℕ))
             → StandsFor self.old bodies → StandsFor self.new bodies }
+        ensures stands_behind { (front : List ℕ) (bodies : List (List ℕ))
+            → StandsBehind front self.old bodies → StandsBehind front self.new bodies }
         ensures crash { Narrows (D.may_leave (disk_of self.old)) (D.may_leave (disk_of self.new)) }
         ensures any_moment { LeavesOnly D.moment D.left_since (disk_of self.old) (disk_of self.new)
             (D.may_leave (disk_of self.old)) }
@@ -87,6 +91,110 @@ impl<D: Disk> Journal<D> {
         self.staged.clear();
         self.staged.reserve(need as usize)?;
         self.disk.reserve(reach, 4)
+    }
+
+    /// Makes room to write elsewhere: up to a place, and for so many calls.
+    pub fn reserve(&mut self, reach: u64, calls: u64) -> Mem<()>
+        ensures room { OnOk result (MakesRoom reach calls
+            (D.room_end (disk_of self.old)) (D.room_end (disk_of self.new))
+            (D.room_calls (disk_of self.old)) (D.room_calls (disk_of self.new))) }
+        ensures still { (n : ℕ) → OnOk result (HasRoom self.old n → HasRoom self.new n) }
+        ensures same { D.known (disk_of self.new) ≡ D.known (disk_of self.old) }
+        ensures capacity { capacity_of self.new ≡ capacity_of self.old }
+        ensures end { end_of self.new ≡ end_of self.old }
+        ensures device { D.device_calls (disk_of self.new) ≡ D.device_calls (disk_of self.old) }
+        ensures stands { (bodies : List (List ℕ))
+            → StandsFor self.old bodies → StandsFor self.new bodies }
+        ensures stands_behind { (front : List ℕ) (bodies : List (List ℕ))
+            → StandsBehind front self.old bodies → StandsBehind front self.new bodies }
+        ensures crash { Narrows (D.may_leave (disk_of self.old)) (D.may_leave (disk_of self.new)) }
+        ensures any_moment { LeavesOnly D.moment D.left_since (disk_of self.old) (disk_of self.new)
+            (D.may_leave (disk_of self.old)) }
+    {
+        self.disk.reserve(reach, calls)
+    }
+
+    /// Does to the disk what `Disk::write_at` does. Whether that takes bodies away is the caller's to know.
+    pub fn write(&mut self, at: u64, from: &[u8]) -> Result<(), Failed>
+        requires begins { at ≤ (D.known (disk_of self.old)).size }
+        requires end { at + length from.now ≤ D.room_end (disk_of self.old) }
+        requires calls { 0 < D.room_calls (disk_of self.old) }
+        ensures whole { OnOk result ((D.known (disk_of self.old)).broken ≡ false) }
+        ensures done { OnOk result (
+            D.known (disk_of self.new) ≡ written at from.now (D.known (disk_of self.old))) }
+        ensures failed { OnErr result (Breaks (D.known (disk_of self.old)) (D.known (disk_of self.new))) }
+        ensures room { TakesRoom 1 (D.room_end (disk_of self.old)) (D.room_end (disk_of self.new))
+            (D.room_calls (disk_of self.old)) (D.room_calls (disk_of self.new)) }
+        ensures device { D.device_calls (disk_of self.new) ≡ D.device_calls (disk_of self.old) + 1 }
+        ensures capacity { capacity_of self.new ≡ capacity_of self.old }
+        ensures same_end { end_of self.new ≡ end_of self.old }
+        ensures staged { staged_of self.new ≡ staged_of self.old }
+        ensures crash { Follows (Torn at (length from.now))
+            (D.may_leave (disk_of self.old)) (D.may_leave (disk_of self.new)) }
+        ensures time { Elapses (D.moment (disk_of self.old)) (D.moment (disk_of self.new))
+            (D.left_since (disk_of self.old)) (D.left_since (disk_of self.new)) (D.may_leave (disk_of self.new)) }
+    {
+        self.disk.write_at(at, from)
+    }
+
+    /// Does to the disk what `Disk::sync` does.
+    pub fn sync(&mut self) -> Result<(), Failed>
+        requires calls { 0 < D.room_calls (disk_of self.old) }
+        ensures durable { OnOk result (
+            IsDurable (D.known (disk_of self.new)).reads (D.may_leave (disk_of self.new))) }
+        ensures whole { OnOk result ((D.known (disk_of self.old)).broken ≡ false) }
+        ensures same { OnOk result (D.known (disk_of self.new) ≡ D.known (disk_of self.old)) }
+        ensures failed { OnErr result (Breaks (D.known (disk_of self.old)) (D.known (disk_of self.new))) }
+        ensures room { TakesRoom 1 (D.room_end (disk_of self.old)) (D.room_end (disk_of self.new))
+            (D.room_calls (disk_of self.old)) (D.room_calls (disk_of self.new)) }
+        ensures device { D.device_calls (disk_of self.new) ≡ D.device_calls (disk_of self.old) + 1 }
+        ensures capacity { capacity_of self.new ≡ capacity_of self.old }
+        ensures same_end { end_of self.new ≡ end_of self.old }
+        ensures staged { staged_of self.new ≡ staged_of self.old }
+        ensures crash { Narrows (D.may_leave (disk_of self.old)) (D.may_leave (disk_of self.new)) }
+        ensures time { Elapses (D.moment (disk_of self.old)) (D.moment (disk_of self.new))
+            (D.left_since (disk_of self.old)) (D.left_since (disk_of self.new)) (D.may_leave (disk_of self.new)) }
+    {
+        self.disk.sync()
+    }
+
+    /// Writes bytes elsewhere, and makes them safe. Whether that takes bodies away is the caller's to know, as with
+    /// `write`.
+    pub fn write_elsewhere(&mut self, at: u64, from: &[u8]) -> Result<(), Failed>
+        requires begins { at ≤ (D.known (disk_of self.old)).size }
+        requires end { at + length from.now ≤ D.room_end (disk_of self.old) }
+        requires calls { 2 ≤ D.room_calls (disk_of self.old) }
+        ensures whole { OnOk result ((D.known (disk_of self.old)).broken ≡ false) }
+        ensures done { OnOk result (
+            D.known (disk_of self.new) ≡ written at from.now (D.known (disk_of self.old))) }
+        ensures durable { OnOk result (
+            IsDurable (D.known (disk_of self.new)).reads (D.may_leave (disk_of self.new))) }
+        ensures failed { OnErr result (Fails (D.known (disk_of self.old)) (D.known (disk_of self.new))) }
+        ensures room { TakesRoom 2 (D.room_end (disk_of self.old)) (D.room_end (disk_of self.new))
+            (D.room_calls (disk_of self.old)) (D.room_calls (disk_of self.new)) }
+        ensures device { OnOk result (D.device_calls (disk_of self.new) ≡ D.device_calls (disk_of self.old) + 2) }
+        ensures at_most { D.device_calls (disk_of self.new) ≤ D.device_calls (disk_of self.old) + 2 }
+        ensures capacity { capacity_of self.new ≡ capacity_of self.old }
+        ensures same_end { end_of self.new ≡ end_of self.old }
+        ensures staged { staged_of self.new ≡ staged_of self.old }
+        ensures any_moment { (bytes : List ℕ) → Only bytes (D.may_leave (disk_of self.old))
+            → LeavesOnly D.moment D.left_since (disk_of self.old) (disk_of self.new)
+            (Torn at (length from.now) bytes) }
+    {
+        write_and_sync(&mut self.disk, at, from)
+    }
+
+    /// Goes on behind another closed gate of its disk: the gate stands in front of `end`.
+    pub fn go_on(&mut self, end: u64, capacity: u64)
+        requires begun { 9 ≤ end }
+        requires within { end ≤ (D.known (disk_of self.old)).size }
+        ensures disk { disk_of self.new ≡ disk_of self.old }
+        ensures end { end_of self.new ≡ end }
+        ensures capacity { capacity_of self.new ≡ capacity }
+        ensures staged { staged_of self.new ≡ staged_of self.old }
+    {
+        self.end = end;
+        self.capacity = capacity;
     }
 
     /// Adds a body behind the others. It takes no memory, and is safe once this answers Ok. After `Failed` each append
@@ -106,11 +214,16 @@ impl<D: Disk> Journal<D> {
         ensures broken { need_of body.now ≤ left_of self.old
             → (D.known (disk_of self.old)).broken ≡ true → result ≡ Err AppendFault.Failed }
         ensures ok { OnOk result (Appends self.old self.new body.now) }
+        ensures behind { OnOk result ((front : List ℕ) (bodies : List (List ℕ))
+            → StandsBehind front self.old bodies → StandsBehind front self.new (bodies ++ body.now ∷ [])) }
 
         // A crash at any moment of the call leaves the bodies from before it, with this one behind them or without.
         ensures any_moment { (bodies : List (List ℕ)) → StandsFor self.old bodies
             → LeavesOnly D.moment D.left_since (disk_of self.old) (disk_of self.new)
             (IsBeforeOrBehind bodies body.now) }
+        ensures any_moment_behind { (front : List ℕ) (bodies : List (List ℕ)) → StandsBehind front self.old bodies
+            → LeavesOnly D.moment D.left_since (disk_of self.old) (disk_of self.new)
+            (IsBehindOrOneMore front bodies body.now) }
         ensures arms { (D.known (disk_of self.new)).arms ≡ (D.known (disk_of self.old)).arms }
         ensures tells { is_some (D.known (disk_of self.new)).reads
             ≡ is_some (D.known (disk_of self.old)).reads }

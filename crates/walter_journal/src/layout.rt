@@ -1,6 +1,6 @@
-ghost use Rattle.std.specs.Prelude.{◌≡◌, ◌<◌, ◌++◌, ℕ, List, length, IfOk, IfErr};
-ghost use Rattle.walter_journal.specs.Faults.{IsWrong};
-ghost use Rattle.walter_journal.specs.Layout.{record_of, end_behind, IsShort, ClaimsTooMuch, HasContent, IsForeign, IsDamaged};
+ghost use Rattle.std.specs.Prelude.{◌≡◌, ◌<◌, ◌++◌, ◌+◌, ℕ, List, length, take, IfOk, IfErr};
+ghost use Rattle.walter_journal.specs.Faults.{IsWrong, IsWrongBehind};
+ghost use Rattle.walter_journal.specs.Layout.{record_of, end_behind, span_of, HasBehind, IsShort, ClaimsTooMuch, HasContent, IsForeign, IsDamaged};
 
 use crate::bodies::Bodies;
 use crate::fault::JournalFault;
@@ -29,17 +29,19 @@ fn record_at(behind: &[u8]) -> Result<(&[u8], &[u8]), u32>
     Ok(rest.split_at(length as usize))
 }
 
-/// The bodies that the bytes are a journal of, and the place behind the gate that ends them.
-pub(crate) fn bodies_of(alloc: Global, bytes: &[u8]) -> Result<(Bodies, usize), JournalFault>
+/// The bodies behind the first `from` bytes, and the place behind the gate that ends them.
+pub fn bodies_behind(
+    alloc: Global,
+    bytes: &[u8],
+    from: usize,
+) -> Result<(Bodies, usize), JournalFault>
+    requires { from < length bytes.now }
     ensures ok { IfOk result (λ found.
-        HasContent bytes.now found.0 × (found.1 ≡ end_behind found.0)) }
-    ensures fault { IfErr result (IsWrong bytes.now) }
+        HasBehind (take from bytes.now) bytes.now found.0 × (found.1 ≡ from + span_of found.0)) }
+    ensures fault { IfErr result (IsWrongBehind (take from bytes.now) bytes.now) }
 {
-    if bytes.len() <= HEADER.len() || !bytes.starts_with(&HEADER) {
-        return Err(JournalFault::Foreign);
-    }
     let mut bodies = Bodies::new(alloc);
-    let mut rest = &bytes[HEADER.len()..];
+    let (_, mut rest) = bytes.split_at(from);
     while let [1, behind @ ..] = rest {
         let (body, next) = match record_at(behind) {
             Ok(found) => found,
@@ -52,6 +54,18 @@ pub(crate) fn bodies_of(alloc: Global, bytes: &[u8]) -> Result<(Bodies, usize), 
         rest = next;
     }
     Ok((bodies, bytes.len() - rest.len() + 1))
+}
+
+/// The bodies that the bytes are a journal of, and the place behind the gate that ends them.
+pub(crate) fn bodies_of(alloc: Global, bytes: &[u8]) -> Result<(Bodies, usize), JournalFault>
+    ensures ok { IfOk result (λ found.
+        HasContent bytes.now found.0 × (found.1 ≡ end_behind found.0)) }
+    ensures fault { IfErr result (IsWrong bytes.now) }
+{
+    if bytes.len() <= HEADER.len() || !bytes.starts_with(&HEADER) {
+        return Err(JournalFault::Foreign);
+    }
+    bodies_behind(alloc, bytes, HEADER.len())
 }
 
 /// Bytes are a journal of one list of bodies, or foreign, or damaged at one place with one length. A law of the

@@ -10,5 +10,5 @@ mod loading;
 pub use bodies::Bodies;
 pub use fault::{AppendFault, JournalFault};
 pub use journal::Journal;
-pub use layout::layouts_differ;
-pub use loading::load;
+pub use layout::{bodies_behind, layouts_differ};
+pub use loading::{begin, load, settle_and_read};

@@ -70,8 +70,8 @@ pub fn load<D: Disk>(
     }
 }
 
-// Makes an empty journal on a disk of no bytes.
-fn begin<D: Disk>(alloc: Global, disk: &mut D) -> Result<(Bodies, u64), JournalFault>
+/// Makes an empty journal on a disk of no bytes, and gives the place behind its gate.
+pub fn begin<D: Disk>(alloc: Global, disk: &mut D) -> Result<(Bodies, u64), JournalFault>
     requires { (D.known disk.old).size ≡ 0 }
     ensures empty { IfOk result (λ found. found.0 ≡ []) }
     ensures ok { IfOk result (λ found.
@@ -113,8 +113,8 @@ fn resume<D: Disk>(alloc: Global, disk: &mut D) -> Result<(Bodies, u64), Journal
     Ok((bodies, end as u64))
 }
 
-// All the bytes of a disk, which is settled first.
-fn settle_and_read<D: Disk>(alloc: Global, disk: &mut D) -> Result<Vec<u8>, JournalFault>
+/// All the bytes of a disk, which is settled first.
+pub fn settle_and_read<D: Disk>(alloc: Global, disk: &mut D) -> Result<Vec<u8>, JournalFault>
     requires { 0 < (D.known disk.old).size }
     ensures told { IfOk result (λ bytes. IfSome (D.known disk.new).reads (λ told. bytes.items ≡ told)) }
     ensures size { IfOk result (λ bytes. length bytes.items ≡ (D.known disk.new).size) }

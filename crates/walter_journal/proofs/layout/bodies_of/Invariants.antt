@@ -1,9 +1,0 @@
-use Rattle.std.proofs.Common.{◌≡◌, ◌<◌, ◌++◌, length, All}
-use Rattle.walter_journal.specs.Layout.{header, records, IsShort}
-use Rattle.walter_journal.proofs.layout.bodies_of.Given as goal
-
-abbrev pub invariant-loop-rest : goal.invariant-loop-rest
-invariant-loop-rest l = record { read : l.bytes ≡ header ++ records l.bodies ++ l.rest; fit : All IsShort l.bodies; more : 0 < length l.rest }
-
-abbrev pub decreases-loop-rest : goal.decreases-loop-rest
-decreases-loop-rest l = length l.rest
