@@ -11,7 +11,7 @@ use walter_history::History;
 pub fn rows_for(alloc: Global, version: Version, updates: &[Update]) -> Mem<Vec<Row>>
     ensures { IfOk result (λ rows. rows.items ≡ map (row_with version) updates.now) }
 {
-    let mut rows = Vec::new(alloc);
+    let mut rows = Vec::with_capacity(alloc, updates.len())?;
     for update in updates {
         let update = update.clone()?;
         rows.push(Row { version, update })?;
