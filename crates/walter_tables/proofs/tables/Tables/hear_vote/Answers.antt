@@ -1,6 +1,6 @@
 use Rattle.std.proofs.Common.{refl, ap, sym, subst}
 use Rattle.walter_base.specs.declared.packet.Answer.{Answer}
-use Rattle.walter_base.specs.declared.packet.Answer.TheVariants.{Yes, No, Later}
+use Rattle.walter_base.specs.declared.packet.Answer.TheVariants.{Yes, No}
 use Rattle.walter_base.specs.declared.packet.Packet.TheVariants.{Vote}
 use Rattle.walter_rules.specs.declared.event.Event.TheVariants.{Given}
 use Rattle.walter_rules.specs.declared.event.Input.TheVariants.{Deliver}

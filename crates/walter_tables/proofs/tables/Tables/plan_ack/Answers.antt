@@ -33,6 +33,6 @@ returns-clause-rule c = λ K S.
     let seen : c.visible_mark.result ≡ visible_mark self.catalog self.site K2 = c.visible_mark.ensures.mark K S in
     let sends = c.in_ok-sends.ensures K got S said (risen_self from got K.acknowledged more) before now in
     c.takes.ensures.plan
-    ∙ ap (λ r. takes r c.in_ok-sends.sends) c.marks-rec.ensures
+    ∙ ap (λ r. takes r c.in_ok-sends.sends) c.in_ok-rec.ensures
     ∙ (λ t. takes (if_marks (nat_lt (before t) (now t)) (now t) (seen t)) (sends t))
     ∙ sym (ap (λ b. if_acknowledged b self.catalog self.site K from got) news)

@@ -1,5 +1,4 @@
-use Rattle.std.proofs.Common.{◌≡◌, ◌∙◌, Some, ap}
-use Rattle.walter_base.specs.declared.message.Record.TheVariants.{Own}
+use Rattle.std.proofs.Common.{◌≡◌, ◌∙◌, ap}
 use Rattle.walter_objects.specs.Preferred.{homes_of}
 use Rattle.walter_tables.specs.Sites.{values_of, site_of, catalog_of}
 use Rattle.walter_tables.proofs.tables.Tables.plan_own.Goals as goal
@@ -13,4 +12,4 @@ returns-clause-rule c = λ K S follows.
     let homes : c.in_ok-homes.homes ≡ homes_of now.catalog tx.updates = c.in_ok-homes.ensures ∙ ap (homes_of now.catalog) c.as_slice.ensures in
     let mark = c.durable_mark_with_own-now.ensures.mark K seq tx homes S follows in
     let sends = c.in_ok-sends.ensures K S follows (c.durable_mark-before.ensures.mark K S) mark in
-    λ t. record { wrote = Some (Own seq tx); outcome = c.args.outcome; sends = sends t }
+    λ t. record { wrote = c.in_ok-some.ensures t; outcome = c.args.outcome; sends = sends t }
