@@ -60,6 +60,8 @@ AT_LIMITS = {
 }
 LIMITS = [f"{what} {number:,}" for what, limit in AT_LIMITS.items() for number in (limit, limit + 1)]
 ALL = SITES + REPLIES + OUTCOMES + RECORDED + VOTES + RULES + DELIVERIES + PUMPS + LINKS + LIMITS
+# What restarts do with journals of two areas, where these are asked for.
+PACKS = ["pack into A", "pack into B", "pack fails"]
 # How many calls a made scenario may have.
 CALLS = [0, 1, 2, 10, 100, 500, 1000, 2000, 4000]
 
@@ -162,9 +164,9 @@ def compare_unproved(folder, count):
         sys.exit("\n".join(line for line in tried.stdout.splitlines() if "output=expected" not in line))
 
 
-def made_from(first, count, several):
-    """So many seeds from the first on, each with its scenario; of several sites alone, where these are asked for."""
-    all_made = ((seed, scenario(seed)) for seed in itertools.count(first))
+def made_from(first, count, several, areas=False):
+    """So many seeds from the first on, each with its scenario; of several sites alone, or with areas, where that is asked for."""
+    all_made = ((seed, scenario(seed, areas)) for seed in itertools.count(first))
     return itertools.islice((one for one in all_made if one[1]["sites"] > 1 or not several), count)
 
 
@@ -174,6 +176,8 @@ def main():
     parser.add_argument("--loads", type=int, default=12, metavar="N", help="how many loads are played behind them; 12 without "
                         "it")
     parser.add_argument("--several", action="store_true", help="play those of two to eight sites alone, and count only these")
+    parser.add_argument("--areas", action="store_true", help="make scenarios with the key `areas` too, and most of them with "
+                        "journals of two; the program doesn't know the key yet, so this is for --model")
     parser.add_argument("--seed", type=int, default=0, metavar="N", help="the seed of the first; 0 without it")
     parser.add_argument("--program", metavar="PATH", help="the program; without it that of this repository, which "
                         "./walter proves and builds first where that isn't done yet")
@@ -184,7 +188,7 @@ def main():
     program = None if words.model or words.unproved else words.program or built()
     met = Counter()
     with tempfile.TemporaryDirectory() as folder:
-        for seed, made in made_from(words.seed, words.scenarios, words.several):
+        for seed, made in made_from(words.seed, words.scenarios, words.several, words.areas):
             run = model.played(made, met)
             if program:
                 compare([program, "play", "--trace"], f"seed {seed}", json.dumps(made), run.text())
@@ -197,8 +201,9 @@ def main():
     made_loads = [] if words.unproved else loads_from(words.seed, words.loads)
     for seed, calls in made_loads:
         compare_load(program, seed, calls)
-    print("met: " + "; ".join(f"{kind}: {met[kind]:,}" for kind in ALL if met[kind]))
-    print("not met: " + ("; ".join(kind for kind in ALL if not met[kind]) or "none"))
+    counted = ALL + PACKS if words.areas else ALL
+    print("met: " + "; ".join(f"{kind}: {met[kind]:,}" for kind in counted if met[kind]))
+    print("not met: " + ("; ".join(kind for kind in counted if not met[kind]) or "none"))
     how = "played by the model" if words.model else "the same"
     which = "scenarios of several sites" if words.several else "scenarios"
     and_loads = f" and {len(made_loads)} loads" if made_loads else ""

@@ -1,8 +1,13 @@
-"""A disk that fails where it is armed to, and the journal on it, as docs/FORMATS.md and docs/DECISIONS.md have them."""
+"""A disk that fails where it is armed to, and the journal on it, as docs/FORMATS.md and docs/DECISIONS.md have them.
+
+The bytes of a journal, of one area or of two, are told in journals.py."""
 
 import struct
 
-HEADER = b"WALTERJ1"
+import journals
+
+# A new journal, and the zeros in front of an area, are written in pieces of so many bytes.
+MOST_WRITE = 65536
 
 
 class Failed(Exception):
@@ -63,24 +68,35 @@ def overwrite(image, at, data):
 
 
 class Journal:
-    """The bodies behind open gates, and the place of the first closed one."""
+    """A journal on a disk: its bodies as they were loaded, the area that counts, and the place of the first closed gate.
 
-    def __init__(self, disk, capacity):
-        self.disk, self.capacity = disk, capacity
-        self.bodies, self.gate = [], len(HEADER)
+    Of the calls that an arm counts a load makes one, a read of the whole disk. Where the disk has no bytes it makes the writes
+    of a new journal, and a sync. An append makes four, of which the third opens the gate. A pack makes four, of which the third
+    turns to the other area; and before them one for each piece of zeros, where the disk ends in front of that area.
+    """
+
+    def __init__(self, disk, capacity, areas=1, sites=journals.MOST_SITES):
+        self.disk, self.capacity, self.sites = disk, capacity, sites
         if not disk.reads and not disk.pending:
-            disk.write(0, HEADER + b"\0")
+            content = journals.empty(areas, capacity)
+            self.write_pieces(0, content)
             disk.sync()
-            return
-        disk.settle()
-        content = disk.read()
-        while content[self.gate] == 1:
-            (length,) = struct.unpack_from(">I", content, self.gate + 1)
-            self.bodies.append(content[self.gate + 5 : self.gate + 5 + length])
-            self.gate += 5 + length
+        else:
+            disk.settle()
+            content = disk.read()
+        holding = journals.read(content, capacity, sites)
+        self.bodies, self.area, self.gate = journals.bodies_of(holding), holding.area, holding.gate
+
+    def write_pieces(self, at, data):
+        for first in range(0, len(data), MOST_WRITE):
+            self.disk.write(at + first, data[first : first + MOST_WRITE])
+
+    def left(self):
+        """How many bytes are left behind the first closed gate."""
+        return max(0, self.area.end - self.gate - 1)
 
     def append(self, body):
-        need, left = len(body) + 5, max(0, self.capacity - self.gate - 1)
+        need, left = len(body) + 5, self.left()
         if need > left:
             raise Full(need, left)
         self.disk.write(self.gate + 1, struct.pack(">I", len(body)) + body + b"\0")
@@ -88,3 +104,19 @@ class Journal:
         self.disk.write(self.gate, b"\1")
         self.disk.sync()
         self.gate += need
+
+    def pack(self):
+        """Packs the bodies that were loaded into the other area, and then turns to it by the switch byte.
+
+        There is nothing to do of one area, or where there are no bodies. Whichever call fails, the content stays: up to the
+        switch byte the live area is as it was, and from then on both areas have it."""
+        if self.area.name is None or not self.bodies:
+            return
+        area, pack = journals.other_area(self.area, self.capacity), journals.pack_of(self.bodies, self.sites)
+        size = len(self.disk.reads)
+        self.write_pieces(size, bytes(max(0, area.begins - size)))
+        self.disk.write(area.begins, pack + b"\0")
+        self.disk.sync()
+        self.disk.write(journals.SWITCH, bytes([area.name == "B"]))
+        self.disk.sync()
+        self.area, self.gate = area, area.begins + len(pack)

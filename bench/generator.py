@@ -4,13 +4,15 @@ Of thirteen seeds in a row one makes a scenario that comes to a limit: a site's 
 a transaction, the ids of a set, the bytes of a value and of a frame, the packets of a lane, the commits in a window, the ticks
 of a pump. Two make one of one site, and ten one of several, in the kinds of `SEVERAL`. These are made beside a run of the plain
 model, which tells which packets there are: so most deliveries find one, in order or not, again, late or never. In three of the
-kinds sites are pumped too, by a link of any rates, and so they are in some of one site.
+kinds sites are pumped too, by a link of any rates, and so they are in some of one site. Where areas are asked for, most have
+journals of two, with about as many bytes for each area as a journal of one would have.
 """
 
 import random
 import struct
 from collections import Counter, namedtuple
 
+import journals
 import model
 from spelled import frame, on_set, write
 
@@ -24,6 +26,7 @@ SEEDS = [0, 1, 7, 2**32, 2**64 - 1]
 RATES = [0, 0, 0, 20, 100, 100, 300, 500, 999, 1000]
 TICKS = [0, 1, 2, 3, 5, 10, 30]
 THREADS = [1, 2, 8, 32]
+AMPLE = 1 << 20
 
 
 def frames(bodies):
@@ -102,6 +105,15 @@ def link_of(rng):
         if rng.random() < 0.15:
             del made[key]
     return made
+
+
+def areas_of(rng, made):
+    """How many areas the journals of a scenario have, and for two of them a capacity: each may be absent."""
+    areas = rng.choice([None, 1, 2, 2, 2, 2])
+    if areas != 2:
+        return {} if areas is None else {"areas": areas}
+    short = 2 * made.get("capacity", AMPLE) + rng.randint(-20, 20)
+    return {"areas": areas, "capacity": max(journals.LEAST_OF_TWO, short)}
 
 
 def step(rng, clients, calm, pumps):
@@ -232,7 +244,7 @@ def of_several(rng, site, regular, reads):
 class Maker:
     """A scenario of several sites while it is made, beside a run of the model that has played its steps so far."""
 
-    def __init__(self, rng, kind):
+    def __init__(self, rng, kind, areas=False):
         self.rng, self.kind, self.steps = rng, kind, []
         self.sites = rng.choice(kind.sites)
         self.made = {"sites": self.sites, "f": rng.choice([0, 0, 1, rng.randrange(self.sites)]),
@@ -240,6 +252,8 @@ class Maker:
         if kind.short:
             # A slow commit begins where its coordinator has about 140 bytes, and its locks take about 40 at each participant.
             self.made["capacity"] = rng.randint(*rng.choice([(19, 60), (150, 190), (150, 190), (190, 400), (400, 1300)]))
+        if areas:
+            self.made.update(areas_of(rng, self.made))
         if rng.random() < kind.arms:
             self.made["arms"] = [arm(rng, rng.randrange(self.sites))[1:] for _ in range(rng.randint(1, 3))]
         if kind.weights[-1]:
@@ -348,8 +362,8 @@ class Maker:
         return {**self.made, "steps": self.steps}
 
 
-def several(rng, kind):
-    return Maker(rng, SEVERAL[kind]).scenario(rng.randint(20, 300))
+def several(rng, kind, areas=False):
+    return Maker(rng, SEVERAL[kind], areas).scenario(rng.randint(20, 300))
 
 
 def full_lane(rng):
@@ -399,8 +413,10 @@ AT_LIMIT = [many_open, many_updates, many_bytes, many_ids, long_value, long_fram
 BY_SEED = [None, "one", "one", *SEVERAL]
 
 
-def scenario(seed):
+def scenario(seed, areas=False):
+    """The scenario of a seed. The key `areas` is in none, unless it is asked for."""
     rng, kind = random.Random(seed), BY_SEED[seed % len(BY_SEED)]
-    if kind is None:
-        return AT_LIMIT[seed // len(BY_SEED) % len(AT_LIMIT)](rng)
-    return small(rng) if kind == "one" else several(rng, kind)
+    if kind not in (None, "one"):
+        return several(rng, kind, areas)
+    made = small(rng) if kind else AT_LIMIT[seed // len(BY_SEED) % len(AT_LIMIT)](rng)
+    return {**made, **areas_of(rng, made)} if areas else made

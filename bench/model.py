@@ -4,7 +4,9 @@ It says again what docs/SITE.md and docs/FORMATS.md say, and docs/DECISIONS.md o
 program: a site keeps the transactions that it has, by version, and what they did, by object; it computes each answer anew
 from these, and after a stop it learns all its records again. It takes scenarios that are right: readings.py refuses others,
 and command.py is the command over both. What the step `pump` takes, and in which order, is drawn by link.py, and loads.py makes
-the scenarios of the command `load`. It doesn't know want of memory, or the end of a trail at 100,000 entries.
+the scenarios of the command `load`. The key `areas` of a scenario, which is 1 where it is absent, says how many areas each
+journal has: with 2 a restart packs what it has read before it writes its Boot, as disks.py and journals.py tell. The model
+doesn't know want of memory, or the end of a trail at 100,000 entries.
 """
 
 import struct
@@ -90,14 +92,14 @@ class Site:
     def __init__(self, scenario, me, met):
         self.met, self.me, self.count, self.tolerated = met, me, scenario["sites"], scenario["f"]
         self.containers = {number: (kind, site) for number, kind, site in scenario["containers"]}
-        self.capacity = scenario.get("capacity", 16777216)
+        self.capacity, self.areas = scenario.get("capacity", 16777216), scenario.get("areas", 1)
         self.peers = [k for k in range(self.count) if k != me]
         self.disk, self.journal = Disk(), None
         self.up, self.clock, self.gone = False, 0, {}
         self.records, self.flight, self.entries = [], None, []
         self.put_out, self.waiting = {k: [] for k in self.peers}, Counter()
         self.forget()
-        Journal(self.disk, self.capacity)
+        self.load()
         self.restart()
 
     # What the site knows
@@ -284,12 +286,26 @@ class Site:
             self.fall()
         self.enter(self.clock + 1, "stop", "taken" if was else "down")
 
+    def load(self):
+        self.journal = Journal(self.disk, self.capacity, self.areas, self.count)
+
+    def pack(self):
+        """Packs the journal where it has two areas. A fault leaves the content as it is, so no record is in flight then."""
+        before = self.journal.area
+        try:
+            self.journal.pack()
+        except Failed:
+            self.met["pack fails"] += 1
+            raise
+        if self.journal.area != before:
+            self.met[f"pack into {self.journal.area.name}"] += 1
+
     def restart(self):
         stamp = self.clock + 1
         if self.up:
             return self.enter(stamp, "restart", "passed")
         try:
-            self.journal = Journal(self.disk, self.capacity)
+            self.load()
         except Failed:
             return self.enter(stamp, "restart", "failed")
         kept = None
@@ -298,6 +314,10 @@ class Site:
             self.records.append(kept)
         self.flight = None
         self.forget()
+        try:
+            self.pack()
+        except Failed:
+            return self.enter(stamp, "restart", "failed", kept)
         boot = BOOT, self.epoch + 1
         try:
             self.journal.append(record_of(boot))

@@ -9,10 +9,10 @@ import re
 
 MOST_BYTES, MOST_DEPTH = 16_777_216, 127
 MOST_SITES, MOST_CONTAINERS, MOST_CLIENTS = 8, 256, 1024
-LEAST_CAPACITY, MOST_CAPACITY = 19, 1_099_511_627_776
+LEAST_CAPACITY, LEAST_OF_TWO_AREAS, CAPACITY, MOST_CAPACITY = 19, 47, 16_777_216, 1_099_511_627_776
 MOST_RATE, MOST_TICKS, MOST_THREADS = 1000, 10_000, 32
 MOST_CALL, MOST_PACKET = 1_000_000, (1 << 32) - 1
-NEEDED, BESIDES = ("sites", "f", "containers", "clients", "steps"), ("capacity", "link", "ticks", "threads", "arms")
+NEEDED, BESIDES = ("sites", "f", "containers", "clients", "steps"), ("capacity", "areas", "link", "ticks", "threads", "arms")
 RATES = ("lose", "repeat", "swap")
 
 TEXTS = {
@@ -27,6 +27,7 @@ TEXTS = {
     "clients": "client {}: wants [site, bytes] in a list, a site below sites, an even number of hex digits, at most 1024 of "
                "each site",
     "capacity": "the capacity: wants a whole number from 19 to 1099511627776",
+    "areas": f"the areas: wants 1, or 2 with a capacity of at least {LEAST_OF_TWO_AREAS}",
     "link": "the link: wants an object of just seed, a whole number below 2^64, and lose, repeat and swap, whole numbers "
             "from 0 to 1000",
     "ticks": "the ticks: wants a whole number from 0 to 10000",
@@ -232,6 +233,10 @@ def is_client(value, sites):
             and re.fullmatch("(?:[0-9a-fA-F]{2})*", value[1]) is not None)
 
 
+def are_areas(value, capacity):
+    return is_whole(value, 1, 3) and (value == 1 or capacity >= LEAST_OF_TWO_AREAS)
+
+
 def is_link(value):
     return (type(value) is dict and set(value) == {"seed", *RATES} and is_whole(value["seed"], 0, 1 << 64)
             and all(is_whole(value[rate], 0, MOST_RATE + 1) for rate in RATES))
@@ -335,6 +340,8 @@ def check(value):
     check_clients(value["clients"], sites)
     if "capacity" in value and not is_whole(value["capacity"], LEAST_CAPACITY, MOST_CAPACITY + 1):
         refuse("capacity")
+    if "areas" in value and not are_areas(value["areas"], value.get("capacity", CAPACITY)):
+        refuse("areas")
     if "link" in value and not is_link(value["link"]):
         refuse("link")
     if "ticks" in value and not is_whole(value["ticks"], 0, MOST_TICKS + 1):

@@ -92,6 +92,17 @@ class NoScenario(Wrong):
         return f"{name}: {self}"
 
 
+class NoScript(NoScenario):
+    """A scenario with a key for which scripts have no line."""
+
+    def __init__(self, key):
+        super().__init__()
+        self.key = key
+
+    def __str__(self):
+        return f'key "{self.key}": a script has no line for it'
+
+
 class Unfit(Exception):
     """A word that doesn't fit, and what is wanted in its place. Where no form is told it is that of the line."""
 
@@ -627,6 +638,8 @@ def words_of_step(word, *numbers):
 
 def write(made):
     """A script of a scenario. Clients are named by their numbers, client0 and so on."""
+    if "areas" in made:
+        raise NoScript("areas")
     sent = [bytes.fromhex(sent) for _, sent in made["clients"]]
     # How many of each client's bytes its turns have sent so far.
     ends = [0] * len(sent)

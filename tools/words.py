@@ -132,6 +132,17 @@ def record(one, site):
     return "Marks %d %d" % one.marks if one.kind == "Marks" else f"{one.kind} {one.number}"
 
 
+def whole_record(one):
+    """A record as a journal has it, with what its transaction saw and changes."""
+    transaction = one.transaction
+    if transaction is None:
+        return record(one, one.site)
+    slow = f", its slow commit {transaction.slow}" if transaction.slow and one.kind != "SlowBegin" else ""
+    snapshot = ",".join(map(str, transaction.snapshot))
+    return (f"{record(one, transaction.name[0])} of {name(transaction.name)}{slow}, with the snapshot {snapshot} "
+            f"({updates(transaction)})")
+
+
 def objects(oids):
     return ", ".join(map(pair, oids))
 
