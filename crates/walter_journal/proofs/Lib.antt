@@ -5,3 +5,4 @@ pub mod Layouts
 mod Reading
 pub mod Standing
 pub mod Told
+pub mod Zeros

@@ -1,9 +1,11 @@
-ghost use Rattle.std.specs.Prelude.{◌≡◌, ◌+◌, ◌<◌, ◌≤◌, ◌++◌, ◌∷◌, [], ℕ, List, length, is_some, option_map, vec_capacity, true, false, Err, OnOk, OnErr};
+ghost use Rattle.std.specs.Prelude.{◌≡◌, ◌+◌, ◌-◌, ◌<◌, ◌≤◌, ◌++◌, ◌∷◌, [], ℕ, List, length, min, is_some, option_map, vec_capacity, true, false, Err, OnOk, OnErr};
 ghost use Rattle.walter_disk.specs.Disks.{written, Breaks, Fails, MakesRoom, TakesRoom};
 ghost use Rattle.walter_disk.specs.Images.{Torn, Only, IsDurable, Follows, Narrows, Elapses, LeavesOnly};
+ghost use Rattle.walter_journal.specs.Zeros.{zeros as zeros_of, filled_disk, writes_of, Grows, HasGrown};
 ghost use Rattle.walter_journal.specs.Layout.{record_of, IsBeforeOrBehind, IsBehindOrOneMore};
 
 use crate::fault::AppendFault;
+use crate::filling::fill;
 use byteorder::{BigEndian, ByteOrder};
 use std::alloc::Global;
 use walter_disk::{Disk, Failed, Mem, NoMemory, write_and_sync};
@@ -37,6 +39,12 @@ impl<D: Disk> Journal<D> {
             end,
             staged: Vec::new(alloc),
         }
+    }
+
+    pub fn disk(&self) -> &D
+        ensures { result.now ≡ disk_of self.now }
+    {
+        &self.disk
     }
 
     /// The disk, as it is.
@@ -135,6 +143,34 @@ impl<D: Disk> Journal<D> {
             (D.left_since (disk_of self.old)) (D.left_since (disk_of self.new)) (D.may_leave (disk_of self.new)) }
     {
         self.disk.write_at(at, from)
+    }
+
+    /// Does to the disk what `fill` does.
+    pub fn fill(&mut self, zeros: &[u8], to: u64) -> Result<(), Failed>
+        requires zeros { zeros.now ≡ zeros_of (length zeros.now) }
+        requires few { length zeros.now ≤ 65536 }
+        requires enough { min 65536 (to - (D.known (disk_of self.old)).size) ≤ length zeros.now }
+        requires end { to ≤ D.room_end (disk_of self.old) }
+        requires calls { writes_of (to - (D.known (disk_of self.old)).size) ≤ D.room_calls (disk_of self.old) }
+        ensures done { OnOk result (
+            D.known (disk_of self.new) ≡ filled_disk to (D.known (disk_of self.old))) }
+        ensures failed { OnErr result (Fails (D.known (disk_of self.old)) (D.known (disk_of self.new))) }
+        ensures room { TakesRoom (writes_of (to - (D.known (disk_of self.old)).size))
+            (D.room_end (disk_of self.old)) (D.room_end (disk_of self.new))
+            (D.room_calls (disk_of self.old)) (D.room_calls (disk_of self.new)) }
+        ensures device { OnOk result (D.device_calls (disk_of self.new)
+            ≡ D.device_calls (disk_of self.old) + writes_of (to - (D.known (disk_of self.old)).size)) }
+        ensures at_most { D.device_calls (disk_of self.new)
+            ≤ D.device_calls (disk_of self.old) + writes_of (to - (D.known (disk_of self.old)).size) }
+        ensures capacity { capacity_of self.new ≡ capacity_of self.old }
+        ensures same_end { end_of self.new ≡ end_of self.old }
+        ensures staged { staged_of self.new ≡ staged_of self.old }
+        ensures crash { Follows (Grows (D.known (disk_of self.old)).size to)
+            (D.may_leave (disk_of self.old)) (D.may_leave (disk_of self.new)) }
+        ensures any_moment { LeavesOnly D.moment D.left_since (disk_of self.old) (disk_of self.new)
+            (HasGrown (D.known (disk_of self.old)).size to (D.may_leave (disk_of self.old))) }
+    {
+        fill(&mut self.disk, zeros, to)
     }
 
     /// Does to the disk what `Disk::sync` does.

@@ -13,8 +13,8 @@ pub(crate) const HEADER: [u8; 8] = *b"WALTERJ1";
 /// The most bytes that a body may have.
 const LONGEST_BODY: usize = 65_536;
 
-// The body behind an open gate, and what follows it from the next gate on; or the length that claims too much.
-fn record_at(behind: &[u8]) -> Result<(&[u8], &[u8]), u32>
+/// The body behind an open gate, and what follows it from the next gate on; or the length that claims too much.
+pub fn record_at(behind: &[u8]) -> Result<(&[u8], &[u8]), u32>
     ensures ok { IfOk result (λ found.
         (behind.now ≡ record_of found.0.now ++ found.1.now) × IsShort found.0.now × (0 < length found.1.now)) }
     ensures err { IfErr result (ClaimsTooMuch behind.now) }
@@ -57,7 +57,7 @@ pub fn bodies_behind(
 }
 
 /// The bodies that the bytes are a journal of, and the place behind the gate that ends them.
-pub(crate) fn bodies_of(alloc: Global, bytes: &[u8]) -> Result<(Bodies, usize), JournalFault>
+pub fn bodies_of(alloc: Global, bytes: &[u8]) -> Result<(Bodies, usize), JournalFault>
     ensures ok { IfOk result (λ found.
         HasContent bytes.now found.0 × (found.1 ≡ end_behind found.0)) }
     ensures fault { IfErr result (IsWrong bytes.now) }

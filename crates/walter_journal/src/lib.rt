@@ -3,12 +3,14 @@
 
 mod bodies;
 mod fault;
+mod filling;
 mod journal;
 mod layout;
 mod loading;
 
 pub use bodies::Bodies;
 pub use fault::{AppendFault, JournalFault};
+pub use filling::fill;
 pub use journal::Journal;
-pub use layout::{bodies_behind, layouts_differ};
+pub use layout::{bodies_behind, bodies_of, layouts_differ, record_at};
 pub use loading::{begin, load, settle_and_read};

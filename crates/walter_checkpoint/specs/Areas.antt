@@ -1,0 +1,112 @@
+-- The bytes of a book, as docs/FORMATS.md ("Two areas") says them. Of one area it is a journal. Of two areas it has a
+-- header, a switch byte, and then two areas of the same size, of which one is live: B where the byte is 1, else A. An area
+-- has a pack and, behind it, the gates and records of a journal.
+use Rattle.std.specs.Prelude.{◌≡◌, ◌≢◌, ◌⊎◌, ◌+◌, ◌-◌, ◌/◌, ◌^◌, ◌<◌, ◌≤◌, ℕ, List, [], ◌∷◌, ◌++◌, length, take, drop, All}
+use Rattle.byteorder.specs.Endian.{big_number}
+use Rattle.walter_checkpoint.specs.Packs.{pack_of}
+use Rattle.walter_journal.specs.Layout.{header, span_of, records, IsShort, HasBehind, ClaimsTooMuch}
+use Rattle.walter_journal.specs.Layout as journal
+
+-- "WALTERK1"
+abbrev pub header_of_two : List ℕ
+header_of_two = 0x57 ∷ 0x41 ∷ 0x4C ∷ 0x54 ∷ 0x45 ∷ 0x52 ∷ 0x4B ∷ 0x31 ∷ []
+
+-- by what the bytes are read, beside themselves
+pub record Shape : Type 0 where
+  -- the place that they may not pass
+  pub capacity : ℕ
+  -- how many sites there are
+  pub sites : ℕ
+
+-- how many bytes each of two areas has
+abbrev pub area_size : Shape → ℕ
+area_size shape = (shape.capacity - 9) / 2
+
+-- the bytes from the place of an area on: a pack, and behind it gates and records, within the area
+pub record HasArea (shape : Shape) (bytes : List ℕ) (bodies : List (List ℕ)) : Type 0 where
+  pub packed : List (List ℕ)
+  pub behind : List (List ℕ)
+  pub are : bodies ≡ packed ++ behind
+  pub short : All IsShort packed
+  pub content : HasBehind (pack_of shape.sites packed) bytes behind
+  pub within : length (pack_of shape.sites packed) + span_of behind ≤ area_size shape
+
+-- the area that the switch byte makes live has these bodies, where these bytes stand behind it
+abbrev pub IsLive : Shape → ℕ → List ℕ → List (List ℕ) → Type 0
+IsLive shape switch areas bodies =
+    ((switch ≢ 1) × HasArea shape areas bodies) ⊎ ((switch ≡ 1) × HasArea shape (drop (area_size shape) areas) bodies)
+
+-- the bytes of a book of two areas with these bodies
+pub record HasTwo (shape : Shape) (bytes : List ℕ) (bodies : List (List ℕ)) : Type 0 where
+  pub least : 47 ≤ shape.capacity
+  pub switch : ℕ
+  pub areas : List ℕ
+  pub is : bytes ≡ header_of_two ++ switch ∷ areas
+  pub live : IsLive shape switch areas bodies
+
+-- the bytes of a book with these bodies
+abbrev pub HasContent : Shape → List ℕ → List (List ℕ) → Type 0
+HasContent shape bytes bodies = journal.HasContent bytes bodies ⊎ HasTwo shape bytes bodies
+
+-- with these bodies, or with one more behind them
+abbrev pub IsBeforeOrBehind : Shape → List (List ℕ) → List ℕ → List ℕ → Type 0
+IsBeforeOrBehind shape bodies body image = HasContent shape image bodies ⊎ HasContent shape image (bodies ++ body ∷ [])
+
+-- they begin as no book does, or as one of two areas where the capacity is too small for these
+abbrev pub IsForeign : Shape → List ℕ → Type 0
+IsForeign shape bytes =
+    (length bytes < 9) ⊎ ((take 8 bytes ≢ header) × ((take 8 bytes ≢ header_of_two) ⊎ (shape.capacity < 47)))
+
+-- Neither such a length and entries of bodies nor a byte behind them stand within the area. A length that has more than four
+-- bytes is told as the greatest of four, and 0 where it isn't there whole.
+abbrev pub IsToldLength : List ℕ → ℕ → Type 0
+IsToldLength area told =
+    ((length area < 8) × (told ≡ 0))
+    ⊎ ((8 ≤ length area) × (((big_number 8 area < 2 ^ 32) × (told ≡ big_number 8 area)) ⊎ ((2 ^ 32 ≤ big_number 8 area) × (told ≡ 2 ^ 32 - 1))))
+
+abbrev pub HasNoPack : Shape → List ℕ → Type 0
+HasNoPack shape area =
+    (packed : List (List ℕ)) (rest : List ℕ) → All IsShort packed → 0 < length rest → area ≢ pack_of shape.sites packed ++ rest
+
+-- an open gate of an area is followed by a length that claims too much
+pub record IsGateWrong (shape : Shape) (area : List ℕ) (at claimed : ℕ) : Type 0 where
+  pub packed : List (List ℕ)
+  pub behind : List (List ℕ)
+  pub rest : List ℕ
+  pub is : area ≡ pack_of shape.sites packed ++ records behind ++ 1 ∷ rest
+  pub short : All IsShort packed
+  pub fit : All IsShort behind
+  pub place : at ≡ length (pack_of shape.sites packed) + length (records behind)
+  pub wrong : ClaimsTooMuch rest claimed
+
+-- the live area is damaged, by the place in it, within its size
+abbrev pub IsAreaDamaged : Shape → List ℕ → ℕ → ℕ → Type 0
+IsAreaDamaged shape area at claimed =
+    (HasNoPack shape area × (at ≡ 0) × IsToldLength area claimed) ⊎ IsGateWrong shape area at claimed
+
+pub record IsTwoDamaged (shape : Shape) (bytes : List ℕ) (at claimed : ℕ) : Type 0 where
+  pub least : 47 ≤ shape.capacity
+  pub switch : ℕ
+  pub areas : List ℕ
+  pub is : bytes ≡ header_of_two ++ switch ∷ areas
+  pub place : ℕ
+  pub live :
+      ((switch ≢ 1) × (at ≡ 9 + place) × IsAreaDamaged shape (take (area_size shape) areas) place claimed)
+      ⊎ ((switch ≡ 1) × (at ≡ 9 + area_size shape + place) × IsAreaDamaged shape (take (area_size shape) (drop (area_size shape) areas)) place claimed)
+
+abbrev pub IsDamaged : Shape → List ℕ → ℕ → ℕ → Type 0
+IsDamaged shape bytes at claimed = journal.IsDamaged bytes at claimed ⊎ IsTwoDamaged shape bytes at claimed
+
+-- a write of so many bytes at this place is behind what the live area has, or in the other area
+abbrev pub IsAside : Shape → ℕ → ℕ → ℕ → Type 0
+IsAside shape switch at count =
+    ((switch ≢ 1) × (at ≡ 9 + area_size shape)) ⊎ ((switch ≡ 1) × (at ≡ 9) × (count ≤ area_size shape))
+
+-- both areas have these bodies, so the switch byte chooses between the same
+pub record HasBoth (shape : Shape) (bytes : List ℕ) (bodies : List (List ℕ)) : Type 0 where
+  pub least : 47 ≤ shape.capacity
+  pub switch : ℕ
+  pub areas : List ℕ
+  pub is : bytes ≡ header_of_two ++ switch ∷ areas
+  pub first : HasArea shape areas bodies
+  pub second : HasArea shape (drop (area_size shape) areas) bodies

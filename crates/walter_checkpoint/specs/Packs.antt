@@ -1,0 +1,52 @@
+-- A pack, as docs/FORMATS.md ("Two areas") says it: bodies of records, each behind its mark and its length. Of a body with
+-- a start the zeros are left out that stand for sites which there aren't.
+use Rattle.std.specs.Prelude.{◌==◌, ◌-◌, ◌*◌, nat_lt, if◌then◌else◌, ℕ, Bool, false, List, [], ◌∷◌, ◌++◌, length, take, drop, get_or, flat_map}
+use Rattle.std.specs.List.{list_all}
+use Rattle.byteorder.specs.Endian.{big_bytes}
+use Rattle.walter_journal.specs.Layout.{record_of}
+
+abbrev pub are_zeros : List ℕ → Bool
+are_zeros xs = list_all (λ x. x == 0) xs
+
+-- the place behind the start in a record that begins with this byte; 0 where it has none
+abbrev pub start_end : ℕ → ℕ
+start_end kind = if kind == 2 then 94 else if kind == 3 then 95 else if kind == 7 then 94 else 0
+
+-- how many bytes of a start stand for sites that there aren't, among so many
+abbrev pub spare_of : ℕ → ℕ
+spare_of sites = 64 - 8 * sites
+
+-- how many bytes of a body stand in front of the zeros that may be left out
+abbrev pub kept_in : ℕ → List ℕ → ℕ
+kept_in sites body = start_end (get_or body 0 0) - spare_of sites
+
+-- the zeros are there, and are left out
+abbrev pub is_cut : ℕ → List ℕ → Bool
+is_cut sites body =
+    if nat_lt sites 8
+    then if start_end (get_or body 0 0) == 0
+    then false
+    else if nat_lt (length body) (start_end (get_or body 0 0))
+    then false
+    else are_zeros (take (spare_of sites) (drop (kept_in sites body) body))
+    else false
+
+-- the body without them
+abbrev pub cut : ℕ → List ℕ → List ℕ
+cut sites body = take (kept_in sites body) body ++ drop (start_end (get_or body 0 0)) body
+
+-- the entry of a body
+abbrev pub entry_of : ℕ → List ℕ → List ℕ
+entry_of sites body = if is_cut sites body then 1 ∷ record_of (cut sites body) else 0 ∷ record_of body
+
+-- the entries of bodies
+abbrev pub entries : ℕ → List (List ℕ) → List ℕ
+entries sites bodies = flat_map (entry_of sites) bodies
+
+-- the entries behind their length in eight bytes
+abbrev pub pack_of : ℕ → List (List ℕ) → List ℕ
+pack_of sites bodies = big_bytes 8 (length (entries sites bodies)) ++ entries sites bodies
+
+-- what a pack begins an area with: a closed gate stands behind it
+abbrev pub renewed_by : ℕ → List (List ℕ) → List ℕ
+renewed_by sites bodies = pack_of sites bodies ++ 0 ∷ []

@@ -1,0 +1,127 @@
+ghost use Rattle.std.specs.Prelude.{◌≡◌, ◌≢◌, ◌^◌, ◌+◌, ◌≤◌, ◌-◌, ◌/◌, ℕ, List, length, is_some, true, ◌<◌, Err, OnOk, OnErr};
+ghost use Rattle.walter_disk.specs.Disks.{Fails};
+ghost use Rattle.walter_disk.specs.Images.{LeavesOnly};
+ghost use Rattle.walter_checkpoint.specs.Areas.{HasContent, IsBeforeOrBehind};
+ghost use Rattle.walter_checkpoint.specs.Books.{disk_of, shape_of, left_of, HasRoom, Appends, live_after, StandsFor, IsReady, IsOther, HasPackRoom, Packs};
+ghost use Rattle.walter_journal.specs.Journals.{need_of};
+
+use walter_disk::{Disk, Failed};
+use walter_journal::{AppendFault, Journal};
+
+/// Which part of its disk is live: all of it, or one of two areas.
+#[derive(Clone, Copy, Debug, PartialEq, Eq)]
+pub(crate) enum Live {
+    Whole,
+    A,
+    B,
+}
+
+/// An area that is to be live: its place, and the switch byte that makes it so.
+#[derive(Clone, Copy, Debug)]
+struct Other {
+    at: u64,
+    switch: u8,
+    live: Live,
+}
+
+// The area of a book of two that isn't live.
+fn other_area(live: Live, size: u64) -> Other
+    requires two { live ≢ Live.Whole }
+    requires fits { size ≤ 2 ^ 63 }
+    ensures { IsOther live size result }
+{
+    match live {
+        Live::B => Other {
+            at: 9,
+            switch: 0,
+            live: Live::A,
+        },
+        _ => Other {
+            at: 9 + size,
+            switch: 1,
+            live: Live::B,
+        },
+    }
+}
+
+/// A book on a disk. Clauses see the lists of bodies that it stands for.
+#[derive(Drop)]
+pub struct Book<D: Disk> {
+    journal: Journal<D>,
+    capacity: u64,
+    sites: u8,
+    live: Live,
+    // What `pack` writes into the other area.
+    renewal: Vec<u8>,
+}
+
+impl<D: Disk> Book<D> {
+    /// Begins the other area with a pack of all bodies, and makes it live. A journal of one area stays as it is. After
+    /// `Failed` the book is to be loaded again.
+    pub fn pack(&mut self) -> Result<(), Failed>
+        requires room { HasPackRoom self.old }
+
+        // A crash at any moment of the call leaves the bodies from before it.
+        ensures any_moment { (bodies : List (List ℕ)) → StandsFor self.old bodies → IsReady self.old bodies
+            → LeavesOnly D.moment D.left_since (disk_of self.old) (disk_of self.new)
+            (λ image. HasContent (shape_of self.old) image bodies) }
+        ensures ok { (bodies : List (List ℕ)) → StandsFor self.old bodies → IsReady self.old bodies
+            → OnOk result (Packs self.old self.new bodies) }
+        ensures failed { OnErr result (Fails (D.known (disk_of self.old)) (D.known (disk_of self.new))) }
+        ensures shape { shape_of self.new ≡ shape_of self.old }
+        ensures live { OnOk result (self.new.live ≡ live_after self.old.live) }
+        ensures at_most { D.device_calls (disk_of self.new) ≤ D.device_calls (disk_of self.old) + 4 }
+    {
+        if let Live::Whole = self.live {
+            return Ok(());
+        }
+        let size = (self.capacity - 9) / 2;
+        let Other { at, switch, live } = other_area(self.live, size);
+        self.journal.write_elsewhere(at, &self.renewal)?;
+        self.journal.write_elsewhere(8, &[switch])?;
+        self.journal
+            .go_on(at + self.renewal.len() as u64, at + size);
+        self.live = live;
+        Ok(())
+    }
+
+    /// The disk, as it is.
+    pub fn into_disk(self) -> D
+        ensures { result ≡ disk_of self }
+    {
+        let Book { journal, .. } = self;
+        journal.into_disk()
+    }
+
+    /// Adds a body behind the others. It takes no memory, and is safe once this answers Ok. After `Failed` each append
+    /// that isn't `Full` fails, until the book is loaded again.
+    pub fn append(&mut self, body: &[u8]) -> Result<(), AppendFault>
+        requires short { length body.now ≤ 65536 }
+        requires room { HasRoom self.old (length body.now) }
+
+        // `Full` comes exactly where the body needs more than is left.
+        ensures full { left_of self.old < need_of body.now
+            → (result ≡ Err (AppendFault.Full (need_of body.now) (left_of self.old)))
+            × (self.new ≡ self.old) }
+        ensures failed { need_of body.now ≤ left_of self.old
+            → OnErr result ((result ≡ Err AppendFault.Failed)
+            × Fails (D.known (disk_of self.old)) (D.known (disk_of self.new))) }
+        ensures broken { need_of body.now ≤ left_of self.old
+            → (D.known (disk_of self.old)).broken ≡ true → result ≡ Err AppendFault.Failed }
+        ensures ok { OnOk result (Appends self.old self.new body.now) }
+
+        // A crash at any moment of the call leaves the bodies from before it, with this one behind them or without.
+        ensures any_moment { (bodies : List (List ℕ)) → StandsFor self.old bodies
+            → LeavesOnly D.moment D.left_since (disk_of self.old) (disk_of self.new)
+            (IsBeforeOrBehind (shape_of self.old) bodies body.now) }
+        ensures arms { (D.known (disk_of self.new)).arms ≡ (D.known (disk_of self.old)).arms }
+        ensures tells { is_some (D.known (disk_of self.new)).reads
+            ≡ is_some (D.known (disk_of self.old)).reads }
+        ensures shape { shape_of self.new ≡ shape_of self.old }
+        ensures live { self.new.live ≡ self.old.live }
+        ensures device { OnOk result (D.device_calls (disk_of self.new) ≡ D.device_calls (disk_of self.old) + 4) }
+        ensures at_most { D.device_calls (disk_of self.new) ≤ D.device_calls (disk_of self.old) + 4 }
+    {
+        self.journal.append(body)
+    }
+}
