@@ -187,14 +187,10 @@ fn away_from_streams(file: File) -> io::Result<File> {
     }
 }
 
-// Leaves nothing pending, and answers the size. The copies of its bytes in memory are let go, since after a sync that
-// failed they may differ from what the device has.
+// Leaves nothing pending, and answers the size. After a sync that failed the system may read bytes that the device
+// doesn't have, until it lets go of its copies.
 fn settle_file(file: &File) -> io::Result<u64> {
     file.sync_all()?;
-    let advised = libc::posix_fadvise(file.as_raw_fd(), 0, 0, libc::POSIX_FADV_DONTNEED);
-    if advised != 0 {
-        return Err(io::Error::from_raw_os_error(advised));
-    }
     Ok(file.metadata()?.len())
 }
 
