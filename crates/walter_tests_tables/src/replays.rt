@@ -6,7 +6,8 @@ ghost use Rattle.walter_tables.specs.Sites.{catalog_of};
 use std::alloc::Global;
 use std::test::Fail;
 use walter_base::{
-    Bytes, Catalog, Kind, Mem, ObjId, Objects, Record, SiteId, Snapshot, Tid, Tx, Update, Updates, Vts,
+    Bytes, Catalog, Kind, Mem, ObjId, Objects, Record, SiteId, Snapshot, Tid, Tx, Update, Updates,
+    Vts,
 };
 use walter_tables::{ReplayFault, Tables};
 

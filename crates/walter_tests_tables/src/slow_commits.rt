@@ -2,7 +2,9 @@ ghost use Rattle.std.specs.Prelude.{◌≡◌, ◌+◌, OnOk};
 
 use std::alloc::Global;
 use std::test::Fail;
-use walter_base::{Answer, Conflict, Mem, ObjId, SiteId, Sites, Snapshot, Tid, Tx, Updates, Version, Vts};
+use walter_base::{
+    Answer, Conflict, Mem, ObjId, SiteId, Sites, Snapshot, Tid, Tx, Updates, Version, Vts,
+};
 use walter_slow::{SlowCommits, Verdict};
 
 const FIRST: SiteId = SiteId(1);
@@ -51,8 +53,8 @@ static VOTES: [(SiteId, u64, Answer, Verdict); 15] = [
     (FIRST, 9, Answer::Yes, Verdict::Unknown),
 ];
 
-fn tx_of(alloc: Global, slow: u64) -> Tx {
-    Tx {
+fn tx_of(alloc: Global, slow: u64) -> Mem<Tx> {
+    Ok(Tx {
         tid: Tid {
             site: SiteId(0),
             epoch: 1,
@@ -61,7 +63,7 @@ fn tx_of(alloc: Global, slow: u64) -> Tx {
         slow,
         start: Snapshot::new(alloc, Vts::zero(4))?,
         updates: Updates::from_vec(Vec::new(alloc))?,
-    }
+    })
 }
 
 fn begin(alloc: Global, commits: &mut SlowCommits, slow: u64, asked: &[SiteId]) -> Mem<()>
@@ -69,8 +71,9 @@ fn begin(alloc: Global, commits: &mut SlowCommits, slow: u64, asked: &[SiteId]) 
     ensures { OnOk result (commits.new.last ≡ slow) }
 {
     let participants = Sites::from(asked.to_vec(alloc)?);
+    let tx = tx_of(alloc, slow)?;
     commits.reserve(asked.len() as u64)?;
-    commits.begin(slow, tx_of(alloc, slow), participants);
+    commits.begin(slow, tx, participants);
     Ok(())
 }
 
