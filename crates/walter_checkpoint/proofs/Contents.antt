@@ -1,6 +1,6 @@
 -- Bytes are a book of one list of bodies. With the header of one area it is a journal's.
 use Rattle.std.proofs.Common.{◌≡◌, ◌≢◌, ◌⊎◌, inl, inr, ⊎_elim, ◌+◌, ◌-◌, ◌<◌, ◌≤◌, ◌^◌, ℕ, Bool, true, false, List, [], ◌∷◌, ◌++◌, length, take, drop, get_or, if◌then◌else◌, All, refl, sym, ap, subst, ◌∙◌, arith, append_assoc, length-append, take-append-drop}
-use Rattle.std.proofs.lemmas.Bool.{true≢false, eq-eqb, ltb-false}
+use Rattle.std.proofs.lemmas.Bool.{true≢false, eq-eqb, ltb-true, ltb-false}
 use Rattle.std.proofs.lemmas.Bool.Decides.{eqb_tells}
 use Rattle.std.specs.Prelude.{◌==◌, ◌&&◌, nat_lt}
 use Rattle.std.proofs.lemmas.List.{take_at, drop_at, length-take, length-drop, drop-drop, get_or-take, get_or_append_left}
@@ -49,12 +49,13 @@ same_zeros (x ∷ a) (y ∷ b) za zb e =
     λ i. head i ∷ tail i
 
 -- what it says of a body that its zeros are left out
-record IsCut (sites : ℕ) (body : List ℕ) : Type 0 where
-  start : (start_end (get_or body 0 0) ≡ 94) ⊎ (start_end (get_or body 0 0) ≡ 95)
-  there : start_end (get_or body 0 0) ≤ length body
-  zeros : are_zeros (take (spare_of sites) (drop (kept_in sites body) body)) ≡ true
+pub record IsCut (sites : ℕ) (body : List ℕ) : Type 0 where
+  pub few : sites < 8
+  pub start : (start_end (get_or body 0 0) ≡ 94) ⊎ (start_end (get_or body 0 0) ≡ 95)
+  pub there : start_end (get_or body 0 0) ≤ length body
+  pub zeros : are_zeros (take (spare_of sites) (drop (kept_in sites body) body)) ≡ true
 
-kinds : (kind : ℕ) → (start_end kind ≡ 0) ⊎ ((start_end kind ≡ 94) ⊎ (start_end kind ≡ 95))
+pub kinds : (kind : ℕ) → (start_end kind ≡ 0) ⊎ ((start_end kind ≡ 94) ⊎ (start_end kind ≡ 95))
 kinds kind = two (kind == 2) (kind == 3) (kind == 7)
   where
     by : Bool → Bool → Bool → ℕ
@@ -66,41 +67,42 @@ kinds kind = two (kind == 2) (kind == 3) (kind == 7)
     two false false true = inr (inl refl)
     two false false false = inl refl
 
-cut_is : (sites : ℕ) (body : List ℕ) → is_cut sites body ≡ true → IsCut sites body
+pub cut_is : (sites : ℕ) (body : List ℕ) → is_cut sites body ≡ true → IsCut sites body
 cut_is sites body is = first (nat_lt sites 8) (start_end (get_or body 0 0) == 0) (nat_lt (length body) (start_end (get_or body 0 0))) refl refl refl is
   where
-    first : (a b c : Bool) → (start_end (get_or body 0 0) == 0) ≡ b → nat_lt (length body) (start_end (get_or body 0 0)) ≡ c → a ≡ a
+    first : (a b c : Bool) → (start_end (get_or body 0 0) == 0) ≡ b → nat_lt (length body) (start_end (get_or body 0 0)) ≡ c → nat_lt sites 8 ≡ a
         → (if a then (if b then false else (if c then false else are_zeros (take (spare_of sites) (drop (kept_in sites body) body)))) else false) ≡ true → IsCut sites body
     first false b c eb ec ea z = absurd (true≢false (sym z))
     first true true c eb ec ea z = absurd (true≢false (sym z))
     first true false true eb ec ea z = absurd (true≢false (sym z))
     first true false false eb ec ea z = record {
+      few = ltb-true sites 8 ea;
       start = ⊎_elim (λ none. absurd (true≢false (sym (eq-eqb (start_end (get_or body 0 0)) 0 none) ∙ eb))) (λ some. some) (kinds (get_or body 0 0));
       there = ltb-false (length body) (start_end (get_or body 0 0)) ec;
       zeros = z;
     }
 
-kept_head : (sites : ℕ) (body : List ℕ) → IsCut sites body → (30 ≤ kept_in sites body) × (kept_in sites body + spare_of sites ≡ start_end (get_or body 0 0))
+pub kept_head : (sites : ℕ) (body : List ℕ) → IsCut sites body → (30 ≤ kept_in sites body) × (kept_in sites body + spare_of sites ≡ start_end (get_or body 0 0))
 kept_head sites body is = ⊎_elim (λ a. (omega (arith, a), omega (arith, a))) (λ b. (omega (arith, b), omega (arith, b))) is.start
 
-length-kept : (sites : ℕ) (body : List ℕ) → IsCut sites body → length (take (kept_in sites body) body) ≡ kept_in sites body
+pub length-kept : (sites : ℕ) (body : List ℕ) → IsCut sites body → length (take (kept_in sites body) body) ≡ kept_in sites body
 length-kept sites body is = omega (arith, length-take (kept_in sites body) body, is.there, (kept_head sites body is).1)
 
-first_kept : (sites : ℕ) (body : List ℕ) → IsCut sites body → get_or (cut sites body) 0 0 ≡ get_or body 0 0
+pub first_kept : (sites : ℕ) (body : List ℕ) → IsCut sites body → get_or (cut sites body) 0 0 ≡ get_or body 0 0
 first_kept sites body is =
     get_or_append_left (take (kept_in sites body) body) (drop (start_end (get_or body 0 0)) body) 0 0 (omega (arith, length-kept sites body is, (kept_head sites body is).0))
     ∙ get_or-take (kept_in sites body) body 0 0 (omega (arith, (kept_head sites body is).0))
 
-parts : (sites : ℕ) (body : List ℕ) → IsCut sites body → body ≡ take (kept_in sites body) body ++ (take (spare_of sites) (drop (kept_in sites body) body) ++ drop (start_end (get_or body 0 0)) body)
+pub parts : (sites : ℕ) (body : List ℕ) → IsCut sites body → body ≡ take (kept_in sites body) body ++ (take (spare_of sites) (drop (kept_in sites body) body) ++ drop (start_end (get_or body 0 0)) body)
 parts sites body is =
     let k = kept_in sites body in
     let rest : drop (spare_of sites) (drop k body) ≡ drop (start_end (get_or body 0 0)) body = drop-drop (spare_of sites) k body ∙ ap (λ n. drop n body) (kept_head sites body is).1 in
     sym (take-append-drop k body) ∙ ap (λ l. take k body ++ l) (sym (take-append-drop (spare_of sites) (drop k body)) ∙ ap (λ l. take (spare_of sites) (drop k body) ++ l) rest)
 
-length-window : (sites : ℕ) (body : List ℕ) → IsCut sites body → length (take (spare_of sites) (drop (kept_in sites body) body)) ≡ spare_of sites
+pub length-window : (sites : ℕ) (body : List ℕ) → IsCut sites body → length (take (spare_of sites) (drop (kept_in sites body) body)) ≡ spare_of sites
 length-window sites body is = omega (arith, length-take (spare_of sites) (drop (kept_in sites body) body), length-drop (kept_in sites body) body, is.there, (kept_head sites body is).1)
 
-same_cut : (sites : ℕ) (a b : List ℕ) → IsCut sites a → IsCut sites b → cut sites a ≡ cut sites b → a ≡ b
+pub same_cut : (sites : ℕ) (a b : List ℕ) → IsCut sites a → IsCut sites b → cut sites a ≡ cut sites b → a ≡ b
 same_cut sites a b is_a is_b e =
     let kind : get_or a 0 0 ≡ get_or b 0 0 = sym (first_kept sites a is_a) ∙ ap (λ l. get_or l 0 0) e ∙ first_kept sites b is_b in
     let kept : kept_in sites a ≡ kept_in sites b = ap (λ k. start_end k - spare_of sites) kind in
@@ -114,11 +116,11 @@ same_cut sites a b is_a is_b e =
     let middle = same_zeros (take (spare_of sites) (drop (kept_in sites a) a)) (take (spare_of sites) (drop (kept_in sites b) b)) is_a.zeros is_b.zeros (length-window sites a is_a ∙ sym (length-window sites b is_b)) in
     parts sites a is_a ∙ (λ i. front i ++ (middle i ++ back i)) ∙ sym (parts sites b is_b)
 
-short_cut : (sites : ℕ) (body : List ℕ) → IsShort body → IsShort (cut sites body)
+pub short_cut : (sites : ℕ) (body : List ℕ) → IsShort body → IsShort (cut sites body)
 short_cut sites body short = omega (arith, length-cut sites body, short)
 
 -- no entry begins another
-same_entry : (sites : ℕ) (a b x y : List ℕ) → IsShort a → IsShort b → entry_of sites a ++ x ≡ entry_of sites b ++ y → (a ≡ b) × (x ≡ y)
+pub same_entry : (sites : ℕ) (a b x y : List ℕ) → IsShort a → IsShort b → entry_of sites a ++ x ≡ entry_of sites b ++ y → (a ≡ b) × (x ≡ y)
 same_entry sites a b x y short_a short_b = by (is_cut sites a) (is_cut sites b) refl refl
   where
     by : (p q : Bool) → is_cut sites a ≡ p → is_cut sites b ≡ q
@@ -130,7 +132,7 @@ same_entry sites a b x y short_a short_b = by (is_cut sites a) (is_cut sites b) 
     by false true p q e = absurd (omega (arith, ap (λ l. get_or l 0 0) e))
     by false false p q e = same_record a b x y short_a short_b (ap (drop 1) e)
 
-entry_some : (sites : ℕ) (body : List ℕ) → 1 ≤ length (entry_of sites body)
+pub entry_some : (sites : ℕ) (body : List ℕ) → 1 ≤ length (entry_of sites body)
 entry_some sites body = some (is_cut sites body)
   where
     some : (p : Bool) → 1 ≤ length (if p then 1 ∷ record_of (cut sites body) else 0 ∷ record_of body)

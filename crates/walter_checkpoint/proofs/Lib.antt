@@ -1,7 +1,10 @@
 pub mod Contents
 mod Adding
 mod Booking
-mod Filling
+pub mod Entries
 mod Renewing
 pub mod Packs
+mod Openings
+mod Parts
+mod Spelled
 pub mod Switching

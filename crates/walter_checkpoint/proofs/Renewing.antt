@@ -75,10 +75,10 @@ pub record IsRenewed (shape : Shape) (live : Live) (bytes : List ℕ) (bodies : 
   pub content : HasBehind front bytes []
   pub place : end ≡ length front + span_of []
 
-pub renewed_at : (shape : Shape) (bytes : List ℕ) (bodies : List (List ℕ)) (live : Live) (other : Other) → IsOther live (area_size shape) other → other.at ≤ length bytes → 9 + area_size shape ≤ length bytes
+pub renewed_at : (shape : Shape) (bytes : List ℕ) (bodies : List (List ℕ)) (live : Live) (other : Other) → IsOther live (area_size shape) other → other.at ≤ length bytes
     → HasBoth shape (laid other.at (renewed_by shape.sites bodies) bytes) bodies
     → IsRenewed shape other.live (laid 8 (other.switch ∷ []) (laid other.at (renewed_by shape.sites bodies) bytes)) bodies (other.at + length (renewed_by shape.sites bodies))
-renewed_at shape bytes bodies live other is within long both = by is
+renewed_at shape bytes bodies live other is within both = by is
   where
     pack : List ℕ
     pack = pack_of shape.sites bodies

@@ -1,17 +1,17 @@
 -- A book of two areas while it begins anew: a pack goes into the other area, and then the switch byte changes. Whatever a
 -- crash leaves of these writes, the live area has the same bodies.
-use Rattle.std.proofs.Common.{◌≡◌, ◌≢◌, inl, inr, ⊎_elim, ◌+◌, ◌-◌, ◌≤◌, ℕ, List, [], ◌∷◌, ◌++◌, length, take, drop, All, refl, sym, ap, subst, ◌∙◌, arith, append_assoc, length-append, take-append-drop}
+use Rattle.std.proofs.Common.{◌≡◌, ◌≢◌, inl, inr, ⊎_elim, ◌+◌, ◌-◌, ◌≤◌, max, ℕ, List, [], ◌∷◌, ◌++◌, length, take, drop, All, refl, sym, ap, subst, ◌∙◌, arith, append_assoc, length-append, take-append-drop}
 use Rattle.std.proofs.lemmas.Bool.{cases_eq}
-use Rattle.std.proofs.lemmas.List.{take_at, drop_at, length-take, length-drop, take-take, drop-drop, drop-take, append-nil}
+use Rattle.std.proofs.lemmas.List.{take_at, take_all, drop_at, drop_all, length-replicate, length-take, length-drop, take-take, drop-drop, drop-take, append-nil}
 use Rattle.std.proofs.lemmas.List.Elements.{All-append, All-nil}
 use Rattle.walter_disk.specs.Disks.{laid}
-use Rattle.walter_disk.specs.Images.{Torn, LeavesOnly}
-use Rattle.walter_disk.proofs.Moments.{weaker, joined}
+use Rattle.walter_disk.specs.Images.{Torn}
 use Rattle.walter_journal.specs.Layout.{records, span_of, IsShort}
+use Rattle.walter_journal.specs.Zeros.{zeros, filled, Grows}
 use Rattle.walter_journal.proofs.Gates.{torn_gate}
 use Rattle.walter_journal.proofs.Layouts.{span_is}
 use Rattle.walter_checkpoint.specs.Packs.{pack_of}
-use Rattle.walter_checkpoint.specs.Areas.{Shape, area_size, header_of_two, HasArea, IsLive, HasTwo, HasContent, IsAside, HasBoth}
+use Rattle.walter_checkpoint.specs.Areas.{Shape, area_size, header_of_two, HasArea, IsLive, HasTwo, IsAside, HasBoth}
 use Rattle.walter_checkpoint.proofs.Packs.{pack_within}
 
 -- how many bytes the bodies of an area stand in
@@ -92,9 +92,10 @@ torn_aside shape bytes image bodies at count two aside torn =
         inr (b.0, subst (λ l. HasArea shape l bodies) (sym (drop_farther (at - 9 + count) (area_size shape) (drop 9 image) two.areas (omega (arith, here.1, here.2)) left.behind)) b.1)
 
 -- nor does one behind the last byte, where area A is live
-pub torn_past : (shape : Shape) (bytes image : List ℕ) (bodies : List (List ℕ)) (count : ℕ) (two : HasTwo shape bytes bodies) → two.switch ≢ 1 → Torn (length bytes) count bytes image → HasTwo shape image bodies
+torn_past : (shape : Shape) (bytes image : List ℕ) (bodies : List (List ℕ)) (count : ℕ) (two : HasTwo shape bytes bodies) → two.switch ≢ 1 → Torn (length bytes) count bytes image
+    → (now : HasTwo shape image bodies) × (now.switch ≢ 1)
 torn_past shape bytes image bodies count two not_b torn =
-    record { least = two.least; switch = two.switch; areas = drop 9 image; is = left.is; live = live two.live }
+    (record { least = two.least; switch = two.switch; areas = drop 9 image; is = left.is; live = live two.live }, not_b)
   where
     size : length bytes ≡ 9 + length two.areas
     size = omega (arith, ap length two.is)
@@ -108,6 +109,36 @@ torn_past shape bytes image bodies count two not_b torn =
         omega (arith, ap length a.1.content.is, length-append (pack_of shape.sites a.1.packed ++ records a.1.behind) (a.1.content.gate ∷ a.1.content.rest), span_is (pack_of shape.sites a.1.packed) a.1.behind) in
         inl (a.0, only_front shape two.areas (drop 9 image) bodies (length two.areas) a.1 long left.before)
     live (inr b) = absurd (not_b b.0)
+
+-- what has grown from bytes has them in front
+grown_front : (end : ℕ) (bytes image : List ℕ) → Grows (length bytes) end bytes image → take (length bytes) image ≡ bytes
+grown_front end bytes image grown = grown.front ∙ take_all (length bytes) bytes (omega arith)
+
+-- and the same bodies, where area A is live
+pub grown_past : (shape : Shape) (end : ℕ) (bytes image : List ℕ) (bodies : List (List ℕ)) (two : HasTwo shape bytes bodies) → two.switch ≢ 1 → Grows (length bytes) end bytes image
+    → (now : HasTwo shape image bodies) × (now.switch ≢ 1)
+grown_past shape end bytes image bodies two not_b grown =
+    let front = grown_front end bytes image grown in
+    let longer : length bytes ≤ length image = omega (arith, ap length front, length-take (length bytes) image) in
+    torn_past shape bytes image bodies (length image - length bytes) two not_b record {
+      size = inr (omega (arith, longer));
+      before = grown.front;
+      behind = drop_all (length bytes + (length image - length bytes)) image (omega (arith, longer)) ∙ sym (drop_all (length bytes + (length image - length bytes)) bytes (omega arith));
+    }
+
+-- it is the same where it can't be longer
+pub grown_none : (end : ℕ) (bytes image : List ℕ) → end ≤ length bytes → Grows (length bytes) end bytes image → image ≡ bytes
+grown_none end bytes image le grown = sym (take_all (length bytes) image (omega (arith, grown.size, le))) ∙ grown_front end bytes image grown
+
+-- zeros behind bytes are such a growth
+pub filled_grows : (end : ℕ) (bytes : List ℕ) → Grows (length bytes) end bytes (filled end bytes)
+filled_grows end bytes = record {
+  front = take_at bytes (zeros (end - length bytes)) (length bytes) refl ∙ sym (take_all (length bytes) bytes (omega arith));
+  size = omega (arith, length-append bytes (zeros (end - length bytes)), length-replicate {A = ℕ} (end - length bytes) 0);
+}
+
+pub length-filled : (end : ℕ) (bytes : List ℕ) → length (filled end bytes) ≡ max (length bytes) end
+length-filled end bytes = omega (arith, length-append bytes (zeros (end - length bytes)), length-replicate {A = ℕ} (end - length bytes) 0)
 
 -- bytes laid at a place are a write that was not cut short
 pub laid_torn : (at : ℕ) (over bytes : List ℕ) → at ≤ length bytes → Torn at (length over) bytes (laid at over bytes)
@@ -203,14 +234,3 @@ pub torn_switch : (shape : Shape) (bytes image : List ℕ) (bodies : List (List 
 torn_switch shape bytes image bodies both torn =
     let left = torn_gate header_of_two both.areas both.switch image 8 refl (subst (λ l. Torn 8 1 l image) both.is torn) in
     record { least = both.least; switch = left.0; areas = both.areas; is = left.1; first = both.first; second = both.second }
-
--- what a crash leaves at any moment of the two writes
-module _ {D : Type 0} (moment : D → ℕ) (left_since : D → ℕ → List ℕ → Type 0) (shape : Shape) (bytes : List ℕ) (bodies : List (List ℕ)) (two : HasTwo shape bytes bodies) (at count : ℕ) (aside : IsAside shape two.switch at count) where
-  pub writing : (old mid : D) → LeavesOnly moment left_since old mid (Torn at count bytes) → LeavesOnly moment left_since old mid (λ image. HasContent shape image bodies)
-  writing old mid = weaker moment left_since old mid _ _ (λ image torn. inr (torn_aside shape bytes image bodies at count two aside torn))
-
-  pub switching : (old mid new : D) → count ≡ length (renewed shape bodies) → at ≤ length bytes → LeavesOnly moment left_since old mid (Torn at count bytes)
-      → LeavesOnly moment left_since mid new (Torn 8 1 (laid at (renewed shape bodies) bytes)) → LeavesOnly moment left_since old new (λ image. HasContent shape image bodies)
-  switching old mid new is within first second =
-      let both = laid_both shape bytes bodies at two (subst (λ n. IsAside shape two.switch at n) is aside) within in
-      joined moment left_since old mid new _ (writing old mid first) (weaker moment left_since mid new _ _ (λ image torn. inr (both_two shape image bodies (torn_switch shape _ image bodies both torn))) second)

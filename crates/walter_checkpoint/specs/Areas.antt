@@ -1,10 +1,10 @@
 -- The bytes of a book, as docs/FORMATS.md ("Two areas") says them. Of one area it is a journal. Of two areas it has a
--- header, a switch byte, and then two areas of the same size, of which one is live: B where the byte is 1, else A. An area
--- has a pack and, behind it, the gates and records of a journal.
-use Rattle.std.specs.Prelude.{◌≡◌, ◌≢◌, ◌⊎◌, ◌+◌, ◌-◌, ◌/◌, ◌^◌, ◌<◌, ◌≤◌, ℕ, List, [], ◌∷◌, ◌++◌, length, take, drop, All}
+-- header, a switch byte, and then two areas of the same size, of which one is live: B where the byte is 1, else A. An
+-- area has a pack and, behind it, the gates and records of a journal.
+use Rattle.std.specs.Prelude.{◌≡◌, ◌≢◌, ◌⊎◌, ◌+◌, ◌-◌, ◌/◌, ◌<◌, ◌≤◌, ℕ, min, List, [], ◌∷◌, ◌++◌, length, take, drop, All}
 use Rattle.byteorder.specs.Endian.{big_number}
 use Rattle.walter_checkpoint.specs.Packs.{pack_of}
-use Rattle.walter_journal.specs.Layout.{header, span_of, records, IsShort, HasBehind, ClaimsTooMuch}
+use Rattle.walter_journal.specs.Layout.{header, span_of, IsShort, HasBehind, IsDamagedBehind}
 use Rattle.walter_journal.specs.Layout as journal
 
 -- "WALTERK1"
@@ -17,6 +17,9 @@ pub record Shape : Type 0 where
   pub capacity : ℕ
   -- how many sites there are
   pub sites : ℕ
+
+abbrev pub shape_by : ℕ → ℕ → Shape
+shape_by capacity sites = record { capacity = capacity; sites = sites }
 
 -- how many bytes each of two areas has
 abbrev pub area_size : Shape → ℕ
@@ -57,33 +60,29 @@ abbrev pub IsForeign : Shape → List ℕ → Type 0
 IsForeign shape bytes =
     (length bytes < 9) ⊎ ((take 8 bytes ≢ header) × ((take 8 bytes ≢ header_of_two) ⊎ (shape.capacity < 47)))
 
--- Neither such a length and entries of bodies nor a byte behind them stand within the area. A length that has more than four
--- bytes is told as the greatest of four, and 0 where it isn't there whole.
+-- no list of bodies is packed at the front of these bytes, with a byte behind it
+abbrev pub HasNoPack : ℕ → List ℕ → Type 0
+HasNoPack sites area =
+    (packed : List (List ℕ)) (rest : List ℕ) → All IsShort packed → 0 < length rest
+    → area ≢ pack_of sites packed ++ rest
+
+-- The length of a pack as it is told: 0 where not all of its eight bytes are there, and no more than four bytes hold.
 abbrev pub IsToldLength : List ℕ → ℕ → Type 0
 IsToldLength area told =
-    ((length area < 8) × (told ≡ 0))
-    ⊎ ((8 ≤ length area) × (((big_number 8 area < 2 ^ 32) × (told ≡ big_number 8 area)) ⊎ ((2 ^ 32 ≤ big_number 8 area) × (told ≡ 2 ^ 32 - 1))))
+    ((length area < 8) × (told ≡ 0)) ⊎ ((8 ≤ length area) × (told ≡ min (big_number 8 area) 0xFFFFFFFF))
 
-abbrev pub HasNoPack : Shape → List ℕ → Type 0
-HasNoPack shape area =
-    (packed : List (List ℕ)) (rest : List ℕ) → All IsShort packed → 0 < length rest → area ≢ pack_of shape.sites packed ++ rest
-
--- an open gate of an area is followed by a length that claims too much
-pub record IsGateWrong (shape : Shape) (area : List ℕ) (at claimed : ℕ) : Type 0 where
+-- behind a pack an open gate is followed by a length that claims too much
+pub record IsGateWrong (sites : ℕ) (area : List ℕ) (at claimed : ℕ) : Type 0 where
   pub packed : List (List ℕ)
-  pub behind : List (List ℕ)
-  pub rest : List ℕ
-  pub is : area ≡ pack_of shape.sites packed ++ records behind ++ 1 ∷ rest
   pub short : All IsShort packed
-  pub fit : All IsShort behind
-  pub place : at ≡ length (pack_of shape.sites packed) + length (records behind)
-  pub wrong : ClaimsTooMuch rest claimed
+  pub wrong : IsDamagedBehind (pack_of sites packed) area at claimed
 
--- the live area is damaged, by the place in it, within its size
-abbrev pub IsAreaDamaged : Shape → List ℕ → ℕ → ℕ → Type 0
-IsAreaDamaged shape area at claimed =
-    (HasNoPack shape area × (at ≡ 0) × IsToldLength area claimed) ⊎ IsGateWrong shape area at claimed
+-- an area is damaged, at this place in it
+abbrev pub IsAreaDamaged : ℕ → List ℕ → ℕ → ℕ → Type 0
+IsAreaDamaged sites area at claimed =
+    (HasNoPack sites area × (at ≡ 0) × IsToldLength area claimed) ⊎ IsGateWrong sites area at claimed
 
+-- the live area is damaged, as far as the bytes and its size reach
 pub record IsTwoDamaged (shape : Shape) (bytes : List ℕ) (at claimed : ℕ) : Type 0 where
   pub least : 47 ≤ shape.capacity
   pub switch : ℕ
@@ -91,8 +90,10 @@ pub record IsTwoDamaged (shape : Shape) (bytes : List ℕ) (at claimed : ℕ) : 
   pub is : bytes ≡ header_of_two ++ switch ∷ areas
   pub place : ℕ
   pub live :
-      ((switch ≢ 1) × (at ≡ 9 + place) × IsAreaDamaged shape (take (area_size shape) areas) place claimed)
-      ⊎ ((switch ≡ 1) × (at ≡ 9 + area_size shape + place) × IsAreaDamaged shape (take (area_size shape) (drop (area_size shape) areas)) place claimed)
+      ((switch ≢ 1) × (at ≡ 9 + place)
+      × IsAreaDamaged shape.sites (take (area_size shape) areas) place claimed)
+      ⊎ ((switch ≡ 1) × (at ≡ 9 + area_size shape + place)
+      × IsAreaDamaged shape.sites (take (area_size shape) (drop (area_size shape) areas)) place claimed)
 
 abbrev pub IsDamaged : Shape → List ℕ → ℕ → ℕ → Type 0
 IsDamaged shape bytes at claimed = journal.IsDamaged bytes at claimed ⊎ IsTwoDamaged shape bytes at claimed

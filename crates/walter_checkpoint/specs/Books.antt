@@ -1,5 +1,6 @@
--- What a book on a disk stands for (docs/FORMATS.md, "Two areas"): bodies that are safe, so that each crash leaves them.
-use Rattle.std.specs.Prelude.{false, ◌≡◌, ◌≢◌, ◌⊎◌, ◌+◌, ◌-◌, ◌≤◌, ℕ, List, [], ◌∷◌, ◌++◌, length, All}
+-- What a book on a disk stands for (docs/FORMATS.md, "Two areas"): bodies that are safe, so that a crash leaves them.
+use Rattle.std.specs.Prelude.{false, ◌≡◌, ◌≢◌, ◌⊎◌, ◌+◌, ◌-◌, ◌≤◌, min, ℕ, List, [], ◌∷◌, ◌++◌, length, All}
+use Rattle.walter_disk.specs.Images.{Torn}
 use Rattle.walter_disk.specs.declared.disk.Disk.{Ghosts}
 use Rattle.walter_checkpoint.specs.Areas.{Shape, area_size, header_of_two}
 use Rattle.walter_checkpoint.specs.Packs.{pack_of, renewed_by}
@@ -9,7 +10,8 @@ use Rattle.walter_checkpoint.specs.declared.book.Other.{Other}
 use Rattle.walter_checkpoint.specs.declared.book.Live.TheVariants.{Whole, A, B}
 use Rattle.walter_journal.specs.Journals.{capacity_of, end_of, need_of, StandsBehind}
 use Rattle.walter_journal.specs.Journals as journal
-use Rattle.walter_journal.specs.Layout.{header, span_of, IsShort}
+use Rattle.walter_journal.specs.Zeros.{zeros as zeros_of, writes_of, HasGrown}
+use Rattle.walter_journal.specs.Layout.{header, span_of, IsShort, HasBehind}
 
 -- the disk that a book is on
 abbrev pub disk_of : {D : Type 0} {g : Ghosts D} → Book D g → D
@@ -43,14 +45,53 @@ limit_of shape B = 9 + area_size shape + area_size shape
 -- what stands in front of the first gate where these bodies are packed
 abbrev pub IsFront : Shape → Live → List (List ℕ) → List ℕ → Type 0
 IsFront shape Whole packed front = (front ≡ header) × (packed ≡ [])
-IsFront shape A packed front = (switch : ℕ) × (switch ≢ 1) × (front ≡ header_of_two ++ switch ∷ pack_of shape.sites packed)
-IsFront shape B packed front = (first : List ℕ) × (length first ≡ area_size shape) × (front ≡ header_of_two ++ 1 ∷ (first ++ pack_of shape.sites packed))
+IsFront shape A packed front =
+    (switch : ℕ) × (switch ≢ 1) × (front ≡ header_of_two ++ switch ∷ pack_of shape.sites packed)
+IsFront shape B packed front =
+    (first : List ℕ) × (length first ≡ area_size shape)
+    × (front ≡ header_of_two ++ 1 ∷ (first ++ pack_of shape.sites packed))
 
--- the bodies stand within their area
+-- and how many bytes that are
+abbrev pub front_length : Shape → Live → List (List ℕ) → ℕ
+front_length shape Whole packed = 8
+front_length shape A packed = 9 + length (pack_of shape.sites packed)
+front_length shape B packed = 9 + area_size shape + length (pack_of shape.sites packed)
+
+-- these bodies stand within an area, packed and behind
+abbrev pub IsWithinArea : Shape → List (List ℕ) → List (List ℕ) → Type 0
+IsWithinArea shape packed behind =
+    (47 ≤ shape.capacity) × (length (pack_of shape.sites packed) + span_of behind ≤ area_size shape)
+
 abbrev pub IsWithin : Shape → Live → List (List ℕ) → List (List ℕ) → Type 0
 IsWithin shape Whole packed behind = Unit {0}
-IsWithin shape A packed behind = (47 ≤ shape.capacity) × (length (pack_of shape.sites packed) + span_of behind ≤ area_size shape)
-IsWithin shape B packed behind = (47 ≤ shape.capacity) × (length (pack_of shape.sites packed) + span_of behind ≤ area_size shape)
+IsWithin shape A packed behind = IsWithinArea shape packed behind
+IsWithin shape B packed behind = IsWithinArea shape packed behind
+
+-- the part that the switch byte makes live, where each area has so many bytes, and its place
+abbrev pub IsLivePart : ℕ → ℕ → Live → ℕ → Type 0
+IsLivePart switch size live place =
+    ((switch ≢ 1) × (live ≡ A) × (place ≡ 9)) ⊎ ((switch ≡ 1) × (live ≡ B) × (place ≡ 9 + size))
+
+-- the bytes are an area with these bodies, and this is the place in it behind the gate that ends them
+pub record IsAreaRead (sites : ℕ) (area : List ℕ) (bodies : List (List ℕ)) (end : ℕ) : Type 0 where
+  pub packed : List (List ℕ)
+  pub behind : List (List ℕ)
+  pub are : bodies ≡ packed ++ behind
+  pub short : All IsShort packed
+  pub content : HasBehind (pack_of sites packed) area behind
+  pub place : end ≡ length (pack_of sites packed) + span_of behind
+
+-- the bytes are a book with these bodies: which part is live, and the place behind the gate that ends them
+pub record IsRead (shape : Shape) (live : Live) (bytes : List ℕ) (bodies : List (List ℕ)) (end : ℕ) : Type 0 where
+  pub packed : List (List ℕ)
+  pub behind : List (List ℕ)
+  pub are : bodies ≡ packed ++ behind
+  pub front : List ℕ
+  pub is_front : IsFront shape live packed front
+  pub short : All IsShort packed
+  pub within : IsWithin shape live packed behind
+  pub content : HasBehind front bytes behind
+  pub place : end ≡ length front + span_of behind
 
 -- it has these bodies in its pack and these behind it
 pub record StandsWith {D : Type 0} {g : Ghosts D} (book : Book D g) (packed behind : List (List ℕ)) : Type 0 where
@@ -67,25 +108,52 @@ pub record StandsFor {D : Type 0} {g : Ghosts D} (book : Book D g) (bodies : Lis
   pub are : bodies ≡ packed ++ behind
   pub with : StandsWith book packed behind
 
--- what `pack` writes is ready: as a load leaves it
+-- it goes on behind so much, whether its disk tells its bytes or not
+pub record GoesOn {D : Type 0} {g : Ghosts D} (book : Book D g) (packed behind : List (List ℕ)) : Type 0 where
+  pub end : end_of book.journal ≡ front_length (shape_of book) book.live packed + span_of behind
+  pub limit : capacity_of book.journal ≡ limit_of (shape_of book) book.live
+
+pub record GoesOnBehind {D : Type 0} {g : Ghosts D} (book : Book D g) (bodies : List (List ℕ)) : Type 0 where
+  pub packed : List (List ℕ)
+  pub behind : List (List ℕ)
+  pub are : bodies ≡ packed ++ behind
+  pub with : GoesOn book packed behind
+
+-- what `pack` writes is ready, as a load leaves it
 pub record IsReady {D : Type 0} {g : Ghosts D} (book : Book D g) (bodies : List (List ℕ)) : Type 0 where
-  pub is : book.renewal.items ≡ renewed_by book.sites bodies
+  pub is : book.live ≢ Whole → book.renewal.items ≡ renewed_by book.sites bodies
 
-abbrev pub HasPackRoomIn : {D : Type 0} (g : Ghosts D) → D → Shape → Live → ℕ → Type 0
-HasPackRoomIn g disk shape Whole count = Unit {0}
-HasPackRoomIn g disk shape A count =
-    (47 ≤ shape.capacity) × (9 + area_size shape ≤ (g.known disk).size) × (count ≤ area_size shape) × (9 + area_size shape + count ≤ g.room_end disk) × (4 ≤ g.room_calls disk)
-HasPackRoomIn g disk shape B count =
-    (47 ≤ shape.capacity) × (9 + area_size shape ≤ (g.known disk).size) × (count ≤ area_size shape) × (9 + count ≤ g.room_end disk) × (4 ≤ g.room_calls disk)
+-- how many bytes are missing in front of the other area
+abbrev pub missing : Shape → Live → ℕ → ℕ
+missing shape live size = other_place shape live - size
 
--- there is room for what it writes
+-- there is room on a disk to pack so many bytes, with these zeros for what is missing
+pub record HasRoomOn {D : Type 0} (g : Ghosts D) (disk : D) (shape : Shape) (live : Live) (count : ℕ) (zeros : List ℕ) : Type 0 where
+  pub least : 47 ≤ shape.capacity
+  pub fits : count ≤ area_size shape
+  pub zeros_are : zeros ≡ zeros_of (length zeros)
+  pub few : length zeros ≤ 65536
+  pub enough : min 65536 (missing shape live (g.known disk).size) ≤ length zeros
+  pub reaches : other_place shape live + count ≤ g.room_end disk
+  pub calls : writes_of (missing shape live (g.known disk).size) + 4 ≤ g.room_calls disk
+
+-- there is room for `pack`
 abbrev pub HasPackRoom : {D : Type 0} {g : Ghosts D} → Book D g → Type 0
-HasPackRoom {g = g} book = HasPackRoomIn g (disk_of book) (shape_of book) book.live (length book.renewal.items)
+HasPackRoom {g = g} book =
+    book.live ≢ Whole
+    → HasRoomOn g (disk_of book) (shape_of book) book.live (length book.renewal.items) book.zeros.items
+
+-- how many reads, writes and syncs a pack makes on a disk of this size
+abbrev pub calls_of_pack : Shape → Live → ℕ → ℕ
+calls_of_pack shape Whole size = 0
+calls_of_pack shape A size = writes_of (9 + area_size shape - size) + 4
+calls_of_pack shape B size = 4
 
 -- the area that isn't live, where this is how many bytes each has
 abbrev pub IsOther : Live → ℕ → Other → Type 0
 IsOther live size other =
-    ((live ≡ A) × (other.at ≡ 9 + size) × (other.switch ≡ 1) × (other.live ≡ B)) ⊎ ((live ≡ B) × (other.at ≡ 9) × (other.switch ≡ 0) × (other.live ≡ A))
+    ((live ≡ A) × (other.at ≡ 9 + size) × (other.switch ≡ 1) × (other.live ≡ B))
+    ⊎ ((live ≡ B) × (other.at ≡ 9) × (other.switch ≡ 0) × (other.live ≡ A))
 
 -- where a pack makes live what wasn't
 abbrev pub live_after : Live → Live
@@ -93,14 +161,20 @@ live_after Whole = Whole
 live_after A = B
 live_after B = A
 
--- a pack of all bodies stands in the area that is live now; of one area nothing has changed
-abbrev pub PacksFrom : {D : Type 0} {g : Ghosts D} → Live → (old new : Book D g) → List (List ℕ) → Type 0
-PacksFrom Whole old new bodies = new ≡ old
-PacksFrom A old new bodies = StandsWith new bodies []
-PacksFrom B old new bodies = StandsWith new bodies []
+-- of one area nothing has changed; of two this holds
+abbrev pub ChangesFrom : {D : Type 0} {g : Ghosts D} → Live → (old new : Book D g) → Type 0 → Type 0
+ChangesFrom Whole old new P = new ≡ old
+ChangesFrom A old new P = P
+ChangesFrom B old new P = P
 
+-- a pack of all bodies stands in the area that is live now
 abbrev pub Packs : {D : Type 0} {g : Ghosts D} → (old new : Book D g) → List (List ℕ) → Type 0
-Packs old new bodies = PacksFrom old.live old new bodies
+Packs old new bodies = ChangesFrom old.live old new (StandsWith new bodies [])
+
+-- images from these: grown up to a place, and then with so many bytes written there, which a crash may have cut short
+abbrev pub HasBeenWritten : (size at count : ℕ) → (List ℕ → Type 0) → List ℕ → Type 0
+HasBeenWritten size at count images image =
+    (grown : List ℕ) × HasGrown size at images grown × Torn at count grown image
 
 -- there is room to append a body of so many bytes
 abbrev pub HasRoom : {D : Type 0} {g : Ghosts D} → Book D g → ℕ → Type 0
@@ -112,4 +186,5 @@ pub record Appends {D : Type 0} {g : Ghosts D} (old new : Book D g) (body : List
   pub whole : (g.known (disk_of new)).broken ≡ false
   pub faultless : (g.known (disk_of new)).faults ≡ (g.known (disk_of old)).faults
   pub left : left_of new ≡ left_of old - need_of body
-  pub behind : (packed behind : List (List ℕ)) → StandsWith old packed behind → StandsWith new packed (behind ++ body ∷ [])
+  pub behind :
+      (packed behind : List (List ℕ)) → StandsWith old packed behind → StandsWith new packed (behind ++ body ∷ [])

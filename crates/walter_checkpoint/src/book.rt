@@ -1,9 +1,10 @@
-ghost use Rattle.std.specs.Prelude.{◌≡◌, ◌≢◌, ◌^◌, ◌+◌, ◌≤◌, ◌-◌, ◌/◌, ℕ, List, length, is_some, true, ◌<◌, Err, OnOk, OnErr};
-ghost use Rattle.walter_disk.specs.Disks.{Fails};
-ghost use Rattle.walter_disk.specs.Images.{LeavesOnly};
+ghost use Rattle.std.specs.Prelude.{◌≡◌, ◌≢◌, ◌^◌, ◌+◌, ◌≤◌, ◌-◌, ◌/◌, ℕ, List, length, is_some, is_err, true, false, [], min, ◌<◌, Err, OnOk, OnErr};
+ghost use Rattle.walter_disk.specs.Disks.{written, Fails, TakesRoom};
+ghost use Rattle.walter_disk.specs.Images.{IsDurable, LeavesOnly};
 ghost use Rattle.walter_checkpoint.specs.Areas.{HasContent, IsBeforeOrBehind};
-ghost use Rattle.walter_checkpoint.specs.Books.{disk_of, shape_of, left_of, HasRoom, Appends, live_after, StandsFor, IsReady, IsOther, HasPackRoom, Packs};
-ghost use Rattle.walter_journal.specs.Journals.{need_of};
+ghost use Rattle.walter_checkpoint.specs.Books.{disk_of, shape_of, left_of, HasRoom, Appends, live_after, calls_of_pack, StandsFor, GoesOn, IsReady, IsOther, HasPackRoom, HasBeenWritten, ChangesFrom, Packs};
+ghost use Rattle.walter_journal.specs.Journals.{need_of, end_of, capacity_of, staged_of, disk_of as journal_disk};
+ghost use Rattle.walter_journal.specs.Zeros.{zeros as zeros_of, filled_disk, writes_of};
 
 use walter_disk::{Disk, Failed};
 use walter_journal::{AppendFault, Journal};
@@ -18,14 +19,14 @@ pub(crate) enum Live {
 
 /// An area that is to be live: its place, and the switch byte that makes it so.
 #[derive(Clone, Copy, Debug)]
-struct Other {
-    at: u64,
-    switch: u8,
-    live: Live,
+pub(crate) struct Other {
+    pub(crate) at: u64,
+    pub(crate) switch: u8,
+    pub(crate) live: Live,
 }
 
-// The area of a book of two that isn't live.
-fn other_area(live: Live, size: u64) -> Other
+/// The area of a book of two that isn't live.
+pub(crate) fn other_area(live: Live, size: u64) -> Other
     requires two { live ≢ Live.Whole }
     requires fits { size ≤ 2 ^ 63 }
     ensures { IsOther live size result }
@@ -47,12 +48,13 @@ fn other_area(live: Live, size: u64) -> Other
 /// A book on a disk. Clauses see the lists of bodies that it stands for.
 #[derive(Drop)]
 pub struct Book<D: Disk> {
-    journal: Journal<D>,
-    capacity: u64,
-    sites: u8,
-    live: Live,
-    // What `pack` writes into the other area.
-    renewal: Vec<u8>,
+    pub(crate) journal: Journal<D>,
+    pub(crate) capacity: u64,
+    pub(crate) sites: u8,
+    pub(crate) live: Live,
+    // What `pack` writes into the other area, and zeros for what is missing in front of it.
+    pub(crate) renewal: Vec<u8>,
+    pub(crate) zeros: Vec<u8>,
 }
 
 impl<D: Disk> Book<D> {
@@ -67,17 +69,31 @@ impl<D: Disk> Book<D> {
             (λ image. HasContent (shape_of self.old) image bodies) }
         ensures ok { (bodies : List (List ℕ)) → StandsFor self.old bodies → IsReady self.old bodies
             → OnOk result (Packs self.old self.new bodies) }
+
+        // Where the disk doesn't tell its bytes, too, the book goes on behind the pack.
+        ensures goes_on { (bodies : List (List ℕ)) → IsReady self.old bodies
+            → OnOk result (ChangesFrom self.old.live self.old self.new (GoesOn self.new bodies [])) }
         ensures failed { OnErr result (Fails (D.known (disk_of self.old)) (D.known (disk_of self.new))) }
+        ensures broken { self.old.live ≢ Live.Whole
+            → (D.known (disk_of self.old)).broken ≡ true → is_err result ≡ true }
+        ensures whole { OnOk result ((D.known (disk_of self.new)).broken ≡ (D.known (disk_of self.old)).broken) }
+        ensures faultless { OnOk result ((D.known (disk_of self.new)).faults ≡ (D.known (disk_of self.old)).faults) }
+        ensures arms { (D.known (disk_of self.new)).arms ≡ (D.known (disk_of self.old)).arms }
+        ensures tells { is_some (D.known (disk_of self.new)).reads
+            ≡ is_some (D.known (disk_of self.old)).reads }
         ensures shape { shape_of self.new ≡ shape_of self.old }
         ensures live { OnOk result (self.new.live ≡ live_after self.old.live) }
-        ensures at_most { D.device_calls (disk_of self.new) ≤ D.device_calls (disk_of self.old) + 4 }
+        ensures device { OnOk result (D.device_calls (disk_of self.new) ≡ D.device_calls (disk_of self.old)
+            + calls_of_pack (shape_of self.old) self.old.live (D.known (disk_of self.old)).size) }
+        ensures at_most { D.device_calls (disk_of self.new) ≤ D.device_calls (disk_of self.old)
+            + calls_of_pack (shape_of self.old) self.old.live (D.known (disk_of self.old)).size }
     {
         if let Live::Whole = self.live {
             return Ok(());
         }
         let size = (self.capacity - 9) / 2;
         let Other { at, switch, live } = other_area(self.live, size);
-        self.journal.write_elsewhere(at, &self.renewal)?;
+        write_pack(&mut self.journal, &self.zeros, at, &self.renewal)?;
         self.journal.write_elsewhere(8, &[switch])?;
         self.journal
             .go_on(at + self.renewal.len() as u64, at + size);
@@ -124,4 +140,42 @@ impl<D: Disk> Book<D> {
     {
         self.journal.append(body)
     }
+}
+
+// Writes a pack at a place, behind zeros where the disk ends in front of it, and makes it safe.
+fn write_pack<D: Disk>(
+    journal: &mut Journal<D>,
+    zeros: &[u8],
+    at: u64,
+    pack: &[u8],
+) -> Result<(), Failed>
+    requires zeros { zeros.now ≡ zeros_of (length zeros.now) }
+    requires few { length zeros.now ≤ 65536 }
+    requires enough { min 65536 (at - (D.known (journal_disk journal.old)).size) ≤ length zeros.now }
+    requires end { at + length pack.now ≤ D.room_end (journal_disk journal.old) }
+    requires calls { writes_of (at - (D.known (journal_disk journal.old)).size) + 2
+        ≤ D.room_calls (journal_disk journal.old) }
+    ensures whole { OnOk result ((D.known (journal_disk journal.old)).broken ≡ false) }
+    ensures done { OnOk result (D.known (journal_disk journal.new)
+        ≡ written at pack.now (filled_disk at (D.known (journal_disk journal.old)))) }
+    ensures durable { OnOk result (IsDurable (D.known (journal_disk journal.new)).reads
+        (D.may_leave (journal_disk journal.new))) }
+    ensures failed { OnErr result (Fails (D.known (journal_disk journal.old)) (D.known (journal_disk journal.new))) }
+    ensures room { TakesRoom (writes_of (at - (D.known (journal_disk journal.old)).size) + 2)
+        (D.room_end (journal_disk journal.old)) (D.room_end (journal_disk journal.new))
+        (D.room_calls (journal_disk journal.old)) (D.room_calls (journal_disk journal.new)) }
+    ensures device { OnOk result (D.device_calls (journal_disk journal.new) ≡ D.device_calls (journal_disk journal.old)
+        + writes_of (at - (D.known (journal_disk journal.old)).size) + 2) }
+    ensures at_most { D.device_calls (journal_disk journal.new) ≤ D.device_calls (journal_disk journal.old)
+        + writes_of (at - (D.known (journal_disk journal.old)).size) + 2 }
+    ensures capacity { capacity_of journal.new ≡ capacity_of journal.old }
+    ensures same_end { end_of journal.new ≡ end_of journal.old }
+    ensures staged { staged_of journal.new ≡ staged_of journal.old }
+    ensures any_moment { LeavesOnly D.moment D.left_since (journal_disk journal.old) (journal_disk journal.new)
+        (HasBeenWritten (D.known (journal_disk journal.old)).size at (length pack.now)
+        (D.may_leave (journal_disk journal.old))) }
+{
+    journal.fill(zeros, at)?;
+    journal.write(at, pack)?;
+    journal.sync()
 }

@@ -5,8 +5,8 @@ ghost use Rattle.walter_checkpoint.specs.Packs.{are_zeros, is_cut, kept_in, star
 use byteorder::{BigEndian, ByteOrder};
 use std::alloc::{AllocError, Global};
 
-// The place behind the start in a record that has one, else 0.
-fn start_of(body: &[u8]) -> usize
+/// The place behind the start in a record that has one, else 0.
+pub(crate) fn start_of(body: &[u8]) -> usize
     ensures { result ≡ start_end (get_or body.now 0 0) }
 {
     match body.first() {
@@ -23,11 +23,12 @@ fn all_zero(bytes: &[u8]) -> bool
     bytes.iter().all(|byte| *byte == 0)
 }
 
-// Where the zeros stand that a pack leaves out of a body.
-fn left_out(body: &[u8], sites: u8) -> Option<(usize, usize)>
+/// Where the zeros stand that a pack leaves out of a body.
+pub(crate) fn left_out(body: &[u8], sites: u8) -> Option<(usize, usize)>
     requires { sites ≤ 8 }
     ensures some { IfSome result (λ found. (is_cut sites body.now ≡ true)
-        × (found.0 ≡ kept_in sites body.now) × (found.1 ≡ start_end (get_or body.now 0 0)) × (found.0 ≤ found.1) × (found.1 ≤ length body.now)) }
+        × (found.0 ≡ kept_in sites body.now) × (found.1 ≡ start_end (get_or body.now 0 0))
+        × (found.0 ≤ found.1) × (found.1 ≤ length body.now)) }
     ensures none { IfNone result (is_cut sites body.now ≡ false) }
 {
     if sites >= 8 {
