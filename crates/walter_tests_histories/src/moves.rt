@@ -40,7 +40,7 @@ fn updates_so_far(alloc: Global, steps: &[Step], x: Tid) -> Mem<Updates> {
             }
         }
     }
-    Ok(Updates::from(updates))
+    Ok(Updates::from_vec(updates)?)
 }
 
 fn step_of(alloc: Global, steps: &[Step], next: Move) -> Mem<Step> {
@@ -64,7 +64,7 @@ fn step_of(alloc: Global, steps: &[Step], next: Move) -> Mem<Step> {
         }
         ReadId(x, oid, id, count) => Step::Read(x, oid, Answer::Count(id, count)),
         Commit(x) => Step::Commit(x, updates_so_far(alloc, steps, x)?),
-        CommitNothing(x) => Step::Commit(x, Updates::from(Vec::new(alloc))),
+        CommitNothing(x) => Step::Commit(x, Updates::from_vec(Vec::new(alloc))?),
         Arrive(x, site) => Step::Arrive(x, site),
         Abort(x, cause) => Step::Abort(x, cause),
         Told(x, what) => Step::Told(x, what),
