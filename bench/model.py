@@ -13,6 +13,7 @@ import struct
 from collections import Counter, defaultdict, namedtuple
 
 import link
+import readings
 from disks import Disk, Failed, Full, Journal
 from spelled import *
 
@@ -92,7 +93,7 @@ class Site:
     def __init__(self, scenario, me, met):
         self.met, self.me, self.count, self.tolerated = met, me, scenario["sites"], scenario["f"]
         self.containers = {number: (kind, site) for number, kind, site in scenario["containers"]}
-        self.capacity, self.areas = scenario.get("capacity", 16777216), scenario.get("areas", 1)
+        self.capacity, self.areas = scenario.get("capacity", readings.CAPACITY), scenario.get("areas", 1)
         self.peers = [k for k in range(self.count) if k != me]
         self.disk, self.journal = Disk(), None
         self.up, self.clock, self.gone = False, 0, {}

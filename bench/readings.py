@@ -7,9 +7,11 @@ at which its reader stands, so `Reader` goes through the lexemes in the same way
 import json
 import re
 
+import journals
+
 MOST_BYTES, MOST_DEPTH = 16_777_216, 127
 MOST_SITES, MOST_CONTAINERS, MOST_CLIENTS = 8, 256, 1024
-LEAST_CAPACITY, LEAST_OF_TWO_AREAS, CAPACITY, MOST_CAPACITY = 19, 47, 16_777_216, 1_099_511_627_776
+LEAST_CAPACITY, CAPACITY, MOST_CAPACITY = 19, 16_777_216, 1_099_511_627_776
 MOST_RATE, MOST_TICKS, MOST_THREADS = 1000, 10_000, 32
 MOST_CALL, MOST_PACKET = 1_000_000, (1 << 32) - 1
 NEEDED, BESIDES = ("sites", "f", "containers", "clients", "steps"), ("capacity", "areas", "link", "ticks", "threads", "arms")
@@ -27,7 +29,7 @@ TEXTS = {
     "clients": "client {}: wants [site, bytes] in a list, a site below sites, an even number of hex digits, at most 1024 of "
                "each site",
     "capacity": "the capacity: wants a whole number from 19 to 1099511627776",
-    "areas": f"the areas: wants 1, or 2 with a capacity of at least {LEAST_OF_TWO_AREAS}",
+    "areas": f"the areas: wants 1, or 2 with a capacity of at least {journals.LEAST_OF_TWO}",
     "link": "the link: wants an object of just seed, a whole number below 2^64, and lose, repeat and swap, whole numbers "
             "from 0 to 1000",
     "ticks": "the ticks: wants a whole number from 0 to 10000",
@@ -234,7 +236,7 @@ def is_client(value, sites):
 
 
 def are_areas(value, capacity):
-    return is_whole(value, 1, 3) and (value == 1 or capacity >= LEAST_OF_TWO_AREAS)
+    return is_whole(value, 1, 3) and (value == 1 or capacity >= journals.LEAST_OF_TWO)
 
 
 def is_link(value):
