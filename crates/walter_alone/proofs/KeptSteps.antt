@@ -34,6 +34,7 @@ use Rattle.walter_rules.specs.Calls.{own_version, next_seq, next_slow, next_tid,
 use Rattle.walter_rules.specs.Conflicts.{cause_of}
 use Rattle.walter_rules.specs.Declarations.{is_declared, are_declared}
 use Rattle.walter_rules.specs.Knowledge.{Knowledge, session_of, vector_of}
+use Rattle.walter_rules.specs.Layouts.{Layout}
 use Rattle.walter_rules.specs.Learning.{starts_after, sessions_after, deciding, recorded, after, lost}
 use Rattle.walter_rules.specs.Marks.{durable_mark, visible_mark}
 use Rattle.walter_rules.specs.Records.{CanFollow}
@@ -434,16 +435,16 @@ settled_kept catalog i below S event (Some rec) found I =
     (subst (λ b. IsKept catalog i b S.knows S.flight) found.down I)))
 
 -- so it is with right entries, the newest first
-pub right_kept : (catalog : Catalog) (capacity : ℕ) (i : SiteId) → i.0 < catalog.sites → (older : List Entry)
-    → AreRight catalog capacity i older
+pub right_kept : (catalog : Catalog) (layout : Layout) (i : SiteId) → i.0 < catalog.sites → (older : List Entry)
+    → AreRight catalog layout i older
     → IsKept catalog i (standing catalog i older).up (standing catalog i older).knows (standing catalog i older).flight
-right_kept catalog capacity i below [] right = kept_at_first catalog i
-right_kept catalog capacity i below (e ∷ older) right =
+right_kept catalog layout i below [] right = kept_at_first catalog i
+right_kept catalog layout i below (e ∷ older) right =
     let S : Standing = standing catalog i older in
     step_kept catalog i below (settled catalog i e.came.kept S)
     (settled_kept catalog i below S e.event e.came.kept right.1.kept
-    (right_kept catalog capacity i below older right.0))
-    e.event e.came (step_of catalog capacity i (settled catalog i e.came.kept S) e.event e.came right.1.comes)
+    (right_kept catalog layout i below older right.0))
+    e.event e.came (step_of catalog layout i (settled catalog i e.came.kept S) e.event e.came right.1.comes)
 
 -- and so it stands alone
 pub alone_of : (catalog : Catalog) (i : SiteId) (S : Standing) → IsKept catalog i S.up S.knows S.flight
@@ -465,18 +466,18 @@ alone_of catalog i S I = record {
 }
 
 -- what holds of how a site stands by right entries, the newest first
-pub right_alone : (catalog : Catalog) (capacity : ℕ) (i : SiteId) → i.0 < catalog.sites → (older : List Entry)
-    → AreRight catalog capacity i older
+pub right_alone : (catalog : Catalog) (layout : Layout) (i : SiteId) → i.0 < catalog.sites → (older : List Entry)
+    → AreRight catalog layout i older
     → IsAlone catalog i (standing catalog i older)
-right_alone catalog capacity i below older right = alone_of catalog i (standing catalog i older)
-    (right_kept catalog capacity i below older right)
+right_alone catalog layout i below older right = alone_of catalog i (standing catalog i older)
+    (right_kept catalog layout i below older right)
 
 -- and behind what was found of a record in flight, at the next right entry
-pub settled_alone : (catalog : Catalog) (capacity : ℕ) (i : SiteId) → i.0 < catalog.sites
-    → (older : List Entry) (e : Entry) → AreRight catalog capacity i older
-    → IsRightEntry catalog capacity i older e → IsAlone catalog i
+pub settled_alone : (catalog : Catalog) (layout : Layout) (i : SiteId) → i.0 < catalog.sites
+    → (older : List Entry) (e : Entry) → AreRight catalog layout i older
+    → IsRightEntry catalog layout i older e → IsAlone catalog i
     (settled catalog i e.came.kept (standing catalog i older))
-settled_alone catalog capacity i below older e right next =
+settled_alone catalog layout i below older e right next =
     alone_of catalog i (settled catalog i e.came.kept (standing catalog i older))
     (settled_kept catalog i below (standing catalog i older) e.event e.came.kept next.kept
-    (right_kept catalog capacity i below older right))
+    (right_kept catalog layout i below older right))

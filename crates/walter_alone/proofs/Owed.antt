@@ -25,6 +25,7 @@ use Rattle.walter_rules.specs.declared.outcome.Outcome.{Outcome}
 use Rattle.walter_rules.specs.declared.outcome.Outcome.TheVariants.{Replied}
 use Rattle.walter_rules.specs.Calls.{call_rule, if_told, down_rule, tells_level, level_of, is_issued, refuses, answers}
 use Rattle.walter_rules.specs.Knowledge.{Knowledge, session_of, vector_of}
+use Rattle.walter_rules.specs.Layouts.{Layout}
 use Rattle.walter_rules.specs.Learning.{sessions_after, opened, closed, done, begun_by, updated, deciding, after, lost, recorded}
 use Rattle.walter_rules.specs.Rule.{rule, rule_where}
 use Rattle.walter_rules.specs.Sessions.{Session, Sessions, session_in}
@@ -117,7 +118,7 @@ down_not_started : (call : Result Request Bad) (tid : Tid) → (down_rule call).
 down_not_started (Err bad) tid is = absurd (cc)
 down_not_started (Ok request) tid is = absurd (cc)
 
-module _ (catalog : Catalog) (capacity : ℕ) (i : SiteId) (S : Standing) where
+module _ (catalog : Catalog) (layout : Layout) (i : SiteId) (S : Standing) where
   ruled_not_started : (c : ℕ) (call : Result Request Bad) (gone tid : Tid) → S.gone c ≡ Some gone
       → (rule catalog i S (Given (Call c call))).outcome ≡ Replied (Started tid) → ⊥
   ruled_not_started c call gone tid is = at S.up
@@ -135,12 +136,12 @@ module _ (catalog : Catalog) (capacity : ℕ) (i : SiteId) (S : Standing) where
   failed_not_started c call rec tid is = absurd (cc)
 
   not_started : (c : ℕ) (event : Event) (call : Result Request Bad) (came : Came) (gone tid : Tid)
-      → event ≡ Given (Call c call) → Comes catalog capacity i S event came → S.gone c ≡ Some gone
+      → event ≡ Given (Call c call) → Comes catalog layout i S event came → S.gone c ≡ Some gone
       → came.outcome ≡ Replied (Started tid) → ⊥
   not_started c event call came gone tid is_call comes is started =
-      at (subst (λ (e : Event). Comes catalog capacity i S e came) is_call comes)
+      at (subst (λ (e : Event). Comes catalog layout i S e came) is_call comes)
     where
-      at : Comes catalog capacity i S (Given (Call c call)) came → ⊥
+      at : Comes catalog layout i S (Given (Call c call)) came → ⊥
       at (Comes.ruled fits ruled) = ruled_not_started c call gone tid is (sym ruled.outcome ∙ started)
       at (Comes.met_fault rec brings fits only) = failed_not_started c call rec tid (sym only.outcome_is ∙ started)
       at (Comes.unread restart down only) = absurd (cc)
@@ -157,8 +158,8 @@ told_none (Given (Call client call)) (Replied (Refused (Gone tid))) gone c none 
     at false = none
 told_none event outcome gone c none = none
 
-module _ (catalog : Catalog) (capacity : ℕ) (i : SiteId) where
-  alone_after : (S : Standing) (event : Event) (came : Came) → Comes catalog capacity i S event came → IsOwedAlone S
+module _ (catalog : Catalog) (layout : Layout) (i : SiteId) where
+  alone_after : (S : Standing) (event : Event) (came : Came) → Comes catalog layout i S event came → IsOwedAlone S
       → IsOwedAlone (stands_after catalog i S event came)
   alone_after S event came comes alone c = by (goes_down event came.outcome)
     where
@@ -173,7 +174,7 @@ module _ (catalog : Catalog) (capacity : ℕ) (i : SiteId) where
           inr
           (none_after c S.knows.sessions none event came.outcome came.wrote
           (vector_of catalog (recorded catalog i came.wrote S.knows))
-          (λ call tid' is_call started. not_started catalog capacity i S c event call came tid tid' is_call comes is started))
+          (λ call tid' is_call started. not_started catalog layout i S c event call came tid tid' is_call comes is started))
 
       by : (down : Bool)
           → ((if down then owed (session_in c K.sessions) (S.gone c) else told event came.outcome S.gone c) ≡ None)
@@ -185,7 +186,7 @@ module _ (catalog : Catalog) (capacity : ℕ) (i : SiteId) where
   settled_alone S None alone = alone
   settled_alone S (Some rec) alone = alone
 
-  pub right_alone : (older : List Entry) → AreRight catalog capacity i older → IsOwedAlone (standing catalog i older)
+  pub right_alone : (older : List Entry) → AreRight catalog layout i older → IsOwedAlone (standing catalog i older)
   right_alone [] right = λ c. inl refl
   right_alone (e ∷ older) right =
       alone_after (settled catalog i e.came.kept (standing catalog i older)) e.event e.came right.1.comes

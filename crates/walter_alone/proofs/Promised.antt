@@ -28,13 +28,14 @@ use Rattle.walter_rules.specs.declared.outcome.Outcome.TheVariants.{Failed, Full
 use Rattle.walter_rules.specs.Calls.{Expected, next_seq, if_local, decides, commits_open, commits_by, commits_for, commits_fast, call_rule, if_told}
 use Rattle.walter_rules.specs.Deliveries.{passes, takes, back, is_peer, is_enabled, advances, if_accepted, answer_over, prepares, prepares_by, if_lockable, if_peer, packet_rule}
 use Rattle.walter_rules.specs.Knowledge.{preferred, session_of}
+use Rattle.walter_rules.specs.Layouts.{Layout, need_of, left_behind, FitsIn}
 use Rattle.walter_rules.specs.Objects.{objects_of, are_local}
 use Rattle.walter_rules.specs.Rule.{rule_where, rule}
 use Rattle.walter_rules.specs.Sending.{Send}
 use Rattle.walter_rules.specs.Sessions.{Session, tx_of}
 use Rattle.walter_rules.specs.Slow.{Part, Free, Locked, Over}
 use Rattle.walter_rules.specs.Standing.{Standing, settled}
-use Rattle.walter_rules.specs.Trails.{standing, need_of, left_behind, FitsIn, IsPutOut, failure, want, fullness, IsFound, Comes, ruled, met_fault, unread, no_memory, full, IsRightEntry}
+use Rattle.walter_rules.specs.Trails.{standing, IsPutOut, failure, want, fullness, IsFound, Comes, ruled, met_fault, unread, no_memory, full, IsRightEntry}
 use Rattle.walter_rules.proofs.WrittenObjects.{rising_from}
 use Rattle.walter_alone.specs.Promises.{IsFree, committed, unsure, full as is_refused, no_memory as wants_memory, IsAnswered, IsWritten, is_stable, is_flying, is_full, is_lost, IsAtPeer, IsNext, IsReceived, IsDue, IsSeen, IsAsked, IsSaid, is_said, is_unsaid, IsLocked, is_locked, is_held, IsHindered, IsHinderedAnswer}
 use Rattle.walter_alone.proofs.TestsPass.{all_pass}
@@ -48,16 +49,16 @@ settled_given catalog i S event (Some rec) input found is = absurd
     (let restart = found.restart in let e : Given input ≡ Restart = sym is ∙ restart in cc)
 
 -- so an entry at which something is given comes of how the site stood
-given_comes : (catalog : Catalog) (capacity : ℕ) (i : SiteId) (older : List Entry) (e : Entry) (input : Input)
-    → IsRightEntry catalog capacity i older e → e.event ≡ Given input
-    → Comes catalog capacity i (standing catalog i older) (Given input) e.came
-given_comes catalog capacity i older e input right is =
+given_comes : (catalog : Catalog) (layout : Layout) (i : SiteId) (older : List Entry) (e : Entry) (input : Input)
+    → IsRightEntry catalog layout i older e → e.event ≡ Given input
+    → Comes catalog layout i (standing catalog i older) (Given input) e.came
+given_comes catalog layout i older e input right is =
     let S : Standing = standing catalog i older in
-    subst (λ (v : Event). Comes catalog capacity i S v e.came) is
-    (subst (λ (T : Standing). Comes catalog capacity i T e.event e.came)
+    subst (λ (v : Event). Comes catalog layout i S v e.came) is
+    (subst (λ (T : Standing). Comes catalog layout i T e.event e.came)
     (settled_given catalog i S e.event e.came.kept input right.kept is) right.comes)
 
-module _ (catalog : Catalog) (capacity : ℕ) (i : SiteId) (S : Standing) (came : Came) where
+module _ (catalog : Catalog) (layout : Layout) (i : SiteId) (S : Standing) (came : Came) where
   -- what a peer sends, or what is due of it
   abbrev pub IsOfPeers : Input → Type 0
   IsOfPeers (Deliver j number packet) = Unit {0}
@@ -82,27 +83,27 @@ module _ (catalog : Catalog) (capacity : ℕ) (i : SiteId) (S : Standing) (came 
   -- where the rule has a record written
   written : (input : Input) (rec : Record) (sends : List Send) → IsOfPeers input
       → rule catalog i S (Given input) ≡ takes (Some rec) sends
-      → Comes catalog capacity i S (Given input) came → IsWritten capacity S rec sends came
+      → Comes catalog layout i S (Given input) came → IsWritten layout S rec sends came
   written input rec sends of is (ruled fits as_ruled) =
-      is_stable (subst (λ (x : Expected). IfSome x.wrote (FitsIn capacity S)) is fits)
+      is_stable (subst (λ (x : Expected). IfSome x.wrote (FitsIn layout S)) is fits)
       (as_ruled.wrote ∙ ap (λ (x : Expected). x.wrote) is)
       (as_ruled.outcome ∙ ap (λ (x : Expected). x.outcome) is)
       (subst (λ (x : Expected). IsPutOut S.carried x.sends came.sends came.dropped) is as_ruled.sends)
   written input rec sends of is (met_fault r wrote fits only) =
       let same : r ≡ rec = same_Some r rec (sym wrote ∙ ap (λ (x : Expected). x.wrote) is) in
-      is_flying (subst (FitsIn capacity S) same fits) (only.flight_is ∙ ap (λ (z : Record). Some z) same)
+      is_flying (subst (FitsIn layout S) same fits) (only.flight_is ∙ ap (λ (z : Record). Some z) same)
       (only.outcome_is ∙ fails input r of)
   written input rec sends of is (unread restart down only) = absurd (let e = restart in cc)
   written input rec sends of is (no_memory takes_ only) = is_lost (only.outcome_is ∙ wants input of)
   written input rec sends of is (full r wrote low only) =
       let same : r ≡ rec = same_Some r rec (sym wrote ∙ ap (λ (x : Expected). x.wrote) is) in
-      is_full (subst (λ z. left_behind capacity S.records < need_of z) same low)
-      (only.outcome_is ∙ fills input (need_of r) (left_behind capacity S.records) of
-      ∙ ap (λ z. Full (need_of z) (left_behind capacity S.records)) same)
+      is_full (subst (λ z. left_behind layout S < need_of z) same low)
+      (only.outcome_is ∙ fills input (need_of r) (left_behind layout S) of
+      ∙ ap (λ z. Full (need_of z) (left_behind layout S)) same)
 
   -- where it has none
   said : (input : Input) (sends : List Send) → IsOfPeers input → rule catalog i S (Given input) ≡ passes sends
-      → Comes catalog capacity i S (Given input) came → IsSaid S sends came
+      → Comes catalog layout i S (Given input) came → IsSaid S sends came
   said input sends of is (ruled fits as_ruled) =
       is_said (as_ruled.outcome ∙ ap (λ (x : Expected). x.outcome) is)
       (subst (λ (x : Expected). IsPutOut S.carried x.sends came.sends came.dropped) is as_ruled.sends)
@@ -120,82 +121,82 @@ module _ (catalog : Catalog) (capacity : ℕ) (i : SiteId) (S : Standing) (came 
       ∙ ap (λ b. if_peer b (packet_rule catalog i S.knows j packet)) at.peer
 
 -- a commit of a peer that is accepted
-pub entry_received : (catalog : Catalog) (capacity : ℕ) (i : SiteId) (older : List Entry) (e : Entry) (j : SiteId)
-    (seq : ℕ) (tx : Tx) → IsRightEntry catalog capacity i older e
+pub entry_received : (catalog : Catalog) (layout : Layout) (i : SiteId) (older : List Entry) (e : Entry) (j : SiteId)
+    (seq : ℕ) (tx : Tx) → IsRightEntry catalog layout i older e
     → IsNext catalog i (standing catalog i older) e.event j seq tx
-    → IsReceived capacity (standing catalog i older) j seq tx e.came
-entry_received catalog capacity i older e j seq tx right next =
+    → IsReceived layout (standing catalog i older) j seq tx e.came
+entry_received catalog layout i older e j seq tx right next =
     let S : Standing = standing catalog i older in
-    written catalog capacity i S e.came (Deliver j next.number (Propagate seq tx)) (Got j seq tx) (back j (Ack seq)) tt
-    (peer_rule catalog capacity i S e.came j next.number (Propagate seq tx) next.at
+    written catalog layout i S e.came (Deliver j next.number (Propagate seq tx)) (Got j seq tx) (back j (Ack seq)) tt
+    (peer_rule catalog layout i S e.came j next.number (Propagate seq tx) next.at
     ∙ ap (λ b. if_accepted b S.knows j seq tx) next.accepted)
-    (given_comes catalog capacity i older e (Deliver j next.number (Propagate seq tx)) right next.came)
+    (given_comes catalog layout i older e (Deliver j next.number (Propagate seq tx)) right next.came)
 
 -- a commit of a peer that is due
-pub entry_seen : (catalog : Catalog) (capacity : ℕ) (i : SiteId) (older : List Entry) (e : Entry) (j : SiteId)
-    → IsRightEntry catalog capacity i older e
-    → IsDue catalog i (standing catalog i older) e.event j → IsSeen capacity (standing catalog i older) j e.came
-entry_seen catalog capacity i older e j right due =
+pub entry_seen : (catalog : Catalog) (layout : Layout) (i : SiteId) (older : List Entry) (e : Entry) (j : SiteId)
+    → IsRightEntry catalog layout i older e
+    → IsDue catalog i (standing catalog i older) e.event j → IsSeen layout (standing catalog i older) j e.came
+entry_seen catalog layout i older e j right due =
     let S : Standing = standing catalog i older in
     let due_here : (is_peer catalog i j && is_enabled S.knows j) ≡ true = rw (due.at.peer, due.enabled) refl in
-    written catalog capacity i S e.came (Advance j) (Seen j (S.knows.committed j + 1))
+    written catalog layout i S e.came (Advance j) (Seen j (S.knows.committed j + 1))
     (back j (Visible (S.knows.committed j + 1))) tt
     (ap (λ b. rule_where b catalog i S (Advance j)) due.at.up ∙ ap (advances S.knows j) due_here)
-    (given_comes catalog capacity i older e (Advance j) right due.came)
+    (given_comes catalog layout i older e (Advance j) right due.came)
 
 -- a PREPARE of objects that can be locked
-module _ (catalog : Catalog) (capacity : ℕ) (i : SiteId) (S : Standing) (event : Event) (came : Came) (j : SiteId)
+module _ (catalog : Catalog) (layout : Layout) (i : SiteId) (S : Standing) (event : Event) (came : Came) (j : SiteId)
     (n : ℕ) (tid : Tid) (objects : List ObjId)
     (asked : IsAsked catalog i S event j n tid objects) where
   abbrev pub prepare : Input
   prepare = Deliver j asked.number (Prepare n tid asked.start objects)
 
   prepare_rule : rule catalog i S (Given prepare) ≡ prepares_by S.knows j n tid asked.start objects (S.knows.part j n)
-  prepare_rule = peer_rule catalog capacity i S came j asked.number (Prepare n tid asked.start objects) asked.at
+  prepare_rule = peer_rule catalog layout i S came j asked.number (Prepare n tid asked.start objects) asked.at
       ∙ ap (λ b. if_lockable b S.knows j n tid asked.start objects) asked.lockable
 
-  prepared_by : Comes catalog capacity i S (Given prepare) came → (part : Part) → S.knows.part j n ≡ part
-      → IsLocked capacity S j n tid objects came
+  prepared_by : Comes catalog layout i S (Given prepare) came → (part : Part) → S.knows.part j n ≡ part
+      → IsLocked layout S j n tid objects came
   prepared_by comes Free is =
       is_locked is
-      (written catalog capacity i S came prepare (Prepared j n tid objects) (back j (Vote n Yes)) tt
+      (written catalog layout i S came prepare (Prepared j n tid objects) (back j (Vote n Yes)) tt
       (prepare_rule ∙ (ap (prepares_by S.knows j n tid asked.start objects) is
       ∙ ap (prepares S.knows j n tid asked.start objects) (asked.clear is))) comes)
   prepared_by comes (Locked owner held) is =
-      is_held owner held is (said catalog capacity i S came prepare (back j (Vote n Yes)) tt
+      is_held owner held is (said catalog layout i S came prepare (back j (Vote n Yes)) tt
       (prepare_rule ∙ ap (prepares_by S.knows j n tid asked.start objects) is) comes)
   prepared_by comes Over is = absurd (asked.alive is)
 
-pub entry_locked : (catalog : Catalog) (capacity : ℕ) (i : SiteId) (older : List Entry) (e : Entry) (j : SiteId) (n : ℕ)
+pub entry_locked : (catalog : Catalog) (layout : Layout) (i : SiteId) (older : List Entry) (e : Entry) (j : SiteId) (n : ℕ)
     (tid : Tid) (objects : List ObjId)
-    → IsRightEntry catalog capacity i older e → IsAsked catalog i (standing catalog i older) e.event j n tid objects
-    → IsLocked capacity (standing catalog i older) j n tid objects e.came
-entry_locked catalog capacity i older e j n tid objects right asked =
+    → IsRightEntry catalog layout i older e → IsAsked catalog i (standing catalog i older) e.event j n tid objects
+    → IsLocked layout (standing catalog i older) j n tid objects e.came
+entry_locked catalog layout i older e j n tid objects right asked =
     let S : Standing = standing catalog i older in
-    prepared_by catalog capacity i S e.event e.came j n tid objects asked
-    (given_comes catalog capacity i older e
+    prepared_by catalog layout i S e.event e.came j n tid objects asked
+    (given_comes catalog layout i older e
     (Deliver j asked.number (Prepare n tid asked.start objects)) right asked.came) (S.knows.part j n) refl
 
 -- a PREPARE that meets a conflict
-pub entry_hindered : (catalog : Catalog) (capacity : ℕ) (i : SiteId) (older : List Entry) (e : Entry) (j : SiteId)
-    (n : ℕ) (start : List ℕ) (conflict : Conflict) → IsRightEntry catalog capacity i older e
+pub entry_hindered : (catalog : Catalog) (layout : Layout) (i : SiteId) (older : List Entry) (e : Entry) (j : SiteId)
+    (n : ℕ) (start : List ℕ) (conflict : Conflict) → IsRightEntry catalog layout i older e
     → IsHindered catalog i (standing catalog i older) e.event j n start conflict
     → IsHinderedAnswer (standing catalog i older) j n start conflict e.came
-entry_hindered catalog capacity i older e j n start conflict right hindered =
+entry_hindered catalog layout i older e j n start conflict right hindered =
     let S : Standing = standing catalog i older in
     let tid : Tid = hindered.tid in
     let objects : List ObjId = hindered.objects in
-    said catalog capacity i S e.came (Deliver j hindered.number (Prepare n tid start objects))
+    said catalog layout i S e.came (Deliver j hindered.number (Prepare n tid start objects))
     (back j (Vote n (answer_over S.knows start conflict))) tt
-    (peer_rule catalog capacity i S e.came j hindered.number (Prepare n tid start objects) hindered.at
+    (peer_rule catalog layout i S e.came j hindered.number (Prepare n tid start objects) hindered.at
     ∙ (ap (λ b. if_lockable b S.knows j n tid start objects) hindered.lockable
     ∙ (ap (prepares_by S.knows j n tid start objects) hindered.free
     ∙ ap (prepares S.knows j n tid start objects) hindered.met)))
-    (given_comes catalog capacity i older e (Deliver j hindered.number (Prepare n tid start objects)) right
+    (given_comes catalog layout i older e (Deliver j hindered.number (Prepare n tid start objects)) right
     hindered.came)
 
 -- a commit that meets no conflict, and whose objects are all preferred here
-module _ (catalog : Catalog) (capacity : ℕ) (i : SiteId) (S : Standing) (event : Event) (s : Session)
+module _ (catalog : Catalog) (layout : Layout) (i : SiteId) (S : Standing) (event : Event) (s : Session)
     (free : IsFree catalog i S event s) where
   local_passes : are_local catalog S.knows i s.updates ≡ true
   local_passes = all_pass (λ oid. same_site (preferred catalog S.knows oid) i) (objects_of s.updates)
@@ -223,27 +224,27 @@ module _ (catalog : Catalog) (capacity : ℕ) (i : SiteId) (S : Standing) (event
   is_due : (rec : Record) → (rule catalog i S (Given (Call free.client (Ok Commit)))).wrote ≡ Some rec → due ≡ rec
   is_due rec is = same_Some due rec (sym (ap (λ (x : Expected). x.wrote) rule_commits) ∙ is)
 
-  comes_answered : (came : Came) → Comes catalog capacity i S (Given (Call free.client (Ok Commit))) came
-      → IsAnswered capacity i S s came.outcome
+  comes_answered : (came : Came) → Comes catalog layout i S (Given (Call free.client (Ok Commit))) came
+      → IsAnswered layout i S s came.outcome
   comes_answered came (ruled fits as_ruled) =
-      committed (subst (λ (x : Expected). IfSome x.wrote (FitsIn capacity S)) rule_commits fits)
+      committed (subst (λ (x : Expected). IfSome x.wrote (FitsIn layout S)) rule_commits fits)
       (as_ruled.outcome ∙ ap (λ (x : Expected). x.outcome) rule_commits)
   comes_answered came (met_fault rec wrote fits only) =
       let same = is_due rec wrote in
-      unsure (subst (FitsIn capacity S) (sym same) fits)
+      unsure (subst (FitsIn layout S) (sym same) fits)
       (only.outcome_is ∙ ap (failure (Given (Call free.client (Ok Commit)))) (sym same))
   comes_answered came (unread restart down only) = absurd (let e = restart in cc)
   comes_answered came (no_memory takes_ only) = wants_memory only.outcome_is
   comes_answered came (full rec wrote low only) =
       let same = is_due rec wrote in
-      is_refused (subst (λ r. left_behind capacity S.records < need_of r) (sym same) low)
+      is_refused (subst (λ r. left_behind layout S < need_of r) (sym same) low)
       (only.outcome_is ∙ ap (λ r. fullness (Given (Call free.client (Ok Commit))) (need_of r)
-      (left_behind capacity S.records)) (sym same))
+      (left_behind layout S)) (sym same))
 
-pub entry_answered : (catalog : Catalog) (capacity : ℕ) (i : SiteId) (older : List Entry) (e : Entry) (s : Session)
-    → IsRightEntry catalog capacity i older e
+pub entry_answered : (catalog : Catalog) (layout : Layout) (i : SiteId) (older : List Entry) (e : Entry) (s : Session)
+    → IsRightEntry catalog layout i older e
     → IsFree catalog i (standing catalog i older) e.event s
-    → IsAnswered capacity i (standing catalog i older) s e.came.outcome
-entry_answered catalog capacity i older e s right free =
-    comes_answered catalog capacity i (standing catalog i older) e.event s free e.came
-    (given_comes catalog capacity i older e (Call free.client (Ok Commit)) right free.asked)
+    → IsAnswered layout i (standing catalog i older) s e.came.outcome
+entry_answered catalog layout i older e s right free =
+    comes_answered catalog layout i (standing catalog i older) e.event s free e.came
+    (given_comes catalog layout i older e (Call free.client (Ok Commit)) right free.asked)

@@ -1,6 +1,6 @@
 -- What a site knows by right entries, without its clients' transactions and what its peers have said, is what its
 -- records tell, each of which can follow those before it.
-use Rattle.std.proofs.Common.{◌≡◌, ◌<◌, ℕ, Bool, true, false, List, [], ◌∷◌, ◌++◌, Some, None, IfSome, refl, ap, sym, ◌∙◌, subst, if◌then◌else◌}
+use Rattle.std.proofs.Common.{◌≡◌, ◌<◌, Bool, true, false, List, [], ◌∷◌, ◌++◌, Some, None, IfSome, refl, ap, sym, ◌∙◌, subst, if◌then◌else◌}
 use Rattle.std.specs.Prelude.{Option}
 use Rattle.walter_base.specs.declared.catalog.Catalog.{Catalog}
 use Rattle.walter_base.specs.declared.message.Record.{Record}
@@ -10,6 +10,7 @@ use Rattle.walter_rules.specs.declared.entry.Entry.{Entry}
 use Rattle.walter_rules.specs.declared.event.Event.{Event}
 use Rattle.walter_rules.specs.declared.outcome.Outcome.{Outcome}
 use Rattle.walter_rules.specs.Knowledge.{Knowledge, fresh}
+use Rattle.walter_rules.specs.Layouts.{Layout}
 use Rattle.walter_rules.specs.Learning.{recorded, after, lost}
 use Rattle.walter_rules.specs.Records.{CanFollow, CanAllFollow, replayed}
 use Rattle.walter_rules.specs.Standing.{Standing, records_after, settled, goes_down, knows_after}
@@ -92,24 +93,24 @@ settled_tells catalog i S event (Some rec) found I are =
     tells_more catalog i S.records S.knows rec are (subst
     (λ f. IfSome f (CanFollow catalog i S.knows)) found.in_flight I.flies)
 
-right_tells : (catalog : Catalog) (capacity : ℕ) (i : SiteId) → i.0 < catalog.sites → (older : List Entry)
-    → AreRight catalog capacity i older
+right_tells : (catalog : Catalog) (layout : Layout) (i : SiteId) → i.0 < catalog.sites → (older : List Entry)
+    → AreRight catalog layout i older
     → Tells catalog i (standing catalog i older).records (standing catalog i older).knows
-right_tells catalog capacity i below [] right = (tt, refl)
-right_tells catalog capacity i below (e ∷ older) right =
+right_tells catalog layout i below [] right = (tt, refl)
+right_tells catalog layout i below (e ∷ older) right =
     let S : Standing = standing catalog i older in
     let T : Standing = settled catalog i e.came.kept S in
-    let I = right_kept catalog capacity i below older right.0 in
+    let I = right_kept catalog layout i below older right.0 in
     let J = settled_kept catalog i below S e.event e.came.kept right.1.kept I in
     let before = settled_tells catalog i S e.event e.came.kept right.1.kept I
-    (right_tells catalog capacity i below older right.0) in
+    (right_tells catalog layout i below older right.0) in
     let now = tells_then catalog i T.records T.knows e.came.wrote before
-    (step_follows catalog i T e.event e.came J (step_of catalog capacity i T e.event e.came right.1.comes)) in
+    (step_follows catalog i T e.event e.came J (step_of catalog layout i T e.event e.came right.1.comes)) in
     (now.0, left_after catalog i e.came.wrote T.knows e.event e.came.outcome ∙ now.1)
 
-pub right_journaled : (catalog : Catalog) (capacity : ℕ) (i : SiteId) → i.0 < catalog.sites → (older : List Entry)
-    → AreRight catalog capacity i older
+pub right_journaled : (catalog : Catalog) (layout : Layout) (i : SiteId) → i.0 < catalog.sites → (older : List Entry)
+    → AreRight catalog layout i older
     → IsJournaled catalog i (standing catalog i older)
-right_journaled catalog capacity i below older right =
-    let are = right_tells catalog capacity i below older right in
-    record { follow = are.0; flight = (right_kept catalog capacity i below older right).flies; told = are.1 }
+right_journaled catalog layout i below older right =
+    let are = right_tells catalog layout i below older right in
+    record { follow = are.0; flight = (right_kept catalog layout i below older right).flies; told = are.1 }

@@ -26,12 +26,13 @@ use Rattle.walter_rules.specs.Conflicts.{first_conflict}
 use Rattle.walter_rules.specs.Declarations.{are_lockable}
 use Rattle.walter_rules.specs.Deliveries.{is_peer, accepts, is_enabled, back, answer_over}
 use Rattle.walter_rules.specs.Knowledge.{Knowledge}
+use Rattle.walter_rules.specs.Layouts.{Layout, need_of, left_behind, FitsIn}
 use Rattle.walter_rules.specs.Objects.{objects_at}
 use Rattle.walter_rules.specs.Sending.{Send}
 use Rattle.walter_rules.specs.Sessions.{Session, tx_of}
 use Rattle.walter_rules.specs.Slow.{Free, Locked, Over}
 use Rattle.walter_rules.specs.Standing.{Standing}
-use Rattle.walter_rules.specs.Trails.{need_of, left_behind, FitsIn, IsPutOut}
+use Rattle.walter_rules.specs.Trails.{IsPutOut}
 
 -- a client that isn't owed a Gone asks, at a site that is up, for the commit of its open transaction, which has
 -- updates; each object that it writes is preferred here, and none meets a conflict
@@ -53,23 +54,23 @@ pub data IsCommitAnswer (i : SiteId) (K : Knowledge) (s : Session) (need left : 
   full : left < need → outcome ≡ Replied (Refused (JournalFull need left)) → IsCommitAnswer i K s need left outcome
   no_memory : outcome ≡ Replied (Refused NoMemory) → IsCommitAnswer i K s need left outcome
 
-abbrev pub IsAnswered : ℕ → SiteId → Standing → Session → Outcome → Type 0
-IsAnswered capacity i S s outcome =
-    IsCommitAnswer i S.knows s (need_of (Own (next_seq i S.knows) (tx_of s))) (left_behind capacity S.records) outcome
+abbrev pub IsAnswered : Layout → SiteId → Standing → Session → Outcome → Type 0
+IsAnswered layout i S s outcome =
+    IsCommitAnswer i S.knows s (need_of (Own (next_seq i S.knows) (tx_of s))) (left_behind layout S) outcome
 
 -- This record is to be journaled, and this to be put out. Where the record fits, it is stable, and the packets are
 -- put out or counted as lost; or the disk fails, and it is in flight. Where it doesn't fit, the outcome says so; and
 -- memory may run out.
-pub data IsWritten (capacity : ℕ) (S : Standing) (rec : Record) (sends : List Send) (came : Came) : Type 0 where
-  is_stable : FitsIn capacity S rec → came.wrote ≡ Some rec → came.outcome ≡ Taken
+pub data IsWritten (layout : Layout) (S : Standing) (rec : Record) (sends : List Send) (came : Came) : Type 0 where
+  is_stable : FitsIn layout S rec → came.wrote ≡ Some rec → came.outcome ≡ Taken
       → IsPutOut S.carried sends came.sends came.dropped
-      → IsWritten capacity S rec sends came
-  is_flying : FitsIn capacity S rec → came.flight ≡ Some rec → came.outcome ≡ Failed
-      → IsWritten capacity S rec sends came
-  is_full : left_behind capacity S.records < need_of rec
-      → came.outcome ≡ Full (need_of rec) (left_behind capacity S.records)
-      → IsWritten capacity S rec sends came
-  is_lost : came.outcome ≡ Memory → IsWritten capacity S rec sends came
+      → IsWritten layout S rec sends came
+  is_flying : FitsIn layout S rec → came.flight ≡ Some rec → came.outcome ≡ Failed
+      → IsWritten layout S rec sends came
+  is_full : left_behind layout S < need_of rec
+      → came.outcome ≡ Full (need_of rec) (left_behind layout S)
+      → IsWritten layout S rec sends came
+  is_lost : came.outcome ≡ Memory → IsWritten layout S rec sends came
 
 -- a site that is up, and one of its peers
 pub record IsAtPeer (catalog : Catalog) (i : SiteId) (S : Standing) (j : SiteId) : Type 0 where
@@ -85,8 +86,8 @@ pub record IsNext (catalog : Catalog) (i : SiteId) (S : Standing) (event : Event
   pub accepted : accepts catalog S.knows j seq tx ≡ true
 
 -- it is journaled, and acknowledged
-abbrev pub IsReceived : ℕ → Standing → SiteId → ℕ → Tx → Came → Type 0
-IsReceived capacity S j seq tx came = IsWritten capacity S (Got j seq tx) (back j (Ack seq)) came
+abbrev pub IsReceived : Layout → Standing → SiteId → ℕ → Tx → Came → Type 0
+IsReceived layout S j seq tx came = IsWritten layout S (Got j seq tx) (back j (Ack seq)) came
 
 -- the next commit of a peer is to be committed here, and can be
 pub record IsDue (catalog : Catalog) (i : SiteId) (S : Standing) (event : Event) (j : SiteId) : Type 0 where
@@ -95,8 +96,8 @@ pub record IsDue (catalog : Catalog) (i : SiteId) (S : Standing) (event : Event)
   pub enabled : is_enabled S.knows j ≡ true
 
 -- it is journaled, and its site is told
-abbrev pub IsSeen : ℕ → Standing → SiteId → Came → Type 0
-IsSeen capacity S j came = IsWritten capacity S (Seen j (S.knows.committed j + 1))
+abbrev pub IsSeen : Layout → Standing → SiteId → Came → Type 0
+IsSeen layout S j came = IsWritten layout S (Seen j (S.knows.committed j + 1))
     (back j (Visible (S.knows.committed j + 1))) came
 
 -- a peer asks for the locks of its slow commit, which isn't over here; the objects can be locked, and where they
@@ -117,12 +118,12 @@ pub data IsSaid (S : Standing) (sends : List Send) (came : Came) : Type 0 where
   is_unsaid : came.outcome ≡ Memory → IsSaid S sends came
 
 -- the lock is journaled, or held already; and the peer is told YES
-pub data IsLocked (capacity : ℕ) (S : Standing) (j : SiteId) (n : ℕ) (tid : Tid) (objects : List ObjId)
+pub data IsLocked (layout : Layout) (S : Standing) (j : SiteId) (n : ℕ) (tid : Tid) (objects : List ObjId)
     (came : Came) : Type 0 where
-  is_locked : S.knows.part j n ≡ Free → IsWritten capacity S (Prepared j n tid objects) (back j (Vote n Yes)) came
-      → IsLocked capacity S j n tid objects came
+  is_locked : S.knows.part j n ≡ Free → IsWritten layout S (Prepared j n tid objects) (back j (Vote n Yes)) came
+      → IsLocked layout S j n tid objects came
   is_held : (owner : Tid) (held : List ObjId) → S.knows.part j n ≡ Locked owner held
-      → IsSaid S (back j (Vote n Yes)) came → IsLocked capacity S j n tid objects came
+      → IsSaid S (back j (Vote n Yes)) came → IsLocked layout S j n tid objects came
 
 -- a peer asks for the locks of its slow commit, of which there is nothing here; the objects can be locked, and this is
 -- the first conflict that they meet

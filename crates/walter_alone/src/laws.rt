@@ -6,6 +6,7 @@ ghost use Rattle.walter_base.specs.declared.names.Tid.{Tid};
 ghost use Rattle.walter_base.specs.declared.transaction.Conflict.{Conflict};
 ghost use Rattle.walter_base.specs.declared.transaction.Tx.{Tx};
 ghost use Rattle.walter_rules.specs.declared.entry.Entry.{Entry};
+ghost use Rattle.walter_rules.specs.Layouts.{Layout};
 ghost use Rattle.walter_rules.specs.Sessions.{Session};
 ghost use Rattle.walter_rules.specs.Trails.{standing, IsRightEntry, AreRight};
 ghost use Rattle.walter_alone.specs.Journaled.{IsJournaled};
@@ -16,8 +17,8 @@ ghost use Rattle.walter_alone.specs.Promises.{IsFree, IsAnswered, IsNext, IsRece
 /// said, is what its records tell, each of which can follow those before it. So a restart, which goes by the records,
 /// ends no commit that was journaled, and invents none.
 pub fn a_restart_keeps_what_is_journaled()
-    ensures records { (catalog : Catalog) (capacity : ℕ) (i : SiteId) → i.0 < catalog.sites → (older : List Entry)
-        → AreRight catalog capacity i older → IsJournaled catalog i (standing catalog i older) }
+    ensures records { (catalog : Catalog) (layout : Layout) (i : SiteId) → i.0 < catalog.sites → (older : List Entry)
+        → AreRight catalog layout i older → IsJournaled catalog i (standing catalog i older) }
 {}
 
 /// At a site that is up nothing is refused without a reason. A commit whose objects are all preferred here, and that
@@ -26,22 +27,22 @@ pub fn a_restart_keeps_what_is_journaled()
 /// commit of a peer asks for. Where these meet a conflict, the peer is told NO only over a version outside its snapshot,
 /// or over a lock whose owner is known to be outside.
 pub fn right_trails_keep_promises()
-    ensures committed { (catalog : Catalog) (capacity : ℕ) (i : SiteId) (older : List Entry) (e : Entry) (s : Session)
-        → IsRightEntry catalog capacity i older e → IsFree catalog i (standing catalog i older) e.event s
-        → IsAnswered capacity i (standing catalog i older) s e.came.outcome }
-    ensures received { (catalog : Catalog) (capacity : ℕ) (i : SiteId) (older : List Entry) (e : Entry) (j : SiteId)
+    ensures committed { (catalog : Catalog) (layout : Layout) (i : SiteId) (older : List Entry) (e : Entry)
+        (s : Session) → IsRightEntry catalog layout i older e → IsFree catalog i (standing catalog i older) e.event s
+        → IsAnswered layout i (standing catalog i older) s e.came.outcome }
+    ensures received { (catalog : Catalog) (layout : Layout) (i : SiteId) (older : List Entry) (e : Entry) (j : SiteId)
         (seq : ℕ) (tx : Tx)
-        → IsRightEntry catalog capacity i older e → IsNext catalog i (standing catalog i older) e.event j seq tx
-        → IsReceived capacity (standing catalog i older) j seq tx e.came }
-    ensures seen { (catalog : Catalog) (capacity : ℕ) (i : SiteId) (older : List Entry) (e : Entry) (j : SiteId)
-        → IsRightEntry catalog capacity i older e → IsDue catalog i (standing catalog i older) e.event j
-        → IsSeen capacity (standing catalog i older) j e.came }
-    ensures locked { (catalog : Catalog) (capacity : ℕ) (i : SiteId) (older : List Entry) (e : Entry) (j : SiteId)
+        → IsRightEntry catalog layout i older e → IsNext catalog i (standing catalog i older) e.event j seq tx
+        → IsReceived layout (standing catalog i older) j seq tx e.came }
+    ensures seen { (catalog : Catalog) (layout : Layout) (i : SiteId) (older : List Entry) (e : Entry) (j : SiteId)
+        → IsRightEntry catalog layout i older e → IsDue catalog i (standing catalog i older) e.event j
+        → IsSeen layout (standing catalog i older) j e.came }
+    ensures locked { (catalog : Catalog) (layout : Layout) (i : SiteId) (older : List Entry) (e : Entry) (j : SiteId)
         (n : ℕ) (tid : Tid) (objects : List ObjId)
-        → IsRightEntry catalog capacity i older e → IsAsked catalog i (standing catalog i older) e.event j n tid objects
-        → IsLocked capacity (standing catalog i older) j n tid objects e.came }
-    ensures hindered { (catalog : Catalog) (capacity : ℕ) (i : SiteId) (older : List Entry) (e : Entry) (j : SiteId)
-        (n : ℕ) (start : List ℕ) (conflict : Conflict) → IsRightEntry catalog capacity i older e
+        → IsRightEntry catalog layout i older e → IsAsked catalog i (standing catalog i older) e.event j n tid objects
+        → IsLocked layout (standing catalog i older) j n tid objects e.came }
+    ensures hindered { (catalog : Catalog) (layout : Layout) (i : SiteId) (older : List Entry) (e : Entry) (j : SiteId)
+        (n : ℕ) (start : List ℕ) (conflict : Conflict) → IsRightEntry catalog layout i older e
         → IsHindered catalog i (standing catalog i older) e.event j n start conflict
         → IsHinderedAnswer (standing catalog i older) j n start conflict e.came }
 {}
@@ -49,6 +50,6 @@ pub fn right_trails_keep_promises()
 /// A client is told that a stop ended its transaction before it gets another. So a client with a transaction, as one that
 /// commits, is owed no such news.
 pub fn a_client_with_a_transaction_is_owed_nothing()
-    ensures { (catalog : Catalog) (capacity : ℕ) (i : SiteId) (older : List Entry) → AreRight catalog capacity i older
+    ensures { (catalog : Catalog) (layout : Layout) (i : SiteId) (older : List Entry) → AreRight catalog layout i older
         → IsOwedAlone (standing catalog i older) }
 {}

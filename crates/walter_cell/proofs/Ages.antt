@@ -17,6 +17,7 @@ use Rattle.walter_rules.specs.declared.entry.Entry.{Entry}
 use Rattle.walter_rules.specs.declared.event.Event.{Event}
 use Rattle.walter_rules.specs.declared.outcome.Outcome.TheVariants.{Refused}
 use Rattle.walter_rules.specs.Knowledge.{Knowledge, fresh}
+use Rattle.walter_rules.specs.Layouts.{Layout}
 use Rattle.walter_rules.specs.Records.{replayed}
 use Rattle.walter_rules.specs.Standing.{Standing, records_after, settled}
 use Rattle.walter_rules.specs.Trails.{Comes, IsFound, standing}
@@ -62,14 +63,14 @@ none_last None epoch is last less = absurd cc
 none_last (Some why) epoch is last less = omega (arith, last.1, less)
 
 -- an event comes to what it may at a site with such a trail
-pub comes_young : {D : Type 0} {g : Ghosts D} (capacity : ℕ) (old new : Engine D g) (es : List Entry) (event : Event) (came : Came)
+pub comes_young : {D : Type 0} {g : Ghosts D} (layout : Layout) (old new : Engine D g) (es : List Entry) (event : Event) (came : Came)
     (refused : Option RefusedRestart) → length es < 100000
     → Stands old (standing (catalog_in old) (site_in old) (reverse es))
-    → HasCome (catalog_in old) capacity (site_in old) (standing (catalog_in old) (site_in old) (reverse es)) event came refused new
+    → HasCome (catalog_in old) layout (site_in old) (standing (catalog_in old) (site_in old) (reverse es)) event came refused new
     → (came.outcome ≡ Refused → IsSome refused)
-    → Comes (catalog_in old) capacity (site_in old)
+    → Comes (catalog_in old) layout (site_in old)
     (settled (catalog_in old) (site_in old) came.kept (standing (catalog_in old) (site_in old) (reverse es))) event came
-comes_young capacity old new es event came refused few stands has why =
+comes_young layout old new es event came refused few stands has why =
     let S : Standing = standing (catalog_in old) (site_in old) (reverse es) in
     elim has.comes [
       | inl is ↦ absurd (none_last refused (settled (catalog_in old) (site_in old) came.kept S).knows.epoch (why is) has.last (

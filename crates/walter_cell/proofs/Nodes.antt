@@ -22,6 +22,7 @@ use Rattle.walter_packet.specs.Spelling.{HasPacketSpelling}
 use Rattle.walter_rules.specs.declared.entry.Came.{Came}
 use Rattle.walter_rules.specs.declared.entry.Entry.{Entry}
 use Rattle.walter_rules.specs.declared.event.Event.{Event}
+use Rattle.walter_rules.specs.Layouts.{Layout}
 use Rattle.walter_rules.specs.Sending.{Send}
 use Rattle.walter_rules.specs.Standing.{Standing, settled, stands_after, carried_after}
 use Rattle.walter_rules.specs.Trails.{Comes, IsFound, IsPutOut, IsNextStamp, AreRight, IsRightTrail, clock, opening, standing}
@@ -108,11 +109,11 @@ module _ {D : Type 0} {g : Ghosts D} where
       both (Some d) None there most rises = tt
       both (Some d) (Some e) there most rises = rises_more n (g.known d).faults (g.known e).faults b most rises
 
-  module _ (catalog : Catalog) (capacity : ℕ) (i : SiteId) (old new : NodeParts D g) (stamp : ℕ) (event : Event) (came : Came)
+  module _ (catalog : Catalog) (layout : Layout) (i : SiteId) (old new : NodeParts D g) (stamp : ℕ) (event : Event) (came : Came)
       (sends : List Send) (dropped : ℕ)
       (grown : new.trail ≡ old.trail ++ entry_by stamp event (with_sends sends dropped came) ∷ [])
       (free : IsPutWhereFree (met_to old.outs) (carried_by old.outs) came.sends sends dropped)
-      (node : IsNode catalog capacity i old) where
+      (node : IsNode catalog layout i old) where
     abbrev trail : List Entry
     trail = old.trail
 
@@ -131,11 +132,11 @@ module _ {D : Type 0} {g : Ghosts D} where
     pub node_more : new.clock ≡ stamp → IsSameEngine old.engine new.engine → IsSized catalog.sites came
         → HavePutMore catalog.sites stamp old.outs new.outs sends
         → OfDisks old.engine new.engine (λ x y. IsFaulty came (g.known x).faults (g.known y).faults)
-        → old.clock < stamp → stamp < 2 ^ 62 → IsNode catalog capacity i new
+        → old.clock < stamp → stamp < 2 ^ 62 → IsNode catalog layout i new
     node_more clock_is same sized put rises later early = record {
       catalog_is = same.catalog ∙ node.catalog_is;
       site = same.site ∙ node.site;
-      capacity_is = same.capacity ∙ node.capacity_is;
+      layout_is = same.layout ∙ node.layout_is;
       begins = ap (λ es. slice_get es 0) grown ∙ first_stays trail own opening node.begins;
       last = clock_is ∙ sym (ap clock back);
       early = subst (λ n. n < 2 ^ 62) (sym clock_is) early;
@@ -159,10 +160,10 @@ module _ {D : Type 0} {g : Ghosts D} where
     }
 
     pub known_more : came.dropped ≡ 0 → IfSome came.kept (IsFound S event)
-        → Comes catalog capacity i (settled catalog i came.kept S) event came
+        → Comes catalog layout i (settled catalog i came.kept S) event came
         → Stands new.engine (stands_after catalog i (settled catalog i came.kept S) event came)
         → IsNextStamp event old.clock stamp
-        → IsRightTrail catalog capacity i trail → IsKnownNode catalog capacity i new
+        → IsRightTrail catalog layout i trail → IsKnownNode catalog layout i new
     known_more none found comes stands next right =
         let T : Standing = settled catalog i came.kept S in
         let carried : IsPutOut T.carried came.sends sends dropped =
@@ -179,26 +180,26 @@ module _ {D : Type 0} {g : Ghosts D} where
             opening = right.opening;
             begins = ap (λ es. slice_get es 0) grown ∙ first_stays trail own right.opening right.begins;
             opens = right.opens;
-            right = subst (λ es. AreRight catalog capacity i es) (sym back) (
+            right = subst (λ es. AreRight catalog layout i es) (sym back) (
               right.right,
               record {
                 stamp = subst (λ n. IsNextStamp event n stamp) node.last next;
                 kept = found;
-                comes = comes_out catalog capacity i T event came sends dropped none carried comes;
+                comes = comes_out catalog layout i T event came sends dropped none carried comes;
               },
             );
           };
         }
 
     -- what it drops has found its lane full
-    pub drops_more : came.dropped ≡ 0 → Comes catalog capacity i (settled catalog i came.kept S) event came
+    pub drops_more : came.dropped ≡ 0 → Comes catalog layout i (settled catalog i came.kept S) event came
         → MayDrop catalog i (met_to old.outs) trail new.trail
     drops_more none comes =
         let T : Standing = settled catalog i came.kept S in
         inr (
           own,
           grown,
-          drops_where_full catalog capacity i T event came (met_to old.outs) sends dropped none
+          drops_where_full catalog layout i T event came (met_to old.outs) sends dropped none
               (agree_out (met_to old.outs) (carried_by old.outs) T.carried came.sends sends dropped agree free) comes,
         )
       where

@@ -6,9 +6,10 @@ use Rattle.walter_base.specs.declared.catalog.Catalog.{Catalog}
 use Rattle.walter_base.specs.declared.names.SiteId.{SiteId}
 use Rattle.walter_disk.specs.Images.{LeavesOnly}
 use Rattle.walter_disk.specs.declared.disk.Disk.{Ghosts}
-use Rattle.walter_engine.specs.Engines.{catalog_in, site_in, capacity_in, disk_in, Stands}
+use Rattle.walter_engine.specs.Engines.{catalog_in, site_in, layout_in, disk_in, Stands}
 use Rattle.walter_outbox.specs.Lanes.{put_to, HavePut}
 use Rattle.walter_rules.specs.declared.entry.Entry.{Entry}
+use Rattle.walter_rules.specs.Layouts.{Layout, one_area}
 use Rattle.walter_rules.specs.Standing.{unmade}
 use Rattle.walter_rules.specs.Trails.{ruled, opening, standing, clock, all_out, IsRightTrail}
 use Rattle.walter_engine.specs.Begins.{HasOnly, IsBegun, IsFaultOfBegin, MayHaveBegun}
@@ -24,7 +25,7 @@ one_of_all : {X : Type 0} (P : X → Type 0) (x : X) → P x → All P (x ∷ []
 one_of_all P x holds = All-push P [] x (All-nil P) holds
 
 opening_right : (catalog : Catalog) (capacity : ℕ) (i : SiteId) → 19 ≤ capacity
-    → IsRightTrail catalog capacity i (opening ∷ [])
+    → IsRightTrail catalog (one_area capacity) i (opening ∷ [])
 opening_right catalog capacity i fits =
     let place : 10 ≤ capacity - 9 = omega (arith, fits) in
     record {
@@ -67,24 +68,25 @@ module _ {X : Type 0} (P : List X → Type 0) where
   of_one : (xs : List X) (x : X) → xs ≡ x ∷ [] → P (x ∷ []) → P xs
   of_one xs x is holds = subst P (sym is) holds
 
-module _ {D : Type 0} {g : Ghosts D} (catalog : Catalog) (capacity : ℕ) (i : SiteId) (node : NodeParts D g)
+module _ {D : Type 0} {g : Ghosts D} (catalog : Catalog) (layout : Layout) (i : SiteId) (node : NodeParts D g)
     (is : node.trail ≡ opening ∷ []) where
   -- where the engine stands as the opening says
-  pub known_built : 19 ≤ capacity → Stands node.engine (standing catalog i (opening ∷ []))
-      → IsKnownNode catalog capacity i node
-  known_built fits stands = record {
+  pub known_built : (capacity : ℕ) → layout ≡ one_area capacity → 19 ≤ capacity
+      → Stands node.engine (standing catalog i (opening ∷ [])) → IsKnownNode catalog layout i node
+  known_built capacity is_layout fits stands = record {
     stands = of_one (λ (es : List Entry). Stands node.engine (standing catalog i (reverse es))) node.trail opening is stands;
-    right = of_one (λ (es : List Entry). IsRightTrail catalog capacity i es) node.trail opening is (opening_right catalog capacity i fits);
+    right = of_one (λ (es : List Entry). IsRightTrail catalog layout i es) node.trail opening is
+        (subst (λ (l : Layout). IsRightTrail catalog l i (opening ∷ [])) (sym is_layout) (opening_right catalog capacity i fits));
   }
 
   -- whatever its disk tells
-  pub node_built : catalog_in node.engine ≡ catalog → site_in node.engine ≡ i → capacity_in node.engine ≡ capacity
+  pub node_built : catalog_in node.engine ≡ catalog → site_in node.engine ≡ i → layout_in node.engine ≡ layout
       → node.clock ≡ 1 → length node.outs ≡ catalog.sites
-      → ((k : ℕ) → k < catalog.sites → put_to node.outs k ≡ []) → IsNode catalog capacity i node
-  node_built catalog_is site capacity_is one long empty = record {
+      → ((k : ℕ) → k < catalog.sites → put_to node.outs k ≡ []) → IsNode catalog layout i node
+  node_built catalog_is site layout_is one long empty = record {
     catalog_is = catalog_is;
     site = site;
-    capacity_is = capacity_is;
+    layout_is = layout_is;
     begins = ap (λ es. slice_get es 0) is;
     last = one ∙ of_one (λ (es : List Entry). 1 ≡ clock (reverse es)) node.trail opening is refl;
     early = omega (arith, one);

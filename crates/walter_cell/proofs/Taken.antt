@@ -68,7 +68,7 @@ replies_stay client entries e none =
 module _ {D : Type 0} (g : Ghosts D) where
   pub keeps_room : (old new : NodeValue D) → IsSameButRoom old new → KeepsNode g old new
   keeps_room old new same = subst (λ (n : NodeValue D). KeepsNode g old n) (sym same)
-      (record { catalog = refl; site = refl; capacity = refl; told = refl; rings = refl })
+      (record { catalog = refl; site = refl; layout = refl; told = refl; rings = refl })
 
   -- what was made ready for an entry takes it as it stood before
   pub ready_takes : (stamp : ℕ) (event : Event) (old mid new : NodeValue D) → IsSameButRoom old mid
@@ -82,7 +82,7 @@ module _ {D : Type 0} (g : Ghosts D) where
         keeps = record {
           catalog = t.keeps.catalog;
           site = t.keeps.site;
-          capacity = t.keeps.capacity;
+          layout = t.keeps.layout;
           told = t.keeps.told;
           rings = t.keeps.rings;
         };
@@ -185,7 +185,7 @@ module _ {D : Type 0} (old : CellValue D) (node : NodeValue D) where
       (record {
         catalog = ap (λ (n : NodeValue D). n.catalog) same;
         site = ap (λ (n : NodeValue D). n.site) same;
-        capacity = ap (λ (n : NodeValue D). n.capacity) same;
+        layout = ap (λ (n : NodeValue D). n.layout) same;
         told = told;
         rings = ap (λ (n : NodeValue D). out_rings n.outs) same;
       }) refl (λ from. omega arith) refl (ap (λ (n : NodeValue D). n.trail) same)
@@ -196,7 +196,7 @@ module _ {D : Type 0} (old : CellValue D) (node : NodeValue D) where
       (record {
         catalog = ap (λ (n : NodeValue D). n.catalog) same;
         site = ap (λ (n : NodeValue D). n.site) same;
-        capacity = ap (λ (n : NodeValue D). n.capacity) same;
+        layout = ap (λ (n : NodeValue D). n.layout) same;
         told = ap (λ (n : NodeValue D). is_told g n.disk) same;
         rings = rings;
       }) refl (λ from. omega arith) refl (ap (λ (n : NodeValue D). n.trail) same)

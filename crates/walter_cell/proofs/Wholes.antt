@@ -7,7 +7,7 @@ use Rattle.walter_base.specs.declared.names.SiteId.{SiteId}
 use Rattle.walter_disk.specs.Disks.{DiskState}
 use Rattle.walter_disk.specs.declared.disk.Disk.{Ghosts}
 use Rattle.walter_engine.specs.Contents.{HasRecords, MayHaveRecords}
-use Rattle.walter_engine.specs.Engines.{catalog_in, site_in, capacity_in, disk_in, IsSameEngine, Stands}
+use Rattle.walter_engine.specs.Engines.{catalog_in, site_in, layout_in, disk_in, IsSameEngine, Stands}
 use Rattle.walter_engine.specs.Stores.{disk_under, IsStored}
 use Rattle.walter_engine.specs.declared.engine.Engine.{Engine}
 use Rattle.walter_engine.specs.declared.store.Store.{Store}
@@ -18,6 +18,7 @@ use Rattle.walter_lane.specs.Lanes.{Sending}
 use Rattle.walter_outbox.specs.Lanes.{HavePut, out_rings, mets, met_to}
 use Rattle.walter_rules.specs.declared.entry.Came.{Came}
 use Rattle.walter_rules.specs.declared.event.Event.{Event}
+use Rattle.walter_rules.specs.Layouts.{Layout}
 use Rattle.walter_rules.specs.Standing.{Standing}
 use Rattle.walter_rules.specs.Trails.{standing}
 use Rattle.walter_site.specs.Members.{IsShortOutcome}
@@ -102,7 +103,7 @@ module _ {D : Type 0} {g : Ghosts D} where
     is = let is = whole.is in record {
       catalog_is = refl;
       site = refl;
-      capacity_is = refl;
+      layout_is = refl;
       begins = is.begins;
       last = is.last;
       early = is.early;
@@ -115,15 +116,15 @@ module _ {D : Type 0} {g : Ghosts D} where
   }
 
   -- a site's own parts
-  pub whole_of : (catalog : Catalog) (capacity : ℕ) (i : SiteId) (node : NodeParts D g) → IsNode catalog capacity i node
-      → (is_told g (disk_in node.engine) ≡ true → IsKnownNode catalog capacity i node) → IsWhole g node
-  whole_of catalog capacity i node is known = record {
-    is = subst (λ (k : Catalog). IsNode k (capacity_in node.engine) (site_in node.engine) node) (sym is.catalog_is)
-        (subst (λ (n : ℕ). IsNode catalog n (site_in node.engine) node) (sym is.capacity_is)
-        (subst (λ (j : SiteId). IsNode catalog capacity j node) (sym is.site) is));
-    known = λ told. subst (λ (k : Catalog). IsKnownNode k (capacity_in node.engine) (site_in node.engine) node) (sym is.catalog_is)
-        (subst (λ (n : ℕ). IsKnownNode catalog n (site_in node.engine) node) (sym is.capacity_is)
-        (subst (λ (j : SiteId). IsKnownNode catalog capacity j node) (sym is.site) (known told)));
+  pub whole_of : (catalog : Catalog) (layout : Layout) (i : SiteId) (node : NodeParts D g) → IsNode catalog layout i node
+      → (is_told g (disk_in node.engine) ≡ true → IsKnownNode catalog layout i node) → IsWhole g node
+  whole_of catalog layout i node is known = record {
+    is = subst (λ (k : Catalog). IsNode k (layout_in node.engine) (site_in node.engine) node) (sym is.catalog_is)
+        (subst (λ (l : Layout). IsNode catalog l (site_in node.engine) node) (sym is.layout_is)
+        (subst (λ (j : SiteId). IsNode catalog layout j node) (sym is.site) is));
+    known = λ told. subst (λ (k : Catalog). IsKnownNode k (layout_in node.engine) (site_in node.engine) node) (sym is.catalog_is)
+        (subst (λ (l : Layout). IsKnownNode catalog l (site_in node.engine) node) (sym is.layout_is)
+        (subst (λ (j : SiteId). IsKnownNode catalog layout j node) (sym is.site) (known told)));
   }
 
   -- the same over an engine that stands as the one before, and whose disk failed as often and tells as much
@@ -134,10 +135,10 @@ module _ {D : Type 0} {g : Ghosts D} where
       → IsWhole g old → IsWhole g (record old { engine = engine })
   whole_over old engine same stands kept whole =
       let told = told_both g (disk_in old.engine) (disk_in engine) (has_disk old.engine) (has_disk engine) (of_both _ _ (λ a b both. both.1) (disk_in old.engine) (disk_in engine) kept) in
-      whole_of (catalog_in old.engine) (capacity_in old.engine) (site_in old.engine) (record old { engine = engine }) (record {
+      whole_of (catalog_in old.engine) (layout_in old.engine) (site_in old.engine) (record old { engine = engine }) (record {
         catalog_is = same.catalog;
         site = same.site;
-        capacity_is = same.capacity;
+        layout_is = same.layout;
         begins = whole.is.begins;
         last = whole.is.last;
         early = whole.is.early;
@@ -156,9 +157,9 @@ module _ {D : Type 0} {g : Ghosts D} where
       → IsSameButDisk (seen before old) (seen after (record old { engine = engine }))
   seen_over old engine before after same =
       let new : NodeValue D = record (seen after old) { disk = disk_in engine } in
-      ap (λ (c : Catalog). record new { catalog = c; site = site_in engine; capacity = capacity_in engine }) same.catalog
-      ∙ (ap (λ (i : SiteId). record new { site = i; capacity = capacity_in engine }) same.site
-      ∙ ap (λ (n : ℕ). record new { capacity = n }) same.capacity)
+      ap (λ (c : Catalog). record new { catalog = c; site = site_in engine; layout = layout_in engine }) same.catalog
+      ∙ (ap (λ (i : SiteId). record new { site = i; layout = layout_in engine }) same.site
+      ∙ ap (λ (l : Layout). record new { layout = l }) same.layout)
 
   -- where a call keeps what is told of the disk, it told as much before
   pub told_before : (old new : Engine D g) → IfSome (disk_in old) (λ a. IfSome (disk_in new) (λ b. is_some (g.known b).reads ≡ is_some (g.known a).reads))
@@ -184,7 +185,7 @@ module _ {D : Type 0} {g : Ghosts D} where
     keeps = record {
       catalog = same.catalog;
       site = same.site;
-      capacity = same.capacity;
+      layout = same.layout;
       told = told_both g (disk_in old.engine) (disk_in new.engine) (has_disk old.engine) (has_disk new.engine) tells;
       rings = rings;
     };

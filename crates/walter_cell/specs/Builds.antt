@@ -5,9 +5,10 @@ use Rattle.walter_base.specs.declared.names.SiteId.{SiteId}
 use Rattle.walter_disk.specs.declared.disk.Disk.{Ghosts}
 use Rattle.walter_engine.specs.declared.answers.BeginFault.{BeginFault}
 use Rattle.walter_engine.specs.Begins.{HasOnly, IsBegun, IsFaultOfBegin, MayHaveBegun}
-use Rattle.walter_engine.specs.Engines.{catalog_in, site_in, capacity_in, disk_in, is_up, IsFresh}
+use Rattle.walter_engine.specs.Engines.{catalog_in, site_in, capacity_in, layout_in, disk_in, is_up, IsFresh}
 use Rattle.walter_engine.specs.declared.engine.Engine.{Engine}
 use Rattle.walter_lane.specs.Lanes.{Sending}
+use Rattle.walter_rules.specs.Layouts.{Layout, one_area}
 use Rattle.walter_rules.specs.Trails.{opening}
 use Rattle.walter_cell.specs.Nodes.{NodeValue, is_told}
 
@@ -33,10 +34,10 @@ module _ {D : Type 0} (g : Ghosts D) where
     pub arms : OfBuilt disk_of result (λ now. (g.known now).arms ≡ (g.known disk).arms)
 
   -- a site over this disk, up in its first epoch: its trail is the opening
-  pub record HasOpened (catalog : Catalog) (capacity : ℕ) (i : SiteId) (disk : D) (outs : List Sending)
+  pub record HasOpened (catalog : Catalog) (layout : Layout) (i : SiteId) (disk : D) (outs : List Sending)
       (node : NodeValue D) : Type 0 where
     pub catalog_is : node.catalog ≡ catalog
-    pub capacity_is : node.capacity ≡ capacity
+    pub layout_is : node.layout ≡ layout
     pub site : node.site ≡ i
     pub trail : node.trail ≡ opening ∷ []
     pub outs_are : node.outs ≡ outs
@@ -52,3 +53,4 @@ pub record IsNewEngine {D : Type 0} {g : Ghosts D} (catalog : Catalog) (capacity
   pub catalog_is : catalog_in engine ≡ catalog
   pub site : site_in engine ≡ i
   pub capacity_is : capacity_in engine ≡ capacity
+  pub layout_is : layout_in engine ≡ one_area capacity

@@ -5,7 +5,7 @@ use Rattle.walter_base.specs.declared.catalog.Catalog.{Catalog}
 use Rattle.walter_base.specs.declared.names.SiteId.{SiteId}
 use Rattle.walter_disk.specs.declared.disk.Disk.{Ghosts}
 use Rattle.walter_engine.specs.Contents.{MayHaveRecords}
-use Rattle.walter_engine.specs.Engines.{catalog_in, site_in, capacity_in, disk_in, Stands}
+use Rattle.walter_engine.specs.Engines.{catalog_in, site_in, layout_in, disk_in, Stands}
 use Rattle.walter_engine.specs.declared.engine.Engine.{Engine}
 use Rattle.walter_lane.specs.Lanes.{Sending}
 use Rattle.walter_machine.specs.Comings.{IsSized, is_faulty}
@@ -13,6 +13,7 @@ use Rattle.walter_machine.specs.Machines.{IsRoom}
 use Rattle.walter_rules.specs.declared.entry.Came.{Came}
 use Rattle.walter_rules.specs.declared.entry.Entry.{Entry}
 use Rattle.walter_rules.specs.declared.event.Event.{Event}
+use Rattle.walter_rules.specs.Layouts.{Layout}
 use Rattle.walter_rules.specs.Rule.{rule}
 use Rattle.walter_rules.specs.Standing.{Standing, settled}
 use Rattle.walter_rules.specs.Trails.{standing, clock, opening, IsRightTrail}
@@ -32,7 +33,7 @@ pub record Room : Type 0 where
 pub record NodeValue (D : Type 0) : Type 0 where
   pub catalog : Catalog
   pub site : SiteId
-  pub capacity : ℕ
+  pub layout : Layout
   pub disk : Option D
   pub trail : List Entry
   pub outs : List Sending
@@ -107,14 +108,14 @@ module _ {D : Type 0} (g : Ghosts D) where
     pub sized : All (λ e. IsSized node.catalog.sites e.came) node.trail
     pub put : HavePut node.catalog.sites node.trail node.outs
     pub faults : IfSome node.disk (λ disk. count_by (λ e. is_faulty e.came.outcome) node.trail ≤ (g.known disk).faults)
-    pub right : is_told node.disk ≡ true → IsRightTrail node.catalog node.capacity node.site node.trail
+    pub right : is_told node.disk ≡ true → IsRightTrail node.catalog node.layout node.site node.trail
     pub leaves : is_told node.disk ≡ true → IfSome node.disk (LeavesRecords node.catalog node.site node.trail)
 
   -- what each call keeps: which site it is, among which and over which kind of disk; and its lanes
   pub record KeepsNode (old new : NodeValue D) : Type 0 where
     pub catalog : new.catalog ≡ old.catalog
     pub site : new.site ≡ old.site
-    pub capacity : new.capacity ≡ old.capacity
+    pub layout : new.layout ≡ old.layout
     pub told : is_told new.disk ≡ is_told old.disk
     pub rings : out_rings new.outs ≡ out_rings old.outs
 
@@ -138,11 +139,11 @@ pub record NodeParts (D : Type 0) (g : Ghosts D) : Type 0 where
   pub outs : List Sending
 
 -- whatever its disk tells
-pub record IsNode {D : Type 0} {g : Ghosts D} (catalog : Catalog) (capacity : ℕ) (i : SiteId)
+pub record IsNode {D : Type 0} {g : Ghosts D} (catalog : Catalog) (layout : Layout) (i : SiteId)
     (node : NodeParts D g) : Type 0 where
   pub catalog_is : catalog_in node.engine ≡ catalog
   pub site : site_in node.engine ≡ i
-  pub capacity_is : capacity_in node.engine ≡ capacity
+  pub layout_is : layout_in node.engine ≡ layout
   pub begins : slice_get node.trail 0 ≡ Some opening
   pub last : node.clock ≡ clock (reverse node.trail)
   pub early : node.clock < 2 ^ 62
@@ -153,16 +154,16 @@ pub record IsNode {D : Type 0} {g : Ghosts D} (catalog : Catalog) (capacity : �
       count_by (λ e. is_faulty e.came.outcome) node.trail ≤ (g.known disk).faults)
 
 -- where its disk tells what it holds: the site stands as its trail says, and the trail is right
-pub record IsKnownNode {D : Type 0} {g : Ghosts D} (catalog : Catalog) (capacity : ℕ) (i : SiteId)
+pub record IsKnownNode {D : Type 0} {g : Ghosts D} (catalog : Catalog) (layout : Layout) (i : SiteId)
     (node : NodeParts D g) : Type 0 where
   pub stands : Stands node.engine (standing catalog i (reverse node.trail))
-  pub right : IsRightTrail catalog capacity i node.trail
+  pub right : IsRightTrail catalog layout i node.trail
 
 -- so it is of the node's own site
 pub record IsWhole {D : Type 0} (g : Ghosts D) (node : NodeParts D g) : Type 0 where
-  pub is : IsNode (catalog_in node.engine) (capacity_in node.engine) (site_in node.engine) node
+  pub is : IsNode (catalog_in node.engine) (layout_in node.engine) (site_in node.engine) node
   pub known : is_told g (disk_in node.engine) ≡ true
-      → IsKnownNode (catalog_in node.engine) (capacity_in node.engine) (site_in node.engine) node
+      → IsKnownNode (catalog_in node.engine) (layout_in node.engine) (site_in node.engine) node
 
 -- the memory that there is, with an engine and for so many more entries
 abbrev pub room_of : {D : Type 0} {g : Ghosts D} → ℕ → Engine D g → Room
@@ -178,7 +179,7 @@ abbrev pub seen : {D : Type 0} {g : Ghosts D} → Room → NodeParts D g → Nod
 seen room node = record {
   catalog = catalog_in node.engine;
   site = site_in node.engine;
-  capacity = capacity_in node.engine;
+  layout = layout_in node.engine;
   disk = disk_in node.engine;
   trail = node.trail;
   outs = node.outs;

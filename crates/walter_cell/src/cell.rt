@@ -12,6 +12,7 @@ ghost use Rattle.walter_cell.specs.Entries.{IsPlain, IsSpent};
 ghost use Rattle.walter_cell.specs.Lines.{is_here, IsLineAt, CanFail, HasFaultAt};
 ghost use Rattle.walter_cell.specs.Nodes.{clock_in, IsSound};
 ghost use Rattle.walter_outbox.specs.Lanes.{put_to, arrived_from, posted, ring_to, ring_from};
+ghost use Rattle.walter_rules.specs.Layouts.{one_area};
 ghost use Rattle.walter_rules.specs.Merges.{put_out_to};
 
 use crate::answers::{Acted, Moved, Serve};
@@ -80,7 +81,7 @@ impl<D: Disk + Drop, S: Source + Drop, K: Sink + Drop> Cell<D, S, K> {
         requires ins { length ins.items ≡ catalog.now.sites }
         requires empty { (k : ℕ) → k < catalog.now.sites → put_to outs.items k ≡ [] }
         ensures opens { IfOk result
-            (HasBegun D.Disk catalog.now capacity site disk outs.items ins.items lines.items) }
+            (HasBegun D.Disk catalog.now (one_area capacity) site disk outs.items ins.items lines.items) }
         ensures begins { Begins D.Disk (λ cell. cell.node.disk) disk result }
     {
         let node = Node::begin(alloc, disk, catalog, site, capacity, outs)?;

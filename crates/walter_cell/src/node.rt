@@ -8,6 +8,7 @@ ghost use Rattle.walter_machine.specs.States.{IsSizedEvent};
 ghost use Rattle.walter_cell.specs.Builds.{Begins, HasOpened, IsNewEngine};
 ghost use Rattle.walter_cell.specs.Entries.{IsSpent, HasPlace};
 ghost use Rattle.walter_outbox.specs.Lanes.{put_to, met_to, mets, ring_to, out_rings};
+ghost use Rattle.walter_rules.specs.Layouts.{one_area};
 ghost use Rattle.walter_rules.specs.Trails.{opening};
 
 use std::alloc::Global;
@@ -87,7 +88,7 @@ impl<D: Disk + Drop> Node<D> {
         requires place { 19 ≤ capacity }
         requires lanes { length outs.items ≡ catalog.now.sites }
         requires empty { (k : ℕ) → k < catalog.now.sites → put_to outs.items k ≡ [] }
-        ensures opens { IfOk result (HasOpened D.Disk catalog.now capacity site disk outs.items) }
+        ensures opens { IfOk result (HasOpened D.Disk catalog.now (one_area capacity) site disk outs.items) }
         ensures begins { Begins D.Disk (λ node. node.disk) disk result }
     {
         let Ok((mut entries, place)) = open(alloc) else {

@@ -14,7 +14,7 @@ use Rattle.walter_machine.specs.Comings.{IsSized}
 use Rattle.walter_cell.specs.Lines.{is_here}
 use Rattle.walter_cell.specs.Nodes.{IsSound}
 use Rattle.walter_cell.proofs.Taken.{if_call}
-use Rattle.walter_cluster.specs.Benches.{BenchValue, IsOf, IsBench, IsToldAt, AreAllConnected, AtEach, trails_of, is_site, is_home}
+use Rattle.walter_cluster.specs.Benches.{BenchValue, IsOf, IsBench, IsToldAt, AreAllConnected, AtEach, trails_of, is_site, is_home, layout_of}
 use Rattle.walter_cluster.proofs.Changes.{there_is}
 use Rattle.walter_cluster.proofs.Keeping.{home_within}
 use Rattle.walter_conn.proofs.Standings.{calls_of as calls_told}
@@ -31,6 +31,7 @@ use Rattle.walter_rules.specs.declared.entry.Entry.{Entry}
 use Rattle.walter_rules.specs.declared.outcome.Outcome.{Outcome}
 use Rattle.walter_rules.specs.declared.outcome.Outcome.TheVariants.{Replied, Taken, Passed, Failed, Full, Memory as IsMemory, Down as IsDown, Refused as IsRefused}
 use Rattle.walter_rules.specs.Knowledge.{site_at}
+use Rattle.walter_rules.specs.Layouts.{Layout}
 use Rattle.walter_rules.specs.Merges.{trail_of, AreLinked}
 use Rattle.walter_rules.specs.Kinds.{IfCall}
 use Rattle.walter_rules.specs.Trails.{AreRight, IsRightTrail, opening}
@@ -62,24 +63,24 @@ field_at f xs i x none at =
 
 -- ---- promises
 
-kept_of : (catalog : Catalog) (capacity : ℕ) (i : SiteId) (newest_first : List Entry)
-    → AreRight catalog capacity i newest_first → AreKept catalog capacity i newest_first
-kept_of catalog capacity i [] right = tt
-kept_of catalog capacity i (e ∷ older) right = (
-  kept_of catalog capacity i older right.0,
+kept_of : (catalog : Catalog) (layout : Layout) (i : SiteId) (newest_first : List Entry)
+    → AreRight catalog layout i newest_first → AreKept catalog layout i newest_first
+kept_of catalog layout i [] right = tt
+kept_of catalog layout i (e ∷ older) right = (
+  kept_of catalog layout i older right.0,
   record {
-    committed = λ s free. entry_answered catalog capacity i older e s right.1 free;
-    received = λ j seq tx next. entry_received catalog capacity i older e j seq tx right.1 next;
-    seen = λ j due. entry_seen catalog capacity i older e j right.1 due;
-    locked = λ j n tid objects asked. entry_locked catalog capacity i older e j n tid objects right.1 asked;
-    hindered = λ j n start conflict met. entry_hindered catalog capacity i older e j n start conflict right.1 met;
+    committed = λ s free. entry_answered catalog layout i older e s right.1 free;
+    received = λ j seq tx next. entry_received catalog layout i older e j seq tx right.1 next;
+    seen = λ j due. entry_seen catalog layout i older e j right.1 due;
+    locked = λ j n tid objects asked. entry_locked catalog layout i older e j n tid objects right.1 asked;
+    hindered = λ j n start conflict met. entry_hindered catalog layout i older e j n start conflict right.1 met;
   },
 )
 
-pub promises_kept : (catalog : Catalog) (capacity : ℕ) (trails : List (List Entry))
-    → AreRightTrails catalog capacity trails → KeepAllPromises catalog capacity trails
-promises_kept catalog capacity trails are i below =
-    kept_of catalog capacity i (reverse (trail_of trails i)) (are.right i below).right
+pub promises_kept : (catalog : Catalog) (layouts : SiteId → Layout) (trails : List (List Entry))
+    → AreRightTrails catalog layouts trails → KeepAllPromises catalog layouts trails
+promises_kept catalog layouts trails are i below =
+    kept_of catalog (layouts i) i (reverse (trail_of trails i)) (are.right i below).right
 
 -- ---- frames
 
@@ -176,32 +177,32 @@ module _ {D : Type 0} (g : Ghosts D) (t : Scenario) (bench : BenchValue D) (of :
 
   -- a trail that is right of its node, is right of its site
   right_of : (i : ℕ) (cell : CellValue D) → slice_get bench.cells i ≡ Some cell
-      → IsRightTrail cell.node.catalog cell.node.capacity cell.node.site cell.node.trail
-      → IsRightTrail t.catalog t.capacity (site_at i) cell.node.trail
+      → IsRightTrail cell.node.catalog cell.node.layout cell.node.site cell.node.trail
+      → IsRightTrail t.catalog (layout_of t) (site_at i) cell.node.trail
   right_of i cell at right =
-      subst (λ (k : Catalog). IsRightTrail k t.capacity (site_at i) cell.node.trail) (of.catalogs i cell at)
-      (subst (λ (n : ℕ). IsRightTrail cell.node.catalog n (site_at i) cell.node.trail) (of.capacities i cell at)
-      (subst (λ (n : SiteId). IsRightTrail cell.node.catalog cell.node.capacity n cell.node.trail) (is.cells i cell at).site right))
+      subst (λ (k : Catalog). IsRightTrail k (layout_of t) (site_at i) cell.node.trail) (of.catalogs i cell at)
+      (subst (λ (l : Layout). IsRightTrail cell.node.catalog l (site_at i) cell.node.trail) (of.layouts i cell at)
+      (subst (λ (n : SiteId). IsRightTrail cell.node.catalog cell.node.layout n cell.node.trail) (is.cells i cell at).site right))
 
   -- where all disks are told
   pub told_trails : ((i : ℕ) → i < t.catalog.sites → IsToldAt g i bench) → IsWhole t.catalog → AreLinked trails → AreTold t trails
   told_trails told whole linked =
-      let are : AreRightTrails t.catalog t.capacity trails = record {
+      let are : AreRightTrails t.catalog (λ k. layout_of t) trails = record {
         one_each = one_each;
         right = λ i below.
             let there = cell_at i.0 below in
-            subst (λ (es : List Entry). IsRightTrail t.catalog t.capacity i es) (sym (trail_is i.0 there.0 there.1))
+            subst (λ (es : List Entry). IsRightTrail t.catalog (layout_of t) i es) (sym (trail_is i.0 there.0 there.1))
             (right_of i.0 there.0 there.1 ((sound i.0 there.0 there.1).0.right (told i.0 below there.0 there.1)));
         linked = linked;
       } in
       record {
         right_trails = are;
-        legal_history = trails_legal t.catalog t.capacity whole trails are;
-        commits_once = trails_once t.catalog t.capacity whole trails are;
-        got_right = trails_got t.catalog t.capacity whole trails are;
-        aborts_named = trails_named t.catalog t.capacity whole trails are;
-        marks_true = trails_marks t.catalog t.capacity whole trails are;
-        promises_kept = promises_kept t.catalog t.capacity trails are;
+        legal_history = trails_legal t.catalog (λ k. layout_of t) whole trails are;
+        commits_once = trails_once t.catalog (λ k. layout_of t) whole trails are;
+        got_right = trails_got t.catalog (λ k. layout_of t) whole trails are;
+        aborts_named = trails_named t.catalog (λ k. layout_of t) whole trails are;
+        marks_true = trails_marks t.catalog (λ k. layout_of t) whole trails are;
+        promises_kept = promises_kept t.catalog (λ k. layout_of t) trails are;
       }
 
   pub frames : HaveFrames trails

@@ -42,6 +42,7 @@ use Rattle.walter_work.specs.Driven.{IsDriven}
 use Rattle.walter_words.specs.Words.{AsksForText}
 use Rattle.walter_words.specs.declared.asked.Command.{Command}
 use Rattle.walter_words.specs.declared.asked.Command.TheVariants.{Play, Run, Load, Say}
+use Rattle.walter_cluster.specs.Benches.{layout_of}
 
 -- ---- the outside
 
@@ -92,14 +93,14 @@ LeavesRecords s i trail images = (image : List ℕ) → images image
 -- number; each abort was asked for or names its conflict; at each entry what is committed of another site, or told to be
 -- durable or visible, is so; and nothing is given up at a site that is up, but for memory, the disk and its capacity
 pub record AreTold (s : Scenario) (trails : List (List Entry)) : Type 0 where
-  pub right_trails : AreRightTrails s.catalog s.capacity trails
+  pub right_trails : AreRightTrails s.catalog (λ k. layout_of s) trails
   pub legal_history : IsLegal (psi_of s.catalog (merge trails))
   pub commits_once : StandsOnce s.catalog (reverse (merge trails))
   pub got_right : AreGotRight s.catalog (reverse (merge trails))
   pub aborts_named : AreNamed s.catalog (reverse (merge trails))
   pub marks_true : (newer older : List Named) (n : Named) → reverse (merge trails) ≡ newer ++ n ∷ older
       → AreMarksTrue s.catalog older n
-  pub promises_kept : KeepAllPromises s.catalog s.capacity trails
+  pub promises_kept : KeepAllPromises s.catalog (λ k. layout_of s) trails
 
 -- the disk of a site behind a run: it failed at least as often as the site's trail says; where it is told, a crash leaves
 -- the trail's records; and its arms are the first ones of the scenario's for the site

@@ -9,6 +9,7 @@ use Rattle.walter_base.specs.declared.names.Tid.{Tid}
 use Rattle.walter_base.specs.declared.transaction.Conflict.{Conflict}
 use Rattle.walter_base.specs.declared.transaction.Tx.{Tx}
 use Rattle.walter_rules.specs.declared.entry.Entry.{Entry}
+use Rattle.walter_rules.specs.Layouts.{Layout}
 use Rattle.walter_rules.specs.Merges.{trail_of}
 use Rattle.walter_rules.specs.Sessions.{Session}
 use Rattle.walter_rules.specs.Trails.{standing}
@@ -17,27 +18,27 @@ use Rattle.walter_rules.specs.Trails.{standing}
 -- that a peer sends, and that is the next of that peer, is received; one that can be committed here is; and a slow
 -- commit of a peer that meets no conflict gets its locks, and is told YES; one that meets a conflict is told NO over a
 -- version outside its snapshot, or over a lock whose owner is known to be outside, and over another lock to ask again
-pub record KeepsPromises (catalog : Catalog) (capacity : ℕ) (i : SiteId) (older : List Entry) (e : Entry) : Type 0 where
+pub record KeepsPromises (catalog : Catalog) (layout : Layout) (i : SiteId) (older : List Entry) (e : Entry) : Type 0 where
   pub committed : (s : Session) → IsFree catalog i (standing catalog i older) e.event s
-      → IsAnswered capacity i (standing catalog i older) s e.came.outcome
+      → IsAnswered layout i (standing catalog i older) s e.came.outcome
   pub received : (j : SiteId) (seq : ℕ) (tx : Tx) → IsNext catalog i (standing catalog i older) e.event j seq tx
-      → IsReceived capacity (standing catalog i older) j seq tx e.came
+      → IsReceived layout (standing catalog i older) j seq tx e.came
   pub seen : (j : SiteId) → IsDue catalog i (standing catalog i older) e.event j
-      → IsSeen capacity (standing catalog i older) j e.came
+      → IsSeen layout (standing catalog i older) j e.came
   pub locked : (j : SiteId) (n : ℕ) (tid : Tid) (objects : List ObjId)
       → IsAsked catalog i (standing catalog i older) e.event j n tid objects
-      → IsLocked capacity (standing catalog i older) j n tid objects e.came
+      → IsLocked layout (standing catalog i older) j n tid objects e.came
   pub hindered : (j : SiteId) (n : ℕ) (start : List ℕ) (conflict : Conflict)
       → IsHindered catalog i (standing catalog i older) e.event j n start conflict
       → IsHinderedAnswer (standing catalog i older) j n start conflict e.came
 
 -- so does each entry; the newest comes first
-abbrev pub AreKept : Catalog → ℕ → SiteId → List Entry → Type 0
-AreKept catalog capacity i [] = Unit {0}
-AreKept catalog capacity i (e ∷ older) =
-    AreKept catalog capacity i older × KeepsPromises catalog capacity i older e
+abbrev pub AreKept : Catalog → Layout → SiteId → List Entry → Type 0
+AreKept catalog layout i [] = Unit {0}
+AreKept catalog layout i (e ∷ older) =
+    AreKept catalog layout i older × KeepsPromises catalog layout i older e
 
 -- and each of each site
-abbrev pub KeepAllPromises : Catalog → ℕ → List (List Entry) → Type 0
-KeepAllPromises catalog capacity trails = (i : SiteId) → i.0 < catalog.sites
-    → AreKept catalog capacity i (reverse (trail_of trails i))
+abbrev pub KeepAllPromises : Catalog → (SiteId → Layout) → List (List Entry) → Type 0
+KeepAllPromises catalog layouts trails = (i : SiteId) → i.0 < catalog.sites
+    → AreKept catalog (layouts i) i (reverse (trail_of trails i))

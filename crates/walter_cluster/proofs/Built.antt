@@ -123,7 +123,7 @@ module _ {D : Type 0} (g : Ghosts D) (t : Scenario) (disks : List D) (rows : Lis
   of_built homes homes_are = record {
     sites = begun.long;
     catalogs = λ i c at. (begun_at i c at).2.begun.node.catalog_is;
-    capacities = λ i c at. (begun_at i c at).2.begun.node.capacity_is;
+    layouts = λ i c at. (begun_at i c at).2.begun.node.layout_is;
     homes = homes_are;
   }
 

@@ -47,7 +47,7 @@ module _ {D : Type 0} where
     node = record {
       catalog = ap (λ (n : NodeValue D). n.catalog) stay.node;
       site = ap (λ (n : NodeValue D). n.site) stay.node;
-      capacity = ap (λ (n : NodeValue D). n.capacity) stay.node;
+      layout = ap (λ (n : NodeValue D). n.layout) stay.node;
       told = ap (λ (n : NodeValue D). is_told g n.disk) stay.node;
       rings = stay.outs;
     };

@@ -16,7 +16,7 @@ use Rattle.walter_psi.proofs.Lists.{slice_get-push_cases, slice_get-append_left}
 use Rattle.walter_rules.specs.Knowledge.{site_at}
 use Rattle.walter_scenario.specs.declared.scenario.Scenario.{Scenario}
 use Rattle.walter_cluster.specs.declared.opening.Unbuilt.{Unbuilt}
-use Rattle.walter_cluster.specs.Benches.{disks_of}
+use Rattle.walter_cluster.specs.Benches.{disks_of, layout_of}
 use Rattle.walter_cluster.specs.Builds.{LeavesDisk, LeavesDisks, HadNoRecords, IsWhyNone}
 use Rattle.walter_cluster.specs.Lanes.{row_of, column_of}
 use Rattle.walter_cluster.specs.Openings.{HasBegunAt, HaveBegun}
@@ -55,7 +55,7 @@ module _ {D : Type 0} where
 module _ {D : Type 0} (g : Ghosts D) (t : Scenario) where
   -- a cell that began
   pub cell_begins : (i : ℕ) (disk : D) (row : List Sending) (column : List Receiving) (list : List (Option LineValue)) (c : CellValue D)
-      → HasBegun g t.catalog t.capacity (site_at i) disk row column list c
+      → HasBegun g t.catalog (layout_of t) (site_at i) disk row column list c
       → Begins g {N = CellValue D} (λ (x : CellValue D). x.node.disk) disk (Ok c)
       → HasBegunAt g t i disk row column list c
   cell_begins i disk row column list c begun begins =

@@ -58,7 +58,7 @@ module _ {D : Type 0} (g : Ghosts D) where
   gone_self t c = record {
     catalog = refl;
     site = refl;
-    capacity = refl;
+    layout = refl;
     told = refl;
     arms = refl;
     outs = refl;
@@ -74,7 +74,7 @@ module _ {D : Type 0} (g : Ghosts D) where
   gone_further o a b gone keeps arms = record {
     catalog = keeps.node.catalog ∙ gone.catalog;
     site = keeps.node.site ∙ gone.site;
-    capacity = keeps.node.capacity ∙ gone.capacity;
+    layout = keeps.node.layout ∙ gone.layout;
     told = keeps.node.told ∙ gone.told;
     arms = arms ∙ gone.arms;
     outs = keeps.node.rings ∙ gone.outs;
@@ -88,7 +88,7 @@ module _ {D : Type 0} (g : Ghosts D) where
   -- so it keeps what a call keeps
   pub gone_keeps : (t : Scenario) (a b : CellValue D) → HasGoneOn g (origin_of g t a) b → cell.Keeps g a b
   gone_keeps t a b gone = record {
-    node = record { catalog = gone.catalog; site = gone.site; capacity = gone.capacity; told = gone.told; rings = gone.outs };
+    node = record { catalog = gone.catalog; site = gone.site; layout = gone.layout; told = gone.told; rings = gone.outs };
     ins = gone.ins;
     more = gone.more;
     here = gone.here;

@@ -14,6 +14,7 @@ use Rattle.walter_lane.specs.Lanes.{Sending, Receiving}
 use Rattle.walter_outbox.specs.Lanes.{arrived_from, met_to, ring_to, ring_from}
 use Rattle.walter_rules.specs.declared.entry.Entry.{Entry}
 use Rattle.walter_rules.specs.Knowledge.{site_at}
+use Rattle.walter_rules.specs.Layouts.{Layout, one_area}
 use Rattle.walter_scenario.specs.declared.scenario.Client.{Client}
 use Rattle.walter_scenario.specs.declared.scenario.Scenario.{Scenario}
 use Rattle.walter_trail.specs.Calls.{calls_of}
@@ -30,6 +31,10 @@ is_home homes client i = is_site (slice_get homes client) i
 pub record BenchValue (D : Type 0) : Type 0 where
   pub cells : List (CellValue D)
   pub homes : List SiteId
+
+-- each site's journal has one area
+abbrev pub layout_of : Scenario → Layout
+layout_of t = one_area t.capacity
 
 -- there are as many elements, and of what each was and became it is so
 pub record EachBecomes {X : Type 0} (R : (old new : X) → Type 0) (old new : List X) : Type 0 where
@@ -86,7 +91,7 @@ module _ {D : Type 0} where
   pub record IsOf (t : Scenario) (bench : BenchValue D) : Type 0 where
     pub sites : length bench.cells ≡ t.catalog.sites
     pub catalogs : AtEach bench.cells (λ i c. c.node.catalog ≡ t.catalog)
-    pub capacities : AtEach bench.cells (λ i c. c.node.capacity ≡ t.capacity)
+    pub layouts : AtEach bench.cells (λ i c. c.node.layout ≡ layout_of t)
     pub homes : bench.homes ≡ map (λ (client : Client). client.site) t.clients
 
   -- of the bytes of each client of the site the calls in the trail were read

@@ -30,7 +30,7 @@ bare c = record {
   node = record {
     catalog = c.node.catalog;
     site = c.node.site;
-    capacity = c.node.capacity;
+    layout = c.node.layout;
     disk = None;
     trail = c.node.trail;
     outs = c.node.outs;
@@ -67,7 +67,7 @@ module _ {D : Type 0} (g : Ghosts D) where
   pub record HasGoneOn (o : Origin) (c : CellValue D) : Type 0 where
     pub catalog : c.node.catalog ≡ o.cell.node.catalog
     pub site : c.node.site ≡ o.cell.node.site
-    pub capacity : c.node.capacity ≡ o.cell.node.capacity
+    pub layout : c.node.layout ≡ o.cell.node.layout
     pub told : is_told g c.node.disk ≡ o.told
     pub arms : arms_under g c.node.disk ≡ o.arms
     pub outs : out_rings c.node.outs ≡ out_rings o.cell.node.outs

@@ -35,6 +35,7 @@ use Rattle.walter_rules.specs.declared.event.Event.TheVariants.{Restart}
 use Rattle.walter_rules.specs.declared.outcome.Outcome.{Outcome}
 use Rattle.walter_rules.specs.declared.outcome.Outcome.TheVariants.{Taken, Failed, Full, Memory, Refused}
 use Rattle.walter_rules.specs.Knowledge.{fresh}
+use Rattle.walter_rules.specs.Layouts.{Layout}
 use Rattle.walter_rules.specs.Records.{replayed}
 use Rattle.walter_rules.specs.Standing.{unmade, stands_after, up_after}
 use Rattle.walter_rules.specs.Trails.{Comes, IsFound, standing, opening}
@@ -74,11 +75,11 @@ lies_unmade catalog i journal bodies none stands = record {
 }
 
 -- where a new site comes up, its trail begins
-pub opens : (catalog : Catalog) (capacity : ℕ) (i : SiteId) (came : Came) → came.kept ≡ None → came.sends ≡ []
-    → came.dropped ≡ 0 → came.outcome ≡ Taken → (came.outcome ≡ Refused) ⊎ Comes catalog capacity i unmade Restart came
+pub opens : (catalog : Catalog) (layout : Layout) (i : SiteId) (came : Came) → came.kept ≡ None → came.sends ≡ []
+    → came.dropped ≡ 0 → came.outcome ≡ Taken → (came.outcome ≡ Refused) ⊎ Comes catalog layout i unmade Restart came
     → came ≡ opening.came
-opens catalog capacity i came kept sends dropped taken (inl refused) = absurd (let e = sym taken ∙ refused in cc)
-opens catalog capacity i came kept sends dropped taken (inr (Comes.ruled fits is)) = λ j. record {
+opens catalog layout i came kept sends dropped taken (inl refused) = absurd (let e = sym taken ∙ refused in cc)
+opens catalog layout i came kept sends dropped taken (inr (Comes.ruled fits is)) = λ j. record {
   outcome = taken j;
   kept = kept j;
   wrote = is.wrote j;
@@ -86,13 +87,13 @@ opens catalog capacity i came kept sends dropped taken (inr (Comes.ruled fits is
   sends = sends j;
   dropped = dropped j;
 }
-opens catalog capacity i came kept sends dropped taken (inr (Comes.met_fault rec brings fits is)) =
+opens catalog layout i came kept sends dropped taken (inr (Comes.met_fault rec brings fits is)) =
     absurd (let e = sym taken ∙ is.outcome_is in cc)
-opens catalog capacity i came kept sends dropped taken (inr (Comes.unread restart down is)) =
+opens catalog layout i came kept sends dropped taken (inr (Comes.unread restart down is)) =
     absurd (let e = sym taken ∙ is.outcome_is in cc)
-opens catalog capacity i came kept sends dropped taken (inr (Comes.no_memory takes is)) =
+opens catalog layout i came kept sends dropped taken (inr (Comes.no_memory takes is)) =
     absurd (let e = sym taken ∙ is.outcome_is in cc)
-opens catalog capacity i came kept sends dropped taken (inr (Comes.full rec brings less is)) =
+opens catalog layout i came kept sends dropped taken (inr (Comes.full rec brings less is)) =
     absurd (let e = sym taken ∙ is.outcome_is in cc)
 
 -- ---- what is answered
@@ -149,13 +150,13 @@ calls_at_most None (Some rec) old new calls = calls
 calls_at_most None None old new calls = omega (arith, calls)
 
 -- it is up in its first epoch
-pub first_left : {D : Type 0} {g : Ghosts D} (catalog : Catalog) (capacity : ℕ) (i : SiteId) (came : Came)
+pub first_left : {D : Type 0} {g : Ghosts D} (catalog : Catalog) (layout : Layout) (i : SiteId) (came : Came)
     (why : Option RefusedRestart) (m : Machine) (journal : Journal D g) → came.kept ≡ None → came.sends ≡ []
-    → came.dropped ≡ 0 → Raises {g = g} catalog capacity i unmade came why m journal → came.outcome ≡ Taken
+    → came.dropped ≡ 0 → Raises {g = g} catalog layout i unmade came why m journal → came.outcome ≡ Taken
     → IsLeft {g = g} m (standing catalog i (opening ∷ [])) journal
-first_left {g = g} catalog capacity i came why m journal kept sends dropped raises taken =
+first_left {g = g} catalog layout i came why m journal kept sends dropped raises taken =
     subst (λ (c : Came). IsLeft {g = g} m (stands_after catalog i unmade Restart c) journal)
-    (opens catalog capacity i came kept sends dropped taken raises.comes) raises.leaves
+    (opens catalog layout i came kept sends dropped taken raises.comes) raises.leaves
 
 -- ---- over a disk
 

@@ -38,6 +38,7 @@ use Rattle.walter_rules.specs.declared.entry.Came.{Came}
 use Rattle.walter_rules.specs.declared.event.Event.{Event}
 use Rattle.walter_rules.specs.declared.event.Event.TheVariants.{Restart}
 use Rattle.walter_rules.specs.declared.outcome.Outcome.TheVariants.{Refused}
+use Rattle.walter_rules.specs.Layouts.{Layout}
 use Rattle.walter_rules.specs.Standing.{Standing, settled, stands_after}
 use Rattle.walter_rules.specs.Trails.{Comes, IsFound, TakesMemory, only}
 
@@ -121,21 +122,21 @@ has_spelling sites S (Some rec) all found =
 -- ---- what it comes to
 
 -- what was found beside it changes nothing of it
-with_kept : (catalog : Catalog) (capacity : ℕ) (i : SiteId) (S : Standing) (event : Event) (came : Came)
-    (kept : Option Record) → Comes catalog capacity i S event came
-    → Comes catalog capacity i S event (record came { kept = kept })
-with_kept catalog capacity i S event came kept (Comes.ruled fits is) =
+with_kept : (catalog : Catalog) (layout : Layout) (i : SiteId) (S : Standing) (event : Event) (came : Came)
+    (kept : Option Record) → Comes catalog layout i S event came
+    → Comes catalog layout i S event (record came { kept = kept })
+with_kept catalog layout i S event came kept (Comes.ruled fits is) =
     Comes.ruled fits (record { outcome = is.outcome; wrote = is.wrote; flight = is.flight; sends = is.sends })
-with_kept catalog capacity i S event came kept (Comes.met_fault rec brings fits is) =
+with_kept catalog layout i S event came kept (Comes.met_fault rec brings fits is) =
     Comes.met_fault rec brings fits
     (record { outcome_is = is.outcome_is; wrote = is.wrote; flight_is = is.flight_is; sends = is.sends; dropped = is.dropped })
-with_kept catalog capacity i S event came kept (Comes.unread restart down is) =
+with_kept catalog layout i S event came kept (Comes.unread restart down is) =
     Comes.unread restart down
     (record { outcome_is = is.outcome_is; wrote = is.wrote; flight_is = is.flight_is; sends = is.sends; dropped = is.dropped })
-with_kept catalog capacity i S event came kept (Comes.no_memory takes is) =
+with_kept catalog layout i S event came kept (Comes.no_memory takes is) =
     Comes.no_memory takes
     (record { outcome_is = is.outcome_is; wrote = is.wrote; flight_is = is.flight_is; sends = is.sends; dropped = is.dropped })
-with_kept catalog capacity i S event came kept (Comes.full rec brings less is) =
+with_kept catalog layout i S event came kept (Comes.full rec brings less is) =
     Comes.full rec brings less
     (record { outcome_is = is.outcome_is; wrote = is.wrote; flight_is = is.flight_is; sends = is.sends; dropped = is.dropped })
 
@@ -223,15 +224,15 @@ module _ {D : Type 0} {g : Ghosts D} where
       stands = stands;
     }
 
-  pub come_raised : (catalog : Catalog) (capacity : ℕ) (i : SiteId) (S : Standing) (kept : Option Record) (came : Came)
+  pub come_raised : (catalog : Catalog) (layout : Layout) (i : SiteId) (S : Standing) (kept : Option Record) (came : Came)
       (why : Option RefusedRestart) (engine : Engine D g) (journal : Journal D g) → IfSome kept (IsFound S Restart)
-      → Raises {g = g} catalog capacity i (settled catalog i kept S) came why engine.machine journal
+      → Raises {g = g} catalog layout i (settled catalog i kept S) came why engine.machine journal
       → engine.store ≡ Some (if is_up engine.machine then Open journal else Closed (disk_of journal))
-      → HasCome catalog capacity i S Restart (record came { kept = kept }) why engine
-  come_raised catalog capacity i S kept came why engine journal found raises is = record {
+      → HasCome catalog layout i S Restart (record came { kept = kept }) why engine
+  come_raised catalog layout i S kept came why engine journal found raises is = record {
     found = found;
     comes = ⊎_elim (λ refused. inl refused)
-        (λ comes. inr (with_kept catalog capacity i (settled catalog i kept S) Restart came kept comes)) raises.comes;
+        (λ comes. inr (with_kept catalog layout i (settled catalog i kept S) Restart came kept comes)) raises.comes;
     stands = stands_left engine (stands_after catalog i (settled catalog i kept S) Restart came) journal raises.leaves is;
     last = raises.last;
     takes_none = λ down restart last.
@@ -283,33 +284,33 @@ module _ {D : Type 0} {g : Ghosts D} where
         (tells ∙ resting.told) finds.image finds.are
 
     -- what it comes to
-    pub comes_unloaded : (catalog : Catalog) (capacity : ℕ) (i : SiteId) → S.up ≡ false → (why : JournalFault)
+    pub comes_unloaded : (catalog : Catalog) (layout : Layout) (i : SiteId) → S.up ≡ false → (why : JournalFault)
         → HasCause why (g.may_leave old) (g.known old) (g.known new)
-        → Comes catalog capacity i S Restart (only (unloaded_by why).0) × ((unloaded_by why).1 ≡ None)
-    comes_unloaded catalog capacity i down fault.Failed cause = (
+        → Comes catalog layout i S Restart (only (unloaded_by why).0) × ((unloaded_by why).1 ≡ None)
+    comes_unloaded catalog layout i down fault.Failed cause = (
       Comes.unread refl down
           (record { outcome_is = refl; wrote = refl; flight_is = refl; sends = refl; dropped = refl }),
       refl,
     )
-    comes_unloaded catalog capacity i down fault.NoMemory cause = (
+    comes_unloaded catalog layout i down fault.NoMemory cause = (
       Comes.no_memory (subst (λ up. TakesMemory up Restart) (sym down) tt)
           (record { outcome_is = refl; wrote = refl; flight_is = refl; sends = refl; dropped = refl }),
       refl,
     )
-    comes_unloaded catalog capacity i down fault.Foreign cause = absurd (wrong IsForeign not_foreign cause)
-    comes_unloaded catalog capacity i down (fault.Damaged at claimed) cause =
+    comes_unloaded catalog layout i down fault.Foreign cause = absurd (wrong IsForeign not_foreign cause)
+    comes_unloaded catalog layout i down (fault.Damaged at claimed) cause =
         absurd (wrong (λ bytes. IsDamaged bytes at claimed) (λ bytes bodies. not_damaged bytes bodies at claimed) cause)
 
     -- so the engine over its disk has come to this
-    pub come_unloaded : (catalog : Catalog) (capacity : ℕ) (i : SiteId) (why : JournalFault) (came : Came)
+    pub come_unloaded : (catalog : Catalog) (layout : Layout) (i : SiteId) (why : JournalFault) (came : Came)
         (refused : Option RefusedRestart) (engine : Engine D g) → S.up ≡ false
         → HasCause why (g.may_leave old) (g.known old) (g.known new) → came ≡ only (unloaded_by why).0
         → refused ≡ (unloaded_by why).1 → Stands engine (stands_after catalog i S Restart came)
-        → HasCome catalog capacity i S Restart came refused engine
-    come_unloaded catalog capacity i why came refused engine down cause is_came is_refused stands =
-        let comes = comes_unloaded catalog capacity i down why cause in
-        subst (λ (c : Came). HasCome catalog capacity i S Restart c refused engine) (sym is_came)
-        (subst (λ (r : Option RefusedRestart). HasCome catalog capacity i S Restart (only (unloaded_by why).0) r engine)
+        → HasCome catalog layout i S Restart came refused engine
+    come_unloaded catalog layout i why came refused engine down cause is_came is_refused stands =
+        let comes = comes_unloaded catalog layout i down why cause in
+        subst (λ (c : Came). HasCome catalog layout i S Restart c refused engine) (sym is_came)
+        (subst (λ (r : Option RefusedRestart). HasCome catalog layout i S Restart (only (unloaded_by why).0) r engine)
         (sym (is_refused ∙ comes.1)) (record {
           found = tt;
           comes = inr comes.0;

@@ -36,9 +36,10 @@ use Rattle.walter_rules.specs.declared.event.Event.TheVariants.{Restart}
 use Rattle.walter_rules.specs.declared.outcome.Outcome.{Outcome}
 use Rattle.walter_rules.specs.declared.outcome.Outcome.TheVariants.{Taken, Refused}
 use Rattle.walter_rules.specs.Knowledge.{Knowledge, fresh}
+use Rattle.walter_rules.specs.Layouts.{Layout, need_of}
 use Rattle.walter_rules.specs.Records.{replayed}
 use Rattle.walter_rules.specs.Standing.{Standing, stands_after, up_after}
-use Rattle.walter_rules.specs.Trails.{Comes, TakesMemory, need_of, only}
+use Rattle.walter_rules.specs.Trails.{Comes, TakesMemory, only}
 use Rattle.walter_tables.specs.declared.tables.Tables.{Tables}
 use Rattle.walter_site.specs.Members.{IsShortOutcome}
 use Rattle.walter_tables.specs.Sites.{values_of, site_of, catalog_of, Stands}
@@ -156,10 +157,10 @@ module _ {D : Type 0} {g : Ghosts D} (catalog : Catalog) (i : SiteId) (S : Stand
       unmoved {g = g} only_now journal (map record_spelled S.records) stands_here (MayHaveNext catalog i S Restart None)
       (λ image has. inl (may_have S.records S.flight image has))
 
-  module _ (size_is : SizeIs g) (m : Machine) (catalog_is : catalog_in m ≡ catalog) (capacity : ℕ) (came : Came)
+  module _ (size_is : SizeIs g) (m : Machine) (catalog_is : catalog_in m ≡ catalog) (layout : Layout) (came : Came)
       (standing : HasStanding m (stands_after catalog i S Restart came)) where
     comes_to : (why : Option RefusedRestart) → came ≡ only (hindered_by why)
-        → (came.outcome ≡ Refused) ⊎ Comes catalog capacity i S Restart came
+        → (came.outcome ≡ Refused) ⊎ Comes catalog layout i S Restart came
     comes_to None is =
         inr (Comes.no_memory (subst (λ up. TakesMemory up Restart) (sym lies.down) tt)
         (record {
@@ -173,7 +174,7 @@ module _ {D : Type 0} {g : Ghosts D} (catalog : Catalog) (i : SiteId) (S : Stand
 
     -- where none is ready
     pub raises_hindered : (why : Option RefusedRestart) → IfSome why (IsRefusedOver catalog i bodies)
-        → came ≡ only (hindered_by why) → Raises {g = g} catalog capacity i S came why m journal
+        → came ≡ only (hindered_by why) → Raises {g = g} catalog layout i S came why m journal
     raises_hindered why refused is = record {
       comes = comes_to why is;
       leaves = leaves_same {g = g} size_is catalog i S Restart lies.spelled m catalog_is came standing journal stands_here

@@ -12,7 +12,7 @@ use Rattle.walter_journal.specs.Journals.{capacity_of, left_of, need_of as body_
 use Rattle.walter_record.specs.Spelling.{record_spelled, HasRecordSpelling}
 use Rattle.walter_record.proofs.Records.{length-record_spelled, at_most}
 use Rattle.walter_rules.specs.Standing.{Standing}
-use Rattle.walter_rules.specs.Trails.{need_of, left_behind, FitsIn}
+use Rattle.walter_rules.specs.Layouts.{need_of, left_behind, FitsIn, one_area}
 
 abbrev body_size : List ℕ → ℕ
 body_size body = 5 + length body
@@ -40,8 +40,8 @@ pub short_enough : (rec : Record) → CanBeRecorded rec → length (record_spell
 short_enough rec can = omega (arith, at_most rec can)
 
 module _ {D : Type 0} {g : Ghosts D} (sites : ℕ) (S : Standing) (journal : Journal D g) (all : All (HasRecordSpelling sites) S.records) (stands : StandsFor journal (map record_spelled S.records)) where
-  pub left_is : left_of journal ≡ left_behind (capacity_of journal) S.records
+  pub left_is : left_of journal ≡ left_behind (one_area (capacity_of journal)) S
   left_is = omega (arith, stands.end, sizes_are sites S.records all)
 
-  pub fits : (rec : Record) → CanBeRecorded rec → body_need (record_spelled rec) ≤ left_of journal → FitsIn (capacity_of journal) S rec
+  pub fits : (rec : Record) → CanBeRecorded rec → body_need (record_spelled rec) ≤ left_of journal → FitsIn (one_area (capacity_of journal)) S rec
   fits rec can enough = omega (arith, enough, need_is rec can, left_is)

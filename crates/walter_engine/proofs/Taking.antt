@@ -1,5 +1,5 @@
 -- What an event that loads no journal comes to at an engine.
-use Rattle.std.proofs.Common.{◌≡◌, ℕ, List, map, Bool, true, false, Option, Some, None, refl, ap, sym, ◌∙◌, subst, inl, inr}
+use Rattle.std.proofs.Common.{◌≡◌, List, map, Bool, true, false, Option, Some, None, refl, ap, sym, ◌∙◌, subst, inl, inr}
 use Rattle.std.specs.Prelude.{◌≢◌, IfSome, is_some}
 use Rattle.walter_base.specs.declared.catalog.Catalog.{Catalog}
 use Rattle.walter_base.specs.declared.message.Record.{Record}
@@ -29,6 +29,7 @@ use Rattle.walter_rules.proofs.RulesAllowed.{rule_allowed}
 use Rattle.walter_rules.specs.declared.outcome.Outcome.{Outcome}
 use Rattle.walter_rules.specs.declared.outcome.Outcome.TheVariants.{Full}
 use Rattle.walter_rules.specs.Allowed.{IsKind, boots}
+use Rattle.walter_rules.specs.Layouts.{Layout}
 use Rattle.walter_rules.specs.Rule.{rule, stop_rule}
 use Rattle.walter_rules.specs.Standing.{Standing, settled, stands_after, records_after, flight_after}
 use Rattle.walter_rules.specs.Trails.{Comes, IsFound, TakesMemory}
@@ -126,13 +127,13 @@ module _ {D : Type 0} {g : Ghosts D} where
   }
 
   -- nothing was found, and no restart was refused
-  pub come_as : (catalog : Catalog) (capacity : ℕ) (i : SiteId) (S : Standing) (event : Event) (came : Came)
+  pub come_as : (catalog : Catalog) (layout : Layout) (i : SiteId) (S : Standing) (event : Event) (came : Came)
       (engine : Engine D g) → came.kept ≡ None → (S.up ≡ false → event ≡ Restart → ⊥)
-      → Comes catalog capacity i S event came → Stands engine (stands_after catalog i S event came)
-      → HasCome catalog capacity i S event came None engine
-  come_as catalog capacity i S event came engine kept never comes stands = record {
+      → Comes catalog layout i S event came → Stands engine (stands_after catalog i S event came)
+      → HasCome catalog layout i S event came None engine
+  come_as catalog layout i S event came engine kept never comes stands = record {
     found = subst (λ (k : Option Record). IfSome k (IsFound S event)) (sym kept) tt;
-    comes = inr (subst (λ (k : Option Record). Comes catalog capacity i (settled catalog i k S) event came) (sym kept) comes);
+    comes = inr (subst (λ (k : Option Record). Comes catalog layout i (settled catalog i k S) event came) (sym kept) comes);
     stands = subst (λ (k : Option Record). Stands engine (stands_after catalog i (settled catalog i k S) event came)) (sym kept)
         stands;
     last = tt;

@@ -41,10 +41,11 @@ use Rattle.walter_rules.specs.declared.outcome.Outcome.{Outcome}
 use Rattle.walter_rules.specs.declared.outcome.Outcome.TheVariants.{Refused, Taken}
 use Rattle.walter_rules.specs.Allowed.{IsKind, boots}
 use Rattle.walter_rules.specs.Calls.{Expected}
+use Rattle.walter_rules.specs.Layouts.{need_of, left_behind, FitsIn, one_area}
 use Rattle.walter_rules.specs.Rule.{rule}
 use Rattle.walter_rules.proofs.RulesAllowed.{rule_allowed}
 use Rattle.walter_rules.specs.Standing.{Standing, records_after, flight_after, stands_after, up_after}
-use Rattle.walter_rules.specs.Trails.{failure, fullness, want, only, need_of, left_behind, FitsIn}
+use Rattle.walter_rules.specs.Trails.{failure, fullness, want, only}
 use Rattle.walter_site.specs.Members.{IsShortOutcome}
 use Rattle.walter_tables.specs.declared.tables.Tables.{Tables}
 
@@ -197,21 +198,21 @@ module _ (catalog : Catalog) (i : SiteId) (site : Option Tables) (S : Standing) 
   -- it finds its place in the journal
   pub fits_here : {D : Type 0} {g : Ghosts D} (mid : Journal D g) (capacity : ℕ) → capacity_of mid ≡ capacity
       → AreSpelled catalog.sites S → StandsFor mid (map record_spelled S.records) → CanBeRecorded rec → (body : List ℕ)
-      → body ≡ record_spelled rec → body_need body ≤ left_of mid → IfSome (rec_in ready) (FitsIn capacity S)
+      → body ≡ record_spelled rec → body_need body ≤ left_of mid → IfSome (rec_in ready) (FitsIn (one_area capacity) S)
   fits_here mid capacity same spelled stands can body body_is enough =
-      holds_some (FitsIn capacity S) (rec_in ready) rec is
-      (subst (λ (c : ℕ). FitsIn c S rec) same
+      holds_some (FitsIn (one_area capacity) S) (rec_in ready) rec is
+      (subst (λ (c : ℕ). FitsIn (one_area c) S rec) same
       (fits catalog.sites S mid spelled.records stands rec can (subst (λ (b : List ℕ). body_need b ≤ left_of mid) body_is enough)))
 
   -- or it doesn't
   pub lacks_here : {D : Type 0} {g : Ghosts D} (mid : Journal D g) (capacity need left : ℕ) → capacity_of mid ≡ capacity
       → AreSpelled catalog.sites S → StandsFor mid (map record_spelled S.records) → CanBeRecorded rec → (body : List ℕ)
       → body ≡ record_spelled rec → left_of mid < body_need body → need ≡ body_need body → left ≡ left_of mid
-      → IfSome (rec_in ready) (λ rec. (need ≡ need_of rec) × (left ≡ left_behind capacity S.records) × (left < need))
+      → IfSome (rec_in ready) (λ rec. (need ≡ need_of rec) × (left ≡ left_behind (one_area capacity) S) × (left < need))
   lacks_here mid capacity need left same spelled stands can body body_is less is_need is_left =
-      holds_some (λ rec. (need ≡ need_of rec) × (left ≡ left_behind capacity S.records) × (left < need)) (rec_in ready) rec is (
+      holds_some (λ rec. (need ≡ need_of rec) × (left ≡ left_behind (one_area capacity) S) × (left < need)) (rec_in ready) rec is (
         is_need ∙ ap body_need body_is ∙ need_is rec can,
-        is_left ∙ left_is catalog.sites S mid spelled.records stands ∙ ap (λ (c : ℕ). left_behind c S.records) same,
+        is_left ∙ left_is catalog.sites S mid spelled.records stands ∙ ap (λ (c : ℕ). left_behind (one_area c) S) same,
         omega (arith, less, is_need, is_left),
       )
 

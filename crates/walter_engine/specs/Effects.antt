@@ -10,7 +10,7 @@ use Rattle.walter_engine.specs.declared.answers.RefusedRestart.{RefusedRestart}
 use Rattle.walter_engine.specs.declared.answers.RefusedRestart.TheVariants.{Foreign, Damaged, Unreadable, LastEpoch}
 use Rattle.walter_engine.specs.declared.engine.Engine.{Engine}
 use Rattle.walter_engine.specs.Contents.{MayHaveNext}
-use Rattle.walter_engine.specs.Engines.{Stands, OfDisk, OfDisks, IsSameEngine, catalog_in, site_in, capacity_in}
+use Rattle.walter_engine.specs.Engines.{Stands, OfDisk, OfDisks, IsSameEngine, catalog_in, site_in, layout_in}
 use Rattle.walter_journal.specs.Layout.{HasContent, IsForeign, IsDamaged}
 use Rattle.walter_machine.specs.Comings.{IsRest, IsSized, IsFaulty}
 use Rattle.walter_packet.specs.Framed.{frame_of}
@@ -20,6 +20,7 @@ use Rattle.walter_rules.specs.declared.event.Event.{Event}
 use Rattle.walter_rules.specs.declared.event.Event.TheVariants.{Restart}
 use Rattle.walter_rules.specs.declared.outcome.Outcome.TheVariants.{Refused}
 use Rattle.walter_rules.specs.Knowledge.{fresh}
+use Rattle.walter_rules.specs.Layouts.{Layout}
 use Rattle.walter_rules.specs.Records.{CanFollow, CanAllFollow, replayed}
 use Rattle.walter_rules.specs.Standing.{Standing, settled, stands_after}
 use Rattle.walter_rules.specs.Trails.{Comes, IsFound}
@@ -66,10 +67,10 @@ pub record TakesNoEpoch (came : Came) : Type 0 where
 
 -- An event came to this at a site that stood so: a restart found the record in flight or didn't, it came to what it may,
 -- and the engine stands as it leaves it. Only a restart of a site that has had its last epoch is refused, and it takes none.
-pub record HasCome {D : Type 0} {g : Ghosts D} (catalog : Catalog) (capacity : ℕ) (i : SiteId) (S : Standing)
+pub record HasCome {D : Type 0} {g : Ghosts D} (catalog : Catalog) (layout : Layout) (i : SiteId) (S : Standing)
     (event : Event) (came : Came) (refused : Option RefusedRestart) (engine : Engine D g) : Type 0 where
   pub found : IfSome came.kept (IsFound S event)
-  pub comes : (came.outcome ≡ Refused) ⊎ Comes catalog capacity i (settled catalog i came.kept S) event came
+  pub comes : (came.outcome ≡ Refused) ⊎ Comes catalog layout i (settled catalog i came.kept S) event came
   pub stands : Stands engine (stands_after catalog i (settled catalog i came.kept S) event came)
   pub last : IfSome refused (λ why.
       (why ≡ LastEpoch) × ((settled catalog i came.kept S).knows.epoch ≡ 4294967295))
@@ -81,7 +82,7 @@ pub record HasCome {D : Type 0} {g : Ghosts D} (catalog : Catalog) (capacity : �
 -- met.
 pub record HasTaken {D : Type 0} {g : Ghosts D} (old new : Engine D g) (event : Event) (effect : Effect) : Type 0 where
   pub comes : (S : Standing) → Stands old S
-      → HasCome (catalog_in old) (capacity_in old) (site_in old) S event effect.came effect.refused new
+      → HasCome (catalog_in old) (layout_in old) (site_in old) S event effect.came effect.refused new
   pub any_moment : (S : Standing) → Stands old S → OfDisks old new (λ before now.
       LeavesOnly g.moment g.left_since before now (MayHaveNext (catalog_in old) (site_in old) S event effect.came.kept))
   pub refused : OfDisk new (λ disk. IfSome (g.known disk).reads (λ bytes.

@@ -8,6 +8,7 @@ use Rattle.walter_engine.specs.Contents.{AreSpelled}
 use Rattle.walter_engine.specs.Stores.{disk_under, IsStored}
 use Rattle.walter_machine.specs.Machines.{HasStanding, HasRoom}
 use Rattle.walter_machine.specs.Machines as machine
+use Rattle.walter_rules.specs.Layouts.{Layout, one_area}
 use Rattle.walter_rules.specs.Standing.{Standing, unmade}
 
 abbrev pub catalog_in : {D : Type 0} {g : Ghosts D} → Engine D g → Catalog
@@ -18,6 +19,10 @@ site_in engine = machine.site_in engine.machine
 
 abbrev pub capacity_in : {D : Type 0} {g : Ghosts D} → Engine D g → ℕ
 capacity_in engine = engine.capacity
+
+-- its journal has one area
+abbrev pub layout_in : {D : Type 0} {g : Ghosts D} → Engine D g → Layout
+layout_in engine = one_area engine.capacity
 
 -- the disk, bare or under a journal
 abbrev pub disk_in : {D : Type 0} {g : Ghosts D} → Engine D g → Option D
@@ -53,3 +58,4 @@ pub record IsSameEngine {D : Type 0} {g : Ghosts D} (old new : Engine D g) : Typ
   pub catalog : catalog_in new ≡ catalog_in old
   pub site : site_in new ≡ site_in old
   pub capacity : capacity_in new ≡ capacity_in old
+  pub layout : layout_in new ≡ layout_in old

@@ -19,6 +19,7 @@ use Rattle.walter_rules.specs.declared.entry.Came.{Came}
 use Rattle.walter_rules.specs.declared.event.Event.TheVariants.{Restart}
 use Rattle.walter_rules.specs.declared.outcome.Outcome.{Outcome}
 use Rattle.walter_rules.specs.declared.outcome.Outcome.TheVariants.{Failed, Memory, Refused}
+use Rattle.walter_rules.specs.Layouts.{Layout}
 use Rattle.walter_rules.specs.Standing.{Standing, stands_after}
 use Rattle.walter_rules.specs.Trails.{Comes}
 
@@ -33,9 +34,9 @@ pub record LiesIn {D : Type 0} {g : Ghosts D} (catalog : Catalog) (i : SiteId) (
 
 -- A restart of such a site came to what it may, and left the machine and the journal so. It was refused only behind the
 -- last epoch, and takes none there.
-pub record Raises {D : Type 0} {g : Ghosts D} (catalog : Catalog) (capacity : ℕ) (i : SiteId) (S : Standing)
+pub record Raises {D : Type 0} {g : Ghosts D} (catalog : Catalog) (layout : Layout) (i : SiteId) (S : Standing)
     (came : Came) (why : Option RefusedRestart) (m : Machine) (journal : Journal D g) : Type 0 where
-  pub comes : (came.outcome ≡ Refused) ⊎ Comes catalog capacity i S Restart came
+  pub comes : (came.outcome ≡ Refused) ⊎ Comes catalog layout i S Restart came
   pub leaves : IsLeft m (stands_after catalog i S Restart came) journal
   pub last : IfSome why (λ cause. (cause ≡ refused.LastEpoch) × (S.knows.epoch ≡ 4294967295))
   pub takes_none : S.knows.epoch ≡ 4294967295 → TakesNoEpoch came

@@ -8,7 +8,8 @@ use Rattle.walter_journal.specs.declared.journal.Journal.{Journal}
 use Rattle.walter_machine.specs.Readiness.{rec_in, came_in}
 use Rattle.walter_machine.specs.declared.ready.Ready.{Ready}
 use Rattle.walter_record.specs.Spelling.{record_spelled, AreInRange}
-use Rattle.walter_rules.specs.Trails.{failure, fullness, need_of, want}
+use Rattle.walter_rules.specs.Layouts.{need_of}
+use Rattle.walter_rules.specs.Trails.{failure, fullness, want}
 use Rattle.walter_rules.specs.declared.event.Event.{Event}
 use Rattle.walter_rules.specs.declared.outcome.Outcome.{Outcome}
 

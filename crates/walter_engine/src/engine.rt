@@ -34,7 +34,7 @@ impl<D: Disk + Drop> Engine<D> {
     ghost use Rattle.walter_engine.specs.Begins.{HasOnly, MayHaveBegun, IsBegun, IsFaultOfBegin};
     ghost use Rattle.walter_engine.specs.Contents.{AreSpelled, MayHaveNext};
     ghost use Rattle.walter_engine.specs.Effects.{HasCome, HasTaken, IsRefusedFor, AreCalls, AreCallsOfRestart};
-    ghost use Rattle.walter_engine.specs.Engines.{catalog_in, site_in, capacity_in, disk_in, is_up, OfDisk, OfDisks, IsFresh, IsRoomy, IsSameEngine, Stands};
+    ghost use Rattle.walter_engine.specs.Engines.{catalog_in, site_in, capacity_in, layout_in, disk_in, is_up, OfDisk, OfDisks, IsFresh, IsRoomy, IsSameEngine, Stands};
     ghost use Rattle.walter_engine.specs.Restarts.{RestartsOver};
     ghost use Rattle.walter_engine.specs.Stores.{IsOnDisk};
     ghost use Rattle.walter_journal.specs.Journals.{calls_of_load};
@@ -42,6 +42,7 @@ impl<D: Disk + Drop> Engine<D> {
     ghost use Rattle.walter_machine.specs.States.{AreTold, IsSizedEvent};
     ghost use Rattle.walter_packet.specs.Framed.{frame_of};
     ghost use Rattle.walter_rules.specs.Deliveries.{IsLeastEnabled};
+    ghost use Rattle.walter_rules.specs.Layouts.{one_area};
     ghost use Rattle.walter_rules.specs.Standing.{Standing};
     ghost use Rattle.walter_rules.specs.Trails.{standing, opening};
     ghost use Rattle.walter_rules.specs.declared.event.Event.TheVariants as happens;
@@ -65,6 +66,7 @@ impl<D: Disk + Drop> Engine<D> {
         ensures catalog { IfOk result (λ engine. catalog_in engine ≡ catalog.now) }
         ensures site { IfOk result (λ engine. site_in engine ≡ site) }
         ensures capacity { IfOk result (λ engine. capacity_in engine ≡ capacity) }
+        ensures layout { IfOk result (λ engine. layout_in engine ≡ one_area capacity) }
         ensures fresh { IfOk result IsFresh }
         ensures back { IfErr result (λ back. back ≡ disk) }
         // over a journal with the records of a site that is down, and owes no client anything
@@ -144,7 +146,7 @@ impl<D: Disk + Drop> Engine<D> {
         requires sized { IsSizedEvent (catalog_in self.old).sites event.now }
         requires room { IsRoomy self.old }
         ensures comes { (S : Standing) → Stands self.old S
-            → HasCome (catalog_in self.old) (capacity_in self.old) (site_in self.old) S event.now
+            → HasCome (catalog_in self.old) (layout_in self.old) (site_in self.old) S event.now
             result.came result.refused self.new }
         // what a crash at any moment of it leaves
         ensures any_moment { (S : Standing) → Stands self.old S → OfDisks self.old self.new (λ old new.

@@ -7,6 +7,7 @@ ghost use Rattle.walter_engine.specs.Restarts.{ComesOf};
 ghost use Rattle.walter_journal.specs.Journals.{disk_of, capacity_of, left_of};
 ghost use Rattle.walter_machine.specs.Comings.{IsSized, IsFaulty};
 ghost use Rattle.walter_machine.specs.Machines.{catalog_in, site_in, tables_in, records_in, is_up, HasStanding, HasRoom, IsSameSite};
+ghost use Rattle.walter_rules.specs.Layouts.{one_area};
 ghost use Rattle.walter_rules.specs.Standing.{Standing, up_after};
 ghost use Rattle.walter_rules.specs.declared.event.Event.TheVariants as event;
 
@@ -32,7 +33,7 @@ pub(crate) fn raise<D: Disk>(
     ensures raises { (S : Standing)
         → LiesIn (catalog_in machine.old) (site_in machine.old) S journal.old (map (λ body. body.items) bodies.now)
         → HasStanding machine.old S → records_in machine.old ≡ length S.records
-        → Raises (catalog_in machine.old) (capacity_of journal.old) (site_in machine.old) S
+        → Raises (catalog_in machine.old) (one_area (capacity_of journal.old)) (site_in machine.old) S
         result.0 result.1 machine.new journal.new }
     ensures any_moment { (S : Standing)
         → LiesIn (catalog_in machine.old) (site_in machine.old) S journal.old (map (λ body. body.items) bodies.now)

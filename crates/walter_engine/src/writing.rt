@@ -11,6 +11,7 @@ ghost use Rattle.walter_machine.specs.Machines.{catalog_in, site_in, tables_in, 
 ghost use Rattle.walter_machine.specs.Readiness.{IsReadyFor, IsReadyAnyway, rec_in, came_in};
 ghost use Rattle.walter_packet.specs.Framed.{frame_of};
 ghost use Rattle.walter_record.specs.Spelling.{record_spelled};
+ghost use Rattle.walter_rules.specs.Layouts.{one_area};
 ghost use Rattle.walter_rules.specs.Standing.{Standing, stands_after, up_after};
 ghost use Rattle.walter_rules.specs.Trails.{Comes};
 ghost use Rattle.walter_rules.specs.declared.outcome.Outcome.TheVariants as outcome;
@@ -37,7 +38,7 @@ pub(crate) fn write<D: Disk>(
     ensures comes { (S : Standing) → HasStanding machine.old S → IsCounted machine.old S (rec_in ready)
         → IsReadyFor (catalog_in machine.old) (site_in machine.old) (tables_in machine.old) S event.now ready
         → AreSpelled (catalog_in machine.old).sites S → StandsFor journal.old (map record_spelled S.records)
-        → Comes (catalog_in machine.old) (capacity_of journal.old) (site_in machine.old) S event.now result.0 }
+        → Comes (catalog_in machine.old) (one_area (capacity_of journal.old)) (site_in machine.old) S event.now result.0 }
     ensures leaves { (S : Standing) → HasStanding machine.old S → IsCounted machine.old S (rec_in ready)
         → IsReadyFor (catalog_in machine.old) (site_in machine.old) (tables_in machine.old) S event.now ready
         → AreSpelled (catalog_in machine.old).sites S → StandsFor journal.old (map record_spelled S.records)

@@ -14,10 +14,11 @@ use Rattle.walter_rules.specs.declared.event.Event.TheVariants.{Given, Stop, Res
 use Rattle.walter_rules.specs.declared.event.Input.TheVariants.{Call, Deliver, Advance, Tick}
 use Rattle.walter_rules.specs.Calls.{Expected}
 use Rattle.walter_rules.specs.Knowledge.{site_at}
+use Rattle.walter_rules.specs.Layouts.{Layout, FitsIn}
 use Rattle.walter_rules.specs.Merges.{put_out_to, trail_of, IsLinked, AreLinked}
 use Rattle.walter_rules.specs.Rule.{rule}
 use Rattle.walter_rules.specs.Sending.{Send}
-use Rattle.walter_rules.specs.Trails.{standing, clock, carried_one, IsPutOut, all_out, put_out, FitsIn, ruled, IsNextStamp, IsRightEntry, AreRight, IsRightTrail}
+use Rattle.walter_rules.specs.Trails.{standing, clock, carried_one, IsPutOut, all_out, put_out, ruled, IsNextStamp, IsRightEntry, AreRight, IsRightTrail}
 use Rattle.walter_runs.specs.Runs.{AreRightTrails}
 use Rattle.walter_examples.specs.Entries.{entry, opening}
 
@@ -56,17 +57,17 @@ abbrev pub plain : Entry → Entry
 plain e = entry e.stamp e.event (expected_of e)
 
 -- it comes to what the rule says, where it says just that, and the record has a place
-pub by_rule : {catalog : Catalog} {capacity : ℕ} {i : SiteId} {older : List Entry} {e : Entry}
+pub by_rule : {catalog : Catalog} {layout : Layout} {i : SiteId} {older : List Entry} {e : Entry}
     → plain e ≡ e → IsNextStamp e.event (clock older) e.stamp
     → rule catalog i (standing catalog i older) e.event ≡ expected_of e
-    → IfSome e.came.wrote (FitsIn capacity (standing catalog i older))
-    → IsRightEntry catalog capacity i older e
-by_rule {catalog} {capacity} {i} {older} {e} is next said fits =
-    subst (λ (x : Entry). IsRightEntry catalog capacity i older x) is (record {
+    → IfSome e.came.wrote (FitsIn layout (standing catalog i older))
+    → IsRightEntry catalog layout i older e
+by_rule {catalog} {layout} {i} {older} {e} is next said fits =
+    subst (λ (x : Entry). IsRightEntry catalog layout i older x) is (record {
       stamp = next;
       kept = tt;
       comes = ruled
-          (subst (λ (x : Expected). IfSome x.wrote (FitsIn capacity (standing catalog i older))) (sym said) fits)
+          (subst (λ (x : Expected). IfSome x.wrote (FitsIn layout (standing catalog i older))) (sym said) fits)
           (record {
             outcome = ap (λ (x : Expected). x.outcome) (sym said);
             wrote = ap (λ (x : Expected). x.wrote) (sym said);
@@ -78,40 +79,40 @@ by_rule {catalog} {capacity} {i} {older} {e} is next said fits =
     })
 
 -- each of these entries is right behind those before it, the oldest first
-abbrev pub FollowRightly : Catalog → ℕ → SiteId → List Entry → List Entry → Type 0
-FollowRightly catalog capacity i older [] = Unit {0}
-FollowRightly catalog capacity i older (e ∷ es) =
-    IsRightEntry catalog capacity i older e × FollowRightly catalog capacity i (e ∷ older) es
+abbrev pub FollowRightly : Catalog → Layout → SiteId → List Entry → List Entry → Type 0
+FollowRightly catalog layout i older [] = Unit {0}
+FollowRightly catalog layout i older (e ∷ es) =
+    IsRightEntry catalog layout i older e × FollowRightly catalog layout i (e ∷ older) es
 
 -- the first of the entries to come is the newest of those before
 turned : (e : Entry) (older es : List Entry) → reverse (e ∷ es) ++ older ≡ reverse es ++ e ∷ older
 turned e older es = ap (λ xs. xs ++ older) (reverse-append (e ∷ []) es) ∙ append_assoc (reverse es) (e ∷ []) older
 
 -- behind right entries they make right ones
-right_behind : (catalog : Catalog) (capacity : ℕ) (i : SiteId) (older es : List Entry)
-    → AreRight catalog capacity i older → FollowRightly catalog capacity i older es
-    → AreRight catalog capacity i (reverse es ++ older)
-right_behind catalog capacity i older [] right follow = right
-right_behind catalog capacity i older (e ∷ es) right follow =
-    subst (λ xs. AreRight catalog capacity i xs) (sym (turned e older es))
-    (right_behind catalog capacity i (e ∷ older) es (right, follow.0) follow.1)
+right_behind : (catalog : Catalog) (layout : Layout) (i : SiteId) (older es : List Entry)
+    → AreRight catalog layout i older → FollowRightly catalog layout i older es
+    → AreRight catalog layout i (reverse es ++ older)
+right_behind catalog layout i older [] right follow = right
+right_behind catalog layout i older (e ∷ es) right follow =
+    subst (λ xs. AreRight catalog layout i xs) (sym (turned e older es))
+    (right_behind catalog layout i (e ∷ older) es (right, follow.0) follow.1)
 
 -- and so from the first entry on
-right_from_start : (catalog : Catalog) (capacity : ℕ) (i : SiteId) (trail : List Entry)
-    → FollowRightly catalog capacity i [] trail → AreRight catalog capacity i (reverse trail)
-right_from_start catalog capacity i trail follow =
-    subst (λ xs. AreRight catalog capacity i xs) (append-nil (reverse trail))
-    (right_behind catalog capacity i [] trail tt follow)
+right_from_start : (catalog : Catalog) (layout : Layout) (i : SiteId) (trail : List Entry)
+    → FollowRightly catalog layout i [] trail → AreRight catalog layout i (reverse trail)
+right_from_start catalog layout i trail follow =
+    subst (λ xs. AreRight catalog layout i xs) (append-nil (reverse trail))
+    (right_behind catalog layout i [] trail tt follow)
 
 -- so a trail is right that begins with the opening
-pub right_trail : {catalog : Catalog} {capacity : ℕ} {i : SiteId} {trail : List Entry}
-    → slice_get trail 0 ≡ Some opening → FollowRightly catalog capacity i [] trail
-    → IsRightTrail catalog capacity i trail
-right_trail {catalog} {capacity} {i} {trail} begins follow = record {
+pub right_trail : {catalog : Catalog} {layout : Layout} {i : SiteId} {trail : List Entry}
+    → slice_get trail 0 ≡ Some opening → FollowRightly catalog layout i [] trail
+    → IsRightTrail catalog layout i trail
+right_trail {catalog} {layout} {i} {trail} begins follow = record {
   opening = opening;
   begins = begins;
   opens = record { stamp = refl; event = refl; wrote = refl };
-  right = right_from_start catalog capacity i trail follow;
+  right = right_from_start catalog layout i trail follow;
 }
 
 -- a packet that is the next behind so many on its way, put out with this stamp
@@ -187,28 +188,28 @@ linked_from_start trails follow i place e j number packet at is =
     one_linked trails 0 trails i i.0 place e j number packet follow (omega arith) at is
 
 -- a right trail for each site from this one on
-abbrev pub AllRight : Catalog → ℕ → ℕ → List (List Entry) → Type 0
-AllRight catalog capacity k [] = Unit {0}
-AllRight catalog capacity k (trail ∷ others) =
-    IsRightTrail catalog capacity (site_at k) trail × AllRight catalog capacity (k + 1) others
+abbrev pub AllRight : Catalog → Layout → ℕ → List (List Entry) → Type 0
+AllRight catalog layout k [] = Unit {0}
+AllRight catalog layout k (trail ∷ others) =
+    IsRightTrail catalog layout (site_at k) trail × AllRight catalog layout (k + 1) others
 
 -- so that of a site is right
-one_right : (catalog : Catalog) (capacity k : ℕ) (others : List (List Entry)) (i : SiteId) (here : ℕ)
-    → AllRight catalog capacity k others → i.0 ≡ k + here → here < length others
-    → IsRightTrail catalog capacity i (slice_index_or others here [])
-one_right catalog capacity k [] i here right site below = absurd (omega (arith, below))
-one_right catalog capacity k (trail ∷ others) i zero right site below =
+one_right : (catalog : Catalog) (layout : Layout) (k : ℕ) (others : List (List Entry)) (i : SiteId) (here : ℕ)
+    → AllRight catalog layout k others → i.0 ≡ k + here → here < length others
+    → IsRightTrail catalog layout i (slice_index_or others here [])
+one_right catalog layout k [] i here right site below = absurd (omega (arith, below))
+one_right catalog layout k (trail ∷ others) i zero right site below =
     let mine : k ≡ i.0 = omega (arith, site) in
-    subst (λ n. IsRightTrail catalog capacity (site_at n) trail) mine right.0
-one_right catalog capacity k (trail ∷ others) i (suc here) right site below =
-    one_right catalog capacity (k + 1) others i here right.1 (omega (arith, site)) (omega (arith, below))
+    subst (λ n. IsRightTrail catalog layout (site_at n) trail) mine right.0
+one_right catalog layout k (trail ∷ others) i (suc here) right site below =
+    one_right catalog layout (k + 1) others i here right.1 (omega (arith, site)) (omega (arith, below))
 
 -- the trails that are written out are right and linked
-pub right_trails : (catalog : Catalog) (capacity : ℕ) (trails : List (List Entry))
-    → length trails ≡ catalog.sites → AllRight catalog capacity 0 trails → AllFollowLinked trails 0 trails
-    → AreRightTrails catalog capacity trails
-right_trails catalog capacity trails all right linked = record {
+pub right_trails : (catalog : Catalog) (layout : Layout) (trails : List (List Entry))
+    → length trails ≡ catalog.sites → AllRight catalog layout 0 trails → AllFollowLinked trails 0 trails
+    → AreRightTrails catalog (λ k. layout) trails
+right_trails catalog layout trails all right linked = record {
   one_each = all;
-  right = λ i below. one_right catalog capacity 0 trails i i.0 right (omega arith) (omega (arith, below, all));
+  right = λ i below. one_right catalog layout 0 trails i i.0 right (omega arith) (omega (arith, below, all));
   linked = linked_from_start trails linked;
 }

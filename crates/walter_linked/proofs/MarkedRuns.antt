@@ -31,6 +31,7 @@ use Rattle.walter_rules.specs.declared.outcome.Outcome.TheVariants.{Replied}
 use Rattle.walter_rules.specs.Allowed.{IsKind, IsReadCall, of_value, of_counts, of_count, is_refused, starts, does, reads, ends, aborts, conflicts, commits, begins, waits, tells_version, tells_cause, levels_own, is_deciding, is_running, denies, passes, receives, hears_ack, hears_durable, hears_visible, marks_durable, marks_visible, prepares, hears_yes, decides, gives_up, releases, hears_released, sees, stops, is_down, boots}
 use Rattle.walter_rules.specs.Calls.{read_updates, seq_of, level_of_own}
 use Rattle.walter_rules.specs.Knowledge.{sites}
+use Rattle.walter_rules.specs.Layouts.{Layout}
 use Rattle.walter_rules.specs.Log.{of_site}
 use Rattle.walter_rules.specs.Marks.{durable_mark, visible_mark}
 use Rattle.walter_rules.specs.Merges.{Named}
@@ -255,22 +256,22 @@ found_none catalog older n none =
     (found_away catalog older n) in
     λ t k. each k t
 
-module _ (catalog : Catalog) (capacity : ℕ) (homes : (oid : ObjId) → (home catalog oid).0 < catalog.sites)
-    (right_alone : (i : SiteId) → i.0 < catalog.sites → (older : List Entry) → AreRight catalog capacity i older
+module _ (catalog : Catalog) (layouts : SiteId → Layout) (homes : (oid : ObjId) → (home catalog oid).0 < catalog.sites)
+    (right_alone : (i : SiteId) → i.0 < catalog.sites → (older : List Entry) → AreRight catalog (layouts i) i older
     → IsAlone catalog i (standing catalog i older))
     (settled_alone : (i : SiteId) → i.0 < catalog.sites → (older : List Entry) (e : Entry)
-    → AreRight catalog capacity i older → IsRightEntry catalog capacity i older e
+    → AreRight catalog (layouts i) i older → IsRightEntry catalog (layouts i) i older e
     → IsAlone catalog i (settled catalog i e.came.kept (standing catalog i older))) where
   -- behind what an entry found
-  found_marked : (older : List Named) (n : Named) → IsRun catalog capacity (n ∷ older)
+  found_marked : (older : List Named) (n : Named) → IsRun catalog layouts (n ∷ older)
       → AreMarkedRight catalog (stands catalog older) (IsPut older)
       → AreMarkedRight catalog (found catalog older n) (IsPut older)
   found_marked older n is M =
       marked_settled catalog (stands catalog older) (found catalog older n) (IsPut older)
-      (run_agrees catalog capacity homes right_alone settled_alone older is.0) M n.0
-      (run_alone catalog capacity homes right_alone settled_alone older is.0 n.0) n.1.came.kept
+      (run_agrees catalog layouts homes right_alone settled_alone older is.0) M n.0
+      (run_alone catalog layouts homes right_alone settled_alone older is.0 n.0) n.1.came.kept
       (found_here catalog older n) (found_away catalog older n)
-      (due_kept n.1.came.kept (kept_due catalog capacity homes right_alone settled_alone older n is))
+      (due_kept n.1.came.kept (kept_due catalog layouts homes right_alone settled_alone older n is))
       (λ r e. (if_some (IsFound (stands catalog older n.0) n.1.event) n.1.came.kept r is.1.right.kept e).in_flight)
     where
       due_kept : (o : Option Record)
@@ -280,7 +281,7 @@ module _ (catalog : Catalog) (capacity : ℕ) (homes : (oid : ObjId) → (home c
       due_kept (Some r) all = all r refl
 
   -- in each run marks are true
-  pub run_marked : (run : List Named) → IsRun catalog capacity run
+  pub run_marked : (run : List Named) → IsRun catalog layouts run
       → AreMarkedRight catalog (stands catalog run) (IsPut run)
   run_marked [] is = record {
     marked = none_marked (home catalog) (sites catalog) catalog.tolerated (owns (stands catalog []))
@@ -293,20 +294,20 @@ module _ (catalog : Catalog) (capacity : ℕ) (homes : (oid : ObjId) → (home c
   }
   run_marked (n ∷ older) is =
       marked_after catalog homes (found catalog older n) (IsPut older)
-      (settled_agrees catalog capacity homes right_alone settled_alone older n is)
+      (settled_agrees catalog layouts homes right_alone settled_alone older n is)
       (found_marked older n is (run_marked older is.0))
-      (found_alone catalog capacity homes right_alone settled_alone older n is.0 is.1) n.0 n.1.event n.1.came
-      (next_step catalog capacity homes right_alone settled_alone older n is.0 is.1) is.1.put
+      (found_alone catalog layouts homes right_alone settled_alone older n is.0 is.1) n.0 n.1.event n.1.came
+      (next_step catalog layouts homes right_alone settled_alone older n is.0 is.1) is.1.put
       (stands catalog (n ∷ older)) (stands_here catalog older n) (stands_away catalog older n) (IsPut (n ∷ older))
       (put_later n older) (put_cases n older)
 
   -- so it is with each entry
-  pub marks_true : (older : List Named) (n : Named) → IsRun catalog capacity (n ∷ older) → AreMarksTrue catalog older n
+  pub marks_true : (older : List Named) (n : Named) → IsRun catalog layouts (n ∷ older) → AreMarksTrue catalog older n
   marks_true older n is =
-      let A = settled_agrees catalog capacity homes right_alone settled_alone older n is in
+      let A = settled_agrees catalog layouts homes right_alone settled_alone older n is in
       let M0 = run_marked older is.0 in
       let M = found_marked older n is M0 in
-      let step = next_step catalog capacity homes right_alone settled_alone older n is.0 is.1 in
+      let step = next_step catalog layouts homes right_alone settled_alone older n is.0 is.1 in
       let level : n.1.event ≢ Restart → IsLevelRight catalog
       (stands catalog older) n.0 n.1.came.outcome n.1.event = λ apart.
       subst (λ W. IsLevelRight catalog W n.0 n.1.came.outcome n.1.event)
@@ -316,7 +317,7 @@ module _ (catalog : Catalog) (capacity : ℕ) (homes : (oid : ObjId) → (home c
         seen = λ j m e. elim e [
           | inl wrote ↦
               let apart = step_seen catalog n.0 (found catalog older n n.0) n.1.event n.1.came step j m wrote in
-              let due = wrote_due catalog capacity homes right_alone settled_alone older n is (Seen j m) wrote in
+              let due = wrote_due catalog layouts homes right_alone settled_alone older n is (Seen j m) wrote in
               let true_ = if_some (IsTrueIn catalog (found catalog older n) n.0) n.1.came.wrote (Seen j m)
               (wrote_true catalog homes (found catalog older n)
               (IsPut older) A M n.0 n.1.event is.1.put n.1.came step) wrote in
@@ -324,7 +325,7 @@ module _ (catalog : Catalog) (capacity : ℕ) (homes : (oid : ObjId) → (home c
               (none_found (stands catalog older n.0) n.1.event n.1.came.kept is.1.right.kept apart))
               (true_ m (let l = due.next in omega (arith, l)) (omega arith))
           | inr kept ↦
-              let due = kept_due catalog capacity homes right_alone settled_alone older n is (Seen j m) kept in
+              let due = kept_due catalog layouts homes right_alone settled_alone older n is (Seen j m) kept in
               let found_ = if_some (IsFound (stands catalog older n.0) n.1.event) n.1.came.kept
               (Seen j m) is.1.right.kept kept in
               M0.marked.flights n.0 (Seen j m) found_.in_flight m (let l = due.next in omega (arith, l)) (omega arith)
@@ -342,9 +343,9 @@ module _ (catalog : Catalog) (capacity : ℕ) (homes : (oid : ObjId) → (home c
       }
 
   -- what a site has of another is that one's own
-  pub got_right : (run : List Named) → IsRun catalog capacity run → AreGotRight catalog run
+  pub got_right : (run : List Named) → IsRun catalog layouts run → AreGotRight catalog run
   got_right run is i j p r here =
-      let A = run_agrees catalog capacity homes right_alone settled_alone run is in
+      let A = run_agrees catalog layouts homes right_alone settled_alone run is in
       let own = prefix_get (of_site j (stands catalog run i).knows.log) (owns (stands catalog run) j) r p
       ((A.numbered.held i).fronts j) here in
       (own, A.numbered.own.numbered j p r own)

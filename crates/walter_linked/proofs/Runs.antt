@@ -13,6 +13,7 @@ use Rattle.walter_base.specs.declared.packet.Packet.{Packet}
 use Rattle.walter_base.proofs.NameTests.{same_site_refl}
 use Rattle.walter_psi.proofs.Lists.{Contains-nil, Contains-one}
 use Rattle.walter_rules.specs.declared.entry.Entry.{Entry}
+use Rattle.walter_rules.specs.Layouts.{Layout}
 use Rattle.walter_rules.specs.Merges.{Named, entries_of}
 use Rattle.walter_rules.specs.Standing.{unmade, settled, stands_after}
 use Rattle.walter_rules.specs.Trails.{standing, IsFound, IsRightEntry, AreRight}
@@ -96,26 +97,26 @@ put_cases n older j k packet put = elim (Contains-append_cases (n ∷ []) older 
 ]
 
 -- the entries of each site of a run are right
-pub run_right : (catalog : Catalog) (capacity : ℕ) (run : List Named) → IsRun catalog capacity run → (i : SiteId)
-    → AreRight catalog capacity i (entries_of i run)
-run_right catalog capacity [] is i = tt
-run_right catalog capacity (n ∷ older) is i = elim (site_cases i n.0) [
+pub run_right : (catalog : Catalog) (layouts : SiteId → Layout) (run : List Named) → IsRun catalog layouts run → (i : SiteId)
+    → AreRight catalog (layouts i) i (entries_of i run)
+run_right catalog layouts [] is i = tt
+run_right catalog layouts (n ∷ older) is i = elim (site_cases i n.0) [
   | inl same ↦ rw same.0 (
-    run_right catalog capacity older is.0 i,
+    run_right catalog layouts older is.0 i,
     subst
-        (λ k. IsRightEntry catalog capacity k (entries_of k older) n.1) (sym same.1) is.1.right,
+        (λ k. IsRightEntry catalog (layouts k) k (entries_of k older) n.1) (sym same.1) is.1.right,
   )
-  | inr apart ↦ rw apart.0 (run_right catalog capacity older is.0 i)
+  | inr apart ↦ rw apart.0 (run_right catalog layouts older is.0 i)
 ]
 
 -- each site that has an entry in a run is one of the catalog
-pub none_outside : (catalog : Catalog) (capacity : ℕ) (run : List Named) → IsRun catalog capacity run → (i : SiteId)
+pub none_outside : (catalog : Catalog) (layouts : SiteId → Layout) (run : List Named) → IsRun catalog layouts run → (i : SiteId)
     → catalog.sites ≤ i.0 → entries_of i run ≡ []
-none_outside catalog capacity [] is i out = refl
-none_outside catalog capacity (n ∷ older) is i out = elim (site_cases i n.0) [
+none_outside catalog layouts [] is i out = refl
+none_outside catalog layouts (n ∷ older) is i out = elim (site_cases i n.0) [
   | inl same ↦ absurd (let l = is.1.below in let e : i.0 ≡ n.0.0 = ap (λ (k : SiteId). k.0) same.1 in omega
       (arith, l, e, out))
-  | inr apart ↦ rw apart.0 (none_outside catalog capacity older is.0 i out)
+  | inr apart ↦ rw apart.0 (none_outside catalog layouts older is.0 i out)
 ]
 
 -- before the first entry
@@ -166,22 +167,22 @@ stands_away catalog older n k apart = ap (λ es. standing catalog k es) (entries
 
 -- Where each right trail keeps what each keeps by itself, before an entry and behind what it found, and objects are
 -- preferred at sites of the catalog:
-module _ (catalog : Catalog) (capacity : ℕ) (homes : (oid : ObjId) → (home catalog oid).0 < catalog.sites)
-    (right_alone : (i : SiteId) → i.0 < catalog.sites → (older : List Entry) → AreRight catalog capacity i older
+module _ (catalog : Catalog) (layouts : SiteId → Layout) (homes : (oid : ObjId) → (home catalog oid).0 < catalog.sites)
+    (right_alone : (i : SiteId) → i.0 < catalog.sites → (older : List Entry) → AreRight catalog (layouts i) i older
     → IsAlone catalog i (standing catalog i older))
     (settled_alone : (i : SiteId) → i.0 < catalog.sites → (older : List Entry) (e : Entry)
-    → AreRight catalog capacity i older → IsRightEntry catalog capacity i older e
+    → AreRight catalog (layouts i) i older → IsRightEntry catalog (layouts i) i older e
     → IsAlone catalog i (settled catalog i e.came.kept (standing catalog i older))) where
   -- each site of a run keeps it
-  pub run_alone : (run : List Named) → IsRun catalog capacity run → (i : SiteId)
+  pub run_alone : (run : List Named) → IsRun catalog layouts run → (i : SiteId)
       → IsAlone catalog i (stands catalog run i)
   run_alone run is i = elim (low_or i.0 catalog.sites) [
-    | inl below ↦ right_alone i below (entries_of i run) (run_right catalog capacity run is i)
+    | inl below ↦ right_alone i below (entries_of i run) (run_right catalog layouts run is i)
     | inr out ↦ subst (λ es. IsAlone catalog i (standing catalog i es))
-        (sym (none_outside catalog capacity run is i out)) (alone_unmade catalog i)
+        (sym (none_outside catalog layouts run is i out)) (alone_unmade catalog i)
   ]
 
-  module _ (older : List Named) (n : Named) (is : IsRun catalog capacity older) (next : IsNext catalog capacity older n)
+  module _ (older : List Named) (n : Named) (is : IsRun catalog layouts older) (next : IsNext catalog layouts older n)
     where
       pub found_alone : (i : SiteId) → IsAlone catalog i (found catalog older n i)
       found_alone i = elim (site_cases i n.0) [
@@ -189,14 +190,14 @@ module _ (catalog : Catalog) (capacity : ℕ) (homes : (oid : ObjId) → (home c
             subst (λ k. IsAlone catalog k (found catalog older n k)) (sym same.1)
             (subst (λ S. IsAlone catalog n.0 S) (sym (found_here catalog older n))
             (settled_alone n.0 next.below (entries_of n.0 older) n.1
-            (run_right catalog capacity older is n.0) next.right))
+            (run_right catalog layouts older is n.0) next.right))
         | inr apart ↦ subst (λ S. IsAlone catalog i S) (sym (found_away catalog older n i apart.1))
             (run_alone older is i)
       ]
 
       pub next_step : IsStep catalog n.0 (found catalog older n n.0) n.1.event n.1.came
       next_step = subst (λ S. IsStep catalog n.0 S n.1.event n.1.came) (sym (found_here catalog older n))
-          (step_of catalog capacity n.0 (settled catalog n.0 n.1.came.kept
+          (step_of catalog (layouts n.0) n.0 (settled catalog n.0 n.1.came.kept
           (stands catalog older n.0)) n.1.event n.1.came next.right.comes)
 
       module _ (A : AreAgreed catalog (stands catalog older) (IsPut older)) where
@@ -217,12 +218,12 @@ module _ (catalog : Catalog) (capacity : ℕ) (homes : (oid : ObjId) → (home c
             (put_later n older) (put_cases n older)
 
   -- in each run the sites agree
-  pub run_agrees : (run : List Named) → IsRun catalog capacity run → AreAgreed catalog (stands catalog run) (IsPut run)
+  pub run_agrees : (run : List Named) → IsRun catalog layouts run → AreAgreed catalog (stands catalog run) (IsPut run)
   run_agrees [] is = agreed_at_first catalog
   run_agrees (n ∷ older) is = agreed_next older n is.0 is.1 (run_agrees older is.0)
 
   -- so they do behind what an entry found; and what it found, what it wrote and what it left in flight may come
-  module _ (older : List Named) (n : Named) (is : IsRun catalog capacity (n ∷ older)) where
+  module _ (older : List Named) (n : Named) (is : IsRun catalog layouts (n ∷ older)) where
     pub settled_agrees : AreAgreed catalog (found catalog older n) (IsPut older)
     settled_agrees = agreed_found older n is.0 is.1 (run_agrees older is.0)
 

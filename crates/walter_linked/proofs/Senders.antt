@@ -22,6 +22,7 @@ use Rattle.walter_rules.specs.declared.event.Input.TheVariants.{Deliver}
 use Rattle.walter_rules.specs.declared.held.Held.{Held}
 use Rattle.walter_rules.specs.Declarations.{are_declared}
 use Rattle.walter_rules.specs.Knowledge.{Knowledge, fresh}
+use Rattle.walter_rules.specs.Layouts.{Layout}
 use Rattle.walter_rules.specs.Learning.{recorded}
 use Rattle.walter_rules.specs.Log.{is_of, of_site}
 use Rattle.walter_rules.specs.Merges.{Named, merge, entries_of}
@@ -51,29 +52,29 @@ all_declared catalog i K (rec ∷ records) follow are =
     all_declared catalog i (recorded catalog i (Some rec) K) records follow.1
     (one_declared catalog i K rec follow.0 are)
 
-module _ (catalog : Catalog) (capacity : ℕ) where
-  log_declared : (run : List Named) → IsRun catalog capacity run → (j : SiteId)
+module _ (catalog : Catalog) (layouts : SiteId → Layout) where
+  log_declared : (run : List Named) → IsRun catalog layouts run → (j : SiteId)
       → AreDeclared catalog (stands catalog run j).knows.log
   log_declared run is j = elim (cases_lt j.0 catalog.sites) [
     | inl below ↦
-        let told = right_journaled catalog capacity j below (entries_of j run) (run_right catalog capacity run is j) in
+        let told = right_journaled catalog (layouts j) j below (entries_of j run) (run_right catalog layouts run is j) in
         subst (λ (L : Knowledge). AreDeclared catalog L.log) (sym told.told)
         (all_declared catalog j fresh (stands catalog run j).records told.follow
         (All-nil (λ (h : Held). IsTrue (are_declared catalog h.tx.updates))))
     | inr outside ↦
         subst (λ es. AreDeclared catalog (standing catalog j es).knows.log)
-        (sym (none_outside catalog capacity run is j outside))
+        (sym (none_outside catalog layouts run is j outside))
         (All-nil (λ (h : Held). IsTrue (are_declared catalog h.tx.updates)))
   ]
 
   module _ (whole : IsWhole catalog) where
-    own_propagated : (older : List Named) (n : Named) → IsRun catalog capacity (n ∷ older) → (j : SiteId)
+    own_propagated : (older : List Named) (n : Named) → IsRun catalog layouts (n ∷ older) → (j : SiteId)
         (number seq : ℕ) (tx : Tx) → n.1.event ≡ Given (Deliver j number (Propagate seq tx)) → j ≢ n.0
         → IsCommitOf catalog j tx
     own_propagated older n is j number seq tx event apart =
         let log = (stands catalog older j).knows.log in
         let held : Held = record { seq = seq; tx = tx } in
-        let said = (whole_agrees catalog capacity whole older is.0).said j n.0 (Propagate seq tx) apart
+        let said = (whole_agrees catalog layouts whole older is.0).said j n.0 (Propagate seq tx) apart
         (is.1.put j number (Propagate seq tx) event) in
         let there = contains_at (of_site j log) held (seq - 1) said.1 in
         record {
@@ -84,11 +85,11 @@ module _ (catalog : Catalog) (capacity : ℕ) where
               (log_declared older is.0 j)) there;
         }
 
-    pub trails_propagated : (trails : List (List Entry)) → AreRightTrails catalog capacity trails
+    pub trails_propagated : (trails : List (List Entry)) → AreRightTrails catalog layouts trails
         → (newer older : List Named) (n : Named) → reverse (merge trails) ≡ newer ++ n ∷ older → (j : SiteId)
         (number seq : ℕ) (tx : Tx) → n.1.event ≡ Given (Deliver j number (Propagate seq tx)) → j ≢ n.0
         → IsCommitOf catalog j tx
     trails_propagated trails are newer older n is =
         own_propagated older n
-        (run_behind catalog capacity newer (n ∷ older)
-        (subst (IsRun catalog capacity) is (merged_run catalog capacity trails are)))
+        (run_behind catalog layouts newer (n ∷ older)
+        (subst (IsRun catalog layouts) is (merged_run catalog layouts trails are)))

@@ -1,8 +1,10 @@
 -- Runs of a catalog whose containers are preferred at its sites: the sites agree, and marks are true.
-use Rattle.std.proofs.Common.{◌≡◌, ◌<◌, ℕ, List, [], ◌∷◌, ◌++◌, reverse, subst, arith}
+use Rattle.std.proofs.Common.{◌≡◌, ◌<◌, List, [], ◌∷◌, ◌++◌, reverse, subst, arith}
 use Rattle.walter_base.specs.declared.catalog.Catalog.{Catalog}
+use Rattle.walter_base.specs.declared.names.SiteId.{SiteId}
 use Rattle.walter_base.specs.declared.names.ObjId.{ObjId}
 use Rattle.walter_rules.specs.declared.entry.Entry.{Entry}
+use Rattle.walter_rules.specs.Layouts.{Layout}
 use Rattle.walter_rules.specs.Merges.{Named, merge}
 use Rattle.walter_runs.specs.Runs.{stands, IsPut, IsRun, AreRightTrails}
 use Rattle.walter_runs.proofs.Running.{merged_run}
@@ -15,43 +17,43 @@ use Rattle.walter_linked.proofs.MarkedRuns.{marks_true, got_right}
 use Rattle.walter_linked.proofs.Runs.{homes_below, agreed_at_first, run_agrees}
 
 -- the entries before some of a run are a run
-pub run_behind : (catalog : Catalog) (capacity : ℕ) (newer older : List Named) → IsRun catalog capacity (newer ++ older)
-    → IsRun catalog capacity older
-run_behind catalog capacity [] older is = is
-run_behind catalog capacity (n ∷ newer) older is = run_behind catalog capacity newer older is.0
+pub run_behind : (catalog : Catalog) (layouts : SiteId → Layout) (newer older : List Named) → IsRun catalog layouts (newer ++ older)
+    → IsRun catalog layouts older
+run_behind catalog layouts [] older is = is
+run_behind catalog layouts (n ∷ newer) older is = run_behind catalog layouts newer older is.0
 
-module _ (catalog : Catalog) (capacity : ℕ) (whole : IsWhole catalog) where
+module _ (catalog : Catalog) (layouts : SiteId → Layout) (whole : IsWhole catalog) where
   -- where a run has an entry each object is preferred at a site of the catalog
-  pub run_homes : (n : Named) (older : List Named) → IsRun catalog capacity (n ∷ older) → (oid : ObjId)
+  pub run_homes : (n : Named) (older : List Named) → IsRun catalog layouts (n ∷ older) → (oid : ObjId)
       → (home catalog oid).0 < catalog.sites
   run_homes n older is = homes_below catalog (let l = is.1.below in omega (arith, l)) whole
 
   -- the sites of a run agree
-  pub whole_agrees : (run : List Named) → IsRun catalog capacity run
+  pub whole_agrees : (run : List Named) → IsRun catalog layouts run
       → AreAgreed catalog (stands catalog run) (IsPut run)
   whole_agrees [] is = agreed_at_first catalog
-  whole_agrees (n ∷ older) is = run_agrees catalog capacity (run_homes n older is) (right_alone catalog capacity)
-      (settled_alone catalog capacity) (n ∷ older) is
+  whole_agrees (n ∷ older) is = run_agrees catalog layouts (run_homes n older is) (λ k. right_alone catalog (layouts k) k)
+      (λ k. settled_alone catalog (layouts k) k) (n ∷ older) is
 
   -- what a site has of another is that one's own
-  pub whole_got : (run : List Named) → IsRun catalog capacity run → AreGotRight catalog run
+  pub whole_got : (run : List Named) → IsRun catalog layouts run → AreGotRight catalog run
   whole_got [] is = λ i j p r here. absurd cc
-  whole_got (n ∷ older) is = got_right catalog capacity (run_homes n older is) (right_alone catalog capacity)
-      (settled_alone catalog capacity) (n ∷ older) is
+  whole_got (n ∷ older) is = got_right catalog layouts (run_homes n older is) (λ k. right_alone catalog (layouts k) k)
+      (λ k. settled_alone catalog (layouts k) k) (n ∷ older) is
 
   -- marks are true at each entry
-  pub whole_marks : (older : List Named) (n : Named) → IsRun catalog capacity (n ∷ older) → AreMarksTrue catalog older n
-  whole_marks older n is = marks_true catalog capacity (run_homes n older is) (right_alone catalog capacity)
-      (settled_alone catalog capacity) older n is
+  pub whole_marks : (older : List Named) (n : Named) → IsRun catalog layouts (n ∷ older) → AreMarksTrue catalog older n
+  whole_marks older n is = marks_true catalog layouts (run_homes n older is) (λ k. right_alone catalog (layouts k) k)
+      (λ k. settled_alone catalog (layouts k) k) older n is
 
   -- so it is with right and linked trails
-  pub trails_marks : (trails : List (List Entry)) → AreRightTrails catalog capacity trails
+  pub trails_marks : (trails : List (List Entry)) → AreRightTrails catalog layouts trails
       → (newer older : List Named) (n : Named)
       → reverse (merge trails) ≡ newer ++ n ∷ older → AreMarksTrue catalog older n
   trails_marks trails are newer older n is =
-      whole_marks older n (run_behind catalog capacity newer (n ∷ older)
-      (subst (IsRun catalog capacity) is (merged_run catalog capacity trails are)))
+      whole_marks older n (run_behind catalog layouts newer (n ∷ older)
+      (subst (IsRun catalog layouts) is (merged_run catalog layouts trails are)))
 
-  pub trails_got : (trails : List (List Entry)) → AreRightTrails catalog capacity trails
+  pub trails_got : (trails : List (List Entry)) → AreRightTrails catalog layouts trails
       → AreGotRight catalog (reverse (merge trails))
-  trails_got trails are = whole_got (reverse (merge trails)) (merged_run catalog capacity trails are)
+  trails_got trails are = whole_got (reverse (merge trails)) (merged_run catalog layouts trails are)

@@ -10,20 +10,21 @@ ghost use Rattle.walter_linked.specs.Senders.{IsCommitOf};
 ghost use Rattle.walter_rules.specs.declared.entry.Entry.{Entry};
 ghost use Rattle.walter_rules.specs.declared.event.Event.TheVariants.{Given};
 ghost use Rattle.walter_rules.specs.declared.event.Input.TheVariants.{Deliver};
+ghost use Rattle.walter_rules.specs.Layouts.{Layout};
 ghost use Rattle.walter_rules.specs.Merges.{Named, merge};
 ghost use Rattle.walter_runs.specs.Runs.{AreRightTrails};
 
 /// What a site of right and linked trails has of another stands there as that one's own commit, by its number.
 pub fn holds_own_commits()
-    ensures { (catalog : Catalog) (capacity : ℕ) (trails : List (List Entry)) → IsWhole catalog
-        → AreRightTrails catalog capacity trails → AreGotRight catalog (reverse (merge trails)) }
+    ensures { (catalog : Catalog) (layouts : SiteId → Layout) (trails : List (List Entry)) → IsWhole catalog
+        → AreRightTrails catalog layouts trails → AreGotRight catalog (reverse (merge trails)) }
 {}
 
 /// At each entry of the merge of right and linked trails another site's commit is committed only where it is durable,
 /// and a client is told that a transaction is durable, or visible, only where it is.
 pub fn marks_are_true()
-    ensures { (catalog : Catalog) (capacity : ℕ) (trails : List (List Entry)) → IsWhole catalog
-        → AreRightTrails catalog capacity trails
+    ensures { (catalog : Catalog) (layouts : SiteId → Layout) (trails : List (List Entry)) → IsWhole catalog
+        → AreRightTrails catalog layouts trails
         → (newer older : List Named) (n : Named) → reverse (merge trails) ≡ newer ++ n ∷ older
         → AreMarksTrue catalog older n }
 {}
@@ -31,8 +32,8 @@ pub fn marks_are_true()
 /// A commit that comes from another site of right and linked trails is one of that site's own: it names that site, and
 /// changes what the catalog has. Of what `accepts` asks, its number and what it has seen are left.
 pub fn sites_propagate_their_own()
-    ensures { (catalog : Catalog) (capacity : ℕ) (trails : List (List Entry)) → IsWhole catalog
-        → AreRightTrails catalog capacity trails
+    ensures { (catalog : Catalog) (layouts : SiteId → Layout) (trails : List (List Entry)) → IsWhole catalog
+        → AreRightTrails catalog layouts trails
         → (newer older : List Named) (n : Named) → reverse (merge trails) ≡ newer ++ n ∷ older → (j : SiteId)
         (number seq : ℕ) (tx : Tx) → n.1.event ≡ Given (Deliver j number (Propagate seq tx)) → j ≢ n.0
         → IsCommitOf catalog j tx }

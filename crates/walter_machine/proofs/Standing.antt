@@ -30,22 +30,23 @@ use Rattle.walter_rules.specs.declared.outcome.Outcome.{Outcome}
 use Rattle.walter_rules.specs.declared.outcome.Outcome.TheVariants.{Replied, Taken, Passed, Failed, Full, Memory, Down, Refused}
 use Rattle.walter_rules.specs.Calls.{Expected}
 use Rattle.walter_rules.specs.Knowledge.{Knowledge}
+use Rattle.walter_rules.specs.Layouts.{Layout, FitsIn, need_of, left_behind}
 use Rattle.walter_rules.specs.Learning.{after, lost, recorded}
 use Rattle.walter_rules.specs.Sessions.{Sessions, session_in}
 use Rattle.walter_rules.specs.Sending.{Send}
 use Rattle.walter_rules.specs.Standing.{Standing, settled, stands_after, records_after, owed, told}
 use Rattle.walter_session.specs.Sessions.{Table}
 use Rattle.walter_site.specs.Members.{Knows}
-use Rattle.walter_rules.specs.Trails.{Comes, IsFound, TakesMemory, FitsIn, IsPutOut, failure, fullness, want, only, need_of, left_behind}
+use Rattle.walter_rules.specs.Trails.{Comes, IsFound, TakesMemory, IsPutOut, failure, fullness, want, only}
 use Rattle.walter_rules.proofs.Staying.{put_all}
 use Rattle.walter_tables.specs.declared.tables.Tables.{Tables}
 use Rattle.walter_tables.specs.Sites.{site_of, catalog_of}
 
 -- ---- what came to nothing
 
-pub want_comes : (catalog : Catalog) (capacity : ℕ) (i : SiteId) (S : Standing) (event : Event) → TakesMemory S.up event
-    → Comes catalog capacity i S event (only (want event))
-want_comes catalog capacity i S event takes =
+pub want_comes : (catalog : Catalog) (layout : Layout) (i : SiteId) (S : Standing) (event : Event) → TakesMemory S.up event
+    → Comes catalog layout i S event (only (want event))
+want_comes catalog layout i S event takes =
     Comes.no_memory takes (record { outcome_is = refl; wrote = refl; flight_is = refl; sends = refl; dropped = refl })
 
 module _ (m : Machine) (S : Standing) (has : HasStanding m S) (event : Event) where
@@ -170,19 +171,19 @@ settles_found m S found kept rec is is_found stands count counted =
 
 -- ---- the record found no place
 
-pub overflow_comes : (catalog : Catalog) (capacity : ℕ) (i : SiteId) (site : Option Tables) (S : Standing) (event : Event)
+pub overflow_comes : (catalog : Catalog) (layout : Layout) (i : SiteId) (site : Option Tables) (S : Standing) (event : Event)
     (ready : Ready) (need left : ℕ) → IsReadyFor catalog i site S event ready → IsSome (rec_in ready)
-    → IfSome (rec_in ready) (λ rec. (need ≡ need_of rec) × (left ≡ left_behind capacity S.records) × (left < need))
-    → Comes catalog capacity i S event (only (fullness event need left))
-overflow_comes catalog capacity i site S event ready need left is some much = by (rec_in ready) refl some much
+    → IfSome (rec_in ready) (λ rec. (need ≡ need_of rec) × (left ≡ left_behind layout S) × (left < need))
+    → Comes catalog layout i S event (only (fullness event need left))
+overflow_comes catalog layout i site S event ready need left is some much = by (rec_in ready) refl some much
   where
     by : (o : Option Record) → rec_in ready ≡ o → IsSome o
-        → IfSome o (λ rec. (need ≡ need_of rec) × (left ≡ left_behind capacity S.records) × (left < need))
-        → Comes catalog capacity i S event (only (fullness event need left))
+        → IfSome o (λ rec. (need ≡ need_of rec) × (left ≡ left_behind layout S) × (left < need))
+        → Comes catalog layout i S event (only (fullness event need left))
     by None none some much = absurd cc
     by (Some rec) here some much =
         Comes.full rec (sym (ap (λ (x : Expected). x.wrote) is.rule) ∙ here)
-        (subst (λ (n : ℕ). left_behind capacity S.records < n) much.0 (subst (λ (n : ℕ). n < need) much.1 much.2))
+        (subst (λ (n : ℕ). left_behind layout S < n) much.0 (subst (λ (n : ℕ). n < need) much.1 much.2))
         (record {
           outcome_is = λ j. fullness event (much.0 j) (much.1 j);
           wrote = refl;
@@ -217,11 +218,11 @@ filled_standing old new S event came need left is has filled catalog id site fli
 
 -- ---- the record is kept
 
-pub keep_comes : (catalog : Catalog) (capacity : ℕ) (i : SiteId) (site : Option Tables) (S : Standing) (event : Event)
-    (ready : Ready) → IsReadyFor catalog i site S event ready → IfSome (rec_in ready) (FitsIn capacity S)
-    → Comes catalog capacity i S event (came_in ready)
-keep_comes catalog capacity i site S event ready is fits =
-    Comes.ruled (subst (λ (x : Expected). IfSome x.wrote (FitsIn capacity S)) is.rule fits) (record {
+pub keep_comes : (catalog : Catalog) (layout : Layout) (i : SiteId) (site : Option Tables) (S : Standing) (event : Event)
+    (ready : Ready) → IsReadyFor catalog i site S event ready → IfSome (rec_in ready) (FitsIn layout S)
+    → Comes catalog layout i S event (came_in ready)
+keep_comes catalog layout i site S event ready is fits =
+    Comes.ruled (subst (λ (x : Expected). IfSome x.wrote (FitsIn layout S)) is.rule fits) (record {
       outcome = ap (λ (x : Expected). x.outcome) is.rule;
       wrote = ap (λ (x : Expected). x.wrote) is.rule;
       flight = refl;
@@ -320,14 +321,14 @@ kept_standing old new S event ready came outcome is has counted ready_for unlost
 
 -- ---- the record met a fault
 
-pub fail_comes : (catalog : Catalog) (capacity : ℕ) (i : SiteId) (site : Option Tables) (S : Standing) (event : Event)
+pub fail_comes : (catalog : Catalog) (layout : Layout) (i : SiteId) (site : Option Tables) (S : Standing) (event : Event)
     (ready : Ready) (rec : Record) (came : Came) → rec_in ready ≡ Some rec → came ≡ fault_of event rec
-    → IsReadyFor catalog i site S event ready → IfSome (rec_in ready) (FitsIn capacity S)
-    → Comes catalog capacity i S event came
-fail_comes catalog capacity i site S event ready rec came here is ready_for fits =
-    subst (λ (x : Came). Comes catalog capacity i S event x) (sym is)
+    → IsReadyFor catalog i site S event ready → IfSome (rec_in ready) (FitsIn layout S)
+    → Comes catalog layout i S event came
+fail_comes catalog layout i site S event ready rec came here is ready_for fits =
+    subst (λ (x : Came). Comes catalog layout i S event x) (sym is)
     (Comes.met_fault rec (sym (ap (λ (x : Expected). x.wrote) ready_for.rule) ∙ here)
-    (some_at (FitsIn capacity S) (rec_in ready) rec here fits)
+    (some_at (FitsIn layout S) (rec_in ready) rec here fits)
     (record { outcome_is = refl; wrote = refl; flight_is = refl; sends = refl; dropped = refl }))
 
 -- a record comes to a site that is down where it restarts

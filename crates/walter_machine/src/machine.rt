@@ -4,6 +4,7 @@ ghost use Rattle.walter_base.specs.Sizes.{CanBeRecorded};
 ghost use Rattle.walter_base.specs.Vectors.{most_sites};
 ghost use Rattle.walter_machine.specs.Props.{props};
 ghost use Rattle.walter_machine.specs.States.{IsOf};
+ghost use Rattle.walter_rules.specs.Layouts.{Layout, FitsIn, left_behind, need_of};
 
 use crate::debts::{debt_of, forgive, owe_lost};
 use crate::following::{count_in, follow, rec_of};
@@ -53,7 +54,7 @@ impl Machine {
     ghost use Rattle.walter_rules.specs.Deliveries.{IsLeastEnabled};
     ghost use Rattle.walter_rules.specs.declared.event.Event.TheVariants as happens;
     ghost use Rattle.walter_rules.specs.Standing.{Standing, stands_after, up_after};
-    ghost use Rattle.walter_rules.specs.Trails.{Comes, FitsIn, TakesMemory, failure, fullness, left_behind, need_of, only, want};
+    ghost use Rattle.walter_rules.specs.Trails.{Comes, TakesMemory, failure, fullness, only, want};
 
     /// A site that is down, of which nothing is known. It stands so as its records say.
     pub fn new(alloc: Global, catalog: Catalog, id: SiteId) -> Machine
@@ -195,10 +196,10 @@ impl Machine {
         requires anyway { IsReadyAnyway (catalog_in self.old) (site_in self.old) (tables_in self.old) event.now ready }
         ensures came { result.0 ≡ came_in ready }
         ensures framed { result.1.items ≡ ready.frames.items }
-        ensures comes { (capacity : ℕ) (S : Standing)
+        ensures comes { (layout : Layout) (S : Standing)
             → IsReadyFor (catalog_in self.old) (site_in self.old) (tables_in self.old) S event.now ready
-            → IfSome (rec_in ready) (FitsIn capacity S)
-            → Comes (catalog_in self.old) capacity (site_in self.old) S event.now result.0 }
+            → IfSome (rec_in ready) (FitsIn layout S)
+            → Comes (catalog_in self.old) layout (site_in self.old) S event.now result.0 }
         ensures stands { (S : Standing) → HasStanding self.old S → IsCounted self.old S (rec_in ready)
             → IsReadyFor (catalog_in self.old) (site_in self.old) (tables_in self.old) S event.now ready
             → HasStanding self.new (stands_after (catalog_in self.old) (site_in self.old) S event.now result.0) }
@@ -231,10 +232,10 @@ impl Machine {
         requires flies { IsSome (rec_in ready) }
         ensures came { IfSome (rec_in ready) (λ rec.
             result ≡ record (only (failure event.now rec)) { flight = Some rec }) }
-        ensures comes { (capacity : ℕ) (S : Standing)
+        ensures comes { (layout : Layout) (S : Standing)
             → IsReadyFor (catalog_in self.old) (site_in self.old) (tables_in self.old) S event.now ready
-            → IfSome (rec_in ready) (FitsIn capacity S)
-            → Comes (catalog_in self.old) capacity (site_in self.old) S event.now result }
+            → IfSome (rec_in ready) (FitsIn layout S)
+            → Comes (catalog_in self.old) layout (site_in self.old) S event.now result }
         ensures stands { (S : Standing) → HasStanding self.old S → IsCounted self.old S (rec_in ready)
             → IsReadyFor (catalog_in self.old) (site_in self.old) (tables_in self.old) S event.now ready
             → HasStanding self.new (stands_after (catalog_in self.old) (site_in self.old) S event.now result) }
@@ -258,10 +259,10 @@ impl Machine {
     pub fn overflow(&mut self, event: &Event, ready: Ready, need: u64, left: u64) -> Came
         requires flies { IsSome (rec_in ready) }
         ensures came { result ≡ only (fullness event.now need left) }
-        ensures comes { (capacity : ℕ) (S : Standing)
+        ensures comes { (layout : Layout) (S : Standing)
             → IsReadyFor (catalog_in self.old) (site_in self.old) (tables_in self.old) S event.now ready
-            → IfSome (rec_in ready) (λ rec. (need ≡ need_of rec) × (left ≡ left_behind capacity S.records) × (left < need))
-            → Comes (catalog_in self.old) capacity (site_in self.old) S event.now result }
+            → IfSome (rec_in ready) (λ rec. (need ≡ need_of rec) × (left ≡ left_behind layout S) × (left < need))
+            → Comes (catalog_in self.old) layout (site_in self.old) S event.now result }
         ensures stands { (S : Standing) → HasStanding self.old S
             → IsReadyFor (catalog_in self.old) (site_in self.old) (tables_in self.old) S event.now ready
             → HasStanding self.new (stands_after (catalog_in self.old) (site_in self.old) S event.now result) }
@@ -276,8 +277,8 @@ impl Machine {
     /// What an event comes to that wants memory. The site stands as before.
     pub fn want(&self, event: &Event) -> Came
         ensures came { result ≡ only (want event.now) }
-        ensures comes { (capacity : ℕ) (S : Standing) → TakesMemory S.up event.now
-            → Comes (catalog_in self.now) capacity (site_in self.now) S event.now result }
+        ensures comes { (layout : Layout) (S : Standing) → TakesMemory S.up event.now
+            → Comes (catalog_in self.now) layout (site_in self.now) S event.now result }
         ensures stands { (S : Standing) → HasStanding self.now S → TakesMemory S.up event.now
             → HasStanding self.now (stands_after (catalog_in self.now) (site_in self.now) S event.now result) }
     {

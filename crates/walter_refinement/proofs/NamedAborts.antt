@@ -30,6 +30,7 @@ use Rattle.walter_rules.specs.declared.outcome.Outcome.TheVariants.{Replied, Fai
 use Rattle.walter_rules.specs.Allowed.{HasOpen, HasBegun, IsOwnerUnseen, IsMet, of_value, of_counts, of_count, IsKind, is_refused, starts, does, reads, ends, aborts, conflicts, commits, begins, waits, tells_version, tells_cause, levels_own, is_deciding, is_running, denies, passes, receives, hears_ack, hears_durable, hears_visible, marks_durable, marks_visible, prepares, hears_yes, decides, gives_up, releases, hears_released, sees, stops, is_down, boots}
 use Rattle.walter_rules.specs.Conflicts.{conflict_at, first_conflict, cause_of}
 use Rattle.walter_rules.specs.Knowledge.{Knowledge, session_of}
+use Rattle.walter_rules.specs.Layouts.{Layout}
 use Rattle.walter_rules.specs.Log.{row, version_of}
 use Rattle.walter_rules.specs.Merges.{Named}
 use Rattle.walter_rules.specs.Objects.{objects_at}
@@ -190,19 +191,19 @@ not_found catalog older n None e is apart = found_here catalog older n
     ∙ ap (λ k. settled catalog n.0 k (stands catalog older n.0)) e
 not_found catalog older n (Some r) e is apart = absurd (apart is.restart)
 
-module _ (catalog : Catalog) (capacity : ℕ) (homes : (oid : ObjId) → (home catalog oid).0 < catalog.sites) where
+module _ (catalog : Catalog) (layouts : SiteId → Layout) (homes : (oid : ObjId) → (home catalog oid).0 < catalog.sites) where
   -- a NO of a site was met there
   met_before : (older : List Named) (i : SiteId) (client : ℕ) (s : Session) (conflict : Conflict)
-      → IsRun catalog capacity older → HasBegun (stands catalog older i) client s
+      → IsRun catalog layouts older → HasBegun (stands catalog older i) client s
       → (p : SiteId) → p ≢ i → conflict ≢ Dead → IsPut older p i (Vote s.slow (No conflict))
       → IsMetThere catalog older i s conflict
   met_before older i client s conflict is begun_ p apart alive put =
-      let right = right_alone catalog capacity in
-      let settles = settled_alone catalog capacity in
+      let right = (λ k. right_alone catalog (layouts k) k) in
+      let settles = (λ k. settled_alone catalog (layouts k) k) in
       let at_ = split_at older (p, put.entry) put.here in
-      let run : IsRun catalog capacity ((p, put.entry) ∷ at_.1) =
-      run_behind catalog capacity at_.0 ((p, put.entry) ∷ at_.1) (subst (λ z. IsRun catalog capacity z) at_.2 is) in
-      let step = next_step catalog capacity homes right settles at_.1 (p, put.entry) run.0 run.1 in
+      let run : IsRun catalog layouts ((p, put.entry) ∷ at_.1) =
+      run_behind catalog layouts at_.0 ((p, put.entry) ∷ at_.1) (subst (λ z. IsRun catalog layouts z) at_.2 is) in
+      let step = next_step catalog layouts homes right settles at_.1 (p, put.entry) run.0 run.1 in
       let met = no_met catalog p
       (found catalog at_.1 (p, put.entry) p) put.entry.event put.entry.came i s.slow conflict alive step put.sent in
       let away : put.entry.event ≢ Restart = λ e. let f = sym e ∙ met.came in cc in
@@ -212,9 +213,9 @@ module _ (catalog : Catalog) (capacity : ℕ) (homes : (oid : ObjId) → (home c
       let said_now : IsPut older i p (Prepare s.slow met.tid met.start met.objects) =
       subst (λ z. IsPut z i p (Prepare s.slow met.tid met.start met.objects)) (sym at_.2)
       (put_newer at_.0 ((p, put.entry) ∷ at_.1) i p _ (put_later (p, put.entry) at_.1 i p _ said)) in
-      let so = (run_agrees catalog capacity homes right settles older is).said i p
+      let so = (run_agrees catalog layouts homes right settles older is).said i p
       (Prepare s.slow met.tid met.start met.objects) (λ e. apart (sym e)) said_now in
-      let mine = (run_alone catalog capacity homes right settles older is i).tidy.mine client s begun_.session
+      let mine = (run_alone catalog layouts homes right settles older is i).tidy.mine client s begun_.session
       (λ e. let l = begun_.begun in absurd (omega (arith, e, l))) in
       let one : so.0 ≡ tx_of s = same_Some so.0 (tx_of s) (sym so.1 ∙ mine) in
       let tid : met.tid ≡ s.tid = so.2 ∙ ap (λ (x : Tx). x.tid) one in
@@ -246,12 +247,12 @@ module _ (catalog : Catalog) (capacity : ℕ) (homes : (oid : ObjId) → (home c
       }
 
   -- an abort of a run is named
-  pub run_named : (older : List Named) (n : Named) (cause : Cause) → IsRun catalog capacity (n ∷ older)
+  pub run_named : (older : List Named) (n : Named) (cause : Cause) → IsRun catalog layouts (n ∷ older)
       → n.1.came.outcome ≡ Replied (Aborted cause) → IsNamed catalog older n cause
   run_named older n cause is e =
-      let right = right_alone catalog capacity in
-      let settles = settled_alone catalog capacity in
-      let step = next_step catalog capacity homes right settles older n is.0 is.1 in
+      let right = (λ k. right_alone catalog (layouts k) k) in
+      let settles = (λ k. settled_alone catalog (layouts k) k) in
+      let step = next_step catalog layouts homes right settles older n is.0 is.1 in
       abort_named (step_aborts catalog n.0 (found catalog older n n.0) n.1.event n.1.came cause step e)
     where
       stood : n.1.event ≢ Restart → found catalog older n n.0 ≡ stands catalog older n.0
@@ -272,10 +273,10 @@ module _ (catalog : Catalog) (capacity : ℕ) (homes : (oid : ObjId) → (home c
           → IsOwnerUnseen (stands catalog older n.0).knows s.snapshot conflict
       owner_unseen client s at_ (ModifiedThere oid version) has met = tt
       owner_unseen client s at_ (LockedThere oid owner) has met =
-          let alone = run_alone catalog capacity homes (right_alone catalog capacity)
-          (settled_alone catalog capacity) older is.0 in
-          let agreed = run_agrees catalog capacity homes (right_alone catalog capacity)
-          (settled_alone catalog capacity) older is.0 in
+          let alone = run_alone catalog layouts homes (λ k. right_alone catalog (layouts k) k)
+          (λ k. settled_alone catalog (layouts k) k) older is.0 in
+          let agreed = run_agrees catalog layouts homes (λ k. right_alone catalog (layouts k) k)
+          (λ k. settled_alone catalog (layouts k) k) older is.0 in
           let K : Knowledge = (stands catalog older n.0).knows in
           unseen_here catalog (stands catalog older) (IsPut older) agreed alone n.0 s.snapshot
           ((alone n.0).snapshots client s has) at_ owner
@@ -315,8 +316,8 @@ module _ (catalog : Catalog) (capacity : ℕ) (homes : (oid : ObjId) → (home c
           let begun_now : HasBegun (stands catalog older n.0) client s = subst (λ S. HasBegun S client s) same begun_ in
           let said_now : (stands catalog older n.0).knows.said_no s.slow ≡ Some conflict =
           subst (λ (S : Standing). S.knows.said_no s.slow ≡ Some conflict) same said in
-          let no_ = ((run_agrees catalog capacity homes (right_alone catalog capacity)
-          (settled_alone catalog capacity) older is.0).heard n.0).said_no s.slow conflict said_now in
+          let no_ = ((run_agrees catalog layouts homes (λ k. right_alone catalog (layouts k) k)
+          (λ k. settled_alone catalog (layouts k) k) older is.0).heard n.0).said_no s.slow conflict said_now in
           by_conflict conflict no_.2 c (record {
             client = client;
             asked = event;

@@ -15,6 +15,7 @@ use Rattle.walter_base.specs.declared.transaction.Tx.{Tx}
 use Rattle.walter_base.specs.Names.{same_site}
 use Rattle.walter_base.proofs.NameTests.{same_site_refl}
 use Rattle.walter_rules.specs.declared.held.Held.{Held}
+use Rattle.walter_rules.specs.Layouts.{Layout}
 use Rattle.walter_rules.specs.Learning.{log_after}
 use Rattle.walter_rules.specs.Log.{is_of, of_site}
 use Rattle.walter_rules.specs.Merges.{Named}
@@ -146,9 +147,9 @@ tells_more i records log None of is = is
 tells_more i records log (Some r) of is = owned_push records r
     ∙ (ap (λ t. t ++ own_in r) is ∙ sym (log_more i log r (of r refl)))
 
-module _ (catalog : Catalog) (capacity : ℕ) (homes : (oid : ObjId) → (home catalog oid).0 < catalog.sites) where
+module _ (catalog : Catalog) (layouts : SiteId → Layout) (homes : (oid : ObjId) → (home catalog oid).0 < catalog.sites) where
   -- behind what was found
-  tells_found : (older : List Named) (n : Named) (is : IsRun catalog capacity (n ∷ older)) (kept : Option Record)
+  tells_found : (older : List Named) (n : Named) (is : IsRun catalog layouts (n ∷ older)) (kept : Option Record)
       → ((r : Record) → kept ≡ Some r → IsOfSite n.0 r) → owned_in (stands catalog older n.0).records ≡ owns
       (stands catalog older) n.0
       → owned_in (settled catalog n.0 kept (stands catalog older n.0)).records ≡ of_site n.0
@@ -158,22 +159,22 @@ module _ (catalog : Catalog) (capacity : ℕ) (homes : (oid : ObjId) → (home c
       (stands catalog older n.0).knows.log (Some r) of same
 
   -- the records of each site of a run tell its own commits
-  pub records_tell : (run : List Named) → IsRun catalog capacity run → (i : SiteId)
+  pub records_tell : (run : List Named) → IsRun catalog layouts run → (i : SiteId)
       → owned_in (stands catalog run i).records ≡ owns (stands catalog run) i
   records_tell [] is i = refl
   records_tell (n ∷ older) is i = elim (site_cases i n.0) [
     | inl same ↦
-        let right = right_alone catalog capacity in
-        let settles = settled_alone catalog capacity in
+        let right = (λ k. right_alone catalog (layouts k) k) in
+        let settles = (λ k. settled_alone catalog (layouts k) k) in
         let S1 = settled catalog n.0 n.1.came.kept (stands catalog older n.0) in
         let first = tells_found older n is n.1.came.kept
         (λ r e. due_of_site catalog (stands catalog older) (IsPut older) n.0
-        (run_agrees catalog capacity homes right settles older is.0) r
-        (kept_due catalog capacity homes right settles older n is r e)) (records_tell older is.0 n.0) in
+        (run_agrees catalog layouts homes right settles older is.0) r
+        (kept_due catalog layouts homes right settles older n is r e)) (records_tell older is.0 n.0) in
         let second = tells_more n.0 S1.records S1.knows.log n.1.came.wrote
         (λ r e. due_of_site catalog (found catalog older n) (IsPut older) n.0
-        (settled_agrees catalog capacity homes right settles older n is) r
-        (wrote_due catalog capacity homes right settles older n is r e)) first in
+        (settled_agrees catalog layouts homes right settles older n is) r
+        (wrote_due catalog layouts homes right settles older n is r e)) first in
         let S2 = stands_after catalog n.0 S1 n.1.event n.1.came in
         let now : stands catalog (n ∷ older) n.0 ≡ S2 = stands_here catalog older n
         ∙ ap (λ S. stands_after catalog n.0 S n.1.event n.1.came) (found_here catalog older n) in
@@ -188,12 +189,12 @@ module _ (catalog : Catalog) (capacity : ℕ) (homes : (oid : ObjId) → (home c
         subst (λ (S : Standing). owned_in S.records ≡ of_site i S.knows.log) (sym was) (records_tell older is.0 i)
   ]
 
-  pub run_once : (run : List Named) → IsRun catalog capacity run → StandsOnce catalog run
+  pub run_once : (run : List Named) → IsRun catalog layouts run → StandsOnce catalog run
   run_once run is = record {
     once = λ i j place other seq number tx same here there tids.
-        let sp = (run_spells catalog capacity homes run is).spelled in
-        let own = (run_agrees catalog capacity homes (right_alone catalog capacity)
-        (settled_alone catalog capacity) run is).numbered.own in
+        let sp = (run_spells catalog layouts homes run is).spelled in
+        let own = (run_agrees catalog layouts homes (λ k. right_alone catalog (layouts k) k)
+        (λ k. settled_alone catalog (layouts k) k) run is).numbered.own in
         let W = stands catalog run in
         let one = ap (λ t. slice_get t (rank (W i).records place)) (sym (records_tell run is i))
         ∙ at_rank (W i).records place seq tx here in

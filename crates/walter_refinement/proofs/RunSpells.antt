@@ -13,6 +13,7 @@ use Rattle.walter_rules.specs.declared.event.Event.TheVariants.{Restart}
 use Rattle.walter_rules.specs.declared.outcome.Outcome.{Outcome}
 use Rattle.walter_rules.specs.declared.outcome.Outcome.TheVariants.{Failed}
 use Rattle.walter_rules.specs.Allowed.{IsKind, is_refused, starts, does, reads, ends, aborts, conflicts, commits, begins, waits, tells_version, tells_cause, levels_own, is_deciding, is_running, denies, passes, receives, hears_ack, hears_durable, hears_visible, marks_durable, marks_visible, prepares, hears_yes, decides, gives_up, releases, hears_released, sees, stops, is_down, boots}
+use Rattle.walter_rules.specs.Layouts.{Layout}
 use Rattle.walter_rules.specs.Merges.{Named}
 use Rattle.walter_rules.specs.Sessions.{Session}
 use Rattle.walter_rules.specs.Standing.{Standing, unmade, settled, stands_after}
@@ -150,8 +151,8 @@ spells_none catalog = record {
   decided = λ d s has. absurd (let clash : ◌≡◌ {A = Option Session} None (Some s) = sym (none_held d.who) ∙ has in cc);
 }
 
-module _ (catalog : Catalog) (capacity : ℕ) (homes : (oid : ObjId) → (home catalog oid).0 < catalog.sites) where
-  module _ (older : List Named) (n : Named) (is : IsRun catalog capacity (n ∷ older))
+module _ (catalog : Catalog) (layouts : SiteId → Layout) (homes : (oid : ObjId) → (home catalog oid).0 < catalog.sites) where
+  module _ (older : List Named) (n : Named) (is : IsRun catalog layouts (n ∷ older))
       (sp : Spells (stands catalog older) (history catalog older)) where
     -- behind what was found of a record in flight
     found_spells : (kept : Option Record) → IfSome kept (IsFound (stands catalog older n.0) n.1.event)
@@ -171,10 +172,10 @@ module _ (catalog : Catalog) (capacity : ℕ) (homes : (oid : ObjId) → (home c
         ]
     found_spells (Some r) found_ due =
         kept_so catalog n.0 (stands catalog older) (IsPut older) (history catalog older)
-        (run_alone catalog capacity homes (right_alone catalog capacity)
-        (settled_alone catalog capacity) older is.0 n.0)
-        (run_agrees catalog capacity homes (right_alone catalog capacity)
-        (settled_alone catalog capacity) older is.0) sp r found_.down found_.in_flight (due r refl)
+        (run_alone catalog layouts homes (λ k. right_alone catalog (layouts k) k)
+        (λ k. settled_alone catalog (layouts k) k) older is.0 n.0)
+        (run_agrees catalog layouts homes (λ k. right_alone catalog (layouts k) k)
+        (λ k. settled_alone catalog (layouts k) k) older is.0) sp r found_.down found_.in_flight (due r refl)
 
     -- the steps of the entry are those behind what was found
     same_steps : (kept : Option Record) → IfSome kept (IsFound (stands catalog older n.0) n.1.event)
@@ -209,13 +210,13 @@ module _ (catalog : Catalog) (capacity : ℕ) (homes : (oid : ObjId) → (home c
     entry_spells =
         let i = n.0 in
         let Found : Stands = found catalog older n in
-        let right = right_alone catalog capacity in
-        let settles = settled_alone catalog capacity in
-        let alone = found_alone catalog capacity homes right settles older n is.0 is.1 in
-        let G = settled_agrees catalog capacity homes right settles older n is in
-        let step = next_step catalog capacity homes right settles older n is.0 is.1 in
+        let right = (λ k. right_alone catalog (layouts k) k) in
+        let settles = (λ k. settled_alone catalog (layouts k) k) in
+        let alone = found_alone catalog layouts homes right settles older n is.0 is.1 in
+        let G = settled_agrees catalog layouts homes right settles older n is in
+        let step = next_step catalog layouts homes right settles older n is.0 is.1 in
         let first = found_spells n.1.came.kept is.1.right.kept
-        (kept_due catalog capacity homes right settles older n is) in
+        (kept_due catalog layouts homes right settles older n is) in
         let Then : Stands = at_site i (stands_after catalog i (Found i) n.1.event n.1.came) Found in
         let same : (k : SiteId) → Then k ≡ stands catalog (n ∷ older) k =
         λ k. elim (views Found i (stands_after catalog i (Found i) n.1.event n.1.came) (λ z. z) k) [
@@ -223,14 +224,14 @@ module _ (catalog : Catalog) (capacity : ℕ) (homes : (oid : ObjId) → (home c
           | inr away ↦ away.1 ∙ sym (stands_away catalog older n k (λ e. away.0 (sym e)))
         ] in
         let path : Then ≡ stands catalog (n ∷ older) = (λ t k. same k t) in
-        let all = (run_agrees catalog capacity homes right settles (n ∷ older) is).numbered.own in
+        let all = (run_agrees catalog layouts homes right settles (n ∷ older) is).numbered.own in
         let numbered : AreOwned (owns Then) (counts Then) = subst (λ (W : Stands). AreOwned (owns W) (counts W))
         (sym path) all in
         let second = step_keeps catalog i Found (IsPut older)
         (history catalog older ++ recorded
         (stands catalog older) i n.1.came.kept) is.1.below alone G first n.1.event n.1.came step
-        (wrote_due catalog capacity homes right settles older n is)
-        (flight_due catalog capacity homes right settles older n is) numbered in
+        (wrote_due catalog layouts homes right settles older n is)
+        (flight_due catalog layouts homes right settles older n is) numbered in
         let steps = same_steps n.1.came.kept is.1.right.kept step in
         let joined : (history catalog older ++ recorded (stands catalog older) i n.1.came.kept) ++
         (recorded Found i n.1.came.wrote ++ answered i (Found i) n.1.came.outcome n.1.event) ≡ history catalog
@@ -244,6 +245,6 @@ module _ (catalog : Catalog) (capacity : ℕ) (homes : (oid : ObjId) → (home c
         (recorded Found i n.1.came.wrote ++ answered i (Found i) n.1.came.outcome n.1.event))) path second)
 
   -- each run spells what its sites say
-  pub run_spells : (run : List Named) → IsRun catalog capacity run → Spells (stands catalog run) (history catalog run)
+  pub run_spells : (run : List Named) → IsRun catalog layouts run → Spells (stands catalog run) (history catalog run)
   run_spells [] is = spells_none catalog
   run_spells (n ∷ older) is = entry_spells older n is (run_spells older is.0)

@@ -9,6 +9,7 @@ pub mod Marks
 pub mod Conflicts
 pub mod Sending
 pub mod Standing
+pub mod Layouts
 pub mod Calls
 pub mod Declarations
 pub mod Deliveries

@@ -1,5 +1,5 @@
 -- How a site stands by its trail, and which trails are right by themselves.
-use Rattle.std.specs.Prelude.{◌≡◌, ◌+◌, ◌-◌, ◌<◌, ◌≤◌, ℕ, Bool, true, false, List, [], ◌∷◌, reverse, slice_get, sum_by, Option, Some, None, IfSome, if◌then◌else◌}
+use Rattle.std.specs.Prelude.{◌≡◌, ◌+◌, ◌<◌, ◌≤◌, ℕ, Bool, true, false, List, [], ◌∷◌, reverse, slice_get, Option, Some, None, IfSome, if◌then◌else◌}
 use Rattle.walter_base.specs.declared.catalog.Catalog.{Catalog}
 use Rattle.walter_base.specs.declared.message.Record.{Record}
 use Rattle.walter_base.specs.declared.message.Record.TheVariants.{Boot, Own, SlowBegin}
@@ -7,7 +7,6 @@ use Rattle.walter_base.specs.declared.message.Refusal.TheVariants.{JournalFull, 
 use Rattle.walter_base.specs.declared.message.Reply.TheVariants.{Unsure, Refused}
 use Rattle.walter_base.specs.declared.names.SiteId.{SiteId}
 use Rattle.walter_base.specs.Names.{same_site}
-use Rattle.walter_base.specs.Sizes.{size_of_record}
 use Rattle.walter_rules.specs.declared.entry.Came.{Came}
 use Rattle.walter_rules.specs.declared.entry.Entry.{Entry}
 use Rattle.walter_rules.specs.declared.event.Event.{Event}
@@ -16,6 +15,7 @@ use Rattle.walter_rules.specs.declared.event.Input.TheVariants.{Call, Deliver, A
 use Rattle.walter_rules.specs.declared.outcome.Outcome.{Outcome}
 use Rattle.walter_rules.specs.declared.outcome.Outcome.TheVariants.{Replied, Taken, Failed, Full, Memory}
 use Rattle.walter_rules.specs.Calls.{Expected}
+use Rattle.walter_rules.specs.Layouts.{Layout, need_of, left_behind, FitsIn}
 use Rattle.walter_rules.specs.Rule.{rule, MayWant}
 use Rattle.walter_rules.specs.Sending.{Send}
 use Rattle.walter_rules.specs.Standing.{Standing, unmade, settled, stands_after}
@@ -30,17 +30,6 @@ standing catalog i (e ∷ older) =
 abbrev pub clock : List Entry → ℕ
 clock [] = 0
 clock (e ∷ older) = e.stamp
-
--- how many bytes a record needs in a journal: a gate and a length stand with it
-abbrev pub need_of : Record → ℕ
-need_of rec = 5 + size_of_record rec
-
--- how many bytes of a capacity are left behind these records, a header and a gate
-abbrev pub left_behind : ℕ → List Record → ℕ
-left_behind capacity records = capacity - (9 + sum_by need_of records)
-
-abbrev pub FitsIn : ℕ → Standing → Record → Type 0
-FitsIn capacity S rec = need_of rec ≤ left_behind capacity S.records
 
 -- how many packets a lane has a place for
 abbrev pub lane_places : ℕ
@@ -106,17 +95,17 @@ TakesMemory up event = ⊥
 
 -- what an event may come to: what the rule says; or its record met a fault of the disk; or the journal could not be
 -- read; or memory ran out; or the record needs more than is left
-pub data Comes (catalog : Catalog) (capacity : ℕ) (i : SiteId) (S : Standing) (event : Event)
+pub data Comes (catalog : Catalog) (layout : Layout) (i : SiteId) (S : Standing) (event : Event)
     (came : Came) : Type 0 where
-  ruled : IfSome (rule catalog i S event).wrote (FitsIn capacity S) → IsAsRuled S (rule catalog i S event) came
-      → Comes catalog capacity i S event came
-  met_fault : (rec : Record) → (rule catalog i S event).wrote ≡ Some rec → FitsIn capacity S rec
-      → IsOnly came (failure event rec) (Some rec) → Comes catalog capacity i S event came
-  unread : event ≡ Restart → S.up ≡ false → IsOnly came Failed None → Comes catalog capacity i S event came
-  no_memory : TakesMemory S.up event → IsOnly came (want event) None → Comes catalog capacity i S event came
-  full : (rec : Record) → (rule catalog i S event).wrote ≡ Some rec → left_behind capacity S.records < need_of rec
-      → IsOnly came (fullness event (need_of rec) (left_behind capacity S.records)) None
-      → Comes catalog capacity i S event came
+  ruled : IfSome (rule catalog i S event).wrote (FitsIn layout S) → IsAsRuled S (rule catalog i S event) came
+      → Comes catalog layout i S event came
+  met_fault : (rec : Record) → (rule catalog i S event).wrote ≡ Some rec → FitsIn layout S rec
+      → IsOnly came (failure event rec) (Some rec) → Comes catalog layout i S event came
+  unread : event ≡ Restart → S.up ≡ false → IsOnly came Failed None → Comes catalog layout i S event came
+  no_memory : TakesMemory S.up event → IsOnly came (want event) None → Comes catalog layout i S event came
+  full : (rec : Record) → (rule catalog i S event).wrote ≡ Some rec → left_behind layout S < need_of rec
+      → IsOnly came (fullness event (need_of rec) (left_behind layout S)) None
+      → Comes catalog layout i S event came
 
 -- a restart of a site that is down may find the record in flight
 pub record IsFound (S : Standing) (event : Event) (rec : Record) : Type 0 where
@@ -130,15 +119,15 @@ IsNextStamp (Given (Deliver from number packet)) last stamp = last < stamp
 IsNextStamp event last stamp = stamp ≡ last + 1
 
 -- an entry is right after those before it
-pub record IsRightEntry (catalog : Catalog) (capacity : ℕ) (i : SiteId) (older : List Entry) (e : Entry) : Type 0 where
+pub record IsRightEntry (catalog : Catalog) (layout : Layout) (i : SiteId) (older : List Entry) (e : Entry) : Type 0 where
   pub stamp : IsNextStamp e.event (clock older) e.stamp
   pub kept : IfSome e.came.kept (IsFound (standing catalog i older) e.event)
-  pub comes : Comes catalog capacity i (settled catalog i e.came.kept (standing catalog i older)) e.event e.came
+  pub comes : Comes catalog layout i (settled catalog i e.came.kept (standing catalog i older)) e.event e.came
 
 -- each entry is right after those before it; the newest comes first
-abbrev pub AreRight : Catalog → ℕ → SiteId → List Entry → Type 0
-AreRight catalog capacity i [] = Unit {0}
-AreRight catalog capacity i (e ∷ older) = AreRight catalog capacity i older × IsRightEntry catalog capacity i older e
+abbrev pub AreRight : Catalog → Layout → SiteId → List Entry → Type 0
+AreRight catalog layout i [] = Unit {0}
+AreRight catalog layout i (e ∷ older) = AreRight catalog layout i older × IsRightEntry catalog layout i older e
 
 -- the first entry of a trail: the site comes up, in its first epoch
 abbrev pub opening : Entry
@@ -151,8 +140,8 @@ pub record IsOpening (e : Entry) : Type 0 where
   pub wrote : e.came.wrote ≡ Some (Boot 1)
 
 -- a right trail begins with the opening, and each entry is right after those before it
-pub record IsRightTrail (catalog : Catalog) (capacity : ℕ) (i : SiteId) (trail : List Entry) : Type 0 where
+pub record IsRightTrail (catalog : Catalog) (layout : Layout) (i : SiteId) (trail : List Entry) : Type 0 where
   pub opening : Entry
   pub begins : slice_get trail 0 ≡ Some opening
   pub opens : IsOpening opening
-  pub right : AreRight catalog capacity i (reverse trail)
+  pub right : AreRight catalog layout i (reverse trail)

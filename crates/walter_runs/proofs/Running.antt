@@ -15,6 +15,7 @@ use Rattle.walter_rules.specs.declared.entry.Entry.{Entry}
 use Rattle.walter_rules.specs.declared.event.Event.{Event}
 use Rattle.walter_rules.specs.declared.event.Event.TheVariants.{Given, Stop, Restart}
 use Rattle.walter_rules.specs.declared.event.Input.TheVariants.{Call, Deliver, Advance, Tick}
+use Rattle.walter_rules.specs.Layouts.{Layout}
 use Rattle.walter_rules.specs.Merges.{Named, entries_of, named_from, merge, Stamped, sent_to, put_out_to, trail_of}
 use Rattle.walter_rules.specs.Sending.{Send}
 use Rattle.walter_rules.specs.Trails.{clock, IsNextStamp, IsRightEntry, AreRight}
@@ -31,28 +32,28 @@ next_above Stop last stamp is = omega (arith, is)
 next_above Restart last stamp is = omega (arith, is)
 
 -- the stamps of right entries rise, the oldest first, where those behind them do
-rises_behind : (catalog : Catalog) (capacity : ℕ) (i : SiteId) (newest_first later : List Entry)
-    → AreRight catalog capacity i newest_first → Rises (clock newest_first) later
+rises_behind : (catalog : Catalog) (layout : Layout) (i : SiteId) (newest_first later : List Entry)
+    → AreRight catalog layout i newest_first → Rises (clock newest_first) later
     → Rises 0 (reverse newest_first ++ later)
-rises_behind catalog capacity i [] later right rises = rises
-rises_behind catalog capacity i (e ∷ older) later right rises =
+rises_behind catalog layout i [] later right rises = rises
+rises_behind catalog layout i (e ∷ older) later right rises =
     let above = next_above e.event (clock older) e.stamp right.1.stamp in
-    let all = rises_behind catalog capacity i older (e ∷ later) right.0 (above, rises) in
+    let all = rises_behind catalog layout i older (e ∷ later) right.0 (above, rises) in
     subst (λ es. Rises 0 es) (sym (ap (λ es. es ++ later) (reverse-append (e ∷ []) older)
     ∙ append_assoc (reverse older) (e ∷ []) later)) all
 
 -- the stamps of a right trail rise
-pub right_rises : (catalog : Catalog) (capacity : ℕ) (i : SiteId) (trail : List Entry)
-    → AreRight catalog capacity i (reverse trail) → Rises 0 trail
-right_rises catalog capacity i trail right =
+pub right_rises : (catalog : Catalog) (layout : Layout) (i : SiteId) (trail : List Entry)
+    → AreRight catalog layout i (reverse trail) → Rises 0 trail
+right_rises catalog layout i trail right =
     subst (λ es. Rises 0 es) (append-nil (reverse (reverse trail)) ∙ reverse-reverse trail)
-    (rises_behind catalog capacity i (reverse trail) [] right tt)
+    (rises_behind catalog layout i (reverse trail) [] right tt)
 
 -- those before an entry are right, and it is right after them
-right_from : (catalog : Catalog) (capacity : ℕ) (i : SiteId) (newer older : List Entry) (e : Entry)
-    → AreRight catalog capacity i (newer ++ e ∷ older) → IsRightEntry catalog capacity i older e
-right_from catalog capacity i [] older e right = right.1
-right_from catalog capacity i (n ∷ newer) older e right = right_from catalog capacity i newer older e right.0
+right_from : (catalog : Catalog) (layout : Layout) (i : SiteId) (newer older : List Entry) (e : Entry)
+    → AreRight catalog layout i (newer ++ e ∷ older) → IsRightEntry catalog layout i older e
+right_from catalog layout i [] older e right = right.1
+right_from catalog layout i (n ∷ newer) older e right = right_from catalog layout i newer older e right.0
 
 no_split : (front rest : List Entry) (e : Entry) → [] ≡ front ++ e ∷ rest → ⊥
 no_split [] rest e is = cc
@@ -145,12 +146,12 @@ in_reverse (y ∷ xs) x c = subst (λ zs. Contains zs x) (sym (reverse-append (y
       | inr later ↦ Contains-append_left (reverse xs) (y ∷ []) x (in_reverse xs x later)
     ])
 
-module _ (catalog : Catalog) (capacity : ℕ) (trails : List (List Entry))
-    (are : AreRightTrails catalog capacity trails) where
+module _ (catalog : Catalog) (layouts : SiteId → Layout) (trails : List (List Entry))
+    (are : AreRightTrails catalog layouts trails) where
   -- those of a site that is none of them have no entry, so the merge has of each its trail
   rises_at : (i : SiteId) → Rises 0 (trail_of trails i)
   rises_at i = elim (leb_tells (suc i.0) (length trails)) [
-    | inl below ↦ right_rises catalog capacity i (trail_of trails i)
+    | inl below ↦ right_rises catalog (layouts i) i (trail_of trails i)
         (are.right i (let l = below.1 in let n = are.one_each in omega (arith, l, n))).right
     | inr above ↦ subst (λ es. Rises 0 es) (sym (none_past trails i.0 (let l = above.1 in omega (arith, l)))) tt
   ]
@@ -162,7 +163,7 @@ module _ (catalog : Catalog) (capacity : ℕ) (trails : List (List Entry))
 
   -- an entry of the merge may follow those before it
   next : (older rest : List Named) (n : Named) → reverse older ++ n ∷ rest ≡ merge trails
-      → IsNext catalog capacity older n
+      → IsNext catalog layouts older n
   next older rest n is =
       let mine : trail_of trails n.0 ≡ reverse (entries_of n.0 older) ++ n.1 ∷ entries_of n.0 rest =
       sym (merged_of n.0 trails (rises_at n.0)) ∙ ap (λ ns. entries_of n.0 ns) (sym is)
@@ -171,7 +172,7 @@ module _ (catalog : Catalog) (capacity : ℕ) (trails : List (List Entry))
       (if same_site_refl n.0 t then n.1 ∷ entries_of n.0 rest else entries_of n.0 rest)) in
       let below : n.0.0 < catalog.sites = let l = one_of_trails trails n.0.0 (reverse (entries_of n.0 older))
       (entries_of n.0 rest) n.1 mine in subst (λ k. n.0.0 < k) are.one_each l in
-      let right = subst (λ es. AreRight catalog capacity n.0 (reverse es)) mine (are.right n.0 below).right in
+      let right = subst (λ es. AreRight catalog (layouts n.0) n.0 (reverse es)) mine (are.right n.0 below).right in
       let behind : reverse (reverse (entries_of n.0 older) ++ n.1 ∷ entries_of n.0 rest) ≡ reverse
       (entries_of n.0 rest) ++ n.1 ∷ entries_of n.0 older =
       reverse-append (reverse (entries_of n.0 older)) (n.1 ∷ entries_of n.0 rest)
@@ -179,8 +180,8 @@ module _ (catalog : Catalog) (capacity : ℕ) (trails : List (List Entry))
       ∙ append_assoc (reverse (entries_of n.0 rest)) (n.1 ∷ []) (entries_of n.0 older) in
       record {
         below = below;
-        right = right_from catalog capacity n.0 (reverse (entries_of n.0 rest)) (entries_of n.0 older) n.1
-            (subst (λ es. AreRight catalog capacity n.0 es) behind right);
+        right = right_from catalog (layouts n.0) n.0 (reverse (entries_of n.0 rest)) (entries_of n.0 older) n.1
+            (subst (λ es. AreRight catalog (layouts n.0) n.0 es) behind right);
         put = λ j number packet event.
             let place = length (reverse (entries_of n.0 older)) in
             let at : slice_get (trail_of trails n.0) place ≡ Some n.1 = ap (λ es. slice_get es place) mine
@@ -204,13 +205,13 @@ module _ (catalog : Catalog) (capacity : ℕ) (trails : List (List Entry))
             };
       }
 
-  run_from : (older rest : List Named) → reverse older ++ rest ≡ merge trails → IsRun catalog capacity older
-      → IsRun catalog capacity (reverse (merge trails))
-  run_from older [] is run = subst (λ ns. IsRun catalog capacity ns) (sym (reverse-reverse older)
+  run_from : (older rest : List Named) → reverse older ++ rest ≡ merge trails → IsRun catalog layouts older
+      → IsRun catalog layouts (reverse (merge trails))
+  run_from older [] is run = subst (λ ns. IsRun catalog layouts ns) (sym (reverse-reverse older)
       ∙ ap (λ ns. reverse ns) (sym (append-nil (reverse older)) ∙ is)) run
   run_from older (n ∷ rest) is run =
       run_from (n ∷ older) rest (ap (λ ns. ns ++ rest) (reverse-append (n ∷ []) older)
       ∙ append_assoc (reverse older) (n ∷ []) rest ∙ is) (run, next older rest n is)
 
-  pub merged_run : IsRun catalog capacity (reverse (merge trails))
+  pub merged_run : IsRun catalog layouts (reverse (merge trails))
   merged_run = run_from [] (merge trails) refl tt

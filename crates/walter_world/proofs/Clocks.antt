@@ -13,6 +13,7 @@ use Rattle.walter_rules.specs.declared.entry.Entry.{Entry}
 use Rattle.walter_rules.specs.declared.event.Event.{Event}
 use Rattle.walter_rules.specs.declared.outcome.Outcome.{Outcome}
 use Rattle.walter_rules.specs.declared.outcome.Outcome.TheVariants.{Full}
+use Rattle.walter_rules.specs.Layouts.{Layout}
 use Rattle.walter_rules.specs.Merges.{Stamped, sent_to, put_out_to}
 use Rattle.walter_rules.specs.Sending.{Send}
 use Rattle.walter_rules.specs.Standing.{Standing, records_after, settled, flight_after}
@@ -22,9 +23,9 @@ use Rattle.walter_rules.proofs.Staying.{later_next}
 
 -- ---- stamps
 
-module _ (catalog : Catalog) (capacity : ℕ) (i : SiteId) where
+module _ (catalog : Catalog) (layout : Layout) (i : SiteId) where
   -- a trail has no more entries than stamps
-  pub length_clock : (older : List Entry) → AreRight catalog capacity i older → length older ≤ clock older
+  pub length_clock : (older : List Entry) → AreRight catalog layout i older → length older ≤ clock older
   length_clock [] right = omega arith
   length_clock (e ∷ older) right =
       let rest = length_clock older right.0 in
@@ -32,16 +33,16 @@ module _ (catalog : Catalog) (capacity : ℕ) (i : SiteId) where
       omega (arith, rest, next)
 
   -- each entry's is at most the last one's
-  pub none_later : (trail : List Entry) → AreRight catalog capacity i (reverse trail) → (e : Entry) → Contains trail e
+  pub none_later : (trail : List Entry) → AreRight catalog layout i (reverse trail) → (e : Entry) → Contains trail e
       → e.stamp ≤ clock (reverse trail)
   none_later = push_induction
-      (λ (trail : List Entry). AreRight catalog capacity i (reverse trail) → (e : Entry) → Contains trail e
+      (λ (trail : List Entry). AreRight catalog layout i (reverse trail) → (e : Entry) → Contains trail e
       → e.stamp ≤ clock (reverse trail))
       (λ right e within. absurd (Contains-nil e within))
       (λ trail last before right e within.
       let turned : reverse (trail ++ last ∷ []) ≡ last ∷ reverse trail = reverse-append trail (last ∷ []) in
-      let are : AreRight catalog capacity i (last ∷ reverse trail) =
-      subst (λ es. AreRight catalog capacity i es) turned right in
+      let are : AreRight catalog layout i (last ∷ reverse trail) =
+      subst (λ es. AreRight catalog layout i es) turned right in
       let next = later_next last.event (clock (reverse trail)) last.stamp are.1.stamp in
       let now : clock (reverse (trail ++ last ∷ [])) ≡ last.stamp = ap clock turned in
       elim (Contains-push_cases trail last e within) [
@@ -55,15 +56,15 @@ stamp_in true stamp s st is = let e : (stamp, s.1) ≡ st = cc in ap (λ (x : St
 stamp_in false stamp s st is = absurd cc
 
 -- and so is that of each packet that is put out
-pub put_later : (catalog : Catalog) (capacity : ℕ) (i to : SiteId) (trail : List Entry) (place : ℕ) (st : Stamped)
-    → AreRight catalog capacity i (reverse trail) → slice_get (put_out_to to trail) place ≡ Some st
+pub put_later : (catalog : Catalog) (layout : Layout) (i to : SiteId) (trail : List Entry) (place : ℕ) (st : Stamped)
+    → AreRight catalog layout i (reverse trail) → slice_get (put_out_to to trail) place ≡ Some st
     → st.0 ≤ clock (reverse trail)
-put_later catalog capacity i to trail place st right at =
+put_later catalog layout i to trail place st right at =
     let from = Contains-flat_map_from (sent_to to) trail st (contains_at (put_out_to to trail) st place at) in
     let e : Entry = from.0 in
     let given = given_from (λ (s : Send). if same_site s.0 to then Some (e.stamp, s.1) else None) e.came.sends st from.2 in
     let is = stamp_in (same_site given.0.0 to) e.stamp given.0 st given.2 in
-    let low = none_later catalog capacity i trail right e from.1 in
+    let low = none_later catalog layout i trail right e from.1 in
     omega (arith, is, low)
 
 -- ---- records
@@ -88,13 +89,13 @@ settled_weight catalog i S event (Some rec) found =
 abbrev IsOne : Came → Type 0
 IsOne came = (came.flight ≡ None) ⊎ (came.wrote ≡ None)
 
-is_one : (catalog : Catalog) (capacity : ℕ) (i : SiteId) (S : Standing) (event : Event) (came : Came)
-    → Comes catalog capacity i S event came → IsOne came
-is_one catalog capacity i S event came (ruled fits is) = inl is.flight
-is_one catalog capacity i S event came (met_fault rec brings fits is) = inr is.wrote
-is_one catalog capacity i S event came (unread restart down is) = inr is.wrote
-is_one catalog capacity i S event came (no_memory takes is) = inr is.wrote
-is_one catalog capacity i S event came (full rec brings less is) = inr is.wrote
+is_one : (catalog : Catalog) (layout : Layout) (i : SiteId) (S : Standing) (event : Event) (came : Came)
+    → Comes catalog layout i S event came → IsOne came
+is_one catalog layout i S event came (ruled fits is) = inl is.flight
+is_one catalog layout i S event came (met_fault rec brings fits is) = inr is.wrote
+is_one catalog layout i S event came (unread restart down is) = inr is.wrote
+is_one catalog layout i S event came (no_memory takes is) = inr is.wrote
+is_one catalog layout i S event came (full rec brings less is) = inr is.wrote
 
 wrote_weight : (records : List Record) (old wrote : Option Record) (outcome : Outcome)
     → length (records_after wrote records) + flying (flight_after None wrote outcome old) ≤ length records + flying old + 1
@@ -121,13 +122,13 @@ came_weight records old came (inr none) =
     + flying (flight_after came.flight w came.outcome old) ≤ length records + flying old + 1) (sym none)
     (flew_weight records old came.flight came.outcome)
 
-module _ (catalog : Catalog) (capacity : ℕ) (i : SiteId) where
-  pub weight_few : (older : List Entry) → AreRight catalog capacity i older → weight (standing catalog i older) ≤ length older
+module _ (catalog : Catalog) (layout : Layout) (i : SiteId) where
+  pub weight_few : (older : List Entry) → AreRight catalog layout i older → weight (standing catalog i older) ≤ length older
   weight_few [] right = omega arith
   weight_few (e ∷ older) right =
       let S : Standing = standing catalog i older in
       let T : Standing = settled catalog i e.came.kept S in
       let rest = weight_few older right.0 in
       let kept = settled_weight catalog i S e.event e.came.kept right.1.kept in
-      let more = came_weight T.records T.flight e.came (is_one catalog capacity i T e.event e.came right.1.comes) in
+      let more = came_weight T.records T.flight e.came (is_one catalog layout i T e.event e.came right.1.comes) in
       omega (arith, rest, kept, more)

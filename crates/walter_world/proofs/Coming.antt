@@ -215,7 +215,7 @@ tells_young seat keeps told can down tells =
     let rests : S.up ≡ false = up_is S seat.machine.site are.state ∙ down in (
       T.knows,
       subst (λ (K : Knowledge). Stands told.tables K) (sym (found_knows c i S rests are.told found)) tells.stands,
-      young c can.capacity i (reverse seat.entries.items) can.right can.young rests are.told found (found_there keeps S),
+      young c can.layout i (reverse seat.entries.items) can.right can.young rests are.told found (found_there keeps S),
     )
 
 pub raised : (seat : Seat) (m n new : Machine) (keeps : Bool) (fate : Fate) (told : Recovery) (ready : Ready)

@@ -18,10 +18,11 @@ use Rattle.walter_rules.specs.declared.event.Event.TheVariants.{Given, Restart}
 use Rattle.walter_rules.specs.declared.event.Input.TheVariants.{Deliver}
 use Rattle.walter_rules.specs.Calls.{Expected}
 use Rattle.walter_rules.specs.Knowledge.{site_at}
+use Rattle.walter_rules.specs.Layouts.{need_of, FitsIn, one_area}
 use Rattle.walter_rules.specs.Merges.{Stamped, sent_to, put_out_to, trail_of, IsLinked, AreLinked}
 use Rattle.walter_rules.specs.Rule.{rule}
 use Rattle.walter_rules.specs.Standing.{Standing, settled}
-use Rattle.walter_rules.specs.Trails.{standing, clock, need_of, FitsIn, Comes, ruled, met_fault, IsFound, IsNextStamp, IsRightEntry, AreRight, IsRightTrail}
+use Rattle.walter_rules.specs.Trails.{standing, clock, Comes, ruled, met_fault, IsFound, IsNextStamp, IsRightEntry, AreRight, IsRightTrail}
 use Rattle.walter_rules.proofs.Staying.{put_all}
 use Rattle.walter_runs.specs.Runs.{AreRightTrails}
 use Rattle.walter_world.specs.declared.events.Fate.{Fate}
@@ -45,7 +46,7 @@ abbrev place_for : Standing → Option Record → ℕ
 place_for S wrote = 9 + sum_by need_of S.records + need_any wrote
 
 fits_any : (capacity : ℕ) (S : Standing) (wrote : Option Record) → place_for S wrote ≤ capacity
-    → IfSome wrote (FitsIn capacity S)
+    → IfSome wrote (FitsIn (one_area capacity) S)
 fits_any capacity S None enough = tt
 fits_any capacity S (Some rec) enough = omega (arith, enough)
 
@@ -54,18 +55,18 @@ module _ (catalog : Catalog) (capacity : ℕ) (i : SiteId) (T : Standing) (event
   abbrev x : Expected
   x = rule catalog i T event
 
-  comes_fine : Comes catalog capacity i T event (came_by Fine event kept x)
+  comes_fine : Comes catalog (one_area capacity) i T event (came_by Fine event kept x)
   comes_fine = ruled (fits_any capacity T x.wrote enough)
       (record { outcome = refl; wrote = refl; flight = refl; sends = put_all T.carried x.sends })
 
   comes_broken : (wrote : Option Record) → x.wrote ≡ wrote
-      → Comes catalog capacity i T event (came_broken event kept x wrote)
+      → Comes catalog (one_area capacity) i T event (came_broken event kept x wrote)
   comes_broken None is = comes_fine
   comes_broken (Some rec) is =
-      met_fault rec is (subst (λ (w : Option Record). IfSome w (FitsIn capacity T)) is (fits_any capacity T x.wrote enough))
+      met_fault rec is (subst (λ (w : Option Record). IfSome w (FitsIn (one_area capacity) T)) is (fits_any capacity T x.wrote enough))
       (record { outcome_is = refl; wrote = refl; flight_is = refl; sends = refl; dropped = refl })
 
-  comes_by : (fate : Fate) → Comes catalog capacity i T event (came_by fate event kept x)
+  comes_by : (fate : Fate) → Comes catalog (one_area capacity) i T event (came_by fate event kept x)
   comes_by Fine = comes_fine
   comes_by Broken = comes_broken x.wrote refl
 
@@ -124,24 +125,24 @@ module _ (catalog : Catalog) (trails : List (List Entry)) (i : SiteId) (trail : 
   abbrev pub enough_for : ℕ
   enough_for = place_for T (rule catalog i T event).wrote
 
-  pub right_entry : (capacity : ℕ) → enough_for ≤ capacity → IsRightEntry catalog capacity i (reverse trail) e
+  pub right_entry : (capacity : ℕ) → enough_for ≤ capacity → IsRightEntry catalog (one_area capacity) i (reverse trail) e
   right_entry capacity enough =
       let same : e.came.kept ≡ kept = came_kept fate event kept (rule catalog i T event) in
       record {
         stamp = next_stamp trails i what event put (clock (reverse trail)) brings;
         kept = subst (λ (k : Option Record). IfSome k (IsFound S event)) (sym same)
             (found_by_event trails i what event put S brings);
-        comes = subst (λ (k : Option Record). Comes catalog capacity i (settled catalog i k S) event e.came) (sym same)
+        comes = subst (λ (k : Option Record). Comes catalog (one_area capacity) i (settled catalog i k S) event e.came) (sym same)
             (comes_by catalog capacity i T event kept enough fate);
       }
 
-  pub right_trail : (capacity : ℕ) → enough_for ≤ capacity → IsRightTrail catalog capacity i trail
-      → IsRightTrail catalog capacity i (trail ++ e ∷ [])
+  pub right_trail : (capacity : ℕ) → enough_for ≤ capacity → IsRightTrail catalog (one_area capacity) i trail
+      → IsRightTrail catalog (one_area capacity) i (trail ++ e ∷ [])
   right_trail capacity enough right = record {
     opening = right.opening;
     begins = slice_get-append_left trail (e ∷ []) right.opening 0 right.begins;
     opens = right.opens;
-    right = subst (λ (es : List Entry). AreRight catalog capacity i es) (sym (reverse-append trail (e ∷ [])))
+    right = subst (λ (es : List Entry). AreRight catalog (one_area capacity) i es) (sym (reverse-append trail (e ∷ [])))
         (right.right, right_entry capacity enough);
   }
 
@@ -267,12 +268,12 @@ module _ (catalog : Catalog) (old new : List (List Entry)) (w : WorldEvent) (hap
           right = λ i within. elim (cases_eq i.0 s.0) [
             | inl here ↦
                 let site : i ≡ s = same_site_by i s here in
-                subst (λ (k : SiteId). IsRightTrail catalog capacity k (trail_of new k)) (sym site)
-                (subst (λ (t : List Entry). IsRightTrail catalog capacity s t) (sym happened.here)
+                subst (λ (k : SiteId). IsRightTrail catalog (one_area capacity) k (trail_of new k)) (sym site)
+                (subst (λ (t : List Entry). IsRightTrail catalog (one_area capacity) s t) (sym happened.here)
                 (right_trail catalog old s (trail_of old s) w.what happened.event happened.put w.fate happened.brings capacity
                 (omega (arith, enough)) (are.right s below)))
             | inr there ↦
-                subst (λ (t : List Entry). IsRightTrail catalog capacity i t)
+                subst (λ (t : List Entry). IsRightTrail catalog (one_area capacity) i t)
                 (sym (happened.others i (λ same. there (ap (λ (k : SiteId). k.0) same)))) (are.right i within)
           ];
           linked = linked_more are.linked;
@@ -285,14 +286,14 @@ pub promises : (catalog : Catalog) (trails : List (List Entry)) → IsWhole cata
     → KeepPromises catalog trails
 promises catalog trails whole right =
     let capacity = right.enough in
-    let are : AreRightTrails catalog capacity trails = right.right capacity (omega arith) in
+    let are : AreRightTrails catalog (λ k. one_area capacity) trails = right.right capacity (omega arith) in
     record {
       right_trails = right;
-      legal_history = trails_legal catalog capacity whole trails are;
-      commits_once = trails_once catalog capacity whole trails are;
-      got_right = trails_got catalog capacity whole trails are;
-      aborts_named = trails_named catalog capacity whole trails are;
-      marks_true = trails_marks catalog capacity whole trails are;
+      legal_history = trails_legal catalog (λ k. one_area capacity) whole trails are;
+      commits_once = trails_once catalog (λ k. one_area capacity) whole trails are;
+      got_right = trails_got catalog (λ k. one_area capacity) whole trails are;
+      aborts_named = trails_named catalog (λ k. one_area capacity) whole trails are;
+      marks_true = trails_marks catalog (λ k. one_area capacity) whole trails are;
     }
 
 -- ---- from the openings on
@@ -302,7 +303,7 @@ module _ (catalog : Catalog) where
   first i = entry_of catalog i [] Restart 0 false Fine
 
   opening_right : (capacity : ℕ) (i : SiteId) → 9 + need_of (Boot 1) ≤ capacity
-      → IsRightTrail catalog capacity i (first i ∷ [])
+      → IsRightTrail catalog (one_area capacity) i (first i ∷ [])
   opening_right capacity i enough = record {
     opening = first i;
     begins = refl;
@@ -323,7 +324,7 @@ module _ (catalog : Catalog) where
     enough = 9 + need_of (Boot 1);
     right = λ capacity enough. record {
       one_each = are.one_each;
-      right = λ i below. subst (λ (t : List Entry). IsRightTrail catalog capacity i t) (sym (are.opens i below))
+      right = λ i below. subst (λ (t : List Entry). IsRightTrail catalog (one_area capacity) i t) (sym (are.opens i below))
           (opening_right capacity i enough);
       linked = λ i place e j number packet at is. elim (cases_lt i.0 catalog.sites) [
         | inl below ↦ absurd (none_delivered i place e j number packet

@@ -15,6 +15,7 @@ use Rattle.walter_psi.proofs.Lists.{slice_get-push_cases}
 use Rattle.walter_rules.specs.declared.entry.Entry.{Entry}
 use Rattle.walter_rules.specs.declared.event.Event.TheVariants.{Restart}
 use Rattle.walter_rules.specs.Knowledge.{site_at}
+use Rattle.walter_rules.specs.Layouts.{one_area}
 use Rattle.walter_rules.specs.Standing.{Standing, unmade}
 use Rattle.walter_rules.specs.Trails.{standing, clock, AreRight}
 use Rattle.walter_world.specs.declared.seat.Seat.{Seat}
@@ -38,8 +39,8 @@ none_yet catalog i seat stands trail = record {
     spelled = subst (λ (es : List Entry). All (λ (e : Entry). AreSpelled (catalog_in seat.machine).sites e.came) es)
         (sym trail) (All-nil (λ (e : Entry). AreSpelled (catalog_in seat.machine).sites e.came));
   };
-  capacity = 0;
-  right = subst (λ (es : List Entry). AreRight (catalog_in seat.machine) 0 (site_in seat.machine) (reverse es)) (sym trail) tt;
+  layout = one_area 0;
+  right = subst (λ (es : List Entry). AreRight (catalog_in seat.machine) (one_area 0) (site_in seat.machine) (reverse es)) (sym trail) tt;
   young = subst (λ (es : List Entry). clock (reverse es) < 4294967295) (sym trail) (omega arith);
   sized = tt;
   finds = tt;

@@ -14,6 +14,7 @@ use Rattle.walter_psi.proofs.Lists.{flat_map-push, push_induction}
 use Rattle.walter_rules.specs.declared.entry.Entry.{Entry}
 use Rattle.walter_rules.specs.declared.event.Event.TheVariants.{Restart}
 use Rattle.walter_rules.specs.Knowledge.{Knowledge, fresh}
+use Rattle.walter_rules.specs.Layouts.{Layout}
 use Rattle.walter_rules.specs.Learning.{recorded}
 use Rattle.walter_rules.specs.Records.{CanFollow, IsRecordAmong, replayed}
 use Rattle.walter_rules.specs.Standing.{Standing, records_after, settled, stands_after}
@@ -149,18 +150,18 @@ module _ (catalog : Catalog) (i : SiteId) (S : Standing) (down : S.up ≡ false)
   found_can (Some rec) is = flight_can rec is.in_flight
 
 -- a site with so few stamps has an epoch left
-pub young : (catalog : Catalog) (capacity : ℕ) (i : SiteId) (older : List Entry)
-    → AreRight catalog capacity i older → clock older < 4294967295 → (standing catalog i older).up ≡ false
+pub young : (catalog : Catalog) (layout : Layout) (i : SiteId) (older : List Entry)
+    → AreRight catalog layout i older → clock older < 4294967295 → (standing catalog i older).up ≡ false
     → AreTold catalog i (standing catalog i older) → (found : Option Record)
     → IfSome found (IsFound (standing catalog i older) Restart)
     → (settled catalog i found (standing catalog i older)).knows.epoch < 4294967295
-young catalog capacity i older right early down are found is =
+young catalog layout i older right early down are found is =
     let S : Standing = standing catalog i older in
     let T : Standing = settled catalog i found S in
     let most = epoch_few catalog i fresh T.records (found_can catalog i S down are found is).follow in
     let same : T.knows.epoch ≡ (replayed catalog i fresh T.records).epoch =
     ap (λ (K : Knowledge). K.epoch) (found_knows catalog i S down are found) in
-    let few = weight_few catalog capacity i older right in
+    let few = weight_few catalog layout i older right in
     let settled_few = settled_weight catalog i S Restart found is in
-    let long = length_clock catalog capacity i older right in
+    let long = length_clock catalog layout i older right in
     omega (arith, most, same, few, settled_few, long, early)

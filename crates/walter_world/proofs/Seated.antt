@@ -80,8 +80,8 @@ pub can_still : (catalog : Catalog) (i : SiteId) (m : Machine) (old new : Vec En
 can_still catalog i m old new event keeps same can = record {
   seat_is = seat_still catalog i (record { machine = m; entries = old }) (record { machine = m; entries = new }) can.seat_is
       (record { catalog = refl; id = refl }) (λ S stands. stands) same;
-  capacity = can.capacity;
-  right = subst (λ (t : List Entry). AreRight catalog can.capacity i (reverse t)) (sym same) can.right;
+  layout = can.layout;
+  right = subst (λ (t : List Entry). AreRight catalog can.layout i (reverse t)) (sym same) can.right;
   young = subst (λ (t : List Entry). clock (reverse t) < 4294967295) (sym same) can.young;
   sized = can.sized;
   finds = can.finds;

@@ -8,6 +8,7 @@ use Rattle.walter_base.specs.declared.memory.NoMemory.{NoMemory}
 use Rattle.walter_base.specs.declared.names.SiteId.{SiteId}
 use Rattle.walter_machine.specs.Machines.{catalog_in, site_in}
 use Rattle.walter_rules.specs.declared.entry.Entry.{Entry}
+use Rattle.walter_rules.specs.Layouts.{one_area}
 use Rattle.walter_rules.specs.Merges.{trail_of}
 use Rattle.walter_rules.specs.Trails.{clock, AreRight}
 use Rattle.walter_world.specs.declared.events.WorldEvent.{WorldEvent}
@@ -93,8 +94,8 @@ module _ (catalog : Catalog) (seats : List Seat) (w : WorldEvent) (h : Happening
   can_here : CanTake catalog w.site a h.event h.keeps
   can_here = record {
     seat_is = seat_here;
-    capacity = enough;
-    right = subst (λ (t : List Entry). AreRight catalog enough w.site (reverse t)) (trail_here seats w.site.0 a S.at)
+    layout = one_area enough;
+    right = subst (λ (t : List Entry). AreRight catalog (one_area enough) w.site (reverse t)) (trail_here seats w.site.0 a S.at)
         ((S.world.right.right enough (omega arith)).right w.site S.can.here).right;
     young = young_here;
     sized = event_sized catalog trails w.site all_sized w.what h.event h.put S.can.within S.comes.0;
@@ -112,7 +113,7 @@ module _ (catalog : Catalog) (seats : List Seat) (w : WorldEvent) (h : Happening
       (subst (λ (k : SiteId). CanTake catalog k a h.event h.keeps) (sym seat_here.site) can_here)
 
   pub put_below : (bound : ℕ) → AreEarly bound trails → h.put < bound
-  put_below bound before = put_early catalog trails w.site enough bound (S.world.right.right enough (omega arith)) before
+  put_below bound before = put_early catalog trails w.site (λ k. one_area enough) bound (S.world.right.right enough (omega arith)) before
       w.what h.event h.put S.can.within S.comes.0
 
   -- what it leaves
@@ -157,5 +158,5 @@ module _ (catalog : Catalog) (seats : List Seat) (w : WorldEvent) (h : Happening
     later_on (inr more) bound before =
         let did = happened more in
         later_by_one catalog trails (trails_of new) w bound did
-        (put_early catalog trails w.site enough bound (S.world.right.right enough (omega arith)) before w.what did.event did.put
+        (put_early catalog trails w.site (λ k. one_area enough) bound (S.world.right.right enough (omega arith)) before w.what did.event did.put
         S.can.within did.brings) before

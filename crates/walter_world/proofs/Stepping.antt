@@ -13,6 +13,7 @@ use Rattle.walter_psi.proofs.Lists.{contains_at, Contains-flat_map_from}
 use Rattle.walter_rules.specs.declared.entry.Entry.{Entry}
 use Rattle.walter_rules.specs.declared.event.Event.{Event}
 use Rattle.walter_rules.specs.Knowledge.{site_at}
+use Rattle.walter_rules.specs.Layouts.{Layout}
 use Rattle.walter_rules.specs.Merges.{Stamped, sent_to, put_out_to, trail_of}
 use Rattle.walter_rules.specs.Sending.{Send}
 use Rattle.walter_rules.specs.Trails.{clock}
@@ -54,20 +55,20 @@ put_sized sites to trail place put all at =
     subst (IsSizedPacket sites) (sym is) (record { sizes = spelled.sizes; among = spelled.among })
 
 module _ (catalog : Catalog) (trails : List (List Entry)) (i : SiteId) where
-  pub put_early : (capacity bound : ℕ) → AreRightTrails catalog capacity trails → AreEarly bound trails
+  pub put_early : (layouts : SiteId → Layout) (bound : ℕ) → AreRightTrails catalog layouts trails → AreEarly bound trails
       → (what : What) (event : Event) (put : ℕ) → IsWithin catalog.sites what → Brings trails i what event put → put < bound
-  put_early capacity bound right early what event put within (a_packet from number stamp packet is) =
+  put_early layouts bound right early what event put within (a_packet from number stamp packet is) =
       let found = numbered number (put_out_to i (trail_of trails from)) (stamp, packet) is in
-      let low = put_later catalog capacity from i (trail_of trails from) found.0 (stamp, packet) (right.right from within).right
+      let low = put_later catalog (layouts from) from i (trail_of trails from) found.0 (stamp, packet) (right.right from within).right
       found.1 in
       let now = early from in
       omega (arith, low, now)
-  put_early capacity bound right early what event put within (a_call client body call calls) =
+  put_early layouts bound right early what event put within (a_call client body call calls) =
       let now = early i in omega (arith, now)
-  put_early capacity bound right early what event put within (an_advance from) = let now = early i in omega (arith, now)
-  put_early capacity bound right early what event put within a_tick = let now = early i in omega (arith, now)
-  put_early capacity bound right early what event put within a_stop = let now = early i in omega (arith, now)
-  put_early capacity bound right early what event put within (a_restart kept) = let now = early i in omega (arith, now)
+  put_early layouts bound right early what event put within (an_advance from) = let now = early i in omega (arith, now)
+  put_early layouts bound right early what event put within a_tick = let now = early i in omega (arith, now)
+  put_early layouts bound right early what event put within a_stop = let now = early i in omega (arith, now)
+  put_early layouts bound right early what event put within (a_restart kept) = let now = early i in omega (arith, now)
 
   pub event_sized : ((j : SiteId) → j.0 < catalog.sites → All (λ (e : Entry). AreSpelled catalog.sites e.came) (trail_of trails j))
       → (what : What) (event : Event) (put : ℕ) → IsWithin catalog.sites what → Brings trails i what event put

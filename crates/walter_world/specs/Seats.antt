@@ -10,6 +10,7 @@ use Rattle.walter_packet.specs.Spelling.{HasPacketSpelling}
 use Rattle.walter_rules.specs.declared.entry.Came.{Came}
 use Rattle.walter_rules.specs.declared.event.Event.{Event}
 use Rattle.walter_rules.specs.declared.event.Event.TheVariants.{Restart}
+use Rattle.walter_rules.specs.Layouts.{Layout}
 use Rattle.walter_rules.specs.Standing.{Standing, settled, stands_after}
 use Rattle.walter_rules.specs.Trails.{standing, clock, AreRight}
 use Rattle.walter_world.specs.declared.events.Fate.{Fate}
@@ -40,8 +41,8 @@ MayFind event keeps = keeps ≡ false
 -- epochs.
 pub record CanTake (catalog : Catalog) (i : SiteId) (seat : Seat) (event : Event) (keeps : Bool) : Type 0 where
   pub seat_is : IsSeat catalog i seat
-  pub capacity : ℕ
-  pub right : AreRight catalog capacity i (reverse seat.entries.items)
+  pub layout : Layout
+  pub right : AreRight catalog layout i (reverse seat.entries.items)
   pub young : clock (reverse seat.entries.items) < 4294967295
   pub sized : IsSizedEvent catalog.sites event
   pub finds : MayFind event keeps

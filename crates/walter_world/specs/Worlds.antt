@@ -13,6 +13,7 @@ use Rattle.walter_rules.specs.declared.entry.Entry.{Entry}
 use Rattle.walter_rules.specs.declared.event.Event.{Event}
 use Rattle.walter_rules.specs.declared.event.Event.TheVariants.{Restart}
 use Rattle.walter_rules.specs.Knowledge.{site_at}
+use Rattle.walter_rules.specs.Layouts.{one_area}
 use Rattle.walter_rules.specs.Merges.{Named, merge, trail_of}
 use Rattle.walter_rules.specs.Trails.{clock}
 use Rattle.walter_runs.specs.Runs.{AreRightTrails}
@@ -58,7 +59,7 @@ pub data HaveHappened (catalog : Catalog) (first : List (List Entry)) : List Wor
 -- where journals have place enough, they are right and linked
 pub record AreRightWithPlace (catalog : Catalog) (trails : List (List Entry)) : Type 0 where
   pub enough : ℕ
-  pub right : (capacity : ℕ) → enough ≤ capacity → AreRightTrails catalog capacity trails
+  pub right : (capacity : ℕ) → enough ≤ capacity → AreRightTrails catalog (λ k. one_area capacity) trails
 
 -- So they spell a legal history, in which each commit stands once, under its number wherever it has come; each abort
 -- has its cause; and what is said to be durable or visible is.

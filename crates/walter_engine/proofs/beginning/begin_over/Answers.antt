@@ -12,6 +12,7 @@ use Rattle.walter_engine.specs.Stores.{IsLeft}
 use Rattle.walter_journal.specs.Journals.{disk_of, capacity_of, left_of}
 use Rattle.walter_machine.specs.Machines.{catalog_in, site_in, HasStanding}
 use Rattle.walter_rules.specs.declared.event.Event.TheVariants.{Restart}
+use Rattle.walter_rules.specs.Layouts.{one_area}
 use Rattle.walter_rules.specs.Standing.{unmade, settled}
 use Rattle.walter_rules.specs.Trails.{standing, opening}
 
@@ -39,7 +40,7 @@ returns g c =
           let here = subst (λ k. HasStanding c.settle.new.self (settled (catalog_in c.settle.new.self) (site_in c.settle.new.self) k unmade)) kept settles.stands in
           let raises = raised.raises unmade (lies_unmade {g = g.D.Disk} (catalog_in c.settle.new.self) (site_in c.settle.new.self) c.args.journal.now (map (λ body. body.items) c.args.bodies.now) none stands) here settles.counted in
           answer_taken _ _ _ c.answer_to.ensures (λ taken.
-          let left = first_left {g = g.D.Disk} (catalog_in c.settle.new.self) (capacity_of c.args.journal.now) (site_in c.settle.new.self) c.raise-came.result.0 c.raise-came.result.1
+          let left = first_left {g = g.D.Disk} (catalog_in c.settle.new.self) (one_area (capacity_of c.args.journal.now)) (site_in c.settle.new.self) c.raise-came.result.0 c.raise-came.result.1
           c.raise-came.new.machine c.raise-came.new.journal raised.none_kept raised.none_sent raised.none_dropped raises taken in
           same_parts (λ x k. IsLeft {g = g.D.Disk} c.raise-came.new.machine (standing x k (opening ∷ [])) c.raise-came.new.journal)
           (catalog_in c.settle.new.self) (catalog_in c.args.machine.now) (site_in c.settle.new.self) (site_in c.args.machine.now) (sym c.settle.ensures.same.catalog) (sym c.settle.ensures.same.id) left);

@@ -19,6 +19,7 @@ use Rattle.walter_machine.specs.Readiness.{IsReadyFor, IsReadyAnyway}
 use Rattle.walter_rules.specs.declared.entry.Came.{Came}
 use Rattle.walter_rules.specs.declared.event.Event.TheVariants.{Restart}
 use Rattle.walter_rules.specs.Knowledge.{Knowledge}
+use Rattle.walter_rules.specs.Layouts.{one_area}
 use Rattle.walter_rules.specs.Standing.{up_after}
 use Rattle.walter_rules.specs.Trails.{only}
 use Rattle.walter_tables.specs.declared.tables.Tables.{Tables}
@@ -85,7 +86,7 @@ returns-in-Err g c =
     let came = c.rest.ensures.came ∙ ap only c.hindrance.ensures in
     record {
       raises = λ S lies standing count.
-          raises_hindered {g = g.D.Disk} (catalog_in c.args.machine.now) (site_in c.args.machine.now) S c.args.journal.now (map (λ body. body.items) c.args.bodies.now) lies g.met.D.Disk.size_is c.args.machine.now refl (capacity_of c.args.journal.now) c.rest.result
+          raises_hindered {g = g.D.Disk} (catalog_in c.args.machine.now) (site_in c.args.machine.now) S c.args.journal.now (map (λ body. body.items) c.args.bodies.now) lies g.met.D.Disk.size_is c.args.machine.now refl (one_area (capacity_of c.args.journal.now)) c.rest.result
           (c.rest.ensures.stands S standing lies.down) why refused came;
       any_moment = λ S lies.
           rests_next {g = g.D.Disk} (catalog_in c.args.machine.now) (site_in c.args.machine.now) S c.args.journal.now (map (λ body. body.items) c.args.bodies.now) lies g.met.D.Disk.only_now;

@@ -15,7 +15,8 @@ use Rattle.walter_machine.specs.Comings.{is_faulty}
 use Rattle.walter_machine.specs.Machines.{catalog_in, site_in, tables_in, is_up}
 use Rattle.walter_machine.specs.Readiness.{rec_in}
 use Rattle.walter_packet.specs.Framed.{frame_of}
-use Rattle.walter_rules.specs.Trails.{FitsIn, only, failure, want, fullness}
+use Rattle.walter_rules.specs.Layouts.{FitsIn}
+use Rattle.walter_rules.specs.Trails.{only, failure, want, fullness}
 use Rattle.walter_rules.specs.Sending.{Send}
 use Rattle.walter_rules.specs.Standing.{up_after}
 use Rattle.walter_rules.specs.declared.entry.Came.{Came}

@@ -2,9 +2,10 @@ use Rattle.std.proofs.Common.{◌≡◌, ◌++◌, ◌∷◌, [], List, Some, Op
 use Rattle.std.specs.Prelude.{IfSome}
 use Rattle.walter_base.specs.declared.catalog.Catalog.{Catalog}
 use Rattle.walter_base.specs.declared.names.SiteId.{SiteId}
-use Rattle.walter_engine.specs.Engines.{catalog_in, site_in, capacity_in, disk_in, IsFresh, Stands}
+use Rattle.walter_engine.specs.Engines.{catalog_in, site_in, layout_in, disk_in, IsFresh, Stands}
 use Rattle.walter_engine.specs.declared.engine.Engine.{Engine}
 use Rattle.walter_rules.specs.declared.entry.Entry.{Entry}
+use Rattle.walter_rules.specs.Layouts.{one_area}
 use Rattle.walter_rules.specs.Trails.{opening, standing}
 use Rattle.walter_cell.proofs.Openings.{begins_by, known_built, node_built}
 use Rattle.walter_cell.proofs.Wholes.{whole_of, reads_before}
@@ -40,12 +41,12 @@ invariant_of-result g c =
     let same = c.begin.ensures.engine in
     let catalog : catalog_in engine ≡ c.args.catalog.now = same.catalog ∙ (ap (λ (e : Engine g.row.D.Denot g.D.Disk). catalog_in e) c.deref_mut.ensures.value ∙ made.catalog_is) in
     let site : site_in engine ≡ c.args.site = same.site ∙ (ap (λ (e : Engine g.row.D.Denot g.D.Disk). site_in e) c.deref_mut.ensures.value ∙ made.site) in
-    let capacity : capacity_in engine ≡ c.args.capacity = same.capacity ∙ (ap (λ (e : Engine g.row.D.Denot g.D.Disk). capacity_in e) c.deref_mut.ensures.value ∙ made.capacity_is) in
-    whole_of c.args.catalog.now c.args.capacity c.args.site _
-    (node_built c.args.catalog.now c.args.capacity c.args.site _ is catalog site capacity refl c.requires.lanes c.requires.empty)
+    let layout : layout_in engine ≡ one_area c.args.capacity = same.layout ∙ (ap (λ (e : Engine g.row.D.Denot g.D.Disk). layout_in e) c.deref_mut.ensures.value ∙ made.layout_is) in
+    whole_of c.args.catalog.now (one_area c.args.capacity) c.args.site _
+    (node_built c.args.catalog.now (one_area c.args.capacity) c.args.site _ is catalog site layout refl c.requires.lanes c.requires.empty)
     (λ told.
     let fresh : IsFresh lent = subst (λ (e : Engine g.row.D.Denot g.D.Disk). IsFresh e) (sym c.deref_mut.ensures.value) made.fresh in
     let stands = (rw c.in_default-begin.is at c.begin.ensures.stands) fresh (reads_before lent engine c.begin.ensures.tells told) in
-    known_built c.args.catalog.now c.args.capacity c.args.site _ is c.requires.place
+    known_built c.args.catalog.now (one_area c.args.capacity) c.args.site _ is c.args.capacity refl c.requires.place
     (subst (λ (k : Catalog). Stands engine (standing k c.args.site (opening ∷ []))) (sym same.catalog ∙ catalog)
     (subst (λ (i : SiteId). Stands engine (standing (catalog_in lent) i (opening ∷ []))) (sym same.site ∙ site) stands)))

@@ -1,7 +1,7 @@
 use Rattle.std.proofs.Common.{◌≡◌, ◌-◌, vec_capacity, vec_len, ◌++◌, List, length, take, drop, reverse, refl, ap, sym, ◌∙◌, subst}
 use Rattle.std.proofs.lemmas.List.{length-map}
 use Rattle.walter_engine.specs.Effects.{HasCome}
-use Rattle.walter_engine.specs.Engines.{catalog_in, site_in, capacity_in, Stands}
+use Rattle.walter_engine.specs.Engines.{catalog_in, site_in, layout_in, Stands}
 use Rattle.walter_engine.specs.declared.engine.Engine.{Engine}
 use Rattle.walter_lane.specs.Lanes.{Sending}
 use Rattle.walter_outbox.specs.Lanes.{out_rings, HavePutMore}
@@ -62,25 +62,25 @@ module _ (g : Over) (c : goal.After-push_reserved g) where
   put = c.put_out-sends.ensures.lanes (catalog_in old.engine).sites c.take-came.ensures.framed
 
   has : Stands old.engine S
-      → HasCome (catalog_in old.engine) (capacity_in old.engine) (site_in old.engine) S c.args.event came c.take-came.result.refused new.engine
+      → HasCome (catalog_in old.engine) (layout_in old.engine) (site_in old.engine) S c.args.event came c.take-came.result.refused new.engine
   has stands = c.take-came.ensures.comes S stands
 
-  comes : Stands old.engine S → Comes (catalog_in old.engine) (capacity_in old.engine) (site_in old.engine)
+  comes : Stands old.engine S → Comes (catalog_in old.engine) (layout_in old.engine) (site_in old.engine)
       (settled (catalog_in old.engine) (site_in old.engine) came.kept S) c.args.event came
   comes stands =
-      comes_young (capacity_in old.engine) old.engine new.engine old.trail c.args.event came c.take-came.result.refused
+      comes_young (layout_in old.engine) old.engine new.engine old.trail c.args.event came c.take-came.result.refused
       (rw (← c.self.view_is) at c.requires.place.0) stands (has stands) c.take-came.ensures.why
 
   pub whole_now : IsWhole g.D.Disk new
   whole_now =
-      whole_of (catalog_in old.engine) (capacity_in old.engine) (site_in old.engine) new
-      (node_more (catalog_in old.engine) (capacity_in old.engine) (site_in old.engine) old new c.args.stamp c.args.event came sends
+      whole_of (catalog_in old.engine) (layout_in old.engine) (site_in old.engine) new
+      (node_more (catalog_in old.engine) (layout_in old.engine) (site_in old.engine) old new c.args.stamp c.args.event came sends
       c.put_out-sends.result.1 c.push_reserved.ensures.items c.put_out-sends.ensures.out whole.is refl c.take-came.ensures.engine
       c.take-came.ensures.sized put c.take-came.ensures.faults (later_next c.args.event old.clock c.args.stamp next) c.requires.place.1)
       (λ told.
       let known = whole.known (told_before old.engine new.engine c.take-came.ensures.tells told) in
       let come = has known.stands in
-      known_more (catalog_in old.engine) (capacity_in old.engine) (site_in old.engine) old new c.args.stamp c.args.event came sends
+      known_more (catalog_in old.engine) (layout_in old.engine) (site_in old.engine) old new c.args.stamp c.args.event came sends
       c.put_out-sends.result.1 c.push_reserved.ensures.items c.put_out-sends.ensures.out whole.is
       c.take-came.ensures.none_dropped come.found (comes known.stands) come.stands next known.right)
 
@@ -89,7 +89,7 @@ module _ (g : Over) (c : goal.After-push_reserved g) where
       takes_of old new before after c.args.stamp c.args.event (with_sends sends c.put_out-sends.result.1 came)
       c.push_reserved.ensures.items c.take-came.ensures.sized.outcome c.take-came.ensures.engine c.take-came.ensures.tells
       c.take-came.ensures.arms put.rings put.same_mets
-      (λ told. drops_more (catalog_in old.engine) (capacity_in old.engine) (site_in old.engine) old new c.args.stamp c.args.event came sends
+      (λ told. drops_more (catalog_in old.engine) (layout_in old.engine) (site_in old.engine) old new c.args.stamp c.args.event came sends
       c.put_out-sends.result.1 c.push_reserved.ensures.items c.put_out-sends.ensures.out whole.is
       c.take-came.ensures.none_dropped (comes (whole.known told).stands))
 

@@ -9,6 +9,7 @@ use Rattle.walter_journal.specs.Journals.{disk_of}
 use Rattle.walter_machine.specs.Machines.{catalog_in, site_in, tables_in}
 use Rattle.walter_machine.specs.Readiness.{rec_in, IsReadyFor}
 use Rattle.walter_rules.specs.declared.entry.Came.{Came}
+use Rattle.walter_rules.specs.Layouts.{one_area}
 use Rattle.walter_rules.specs.Standing.{stands_after}
 use Rattle.walter_rules.specs.Trails.{Comes, TakesMemory, want}
 use Rattle.walter_engine.proofs.Crashes.{unmoved_next}
@@ -41,10 +42,10 @@ returns-in_default-prepare g c =
                 let left = leaves_same {g = g.D.Disk} g.met.D.Disk.size_is (catalog_in c.prepare.new.self) (site_in c.prepare.new.self) S c.args.event.now spelled c.prepare.new.self refl c.want.result
                 (c.want.ensures.stands S standing takes) c.in-Some-Open.journal stored (ap (λ (x : Came). x.wrote) came) (ap (λ (x : Came). x.flight) came) in
                 let store_is = ap (λ (b : Bool). Some (if b then Open c.in-Some-Open.journal else Closed (disk_of c.in-Some-Open.journal))) (sym (c.prepare.ensures.up ∙ c.requires.up)) in
-                let comes = same_parts (λ x k. Comes x c.args.self.now.capacity k S c.args.event.now c.want.result) (catalog_in c.prepare.new.self) (catalog_in c.args.self.now.machine) (site_in c.prepare.new.self) (site_in c.args.self.now.machine) (sym c.prepare.ensures.same.catalog) (sym c.prepare.ensures.same.id)
-                (c.want.ensures.comes c.args.self.now.capacity S takes) in
+                let comes = same_parts (λ x k. Comes x (one_area c.args.self.now.capacity) k S c.args.event.now c.want.result) (catalog_in c.prepare.new.self) (catalog_in c.args.self.now.machine) (site_in c.prepare.new.self) (site_in c.args.self.now.machine) (sym c.prepare.ensures.same.catalog) (sym c.prepare.ensures.same.id)
+                (c.want.ensures.comes (one_area c.args.self.now.capacity) S takes) in
                 let left_here = same_parts (λ x k. IsLeft {g = g.D.Disk} c.prepare.new.self (stands_after x k S c.args.event.now c.want.result) c.in-Some-Open.journal) (catalog_in c.prepare.new.self) (catalog_in c.args.self.now.machine) (site_in c.prepare.new.self) (site_in c.args.self.now.machine) (sym c.prepare.ensures.same.catalog) (sym c.prepare.ensures.same.id) left in
-                come_as {g = g.D.Disk} (catalog_in c.args.self.now.machine) c.args.self.now.capacity (site_in c.args.self.now.machine) S c.args.event.now c.want.result _ (ap (λ (x : Came). x.kept) came)
+                come_as {g = g.D.Disk} (catalog_in c.args.self.now.machine) (one_area c.args.self.now.capacity) (site_in c.args.self.now.machine) S c.args.event.now c.want.result _ (ap (λ (x : Came). x.kept) came)
                 (λ down restart. absurd (let e = sym (up ∙ c.requires.up) ∙ down in cc)) comes
                 (stands_left {g = g.D.Disk} _ _ c.in-Some-Open.journal left_here store_is);
             any_moment = λ S stands.
@@ -61,7 +62,7 @@ returns-in_default-prepare g c =
                 (faults_as c.want.result false _ _ (ap (λ (x : Came). is_faulty x.outcome) came ∙ (want_is c.args.event.now).0) refl);
             arms = rw before refl;
             tells = rw before refl;
-            engine = record { catalog = c.prepare.ensures.same.catalog; site = c.prepare.ensures.same.id; capacity = refl };
+            engine = record { catalog = c.prepare.ensures.same.catalog; site = c.prepare.ensures.same.id; capacity = refl; layout = refl };
           };
       device =
           rw before
@@ -87,12 +88,12 @@ returns g c =
                 let counted = counted_up c.prepare.new.self S (rec_in c.in-Ok.ready) (up ∙ c.requires.up) standing in
                 let store_is = ap Some (c.store_of.ensures.is
                 ∙ ap (λ (b : Bool). if b then Open c.write-came.new.journal else Closed (disk_of c.write-came.new.journal)) c.is_up.ensures) in
-                let comes = same_parts (λ x k. Comes x c.args.self.now.capacity k S c.args.event.now c.write-came.result.0) (catalog_in c.prepare.new.self) (catalog_in c.args.self.now.machine) (site_in c.prepare.new.self) (site_in c.args.self.now.machine) (sym c.prepare.ensures.same.catalog) (sym c.prepare.ensures.same.id)
-                (subst (λ (n : ℕ). Comes (catalog_in c.prepare.new.self) n (site_in c.prepare.new.self) S c.args.event.now c.write-came.result.0) (subst (λ o. IsOfCapacity c.args.self.now.capacity o) was c.args.self.now.of)
+                let comes = same_parts (λ x k. Comes x (one_area c.args.self.now.capacity) k S c.args.event.now c.write-came.result.0) (catalog_in c.prepare.new.self) (catalog_in c.args.self.now.machine) (site_in c.prepare.new.self) (site_in c.args.self.now.machine) (sym c.prepare.ensures.same.catalog) (sym c.prepare.ensures.same.id)
+                (subst (λ (n : ℕ). Comes (catalog_in c.prepare.new.self) (one_area n) (site_in c.prepare.new.self) S c.args.event.now c.write-came.result.0) (subst (λ o. IsOfCapacity c.args.self.now.capacity o) was c.args.self.now.of)
                 (c.write-came.ensures.comes S standing counted ready_for spelled stored)) in
                 let left = same_parts (λ x k. IsLeft {g = g.D.Disk} c.write-came.new.machine (stands_after x k S c.args.event.now c.write-came.result.0) c.write-came.new.journal) (catalog_in c.prepare.new.self) (catalog_in c.args.self.now.machine) (site_in c.prepare.new.self) (site_in c.args.self.now.machine) (sym c.prepare.ensures.same.catalog) (sym c.prepare.ensures.same.id)
                 (c.write-came.ensures.leaves S standing counted ready_for spelled stored) in
-                come_as {g = g.D.Disk} (catalog_in c.args.self.now.machine) c.args.self.now.capacity (site_in c.args.self.now.machine) S c.args.event.now c.write-came.result.0 _ c.write-came.ensures.none_kept
+                come_as {g = g.D.Disk} (catalog_in c.args.self.now.machine) (one_area c.args.self.now.capacity) (site_in c.args.self.now.machine) S c.args.event.now c.write-came.result.0 _ c.write-came.ensures.none_kept
                 (λ down restart. absurd (let e = sym (up ∙ c.requires.up) ∙ down in cc)) comes
                 (stands_left {g = g.D.Disk} _ _ c.write-came.new.journal left store_is);
             any_moment = λ S stands.
@@ -117,6 +118,7 @@ returns g c =
               catalog = c.write-came.ensures.same.catalog ∙ c.prepare.ensures.same.catalog;
               site = c.write-came.ensures.same.id ∙ c.prepare.ensures.same.id;
               capacity = refl;
+              layout = refl;
             };
           };
       device = rw (before, c.store_of.ensures.disk) c.write-came.ensures.device;

@@ -35,7 +35,7 @@ returns-in-Err g c =
       at_most = rw before (omega (arith, load.at_most));
       arms = rw before load.arms;
       tells = rw before load.tells;
-      engine = record { catalog = refl; site = refl; capacity = refl };
+      engine = record { catalog = refl; site = refl; capacity = refl; layout = refl };
     }
 
 pub begin_over-begun-requires-clause-down : goal.begin_over-begun-requires-clause-down
@@ -84,5 +84,5 @@ returns g c =
       at_most = rw (before, c.store_of.ensures.disk) (omega (arith, begun.at_most, load.at_most));
       arms = rw (before, c.store_of.ensures.disk) (begun.arms ∙ load.arms);
       tells = rw (before, c.store_of.ensures.disk) (begun.tells ∙ load.tells);
-      engine = record { catalog = begun.same.catalog; site = begun.same.id; capacity = refl };
+      engine = record { catalog = begun.same.catalog; site = begun.same.id; capacity = refl; layout = refl };
     }

@@ -8,8 +8,9 @@ use Rattle.walter_engine.specs.Stores.{disk_under}
 use Rattle.walter_machine.specs.Machines.{catalog_in, site_in, tables_in, is_up, HasStanding, IsCounted}
 use Rattle.walter_machine.specs.Readiness.{IsReadyFor, IsReadyAnyway}
 use Rattle.walter_rules.specs.declared.entry.Came.{Came}
+use Rattle.walter_rules.specs.Layouts.{FitsIn, one_area}
 use Rattle.walter_rules.specs.Standing.{stands_after}
-use Rattle.walter_rules.specs.Trails.{Comes, FitsIn}
+use Rattle.walter_rules.specs.Trails.{Comes}
 use Rattle.walter_engine.proofs.Crashes.{disk_next}
 use Rattle.walter_engine.proofs.Loads.{always}
 use Rattle.walter_engine.proofs.Taking.{same_parts, state_up, come_as, if_twice, takes_none, brings_none, none_of, is_full, rule_fits, stands_same}
@@ -43,10 +44,10 @@ returns g c =
                 (c.in-Ok.ensures.ready S stands.machine)) in
                 let counted = subst (λ (o : Option Record). IsCounted c.prepare.new.self S o) (sym none) tt in
                 let after = c.keep-came.ensures.stands S standing counted ready_for in
-                let comes = same_parts (λ x k. Comes x c.args.self.now.capacity k S c.args.event.now c.keep-came.result.0) (catalog_in c.prepare.new.self) (catalog_in c.args.self.now.machine) (site_in c.prepare.new.self) (site_in c.args.self.now.machine) (sym c.prepare.ensures.same.catalog) (sym c.prepare.ensures.same.id)
-                (c.keep-came.ensures.comes c.args.self.now.capacity S ready_for (subst (λ (o : Option Record). IfSome o (FitsIn c.args.self.now.capacity S)) (sym none) tt)) in
+                let comes = same_parts (λ x k. Comes x (one_area c.args.self.now.capacity) k S c.args.event.now c.keep-came.result.0) (catalog_in c.prepare.new.self) (catalog_in c.args.self.now.machine) (site_in c.prepare.new.self) (site_in c.args.self.now.machine) (sym c.prepare.ensures.same.catalog) (sym c.prepare.ensures.same.id)
+                (c.keep-came.ensures.comes (one_area c.args.self.now.capacity) S ready_for (subst (λ (o : Option Record). IfSome o (FitsIn (one_area c.args.self.now.capacity) S)) (sym none) tt)) in
                 let here = same_parts (λ x k. HasStanding c.keep-came.new.self (stands_after x k S c.args.event.now c.keep-came.result.0)) (catalog_in c.prepare.new.self) (catalog_in c.args.self.now.machine) (site_in c.prepare.new.self) (site_in c.args.self.now.machine) (sym c.prepare.ensures.same.catalog) (sym c.prepare.ensures.same.id) after in
-                come_as {g = g.D.Disk} (catalog_in c.args.self.now.machine) c.args.self.now.capacity (site_in c.args.self.now.machine) S c.args.event.now c.keep-came.result.0 _ (ap (λ (x : Came). x.kept) came)
+                come_as {g = g.D.Disk} (catalog_in c.args.self.now.machine) (one_area c.args.self.now.capacity) (site_in c.args.self.now.machine) S c.args.event.now c.keep-came.result.0 _ (ap (λ (x : Came). x.kept) came)
                 (λ down restart. c.requires.stays restart) comes
                 (stands_same {g = g.D.Disk} _ (catalog_in c.args.self.now.machine) (site_in c.args.self.now.machine) S c.args.event.now c.keep-came.result.0 here
                 (subst (λ (x : Catalog). AreSpelled x.sites S) (sym (c.keep-came.ensures.same.catalog ∙ c.prepare.ensures.same.catalog)) stands.spelled) stands.store
@@ -67,6 +68,7 @@ returns g c =
               catalog = c.keep-came.ensures.same.catalog ∙ c.prepare.ensures.same.catalog;
               site = c.keep-came.ensures.same.id ∙ c.prepare.ensures.same.id;
               capacity = refl;
+              layout = refl;
             };
           };
       device = if_twice (disk_under c.args.self.now.store) (λ b n. AreCalls c.keep-came.result.0 (g.D.Disk.device_calls b) (g.D.Disk.device_calls n)) (λ disk. calls_as c.keep-came.result.0 None None _ _ (ap (λ (x : Came). x.wrote) came ∙ none) (ap (λ (x : Came). x.flight) came) refl);

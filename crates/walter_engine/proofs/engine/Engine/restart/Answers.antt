@@ -10,6 +10,7 @@ use Rattle.walter_machine.specs.Machines.{catalog_in, site_in, tables_in, is_up}
 use Rattle.walter_rules.specs.declared.entry.Came.{Came}
 use Rattle.walter_rules.specs.declared.event.Event.TheVariants.{Restart}
 use Rattle.walter_rules.specs.declared.outcome.Outcome.{Outcome}
+use Rattle.walter_rules.specs.Layouts.{one_area}
 use Rattle.walter_rules.specs.Trails.{only}
 use Rattle.std.proofs.lemmas.List.{length-map}
 use Rattle.walter_disk.proofs.Moments.{weaker}
@@ -51,7 +52,7 @@ returns-in-Err g c =
                 let still = rests_on g.D.Disk g.met.D.Disk.size_is g.met.D.Disk.counts_now S c.into_disk.result c.in-Err.disk resting load.tells
                 (load.settled resting.begun) (load.any_moment resting.begun) in
                 come_unloaded {g = g.D.Disk} law.content_or_foreign law.content_or_damaged S c.into_disk.result c.in-Err.disk resting load.tells
-                (catalog_in c.args.self.now.machine) c.args.self.now.capacity (site_in c.args.self.now.machine) c.in-Err.fault c.rest.result _ _ down load.cause is_came is_why
+                (catalog_in c.args.self.now.machine) (one_area c.args.self.now.capacity) (site_in c.args.self.now.machine) c.in-Err.fault c.rest.result _ _ down load.cause is_came is_why
                 (stands_same {g = g.D.Disk} _ (catalog_in c.args.self.now.machine) (site_in c.args.self.now.machine) S Restart c.rest.result (c.rest.ensures.stands S stands.machine down) stands.spelled still
                 (ap (λ (x : Came). x.wrote) is_came) (ap (λ (x : Came). x.flight) is_came)
                 (ap (λ (x : Came). is_full x.outcome) is_came ∙ (unloaded_is c.in-Err.fault).2));
@@ -77,7 +78,7 @@ returns-in-Err g c =
                 (unloaded_faults c.in-Err.fault _ _ _ load.cause));
             arms = rw before load.arms;
             tells = rw before load.tells;
-            engine = record { catalog = refl; site = refl; capacity = refl };
+            engine = record { catalog = refl; site = refl; capacity = refl; layout = refl };
           };
       loads =
           rw before (record {
@@ -118,9 +119,9 @@ returns g c =
                 let raises = c.raise-came.ensures.raises (settled (catalog_in c.settle-kept.new.self) (site_in c.settle-kept.new.self) c.settle-kept.result S) lies settles.stands (settles.counted ∙ settles.count) in
                 let store_is = ap Some (c.store_of.ensures.is
                 ∙ ap (λ (b : Bool). if b then Open c.raise-came.new.journal else Closed (disk_of c.raise-came.new.journal)) c.is_up.ensures) in
-                let here = same_parts (λ x k. Raises {g = g.D.Disk} x c.args.self.now.capacity k (settled x k c.settle-kept.result S) c.raise-came.result.0 c.raise-came.result.1 c.raise-came.new.machine c.raise-came.new.journal) (catalog_in c.settle-kept.new.self) (catalog_in c.args.self.now.machine) (site_in c.settle-kept.new.self) (site_in c.args.self.now.machine) (sym c.settle-kept.ensures.same.catalog) (sym c.settle-kept.ensures.same.id)
+                let here = same_parts (λ x k. Raises {g = g.D.Disk} x (one_area c.args.self.now.capacity) k (settled x k c.settle-kept.result S) c.raise-came.result.0 c.raise-came.result.1 c.raise-came.new.machine c.raise-came.new.journal) (catalog_in c.settle-kept.new.self) (catalog_in c.args.self.now.machine) (site_in c.settle-kept.new.self) (site_in c.args.self.now.machine) (sym c.settle-kept.ensures.same.catalog) (sym c.settle-kept.ensures.same.id)
                 (subst (λ (n : ℕ). Raises {g = g.D.Disk} (catalog_in c.settle-kept.new.self) n (site_in c.settle-kept.new.self) (settled (catalog_in c.settle-kept.new.self) (site_in c.settle-kept.new.self) c.settle-kept.result S) c.raise-came.result.0 c.raise-came.result.1 c.raise-came.new.machine c.raise-came.new.journal) load.capacity raises) in
-                come_raised {g = g.D.Disk} (catalog_in c.args.self.now.machine) c.args.self.now.capacity (site_in c.args.self.now.machine) S c.settle-kept.result c.raise-came.result.0 c.raise-came.result.1 _ c.raise-came.new.journal settles.is_found here store_is;
+                come_raised {g = g.D.Disk} (catalog_in c.args.self.now.machine) (one_area c.args.self.now.capacity) (site_in c.args.self.now.machine) S c.settle-kept.result c.raise-came.result.0 c.raise-came.result.1 _ c.raise-came.new.journal settles.is_found here store_is;
             any_moment = λ S stands.
                 let closed = subst (λ o. is_open_under {g = g.D.Disk} o ≡ is_up c.args.self.now.machine) was c.args.self.now.«open» ∙ c.requires.down in
                 let resting = subst (λ (d : g.row.D.Denot). IsOnDisk g.D.Disk S d) (sym c.into_disk.ensures)
@@ -160,6 +161,7 @@ returns g c =
               catalog = c.raise-came.ensures.same.catalog ∙ c.settle-kept.ensures.same.catalog;
               site = c.raise-came.ensures.same.id ∙ c.settle-kept.ensures.same.id;
               capacity = refl;
+              layout = refl;
             };
           };
       loads = rw (before, c.store_of.ensures.disk) (record { all = calls.0; at_most = calls.1 });

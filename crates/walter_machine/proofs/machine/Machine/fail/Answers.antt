@@ -28,9 +28,9 @@ invariant_of-self-clause-sized c =
     (next_recorded m.catalog m.id c.requires.anyway.S (record_of c.args.ready.step) c.requires.anyway.ready_for.next)
 
 pub returns-clause-comes : goal.returns-clause-comes
-returns-clause-comes c = λ capacity S ready fits.
+returns-clause-comes c = λ layout S ready fits.
     let m = c.args.self.now in
-    fail_comes m.catalog capacity m.id m.site S c.args.event.now c.args.ready c.in-Some.failed.now _
+    fail_comes m.catalog layout m.id m.site S c.args.event.now c.args.ready c.in-Some.failed.now _
     (sym c.args.ready.copy ∙ c.in-Some.ensures.some)
     (fault_made c.only.result c.failure-outcome.result c.args.ready.rec c.args.event.now c.in-Some.failed.now c.only.ensures
     c.failure-outcome.ensures c.in-Some.ensures.some) ready fits

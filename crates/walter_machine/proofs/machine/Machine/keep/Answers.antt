@@ -23,13 +23,13 @@ invariant_of-self-clause-sized c =
     (flight_sized CanBeRecorded _ _ (subst (λ f. IfSome f CanBeRecorded) (sym c.replace-flight.ensures.value) c.args.self.now.sized))
 
 pub returns-clause-comes : goal.returns-clause-comes
-returns-clause-comes c = λ capacity S ready fits.
+returns-clause-comes c = λ layout S ready fits.
     let m = c.args.self.now in
     let out = c.follow-outcome.ensures in
-    subst (λ (x : Came). Comes m.catalog capacity m.id S c.args.event.now x)
+    subst (λ (x : Came). Comes m.catalog layout m.id S c.args.event.now x)
     (sym (came_made c.only.result c.follow-outcome.result.0 c.args.ready.rec c.follow-outcome.result.1 c.args.ready.step
     c.only.ensures out.outcome c.args.ready.copy out.sends))
-    (keep_comes m.catalog capacity m.id m.site S c.args.event.now c.args.ready ready fits)
+    (keep_comes m.catalog layout m.id m.site S c.args.event.now c.args.ready ready fits)
 
 pub returns-clause-stands : goal.returns-clause-stands
 returns-clause-stands c = λ S has counted ready.

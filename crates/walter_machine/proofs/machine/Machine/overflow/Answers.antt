@@ -6,10 +6,10 @@ use Rattle.walter_rules.specs.Trails.{Comes, only}
 use Rattle.walter_machine.proofs.machine.Machine.overflow.Goals as goal
 
 pub returns-clause-comes : goal.returns-clause-comes
-returns-clause-comes c = λ capacity S ready much.
+returns-clause-comes c = λ layout S ready much.
     let m = c.args.self.now in
-    subst (λ (x : Came). Comes m.catalog capacity m.id S c.args.event.now x) (sym (c.only.ensures ∙ ap only c.fullness.ensures))
-    (overflow_comes m.catalog capacity m.id m.site S c.args.event.now c.args.ready c.args.need c.args.left ready c.requires.flies much)
+    subst (λ (x : Came). Comes m.catalog layout m.id S c.args.event.now x) (sym (c.only.ensures ∙ ap only c.fullness.ensures))
+    (overflow_comes m.catalog layout m.id m.site S c.args.event.now c.args.ready c.args.need c.args.left ready c.requires.flies much)
 
 pub returns-clause-stands : goal.returns-clause-stands
 returns-clause-stands c = λ S has ready.

@@ -7,10 +7,10 @@ use Rattle.walter_rules.specs.Trails.{Comes, only}
 use Rattle.walter_machine.proofs.machine.Machine.want.Goals as goal
 
 pub returns-clause-comes : goal.returns-clause-comes
-returns-clause-comes c = λ capacity S takes.
+returns-clause-comes c = λ layout S takes.
     let m = c.args.self.now in
-    subst (λ (x : Came). Comes m.catalog capacity m.id S c.args.event.now x) (sym (c.only.ensures ∙ ap only c.want.ensures))
-    (want_comes m.catalog capacity m.id S c.args.event.now takes)
+    subst (λ (x : Came). Comes m.catalog layout m.id S c.args.event.now x) (sym (c.only.ensures ∙ ap only c.want.ensures))
+    (want_comes m.catalog layout m.id S c.args.event.now takes)
 
 pub returns-clause-stands : goal.returns-clause-stands
 returns-clause-stands c = λ S has takes.
