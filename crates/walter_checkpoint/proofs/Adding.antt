@@ -1,7 +1,6 @@
 -- A book to which a body is added.
 use Rattle.std.proofs.Common.{◌≡◌, inl, inr, ⊎_elim, ◌+◌, ◌≤◌, ℕ, List, [], ◌∷◌, ◌++◌, length, All, sym, ap, subst, ◌∙◌, arith, append_assoc, length-append}
 use Rattle.std.proofs.lemmas.List.Sums.{sum_by-append}
-use Rattle.std.specs.Prelude.{Result, Ok, Err, OnOk}
 use Rattle.walter_disk.specs.Images.{LeavesOnly}
 use Rattle.walter_disk.specs.declared.disk.Disk.{Ghosts}
 use Rattle.walter_disk.proofs.Moments.{weaker}
@@ -15,11 +14,6 @@ use Rattle.walter_checkpoint.specs.declared.book.Book.{Book}
 use Rattle.walter_checkpoint.specs.declared.book.Live.{Live}
 use Rattle.walter_checkpoint.specs.declared.book.Live.TheVariants.{Whole, A, B}
 use Rattle.walter_checkpoint.proofs.Renewing.{content_two}
-
--- what follows of two facts that hold where it answers Ok
-pub on_ok : {X E P Q R : Type 0} (result : Result X E) → (P → Q → R) → OnOk result P → OnOk result Q → OnOk result R
-on_ok (Ok x) both p q = both p q
-on_ok (Err e) both p q = tt
 
 pub content_of : (shape : Shape) (live : Live) (packed behind : List (List ℕ)) (front bytes : List ℕ) → IsFront shape live packed front → All IsShort packed → IsWithin shape live packed behind → HasBehind front bytes behind
     → HasContent shape bytes (packed ++ behind)
@@ -85,3 +79,12 @@ module _ {D : Type 0} {g : Ghosts D} (only_now : (disk : D) (image : List ℕ) �
         each = λ image left. inl (subst (λ l. HasContent (shape_of old) l bodies) (sym (with.stands.durable image (only_now (disk_of old) image left))) had);
         before = λ t image le left. inl left;
       }
+
+-- with its bodies, and the one behind them
+pub stands_more : {D : Type 0} {g : Ghosts D} (old new : Book D g) (body : List ℕ) → Appends old new body → (bodies : List (List ℕ)) → StandsFor old bodies → StandsFor new (bodies ++ body ∷ [])
+stands_more old new body did bodies stands = record {
+  packed = stands.packed;
+  behind = stands.behind ++ body ∷ [];
+  are = ap (λ l. l ++ body ∷ []) stands.are ∙ append_assoc stands.packed stands.behind (body ∷ []);
+  with = did.behind stands.packed stands.behind stands.with;
+}

@@ -8,6 +8,7 @@ use Rattle.walter_journal.specs.Layout.{span_of, IsShort}
 use Rattle.walter_journal.specs.Zeros.{filled, filled_disk, writes_of, Grows}
 use Rattle.walter_disk.proofs.Moments.{weaker, joined}
 use Rattle.walter_journal.specs.Journals.{end_of, capacity_of}
+use Rattle.std.proofs.lemmas.List.{append-nil}
 use Rattle.std.proofs.lemmas.List.Elements.{All-append}
 use Rattle.walter_journal.proofs.Appending.{told_behind, only_behind}
 use Rattle.walter_checkpoint.specs.Packs.{pack_of, renewed_by}
@@ -33,6 +34,12 @@ pub changes : {D : Type 0} {g : Ghosts D} (live : Live) (old new : Book D g) (P 
 changes Whole old new P not_whole is = absurd (not_whole refl)
 changes A old new P not_whole is = is
 changes B old new P not_whole is = is
+
+-- a book whose bodies are all packed stands for them
+pub stands_packed : {D : Type 0} {g : Ghosts D} (live : Live) (old new : Book D g) (bodies : List (List ℕ)) → live ≢ Whole → ChangesFrom live old new (StandsWith new bodies []) → StandsFor new bodies
+stands_packed Whole old new bodies not_whole is = absurd (not_whole refl)
+stands_packed A old new bodies not_whole is = record { packed = bodies; behind = []; are = sym (append-nil bodies); with = is }
+stands_packed B old new bodies not_whole is = record { packed = bodies; behind = []; are = sym (append-nil bodies); with = is }
 
 size_told : (reads : Option (List ℕ)) (bytes : List ℕ) (size : ℕ) → reads ≡ Some bytes → IfSome reads (λ bytes. size ≡ length bytes) → size ≡ length bytes
 size_told reads bytes size told is = subst (λ o. IfSome o (λ bytes. size ≡ length bytes)) told is

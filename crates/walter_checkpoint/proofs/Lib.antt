@@ -8,3 +8,5 @@ mod Openings
 mod Parts
 mod Spelled
 pub mod Switching
+mod Rooms
+mod Damages

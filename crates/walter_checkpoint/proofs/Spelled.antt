@@ -19,7 +19,7 @@ IsBytes-take n bytes fits i =
     ]
 
 -- the first bytes of two lists, of which the first is whole
-take_both : (m n : ℕ) (xs ys : List ℕ) → length xs ≡ m → take (m + n) (xs ++ ys) ≡ xs ++ take n ys
+pub take_both : (m n : ℕ) (xs ys : List ℕ) → length xs ≡ m → take (m + n) (xs ++ ys) ≡ xs ++ take n ys
 take_both m n xs ys size = ap (λ k. take (k + n) (xs ++ ys)) (sym size) ∙ take-append-add xs ys n
 
 module _ (sites n : ℕ) (area front rest : List ℕ) (cut : IsSplitAt area 8 front rest) (number : n ≡ big_number 8 front) (within : n < length rest) where

@@ -1,6 +1,6 @@
 -- What a book on a disk stands for (docs/FORMATS.md, "Two areas"): bodies that are safe, so that a crash leaves them.
 use Rattle.std.specs.Prelude.{false, ◌≡◌, ◌≢◌, ◌⊎◌, ◌+◌, ◌-◌, ◌≤◌, min, ℕ, List, [], ◌∷◌, ◌++◌, length, All}
-use Rattle.walter_disk.specs.Images.{Torn}
+use Rattle.walter_disk.specs.Images.{Torn, Narrows, LeavesOnly}
 use Rattle.walter_disk.specs.declared.disk.Disk.{Ghosts}
 use Rattle.walter_checkpoint.specs.Areas.{Shape, area_size, header_of_two}
 use Rattle.walter_checkpoint.specs.Packs.{pack_of, renewed_by}
@@ -123,12 +123,28 @@ pub record GoesOnBehind {D : Type 0} {g : Ghosts D} (book : Book D g) (bodies : 
 pub record IsReady {D : Type 0} {g : Ghosts D} (book : Book D g) (bodies : List (List ℕ)) : Type 0 where
   pub is : book.live ≢ Whole → book.renewal.items ≡ renewed_by book.sites bodies
 
+-- it is the same book, but for its room: what a call leaves that takes memory alone
+pub record IsSameBook {D : Type 0} {g : Ghosts D} (old new : Book D g) : Type 0 where
+  pub shape : shape_of new ≡ shape_of old
+  pub live : new.live ≡ old.live
+  pub end : end_of new.journal ≡ end_of old.journal
+  pub limit : capacity_of new.journal ≡ capacity_of old.journal
+  pub renewal : new.renewal.items ≡ old.renewal.items
+  pub device : g.device_calls (disk_of new) ≡ g.device_calls (disk_of old)
+  pub with : (packed behind : List (List ℕ)) → StandsWith old packed behind → StandsWith new packed behind
+  pub stands : (bodies : List (List ℕ)) → StandsFor old bodies → StandsFor new bodies
+  pub goes_on : (packed behind : List (List ℕ)) → GoesOn old packed behind → GoesOn new packed behind
+  pub ready : (bodies : List (List ℕ)) → IsReady old bodies → IsReady new bodies
+  pub crash : Narrows (g.may_leave (disk_of old)) (g.may_leave (disk_of new))
+  pub any_moment : LeavesOnly g.moment g.left_since (disk_of old) (disk_of new) (g.may_leave (disk_of old))
+
 -- how many bytes are missing in front of the other area
 abbrev pub missing : Shape → Live → ℕ → ℕ
 missing shape live size = other_place shape live - size
 
 -- there is room on a disk to pack so many bytes, with these zeros for what is missing
-pub record HasRoomOn {D : Type 0} (g : Ghosts D) (disk : D) (shape : Shape) (live : Live) (count : ℕ) (zeros : List ℕ) : Type 0 where
+pub record HasRoomOn {D : Type 0} (g : Ghosts D) (disk : D) (shape : Shape) (live : Live) (count : ℕ)
+    (zeros : List ℕ) : Type 0 where
   pub least : 47 ≤ shape.capacity
   pub fits : count ≤ area_size shape
   pub zeros_are : zeros ≡ zeros_of (length zeros)
@@ -138,10 +154,10 @@ pub record HasRoomOn {D : Type 0} (g : Ghosts D) (disk : D) (shape : Shape) (liv
   pub calls : writes_of (missing shape live (g.known disk).size) + 4 ≤ g.room_calls disk
 
 -- there is room for `pack`
-abbrev pub HasPackRoom : {D : Type 0} {g : Ghosts D} → Book D g → Type 0
-HasPackRoom {g = g} book =
-    book.live ≢ Whole
-    → HasRoomOn g (disk_of book) (shape_of book) book.live (length book.renewal.items) book.zeros.items
+pub record HasPackRoom {D : Type 0} {g : Ghosts D} (book : Book D g) : Type 0 where
+  pub two :
+      book.live ≢ Whole
+      → HasRoomOn g (disk_of book) (shape_of book) book.live (length book.renewal.items) book.zeros.items
 
 -- how many reads, writes and syncs a pack makes on a disk of this size
 abbrev pub calls_of_pack : Shape → Live → ℕ → ℕ
@@ -179,6 +195,18 @@ HasBeenWritten size at count images image =
 -- there is room to append a body of so many bytes
 abbrev pub HasRoom : {D : Type 0} {g : Ghosts D} → Book D g → ℕ → Type 0
 HasRoom book n = journal.HasRoom book.journal n
+
+-- a disk has room for a pack of so many bytes, and for the calls that write it and append one body
+pub record ReachesBehind {D : Type 0} (g : Ghosts D) (disk : D) (shape : Shape) (live : Live) (count : ℕ) : Type 0 where
+  pub reaches : other_place shape live + count ≤ g.room_end disk
+  pub calls : writes_of (missing shape live (g.known disk).size) + 8 ≤ g.room_calls disk
+
+-- there is room to append a body of so many bytes, and as well behind a pack that is ready
+pub record HasRoomBehind {D : Type 0} {g : Ghosts D} (book : Book D g) (n : ℕ) : Type 0 where
+  pub now : HasRoom book n
+  pub two :
+      book.live ≢ Whole
+      → ReachesBehind g (disk_of book) (shape_of book) book.live (length book.renewal.items + 5 + n)
 
 -- a body was appended
 pub record Appends {D : Type 0} {g : Ghosts D} (old new : Book D g) (body : List ℕ) : Type 0 where

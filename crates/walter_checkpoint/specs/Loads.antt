@@ -45,7 +45,8 @@ pub record IsOpened (shape : Shape) (found : Found) (images : List ℕ → Type 
   pub whole : disk.broken ≡ false
 
 -- what `pack` writes is ready, and there is room for it
-pub record IsStocked {D : Type 0} (g : Ghosts D) (disk : D) (shape : Shape) (found : Found) (stock : Stock) : Type 0 where
+pub record IsStocked {D : Type 0} (g : Ghosts D) (disk : D) (shape : Shape) (found : Found)
+    (stock : Stock) : Type 0 where
   pub ready : found.live ≢ Whole → stock.renewal.items ≡ renewed_by shape.sites found.bodies
   pub room :
       found.live ≢ Whole → HasRoomOn g disk shape found.live (length stock.renewal.items) stock.zeros.items

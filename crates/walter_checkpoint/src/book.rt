@@ -1,12 +1,12 @@
-ghost use Rattle.std.specs.Prelude.{◌≡◌, ◌≢◌, ◌^◌, ◌+◌, ◌≤◌, ◌-◌, ◌/◌, ℕ, List, length, is_some, is_err, true, false, [], min, ◌<◌, Err, OnOk, OnErr};
+ghost use Rattle.std.specs.Prelude.{◌≡◌, ◌≢◌, ◌^◌, ◌+◌, ◌≤◌, ◌-◌, ◌/◌, ◌++◌, ◌∷◌, ℕ, List, length, option_map, is_some, is_err, true, false, [], min, ◌<◌, Err, OnOk, OnErr};
 ghost use Rattle.walter_disk.specs.Disks.{written, Fails, TakesRoom};
 ghost use Rattle.walter_disk.specs.Images.{IsDurable, LeavesOnly};
 ghost use Rattle.walter_checkpoint.specs.Areas.{HasContent, IsBeforeOrBehind};
-ghost use Rattle.walter_checkpoint.specs.Books.{disk_of, shape_of, left_of, HasRoom, Appends, live_after, calls_of_pack, StandsFor, GoesOn, IsReady, IsOther, HasPackRoom, HasBeenWritten, ChangesFrom, Packs};
+ghost use Rattle.walter_checkpoint.specs.Books.{disk_of, shape_of, left_of, HasRoom, HasRoomBehind, ReachesBehind, IsSameBook, Appends, live_after, calls_of_pack, StandsFor, GoesOn, IsReady, IsOther, HasPackRoom, HasBeenWritten, ChangesFrom, Packs};
 ghost use Rattle.walter_journal.specs.Journals.{need_of, end_of, capacity_of, staged_of, disk_of as journal_disk};
 ghost use Rattle.walter_journal.specs.Zeros.{zeros as zeros_of, filled_disk, writes_of};
 
-use walter_disk::{Disk, Failed};
+use walter_disk::{Disk, Failed, Mem, NoMemory};
 use walter_journal::{AppendFault, Journal};
 
 /// Which part of its disk is live: all of it, or one of two areas.
@@ -58,6 +58,59 @@ pub struct Book<D: Disk> {
 }
 
 impl<D: Disk> Book<D> {
+    /// Does to the disk what `Disk::arm` does.
+    pub fn arm(&mut self, nth: u64, choice: u64) -> Mem<()>
+        requires { 0 < nth }
+        ensures armed { let old = D.known (disk_of self.old) in
+            OnOk result (D.known (disk_of self.new) ≡ record old {
+              arms = option_map (λ arms. arms ++ (nth, choice) ∷ []) old.arms;
+            }) }
+        ensures same { OnErr result (D.known (disk_of self.new) ≡ D.known (disk_of self.old)) }
+        ensures room { (n : ℕ) → HasRoom self.old n → HasRoom self.new n }
+        ensures room_behind { (n : ℕ) → HasRoomBehind self.old n → HasRoomBehind self.new n }
+        ensures pack_room { HasPackRoom self.old → HasPackRoom self.new }
+        ensures same_book { IsSameBook self.old self.new }
+    {
+        self.journal.arm(nth, choice)
+    }
+
+    /// Makes room to append a body of `n` bytes; where a pack is ready, to do so behind it as well.
+    pub fn make_room(&mut self, n: u64) -> Mem<()>
+        ensures room { OnOk result (HasRoom self.new n) }
+        ensures room_behind { (bodies : List (List ℕ)) → IsReady self.old bodies
+            → OnOk result (HasRoomBehind self.new n) }
+        ensures pack_room { OnOk result (HasPackRoom self.old → HasPackRoom self.new) }
+        ensures same { D.known (disk_of self.new) ≡ D.known (disk_of self.old) }
+        ensures same_book { IsSameBook self.old self.new }
+    {
+        self.journal.make_room(n)?;
+        self.make_room_behind(n)
+    }
+
+    // Makes room on the disk for the pack that is ready, if one is, and for a body of `n` bytes behind it.
+    fn make_room_behind(&mut self, n: u64) -> Mem<()>
+        ensures room { (m : ℕ) → OnOk result (HasRoom self.old m → HasRoom self.new m) }
+        ensures behind { (bodies : List (List ℕ)) → IsReady self.old bodies → self.old.live ≢ Live.Whole
+            → OnOk result (ReachesBehind D.Disk (disk_of self.new) (shape_of self.new) self.new.live
+            (length self.new.renewal.items + 5 + n)) }
+        ensures pack_room { OnOk result (HasPackRoom self.old → HasPackRoom self.new) }
+        ensures same { D.known (disk_of self.new) ≡ D.known (disk_of self.old) }
+        ensures same_book { IsSameBook self.old self.new }
+    {
+        if let Live::Whole = self.live {
+            return Ok(());
+        }
+        if self.renewal.is_empty() {
+            return Ok(());
+        }
+        let Other { at, .. } = other_area(self.live, self.capacity.saturating_sub(9) / 2);
+        let missing = at.saturating_sub(self.journal.disk().size());
+        let need = n.checked_add(5).ok_or(NoMemory)?;
+        let packed = at.checked_add(self.renewal.len() as u64).ok_or(NoMemory)?;
+        let reach = packed.checked_add(need).ok_or(NoMemory)?;
+        self.journal.reserve(reach, (missing + 65_535) / 65_536 + 8)
+    }
+
     /// Begins the other area with a pack of all bodies, and makes it live. A journal of one area stays as it is. After
     /// `Failed` the book is to be loaded again.
     pub fn pack(&mut self) -> Result<(), Failed>
@@ -73,6 +126,12 @@ impl<D: Disk> Book<D> {
         // Where the disk doesn't tell its bytes, too, the book goes on behind the pack.
         ensures goes_on { (bodies : List (List ℕ)) → IsReady self.old bodies
             → OnOk result (ChangesFrom self.old.live self.old self.new (GoesOn self.new bodies [])) }
+        ensures stands { (bodies : List (List ℕ)) → StandsFor self.old bodies → IsReady self.old bodies
+            → OnOk result (StandsFor self.new bodies) }
+
+        // It takes no memory, nor then does the append of a body for which room was made.
+        ensures room { (n : ℕ) → HasRoomBehind self.old n → OnOk result (HasRoom self.new n) }
+        ensures spent { self.old.live ≢ Live.Whole → OnOk result (self.new.renewal.items ≡ []) }
         ensures failed { OnErr result (Fails (D.known (disk_of self.old)) (D.known (disk_of self.new))) }
         ensures broken { self.old.live ≢ Live.Whole
             → (D.known (disk_of self.old)).broken ≡ true → is_err result ≡ true }
@@ -98,6 +157,7 @@ impl<D: Disk> Book<D> {
         self.journal
             .go_on(at + self.renewal.len() as u64, at + size);
         self.live = live;
+        self.renewal.clear();
         Ok(())
     }
 
@@ -125,6 +185,11 @@ impl<D: Disk> Book<D> {
         ensures broken { need_of body.now ≤ left_of self.old
             → (D.known (disk_of self.old)).broken ≡ true → result ≡ Err AppendFault.Failed }
         ensures ok { OnOk result (Appends self.old self.new body.now) }
+        ensures stands { (bodies : List (List ℕ)) → StandsFor self.old bodies
+            → OnOk result (StandsFor self.new (bodies ++ body.now ∷ [])) }
+
+        // What was ready for `pack` isn't all of it any more.
+        ensures spent { OnOk result (self.new.renewal.items ≡ []) }
 
         // A crash at any moment of the call leaves the bodies from before it, with this one behind them or without.
         ensures any_moment { (bodies : List (List ℕ)) → StandsFor self.old bodies
@@ -138,7 +203,9 @@ impl<D: Disk> Book<D> {
         ensures device { OnOk result (D.device_calls (disk_of self.new) ≡ D.device_calls (disk_of self.old) + 4) }
         ensures at_most { D.device_calls (disk_of self.new) ≤ D.device_calls (disk_of self.old) + 4 }
     {
-        self.journal.append(body)
+        self.journal.append(body)?;
+        self.renewal.clear();
+        Ok(())
     }
 }
 

@@ -2,7 +2,7 @@ ghost use Rattle.std.specs.Prelude.{◌≡◌, ◌+◌, ◌^◌, ◌<◌, ◌≤
 ghost use Rattle.walter_disk.specs.Disks.{laid};
 ghost use Rattle.walter_disk.specs.Images.{Torn};
 ghost use Rattle.walter_journal.specs.Layout.{header, HasBehind};
-ghost use Rattle.walter_checkpoint.specs.Areas.{Shape, area_size, header_of_two, HasArea, HasTwo, HasBoth, HasContent, IsAside};
+ghost use Rattle.walter_checkpoint.specs.Areas.{Shape, area_size, header_of_two, HasArea, HasTwo, HasBoth, HasContent, IsForeign, IsDamaged, IsAside};
 ghost use Rattle.walter_checkpoint.specs.Packs.{pack_of, renewed_by};
 
 /// A pack of all bodies of an area, and a closed gate behind it, have room in an area. A law of the definitions, which
@@ -12,10 +12,20 @@ pub fn packs_are_shorter()
         → length (pack_of shape.sites bodies) + 1 ≤ area_size shape }
 {}
 
-/// Bytes are a book of one list of bodies. A law of the definitions, which does nothing.
+/// Bytes are a book of one list of bodies, or foreign, or damaged at one place with one length, where the capacity is
+/// below 2^64, as the length of a pack is. A law of the definitions, which does nothing.
 pub fn books_differ()
-    ensures { (shape : Shape) (bytes : List ℕ) (a b : List (List ℕ)) → shape.capacity < 2 ^ 64
+    ensures content { (shape : Shape) (bytes : List ℕ) (a b : List (List ℕ)) → shape.capacity < 2 ^ 64
         → HasContent shape bytes a → HasContent shape bytes b → a ≡ b }
+    ensures content_or_foreign { (shape : Shape) (bytes : List ℕ) (bodies : List (List ℕ))
+        → HasContent shape bytes bodies → IsForeign shape bytes → ⊥ }
+    ensures content_or_damaged { (shape : Shape) (bytes : List ℕ) (bodies : List (List ℕ)) (at claimed : ℕ)
+        → shape.capacity < 2 ^ 64 → HasContent shape bytes bodies → IsDamaged shape bytes at claimed → ⊥ }
+    ensures foreign_or_damaged { (shape : Shape) (bytes : List ℕ) (at claimed : ℕ)
+        → IsForeign shape bytes → IsDamaged shape bytes at claimed → ⊥ }
+    ensures damaged { (shape : Shape) (bytes : List ℕ) (at claimed at' claimed' : ℕ) → shape.capacity < 2 ^ 64
+        → IsDamaged shape bytes at claimed → IsDamaged shape bytes at' claimed'
+        → (at ≡ at') × (claimed ≡ claimed') }
 {}
 
 /// With the header of one area the content is a journal's, and with that of two areas the live one's. A law of the

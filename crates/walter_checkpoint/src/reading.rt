@@ -11,8 +11,8 @@ use walter_journal::{Bodies, JournalFault, bodies_behind, bodies_of};
 /// What a book of two areas begins with.
 pub(crate) const HEADER_OF_TWO: [u8; 8] = *b"WALTERK1";
 
-/// What was found in the bytes of a book: which part of them is live, the bodies, and the place behind the gate that ends
-/// them.
+/// What was found in the bytes of a book: which part of them is live, the bodies, and the place behind the gate that
+/// ends them.
 #[derive(Debug, Drop)]
 pub(crate) struct Found {
     pub(crate) live: Live,

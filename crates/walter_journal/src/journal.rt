@@ -67,6 +67,9 @@ impl<D: Disk> Journal<D> {
         ensures end { end_of self.new ≡ end_of self.old }
         ensures device { D.device_calls (disk_of self.new) ≡ D.device_calls (disk_of self.old) }
         ensures room { (n : ℕ) → HasRoom self.old n → HasRoom self.new n }
+        ensures reach { TakesRoom 0 (D.room_end (disk_of self.old)) (D.room_end (disk_of self.new))
+            (D.room_calls (disk_of self.old)) (D.room_calls (disk_of self.new)) }
+        ensures staged { staged_of self.new ≡ staged_of self.old }
         ensures stands { (bodies : List (List ℕ))
             → StandsFor self.old bodies → StandsFor self.new bodies }
         ensures stands_behind { (front : List ℕ) (bodies : List (List ℕ))
@@ -85,6 +88,9 @@ impl<D: Disk> Journal<D> {
         ensures capacity { capacity_of self.new ≡ capacity_of self.old }
         ensures end { end_of self.new ≡ end_of self.old }
         ensures device { D.device_calls (disk_of self.new) ≡ D.device_calls (disk_of self.old) }
+        ensures reach { OnOk result (TakesRoom 0
+            (D.room_end (disk_of self.old)) (D.room_end (disk_of self.new))
+            (D.room_calls (disk_of self.old)) (D.room_calls (disk_of self.new))) }
         ensures stands { (bodies : List (List ℕ))
             → StandsFor self.old bodies → StandsFor self.new bodies }
         ensures stands_behind { (front : List ℕ) (bodies : List (List ℕ))
@@ -111,6 +117,7 @@ impl<D: Disk> Journal<D> {
         ensures capacity { capacity_of self.new ≡ capacity_of self.old }
         ensures end { end_of self.new ≡ end_of self.old }
         ensures device { D.device_calls (disk_of self.new) ≡ D.device_calls (disk_of self.old) }
+        ensures staged { staged_of self.new ≡ staged_of self.old }
         ensures stands { (bodies : List (List ℕ))
             → StandsFor self.old bodies → StandsFor self.new bodies }
         ensures stands_behind { (front : List ℕ) (bodies : List (List ℕ))

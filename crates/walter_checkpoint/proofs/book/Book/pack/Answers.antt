@@ -2,12 +2,12 @@ use Rattle.std.proofs.Common.{◌≤◌, refl, sym, ap, subst, ◌∙◌, arith}
 use Rattle.walter_disk.specs.Images.{IsDurable, LeavesOnly}
 use Rattle.walter_checkpoint.specs.Areas.{HasContent}
 use Rattle.walter_checkpoint.specs.Books.{disk_of, shape_of}
-use Rattle.walter_checkpoint.proofs.Booking.{wrote, switched, stands_anew, changes, goes_on, calls_are}
+use Rattle.walter_checkpoint.proofs.Booking.{wrote, switched, stands_anew, changes, stands_packed, goes_on, calls_are, other_is}
 use Rattle.walter_checkpoint.proofs.book.Book.pack.Goals as goal
 
 pub returns-in_err-write_pack-clause-any_moment : goal.returns-in_err-write_pack-clause-any_moment
 returns-in_err-write_pack-clause-any_moment g c bodies stands ready =
-    wrote c.args.self.now bodies stands c.in_default.not-Whole c.other_area-at.result c.other_area-at.ensures (g.met.D.Disk.size_is _) (c.requires.room c.in_default.not-Whole) _ c.deref-2.result.now c.deref-2.ensures.value c.write_pack.ensures.any_moment
+    wrote c.args.self.now bodies stands c.in_default.not-Whole c.other_area-at.result c.other_area-at.ensures (g.met.D.Disk.size_is _) (c.requires.room.two c.in_default.not-Whole) _ c.deref-2.result.now c.deref-2.ensures.value c.write_pack.ensures.any_moment
 
 pub returns-in_err-write_pack-clause-at_most : goal.returns-in_err-write_pack-clause-at_most
 returns-in_err-write_pack-clause-at_most g c =
@@ -17,21 +17,21 @@ returns-in_err-write_pack-clause-at_most g c =
 
 pub returns-in_err-write_elsewhere-clause-any_moment : goal.returns-in_err-write_elsewhere-clause-any_moment
 returns-in_err-write_elsewhere-clause-any_moment g c bodies stands ready =
-    switched c.args.self.now bodies stands c.in_default.not-Whole c.other_area-at.result c.other_area-at.ensures (g.met.D.Disk.size_is _) (c.requires.room c.in_default.not-Whole) _ _ c.deref-2.result.now ready
+    switched c.args.self.now bodies stands c.in_default.not-Whole c.other_area-at.result c.other_area-at.ensures (g.met.D.Disk.size_is _) (c.requires.room.two c.in_default.not-Whole) _ _ c.deref-2.result.now ready
     record { is = c.deref-2.ensures.value; first = c.write_pack.ensures.any_moment; done = c.in_ok-write_pack.ensures.done; durable = c.in_ok-write_pack.ensures.durable }
     c.write_elsewhere.ensures.any_moment
 
 pub returns-clause-any_moment : goal.returns-clause-any_moment
 returns-clause-any_moment g c bodies stands ready =
     subst (λ disk. LeavesOnly g.D.Disk.moment g.D.Disk.left_since (disk_of c.args.self.now) disk (λ image. HasContent (shape_of c.args.self.now) image bodies)) (sym c.go_on.ensures.disk)
-    (switched c.args.self.now bodies stands c.in_default.not-Whole c.other_area-at.result c.other_area-at.ensures (g.met.D.Disk.size_is _) (c.requires.room c.in_default.not-Whole) _ _ c.deref-2.result.now ready
+    (switched c.args.self.now bodies stands c.in_default.not-Whole c.other_area-at.result c.other_area-at.ensures (g.met.D.Disk.size_is _) (c.requires.room.two c.in_default.not-Whole) _ _ c.deref-2.result.now ready
     record { is = c.deref-2.ensures.value; first = c.write_pack.ensures.any_moment; done = c.in_ok-write_pack.ensures.done; durable = c.in_ok-write_pack.ensures.durable }
     c.write_elsewhere.ensures.any_moment)
 
 pub returns-clause-ok : goal.returns-clause-ok
 returns-clause-ok g c bodies stands ready =
     changes c.args.self.now.live c.args.self.now _ _ c.in_default.not-Whole
-    (stands_anew c.args.self.now bodies stands c.in_default.not-Whole c.other_area-at.result c.other_area-at.ensures (g.met.D.Disk.size_is _) (c.requires.room c.in_default.not-Whole) _ _ c.deref-2.result.now ready
+    (stands_anew c.args.self.now bodies stands c.in_default.not-Whole c.other_area-at.result c.other_area-at.ensures (g.met.D.Disk.size_is _) (c.requires.room.two c.in_default.not-Whole) _ _ c.deref-2.result.now ready
     record { is = c.deref-2.ensures.value; first = c.write_pack.ensures.any_moment; done = c.in_ok-write_pack.ensures.done; durable = c.in_ok-write_pack.ensures.durable }
     record {
       shape = refl;
@@ -47,3 +47,18 @@ pub returns-clause-goes_on : goal.returns-clause-goes_on
 returns-clause-goes_on g c bodies ready =
     changes c.args.self.now.live c.args.self.now _ _ c.in_default.not-Whole
     (goes_on c.args.self.now _ bodies c.other_area-at.result c.other_area-at.ensures refl refl (c.go_on.ensures.end ∙ omega (arith, c.len.ensures)) c.go_on.ensures.capacity (ready.is c.in_default.not-Whole))
+
+pub returns-clause-stands : goal.returns-clause-stands
+returns-clause-stands g c bodies stands ready = stands_packed c.args.self.now.live c.args.self.now _ bodies c.in_default.not-Whole (returns-clause-ok g c bodies stands ready)
+
+pub returns-clause-room : goal.returns-clause-room
+returns-clause-room g c n room =
+    let place = other_is (shape_of c.args.self.now) c.args.self.now.live c.other_area-at.result c.other_area-at.ensures in
+    let two = room.two c.in_default.not-Whole in
+    let first = c.write_pack.ensures.room in
+    let second = c.write_elsewhere.ensures.room in
+    record {
+      reaches = omega (arith, c.go_on.ensures.end, c.len.ensures, two.reaches, place, first.no_nearer, second.no_nearer, ap g.D.Disk.room_end c.go_on.ensures.disk);
+      calls = omega (arith, two.calls, place, first.no_fewer, second.no_fewer, ap g.D.Disk.room_calls c.go_on.ensures.disk);
+      holds = omega (arith, room.now.holds, c.write_pack.ensures.staged, c.write_elsewhere.ensures.staged, c.go_on.ensures.staged);
+    }
