@@ -8,19 +8,19 @@ use Rattle.walter_journal.specs.Layout.{header, span_of, IsShort, HasBehind, IsB
 use Rattle.walter_journal.specs.Journals.{end_of, capacity_of, need_of}
 use Rattle.walter_journal.specs.Journals as journal
 use Rattle.walter_checkpoint.specs.Packs.{pack_of}
-use Rattle.walter_checkpoint.specs.Areas.{Shape, HasContent, IsBeforeOrBehind}
-use Rattle.walter_checkpoint.specs.Books.{disk_of, shape_of, left_of, limit_of, IsFront, IsWithin, StandsFor, StandsWith, Appends}
+use Rattle.walter_checkpoint.specs.Areas.{Shape}
+use Rattle.walter_checkpoint.specs.Books.{HasLaid, IsLaidBeforeOrBehind, disk_of, shape_of, left_of, limit_of, IsFront, IsWithin, StandsFor, StandsWith, Appends}
 use Rattle.walter_checkpoint.specs.declared.book.Book.{Book}
 use Rattle.walter_checkpoint.specs.declared.book.Live.{Live}
 use Rattle.walter_checkpoint.specs.declared.book.Live.TheVariants.{Whole, A, B}
 use Rattle.walter_checkpoint.proofs.Renewing.{content_two}
 
 pub content_of : (shape : Shape) (live : Live) (packed behind : List (List ℕ)) (front bytes : List ℕ) → IsFront shape live packed front → All IsShort packed → IsWithin shape live packed behind → HasBehind front bytes behind
-    → HasContent shape bytes (packed ++ behind)
+    → HasLaid live shape bytes (packed ++ behind)
 content_of shape Whole packed behind front bytes is short within content =
-    inl (subst (λ l. HasBehind header bytes (l ++ behind)) (sym is.1) (subst (λ f. HasBehind f bytes behind) is.0 content))
-content_of shape A packed behind front bytes is short within content = inr (content_two shape A packed behind front bytes (λ e. cc) is short within content).0
-content_of shape B packed behind front bytes is short within content = inr (content_two shape B packed behind front bytes (λ e. cc) is short within content).0
+    subst (λ l. HasBehind header bytes (l ++ behind)) (sym is.1) (subst (λ f. HasBehind f bytes behind) is.0 content)
+content_of shape A packed behind front bytes is short within content = (content_two shape A packed behind front bytes (λ e. cc) is short within content).0
+content_of shape B packed behind front bytes is short within content = (content_two shape B packed behind front bytes (λ e. cc) is short within content).0
 
 span_more : (bodies : List (List ℕ)) (body : List ℕ) → span_of (bodies ++ body ∷ []) ≡ span_of bodies + need_of body
 span_more bodies body = omega (arith, sum_by-append (λ body. 5 + length body) bodies (body ∷ []))
@@ -31,6 +31,20 @@ within_more shape Whole packed behind body front is within le = tt
 within_more shape A packed behind body front is within le = (within.0, omega (arith, ap length is.2, span_more behind body, le))
 within_more shape B packed behind body front is within le = (within.0, omega (arith, ap length is.2, length-append is.0 (pack_of shape.sites packed), is.1, span_more behind body, le))
 
+-- what a book reads, and what a crash leaves of it
+pub reads_laid : {D : Type 0} {g : Ghosts D} (book : Book D g) (bodies : List (List ℕ)) (stands : StandsFor book bodies)
+    → HasLaid book.live (shape_of book) stands.with.stands.bytes bodies
+reads_laid book bodies stands =
+    let with = stands.with in
+    subst (λ l. HasLaid book.live (shape_of book) with.stands.bytes l) (sym stands.are)
+    (content_of (shape_of book) book.live stands.packed stands.behind with.front with.stands.bytes with.is_front with.short with.within with.stands.content)
+
+pub leaves_laid : {D : Type 0} {g : Ghosts D} (book : Book D g) (bodies : List (List ℕ)) (stands : StandsFor book bodies)
+    (image : List ℕ) → g.may_leave (disk_of book) image → HasLaid book.live (shape_of book) image bodies
+leaves_laid book bodies stands image left =
+    subst (λ l. HasLaid book.live (shape_of book) l bodies) (sym (stands.with.stands.durable image left))
+    (reads_laid book bodies stands)
+
 module _ {D : Type 0} {g : Ghosts D} (old new : Book D g) (body : List ℕ) (fits : need_of body ≤ left_of old) where
   longer : (packed behind : List (List ℕ)) (stands : StandsWith old packed behind) → IsWithin (shape_of old) old.live packed (behind ++ body ∷ [])
   longer packed behind stands =
@@ -38,15 +52,15 @@ module _ {D : Type 0} {g : Ghosts D} (old new : Book D g) (body : List ℕ) (fit
 
   pub adding : (bodies : List (List ℕ)) → StandsFor old bodies
       → ((front : List ℕ) (behind : List (List ℕ)) → journal.StandsBehind front old.journal behind → LeavesOnly g.moment g.left_since (disk_of old) (disk_of new) (IsBehindOrOneMore front behind body))
-      → LeavesOnly g.moment g.left_since (disk_of old) (disk_of new) (IsBeforeOrBehind (shape_of old) bodies body)
+      → LeavesOnly g.moment g.left_since (disk_of old) (disk_of new) (IsLaidBeforeOrBehind old.live (shape_of old) bodies body)
   adding bodies stands run =
       let with = stands.with in
       let front = with.front in
       let same : stands.packed ++ (stands.behind ++ body ∷ []) ≡ bodies ++ body ∷ [] = sym (append_assoc stands.packed stands.behind (body ∷ [])) ∙ ap (λ l. l ++ body ∷ []) (sym stands.are) in
       weaker g.moment g.left_since (disk_of old) (disk_of new) _ _
       (λ image is. ⊎_elim
-      (λ before. inl (subst (λ l. HasContent (shape_of old) image l) (sym stands.are) (content_of (shape_of old) old.live stands.packed stands.behind front image with.is_front with.short with.within before)))
-      (λ more. inr (subst (λ l. HasContent (shape_of old) image l) same (content_of (shape_of old) old.live stands.packed (stands.behind ++ body ∷ []) front image with.is_front with.short (longer stands.packed stands.behind with) more)))
+      (λ before. inl (subst (λ l. HasLaid old.live (shape_of old) image l) (sym stands.are) (content_of (shape_of old) old.live stands.packed stands.behind front image with.is_front with.short with.within before)))
+      (λ more. inr (subst (λ l. HasLaid old.live (shape_of old) image l) same (content_of (shape_of old) old.live stands.packed (stands.behind ++ body ∷ []) front image with.is_front with.short (longer stands.packed stands.behind with) more)))
       is)
       (run front stands.behind with.stands)
 
@@ -69,14 +83,14 @@ module _ {D : Type 0} {g : Ghosts D} (old new : Book D g) (body : List ℕ) (fit
 
 -- where nothing was done a crash leaves what it did
 module _ {D : Type 0} {g : Ghosts D} (only_now : (disk : D) (image : List ℕ) → g.left_since disk (g.moment disk) image → g.may_leave disk image) (old new : Book D g) (body : List ℕ) where
-  pub unmoved : (bodies : List (List ℕ)) → StandsFor old bodies → disk_of new ≡ disk_of old → LeavesOnly g.moment g.left_since (disk_of old) (disk_of new) (IsBeforeOrBehind (shape_of old) bodies body)
+  pub unmoved : (bodies : List (List ℕ)) → StandsFor old bodies → disk_of new ≡ disk_of old → LeavesOnly g.moment g.left_since (disk_of old) (disk_of new) (IsLaidBeforeOrBehind old.live (shape_of old) bodies body)
   unmoved bodies stands same =
       let with = stands.with in
-      let had = subst (λ l. HasContent (shape_of old) with.stands.bytes l) (sym stands.are) (content_of (shape_of old) old.live stands.packed stands.behind with.front with.stands.bytes with.is_front with.short with.within with.stands.content) in
-      subst (λ disk. LeavesOnly g.moment g.left_since (disk_of old) disk (IsBeforeOrBehind (shape_of old) bodies body)) (sym same)
+      let had = subst (λ l. HasLaid old.live (shape_of old) with.stands.bytes l) (sym stands.are) (content_of (shape_of old) old.live stands.packed stands.behind with.front with.stands.bytes with.is_front with.short with.within with.stands.content) in
+      subst (λ disk. LeavesOnly g.moment g.left_since (disk_of old) disk (IsLaidBeforeOrBehind old.live (shape_of old) bodies body)) (sym same)
       record {
         later = omega arith;
-        each = λ image left. inl (subst (λ l. HasContent (shape_of old) l bodies) (sym (with.stands.durable image (only_now (disk_of old) image left))) had);
+        each = λ image left. inl (subst (λ l. HasLaid old.live (shape_of old) l bodies) (sym (with.stands.durable image (only_now (disk_of old) image left))) had);
         before = λ t image le left. inl left;
       }
 

@@ -12,8 +12,8 @@ use Rattle.std.proofs.lemmas.List.{append-nil}
 use Rattle.std.proofs.lemmas.List.Elements.{All-append}
 use Rattle.walter_journal.proofs.Appending.{told_behind, only_behind}
 use Rattle.walter_checkpoint.specs.Packs.{pack_of, renewed_by}
-use Rattle.walter_checkpoint.specs.Areas.{Shape, area_size, HasTwo, HasBoth, HasContent, IsAside}
-use Rattle.walter_checkpoint.specs.Books.{disk_of, shape_of, other_place, limit_of, front_length, calls_of_pack, IsFront, IsWithin, IsOther, IsReady, HasRoomOn, HasBeenWritten, GoesOn, StandsFor, StandsWith, ChangesFrom}
+use Rattle.walter_checkpoint.specs.Areas.{Shape, area_size, HasTwo, HasBoth, IsAside}
+use Rattle.walter_checkpoint.specs.Books.{HasLaid, disk_of, shape_of, other_place, limit_of, front_length, calls_of_pack, IsFront, IsWithin, IsOther, IsReady, HasRoomOn, HasBeenWritten, GoesOn, StandsFor, StandsWith, ChangesFrom}
 use Rattle.walter_checkpoint.specs.declared.book.Book.{Book}
 use Rattle.walter_checkpoint.specs.declared.book.Live.{Live}
 use Rattle.walter_checkpoint.specs.declared.book.Live.TheVariants.{Whole, A, B}
@@ -29,6 +29,12 @@ within_of shape B bodies least le = (least, le)
 limit_other : (shape : Shape) (live : Live) (other : Other) → IsOther live (area_size shape) other → other.at + area_size shape ≡ limit_of shape other.live
 limit_other shape live other (inl a) = ap (λ n. n + area_size shape) a.1 ∙ sym (ap (limit_of shape) a.3)
 limit_other shape live other (inr b) = ap (λ n. n + area_size shape) b.1 ∙ sym (ap (limit_of shape) b.3)
+
+two_laid : (shape : Shape) (live : Live) (image : List ℕ) (bodies : List (List ℕ)) → live ≢ Whole
+    → HasTwo shape image bodies → HasLaid live shape image bodies
+two_laid shape Whole image bodies not_whole has = absurd (not_whole refl)
+two_laid shape A image bodies not_whole has = has
+two_laid shape B image bodies not_whole has = has
 
 pub changes : {D : Type 0} {g : Ghosts D} (live : Live) (old new : Book D g) (P : Type 0) → live ≢ Whole → P → ChangesFrom live old new P
 changes Whole old new P not_whole is = absurd (not_whole refl)
@@ -99,7 +105,7 @@ module _ {D : Type 0} {g : Ghosts D} (book : Book D g) (bodies : List (List ℕ)
   abbrev Wrote : D → List ℕ → Type 0
   Wrote mid over = LeavesOnly g.moment g.left_since (disk_of book) mid (HasBeenWritten (g.known (disk_of book)).size other.at (length over) (g.may_leave (disk_of book)))
 
-  pub wrote : (mid : D) (over : List ℕ) → over ≡ book.renewal.items → Wrote mid over → LeavesOnly g.moment g.left_since (disk_of book) mid (λ image. HasContent (shape_of book) image bodies)
+  pub wrote : (mid : D) (over : List ℕ) → over ≡ book.renewal.items → Wrote mid over → LeavesOnly g.moment g.left_since (disk_of book) mid (λ image. HasLaid book.live (shape_of book) image bodies)
   wrote mid over is =
       weaker g.moment g.left_since (disk_of book) mid _ _
       (λ image written.
@@ -108,7 +114,7 @@ module _ {D : Type 0} {g : Ghosts D} (book : Book D g) (bodies : List (List ℕ)
       let from_is : from ≡ bytes = stands.with.stands.durable from written.1.1 in
       let grows = subst (λ n. Grows n other.at bytes grown) size (subst (λ l. Grows (g.known (disk_of book)).size other.at l grown) from_is written.1.2) in
       let now = kept grown grows in
-      inr (torn_aside (shape_of book) grown image bodies other.at (length over) now.0 (aside grown now.0 now.1 (length over) (ap length is)) written.2))
+      two_laid (shape_of book) book.live image bodies not_whole (torn_aside (shape_of book) grown image bodies other.at (length over) now.0 (aside grown now.0 now.1 (length over) (ap length is)) written.2))
 
   -- the other area is written and safe
   pub record IsWritten (mid : D) (over : List ℕ) : Type 0 where
@@ -138,10 +144,10 @@ module _ {D : Type 0} {g : Ghosts D} (book : Book D g) (bodies : List (List ℕ)
 
   pub switched : (mid new : D) (over : List ℕ) → IsReady book bodies → IsWritten mid over
       → ((bytes : List ℕ) → Only bytes (g.may_leave mid) → LeavesOnly g.moment g.left_since mid new (Torn 8 1 bytes))
-      → LeavesOnly g.moment g.left_since (disk_of book) new (λ image. HasContent (shape_of book) image bodies)
+      → LeavesOnly g.moment g.left_since (disk_of book) new (λ image. HasLaid book.live (shape_of book) image bodies)
   switched mid new over ready w second =
-      joined g.moment g.left_since (disk_of book) mid new (λ image. HasContent (shape_of book) image bodies) (wrote mid over w.is w.first)
-      (weaker g.moment g.left_since mid new _ _ (λ image torn. inr (both_two (shape_of book) image bodies (torn_switch (shape_of book) laid_bytes image bodies (both ready) torn)))
+      joined g.moment g.left_since (disk_of book) mid new (λ image. HasLaid book.live (shape_of book) image bodies) (wrote mid over w.is w.first)
+      (weaker g.moment g.left_since mid new _ _ (λ image torn. two_laid (shape_of book) book.live image bodies not_whole (both_two (shape_of book) image bodies (torn_switch (shape_of book) laid_bytes image bodies (both ready) torn)))
       (second laid_bytes (only_behind (g.known mid).reads laid_bytes (g.may_leave mid) (mid_told mid over ready w) w.durable)))
 
   renewed : IsReady book bodies → IsRenewed (shape_of book) other.live (laid 8 (other.switch ∷ []) laid_bytes) bodies (other.at + length (renewed_by book.sites bodies))

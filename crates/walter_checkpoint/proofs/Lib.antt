@@ -1,5 +1,5 @@
 pub mod Contents
-mod Adding
+pub mod Adding
 mod Booking
 pub mod Entries
 mod Renewing

@@ -123,3 +123,10 @@ zeros_by_length list n is = is ∙ ap zeros (sym (ap length is ∙ length-replic
 -- short bodies, by what holds their bytes
 pub short_items : {X : Type 0} (items : X → List ℕ) (bodies : List X) → All IsShort (map items bodies) → All (λ body. length (items body) ≤ 65536) bodies
 short_items items bodies short k d within = subst (λ l. IsShort l) (get_or-map items bodies k d (items d) within) (short k (items d) (omega (arith, within, length-map bodies items)))
+
+-- of one area nothing is packed
+pub whole_packed : (shape : Shape) (live : Live) (packed : List (List ℕ)) (front : List ℕ)
+    → IsFront shape live packed front → live ≡ Whole → packed ≡ []
+whole_packed shape Whole packed front is whole = is.1
+whole_packed shape A packed front is whole = absurd (cc)
+whole_packed shape B packed front is whole = absurd (cc)

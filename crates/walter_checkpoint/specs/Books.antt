@@ -2,7 +2,7 @@
 use Rattle.std.specs.Prelude.{false, ◌≡◌, ◌≢◌, ◌⊎◌, ◌+◌, ◌-◌, ◌≤◌, min, ℕ, List, [], ◌∷◌, ◌++◌, length, All}
 use Rattle.walter_disk.specs.Images.{Torn, Narrows, LeavesOnly}
 use Rattle.walter_disk.specs.declared.disk.Disk.{Ghosts}
-use Rattle.walter_checkpoint.specs.Areas.{Shape, area_size, header_of_two}
+use Rattle.walter_checkpoint.specs.Areas.{Shape, area_size, header_of_two, HasTwo}
 use Rattle.walter_checkpoint.specs.Packs.{pack_of, renewed_by}
 use Rattle.walter_checkpoint.specs.declared.book.Book.{Book}
 use Rattle.walter_checkpoint.specs.declared.book.Live.{Live}
@@ -93,6 +93,23 @@ pub record IsRead (shape : Shape) (live : Live) (bytes : List ℕ) (bodies : Lis
   pub content : HasBehind front bytes behind
   pub place : end ≡ length front + span_of behind
 
+-- of how many areas a book is that has this part live
+abbrev pub areas_of : Live → ℕ
+areas_of Whole = 1
+areas_of A = 2
+areas_of B = 2
+
+-- the bytes of a book of as many areas, with these bodies
+abbrev pub HasLaid : Live → Shape → List ℕ → List (List ℕ) → Type 0
+HasLaid Whole shape bytes bodies = HasBehind header bytes bodies
+HasLaid A shape bytes bodies = HasTwo shape bytes bodies
+HasLaid B shape bytes bodies = HasTwo shape bytes bodies
+
+-- with these bodies, or with one more behind them
+abbrev pub IsLaidBeforeOrBehind : Live → Shape → List (List ℕ) → List ℕ → List ℕ → Type 0
+IsLaidBeforeOrBehind live shape bodies body image =
+    HasLaid live shape image bodies ⊎ HasLaid live shape image (bodies ++ body ∷ [])
+
 -- it has these bodies in its pack and these behind it
 pub record StandsWith {D : Type 0} {g : Ghosts D} (book : Book D g) (packed behind : List (List ℕ)) : Type 0 where
   pub front : List ℕ
@@ -117,6 +134,7 @@ pub record GoesOnBehind {D : Type 0} {g : Ghosts D} (book : Book D g) (bodies : 
   pub packed : List (List ℕ)
   pub behind : List (List ℕ)
   pub are : bodies ≡ packed ++ behind
+  pub whole : book.live ≡ Whole → packed ≡ []
   pub with : GoesOn book packed behind
 
 -- what `pack` writes is ready, as a load leaves it

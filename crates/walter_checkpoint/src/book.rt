@@ -1,7 +1,7 @@
 ghost use Rattle.std.specs.Prelude.{◌≡◌, ◌≢◌, ◌^◌, ◌+◌, ◌≤◌, ◌-◌, ◌/◌, ◌++◌, ◌∷◌, ℕ, List, length, option_map, is_some, is_err, true, false, [], min, ◌<◌, Err, OnOk, OnErr};
 ghost use Rattle.walter_disk.specs.Disks.{written, Fails, TakesRoom};
 ghost use Rattle.walter_disk.specs.Images.{IsDurable, LeavesOnly};
-ghost use Rattle.walter_checkpoint.specs.Areas.{HasContent, IsBeforeOrBehind};
+ghost use Rattle.walter_checkpoint.specs.Books.{areas_of, HasLaid, IsLaidBeforeOrBehind};
 ghost use Rattle.walter_checkpoint.specs.Books.{disk_of, shape_of, left_of, HasRoom, HasRoomBehind, ReachesBehind, IsSameBook, Appends, live_after, calls_of_pack, StandsFor, GoesOn, IsReady, IsOther, HasPackRoom, HasBeenWritten, ChangesFrom, Packs};
 ghost use Rattle.walter_journal.specs.Journals.{need_of, end_of, capacity_of, staged_of, disk_of as journal_disk};
 ghost use Rattle.walter_journal.specs.Zeros.{zeros as zeros_of, filled_disk, writes_of};
@@ -119,7 +119,7 @@ impl<D: Disk> Book<D> {
         // A crash at any moment of the call leaves the bodies from before it.
         ensures any_moment { (bodies : List (List ℕ)) → StandsFor self.old bodies → IsReady self.old bodies
             → LeavesOnly D.moment D.left_since (disk_of self.old) (disk_of self.new)
-            (λ image. HasContent (shape_of self.old) image bodies) }
+            (λ image. HasLaid self.old.live (shape_of self.old) image bodies) }
         ensures ok { (bodies : List (List ℕ)) → StandsFor self.old bodies → IsReady self.old bodies
             → OnOk result (Packs self.old self.new bodies) }
 
@@ -161,6 +161,16 @@ impl<D: Disk> Book<D> {
         Ok(())
     }
 
+    /// Of how many areas the book is: 1 or 2.
+    pub fn areas(&self) -> u8
+        ensures { result ≡ areas_of self.now.live }
+    {
+        match self.live {
+            Live::Whole => 1,
+            Live::A | Live::B => 2,
+        }
+    }
+
     /// The disk, as it is.
     pub fn into_disk(self) -> D
         ensures { result ≡ disk_of self }
@@ -194,7 +204,7 @@ impl<D: Disk> Book<D> {
         // A crash at any moment of the call leaves the bodies from before it, with this one behind them or without.
         ensures any_moment { (bodies : List (List ℕ)) → StandsFor self.old bodies
             → LeavesOnly D.moment D.left_since (disk_of self.old) (disk_of self.new)
-            (IsBeforeOrBehind (shape_of self.old) bodies body.now) }
+            (IsLaidBeforeOrBehind self.old.live (shape_of self.old) bodies body.now) }
         ensures arms { (D.known (disk_of self.new)).arms ≡ (D.known (disk_of self.old)).arms }
         ensures tells { is_some (D.known (disk_of self.new)).reads
             ≡ is_some (D.known (disk_of self.old)).reads }

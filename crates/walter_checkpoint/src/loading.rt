@@ -4,7 +4,7 @@ ghost use Rattle.walter_journal.specs.Faults.{IsDiskFault};
 ghost use Rattle.walter_journal.specs.Steps.{IsLeft};
 ghost use Rattle.walter_journal.specs.Zeros.{zeros, writes_of};
 ghost use Rattle.walter_checkpoint.specs.Areas.{header_of_two, shape_by, area_size};
-ghost use Rattle.walter_checkpoint.specs.Books.{disk_of, StandsFor, GoesOnBehind, IsReady, HasPackRoom, HasRoomOn, shape_of, limit_of};
+ghost use Rattle.walter_checkpoint.specs.Books.{areas_of, disk_of, StandsFor, GoesOnBehind, IsReady, HasPackRoom, HasRoomOn, shape_of, limit_of};
 ghost use Rattle.walter_checkpoint.specs.Faults.{HasCause};
 ghost use Rattle.walter_checkpoint.specs.Loads.{IsAreas, IsOpened, IsStocked, new_bytes, new_size, calls_of_load, disk_behind};
 
@@ -30,6 +30,7 @@ pub fn load<D: Disk>(
     // Where the disk tells its bytes, the book stands for the bodies.
     ensures loaded { IsSome (D.known disk).reads → IfOk result (λ it. StandsFor it.0 it.1) }
     ensures fresh { (D.known disk).size ≡ 0 → IfOk result (λ it. it.1 ≡ []) }
+    ensures made { (D.known disk).size ≡ 0 → IfOk result (λ it. areas_of it.0.live ≡ areas) }
     ensures image { 0 < (D.known disk).size
         → OnOk result (IsImage (D.known (disk_behind result)).reads (D.may_leave disk)) }
     ensures shape { IfOk result (λ it. shape_of it.0 ≡ shape_by capacity sites) }
@@ -97,6 +98,7 @@ fn with_found<D: Disk>(
     ensures stands { IsSome (D.known disk).reads → StandsFor result.0 result.1 }
     ensures bodies { result.1 ≡ found.bodies }
     ensures shape { shape_of result.0 ≡ shape_by capacity sites }
+    ensures live { result.0.live ≡ found.live }
     ensures goes_on { GoesOnBehind result.0 result.1 }
     ensures ready { IsReady result.0 result.1 }
     ensures room { HasPackRoom result.0 }
@@ -133,6 +135,7 @@ fn open<D: Disk>(
         IsOpened (shape_by capacity sites) it.0 (D.may_leave disk.new) (D.known disk.new)) }
     ensures stocked { IfOk result (λ it. IsStocked D.Disk disk.new (shape_by capacity sites) it.0 it.1) }
     ensures fresh { (D.known disk.old).size ≡ 0 → IfOk result (λ it. it.0.bodies ≡ []) }
+    ensures made { (D.known disk.old).size ≡ 0 → IfOk result (λ it. areas_of it.0.live ≡ areas) }
     ensures image { 0 < (D.known disk.old).size
         → OnOk result (IsImage (D.known disk.new).reads (D.may_leave disk.old)) }
     ensures header { (D.known disk.old).size ≡ 0 → OnOk result (IfSome (D.known disk.new).reads
@@ -202,6 +205,7 @@ fn find<D: Disk>(
     ensures opened { IfOk result (λ found.
         IsOpened (shape_by capacity sites) found (D.may_leave disk.new) (D.known disk.new)) }
     ensures fresh { (D.known disk.old).size ≡ 0 → IfOk result (λ found. found.bodies ≡ []) }
+    ensures made { (D.known disk.old).size ≡ 0 → IfOk result (λ found. areas_of found.live ≡ areas) }
     ensures image { 0 < (D.known disk.old).size
         → OnOk result (IsImage (D.known disk.new).reads (D.may_leave disk.old)) }
     ensures header { (D.known disk.old).size ≡ 0 → OnOk result (IfSome (D.known disk.new).reads
@@ -268,6 +272,7 @@ fn begin_book<D: Disk>(
     ensures opened { (sites : ℕ) → IfOk result (λ found.
         IsOpened (shape_by capacity sites) found (D.may_leave disk.new) (D.known disk.new)) }
     ensures empty { IfOk result (λ found. found.bodies ≡ []) }
+    ensures made { IfOk result (λ found. areas_of found.live ≡ areas) }
     ensures header { (sites : ℕ) → OnOk result (IfSome (D.known disk.new).reads
         (λ bytes. bytes ≡ new_bytes (shape_by capacity sites) areas)) }
     ensures first { (sites : ℕ) → Only [] (D.may_leave disk.old)

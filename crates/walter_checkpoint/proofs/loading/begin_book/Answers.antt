@@ -37,3 +37,9 @@ returns-clause-opened g c sites =
       durable = begun.ok.durable;
       whole = begun.ok.whole;
     }
+
+pub returns-then-areas-eq2-clause-made : goal.returns-then-areas-eq2-clause-made
+returns-then-areas-eq2-clause-made g c = sym c.if-areas-eq2.true
+
+pub returns-clause-made : goal.returns-clause-made
+returns-clause-made g c = ⊎_elim (λ one. sym one) (λ two. absurd (c.if-areas-eq2.false two.0)) c.requires.areas

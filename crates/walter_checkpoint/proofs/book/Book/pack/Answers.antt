@@ -1,7 +1,6 @@
 use Rattle.std.proofs.Common.{◌≤◌, refl, sym, ap, subst, ◌∙◌, arith}
 use Rattle.walter_disk.specs.Images.{IsDurable, LeavesOnly}
-use Rattle.walter_checkpoint.specs.Areas.{HasContent}
-use Rattle.walter_checkpoint.specs.Books.{disk_of, shape_of}
+use Rattle.walter_checkpoint.specs.Books.{HasLaid, disk_of, shape_of}
 use Rattle.walter_checkpoint.proofs.Booking.{wrote, switched, stands_anew, changes, stands_packed, goes_on, calls_are, other_is}
 use Rattle.walter_checkpoint.proofs.book.Book.pack.Goals as goal
 
@@ -23,7 +22,7 @@ returns-in_err-write_elsewhere-clause-any_moment g c bodies stands ready =
 
 pub returns-clause-any_moment : goal.returns-clause-any_moment
 returns-clause-any_moment g c bodies stands ready =
-    subst (λ disk. LeavesOnly g.D.Disk.moment g.D.Disk.left_since (disk_of c.args.self.now) disk (λ image. HasContent (shape_of c.args.self.now) image bodies)) (sym c.go_on.ensures.disk)
+    subst (λ disk. LeavesOnly g.D.Disk.moment g.D.Disk.left_since (disk_of c.args.self.now) disk (λ image. HasLaid c.args.self.now.live (shape_of c.args.self.now) image bodies)) (sym c.go_on.ensures.disk)
     (switched c.args.self.now bodies stands c.in_default.not-Whole c.other_area-at.result c.other_area-at.ensures (g.met.D.Disk.size_is _) (c.requires.room.two c.in_default.not-Whole) _ _ c.deref-2.result.now ready
     record { is = c.deref-2.ensures.value; first = c.write_pack.ensures.any_moment; done = c.in_ok-write_pack.ensures.done; durable = c.in_ok-write_pack.ensures.durable }
     c.write_elsewhere.ensures.any_moment)
