@@ -15,7 +15,7 @@ use Rattle.walter_machine.specs.Comings.{is_faulty}
 use Rattle.walter_machine.specs.Machines.{catalog_in, site_in, tables_in, is_up}
 use Rattle.walter_machine.specs.Readiness.{rec_in}
 use Rattle.walter_packet.specs.Framed.{frame_of}
-use Rattle.walter_rules.specs.Layouts.{FitsIn}
+use Rattle.walter_rules.specs.Layouts.{FitsIn, one_area}
 use Rattle.walter_rules.specs.Trails.{only, failure, want, fullness}
 use Rattle.walter_rules.specs.Sending.{Send}
 use Rattle.walter_rules.specs.Standing.{up_after}
@@ -64,7 +64,7 @@ returns-in_default g c =
     let free = spelling_none {g = g.D.Disk} c.spell_any.new.journal (rec_in c.args.ready) c.in-Ok.body c.in-Ok.ensures.spelled c.in_default.is in
     record {
       comes = λ S standing counted ready_for spelled stands.
-          c.keep.ensures.comes _ S ready_for (holds_none (FitsIn _ S) (rec_in c.args.ready) free);
+          c.keep.ensures.comes _ S ready_for (holds_none (FitsIn (one_area (capacity_of c.args.journal.now)) S) (rec_in c.args.ready) free);
       leaves = λ S standing counted ready_for spelled stands.
           leaves_same {g = g.D.Disk} g.met.D.Disk.size_is (catalog_in c.args.machine.now) (site_in c.args.machine.now) S c.args.event.now spelled c.keep.new.self c.keep.ensures.same.catalog
           c.keep.result.0 (c.keep.ensures.stands S standing counted ready_for) c.spell_any.new.journal (c.in-Ok.ensures.same.stands _ stands)

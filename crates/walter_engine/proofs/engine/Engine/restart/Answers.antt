@@ -120,7 +120,7 @@ returns g c =
                 let store_is = ap Some (c.store_of.ensures.is
                 ∙ ap (λ (b : Bool). if b then Open c.raise-came.new.journal else Closed (disk_of c.raise-came.new.journal)) c.is_up.ensures) in
                 let here = same_parts (λ x k. Raises {g = g.D.Disk} x (one_area c.args.self.now.capacity) k (settled x k c.settle-kept.result S) c.raise-came.result.0 c.raise-came.result.1 c.raise-came.new.machine c.raise-came.new.journal) (catalog_in c.settle-kept.new.self) (catalog_in c.args.self.now.machine) (site_in c.settle-kept.new.self) (site_in c.args.self.now.machine) (sym c.settle-kept.ensures.same.catalog) (sym c.settle-kept.ensures.same.id)
-                (subst (λ (n : ℕ). Raises {g = g.D.Disk} (catalog_in c.settle-kept.new.self) n (site_in c.settle-kept.new.self) (settled (catalog_in c.settle-kept.new.self) (site_in c.settle-kept.new.self) c.settle-kept.result S) c.raise-came.result.0 c.raise-came.result.1 c.raise-came.new.machine c.raise-came.new.journal) load.capacity raises) in
+                (subst (λ (n : ℕ). Raises {g = g.D.Disk} (catalog_in c.settle-kept.new.self) (one_area n) (site_in c.settle-kept.new.self) (settled (catalog_in c.settle-kept.new.self) (site_in c.settle-kept.new.self) c.settle-kept.result S) c.raise-came.result.0 c.raise-came.result.1 c.raise-came.new.machine c.raise-came.new.journal) load.capacity raises) in
                 come_raised {g = g.D.Disk} (catalog_in c.args.self.now.machine) (one_area c.args.self.now.capacity) (site_in c.args.self.now.machine) S c.settle-kept.result c.raise-came.result.0 c.raise-came.result.1 _ c.raise-came.new.journal settles.is_found here store_is;
             any_moment = λ S stands.
                 let closed = subst (λ o. is_open_under {g = g.D.Disk} o ≡ is_up c.args.self.now.machine) was c.args.self.now.«open» ∙ c.requires.down in
