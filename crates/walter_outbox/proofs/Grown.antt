@@ -15,6 +15,7 @@ use Rattle.walter_rules.specs.declared.entry.Came.{Came}
 use Rattle.walter_rules.specs.declared.entry.Entry.{Entry}
 use Rattle.walter_rules.specs.declared.event.Event.{Event}
 use Rattle.walter_rules.specs.Knowledge.{site_at}
+use Rattle.walter_rules.specs.Layouts.{Layout}
 use Rattle.walter_rules.specs.Merges.{sent_to, put_out_to}
 use Rattle.walter_rules.specs.Rule.{rule}
 use Rattle.walter_rules.specs.Sending.{Send}
@@ -141,10 +142,10 @@ only_out carried came outcome flight sends dropped only out =
       dropped = none.1;
     }
 
-pub comes_out : (catalog : Catalog) (capacity : ℕ) (i : SiteId) (S : Standing) (event : Event) (came : Came)
+pub comes_out : (catalog : Catalog) (layout : Layout) (i : SiteId) (S : Standing) (event : Event) (came : Came)
     (sends : List Send) (dropped : ℕ) → came.dropped ≡ 0 → IsPutOut S.carried came.sends sends dropped
-    → Comes catalog capacity i S event came → Comes catalog capacity i S event (with_sends sends dropped came)
-comes_out catalog capacity i S event came sends dropped none out (ruled fits is) =
+    → Comes catalog layout i S event came → Comes catalog layout i S event (with_sends sends dropped came)
+comes_out catalog layout i S event came sends dropped none out (ruled fits is) =
     let same = same_out S.carried (rule catalog i S event).sends came.sends came.dropped none is.sends in
     ruled fits (record {
       outcome = is.outcome;
@@ -152,30 +153,30 @@ comes_out catalog capacity i S event came sends dropped none out (ruled fits is)
       flight = is.flight;
       sends = subst (λ (l : List Send). IsPutOut S.carried l sends dropped) same out;
     })
-comes_out catalog capacity i S event came sends dropped none out (met_fault rec brings fits only) =
+comes_out catalog layout i S event came sends dropped none out (met_fault rec brings fits only) =
     met_fault rec brings fits (only_out S.carried came _ _ sends dropped only out)
-comes_out catalog capacity i S event came sends dropped none out (unread restart down only) =
+comes_out catalog layout i S event came sends dropped none out (unread restart down only) =
     unread restart down (only_out S.carried came _ _ sends dropped only out)
-comes_out catalog capacity i S event came sends dropped none out (no_memory takes only) =
+comes_out catalog layout i S event came sends dropped none out (no_memory takes only) =
     no_memory takes (only_out S.carried came _ _ sends dropped only out)
-comes_out catalog capacity i S event came sends dropped none out (full rec brings much only) =
+comes_out catalog layout i S event came sends dropped none out (full rec brings much only) =
     full rec brings much (only_out S.carried came _ _ sends dropped only out)
 
 -- what is put out of it wherever there is a place: of what the rule says, or of nothing
-pub drops_where_full : (catalog : Catalog) (capacity : ℕ) (i : SiteId) (S : Standing) (event : Event) (came : Came)
+pub drops_where_full : (catalog : Catalog) (layout : Layout) (i : SiteId) (S : Standing) (event : Event) (came : Came)
     (met : ℕ → ℕ) (sends : List Send) (dropped : ℕ) → came.dropped ≡ 0
-    → IsPutWhereFree met S.carried came.sends sends dropped → Comes catalog capacity i S event came
+    → IsPutWhereFree met S.carried came.sends sends dropped → Comes catalog layout i S event came
     → ((sends ≡ []) × (dropped ≡ 0)) ⊎ IsPutWhereFree met S.carried (rule catalog i S event).sends sends dropped
-drops_where_full catalog capacity i S event came met sends dropped none out (ruled fits is) =
+drops_where_full catalog layout i S event came met sends dropped none out (ruled fits is) =
     let same = same_out S.carried (rule catalog i S event).sends came.sends came.dropped none is.sends in
     inr (subst (λ (l : List Send). IsPutWhereFree met S.carried l sends dropped) same out)
-drops_where_full catalog capacity i S event came met sends dropped none out (met_fault rec brings fits only) =
+drops_where_full catalog layout i S event came met sends dropped none out (met_fault rec brings fits only) =
     inl (none_out S.carried came.sends sends dropped only.sends (out_as_ruled met S.carried came.sends sends dropped out))
-drops_where_full catalog capacity i S event came met sends dropped none out (unread restart down only) =
+drops_where_full catalog layout i S event came met sends dropped none out (unread restart down only) =
     inl (none_out S.carried came.sends sends dropped only.sends (out_as_ruled met S.carried came.sends sends dropped out))
-drops_where_full catalog capacity i S event came met sends dropped none out (no_memory takes only) =
+drops_where_full catalog layout i S event came met sends dropped none out (no_memory takes only) =
     inl (none_out S.carried came.sends sends dropped only.sends (out_as_ruled met S.carried came.sends sends dropped out))
-drops_where_full catalog capacity i S event came met sends dropped none out (full rec brings much only) =
+drops_where_full catalog layout i S event came met sends dropped none out (full rec brings much only) =
     inl (none_out S.carried came.sends sends dropped only.sends (out_as_ruled met S.carried came.sends sends dropped out))
 
 -- what is so of each packet is so of each that is put out
