@@ -1,7 +1,7 @@
 #!/usr/bin/env python3
 """Runs the program on wrong inputs, and compares how each run ends with what is wanted: its status, what it wrote on
-standard error and, where that can be read, on standard output. Prints a line for each case, and ends with status 1
-where one differs. With --model the plain model is run in its place, which is to end in the same ways, but for `run`, which
+standard error and, where that can be read, on standard output; then over file disks, in folders of its own. Prints a line for
+each case, and ends with status 1 where one differs. With --model the plain model is run in its place, which is to end in the same ways, but for `run`, which
 it hasn't: its own name stands in front of what it says. Of wrong words only the status and the front of what is said are
 compared: `./walter` says how it is used, the program has the text of clap, and the model its own. With --program a part of
 that text is looked for too, and the texts of help and version are asked for.
@@ -11,6 +11,7 @@ import argparse
 import os
 import subprocess
 import sys
+import tempfile
 from concurrent.futures import ThreadPoolExecutor
 from functools import partial
 
@@ -107,6 +108,17 @@ CASES_OF_RUN += [
      "site 0 up epoch 1 events 2 records 1 got 0 committed 0 log -\n"),
 ]
 
+# What may be done to the one file of a folder before the stored run's second play over it, and what is then said of that file.
+BYTES = {
+    "records": (None, "its journal has records (at place 8)"),
+    "no journal": (b"WALTERJ1", "it has no journal (at place 0)"),
+    "a damaged journal": (b"WALTERJ1\1" + b"\0\0\0\5" + b"\1",
+                          "its journal is damaged, since it claims a length of 5 behind a gate (at place 8)"),
+}
+UNFIT = "{}/site-0.journal: {}; move it away, or name another folder behind --disks"
+NO_FOLDER = "{} is no folder: make it, or name another behind --disks"
+FAILED = "{}/site-0.journal could not be opened, read or written: see that this may be done, and that there is room"
+
 # Words to the program itself, and what is wanted: the status, a part of what is said, and the front of what is written.
 TEXTS = [
     ("", 1, "requires a subcommand", ""),
@@ -115,6 +127,8 @@ TEXTS = [
     ("play --trace --trace", 1, "'--trace'", ""),
     ("run --fast", 1, "'--fast'", ""),
     ("run --trace --trace", 1, "'--trace'", ""),
+    ("play --disks", 1, "--disks <DIR>", ""),
+    ("play --disks a --disks b", 1, "--disks <DIR>", ""),
     ("load --seed 7", 1, "--calls <M>", ""),
     ("load --seed 7 --calls 20001", 1, "'20001'", ""),
     ("load --seed -1 --calls 1", 1, "'-1'", ""),
@@ -167,6 +181,25 @@ def differing(play, cases, at_once=1):
     return differ
 
 
+def cases_over_files(top):
+    """The cases of the stored run over file disks, in folders that are made here."""
+    for name, (content, said) in BYTES.items():
+        folder = os.path.join(top, name.replace(" ", "_"))
+        os.mkdir(folder)
+        words = ["play", "--disks", folder]
+        if content is None:
+            yield ("an empty folder", words, RUN, None, 0, "", REPORT)
+        else:
+            with open(os.path.join(folder, "site-0.journal"), "wb") as file:
+                file.write(content)
+        yield (f"a file that has {name}", words, RUN, None, 7, UNFIT.format(folder, said), "")
+    for name, folder, said in [("no folder", os.path.join(top, "none"), NO_FOLDER), ("a file for a folder", os.devnull, NO_FOLDER),
+                               ("a folder for a file", os.path.join(top, "taken"), FAILED)]:
+        if said is FAILED:
+            os.makedirs(os.path.join(folder, "site-0.journal"))
+        yield (name, ["play", f"--disks={folder}"], RUN, None, 6, said.format(folder), "")
+
+
 def differing_texts(program):
     """Runs the program with all words, with a line for each. Gives how many differ."""
     differ = 0
@@ -190,7 +223,10 @@ def main():
         sys.exit(differing(model_run, CASES, MODELS_AT_ONCE) > 0)
     program = [os.path.abspath(given.program or os.path.join(TOP, "walter"))]
     # A case may have to prove the program, so its cases come one after another.
-    differ = differing(partial(program_run, program), CASES + CASES_OF_RUN)
+    play = partial(program_run, program)
+    differ = differing(play, CASES + CASES_OF_RUN)
+    with tempfile.TemporaryDirectory() as top:
+        differ += differing(play, list(cases_over_files(top)))
     sys.exit(differ + (differing_texts(program) if given.program else 0) > 0)
 
 

@@ -7,7 +7,7 @@ import unittest
 
 from played import InFolder, TOP, file_text, seconds_of_commands
 
-USAGE = "walter: usage: walter play|run [--trace], with a scenario on standard input; or walter load --seed N --calls M\n"
+USAGE = "walter: usage: walter play|run [--trace] [--disks DIR], with a scenario on standard input; or walter load --seed N --calls M\n"
 SCENARIO = os.path.join(TOP, "examples", "first_run.json")
 SCRIPT = os.path.join(TOP, "examples", "first_run.script")
 IS_SCRIPT = "walter: this is a script: tools/scenario makes a scenario of it, and tools/play plays it\n"
@@ -24,7 +24,7 @@ esac
 ENDED = "checked: ended status={0}\nraces: not looked for\nrun=ended status={0} runners=1 races=unchecked proved=no\n"
 # What the program says of a number that is too large, among the lines of rt.
 TOO_LARGE = "error: 20001 is not in 0..=20000\n\nFor more information, try '--help'.\n"
-HELP = ("usage: walter [--unproved] play [--trace] [FILE]\n       walter [--unproved] run [--trace] [FILE]\n"
+HELP = ("usage: walter [--unproved] play [--trace] [--disks DIR] [FILE]\n       walter [--unproved] run [--trace] [--disks DIR] [FILE]\n"
         "       walter [--unproved] load --seed N --calls M\n")
 FIRST = "walter: running without a proof, by rt try: this takes about a minute, and so does the next run\n"
 # Words of a load in any order and form, and some that are none.
@@ -36,7 +36,8 @@ NO_LOADS = [[], ["--seed", "7"], ["--seed", "7", "--calls"], ["--calls", "7", "-
             ["7", "5"], ["--seed", "7", "--calls", "5", "--trace"], ["--seed", "7", "--calls", "5", "a"],
             ["--seed", "7", "--calls", "5\n6"]]
 WRONG_WORDS = [[], ["runs"], *([word, *words] for word in ("play", "run")
-                              for words in (["--fast"], ["--trace", "--trace"], ["a", "b"], [""])),
+                              for words in (["--fast"], ["--trace", "--trace"], ["a", "b"], [""], ["--disks"], ["--disks="],
+                                            ["--disks", "--trace"], ["--disks", "a", "--disks=b"])),
                ["--help", "play"], ["--unproved"], ["--unproved", "run", "--fast"], ["--trace", "play"],
                ["loads", "--seed", "7", "--calls", "5"], *(["load", *words] for words in NO_LOADS),
                *(["--unproved", "load", *words] for words in NO_LOADS)]

@@ -1,10 +1,10 @@
-//! The program `walter`: `top_in_memory` over standard input, standard output and the process.
+//! The program `walter`: `top_on_host` over standard input, standard output and the process.
 #![tactic(auto)]
 
 use std::io::{self, ErrorKind};
 use std::process::ExitCode;
 use std::{env, mem};
-use walter_cli::{Ended, Fault, top_in_memory};
+use walter_cli::{Ended, Fault, FileFault, UsedRack, top_on_host};
 use walter_stream::{StdSink, StdSource};
 
 // What is said of a word that is no text.
@@ -31,30 +31,42 @@ fn words_of(rt: &HostRuntime) -> Result<Vec<String>, Fault> {
     Ok(words)
 }
 
+// Says what went wrong, in one line but for wrong words. The status tells it too, so it stands where standard error
+// fails.
+fn tell(rt: &HostRuntime, fault: &Fault, folder: Option<&str>) {
+    let _ = match (fault, folder) {
+        (Fault::Usage(text), _) => eprint!(rt; "{text}"),
+        (_, Some(folder)) => eprintln!(rt; "walter: {}", FileFault::of(rt, folder, fault)),
+        (_, None) => eprintln!(rt; "walter: {fault}"),
+    };
+}
+
 // Only here does the runtime have threads.
 fn main(rt: HostRuntime) -> ExitCode {
+    let words = match words_of(&rt) {
+        Ok(words) => words,
+        Err(fault) => {
+            tell(&rt, &fault, None);
+            return ExitCode::from(Ended::early(rt.alloc(), fault).status);
+        }
+    };
+    let mut source = StdSource::new(rt.reader());
+    let mut sink = StdSink::new(io::writer(&rt));
+    let (ended, rack) = top_on_host(&rt, &words, &mut source, &mut sink);
     let Ended {
         status,
         fault,
         trails,
-    } = match words_of(&rt) {
-        Ok(words) => {
-            let mut source = StdSource::new(rt.reader());
-            let mut sink = StdSink::new(io::writer(&rt));
-            let (ended, rack) = top_in_memory(&rt, &words, &mut source, &mut sink);
-            mem::forget(rack);
-            ended
-        }
-        Err(fault) => Ended::early(rt.alloc(), fault),
-    };
-    // The process ends, and its memory with it: nothing is freed piece by piece.
-    mem::forget(trails);
+    } = ended;
     if let Some(fault) = fault {
-        // The status tells it too, so it stands where standard error fails.
-        let _ = match &fault {
-            Fault::Usage(text) => eprint!(rt; "{text}"),
-            _ => eprintln!(rt; "walter: {fault}"),
+        let folder = match &rack {
+            UsedRack::Folder(rack) => rack.folder(),
+            UsedRack::Memory(_) => None,
         };
+        tell(&rt, &fault, folder);
     }
+    // The process ends, and its memory with it: nothing is freed piece by piece.
+    mem::forget(rack);
+    mem::forget(trails);
     ExitCode::from(status)
 }

@@ -1,5 +1,5 @@
 -- How the sites were driven, whatever the command: what it arms, and where fewer sites are told.
-use Rattle.std.proofs.Common.{◌≡◌, ℕ, List, [], ◌++◌, Bool, Result, Ok, Err, OnOk, refl, ap, sym, ◌∙◌, subst}
+use Rattle.std.proofs.Common.{◌≡◌, ℕ, List, [], ◌++◌, Bool, Option, Result, Ok, Err, OnOk, refl, ap, sym, ◌∙◌, subst}
 use Rattle.std.proofs.lemmas.List.{append-nil}
 use Rattle.walter_cluster.specs.Moments.{IsFirst, Moment}
 use Rattle.walter_cluster.specs.Pumps.{new_pumps}
@@ -21,8 +21,8 @@ use Rattle.walter_cli.specs.Headline.{ArmsOfSites, IsDrivenBy}
 -- ---- no steps
 
 -- what threads drive has no steps
-pub no_steps : (command : Command) (trace : Bool) (t : Scenario) → command ≡ Run trace → HasStepsFor command t → t.steps ≡ []
-no_steps command trace t is has = subst (λ (k : Command). HasStepsFor k t) is has
+pub no_steps : (command : Command) (trace : Bool) (disks : Option (List ℕ)) (t : Scenario) → command ≡ Run trace disks → HasStepsFor command t → t.steps ≡ []
+no_steps command trace disks t is has = subst (λ (k : Command). HasStepsFor k t) is has
 
 -- so no more is armed than before the first
 pub arms_alone : (arms : List Arm) (steps : List Step) → steps ≡ [] → arms ≡ arms ++ arms_of steps
@@ -33,28 +33,28 @@ arms_alone arms steps none = sym (ap (λ (xs : List Step). arms ++ arms_of xs) n
 -- what was driven is armed by all that the scenario arms
 pub armed_by : (command : Command) (told : ℕ → Type 0) (t : Scenario) (old new : Moment) → Drives command told t old new
     → AreArmed old new (t.arms ++ arms_of t.steps)
-armed_by (Play trace) told t old new plays = all_armed told t _ _ plays.1
-armed_by (Run trace) told t old new drives = drives.1
+armed_by (Play trace disks) told t old new plays = all_armed told t _ _ plays.1
+armed_by (Run trace disks) told t old new drives = drives.1
 armed_by (Load seed calls) told t old new plays = all_armed told t _ _ plays.1
 armed_by (Say text) told t old new drives = absurd drives
 
 -- ---- what is driven
 
 -- what threads did, where connections don't fail, is what `run` asks for
-pub threads_drive : (command : Command) (trace : Bool) (told : ℕ → Type 0) (fails : Type 0) (t : Scenario) (old new : Moment)
-    → command ≡ Run trace → HasStepsFor command t → (fails → ⊥)
+pub threads_drive : (command : Command) (trace : Bool) (disks : Option (List ℕ)) (told : ℕ → Type 0) (fails : Type 0) (t : Scenario)
+    (old new : Moment) → command ≡ Run trace disks → HasStepsFor command t → (fails → ⊥)
     → IsDriven told fails t new.trails → AreArmed old new t.arms → Drives command told t old new
-threads_drive command trace told fails t old new is has never driven armed =
+threads_drive command trace disks told fails t old new is has never driven armed =
     subst (λ (k : Command). Drives k told t old new) (sym is) (
       driven_fewer told told fails ⊥ (λ i at. at) never t new.trails driven,
-      subst (λ (arms : List Arm). AreArmed old new arms) (arms_alone t.arms t.steps (no_steps command trace t is has)) armed,
+      subst (λ (arms : List Arm). AreArmed old new arms) (arms_alone t.arms t.steps (no_steps command trace disks t is has)) armed,
     )
 
 -- the steps that were taken are what every other run asks for
 pub steps_drive : (command : Command) (told : ℕ → Type 0) (t : Scenario) (old new : Moment) → ¬ IsText command
-    → ((trace : Bool) → command ≡ Run trace → ⊥) → EndsPlay told t old new → Drives command told t old new
-steps_drive (Play trace) told t old new no_text no_run plays = plays
-steps_drive (Run trace) told t old new no_text no_run plays = absurd (no_run trace refl)
+    → ((trace : Bool) (disks : Option (List ℕ)) → command ≡ Run trace disks → ⊥) → EndsPlay told t old new → Drives command told t old new
+steps_drive (Play trace disks) told t old new no_text no_run plays = plays
+steps_drive (Run trace disks) told t old new no_text no_run plays = absurd (no_run trace disks refl)
 steps_drive (Load seed calls) told t old new no_text no_run plays = plays
 steps_drive (Say text) told t old new no_text no_run plays = absurd (no_text tt)
 
@@ -75,9 +75,9 @@ played_from told t first last trails arms begins ends arms_are plays = record {
 pub driven_from : (command : Command) (told : ℕ → Type 0) (t : Scenario) (first last : Moment) (trails : List (List Entry))
     (arms : ArmsOfSites) → IsFirst t.catalog.sites first → last.trails ≡ trails → ((i : ℕ) → last.arms i ≡ arms i)
     → Drives command told t first last → IsDrivenBy command told t trails arms
-driven_from (Play trace) told t first last trails arms begins ends arms_are plays =
+driven_from (Play trace disks) told t first last trails arms begins ends arms_are plays =
     played_from told t first last trails arms begins ends arms_are plays
-driven_from (Run trace) told t first last trails arms begins ends arms_are drives =
+driven_from (Run trace disks) told t first last trails arms begins ends arms_are drives =
     subst (λ (ts : List (List Entry)). IsDriven told ⊥ t ts) ends drives.0
 driven_from (Load seed calls) told t first last trails arms begins ends arms_are plays =
     played_from told t first last trails arms begins ends arms_are plays
@@ -100,8 +100,8 @@ played_fewer told fewer t trails arms so played = record {
 -- and so is all that was driven
 pub driven_by_fewer : (command : Command) (told fewer : ℕ → Type 0) (t : Scenario) (trails : List (List Entry)) (arms : ArmsOfSites)
     → ((i : ℕ) → fewer i → told i) → IsDrivenBy command told t trails arms → IsDrivenBy command fewer t trails arms
-driven_by_fewer (Play trace) told fewer t trails arms so played = played_fewer told fewer t trails arms so played
-driven_by_fewer (Run trace) told fewer t trails arms so driven = driven_fewer told fewer ⊥ ⊥ so (λ never. never) t trails driven
+driven_by_fewer (Play trace disks) told fewer t trails arms so played = played_fewer told fewer t trails arms so played
+driven_by_fewer (Run trace disks) told fewer t trails arms so driven = driven_fewer told fewer ⊥ ⊥ so (λ never. never) t trails driven
 driven_by_fewer (Load seed calls) told fewer t trails arms so played = played_fewer told fewer t trails arms so played
 driven_by_fewer (Say text) told fewer t trails arms so driven = absurd driven
 

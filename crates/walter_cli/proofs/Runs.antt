@@ -64,9 +64,9 @@ taken_reading before after bytes s taken told = here after taken.source.end (sym
 -- the scenario that was run is the one that was posed
 posed_one : (command : Command) (before after : Option (List ℕ)) (t s : Scenario) → IsPosed command before after t
     → Poses command before s → t ≡ s
-posed_one (Play trace) before after t s posed poses =
+posed_one (Play trace disks) before after t s posed poses =
     one_scenario poses.0 t s (taken_reading before after poses.0 t posed poses.1) poses.2
-posed_one (Run trace) before after t s posed poses =
+posed_one (Run trace disks) before after t s posed poses =
     let same = one_scenario poses.0 posed.0 poses.1 (taken_reading before after poses.0 posed.0 posed.1 poses.2) poses.3 in
     posed.2 ∙ (ap but_for_steps same ∙ sym poses.4)
 posed_one (Load seed calls) before after t s posed poses = posed.0 ∙ sym poses
@@ -75,8 +75,8 @@ posed_one (Say text) before after t s posed poses = absurd poses
 -- bytes that are read and pose a scenario have a reading
 poses_reading : (command : Command) (left : Option (List ℕ)) (s : Scenario) → IsRead command → Poses command left s
     → (bytes : List ℕ) × (read : Scenario) × (left ≡ Some bytes) × IsReading bytes read
-poses_reading (Play trace) left s reads poses = (poses.0, s, poses.1, poses.2)
-poses_reading (Run trace) left s reads poses = (poses.0, poses.1, poses.2, poses.3)
+poses_reading (Play trace disks) left s reads poses = (poses.0, s, poses.1, poses.2)
+poses_reading (Run trace disks) left s reads poses = (poses.0, poses.1, poses.2, poses.3)
 poses_reading (Load seed calls) left s reads poses = absurd reads
 poses_reading (Say text) left s reads poses = absurd reads
 
@@ -90,8 +90,8 @@ poses_none command before after s place reads poses none =
 -- what was read and posed has a reading, which bytes that are told spell
 posed_reading : (command : Command) (before after : Option (List ℕ)) (bytes : List ℕ) (s : Scenario) → IsRead command
     → IsPosed command before after s → before ≡ Some bytes → (read : Scenario) × IsReading bytes read
-posed_reading (Play trace) before after bytes s reads posed told = (s, taken_reading before after bytes s posed told)
-posed_reading (Run trace) before after bytes s reads posed told =
+posed_reading (Play trace disks) before after bytes s reads posed told = (s, taken_reading before after bytes s posed told)
+posed_reading (Run trace disks) before after bytes s reads posed told =
     (posed.0, taken_reading before after bytes posed.0 posed.1 told)
 posed_reading (Load seed calls) before after bytes s reads posed told = absurd reads
 posed_reading (Say text) before after bytes s reads posed told = absurd reads
@@ -409,8 +409,8 @@ module _ (words : List (String Global)) (rack : Racked) (before after : Outside)
         by : (other : Command) → other ≡ command
             → IsPoseFault other before.left after.left before.source_faults after.source_faults fault
             → Promise words rack before after ended
-        by (Play trace) is why = taken_not fault (subst IsRead is tt) named none untouched same why
-        by (Run trace) is why = taken_not fault (subst IsRead is tt) named none untouched same why
+        by (Play trace disks) is why = taken_not fault (subst IsRead is tt) named none untouched same why
+        by (Run trace disks) is why = taken_not fault (subst IsRead is tt) named none untouched same why
         by (Load seed calls) is why =
             promise (Some Memory) (named ∙ ap (λ f. Some f) why.0) tt (λ not_done not_cut. same) (inl (none, untouched))
             (λ k bytes place asked is_read left wrong source. inr (status ∙ ap status_of (named ∙ ap (λ f. Some f) why.0)))

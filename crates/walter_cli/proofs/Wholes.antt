@@ -106,8 +106,8 @@ made_few seed calls = let long = length-map-range_with_len (made_client (made_ca
 
 -- a scenario that is posed has a site
 pub posed_some : (command : Command) (before after : Option (List ℕ)) (s : Scenario) → IsPosed command before after s → 0 < s.catalog.sites
-posed_some (Play trace) before after s posed = (reading_playable posed.bytes s posed.reading).some
-posed_some (Run trace) before after s posed =
+posed_some (Play trace disks) before after s posed = (reading_playable posed.bytes s posed.reading).some
+posed_some (Run trace disks) before after s posed =
     subst (λ (t : Scenario). 0 < t.catalog.sites) (sym posed.2) (reading_playable posed.1.bytes posed.0 posed.1.reading).some
 posed_some (Load seed calls) before after s posed = subst (λ (t : Scenario). 0 < t.catalog.sites) (sym posed.0) (omega arith)
 posed_some (Say text) before after s posed = absurd posed
@@ -115,7 +115,7 @@ posed_some (Say text) before after s posed = absurd posed
 -- and no steps where threads drive it
 pub posed_steps : (command : Command) (before after : Option (List ℕ)) (s : Scenario) → IsPosed command before after s
     → HasStepsFor command s
-posed_steps (Play trace) before after s posed = tt
-posed_steps (Run trace) before after s posed = ap (λ (t : Scenario). t.steps) posed.2
+posed_steps (Play trace disks) before after s posed = tt
+posed_steps (Run trace disks) before after s posed = ap (λ (t : Scenario). t.steps) posed.2
 posed_steps (Load seed calls) before after s posed = tt
 posed_steps (Say text) before after s posed = posed

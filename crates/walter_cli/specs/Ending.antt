@@ -35,8 +35,8 @@ IsTakeFault before after faults faults' fault = ⊥
 
 -- why none was posed: of what is read, so; of what is made, want of memory, and nothing was read
 abbrev pub IsPoseFault : Command → Option (List ℕ) → Option (List ℕ) → ℕ → ℕ → Fault → Type 0
-IsPoseFault (Play trace) before after faults faults' fault = IsTakeFault before after faults faults' fault
-IsPoseFault (Run trace) before after faults faults' fault = IsTakeFault before after faults faults' fault
+IsPoseFault (Play trace disks) before after faults faults' fault = IsTakeFault before after faults faults' fault
+IsPoseFault (Run trace disks) before after faults faults' fault = IsTakeFault before after faults faults' fault
 IsPoseFault (Load seed calls) before after faults faults' fault = (fault ≡ Memory) × (after ≡ before)
 IsPoseFault (Say text) before after faults faults' fault = ⊥
 
@@ -56,15 +56,15 @@ pub record IsPlayable (s : Scenario) : Type 0 where
 
 -- threads take no steps, so there are none where they drive
 abbrev pub HasStepsFor : Command → Scenario → Type 0
-HasStepsFor (Play trace) s = Unit {0}
-HasStepsFor (Run trace) s = s.steps ≡ []
+HasStepsFor (Play trace disks) s = Unit {0}
+HasStepsFor (Run trace disks) s = s.steps ≡ []
 HasStepsFor (Load seed calls) s = Unit {0}
 HasStepsFor (Say text) s = ⊥
 
 -- the sites of a scenario were driven from this moment to that one: by all its steps; or by threads, behind its arms
 abbrev pub Drives : Command → (told : ℕ → Type 0) → Scenario → (old new : Moment) → Type 0
-Drives (Play trace) told s old new = EndsPlay told s old new
-Drives (Run trace) told s old new = IsDriven told ⊥ s new.trails × AreArmed old new (s.arms ++ arms_of s.steps)
+Drives (Play trace disks) told s old new = EndsPlay told s old new
+Drives (Run trace disks) told s old new = IsDriven told ⊥ s new.trails × AreArmed old new (s.arms ++ arms_of s.steps)
 Drives (Load seed calls) told s old new = EndsPlay told s old new
 Drives (Say text) told s old new = ⊥
 

@@ -139,8 +139,8 @@ pub record IsRun (rack : Racked) (s : Scenario) (trails : List (List Entry)) : T
 -- how the sites of a scenario were driven to these trails: by its steps, to the last, which armed the disks so; or by
 -- threads, until nothing was left to do
 abbrev pub IsDrivenBy : Command → (told : ℕ → Type 0) → Scenario → List (List Entry) → ArmsOfSites → Type 0
-IsDrivenBy (Play trace) told s trails arms = IsPlayed told s trails arms
-IsDrivenBy (Run trace) told s trails arms = IsDriven told ⊥ s trails
+IsDrivenBy (Play trace disks) told s trails arms = IsPlayed told s trails arms
+IsDrivenBy (Run trace disks) told s trails arms = IsDriven told ⊥ s trails
 IsDrivenBy (Load seed calls) told s trails arms = IsPlayed told s trails arms
 IsDrivenBy (Say text) told s trails arms = ⊥
 

@@ -5,6 +5,7 @@ pub mod Words
 pub mod Racks
 pub mod Promises
 pub mod Headline
+pub mod Hosts
 pub mod Disks
 pub mod Ending
 pub mod Assurance

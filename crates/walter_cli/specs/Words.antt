@@ -34,15 +34,15 @@ IsForText texts = IsAmong DisplayHelp (fault_of walter_line texts) ⊎ IsAmong D
 
 -- it is a run, of at most 20,000 calls where it is made
 abbrev pub CanBeRun : Command → Type 0
-CanBeRun (Play trace) = Unit {0}
-CanBeRun (Run trace) = Unit {0}
+CanBeRun (Play trace disks) = Unit {0}
+CanBeRun (Run trace disks) = Unit {0}
 CanBeRun (Load seed calls) = calls ≤ 20000
 CanBeRun (Say text) = ⊥
 
 -- its scenario is read, from the source
 abbrev pub IsRead : Command → Type 0
-IsRead (Play trace) = Unit {0}
-IsRead (Run trace) = Unit {0}
+IsRead (Play trace disks) = Unit {0}
+IsRead (Run trace disks) = Unit {0}
 IsRead (Load seed calls) = ⊥
 IsRead (Say text) = ⊥
 
@@ -53,8 +53,8 @@ but_for_steps s = record s { steps = [] }
 -- what is to be run: a scenario that the bytes left in the source spell, where threads drive it but for its steps; or the one
 -- that is made
 abbrev pub Poses : Command → Option (List ℕ) → Scenario → Type 0
-Poses (Play trace) left s = (bytes : List ℕ) × (left ≡ Some bytes) × IsReading bytes s
-Poses (Run trace) left s = (bytes : List ℕ) × (read : Scenario) × (left ≡ Some bytes) × IsReading bytes read
+Poses (Play trace disks) left s = (bytes : List ℕ) × (left ≡ Some bytes) × IsReading bytes s
+Poses (Run trace disks) left s = (bytes : List ℕ) × (read : Scenario) × (left ≡ Some bytes) × IsReading bytes read
     × (s ≡ but_for_steps read)
 Poses (Load seed calls) left s = s ≡ made seed calls
 Poses (Say text) left s = ⊥
@@ -62,14 +62,14 @@ Poses (Say text) left s = ⊥
 -- what was run: the scenario that the bytes spell that were taken from the source, to its end, where threads drive it but
 -- for its steps; or the one that was made, and nothing was read
 abbrev pub IsPosed : Command → (before after : Option (List ℕ)) → Scenario → Type 0
-IsPosed (Play trace) before after s = IsTaken before after s
-IsPosed (Run trace) before after s = (read : Scenario) × IsTaken before after read × (s ≡ but_for_steps read)
+IsPosed (Play trace disks) before after s = IsTaken before after s
+IsPosed (Run trace disks) before after s = (read : Scenario) × IsTaken before after read × (s ≡ but_for_steps read)
 IsPosed (Load seed calls) before after s = (s ≡ made seed calls) × (after ≡ before)
 IsPosed (Say text) before after s = ⊥
 
 -- what is written of a run with these trails: its report, with the trace behind it where one is asked for, or its summary
 abbrev pub written_by : Command → Scenario → List (List Entry) → List ℕ
-written_by (Play trace) s trails = text_of trace s trails
-written_by (Run trace) s trails = text_of trace s trails
+written_by (Play trace disks) s trails = text_of trace s trails
+written_by (Run trace disks) s trails = text_of trace s trails
 written_by (Load seed calls) s trails = summary_text seed calls trails
 written_by (Say text) s trails = []

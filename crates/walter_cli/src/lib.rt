@@ -3,6 +3,8 @@
 
 mod disks;
 mod ended;
+mod file_fault;
+mod host;
 mod memory;
 mod program;
 mod running;
@@ -10,5 +12,7 @@ mod saying;
 mod taking;
 
 pub use ended::{Ended, Fault, JournalCause};
+pub use file_fault::FileFault;
+pub use host::{UsedRack, top_on_host};
 pub use memory::top_in_memory;
 pub use program::top;

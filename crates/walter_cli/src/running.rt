@@ -205,7 +205,7 @@ fn text(alloc: Global, scenario: &Scenario, command: &Command, trails: &[Trail])
     ensures { IfOk result (λ text. text.items ≡ written_by command.now scenario.now trails.now) }
 {
     match command {
-        Command::Play { trace } | Command::Run { trace } => {
+        Command::Play { trace, .. } | Command::Run { trace, .. } => {
             report_text(alloc, scenario, *trace, trails)
         }
         Command::Load { seed, calls } => Ok(summary(alloc, *seed, *calls, trails)?.into_vec()),

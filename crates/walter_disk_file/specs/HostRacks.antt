@@ -1,11 +1,11 @@
 -- A rack of disks in memory or in a folder, as its callers see it.
-use Rattle.std.specs.Prelude.{ℕ, Bool, true, false, List, [], Option, None, Some}
+use Rattle.std.specs.Prelude.{ℕ, List, [], Option, None, Some}
 use Rattle.walter_disk_file.specs.HostDisks.{empty_disk}
 use Rattle.walter_disk_file.specs.declared.host_disk.HostDisk.{HostDisk}
 
 pub record RackState : Type 0 where
-  -- the disks are files
-  pub in_folder : Bool
+  -- the path of the folder whose files the disks are, if they are files
+  pub folder : Option (List ℕ)
   -- how many disks were taken
   pub taken : ℕ
   -- the disks that were given back, each with its site
@@ -17,9 +17,9 @@ pub record RackState : Type 0 where
   pub faults : ℕ
 
 -- a rack with this room, of which nothing was asked
-abbrev pub fresh_rack : Bool → ℕ → RackState
-fresh_rack in_folder room = record {
-  in_folder = in_folder;
+abbrev pub fresh_rack : Option (List ℕ) → ℕ → RackState
+fresh_rack folder room = record {
+  folder = folder;
   taken = 0;
   given = [];
   handed = [];
@@ -28,17 +28,17 @@ fresh_rack in_folder room = record {
 }
 
 -- The disk that is taken for a folder and a site: in memory an empty one, and of a file no one can know.
-abbrev pub told_of : Bool → Option (Option (List ℕ) → ℕ → HostDisk)
-told_of false = Some (λ dir site. empty_disk)
-told_of true = None
+abbrev pub told_of : Option (List ℕ) → Option (Option (List ℕ) → ℕ → HostDisk)
+told_of None = Some (λ dir site. empty_disk)
+told_of (Some folder) = None
 
 abbrev pub disks_of : RackState → Option (Option (List ℕ) → ℕ → HostDisk)
-disks_of rack = told_of rack.in_folder
+disks_of rack = told_of rack.folder
 
 -- So many calls don't fail: in memory the room, and none where a file is to be opened.
-abbrev pub unfailing_within : Bool → ℕ → ℕ
-unfailing_within false room = room
-unfailing_within true room = 0
+abbrev pub unfailing_within : Option (List ℕ) → ℕ → ℕ
+unfailing_within None room = room
+unfailing_within (Some folder) room = 0
 
 abbrev pub unfailing_of : RackState → ℕ
-unfailing_of rack = unfailing_within rack.in_folder rack.room
+unfailing_of rack = unfailing_within rack.folder rack.room

@@ -1,8 +1,21 @@
 use crate::file_disk::FileDisk;
 use std::alloc::{AllocError, Global};
+use std::fmt;
 use std::fs::{File, Files};
 use std::path::PathBuf;
 use walter_disk::Failed;
+
+/// The name of the file that has the journal of a site.
+#[derive(Clone, Copy, Debug)]
+pub struct JournalName {
+    pub site: u8,
+}
+
+impl fmt::Display for JournalName {
+    fn fmt<W: fmt::Write>(&self, f: &mut fmt::Formatter<W>) -> fmt::Result {
+        write!(f, "site-{}.journal", self.site)
+    }
+}
 
 /// A folder that has the file of each site, and the system that it lies in.
 #[derive(Drop)]
@@ -35,6 +48,6 @@ impl<X: Files<File = File> + Drop> Folder<X> {
 // The file of a site in a folder.
 fn path_of(alloc: Global, dir: &str, site: u8) -> Result<PathBuf, AllocError> {
     let mut path = PathBuf::from_str(alloc, dir)?;
-    path.push(format!(in alloc; "site-{site}.journal")?)?;
+    path.push(format!(in alloc; "{}", JournalName { site })?)?;
     Ok(path)
 }

@@ -1,4 +1,5 @@
-ghost use Rattle.std.specs.Prelude.{◌≡◌, ◌+◌, ◌<◌, ◌≤◌, ◌++◌, ◌∷◌, [], true, false, All, IsOk, IfOk, IfSome, OnOk, OnErr};
+ghost use Rattle.std.specs.Prelude.{◌≡◌, ◌+◌, ◌<◌, ◌≤◌, ◌++◌, ◌∷◌, [], None, Some, All, IsOk, IfOk, IfSome, OnOk, OnErr};
+ghost use Rattle.std.specs.Prelude.{option_map, string_bytes};
 ghost use Rattle.std.specs.Option.{option_copied};
 ghost use Rattle.walter_disk.specs.Racks.{IsFresh};
 ghost use Rattle.walter_disk_file.specs.HostDisks.{empty_disk, known_of, may_leave_of, FailsOnlyIfArmed};
@@ -26,14 +27,14 @@ pub struct HostRack<X: Files<File = File> + Drop> {
 }
 
 impl<X: Files<File = File> + Drop> Model for HostRack<X> {
-    ghost use Rattle.std.specs.Prelude.{◌-◌, All, is_some, vec_len, vec_capacity};
+    ghost use Rattle.std.specs.Prelude.{◌-◌, All, option_map, string_bytes, vec_len, vec_capacity};
     ghost use Rattle.walter_disk_file.specs.HostDisks.{FailsOnlyIfArmed};
     ghost use Rattle.walter_disk_file.specs.HostRacks.{RackState};
 
     ghost Value = { RackState };
 
     ghost view = { λ s. record {
-      in_folder = is_some s.folder;
+      folder = option_map (λ f. string_bytes f.path) s.folder;
       taken = s.taken.count;
       given = s.given.items;
       handed = s.handed.disks;
@@ -48,7 +49,7 @@ impl<X: Files<File = File> + Drop> Model for HostRack<X> {
 impl<X: Files<File = File> + Drop> HostRack<X> {
     /// A rack of empty disks in memory.
     pub fn in_memory(alloc: Global) -> HostRack<X>
-        ensures { result ≡ fresh_rack false 0 }
+        ensures { result ≡ fresh_rack None 0 }
     {
         HostRack {
             alloc,
@@ -62,7 +63,7 @@ impl<X: Files<File = File> + Drop> HostRack<X> {
 
     /// The same, with room for so many of them to be given back.
     pub fn with_room(alloc: Global, gives: usize) -> Mem<HostRack<X>>
-        ensures { IfOk result (λ rack. rack ≡ fresh_rack false gives) }
+        ensures { IfOk result (λ rack. rack ≡ fresh_rack None gives) }
     {
         let given = Vec::with_capacity(alloc, gives)?;
         Ok(HostRack {
@@ -73,11 +74,21 @@ impl<X: Files<File = File> + Drop> HostRack<X> {
 
     /// A rack of the disks over the files `site-0.journal`, `site-1.journal` and so on of a folder. It must be there.
     pub fn over(alloc: Global, files: X, path: String) -> HostRack<X>
-        ensures { result ≡ fresh_rack true 0 }
+        ensures { result ≡ fresh_rack (Some (string_bytes path)) 0 }
     {
         HostRack {
             folder: Some(Folder { files, path }),
             ..HostRack::in_memory(alloc)
+        }
+    }
+
+    /// The path of the folder whose files its disks are, if they are files.
+    pub fn folder(&self) -> Option<&str>
+        ensures { option_map (λ path. path.now) result ≡ self.now.folder }
+    {
+        match &self.folder {
+            Some(folder) => Some(folder.path.as_str()),
+            None => None,
         }
     }
 
@@ -98,7 +109,7 @@ impl<X: Files<File = File> + Drop> HostRack<X> {
     }
 
     fn disk_of(&self, site: u8, dir: Option<&str>) -> Result<HostDisk, Failed>
-        ensures memory { self.now.in_folder ≡ false → result ≡ Ok empty_disk }
+        ensures memory { self.now.folder ≡ None → result ≡ Ok empty_disk }
         ensures fresh { IfOk result (λ disk. IsFresh (known_of disk) (may_leave_of disk)) }
     {
         match &self.folder {
@@ -110,8 +121,6 @@ impl<X: Files<File = File> + Drop> HostRack<X> {
 
 impl<X: Files<File = File> + Drop> Rack for HostRack<X> {
     type D = HostDisk;
-
-    ghost use Rattle.std.specs.Prelude.{Some};
 
     ghost faults = { λ r. r.faults };
 
@@ -138,7 +147,7 @@ impl<X: Files<File = File> + Drop> Rack for HostRack<X> {
         ensures cause { OnErr result (self.old.faults < self.new.faults) }
 
         // In memory it never fails. It takes no room.
-        ensures never { self.old.in_folder ≡ false → IsOk result }
+        ensures never { self.old.folder ≡ None → IsOk result }
         ensures same { self.new ≡ record self.old { taken = self.new.taken; faults = self.new.faults } }
     {
         match self.disk_of(site, dir) {
@@ -159,7 +168,7 @@ impl<X: Files<File = File> + Drop> Rack for HostRack<X> {
         ensures same_given { OnErr result (self.new.given ≡ self.old.given) }
         ensures handed { self.new.handed ≡ self.old.handed ++ (site, disk) ∷ [] }
         ensures same_taken { self.new.taken ≡ self.old.taken }
-        ensures same_disks { self.new.in_folder ≡ self.old.in_folder }
+        ensures same_disks { self.new.folder ≡ self.old.folder }
         ensures faultless { OnOk result (self.new.faults ≡ self.old.faults) }
         ensures sure { 0 < unfailing_of self.old
             → IsOk result × (unfailing_of self.old ≤ unfailing_of self.new + 1) }

@@ -10,5 +10,6 @@ mod host_rack;
 mod tests;
 
 pub use file_disk::FileDisk;
+pub use folder::JournalName;
 pub use host_disk::HostDisk;
 pub use host_rack::HostRack;

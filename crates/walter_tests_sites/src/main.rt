@@ -12,11 +12,13 @@
 //! | `memory` | what is said where memory runs out |
 //! | `random SEEDS` | whether so many runs at random are so, and enough happens in them |
 //! | `spread SEEDS` | whether behind so many runs at random all commits come to all sites |
+//! | `files SCENARIO` | how `play` ends over the files of a folder: an empty one, the same again, and once it is gone |
 //! | `sinks SCENARIO` | what the turns of a bench's two clients come to, and what their sinks hold |
 #![tactic(auto)]
 
 mod benches;
 mod ending;
+mod files;
 mod playing;
 mod schedules;
 mod texts;
@@ -24,13 +26,17 @@ mod worlds;
 
 use crate::benches::answers_and_held;
 use crate::ending::{end, reading, want_of_memory};
+use crate::files::play_over_files;
 use crate::playing::{Run, legal_history, play};
 use crate::schedules::{play_at_random, spread_all};
 use crate::texts::{end_of, expanded};
 use crate::worlds::is_same_in_a_world;
 use anyhow::{Result, bail};
+use std::fs::{File, Files};
+use std::path::PathBuf;
 use std::sync::Wait;
 use std::thread::Threads;
+use std::{env, process};
 
 // What is said of the run of a scenario, behind its report.
 fn told(rt: &impl AllocGlobal, scenario: &str, run: &Run) -> Result<&'static str> {
@@ -72,9 +78,10 @@ fn end_line(
     end(rt, command, given, scenario)
 }
 
-// What a command comes to.
+// What a command comes to. The folder is where `files` makes one.
 fn answer(
-    rt: &(impl AllocGlobal + Threads + Wait + Sync),
+    rt: &(impl AllocGlobal + Threads + Wait + Sync + Files<File = File>),
+    folder: &str,
     command: &str,
     rest: &str,
 ) -> Result<String> {
@@ -91,22 +98,35 @@ fn answer(
         "random" => play_at_random(rt, rest.parse().unwrap_or(0)),
         "spread" => spread_all(rt, rest.parse().unwrap_or(0)),
         "sinks" => answers_and_held(alloc, rest),
+        "files" => play_over_files(rt, folder, rest),
         _ => bail!("no line of this kind"),
     }
 }
 
 // What a line of input comes to.
-fn answer_line(rt: &(impl AllocGlobal + Threads + Wait + Sync), line: &str) -> Result<String> {
+fn answer_line(
+    rt: &(impl AllocGlobal + Threads + Wait + Sync + Files<File = File>),
+    folder: &str,
+    line: &str,
+) -> Result<String> {
     match line.split_once(' ') {
         Some(("#", _)) => Ok(String::from_str(rt.alloc(), line)?),
-        Some((command, rest)) => answer(rt, command, &expanded(rt.alloc(), rest)?),
-        None => answer(rt, line, ""),
+        Some((command, rest)) => answer(rt, folder, command, &expanded(rt.alloc(), rest)?),
+        None => answer(rt, folder, line, ""),
     }
 }
 
+// A path among the temporary files that no other program has.
+fn new_path(rt: &HostRuntime) -> Result<PathBuf> {
+    let mut path = env::temp_dir(rt)?;
+    path.push(format!(in rt.alloc(); "walter_tests_sites_{}", process::id(rt.process()))?)?;
+    Ok(path)
+}
+
 fn main(rt: HostRuntime) -> Result<()> {
+    let folder = new_path(&rt)?.into_string();
     for line in rt.lines(rt.alloc()) {
-        match answer_line(&rt, line?.as_str()) {
+        match answer_line(&rt, folder.as_str(), line?.as_str()) {
             Ok(text) => println!(rt; "{text}")?,
             Err(wrong) => println!(rt; "wrong: {wrong}")?,
         }

@@ -1,5 +1,5 @@
 -- The words ask for a run where clap takes them, and only there.
-use Rattle.std.proofs.Common.{◌≡◌, ◌⊎◌, ◌∙◌, ◌==◌, ◌<◌, ◌≤◌, ◌^◌, ℕ, Bool, true, false, List, [], ◌∷◌, Option, Some, None, codes, refl, sym, ap, inl, inr, subst, arith, Result, Ok, Err, if◌then◌else◌}
+use Rattle.std.proofs.Common.{◌≡◌, ◌⊎◌, ◌∙◌, ◌==◌, ◌<◌, ◌≤◌, ◌^◌, ℕ, Bool, true, false, List, [], ◌∷◌, Option, Some, None, codes, refl, sym, ap, inl, inr, subst, arith, Result, Ok, Err}
 use Rattle.std.specs.Str.Parse.{IsNumeral, ParsesUnsigned, digits_value, without_leading_plus}
 use Rattle.std.proofs.lemmas.Bool.{eqb-true}
 use Rattle.clap.specs.Matches.{ReadsOne}
@@ -8,18 +8,18 @@ use Rattle.clap.specs.declared.error.kind.ErrorKind.{ErrorKind}
 use Rattle.clap.specs.declared.error.kind.ErrorKind.TheVariants.{DisplayHelp, DisplayVersion, OutOfMemory}
 use Rattle.walter_words.specs.declared.asked.WordsFault.{WordsFault}
 use Rattle.walter_words.specs.declared.asked.WordsFault.TheVariants.{Usage, Memory}
-use Rattle.clap.specs.Walk.{Row, Text, idle, nothing_held, one_of, rows_after}
+use Rattle.clap.specs.Walk.{Row, Text, nothing_held, rows_after}
 use Rattle.clap.specs.Simple.{is_simple, subcommand_of}
 use Rattle.clap.specs.Kinds.{IsAmong, Kinds}
-use Rattle.clap.specs.Faults.{fault_of, is_simple_and_free, level_fault, walk_fault}
+use Rattle.clap.specs.Faults.{fault_of, is_simple_and_free, level_fault}
 use Rattle.clap.proofs.OnLiterals.{clap_on_literals}
 use Rattle.walter_words.specs.declared.asked.Command.{Command}
 use Rattle.walter_words.specs.declared.asked.Command.TheVariants.{Play, Run, Load, Say}
 use Rattle.walter_words.specs.Lines.{walter_line}
-use Rattle.walter_words.specs.Words.{AsksFor, AsksForText, FollowsFrom, IsEnd, IsEntered, IsGiven, IsLoad, IsReadAs, IsSaid, IsTextKind, IsTold, IsTraced, Writes, trace_words}
-use Rattle.walter_words.proofs.Levels.{behind_name, first_word, load_fault, load_rows, play_fault, play_rows, run_fault, run_rows, traced_level}
+use Rattle.walter_words.specs.Words.{AsksFor, AsksForText, FollowsFrom, IsEntered, IsGiven, IsLoad, IsReadAs, IsRunLine, IsSaid, IsText, IsTextKind, IsTold, NamesFolder, Writes, folder_of}
+use Rattle.walter_words.proofs.Levels.{driven_level, first_word, load_fault, load_rows, play_fault, play_rows, run_fault, run_rows}
+use Rattle.walter_words.proofs.Drives.{behind_name, options_pass}
 use Rattle.walter_words.proofs.Loads.{IsNoFlag, TwoOptions, behind_load, load_passes, row}
-use Rattle.walter_words.proofs.Turns.{at_word, both_empty}
 
 -- a number is no flag
 no_flag : (v : Text) (n : ℕ) → Writes v n → IsNoFlag v
@@ -37,22 +37,10 @@ fits v n most h low high = (h.0, rw h.1 low, omega arith, rw h.1 high)
 
 -- ---- play and run
 
--- the level of a command takes what `IsTraced` says, and keeps whether `--trace` was there
-abbrev IsTaken : Text → Bool → List Text → Type 0
-IsTaken name trace words = (level_fault (traced_level name) [] nothing_held words false [] ≡ [])
-    × (one_of (codes "trace") (rows_after (traced_level name).rules [] words) ≡ Some (if trace then codes "true" else codes "false"))
-
-level_takes : (name : Text) (trace : Bool) (rest : List Text) → IsEnd rest → IsTaken name trace (trace_words trace rest)
-unfolding clap_on_literals
-level_takes name true rest (inl none) = subst (λ r. IsTaken name true (codes "--trace" ∷ r)) (sym none) (refl, refl)
-level_takes name true rest (inr end) = subst (λ r. IsTaken name true (codes "--trace" ∷ r)) (sym end) (refl, refl)
-level_takes name false rest (inl none) = subst (IsTaken name false) (sym none) (refl, refl)
-level_takes name false rest (inr end) = subst (IsTaken name false) (sym end) (refl, refl)
-
 -- what is behind this name is left to its level
 abbrev IsEnteredBy : Text → Type 0
-IsEnteredBy name = (rest : List Text) → (fault_of walter_line (name ∷ rest) ≡ level_fault (traced_level name) [] nothing_held rest false [])
-    × (subcommand_of walter_line (name ∷ rest) ≡ Some (name, rows_after (traced_level name).rules [] rest))
+IsEnteredBy name = (rest : List Text) → (fault_of walter_line (name ∷ rest) ≡ level_fault (driven_level name) [] nothing_held rest false [])
+    × (subcommand_of walter_line (name ∷ rest) ≡ Some (name, rows_after (driven_level name).rules [] rest))
 
 play_entered : IsEnteredBy (codes "play")
 play_entered rest = (play_fault rest, play_rows rest)
@@ -60,27 +48,19 @@ play_entered rest = (play_fault rest, play_rows rest)
 run_entered : IsEnteredBy (codes "run")
 run_entered rest = (run_fault rest, run_rows rest)
 
-traced_takes : (name : Text) (trace : Bool) (words : List Text) → IsEnteredBy name → IsTraced name trace words
-    → (fault_of walter_line words ≡ []) × IsEntered name trace (subcommand_of walter_line words)
-traced_takes name trace words enters asks =
-    let behind = trace_words trace asks.0 in
-    let takes = level_takes name trace asks.0 asks.1 in
-    let enter = enters behind in
-    subst (λ w. (fault_of walter_line w ≡ []) × IsEntered name trace (subcommand_of walter_line w)) (sym asks.2)
-    (enter.0 ∙ takes.0, (rows_after (traced_level name).rules [] behind, enter.1, takes.1))
+run_line_takes : (name : Text) (trace : Bool) (disks : Option Text) (words : List Text) → IsEnteredBy name → IsRunLine name trace disks words
+    → (fault_of walter_line words ≡ []) × IsEntered name trace disks (subcommand_of walter_line words)
+run_line_takes name trace disks words enters (options, rest, is, are, over) =
+    let takes = options_pass name trace disks options rest are over in
+    let enter = enters options in
+    subst (λ w. (fault_of walter_line w ≡ []) × IsEntered name trace disks (subcommand_of walter_line w)) (sym is)
+    (enter.0 ∙ takes.0, (rows_after (driven_level name).rules [] options, enter.1, takes.1))
 
-traced_asked : (name : Text) (rest : List Text) → level_fault (traced_level name) [] nothing_held rest false [] ≡ [] → (trace : Bool) × IsTraced name trace (name ∷ rest)
-traced_asked name rest e = elim (behind_name name rest (both_empty (walk_fault (traced_level name) [] (at_word [] None idle false) rest) _ e).0) [
-  | inl none ↦ (false, ([], inl refl, ap (λ r. name ∷ r) none))
-  | inr (inl end) ↦ (false, (codes "--" ∷ [], inr refl, ap (λ r. name ∷ r) end))
-  | inr (inr (inl none)) ↦ (true, ([], inl refl, ap (λ r. name ∷ r) none))
-  | inr (inr (inr end)) ↦ (true, (codes "--" ∷ [], inr refl, ap (λ r. name ∷ r) end))
-]
-
-traced_only : (name : Text) (words rest : List Text) → IsEnteredBy name → words ≡ name ∷ rest → fault_of walter_line words ≡ [] → (trace : Bool) × IsTraced name trace words
-traced_only name words rest enters is e =
-    let command = traced_asked name rest (sym (enters rest).0 ∙ subst (λ w. fault_of walter_line w ≡ []) is e) in
-    (command.0, subst (IsTraced name command.0) (sym is) command.1)
+run_line_only : (name : Text) (words rest : List Text) → IsEnteredBy name → words ≡ name ∷ rest → fault_of walter_line words ≡ []
+    → (trace : Bool) × (disks : Option Text) × IsRunLine name trace disks words
+run_line_only name words rest enters is e =
+    let taken = behind_name name rest (sym (enters rest).0 ∙ subst (λ w. fault_of walter_line w ≡ []) is e) in
+    (taken.0, taken.1, (rest, taken.2, is, taken.3, taken.4))
 
 -- ---- load
 
@@ -113,8 +93,8 @@ load_takes seed calls words (s, c, options, rest, is, options_are, over, wrote, 
 
 -- clap takes the words that ask for a run, and its matches are read as that run
 pub taken : (command : Command) (words : List Text) → AsksFor command words → (fault_of walter_line words ≡ []) × IsReadAs (subcommand_of walter_line words) command
-taken (Play trace) words asks = traced_takes (codes "play") trace words play_entered asks
-taken (Run trace) words asks = traced_takes (codes "run") trace words run_entered asks
+taken (Play trace disks) words asks = run_line_takes (codes "play") trace disks words play_entered asks
+taken (Run trace disks) words asks = run_line_takes (codes "run") trace disks words run_entered asks
 taken (Load seed calls) words asks = load_takes seed calls words asks
 taken (Say text) words asks = absurd asks
 
@@ -124,11 +104,11 @@ asked words e =
     let first = first_word words e in
     elim first.1 [
       | inl play ↦
-          let command = traced_only (codes "play") words first.0 play_entered play e in
-          (Play command.0, command.1)
+          let command = run_line_only (codes "play") words first.0 play_entered play e in
+          (Play command.0 command.1, command.2)
       | inr (inl run) ↦
-          let command = traced_only (codes "run") words first.0 run_entered run e in
-          (Run command.0, command.1)
+          let command = run_line_only (codes "run") words first.0 run_entered run e in
+          (Run command.0 command.1, command.2)
       | inr (inr load) ↦
           let command = load_asked first.0 (behind_load first.0 (sym (load_fault first.0) ∙ subst (λ w. fault_of walter_line w ≡ []) load e)) in
           (Load command.0 command.1, subst (IsLoad command.0 command.1) (sym load) command.2)
@@ -153,8 +133,8 @@ read_back words entered result none is reads =
     (a.0, a.1, reads a.0 (subst (λ e. IsReadAs e a.0) (sym is) (taken a.0 words a.1).1))
 
 pub command_follows : (command : Command) (words : List Text) (kinds : Kinds) → AsksFor command words → kinds ≡ [] → FollowsFrom kinds (Ok command)
-command_follows (Play trace) words kinds asks e = e
-command_follows (Run trace) words kinds asks e = e
+command_follows (Play trace disks) words kinds asks e = e
+command_follows (Run trace disks) words kinds asks e = e
 command_follows (Load seed calls) words kinds asks e = e
 command_follows (Say text) words kinds asks e = absurd asks
 
@@ -194,8 +174,8 @@ told_said words kind (Err (Usage text)) asks (inr among) told =
     ]
 
 pub told_follows : (kinds : Kinds) (kind : ErrorKind) (r : Result Command WordsFault) → (kind ≡ OutOfMemory) ⊎ IsAmong kind kinds → IsTold kind r → FollowsFrom kinds r
-told_follows kinds kind (Ok (Play trace)) has told = absurd told.0
-told_follows kinds kind (Ok (Run trace)) has told = absurd told.0
+told_follows kinds kind (Ok (Play trace disks)) has told = absurd told.0
+told_follows kinds kind (Ok (Run trace disks)) has told = absurd told.0
 told_follows kinds kind (Ok (Load seed calls)) has told = absurd told.0
 told_follows kinds kind (Ok (Say text)) (inl is) told = absurd (not_text (subst IsTextKind is told.1))
 told_follows kinds kind (Ok (Say text)) (inr among) told = elim told.1 [
@@ -205,6 +185,22 @@ told_follows kinds kind (Ok (Say text)) (inr among) told = elim told.1 [
 told_follows kinds kind (Err Memory) has told = tt
 told_follows kinds kind (Err (Usage text)) (inl is) told = absurd (told.1 is)
 told_follows kinds kind (Err (Usage text)) (inr among) told = (kind, among, told.0)
+
+-- the folder of the one run that the words ask for is the one that they name
+pub names : (command : Command) (words : List Text) → AsksFor command words ⊎ IsText command
+    → ((other : Command) → AsksFor other words → command ≡ other) → NamesFolder (folder_of command) words
+names (Play trace None) words asks only = λ other line. ap folder_of (sym (only other line))
+names (Play trace (Some folder)) words asks only = elim asks [
+  | inl line ↦ (Play trace (Some folder), line, refl)
+  | inr text ↦ absurd text
+]
+names (Run trace None) words asks only = λ other line. ap folder_of (sym (only other line))
+names (Run trace (Some folder)) words asks only = elim asks [
+  | inl line ↦ (Run trace (Some folder), line, refl)
+  | inr text ↦ absurd text
+]
+names (Load seed calls) words asks only = λ other line. ap folder_of (sym (only other line))
+names (Say text) words asks only = λ other line. ap folder_of (sym (only other line))
 
 -- a number that fits is read
 pub number_read : (E : Type 0) (G : List ℕ → Result ℕ E → Type 0) (k : ℕ) (t : Text) (n : ℕ) (r : Option ℕ) → ReadsOne G t r

@@ -2,25 +2,22 @@
 use Rattle.std.proofs.Common.{◌≡◌, ◌⊎◌, ◌∙◌, ◌==◌, ℕ, Bool, true, false, List, [], ◌∷◌, ◌++◌, Option, Some, None, codes, fold, refl, sym, ap, inl, inr, subst, append-nil, append_assoc, is_some}
 use Rattle.std.specs.Str.{bytes_eq}
 use Rattle.std.proofs.lemmas.Slice.Eq.{bytes_eq-Decides}
-use Rattle.clap.specs.Lexer.{long_of}
-use Rattle.clap.specs.Walk.{Held, Names, Row, Rule, Text, Walk, finished, has_row, settled, walk_from, arg_by_long, arg_by_short, idle, nothing_held, rows_after, subcommand_met, takes_values, walked}
-use Rattle.clap.specs.Simple.{Shape, filled, help_rule, version_rule, built, built_leaf, entered, inherited, marked_built, names_of, new_app, subcommand_of, with_leaf_noted, with_rule}
-use Rattle.clap.specs.declared.error.kind.ErrorKind.TheVariants.{ArgumentConflict, DisplayHelp, DisplayVersion, TooManyValues}
-use Rattle.clap.specs.declared.parser.matches.ValueSource.TheVariants.{CommandLine}
-use Rattle.clap.specs.declared.builder.value_parser.Reading.TheVariants.{AsWritten}
+use Rattle.clap.specs.Walk.{Held, Names, Rule, Text, Walk, finished, settled, walk_from, arg_by_long, arg_by_short, idle, nothing_held, rows_after, subcommand_met, takes_values, walked}
+use Rattle.clap.specs.Simple.{Shape, filled, help_rule, version_rule, built, built_leaf, entered, inherited, marked_built, names_of, subcommand_of, with_leaf_noted}
+use Rattle.clap.specs.declared.error.kind.ErrorKind.TheVariants.{DisplayHelp, DisplayVersion}
 use Rattle.clap.specs.Kinds.{Kinds, or_else}
 use Rattle.clap.specs.Faults.{check_fault, defaults_fault, entered_fault, fault_of, level_fault, long_fault, react_fault, settle_fault, walk_fault}
 use Rattle.clap.proofs.OnLiterals.{clap_on_literals}
-use Rattle.walter_words.specs.Lines.{load_line, trace_rule, walter_line}
-use Rattle.walter_words.proofs.Longs.{long_without, same_some}
-use Rattle.walter_words.proofs.Turns.{IsFlagRead, at_word, both_empty, hyphens, idle_turn, one_word, value_fails}
+use Rattle.walter_words.specs.Lines.{driven_line, load_line, walter_line}
+use Rattle.walter_words.proofs.Longs.{same_some}
+use Rattle.walter_words.proofs.Turns.{both_empty, hyphens, idle_turn, one_word}
 
 abbrev above : Shape
 above = with_leaf_noted (marked_built walter_line.top)
 
--- the level of the command of this name that takes `--trace`
-abbrev pub traced_level : Text → Shape
-traced_level command = built_leaf (inherited above (with_rule (new_app command) trace_rule).top)
+-- the level of the command of this name that takes `--trace` and `--disks`
+abbrev pub driven_level : Text → Shape
+driven_level command = built_leaf (inherited above (driven_line command).top)
 
 abbrev pub load_level : Shape
 load_level = built_leaf (inherited above load_line.top)
@@ -55,18 +52,18 @@ ends_by words w = or_else (walk_fault top_level top_names (walk_from nothing_hel
     (or_else (defaults_fault (settled top_level.rules w.held).rows top_level.rules)
     (check_fault top_level (finished top_level.rules w.held) (is_some (entered (built walter_line) w.stopped))))))
 
-pub play_fault : (rest : List Text) → fault_of walter_line (codes "play" ∷ rest) ≡ level_fault (traced_level (codes "play")) [] nothing_held rest false []
+pub play_fault : (rest : List Text) → fault_of walter_line (codes "play" ∷ rest) ≡ level_fault (driven_level (codes "play")) [] nothing_held rest false []
 unfolding clap_on_literals
 play_fault rest =
     ap (ends_by (codes "play" ∷ rest)) (gathers top_level.rules top_names (walk_from nothing_held) (codes "play") [] rest)
-    ∙ (ap (λ x. or_else x (or_else (level_fault (traced_level (codes "play")) [] nothing_held rest false []) [])) (no_fault_past top_level top_names (walk_from nothing_held) (codes "play") [] rest)
+    ∙ (ap (λ x. or_else x (or_else (level_fault (driven_level (codes "play")) [] nothing_held rest false []) [])) (no_fault_past top_level top_names (walk_from nothing_held) (codes "play") [] rest)
     ∙ or_else_none _)
 
-pub run_fault : (rest : List Text) → fault_of walter_line (codes "run" ∷ rest) ≡ level_fault (traced_level (codes "run")) [] nothing_held rest false []
+pub run_fault : (rest : List Text) → fault_of walter_line (codes "run" ∷ rest) ≡ level_fault (driven_level (codes "run")) [] nothing_held rest false []
 unfolding clap_on_literals
 run_fault rest =
     ap (ends_by (codes "run" ∷ rest)) (gathers top_level.rules top_names (walk_from nothing_held) (codes "run") [] rest)
-    ∙ (ap (λ x. or_else x (or_else (level_fault (traced_level (codes "run")) [] nothing_held rest false []) [])) (no_fault_past top_level top_names (walk_from nothing_held) (codes "run") [] rest)
+    ∙ (ap (λ x. or_else x (or_else (level_fault (driven_level (codes "run")) [] nothing_held rest false []) [])) (no_fault_past top_level top_names (walk_from nothing_held) (codes "run") [] rest)
     ∙ or_else_none _)
 
 pub load_fault : (rest : List Text) → fault_of walter_line (codes "load" ∷ rest) ≡ level_fault load_level [] nothing_held rest false []
@@ -76,11 +73,11 @@ load_fault rest =
     ∙ (ap (λ x. or_else x (or_else (level_fault load_level [] nothing_held rest false []) [])) (no_fault_past top_level top_names (walk_from nothing_held) (codes "load") [] rest)
     ∙ or_else_none _)
 
-pub play_rows : (rest : List Text) → subcommand_of walter_line (codes "play" ∷ rest) ≡ Some (codes "play", rows_after (traced_level (codes "play")).rules [] rest)
+pub play_rows : (rest : List Text) → subcommand_of walter_line (codes "play" ∷ rest) ≡ Some (codes "play", rows_after (driven_level (codes "play")).rules [] rest)
 unfolding clap_on_literals
 play_rows rest = ap (λ (w : Walk). entered (built walter_line) w.stopped) (gathers top_level.rules top_names (walk_from nothing_held) (codes "play") [] rest)
 
-pub run_rows : (rest : List Text) → subcommand_of walter_line (codes "run" ∷ rest) ≡ Some (codes "run", rows_after (traced_level (codes "run")).rules [] rest)
+pub run_rows : (rest : List Text) → subcommand_of walter_line (codes "run" ∷ rest) ≡ Some (codes "run", rows_after (driven_level (codes "run")).rules [] rest)
 unfolding clap_on_literals
 run_rows rest = ap (λ (w : Walk). entered (built walter_line) w.stopped) (gathers top_level.rules top_names (walk_from nothing_held) (codes "run") [] rest)
 
@@ -116,90 +113,6 @@ is_request s a b h e = subst (IsRequest s) (same_some _ _ e) h
 pub request_fails : (s : Shape) (a : Rule) (v : Option Text) (h : Held) → IsRequest s a → long_fault s.rules s.args_override_self (Some a) v h ≡ [] → ⊥
 request_fails s a None h request e = request.1 h (rw request.0 at e)
 request_fails s a (Some v) h request e = let bad : _ ≡ [] = rw request.0 at e in cc
-
--- ---- behind the name of a command that takes `--trace`
-
-abbrev trace_flag : Rule
-trace_flag = filled trace_rule
-
-trace_row : Row
-trace_row = record { id = codes "trace"; values = codes "true" ∷ []; count = None; source = Some CommandLine; reading = AsWritten }
-
-module _ (command : Text) where
-  abbrev level : Shape
-  level = traced_level command
-
-  traced_shorts : (x : ℕ) (a : Rule) (h : Held) → arg_by_short level.rules x ≡ Some a → (takes_values a ≡ false) × (react_fault level.rules level.args_override_self a [] h ≡ [] → ⊥)
-  traced_shorts x a h e = go (104 == x) refl
-    where
-      go : (b : Bool) → (104 == x) ≡ b → (takes_values a ≡ false) × (react_fault level.rules level.args_override_self a [] h ≡ [] → ⊥)
-      go true is = let r = is_request level help_flag a (help_request level) (rw is at e) in (r.0, r.1 h)
-      go false is = let bad : None ≡ Some a = rw is at e in cc
-
-  traced_flags : (name : Text) (a : Rule) → arg_by_long level.rules name ≡ Some a → ((name ≡ codes "trace") × (a ≡ trace_flag)) ⊎ IsRequest level a
-  traced_flags name a e = go (bytes_eq (codes "trace") name) refl
-    where
-      help : (b : Bool) → bytes_eq (codes "trace") name ≡ false → bytes_eq (codes "help") name ≡ b → ((name ≡ codes "trace") × (a ≡ trace_flag)) ⊎ IsRequest level a
-      help true first is = inr (is_request level help_flag a (help_request level) (rw (first, is) at e))
-      help false first is = let bad : None ≡ Some a = rw (first, is) at e in cc
-
-      go : (b : Bool) → bytes_eq (codes "trace") name ≡ b → ((name ≡ codes "trace") × (a ≡ trace_flag)) ⊎ IsRequest level a
-      go true is = inl (sym ((bytes_eq-Decides _ _).0 is), sym (same_some _ _ (rw is at e)))
-      go false is = help (bytes_eq (codes "help") name) is refl
-
-  -- `--trace`, where it wasn't given yet
-  trace_case : (word name : Text) (v : Option Text) (rows : List Row) (a : Rule) → long_of word ≡ Some (name, v) → name ≡ codes "trace" → a ≡ trace_flag
-      → long_fault level.rules level.args_override_self (Some a) v (record { rows = rows; pending = None; skip = 0 }) ≡ []
-      → (word ≡ codes "--trace") × (has_row (codes "trace") rows ≡ false)
-  trace_case word name (Some x) rows a long named is e = let bad : TooManyValues ∷ [] ≡ [] = rw is at e in cc
-  trace_case word name None rows a long named is e = (long_without word name long ∙ ap (λ n. 45 ∷ 45 ∷ n) named, go (has_row (codes "trace") rows) refl (rw is at e))
-    where
-      go : (b : Bool) → has_row (codes "trace") rows ≡ b
-          → react_fault level.rules level.args_override_self trace_flag [] (record { rows = rows; pending = None; skip = 0 }) ≡ [] → has_row (codes "trace") rows ≡ false
-      go true row f = let bad : ArgumentConflict ∷ [] ≡ [] = rw row at f in cc
-      go false row f = row
-
-  trace_read : (word : Text) (rows : List Row) → IsFlagRead level (record { rows = rows; pending = None; skip = 0 }) word
-      → (word ≡ codes "--trace") × (has_row (codes "trace") rows ≡ false)
-  trace_read word rows read = elim (traced_flags read.0.0 read.1 read.3) [
-    | inl trace ↦ trace_case word read.0.0 read.0.1 rows read.1 read.2 trace.0 trace.1 read.4
-    | inr request ↦ absurd (request_fails level read.1 read.0.1 (record { rows = rows; pending = None; skip = 0 }) request read.4)
-  ]
-
-  -- nothing stands behind the two hyphens
-  no_more : (rest : List Text) (rows : List Row) → walk_fault level [] (at_word rows None idle true) rest ≡ [] → rest ≡ []
-  unfolding walk_fault
-  no_more [] rows e = refl
-  no_more (word ∷ rest) rows e =
-      absurd (value_fails level refl traced_shorts (record { rows = rows; pending = None; skip = 0 }) (one_word level [] (at_word rows None idle true) word rest e).0)
-
-  -- what stands behind `--trace`
-  behind_trace : (rest : List Text) → walk_fault level [] (at_word (trace_row ∷ []) None idle false) rest ≡ [] → (rest ≡ []) ⊎ (rest ≡ codes "--" ∷ [])
-  unfolding walked trace_row
-  behind_trace [] e = inl refl
-  behind_trace (word ∷ rest) e =
-      let one = one_word level [] (at_word (trace_row ∷ []) None idle false) word rest e in
-      elim (idle_turn level refl traced_shorts [] word (trace_row ∷ []) None refl one.0) [
-        | inl end ↦ inr (ap (λ w. w ∷ rest) end ∙ ap (λ r. hyphens ∷ r) (no_more rest (trace_row ∷ []) (rw end at one.1)))
-        | inr read ↦ let bad : true ≡ false = (trace_read word (trace_row ∷ []) read).1 in cc
-      ]
-
-  -- the words that it takes
-  pub behind_name : (rest : List Text) → walk_fault level [] (at_word [] None idle false) rest ≡ []
-      → (rest ≡ []) ⊎ (rest ≡ codes "--" ∷ []) ⊎ (rest ≡ codes "--trace" ∷ []) ⊎ (rest ≡ codes "--trace" ∷ codes "--" ∷ [])
-  unfolding walked trace_row
-  behind_name [] e = inl refl
-  behind_name (word ∷ rest) e =
-      let one = one_word level [] (at_word [] None idle false) word rest e in
-      elim (idle_turn level refl traced_shorts [] word [] None refl one.0) [
-        | inl end ↦ inr (inl (ap (λ w. w ∷ rest) end ∙ ap (λ r. hyphens ∷ r) (no_more rest [] (rw end at one.1))))
-        | inr read ↦
-            let is = (trace_read word [] read).0 in
-            elim (behind_trace rest (rw is at one.1)) [
-              | inl none ↦ inr (inr (inl (ap (λ w. w ∷ rest) is ∙ ap (λ r. codes "--trace" ∷ r) none)))
-              | inr end ↦ inr (inr (inr (ap (λ w. w ∷ rest) is ∙ ap (λ r. codes "--trace" ∷ r) end)))
-            ]
-      ]
 
 -- ---- the first word
 

@@ -2,5 +2,6 @@ pub mod Longs
 pub mod Turns
 pub mod Levels
 pub mod Loads
+pub mod Drives
 pub mod Asking
 pub mod Entered

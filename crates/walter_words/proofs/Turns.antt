@@ -1,6 +1,6 @@
 -- What a word may be at a level that has no positionals, and whose short flags all ask for a text.
-use Rattle.std.proofs.Common.{◌≡◌, ◌⊎◌, ℕ, Bool, true, false, List, [], ◌∷◌, length, drop, Option, Some, None, is_some, refl, inl, inr}
-use Rattle.std.specs.Prelude.{slice_get, encode_utf8, if◌then◌else◌}
+use Rattle.std.proofs.Common.{◌≡◌, ◌⊎◌, ℕ, Bool, true, false, List, [], ◌∷◌, length, drop, Option, Some, None, is_some, refl, sym, ap₂, ◌∙◌, inl, inr}
+use Rattle.std.specs.Prelude.{slice_get, encode_utf8, if◌then◌else◌, option_and_then}
 use Rattle.std.specs.Str.{bytes_eq, chars}
 use Rattle.std.proofs.lemmas.Slice.Eq.{bytes_eq-Decides}
 use Rattle.clap.specs.Lexer.{long_of, short_of}
@@ -9,6 +9,7 @@ use Rattle.clap.specs.Simple.{Shape}
 use Rattle.std.specs.Option.{option_map_or}
 use Rattle.clap.specs.declared.error.kind.ErrorKind.TheVariants.{InvalidSubcommand, TooManyValues, UnknownArgument}
 use Rattle.clap.specs.Kinds.{Kinds, or_else}
+use Rattle.walter_words.specs.Words.{IsPlainWord}
 use Rattle.clap.specs.Faults.{bundle_fault, bundle_step_fault, flag_word_fault, flags_fault, long_fault, option_fault, react_fault, settle_fault, short_fault, step_fault, turn_fault, use_fault, walk_fault}
 
 pub both_empty : (a b : Kinds) → or_else a b ≡ [] → (a ≡ []) × (b ≡ [])
@@ -20,6 +21,18 @@ pub one_word : (s : Shape) (names : Names) (w : Walk) (word : Text) (rest : List
     → (turn_fault s names w word ≡ []) × (walk_fault s names (walked s.rules names w word) rest ≡ [])
 unfolding walk_fault
 one_word s names w word rest e = both_empty (turn_fault s names w word) (walk_fault s names (walked s.rules names w word) rest) e
+
+no_characters : slice_get (chars []) 0 ≡ None
+unfolding chars
+no_characters = refl
+
+-- texts that differ are found to
+bytes_differ : (a b : Text) → (a ≡ b → ⊥) → bytes_eq a b ≡ false
+bytes_differ a b differ = go (bytes_eq a b) refl
+  where
+    go : (x : Bool) → bytes_eq a b ≡ x → bytes_eq a b ≡ false
+    go true is = absurd (differ ((bytes_eq-Decides a b).0 is))
+    go false is = is
 
 -- the two hyphens that end the options
 abbrev pub hyphens : Text
@@ -175,3 +188,69 @@ module _ (s : Shape) (values : arg_by_index s.rules 1 ≡ None)
           let other : or_else (flag_word_fault s.rules s.args_override_self (long_of word) word h)
           (step_fault s 1 (long_or_other s.rules (option id) word (long_of word) h).0 (long_or_other s.rules (option id) word (long_of word) h).1) ≡ [] = rw is at f in
           inr (rw is (long_waits id word (long_of word) rows pending waits (both_empty (flag_word_fault s.rules s.args_override_self (long_of word) word h) _ other).0))
+
+  -- a word that may be a value of an option passes where one waits, and is it
+  short_plain : (id word : Text) (o : Option Text) (rows : List Row) (pending : Option (Text × List Text))
+      → let h : Held = record { rows = rows; pending = pending; skip = 0 } in
+      option_and_then (λ flags. slice_get (chars flags) 0) o ≡ None
+      → (short_or_plain s.rules (option id) word o h ≡ plain_word s.rules (option id) word h)
+      × (option_map_or (λ flags. bundle_fault s.rules s.args_override_self flags h) o [] ≡ [])
+  unfolding flags_fault bundle_met
+  short_plain id word None rows pending none = (refl, refl)
+  short_plain id word (Some []) rows pending none = (refl, refl)
+  short_plain id word (Some (f ∷ fs)) rows pending none = (rw none refl, rw none refl)
+
+  pub plain_met : (id word : Text) (rows : List Row) (pending : Option (Text × List Text)) → IsPlainWord word
+      → let h : Held = record { rows = rows; pending = pending; skip = 0 } in
+      word_met s.rules [] false (option id) 1 word h ≡ plain_word s.rules (option id) word h
+  plain_met id word rows pending it =
+      rw (bytes_differ word hyphens it.0, it.1) (short_plain id word (short_of word) rows pending it.2).0
+
+  pub plain_turn : (id word : Text) (rows : List Row) (pending : Option (Text × List Text)) → IsPlainWord word
+      → turn_fault s [] (at_word rows pending (option id) false) word ≡ []
+  plain_turn id word rows pending it =
+      let h : Held = record { rows = rows; pending = pending; skip = 0 } in
+      let short = short_plain id word (short_of word) rows pending it.2 in
+      rw (bytes_differ word hyphens it.0, it.1)
+      (ap₂ (λ x (m : Held × Step). or_else x (step_fault s 1 m.0 m.1)) short.1 short.0)
+
+  -- and a word that passes there is such a one, or the two hyphens
+  first_none : (o : Option Text) (rows : List Row) (pending : Option (Text × List Text))
+      → let h : Held = record { rows = rows; pending = pending; skip = 0 } in
+      (settle_fault s.rules s.args_override_self h ≡ [] → ⊥)
+      → option_map_or (λ flags. bundle_fault s.rules s.args_override_self flags h) o [] ≡ []
+      → option_and_then (λ flags. slice_get (chars flags) 0) o ≡ None
+  unfolding flags_fault
+  first_none None rows pending waits e = refl
+  first_none (Some []) rows pending waits e = no_characters
+  first_none (Some (f ∷ fs)) rows pending waits e = go (slice_get (chars (f ∷ fs)) 0) refl e
+    where
+      go : (o : Option ℕ) → slice_get (chars (f ∷ fs)) 0 ≡ o
+          → bundle_step_fault s.rules s.args_override_self o (f ∷ fs) 0 (record { rows = rows; pending = pending; skip = 0 }) (flags_fault s.rules s.args_override_self (length fs)) ≡ []
+          → slice_get (chars (f ∷ fs)) 0 ≡ None
+      go None is step = is
+      go (Some x) is step = absurd (shorts_wait (arg_by_short s.rules x) (drop (length (encode_utf8 x)) (f ∷ fs))
+          (record { rows = rows; pending = pending; skip = 0 }) (flags_fault s.rules s.args_override_self (length fs) (drop (length (encode_utf8 x)) (f ∷ fs)) 0) waits step)
+
+  long_none : (word : Text) (o : Option (Text × Option Text)) (rows : List Row) (pending : Option (Text × List Text))
+      → let h : Held = record { rows = rows; pending = pending; skip = 0 } in
+      (settle_fault s.rules s.args_override_self h ≡ [] → ⊥) → flag_word_fault s.rules s.args_override_self o word h ≡ []
+      → (o ≡ None) × (option_and_then (λ flags. slice_get (chars flags) 0) (short_of word) ≡ None)
+  long_none word None rows pending waits e = (refl, first_none (short_of word) rows pending waits e)
+  long_none word (Some p) rows pending waits e = absurd (longs_wait (arg_by_long s.rules p.0) p.1 (record { rows = rows; pending = pending; skip = 0 }) waits e)
+
+  pub waiting_plain : (id word : Text) (rows : List Row) (pending : Option (Text × List Text))
+      → let h : Held = record { rows = rows; pending = pending; skip = 0 } in
+      (settle_fault s.rules s.args_override_self h ≡ [] → ⊥) → turn_fault s [] (at_word rows pending (option id) false) word ≡ []
+      → (word ≡ hyphens) ⊎ IsPlainWord word
+  waiting_plain id word rows pending waits e = go (bytes_eq word hyphens) refl e
+    where
+      go : (b : Bool) → bytes_eq word hyphens ≡ b → turn_fault s [] (at_word rows pending (option id) false) word ≡ []
+          → (word ≡ hyphens) ⊎ IsPlainWord word
+      go true is f = inl ((bytes_eq-Decides _ _).0 is)
+      go false is f =
+          let h : Held = record { rows = rows; pending = pending; skip = 0 } in
+          let other : or_else (flag_word_fault s.rules s.args_override_self (long_of word) word h)
+          (step_fault s 1 (long_or_other s.rules (option id) word (long_of word) h).0 (long_or_other s.rules (option id) word (long_of word) h).1) ≡ [] = rw is at f in
+          let none = long_none word (long_of word) rows pending waits (both_empty (flag_word_fault s.rules s.args_override_self (long_of word) word h) _ other).0 in
+          inr (λ same. (let bad : true ≡ false = sym ((bytes_eq-Decides word hyphens).1 same) ∙ is in cc), none.0, none.1)

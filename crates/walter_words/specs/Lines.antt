@@ -1,11 +1,19 @@
 -- What clap is told of the program's words.
 use Rattle.std.specs.Prelude.{true, Some, codes}
-use Rattle.clap.specs.Words.{App, Rule, new_app, new_rule, with_rule, with_subcommand}
+use Rattle.clap.specs.Words.{App, Rule, Text, new_app, new_rule, with_rule, with_subcommand}
 use Rattle.clap.specs.declared.builder.action.ArgAction.TheVariants.{Set, SetTrue}
-use Rattle.clap.specs.declared.builder.value_parser.ValueParser.TheVariants.{Unsigned}
+use Rattle.clap.specs.declared.builder.value_parser.ValueParser.TheVariants.{NonEmptyString, Unsigned}
 
 abbrev pub trace_rule : Rule
 trace_rule = record (new_rule (codes "trace")) { long = Some (codes "trace"); action = Some SetTrue }
+
+abbrev pub disks_rule : Rule
+disks_rule = record (new_rule (codes "disks")) {
+  long = Some (codes "disks");
+  value_names = 1;
+  action = Some Set;
+  parser = Some NonEmptyString;
+}
 
 abbrev pub seed_rule : Rule
 seed_rule = record (new_rule (codes "seed")) {
@@ -25,12 +33,15 @@ calls_rule = record (new_rule (codes "calls")) {
   parser = Some (Unsigned 0 20000);
 }
 
--- `play` and `run` take `--trace`, and `load` takes `--seed` and `--calls` with a number each
+-- `play` and `run` take `--trace`, and `--disks` with a folder; `load` takes `--seed` and `--calls` with a number each
+abbrev pub driven_line : Text → App
+driven_line name = with_rule (with_rule (new_app name) trace_rule) disks_rule
+
 abbrev pub play_line : App
-play_line = with_rule (new_app (codes "play")) trace_rule
+play_line = driven_line (codes "play")
 
 abbrev pub run_line : App
-run_line = with_rule (new_app (codes "run")) trace_rule
+run_line = driven_line (codes "run")
 
 abbrev pub load_line : App
 load_line = with_rule (with_rule (new_app (codes "load")) seed_rule) calls_rule

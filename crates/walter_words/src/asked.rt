@@ -1,29 +1,35 @@
-ghost use Rattle.std.specs.Prelude.{◌≡◌, ◌⊎◌, ◌<◌, ◌≤◌, ◌^◌, ℕ, Bool, List, IfOk, Some, codes, map};
+ghost use Rattle.std.specs.Prelude.{◌≡◌, ◌⊎◌, ◌<◌, ◌≤◌, ◌^◌, ℕ, Bool, List, Option, IfOk, Some, codes, map};
 ghost use Rattle.std.specs.Prelude.{if◌then◌else◌, string_bytes};
-ghost use Rattle.clap.specs.Words.{found_of, kind_of, one_of, rows_of, subcommand_rows_of};
+ghost use Rattle.clap.specs.Words.{first_of, found_of, kind_of, one_of, rows_of, subcommand_rows_of};
 ghost use Rattle.clap.specs.Faults.{fault_of};
 ghost use Rattle.walter_words.specs.Lines.{walter_line};
-ghost use Rattle.walter_words.specs.Words.{AsksFor, AsksForText, FollowsFrom, IsGiven, IsReadAs, IsSaid};
+ghost use Rattle.walter_words.specs.Words.{AsksFor, AsksForText, FollowsFrom, HasOptions, IsGiven, IsReadAs, IsSaid};
+ghost use Rattle.walter_words.specs.Words.{NamesFolder};
 ghost use Rattle.walter_words.specs.Words.{IsText, IsTold, Writes};
 
+use crate::folder_path::FolderPath;
 use crate::lines::walter;
 use clap::error::ErrorKind;
 use clap::{ArgMatches, Error};
-use std::alloc::Global;
+use std::alloc::{AllocError, Global};
 use thiserror::Error as ThisError;
 
 /// What the words ask for.
-#[derive(Debug, Drop, PartialEq, Eq)]
+#[derive(Debug, Drop)]
 pub enum Command {
     /// To play the scenario on standard input.
     Play {
         /// Whether a line for each event comes behind the report.
         trace: bool,
+        /// The folder that has the disks of the sites, if they aren't in memory.
+        disks: Option<FolderPath>,
     },
     /// To let threads drive the clients and the pumps of the scenario on standard input.
     Run {
         /// Whether a line for each event comes behind the report.
         trace: bool,
+        /// The folder that has the disks of the sites, if they aren't in memory.
+        disks: Option<FolderPath>,
     },
     /// To play a scenario that is made.
     Load {
@@ -34,6 +40,20 @@ pub enum Command {
     },
     /// To write this text, of a help or of the version, to standard output.
     Say(String),
+}
+
+impl Command {
+    ghost use Rattle.walter_words.specs.Words.{folder_of};
+
+    /// The folder that has the disks of its sites, if there is one.
+    fn into_folder(self) -> Option<FolderPath>
+        ensures { result ≡ folder_of self }
+    {
+        match self {
+            Command::Play { disks, .. } | Command::Run { disks, .. } => disks,
+            Command::Load { .. } | Command::Say(_) => None,
+        }
+    }
 }
 
 /// Why the words ask for nothing that can be done.
@@ -53,24 +73,38 @@ fn is_traced(matches: &ArgMatches<'_>) -> bool
     matches.get_flag("trace")
 }
 
-/// The command `play` with these matches.
-fn play_of(play: &ArgMatches<'_>) -> Command
-    ensures { (trace : Bool) → one_of (codes "trace") (rows_of (found_of play.now))
-        ≡ Some (if trace then codes "true" else codes "false") → result ≡ Command.Play trace }
+/// The folder that these matches, of `play` or of `run`, have behind `--disks`.
+fn disks_in(alloc: Global, matches: &ArgMatches<'_>) -> Result<Option<FolderPath>, AllocError>
+    ensures { IfOk result (λ disks. disks ≡ first_of (codes "disks") (rows_of (found_of matches.now))) }
 {
-    Command::Play {
-        trace: is_traced(play),
+    match matches.get_str("disks") {
+        Some(path) => Ok(Some(FolderPath::new(alloc, path)?)),
+        None => Ok(None),
     }
 }
 
-/// The command `run` with these matches.
-fn run_of(run: &ArgMatches<'_>) -> Command
-    ensures { (trace : Bool) → one_of (codes "trace") (rows_of (found_of run.now))
-        ≡ Some (if trace then codes "true" else codes "false") → result ≡ Command.Run trace }
+/// The command `play` with these matches.
+fn play_of(alloc: Global, play: &ArgMatches<'_>) -> Result<Command, AllocError>
+    ensures { (trace : Bool) (disks : Option (List ℕ)) → HasOptions trace disks (rows_of (found_of play.now))
+        → IfOk result (λ command. command ≡ Command.Play trace disks) }
 {
-    Command::Run {
+    let disks = disks_in(alloc, play)?;
+    Ok(Command::Play {
+        trace: is_traced(play),
+        disks,
+    })
+}
+
+/// The command `run` with these matches.
+fn run_of(alloc: Global, run: &ArgMatches<'_>) -> Result<Command, AllocError>
+    ensures { (trace : Bool) (disks : Option (List ℕ)) → HasOptions trace disks (rows_of (found_of run.now))
+        → IfOk result (λ command. command ≡ Command.Run trace disks) }
+{
+    let disks = disks_in(alloc, run)?;
+    Ok(Command::Run {
         trace: is_traced(run),
-    }
+        disks,
+    })
 }
 
 /// The command `load` with these matches, if they have both numbers.
@@ -87,16 +121,20 @@ fn load_of(load: &ArgMatches<'_>) -> Option<Command>
 }
 
 /// The command in these matches, if it is `play`, `run` or `load`.
-fn command_in(matches: &ArgMatches<'_>) -> Option<Command>
-    ensures { (command : Command) → IsReadAs (subcommand_rows_of matches.now) command → result ≡ Some command }
+fn command_in(alloc: Global, matches: &ArgMatches<'_>) -> Result<Option<Command>, AllocError>
+    ensures { (command : Command) → IsReadAs (subcommand_rows_of matches.now) command
+        → IfOk result (λ read. read ≡ Some command) }
 {
     if let Some(play) = matches.subcommand_matches("play") {
-        return Some(play_of(play));
+        return Ok(Some(play_of(alloc, play)?));
     }
     if let Some(run) = matches.subcommand_matches("run") {
-        return Some(run_of(run));
+        return Ok(Some(run_of(alloc, run)?));
     }
-    load_of(matches.subcommand_matches("load")?)
+    match matches.subcommand_matches("load") {
+        Some(load) => Ok(load_of(load)),
+        None => Ok(None),
+    }
 }
 
 /// What is said where there are no matches.
@@ -128,10 +166,22 @@ pub fn command_of(alloc: Global, words: &[String]) -> Result<Command, WordsFault
         return Err(WordsFault::Memory);
     };
     match walter.try_get_matches_from(words) {
-        Ok(matches) => match command_in(&matches) {
-            Some(command) => Ok(command),
-            None => unreachable!(),
+        Ok(matches) => match command_in(alloc, &matches) {
+            Ok(Some(command)) => Ok(command),
+            Ok(None) => unreachable!(),
+            Err(_) => Err(WordsFault::Memory),
         },
         Err(error) => told_of(alloc, &error),
+    }
+}
+
+/// The folder whose files the words ask a run over, if they name one. Words that ask for no run name none.
+pub fn folder_of(alloc: Global, words: &[String]) -> Result<Option<FolderPath>, AllocError>
+    ensures { IfOk result (λ folder. NamesFolder folder (map string_bytes words.now)) }
+{
+    match command_of(alloc, words) {
+        Ok(command) => Ok(command.into_folder()),
+        Err(WordsFault::Usage(_)) => Ok(None),
+        Err(WordsFault::Memory) => Err(AllocError),
     }
 }

@@ -2,9 +2,11 @@
 #![tactic(auto)]
 
 mod asked;
+mod folder_path;
 mod lines;
 
-pub use asked::{Command, WordsFault, command_of};
+pub use asked::{Command, WordsFault, command_of, folder_of};
+pub use folder_path::FolderPath;
 
 #[cfg(test)]
 mod tests;

@@ -1,8 +1,9 @@
 ghost use Rattle.std.specs.Prelude.{◌≡◌, IfOk, false};
 ghost use Rattle.clap.specs.Words.{app_of, rule_of};
 ghost use Rattle.clap.specs.declared.builder.command.Command.TheViews.{out-Command as fields_of};
-ghost use Rattle.walter_words.specs.Lines.{load_line, play_line, run_line, trace_rule, walter_line};
+ghost use Rattle.walter_words.specs.Lines.{disks_rule, load_line, play_line, run_line, trace_rule, walter_line};
 
+use clap::builder::ValueParser;
 use clap::{Arg, ArgAction, Command, value_parser};
 use std::alloc::{AllocError, Global};
 
@@ -15,6 +16,7 @@ static WALTER_ABOUT: &str =
 static WALTER_REST: &str = "\
 play reads a scenario from standard input. run reads one too, and lets threads drive it. load makes one of a
 seed and reads nothing. What comes of it is written to standard output. Each fault is told on standard error.
+The disks are in memory; with --disks DIR play and run keep each site's journal in a file of that folder.
 
 Statuses:
   0  all was written
@@ -38,6 +40,12 @@ A scenario is one JSON object: its sites, containers, clients with all that they
 has each client's replies and each site's log; with --trace a line for each event stands behind it.
 docs/FORMATS.md has both byte by byte.
 
+Without --disks the disks are in memory, and end with the program. With --disks DIR the journal of site 0 is
+the file site-0.journal of the folder DIR, that of site 1 site-1.journal, and so on. The folder must be there;
+a file that isn't is made. No fault that the scenario arms comes at a file. A run begins on journals without
+records: where a file holds records already, or is no journal, nothing is run, and the status is 7. Then move
+it away, or name another folder. tools/journal says in words what is in such a file.
+
 Statuses:
   0  the whole report was written
   1  the words are wrong
@@ -49,8 +57,9 @@ Statuses:
   7  a disk has something on it with which no site can begin
 But for 0 and 4 nothing is written.
 
-Example:
-  ./walter play --trace < examples/first_run.json";
+Examples:
+  ./walter play --trace < examples/first_run.json
+  folder=$(mktemp -d); ./walter play --disks \"$folder\" < examples/first_run.json";
 
 static RUN_ABOUT: &str =
     "Runs the scenario on standard input in threads, and writes its report to standard output";
@@ -61,6 +70,12 @@ says how many client threads there are; its steps are read and ignored. The repo
 play's, and with --trace a line for each event stands behind it. Two runs of one scenario may differ; each
 report is that of a legal history. docs/FORMATS.md has scenario and report byte by byte.
 
+Without --disks the disks are in memory, and end with the program. With --disks DIR the journal of site 0 is
+the file site-0.journal of the folder DIR, that of site 1 site-1.journal, and so on. The folder must be there;
+a file that isn't is made. No fault that the scenario arms comes at a file. A run begins on journals without
+records: where a file holds records already, or is no journal, nothing is run, and the status is 7. Then move
+it away, or name another folder. tools/journal says in words what is in such a file.
+
 Statuses:
   0  the whole report was written
   1  the words are wrong
@@ -72,8 +87,9 @@ Statuses:
   7  a disk has something on it with which no site can begin
 But for 0 and 4 nothing is written.
 
-Example:
-  ./walter run --trace < examples/threaded_run.json";
+Examples:
+  ./walter run --trace < examples/threaded_run.json
+  folder=$(mktemp -d); ./walter run --disks \"$folder\" < examples/threaded_run.json";
 
 static LOAD_ABOUT: &str =
     "Makes a scenario of a seed, plays it, and writes a summary to standard output";
@@ -105,6 +121,19 @@ fn trace_option<'a>(alloc: Global) -> Arg<'a>
         .help("Writes a line for each event too, behind the report")
 }
 
+/// The option `--disks` of `play` and of `run`.
+fn disks_option<'a>(alloc: Global) -> Arg<'a>
+    ensures rule { rule_of result ≡ disks_rule }
+    ensures local { result.global ≡ false }
+{
+    Arg::new(alloc, "disks")
+        .long("disks")
+        .value_name("DIR")
+        .action(ArgAction::Set)
+        .value_parser(ValueParser::NonEmptyString)
+        .help("Keeps the journal of each site in a file of this folder, which must be there")
+}
+
 /// What `play` takes.
 fn play<'a>(alloc: Global) -> Result<Command<'a>, AllocError>
     ensures line { IfOk result (λ command. app_of command ≡ play_line) }
@@ -113,7 +142,8 @@ fn play<'a>(alloc: Global) -> Result<Command<'a>, AllocError>
     Command::new(alloc, "play")
         .about(PLAY_ABOUT)
         .after_help(PLAY_REST)
-        .arg(trace_option(alloc))
+        .arg(trace_option(alloc))?
+        .arg(disks_option(alloc))
 }
 
 /// What `run` takes.
@@ -124,7 +154,8 @@ fn run<'a>(alloc: Global) -> Result<Command<'a>, AllocError>
     Command::new(alloc, "run")
         .about(RUN_ABOUT)
         .after_help(RUN_REST)
-        .arg(trace_option(alloc))
+        .arg(trace_option(alloc))?
+        .arg(disks_option(alloc))
 }
 
 /// What `load` takes.

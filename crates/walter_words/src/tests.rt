@@ -27,18 +27,72 @@ fn message(alloc: Global, line: &str) -> Result<String, Fail> {
     }
 }
 
+// What a line asks for: whether it is `run`, whether it is traced, and its folder.
+fn driven(alloc: Global, line: &str) -> Result<(bool, bool, String), Fail> {
+    let (runs, trace, disks) = match asked(alloc, line)? {
+        Ok(Command::Play { trace, disks }) => (false, trace, disks),
+        Ok(Command::Run { trace, disks }) => (true, trace, disks),
+        _ => return Err(Fail::from("play or run")),
+    };
+    let folder = match disks {
+        Some(folder) => folder.into_string(),
+        None => String::new(alloc),
+    };
+    Ok((runs, trace, folder))
+}
+
+// Whether a line asks for just this.
+fn asks_for(
+    alloc: Global,
+    line: &str,
+    runs: bool,
+    trace: bool,
+    folder: &str,
+) -> Result<bool, Fail> {
+    let found = driven(alloc, line)?;
+    Ok(found.0 == runs && found.1 == trace && found.2.as_str() == folder)
+}
+
 #[test]
 fn commands(rt: HostRuntime) -> Result<(), Fail> {
     let alloc = rt.alloc();
-    assert!(rt; asked(alloc, "play")? == Ok(Command::Play { trace: false }));
-    assert!(rt; asked(alloc, "play --trace")? == Ok(Command::Play { trace: true }));
-    assert!(rt; asked(alloc, "run")? == Ok(Command::Run { trace: false }));
-    assert!(rt; asked(alloc, "run --trace")? == Ok(Command::Run { trace: true }));
-    let load = Command::Load {
-        seed: 7,
-        calls: 1000,
-    };
-    assert!(rt; asked(alloc, "load --seed 7 --calls 1000")? == Ok(load));
+    assert!(rt; asks_for(alloc, "play", false, false, "")?);
+    assert!(rt; asks_for(alloc, "play --trace", false, true, "")?);
+    assert!(rt; asks_for(alloc, "run", true, false, "")?);
+    assert!(rt; asks_for(alloc, "run --trace --", true, true, "")?);
+    assert!(rt;
+        matches!(
+            asked(alloc, "load --seed 7 --calls 1000")?,
+            Ok(Command::Load {
+                seed: 7,
+                calls: 1000
+            })
+        )
+    );
+    Ok(())
+}
+
+#[test]
+fn folders(rt: HostRuntime) -> Result<(), Fail> {
+    let alloc = rt.alloc();
+    assert!(rt; asks_for(alloc, "play --disks here", false, false, "here")?);
+    assert!(rt;
+        asks_for(
+            alloc,
+            "play --disks=/tmp/a=b --trace",
+            false,
+            true,
+            "/tmp/a=b"
+        )?
+    );
+    assert!(rt; asks_for(alloc, "run --trace --disks - --", true, true, "-")?);
+    // Behind an equals sign it may be anything but empty.
+    assert!(rt; asks_for(alloc, "run --disks=--trace", true, false, "--trace")?);
+    assert!(rt; message(alloc, "play --disks")?.contains("'--disks <DIR>'"));
+    assert!(rt; message(alloc, "play --disks=")?.contains("'--disks <DIR>'"));
+    assert!(rt; message(alloc, "play --disks a --disks b")?.contains("'--disks <DIR>'"));
+    assert!(rt; message(alloc, "play --disks --trace")?.contains("'--disks <DIR>'"));
+    assert!(rt; message(alloc, "load --seed 7 --calls 1 --disks a")?.contains("'--disks'"));
     Ok(())
 }
 
@@ -52,7 +106,7 @@ fn texts_name_the_statuses(rt: HostRuntime) -> Result<(), Fail> {
         ] {
             assert!(rt; text.contains(status));
         }
-        assert!(rt; text.contains("\nExample:\n  ./walter "));
+        assert!(rt; text.contains(":\n  ./walter "));
     }
     assert!(rt; said(alloc, "--version")?.as_str() == "walter 0.1.0\n");
     Ok(())

@@ -9,10 +9,8 @@ use Rattle.walter_engine.specs.Begins.{HasNoRecord}
 use Rattle.walter_cli.specs.Assurance.{Assures, in_memory}
 use Rattle.walter_cli.specs.Headline.{Outside}
 use Rattle.walter_cli.specs.declared.ended.Ended.{Ended}
-use Rattle.walter_cli.specs.Racks.{RackAt, IsUntouched, rack_at, Holds, racked}
-use Rattle.walter_cli.proofs.Early.{untouched_before}
-use Rattle.walter_cli.proofs.Giving.{none_balances}
-use Rattle.walter_cli.proofs.Sure.{assured, assured_early}
+use Rattle.walter_cli.specs.Racks.{RackAt, rack_at, Holds, racked}
+use Rattle.walter_cli.proofs.Sure.{assured}
 use Rattle.walter_cli.proofs.memory.top_in_memory.Goals as goal
 
 -- what is known of a rack in memory
@@ -26,17 +24,6 @@ sound handed more all same =
     let is : handed ≡ more = cc in
     subst (λ xs. All (λ (it : ℕ × MemoryState). it.1.stops.arms ≡ [] → it.1.stops.faults ≡ 0) xs) is (λ k d within none. (all k d within none).2)
 
--- a rack of which nothing was asked had its disks back, and no run began on them
-new_balanced : (rack : RackState) → rack ≡ rack_of [] 0 → (in_memory rack).balanced
-new_balanced rack is =
-    subst (λ (r : RackState). (in_memory r).balanced) (sym is)
-    (none_balances disk_ghosts (at (rack_of [] 16)) (at (rack_of [] 0)) refl refl refl (omega arith))
-
-new_untouched : (rack : RackState) → rack ≡ rack_of [] 0 → IsUntouched (in_memory rack)
-new_untouched rack is =
-    subst (λ (r : RackState). IsUntouched (in_memory r)) (sym is)
-    (untouched_before disk_ghosts (at (rack_of [] 16)) (at (rack_of [] 0)) refl)
-
 -- what a call assures over the rack that was made for it
 of_made : (words : List (String Global)) (made last : RackState) (before after : Outside) (ended : Ended) → made ≡ rack_of [] 16
     → Assures words (racked disk_ghosts (at made) (at last)) before after ended
@@ -45,10 +32,7 @@ of_made words made last before after ended is assures =
     subst (λ (r : RackState). Assures words (racked disk_ghosts (at r) (at last)) before after ended) is assures
 
 pub returns-in_default : goal.returns-in_default
-returns-in_default g c =
-    let is = c.new.ensures.rack in
-    assured_early c.args.words.now _ _ c.early.result (new_balanced _ is) (new_untouched _ is) c.early.ensures.status
-    c.early.ensures.fault c.early.ensures.trails
+returns-in_default g c = c.without_memory.ensures.assured c.args.words.now _
 
 pub returns : goal.returns
 returns g c =

@@ -10,7 +10,7 @@ use Rattle.walter_cli.proofs.running.drive.Goals as goal
 pub returns-in-Run-clause-driven : goal.returns-in-Run-clause-driven
 returns-in-Run-clause-driven g c =
     both_ok c.run.result.1 _ _ _
-    (threads_drive c.args.command.now c.in-Run.trace _ _ c.args.scenario.now _ _ c.in-Run.is c.requires.driven
+    (threads_drive c.args.command.now c.in-Run.trace c.in-Run.disks _ _ c.args.scenario.now _ _ c.in-Run.is c.requires.driven
     (λ failed. elim failed [ inl rose ↦ (let r = rose.1 in omega (arith, r)) | inr rose ↦ (let r = rose.1 in omega (arith, r)) ]))
     c.run.ensures.driven c.run.ensures.armed
 
@@ -19,7 +19,7 @@ pub returns-in-Run-clause-arms : goal.returns-in-Run-clause-arms
 returns-in-Run-clause-arms g c =
     let t = c.args.scenario.now in
     subst (λ (arms : List Arm). ArmsMore (moment_of g.D.Disk c.args.bench.cells) (moment_of g.D.Disk c.run.result.0.cells) arms)
-    (arms_alone t.arms t.steps (no_steps c.args.command.now c.in-Run.trace t c.in-Run.is c.requires.driven)) c.run.ensures.arms
+    (arms_alone t.arms t.steps (no_steps c.args.command.now c.in-Run.trace c.in-Run.disks t c.in-Run.is c.requires.driven)) c.run.ensures.arms
 
 -- its steps were taken
 pub returns-clause-driven : goal.returns-clause-driven

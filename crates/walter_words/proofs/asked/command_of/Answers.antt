@@ -19,32 +19,32 @@ unreachable-requires c =
     ∙ c.in-Ok-try_get_matches_from.ensures.kinds (ap is_simple_and_free c.in-Ok.ensures ∙ is_free_line) in
     let rows : subcommand_rows_of m ≡ subcommand_of walter_line words = (c.in-Ok-try_get_matches_from.ensures.matches (ap is_simple c.in-Ok.ensures ∙ is_simple_line)).1
     ∙ ap (λ a. subcommand_of a words) c.in-Ok.ensures in
-    let back = read_back words (subcommand_rows_of m) c.command_in.result none rows c.command_in.ensures in
-    let bad : None ≡ Some back.0 = sym c.in-None.is ∙ back.2 in
+    let back = read_back words (subcommand_rows_of m) c.in-Ok-None.field-0 none rows c.in-Ok-None.ensures in
+    let bad : None ≡ Some back.0 = sym c.in-Ok-None.field-0-is ∙ back.2 in
     cc
 
-pub returns-in-Some-clause-given : goal.returns-in-Some-clause-given
-returns-in-Some-clause-given c = λ command asks.
+pub returns-in-Ok-Some-clause-given : goal.returns-in-Ok-Some-clause-given
+returns-in-Ok-Some-clause-given c = λ command asks.
     let words = map string_bytes c.args.words.now in
     let m = c.in-Ok-try_get_matches_from.matches in
     let rows : subcommand_rows_of m ≡ subcommand_of walter_line words = (c.in-Ok-try_get_matches_from.ensures.matches (ap is_simple c.in-Ok.ensures ∙ is_simple_line)).1
     ∙ ap (λ a. subcommand_of a words) c.in-Ok.ensures in
-    let reads = c.command_in.ensures command (rw rows (taken command words asks).1) in
-    same_some _ _ (sym c.in-Some.is ∙ reads)
+    let reads = c.in-Ok-Some.ensures command (rw rows (taken command words asks).1) in
+    same_some _ _ (sym c.in-Ok-Some.field-0-is ∙ reads)
 
-pub returns-in-Some-clause-asked : goal.returns-in-Some-clause-asked
-returns-in-Some-clause-asked c =
+pub returns-in-Ok-Some-clause-asked : goal.returns-in-Ok-Some-clause-asked
+returns-in-Ok-Some-clause-asked c =
     let words = map string_bytes c.args.words.now in
     let m = c.in-Ok-try_get_matches_from.matches in
     let none : fault_of walter_line words ≡ [] = ap (λ a. fault_of a words) (sym c.in-Ok.ensures)
     ∙ c.in-Ok-try_get_matches_from.ensures.kinds (ap is_simple_and_free c.in-Ok.ensures ∙ is_free_line) in
     let rows : subcommand_rows_of m ≡ subcommand_of walter_line words = (c.in-Ok-try_get_matches_from.ensures.matches (ap is_simple c.in-Ok.ensures ∙ is_simple_line)).1
     ∙ ap (λ a. subcommand_of a words) c.in-Ok.ensures in
-    let back = read_back words (subcommand_rows_of m) c.command_in.result none rows c.command_in.ensures in
-    inl (subst (λ command. AsksFor command words) (same_some _ _ (sym back.2 ∙ c.in-Some.is)) back.1)
+    let back = read_back words (subcommand_rows_of m) c.in-Ok-Some.field-0 none rows c.in-Ok-Some.ensures in
+    inl (subst (λ command. AsksFor command words) (same_some _ _ (sym back.2 ∙ c.in-Ok-Some.field-0-is)) back.1)
 
-pub returns-in-Some-clause-said : goal.returns-in-Some-clause-said
-returns-in-Some-clause-said c = λ asks.
+pub returns-in-Ok-Some-clause-said : goal.returns-in-Ok-Some-clause-said
+returns-in-Ok-Some-clause-said c = λ asks.
     let words = map string_bytes c.args.words.now in
     let none : fault_of walter_line words ≡ [] = ap (λ a. fault_of a words) (sym c.in-Ok.ensures)
     ∙ c.in-Ok-try_get_matches_from.ensures.kinds (ap is_simple_and_free c.in-Ok.ensures ∙ is_free_line) in
@@ -52,35 +52,35 @@ returns-in-Some-clause-said c = λ asks.
     let bad : t.0 ∷ [] ≡ [] = sym t.2 ∙ none in
     cc
 
-pub returns-in-Some-clause-follows : goal.returns-in-Some-clause-follows
-returns-in-Some-clause-follows c =
+pub returns-in-Ok-Some-clause-follows : goal.returns-in-Ok-Some-clause-follows
+returns-in-Ok-Some-clause-follows c =
     let words = map string_bytes c.args.words.now in
     let m = c.in-Ok-try_get_matches_from.matches in
     let none : fault_of walter_line words ≡ [] = ap (λ a. fault_of a words) (sym c.in-Ok.ensures)
     ∙ c.in-Ok-try_get_matches_from.ensures.kinds (ap is_simple_and_free c.in-Ok.ensures ∙ is_free_line) in
     let rows : subcommand_rows_of m ≡ subcommand_of walter_line words = (c.in-Ok-try_get_matches_from.ensures.matches (ap is_simple c.in-Ok.ensures ∙ is_simple_line)).1
     ∙ ap (λ a. subcommand_of a words) c.in-Ok.ensures in
-    let back = read_back words (subcommand_rows_of m) c.command_in.result none rows c.command_in.ensures in
-    subst (λ command. FollowsFrom (fault_of walter_line words) (Ok command)) (same_some _ _ (sym back.2 ∙ c.in-Some.is)) (command_follows back.0 words _ back.1 none)
+    let back = read_back words (subcommand_rows_of m) c.in-Ok-Some.field-0 none rows c.in-Ok-Some.ensures in
+    subst (λ command. FollowsFrom (fault_of walter_line words) (Ok command)) (same_some _ _ (sym back.2 ∙ c.in-Ok-Some.field-0-is)) (command_follows back.0 words _ back.1 none)
 
-pub returns-in-Err-clause-given : goal.returns-in-Err-clause-given
-returns-in-Err-clause-given c = λ command asks.
+pub returns-clause-given : goal.returns-clause-given
+returns-clause-given c = λ command asks.
     let words = map string_bytes c.args.words.now in
     let has : (kind_of c.in-Err.error ≡ OutOfMemory) ⊎ IsAmong (kind_of c.in-Err.error) (fault_of walter_line words) =
     subst (λ a. (kind_of c.in-Err.error ≡ OutOfMemory) ⊎ IsAmong (kind_of c.in-Err.error) (fault_of a words)) c.in-Ok.ensures
     (c.in-Err.ensures.kinds (ap is_simple_and_free c.in-Ok.ensures ∙ is_free_line)) in
     told_given command words (kind_of c.in-Err.error) c.told_of.result asks has c.told_of.ensures
 
-pub returns-in-Err-clause-said : goal.returns-in-Err-clause-said
-returns-in-Err-clause-said c = λ asks.
+pub returns-clause-said : goal.returns-clause-said
+returns-clause-said c = λ asks.
     let words = map string_bytes c.args.words.now in
     let has : (kind_of c.in-Err.error ≡ OutOfMemory) ⊎ IsAmong (kind_of c.in-Err.error) (fault_of walter_line words) =
     subst (λ a. (kind_of c.in-Err.error ≡ OutOfMemory) ⊎ IsAmong (kind_of c.in-Err.error) (fault_of a words)) c.in-Ok.ensures
     (c.in-Err.ensures.kinds (ap is_simple_and_free c.in-Ok.ensures ∙ is_free_line)) in
     told_said words (kind_of c.in-Err.error) c.told_of.result asks has c.told_of.ensures
 
-pub returns-in-Err-clause-follows : goal.returns-in-Err-clause-follows
-returns-in-Err-clause-follows c =
+pub returns-clause-follows : goal.returns-clause-follows
+returns-clause-follows c =
     let words = map string_bytes c.args.words.now in
     let has : (kind_of c.in-Err.error ≡ OutOfMemory) ⊎ IsAmong (kind_of c.in-Err.error) (fault_of walter_line words) =
     subst (λ a. (kind_of c.in-Err.error ≡ OutOfMemory) ⊎ IsAmong (kind_of c.in-Err.error) (fault_of a words)) c.in-Ok.ensures

@@ -1,0 +1,12 @@
+use Rattle.std.proofs.Common.{◌∙◌, List, ℕ, Some, codes, ap}
+use Rattle.clap.specs.Words.{found_of}
+use Rattle.clap.proofs.WalkLemmas.{first_value-rows}
+use Rattle.walter_words.proofs.asked.disks_in.Goals as goal
+
+pub returns-in_ok-new-in-Some : goal.returns-in_ok-new-in-Some
+returns-in_ok-new-in-Some c =
+    ap (λ (path : List ℕ). Some path) c.in_ok-new-in-Some.ensures
+    ∙ (c.in-Some.ensures ∙ first_value-rows (found_of c.args.matches.now) (codes "disks"))
+
+pub returns-in-None : goal.returns-in-None
+returns-in-None c = c.in-None.ensures ∙ first_value-rows (found_of c.args.matches.now) (codes "disks")

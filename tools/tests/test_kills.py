@@ -1,0 +1,73 @@
+"""What bench/kills.py says of the files that killed programs leave, and bench/file_commits.py of commits, by programs that are
+scripts here."""
+
+import json
+import os
+import sys
+import unittest
+
+from played import InFolder, run_bench
+import file_commits
+import journals
+import kills
+
+# Appends ten records to the file of each of two sites, with a pause before each: LENGTH says how long they are. The closed gate
+# behind the last one becomes the open one of the next.
+PROGRAM = f"""#!{sys.executable} -SE
+import os, sys, time
+folder = sys.argv[sys.argv.index("--disks") + 1] if "--disks" in sys.argv else None
+for number in range(10 if folder else 0):
+    for site in (0, 1):
+        time.sleep(0.004)
+        record = bytes(LENGTH)
+        with open(os.path.join(folder, f"site-{{site}}.journal"), "r+b" if number else "w+b") as file:
+            file.write(b"" if number else {journals.HEADER!r} + b"\\0")
+            end = file.seek(0, 2)
+            file.write(len(record).to_bytes(4, "big") + record + b"\\0")
+            file.flush()
+            file.seek(end - 1)
+            file.write(b"\\1")
+sys.exit(STATUS)
+"""
+SCENARIO = json.dumps({"sites": 2, "f": 0, "containers": [], "clients": [], "steps": []})
+
+
+class Kills(InFolder):
+    def program(self, length="3", status="0"):
+        return self.write("program", PROGRAM.replace("LENGTH", length).replace("STATUS", status), is_program=True)
+
+    def kill(self, program, *words):
+        return run_bench(kills, self.write("scenario.json", SCENARIO), "--program", program, "--kills", "4", *words)
+
+    def test_fronts_of_one_play_are_right(self):
+        status, told = self.kill(self.program())
+        self.assertEqual(status, 0)
+        self.assertRegex(told, r"^4 plays, [1-4] of them killed at work; files: \d+ with nothing, \d+ with a front of the records, "
+                               r"\d+ with all; 0 wrong\n$")
+
+    def test_other_records_are_wrong(self):
+        status, told = self.kill(self.program("os.getpid() % 1000"), "--kills", "8")
+        self.assertEqual(status, 1)
+        self.assertRegex(told, r"(?m)^kill \d+, \d\.\d{4} s: site 0: \d+ records, and not the first ones of the whole play$")
+
+    def test_what_cannot_be_read_is_wrong_of_threads_too(self):
+        program = self.write("program", PROGRAM.replace("LENGTH", "1").replace("STATUS", "0").replace("WALTERJ1", "WALTERX1"), True)
+        status, told = self.kill(program, "--run")
+        self.assertTrue(status.startswith("the whole play left a journal that can't be read: foreign at 0: "), (status, told))
+
+    def test_a_program_that_fails_is_told(self):
+        self.assertEqual(self.kill(self.program(status="6"))[0], "the program ended with status 6\n")
+
+    def test_commits_are_measured(self):
+        program = self.program()
+        status, told = run_bench(file_commits, "--program", program, "--commits", "5", "--runs", "1", "--folder", self.folder)
+        self.assertIsNone(status)
+        first, *lines = told.splitlines()
+        self.assertEqual(first, "5 commits of one write at one site, 1 runs of each")
+        for line, name in zip(lines, ["over disks in memory", "over file disks", "the syncs alone"], strict=True):
+            self.assertRegex(line, rf"^{name}: \d+\.\d{{3}} s, [\d,]+ commits a second$")
+        self.assertEqual(sorted(os.listdir(self.folder)), ["program"])
+
+
+if __name__ == "__main__":
+    unittest.main()
