@@ -198,8 +198,8 @@ module _ (catalog : Catalog) (layouts : SiteId → Layout) (homes : (oid : ObjId
       → (p : SiteId) → p ≢ i → conflict ≢ Dead → IsPut older p i (Vote s.slow (No conflict))
       → IsMetThere catalog older i s conflict
   met_before older i client s conflict is begun_ p apart alive put =
-      let right = (λ k. right_alone catalog (layouts k) k) in
-      let settles = (λ k. settled_alone catalog (layouts k) k) in
+      let right = (λ (k : SiteId). right_alone catalog (layouts k) k) in
+      let settles = (λ (k : SiteId). settled_alone catalog (layouts k) k) in
       let at_ = split_at older (p, put.entry) put.here in
       let run : IsRun catalog layouts ((p, put.entry) ∷ at_.1) =
       run_behind catalog layouts at_.0 ((p, put.entry) ∷ at_.1) (subst (λ z. IsRun catalog layouts z) at_.2 is) in
@@ -250,8 +250,8 @@ module _ (catalog : Catalog) (layouts : SiteId → Layout) (homes : (oid : ObjId
   pub run_named : (older : List Named) (n : Named) (cause : Cause) → IsRun catalog layouts (n ∷ older)
       → n.1.came.outcome ≡ Replied (Aborted cause) → IsNamed catalog older n cause
   run_named older n cause is e =
-      let right = (λ k. right_alone catalog (layouts k) k) in
-      let settles = (λ k. settled_alone catalog (layouts k) k) in
+      let right = (λ (k : SiteId). right_alone catalog (layouts k) k) in
+      let settles = (λ (k : SiteId). settled_alone catalog (layouts k) k) in
       let step = next_step catalog layouts homes right settles older n is.0 is.1 in
       abort_named (step_aborts catalog n.0 (found catalog older n n.0) n.1.event n.1.came cause step e)
     where
@@ -273,10 +273,10 @@ module _ (catalog : Catalog) (layouts : SiteId → Layout) (homes : (oid : ObjId
           → IsOwnerUnseen (stands catalog older n.0).knows s.snapshot conflict
       owner_unseen client s at_ (ModifiedThere oid version) has met = tt
       owner_unseen client s at_ (LockedThere oid owner) has met =
-          let alone = run_alone catalog layouts homes (λ k. right_alone catalog (layouts k) k)
-          (λ k. settled_alone catalog (layouts k) k) older is.0 in
-          let agreed = run_agrees catalog layouts homes (λ k. right_alone catalog (layouts k) k)
-          (λ k. settled_alone catalog (layouts k) k) older is.0 in
+          let alone = run_alone catalog layouts homes (λ (k : SiteId). right_alone catalog (layouts k) k)
+          (λ (k : SiteId). settled_alone catalog (layouts k) k) older is.0 in
+          let agreed = run_agrees catalog layouts homes (λ (k : SiteId). right_alone catalog (layouts k) k)
+          (λ (k : SiteId). settled_alone catalog (layouts k) k) older is.0 in
           let K : Knowledge = (stands catalog older n.0).knows in
           unseen_here catalog (stands catalog older) (IsPut older) agreed alone n.0 s.snapshot
           ((alone n.0).snapshots client s has) at_ owner
@@ -316,8 +316,8 @@ module _ (catalog : Catalog) (layouts : SiteId → Layout) (homes : (oid : ObjId
           let begun_now : HasBegun (stands catalog older n.0) client s = subst (λ S. HasBegun S client s) same begun_ in
           let said_now : (stands catalog older n.0).knows.said_no s.slow ≡ Some conflict =
           subst (λ (S : Standing). S.knows.said_no s.slow ≡ Some conflict) same said in
-          let no_ = ((run_agrees catalog layouts homes (λ k. right_alone catalog (layouts k) k)
-          (λ k. settled_alone catalog (layouts k) k) older is.0).heard n.0).said_no s.slow conflict said_now in
+          let no_ = ((run_agrees catalog layouts homes (λ (k : SiteId). right_alone catalog (layouts k) k)
+          (λ (k : SiteId). settled_alone catalog (layouts k) k) older is.0).heard n.0).said_no s.slow conflict said_now in
           by_conflict conflict no_.2 c (record {
             client = client;
             asked = event;

@@ -164,8 +164,8 @@ module _ (catalog : Catalog) (layouts : SiteId → Layout) (homes : (oid : ObjId
   records_tell [] is i = refl
   records_tell (n ∷ older) is i = elim (site_cases i n.0) [
     | inl same ↦
-        let right = (λ k. right_alone catalog (layouts k) k) in
-        let settles = (λ k. settled_alone catalog (layouts k) k) in
+        let right = (λ (k : SiteId). right_alone catalog (layouts k) k) in
+        let settles = (λ (k : SiteId). settled_alone catalog (layouts k) k) in
         let S1 = settled catalog n.0 n.1.came.kept (stands catalog older n.0) in
         let first = tells_found older n is n.1.came.kept
         (λ r e. due_of_site catalog (stands catalog older) (IsPut older) n.0
@@ -193,8 +193,8 @@ module _ (catalog : Catalog) (layouts : SiteId → Layout) (homes : (oid : ObjId
   run_once run is = record {
     once = λ i j place other seq number tx same here there tids.
         let sp = (run_spells catalog layouts homes run is).spelled in
-        let own = (run_agrees catalog layouts homes (λ k. right_alone catalog (layouts k) k)
-        (λ k. settled_alone catalog (layouts k) k) run is).numbered.own in
+        let own = (run_agrees catalog layouts homes (λ (k : SiteId). right_alone catalog (layouts k) k)
+        (λ (k : SiteId). settled_alone catalog (layouts k) k) run is).numbered.own in
         let W = stands catalog run in
         let one = ap (λ t. slice_get t (rank (W i).records place)) (sym (records_tell run is i))
         ∙ at_rank (W i).records place seq tx here in

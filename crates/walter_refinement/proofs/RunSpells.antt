@@ -172,10 +172,10 @@ module _ (catalog : Catalog) (layouts : SiteId → Layout) (homes : (oid : ObjId
         ]
     found_spells (Some r) found_ due =
         kept_so catalog n.0 (stands catalog older) (IsPut older) (history catalog older)
-        (run_alone catalog layouts homes (λ k. right_alone catalog (layouts k) k)
-        (λ k. settled_alone catalog (layouts k) k) older is.0 n.0)
-        (run_agrees catalog layouts homes (λ k. right_alone catalog (layouts k) k)
-        (λ k. settled_alone catalog (layouts k) k) older is.0) sp r found_.down found_.in_flight (due r refl)
+        (run_alone catalog layouts homes (λ (k : SiteId). right_alone catalog (layouts k) k)
+        (λ (k : SiteId). settled_alone catalog (layouts k) k) older is.0 n.0)
+        (run_agrees catalog layouts homes (λ (k : SiteId). right_alone catalog (layouts k) k)
+        (λ (k : SiteId). settled_alone catalog (layouts k) k) older is.0) sp r found_.down found_.in_flight (due r refl)
 
     -- the steps of the entry are those behind what was found
     same_steps : (kept : Option Record) → IfSome kept (IsFound (stands catalog older n.0) n.1.event)
@@ -210,8 +210,8 @@ module _ (catalog : Catalog) (layouts : SiteId → Layout) (homes : (oid : ObjId
     entry_spells =
         let i = n.0 in
         let Found : Stands = found catalog older n in
-        let right = (λ k. right_alone catalog (layouts k) k) in
-        let settles = (λ k. settled_alone catalog (layouts k) k) in
+        let right = (λ (k : SiteId). right_alone catalog (layouts k) k) in
+        let settles = (λ (k : SiteId). settled_alone catalog (layouts k) k) in
         let alone = found_alone catalog layouts homes right settles older n is.0 is.1 in
         let G = settled_agrees catalog layouts homes right settles older n is in
         let step = next_step catalog layouts homes right settles older n is.0 is.1 in
