@@ -6,12 +6,12 @@ use walter_disk_memory::MemoryDisk;
 use walter_journal::{AppendFault, Journal, JournalFault, load};
 use walter_record::decode;
 
-const CAPACITY: u64 = 16_777_216;
+pub(crate) const CAPACITY: u64 = 16_777_216;
 
-const LONGEST_BODY: usize = 65_536;
+pub(crate) const LONGEST_BODY: usize = 65_536;
 
 /// The record of the first epoch.
-const BOOT: &[u8] = &[1, 0, 0, 0, 1];
+pub(crate) const BOOT: &[u8] = &[1, 0, 0, 0, 1];
 
 /// What a load comes to: the journal and its bodies, or the fault.
 fn loaded(
@@ -52,7 +52,7 @@ fn count_of(alloc: Global, journal: Journal<MemoryDisk>, body: &[u8]) -> Result<
 }
 
 /// The bytes of a disk, and how many bodies it has behind the append of one more; or why it isn't loaded.
-const BYTES: [(&[u8], Result<usize, JournalFault>); 8] = [
+pub(crate) const BYTES: [(&[u8], Result<usize, JournalFault>); 8] = [
     (b"", Ok(1)),
     (b"WALTERJ1\x07", Ok(1)),
     (b"WALTERJ1\x01\0\0\0\x05\x01\0\0\0\x01\0", Ok(2)),
@@ -136,7 +136,7 @@ fn a_stop_leaves_the_bodies_with_the_new_one_or_without(rt: HostRuntime) -> Resu
 }
 
 /// The record of the first commit of a site, which writes `hello`.
-const FIRST_COMMIT: [u8; 118] = [
+pub(crate) const FIRST_COMMIT: [u8; 118] = [
     2, 0, 0, 0, 0, 0, 0, 0, 1, 0, 0, 0, 0, 1, 0, 0, 0, 0, 0, 0, 0, 1, 0, 0, 0, 0, 0, 0, 0, 0, 0, 0,
     0, 0, 0, 0, 0, 0, 0, 0, 0, 0, 0, 0, 0, 0, 0, 0, 0, 0, 0, 0, 0, 0, 0, 0, 0, 0, 0, 0, 0, 0, 0, 0,
     0, 0, 0, 0, 0, 0, 0, 0, 0, 0, 0, 0, 0, 0, 0, 0, 0, 0, 0, 0, 0, 0, 0, 0, 0, 0, 0, 0, 0, 0, 0, 1,
