@@ -3,7 +3,7 @@ ghost use Rattle.std.specs.Prelude.{◌≡◌, ◌<◌, ◌≤◌, ◌++◌, ◌
 ghost use Rattle.walter_checkpoint.specs.Books.{StandsFor};
 ghost use Rattle.walter_checkpoint.specs.Loads.{IsAreas};
 
-use crate::journals::{BOOT, BYTES, CAPACITY, FIRST_COMMIT, LONGEST_BODY};
+use crate::journals::{BOOT, FIRST_COMMIT, LONGEST_BODY};
 use std::alloc::Global;
 use std::test::Fail;
 use walter_checkpoint::{Book, load};
@@ -136,21 +136,31 @@ fn commits_within(
     append(&mut book, &FIRST_COMMIT)
 }
 
-/// Whether there are two areas, a capacity, and what becomes of the first commit.
-const CAPACITIES: [(bool, u64, Result<(), AppendFault>); 4] = [
-    (true, 293, Ok(())),
+/// How many bytes the disk of a new book has.
+fn size_of_new(alloc: Global, two: bool, capacity: u64) -> Result<u64, Fail> {
+    Ok(empty(alloc, two, capacity)?.into_disk().size())
+}
+
+/// Whether there are two areas, a capacity, how many bytes a new book has, and what becomes of the first commit.
+const CAPACITIES: [(bool, u64, u64, Result<(), AppendFault>); 7] = [
+    (true, 300_000, 150_004, Ok(())),
+    (true, 293, 151, Ok(())),
     (
         true,
         292,
+        150,
         Err(AppendFault::Full {
             need: 123,
             left: 122,
         }),
     ),
-    (false, 142, Ok(())),
+    (true, 47, 28, Err(AppendFault::Full { need: 123, left: 0 })),
+    (false, 293, 9, Ok(())),
+    (false, 142, 9, Ok(())),
     (
         false,
         141,
+        9,
         Err(AppendFault::Full {
             need: 123,
             left: 122,
@@ -159,9 +169,15 @@ const CAPACITIES: [(bool, u64, Result<(), AppendFault>); 4] = [
 ];
 
 #[test]
-fn the_first_commit_fits_an_area_just_so(rt: HostRuntime) -> Result<(), Fail> {
-    for (two, capacity, wanted) in CAPACITIES {
-        assert_eq!(rt; commits_within(rt.alloc(), two, capacity)?, wanted);
+fn a_new_book_is_small_and_the_first_commit_fits_just_so(rt: HostRuntime) -> Result<(), Fail> {
+    for (two, capacity, size, wanted) in CAPACITIES {
+        assert_eq!(rt;
+            (
+                size_of_new(rt.alloc(), two, capacity)?,
+                commits_within(rt.alloc(), two, capacity)?
+            ),
+            (size, wanted)
+        );
     }
     Ok(())
 }
@@ -177,83 +193,57 @@ fn commits_behind_a_restart(
     Ok((ended, append(&mut book, &FIRST_COMMIT)?))
 }
 
+/// Whether there are two areas, a capacity, and what the restart and the commit come to.
+const PACKS: [(bool, u64, Ending, Result<(), AppendFault>); 2] = [
+    (
+        true,
+        293,
+        Ending::Ended(Ok(())),
+        Err(AppendFault::Full {
+            need: 123,
+            left: 46,
+        }),
+    ),
+    (
+        false,
+        142,
+        Ending::Ended(Err(AppendFault::Full { need: 10, left: 0 })),
+        Err(AppendFault::Full { need: 123, left: 0 }),
+    ),
+];
+
 #[test]
 fn a_pack_leaves_out_zeros(rt: HostRuntime) -> Result<(), Fail> {
-    let full = Err(AppendFault::Full {
-        need: 123,
-        left: 46,
-    });
-    assert_eq!(rt;
-        commits_behind_a_restart(rt.alloc(), true, 293)?,
-        (Ending::Ended(Ok(())), full)
-    );
-    let no_epoch = Err(AppendFault::Full { need: 10, left: 0 });
-    let no_commit = Err(AppendFault::Full { need: 123, left: 0 });
-    assert_eq!(rt;
-        commits_behind_a_restart(rt.alloc(), false, 142)?,
-        (Ending::Ended(no_epoch), no_commit)
-    );
+    for (two, capacity, ended, committed) in PACKS {
+        assert_eq!(rt;
+            commits_behind_a_restart(rt.alloc(), two, capacity)?,
+            (ended, committed)
+        );
+    }
     Ok(())
 }
 
 /// How many bodies a disk has. They are the first epoch, the first commit, and then the second epoch.
 fn count_of(alloc: Global, disk: MemoryDisk, two: bool, capacity: u64) -> Result<usize, Fail> {
     let (_book, bodies) = loaded(alloc, disk, two, capacity)?;
-    let mut count = 0;
-    for body in &bodies {
-        let wanted: &[u8] = match count {
+    for i in 0..bodies.len() {
+        let wanted: &[u8] = match i {
             0 => BOOT,
             1 => &FIRST_COMMIT,
             _ => SECOND_BOOT,
         };
-        if body.as_slice() != wanted {
+        if bodies[i].as_slice() != wanted {
             return Err("another body".into());
         }
-        count += 1;
     }
-    Ok(count)
+    Ok(bodies.len())
 }
 
-/// A call of the disk behind the load of a restart that fails, the choice of what the disk then holds, and how many
-/// bodies a load finds. Four calls pack, and four append.
-const STOPS: [(u64, u64, usize); 22] = [
-    (1, 0, 2),
-    (1, 1, 2),
-    (1, 7, 2),
-    (2, 0, 2),
-    (2, 1, 2),
-    (2, 7, 2),
-    (3, 0, 2),
-    (3, 1, 2),
-    (3, 7, 2),
-    (4, 0, 2),
-    (4, 1, 2),
-    (4, 7, 2),
-    (5, 1, 2),
-    (5, 7, 2),
-    (6, 1, 2),
-    (7, 0, 2),
-    (7, 1, 3),
-    (7, 7, 2),
-    (8, 0, 2),
-    (8, 1, 3),
-    (8, 7, 2),
-    (1_000, 0, 3),
-];
-
+/// How many bodies a disk has whose restart behind the first commit stops at a call.
 fn count_behind_a_stop(alloc: Global, nth: u64, choice: u64) -> Result<usize, Fail> {
     let disk = filled(alloc, true, 293)?;
     let (book, _ended) = restarted(alloc, disk, true, 293, (nth, choice))?;
     count_of(alloc, book.into_disk(), true, 293)
-}
-
-#[test]
-fn a_stop_of_a_restart_leaves_the_bodies(rt: HostRuntime) -> Result<(), Fail> {
-    for (nth, choice, expected) in STOPS {
-        let found = count_behind_a_stop(rt.alloc(), nth, choice)?;
-        assert_eq!(rt; found, expected, "call {nth}, choice {choice}");
-    }
-    Ok(())
 }
 
 /// How many bodies a disk has behind a load that failed at its one call.
@@ -264,14 +254,6 @@ fn count_behind_a_failed_load(alloc: Global, choice: u64) -> Result<usize, Fail>
         Ok(_) => Err("the load met no stop".into()),
         Err((disk, _fault)) => count_of(alloc, disk, true, 293),
     }
-}
-
-#[test]
-fn a_load_that_fails_leaves_the_bodies(rt: HostRuntime) -> Result<(), Fail> {
-    for choice in [0, 1, 7] {
-        assert_eq!(rt; count_behind_a_failed_load(rt.alloc(), choice)?, 2);
-    }
-    Ok(())
 }
 
 /// How many bodies a book of two areas has behind so many restarts, each over the disk of the last.
@@ -286,46 +268,143 @@ fn count_behind_restarts(alloc: Global, restarts: usize) -> Result<usize, Fail> 
 
 #[test]
 fn each_restart_packs_what_the_last_left(rt: HostRuntime) -> Result<(), Fail> {
-    for restarts in [0, 1, 2, 5] {
-        assert_eq!(rt; count_behind_restarts(rt.alloc(), restarts)?, restarts + 2);
+    for (restarts, wanted) in [(0, 2), (1, 3), (2, 4), (5, 7)] {
+        assert_eq!(rt; count_behind_restarts(rt.alloc(), restarts)?, wanted);
     }
-    Ok(())
-}
-
-/// How many bytes the disk of a new book has.
-fn size_of_new(alloc: Global, two: bool, capacity: u64) -> Result<u64, Fail> {
-    Ok(empty(alloc, two, capacity)?.into_disk().size())
-}
-
-#[test]
-fn a_new_book_has_the_bytes_of_one_area(rt: HostRuntime) -> Result<(), Fail> {
-    assert_eq!(rt; size_of_new(rt.alloc(), false, 293)?, 9);
-    assert_eq!(rt; size_of_new(rt.alloc(), true, 47)?, 28);
-    assert_eq!(rt; size_of_new(rt.alloc(), true, 293)?, 151);
-    assert_eq!(rt; size_of_new(rt.alloc(), true, 300_000)?, 150_004);
     Ok(())
 }
 
 /// How many bodies a disk has that was made with the least of two areas, and whose restart over one with great areas
 /// stops at a call. Three writes are of zeros in front of the other area.
-fn count_behind_zeros(alloc: Global, nth: u64) -> Result<usize, Fail> {
+fn count_behind_zeros(alloc: Global, nth: u64, choice: u64) -> Result<usize, Fail> {
     let mut book = empty(alloc, true, 47)?;
     append(&mut book, BOOT)??;
-    let (book, _ended) = restarted(alloc, book.into_disk(), true, 300_000, (nth, 7))?;
+    let (book, _ended) = restarted(alloc, book.into_disk(), true, 300_000, (nth, choice))?;
     Ok(loaded(alloc, book.into_disk(), true, 300_000)?.1.len())
 }
 
-#[test]
-fn zeros_stand_in_front_of_the_other_area(rt: HostRuntime) -> Result<(), Fail> {
-    for nth in 1..12 {
-        assert_eq!(rt; count_behind_zeros(rt.alloc(), nth)?, 1, "call {nth}");
+/// A disk of no bytes, settled behind a stop while a new book of two areas is made on it.
+fn disk_of_a_stopped_start(alloc: Global, nth: u64, choice: u64) -> Result<MemoryDisk, Fail> {
+    if nth == 0 {
+        return Err("the first call is call 1".into());
     }
-    assert_eq!(rt; count_behind_zeros(rt.alloc(), 1_000)?, 2);
+    let mut disk = MemoryDisk::new(alloc);
+    disk.arm(nth, choice)?;
+    match load(alloc, disk, 300_000, 2, 1) {
+        Ok(_) => Err("the load met no stop".into()),
+        Err((mut disk, _fault)) => {
+            disk.reserve(0, 1)?;
+            disk.settle()?;
+            Ok(disk)
+        }
+    }
+}
+
+/// How many bodies a restart leaves behind such a stop; or why the disk isn't loaded.
+fn count_behind_a_stopped_start(
+    alloc: Global,
+    nth: u64,
+    choice: u64,
+) -> Result<Result<usize, JournalFault>, Fail> {
+    let disk = disk_of_a_stopped_start(alloc, nth, choice)?;
+    match restart(alloc, disk, 300_000, 2, NEVER, SECOND_BOOT) {
+        Ok((book, _bodies, _ended)) => {
+            Ok(Ok(loaded(alloc, book.into_disk(), true, 300_000)?.1.len()))
+        }
+        Err((_disk, fault)) => Ok(Err(fault)),
+    }
+}
+
+/// What a call of the disk fails in: a restart, of which four calls pack and four append; a load; a restart that writes
+/// zeros in front of the other area, by three calls; or the start of a new book, of which three calls write and one syncs.
+#[derive(Clone, Copy, Debug, Drop)]
+enum Stopped {
+    Restart,
+    Load,
+    Zeros,
+    Start,
+}
+
+/// How many bodies are found behind a stop, which of a load is at its one call; or why the disk isn't loaded.
+fn found_behind(
+    alloc: Global,
+    stopped: Stopped,
+    nth: u64,
+    choice: u64,
+) -> Result<Result<usize, JournalFault>, Fail> {
+    match stopped {
+        Stopped::Restart => Ok(Ok(count_behind_a_stop(alloc, nth, choice)?)),
+        Stopped::Load => Ok(Ok(count_behind_a_failed_load(alloc, choice)?)),
+        Stopped::Zeros => Ok(Ok(count_behind_zeros(alloc, nth, choice)?)),
+        Stopped::Start => count_behind_a_stopped_start(alloc, nth, choice),
+    }
+}
+
+/// A call that fails, counted from 1 from the restart, the load or the start, the choice of what the disk then holds, and
+/// how many bodies are found.
+const STOPS: [(Stopped, u64, u64, Result<usize, JournalFault>); 49] = [
+    (Stopped::Restart, 1, 0, Ok(2)),
+    (Stopped::Restart, 1, 1, Ok(2)),
+    (Stopped::Restart, 1, 7, Ok(2)),
+    (Stopped::Restart, 2, 0, Ok(2)),
+    (Stopped::Restart, 2, 1, Ok(2)),
+    (Stopped::Restart, 2, 7, Ok(2)),
+    (Stopped::Restart, 3, 0, Ok(2)),
+    (Stopped::Restart, 3, 1, Ok(2)),
+    (Stopped::Restart, 3, 7, Ok(2)),
+    (Stopped::Restart, 4, 0, Ok(2)),
+    (Stopped::Restart, 4, 1, Ok(2)),
+    (Stopped::Restart, 4, 7, Ok(2)),
+    (Stopped::Restart, 5, 1, Ok(2)),
+    (Stopped::Restart, 5, 7, Ok(2)),
+    (Stopped::Restart, 6, 1, Ok(2)),
+    (Stopped::Restart, 7, 0, Ok(2)),
+    (Stopped::Restart, 7, 1, Ok(3)),
+    (Stopped::Restart, 7, 7, Ok(2)),
+    (Stopped::Restart, 8, 0, Ok(2)),
+    (Stopped::Restart, 8, 1, Ok(3)),
+    (Stopped::Restart, 8, 7, Ok(2)),
+    (Stopped::Restart, 1_000, 0, Ok(3)),
+    (Stopped::Load, 1, 0, Ok(2)),
+    (Stopped::Load, 1, 1, Ok(2)),
+    (Stopped::Load, 1, 7, Ok(2)),
+    (Stopped::Zeros, 1, 7, Ok(1)),
+    (Stopped::Zeros, 2, 7, Ok(1)),
+    (Stopped::Zeros, 3, 7, Ok(1)),
+    (Stopped::Zeros, 4, 7, Ok(1)),
+    (Stopped::Zeros, 5, 7, Ok(1)),
+    (Stopped::Zeros, 6, 7, Ok(1)),
+    (Stopped::Zeros, 7, 7, Ok(1)),
+    (Stopped::Zeros, 8, 7, Ok(1)),
+    (Stopped::Zeros, 9, 7, Ok(1)),
+    (Stopped::Zeros, 10, 7, Ok(1)),
+    (Stopped::Zeros, 11, 7, Ok(1)),
+    (Stopped::Zeros, 1_000, 7, Ok(2)),
+    (Stopped::Start, 1, 0, Ok(1)),
+    (Stopped::Start, 1, 1, Ok(1)),
+    (Stopped::Start, 1, 7, Err(JournalFault::Foreign)),
+    (Stopped::Start, 2, 0, Ok(1)),
+    (Stopped::Start, 2, 1, Ok(1)),
+    (Stopped::Start, 2, 7, Err(JournalFault::Foreign)),
+    (Stopped::Start, 3, 0, Ok(1)),
+    (Stopped::Start, 3, 1, Ok(1)),
+    (Stopped::Start, 3, 7, Err(JournalFault::Foreign)),
+    (Stopped::Start, 4, 0, Ok(1)),
+    (Stopped::Start, 4, 1, Ok(1)),
+    (Stopped::Start, 4, 7, Err(JournalFault::Foreign)),
+];
+
+#[test]
+fn a_stop_leaves_the_bodies(rt: HostRuntime) -> Result<(), Fail> {
+    for (stopped, nth, choice, wanted) in STOPS {
+        let found = found_behind(rt.alloc(), stopped, nth, choice)?;
+        assert_eq!(rt; found, wanted, "{stopped:?}, call {nth}, choice {choice}");
+    }
     Ok(())
 }
 
 /// How many bodies the bytes have as a book, behind the append of one more; or why they aren't loaded.
-fn count_behind_one_more(
+pub(crate) fn count_behind_one_more(
     alloc: Global,
     bytes: &[u8],
     two: bool,
@@ -339,17 +418,6 @@ fn count_behind_one_more(
         }
         Err(fault) => Ok(Err(fault)),
     }
-}
-
-#[test]
-fn a_book_of_one_area_is_a_journal(rt: HostRuntime) -> Result<(), Fail> {
-    for (bytes, wanted) in BYTES {
-        assert_eq!(rt;
-            count_behind_one_more(rt.alloc(), bytes, false, CAPACITY)?,
-            wanted
-        );
-    }
-    Ok(())
 }
 
 /// The bytes of a disk, the capacity, and how many bodies it has behind the append of one more; or why it isn't loaded.

@@ -1,4 +1,5 @@
 //! Journals over disks in memory: what loads, what fits, and what a stop leaves.
+use crate::books;
 use std::alloc::Global;
 use std::test::Fail;
 use walter_base::Record;
@@ -6,7 +7,7 @@ use walter_disk_memory::MemoryDisk;
 use walter_journal::{AppendFault, Journal, JournalFault, load};
 use walter_record::decode;
 
-pub(crate) const CAPACITY: u64 = 16_777_216;
+const CAPACITY: u64 = 16_777_216;
 
 pub(crate) const LONGEST_BODY: usize = 65_536;
 
@@ -52,7 +53,7 @@ fn count_of(alloc: Global, journal: Journal<MemoryDisk>, body: &[u8]) -> Result<
 }
 
 /// The bytes of a disk, and how many bodies it has behind the append of one more; or why it isn't loaded.
-pub(crate) const BYTES: [(&[u8], Result<usize, JournalFault>); 8] = [
+const BYTES: [(&[u8], Result<usize, JournalFault>); 8] = [
     (b"", Ok(1)),
     (b"WALTERJ1\x07", Ok(1)),
     (b"WALTERJ1\x01\0\0\0\x05\x01\0\0\0\x01\0", Ok(2)),
@@ -91,8 +92,15 @@ fn count_behind_one_more(alloc: Global, bytes: &[u8]) -> Result<Result<usize, Jo
 
 #[test]
 fn bytes_that_are_no_journal_are_refused_by_name(rt: HostRuntime) -> Result<(), Fail> {
+    // A book of one area is a journal.
     for (bytes, wanted) in BYTES {
-        assert_eq!(rt; count_behind_one_more(rt.alloc(), bytes)?, wanted);
+        assert_eq!(rt;
+            (
+                count_behind_one_more(rt.alloc(), bytes)?,
+                books::count_behind_one_more(rt.alloc(), bytes, false, CAPACITY)?
+            ),
+            (wanted, wanted)
+        );
     }
     Ok(())
 }
