@@ -142,7 +142,7 @@ fn size_of_new(alloc: Global, two: bool, capacity: u64) -> Result<u64, Fail> {
 }
 
 /// Whether there are two areas, a capacity, how many bytes a new book has, and what becomes of the first commit.
-const CAPACITIES: [(bool, u64, u64, Result<(), AppendFault>); 7] = [
+static CAPACITIES: [(bool, u64, u64, Result<(), AppendFault>); 7] = [
     (true, 300_000, 150_004, Ok(())),
     (true, 293, 151, Ok(())),
     (
@@ -170,7 +170,7 @@ const CAPACITIES: [(bool, u64, u64, Result<(), AppendFault>); 7] = [
 
 #[test]
 fn a_new_book_is_small_and_the_first_commit_fits_just_so(rt: HostRuntime) -> Result<(), Fail> {
-    for (two, capacity, size, wanted) in CAPACITIES {
+    for &(two, capacity, size, wanted) in &CAPACITIES {
         assert_eq!(rt;
             (
                 size_of_new(rt.alloc(), two, capacity)?,
@@ -342,7 +342,7 @@ fn found_behind(
 
 /// A call that fails, counted from 1 from the restart, the load or the start, the choice of what the disk then holds, and
 /// how many bodies are found.
-const STOPS: [(Stopped, u64, u64, Result<usize, JournalFault>); 49] = [
+static STOPS: [(Stopped, u64, u64, Result<usize, JournalFault>); 49] = [
     (Stopped::Restart, 1, 0, Ok(2)),
     (Stopped::Restart, 1, 1, Ok(2)),
     (Stopped::Restart, 1, 7, Ok(2)),
@@ -396,7 +396,7 @@ const STOPS: [(Stopped, u64, u64, Result<usize, JournalFault>); 49] = [
 
 #[test]
 fn a_stop_leaves_the_bodies(rt: HostRuntime) -> Result<(), Fail> {
-    for (stopped, nth, choice, wanted) in STOPS {
+    for &(stopped, nth, choice, wanted) in &STOPS {
         let found = found_behind(rt.alloc(), stopped, nth, choice)?;
         assert_eq!(rt; found, wanted, "{stopped:?}, call {nth}, choice {choice}");
     }
