@@ -1,4 +1,5 @@
 //! Journals over disks in memory: what loads, what fits, and what a stop leaves.
+use crate::books;
 use std::alloc::Global;
 use std::test::Fail;
 use walter_base::Record;
@@ -8,10 +9,10 @@ use walter_record::decode;
 
 const CAPACITY: u64 = 16_777_216;
 
-const LONGEST_BODY: usize = 65_536;
+pub(crate) const LONGEST_BODY: usize = 65_536;
 
 /// The record of the first epoch.
-const BOOT: &[u8] = &[1, 0, 0, 0, 1];
+pub(crate) const BOOT: &[u8] = &[1, 0, 0, 0, 1];
 
 /// What a load comes to: the journal and its bodies, or the fault.
 fn loaded(
@@ -91,8 +92,15 @@ fn count_behind_one_more(alloc: Global, bytes: &[u8]) -> Result<Result<usize, Jo
 
 #[test]
 fn bytes_that_are_no_journal_are_refused_by_name(rt: HostRuntime) -> Result<(), Fail> {
+    // A book of one area is a journal.
     for (bytes, wanted) in BYTES {
-        assert_eq!(rt; count_behind_one_more(rt.alloc(), bytes)?, wanted);
+        assert_eq!(rt;
+            (
+                count_behind_one_more(rt.alloc(), bytes)?,
+                books::count_behind_one_more(rt.alloc(), bytes, false, CAPACITY)?
+            ),
+            (wanted, wanted)
+        );
     }
     Ok(())
 }
@@ -136,7 +144,7 @@ fn a_stop_leaves_the_bodies_with_the_new_one_or_without(rt: HostRuntime) -> Resu
 }
 
 /// The record of the first commit of a site, which writes `hello`.
-const FIRST_COMMIT: [u8; 118] = [
+pub(crate) const FIRST_COMMIT: [u8; 118] = [
     2, 0, 0, 0, 0, 0, 0, 0, 1, 0, 0, 0, 0, 1, 0, 0, 0, 0, 0, 0, 0, 1, 0, 0, 0, 0, 0, 0, 0, 0, 0, 0,
     0, 0, 0, 0, 0, 0, 0, 0, 0, 0, 0, 0, 0, 0, 0, 0, 0, 0, 0, 0, 0, 0, 0, 0, 0, 0, 0, 0, 0, 0, 0, 0,
     0, 0, 0, 0, 0, 0, 0, 0, 0, 0, 0, 0, 0, 0, 0, 0, 0, 0, 0, 0, 0, 0, 0, 0, 0, 0, 0, 0, 0, 0, 0, 1,

@@ -1,6 +1,8 @@
-//! Tests of disks in memory, of journals over them, and of streams over std. The crate has nothing else.
+//! Tests of disks in memory, of journals and books over them, and of streams over std. The crate has nothing else.
 #![tactic(auto)]
 
+#[cfg(test)]
+mod books;
 #[cfg(test)]
 mod disks;
 #[cfg(test)]
