@@ -53,16 +53,33 @@ fn asks_for(
     Ok(found.0 == runs && found.1 == trace && found.2.as_str() == folder)
 }
 
+/// A line, and what it asks for: whether that is `run`, whether it is traced, and its folder. Behind an equals sign the
+/// folder may be anything but empty.
+static DRIVEN: [(&str, bool, bool, &str); 8] = [
+    ("play", false, false, ""),
+    ("play --trace", false, true, ""),
+    ("run", true, false, ""),
+    ("run --trace --", true, true, ""),
+    ("play --disks here", false, false, "here"),
+    ("play --disks=/tmp/a=b --trace", false, true, "/tmp/a=b"),
+    ("run --trace --disks - --", true, true, "-"),
+    ("run --disks=--trace", true, false, "--trace"),
+];
+
 #[test]
-fn commands(rt: HostRuntime) -> Result<(), Fail> {
-    let alloc = rt.alloc();
-    assert!(rt; asks_for(alloc, "play", false, false, "")?);
-    assert!(rt; asks_for(alloc, "play --trace", false, true, "")?);
-    assert!(rt; asks_for(alloc, "run", true, false, "")?);
-    assert!(rt; asks_for(alloc, "run --trace --", true, true, "")?);
+fn runs_are_asked_for(rt: HostRuntime) -> Result<(), Fail> {
+    for &(line, runs, trace, folder) in &DRIVEN {
+        assert!(rt; asks_for(rt.alloc(), line, runs, trace, folder)?);
+    }
+    Ok(())
+}
+
+#[test]
+fn a_load_is_asked_for(rt: HostRuntime) -> Result<(), Fail> {
+    let load = asked(rt.alloc(), "load --seed 7 --calls 1000")?;
     assert!(rt;
         matches!(
-            asked(alloc, "load --seed 7 --calls 1000")?,
+            load,
             Ok(Command::Load {
                 seed: 7,
                 calls: 1000
@@ -72,56 +89,66 @@ fn commands(rt: HostRuntime) -> Result<(), Fail> {
     Ok(())
 }
 
-#[test]
-fn folders(rt: HostRuntime) -> Result<(), Fail> {
-    let alloc = rt.alloc();
-    assert!(rt; asks_for(alloc, "play --disks here", false, false, "here")?);
-    assert!(rt;
-        asks_for(
-            alloc,
-            "play --disks=/tmp/a=b --trace",
-            false,
-            true,
-            "/tmp/a=b"
-        )?
-    );
-    assert!(rt; asks_for(alloc, "run --trace --disks - --", true, true, "-")?);
-    // Behind an equals sign it may be anything but empty.
-    assert!(rt; asks_for(alloc, "run --disks=--trace", true, false, "--trace")?);
-    assert!(rt; message(alloc, "play --disks")?.contains("'--disks <DIR>'"));
-    assert!(rt; message(alloc, "play --disks=")?.contains("'--disks <DIR>'"));
-    assert!(rt; message(alloc, "play --disks a --disks b")?.contains("'--disks <DIR>'"));
-    assert!(rt; message(alloc, "play --disks --trace")?.contains("'--disks <DIR>'"));
-    assert!(rt; message(alloc, "load --seed 7 --calls 1 --disks a")?.contains("'--disks'"));
-    Ok(())
+/// The lines that ask for a text with the statuses and an example, and what marks each of these.
+static TEXTS: [&str; 4] = ["--help", "play --help", "run --help", "load --help"];
+static MARKS: [&str; 9] = [
+    "\n  0  ",
+    "\n  1  ",
+    "\n  2",
+    "3  ",
+    "\n  4  ",
+    "\n  5  ",
+    "\n  6  ",
+    "\n  7  ",
+    ":\n  ./walter ",
+];
+
+// Whether a text has all marks.
+fn is_marked(text: &str) -> bool {
+    for mark in &MARKS {
+        if !text.contains(*mark) {
+            return false;
+        }
+    }
+    true
 }
 
 #[test]
 fn texts_name_the_statuses(rt: HostRuntime) -> Result<(), Fail> {
-    let alloc = rt.alloc();
-    for line in ["--help", "play --help", "run --help", "load --help"] {
-        let text = said(alloc, line)?;
-        for status in [
-            "\n  0  ", "\n  1  ", "\n  2", "3  ", "\n  4  ", "\n  5  ", "\n  6  ", "\n  7  ",
-        ] {
-            assert!(rt; text.contains(status));
-        }
-        assert!(rt; text.contains(":\n  ./walter "));
+    for line in &TEXTS {
+        assert!(rt; is_marked(said(rt.alloc(), line)?.as_str()));
     }
-    assert!(rt; said(alloc, "--version")?.as_str() == "walter 0.1.0\n");
     Ok(())
 }
 
 #[test]
+fn the_version_is_told(rt: HostRuntime) -> Result<(), Fail> {
+    assert!(rt; said(rt.alloc(), "--version")?.as_str() == "walter 0.1.0\n");
+    Ok(())
+}
+
+/// A line of wrong words, and what the message of the mistake has.
+static MISTAKES: [(&str, &str); 11] = [
+    (
+        "play --trce",
+        "error: unexpected argument '--trce' found\n\n  tip: a similar argument exists: '--trace'\n\nUsage: walter play --trace\n\nFor more information, try '--help'.\n",
+    ),
+    ("", "requires a subcommand"),
+    ("plai", "'plai'"),
+    ("play --trace --trace", "'--trace'"),
+    ("load --seed 7", "--calls <M>"),
+    ("load --seed 7 --calls 20001", "'20001'"),
+    ("play --disks", "'--disks <DIR>'"),
+    ("play --disks=", "'--disks <DIR>'"),
+    ("play --disks a --disks b", "'--disks <DIR>'"),
+    ("play --disks --trace", "'--disks <DIR>'"),
+    ("load --seed 7 --calls 1 --disks a", "'--disks'"),
+];
+
+#[test]
 fn mistakes_are_named(rt: HostRuntime) -> Result<(), Fail> {
-    let alloc = rt.alloc();
-    let text =
-        "error: unexpected argument '--trce' found\n\n  tip: a similar argument exists: '--trace'\n\nUsage: walter play --trace\n\nFor more information, try '--help'.\n";
-    assert!(rt; message(alloc, "play --trce")?.as_str() == text);
-    assert!(rt; message(alloc, "")?.contains("requires a subcommand"));
-    assert!(rt; message(alloc, "plai")?.contains("'plai'"));
-    assert!(rt; message(alloc, "play --trace --trace")?.contains("'--trace'"));
-    assert!(rt; message(alloc, "load --seed 7")?.contains("--calls <M>"));
-    assert!(rt; message(alloc, "load --seed 7 --calls 20001")?.contains("'20001'"));
+    for &(line, part) in &MISTAKES {
+        assert!(rt; message(rt.alloc(), line)?.contains(part));
+    }
     Ok(())
 }
