@@ -28,5 +28,5 @@ new_untouched rack is =
 pub returns-clause-assured : goal.returns-clause-assured
 returns-clause-assured c = λ words outside.
     let is = c.new.ensures.rack in
-    assured_early words outside outside c.early.result (new_balanced _ is) (new_untouched _ is) c.early.ensures.status
+    assured_early words _ outside c.early.result (new_balanced _ is) (new_untouched _ is) c.early.ensures.status
     c.early.ensures.fault c.early.ensures.trails
