@@ -5,7 +5,6 @@ pub mod Effects
 pub mod Begins
 pub mod Writings
 pub mod Replays
-pub mod Restarts
-pub mod Props
 pub mod Raises
+pub mod Restarts
 pub mod Firsts
