@@ -91,6 +91,7 @@ fn a_load_is_asked_for(rt: HostRuntime) -> Result<(), Fail> {
 
 /// The lines that ask for a text with the statuses and an example, and what marks each of these.
 static TEXTS: [&str; 4] = ["--help", "play --help", "run --help", "load --help"];
+
 static MARKS: [&str; 9] = [
     "\n  0  ",
     "\n  1  ",
