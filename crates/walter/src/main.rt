@@ -59,11 +59,10 @@ fn main(rt: HostRuntime) -> ExitCode {
         trails,
     } = ended;
     if let Some(fault) = fault {
-        let folder = match &rack {
-            UsedRack::Folder(rack) => rack.folder(),
-            UsedRack::Memory(_) => None,
-        };
-        tell(&rt, &fault, folder);
+        match &rack {
+            UsedRack::Folder(rack) => tell(&rt, &fault, rack.folder()),
+            UsedRack::Memory(_) => tell(&rt, &fault, None),
+        }
     }
     // The process ends, and its memory with it: nothing is freed piece by piece.
     mem::forget(rack);
