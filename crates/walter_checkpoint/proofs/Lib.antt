@@ -9,4 +9,4 @@ mod Parts
 mod Spelled
 pub mod Switching
 mod Rooms
-mod Damages
+pub mod Damages

@@ -1,6 +1,6 @@
 -- A first restart: what it comes to over no records, and what a crash within it leaves.
-use Rattle.std.proofs.Common.{◌≡◌, ℕ, ◌+◌, ◌-◌, ◌<◌, ◌≤◌, List, [], ◌∷◌, length, map, false, Option, Some, None, Result, Ok, Err, refl, ap, sym, ◌∙◌, subst, inl, inr, ◌⊎◌, ⊎_elim, arith}
-use Rattle.std.specs.Prelude.{IfSome, IsSome, OnOk, is_ok}
+use Rattle.std.proofs.Common.{◌≡◌, ℕ, ◌+◌, ◌<◌, ◌≤◌, List, [], ◌∷◌, length, map, false, Option, Some, None, Result, Ok, Err, refl, ap, sym, ◌∙◌, subst, inl, inr, ◌⊎◌, ⊎_elim, arith}
+use Rattle.std.specs.Prelude.{◌≢◌, IfSome, IsSome, OnOk, is_ok}
 use Rattle.std.proofs.lemmas.List.Elements.{All-nil}
 use Rattle.walter_base.specs.declared.catalog.Catalog.{Catalog}
 use Rattle.walter_base.specs.declared.message.Record.{Record}
@@ -10,19 +10,24 @@ use Rattle.walter_disk.specs.declared.disk.Disk.{Ghosts}
 use Rattle.walter_disk.specs.Images.{Only, IsImage, LeavesOnly}
 use Rattle.walter_engine.specs.declared.answers.BeginFault.{BeginFault}
 use Rattle.walter_engine.specs.declared.answers.BeginFault.TheVariants as unbegun
-use Rattle.walter_engine.specs.Begins.{HasOnly, MayHaveBegun, IsBegun, IsFaultOfBegin}
-use Rattle.walter_engine.specs.Effects.{IsRefusedOver, AreCallsFor}
+use Rattle.walter_engine.specs.Begins.{HasOnly, MayHaveBegun, MayHaveBoot, IsBegun, IsFaultOfBegin, IsLaidOver}
+use Rattle.walter_engine.specs.Contents.{HasBodies, MayHaveNext}
+use Rattle.walter_engine.specs.Effects.{IsRefusedOver}
 use Rattle.walter_engine.specs.Firsts.{IsAnswerTo, IsBegunOver, MayHaveFirst, not_loaded_by}
 use Rattle.walter_engine.specs.Raises.{LiesIn, Raises}
-use Rattle.walter_engine.specs.Restarts.{ComesOf}
-use Rattle.walter_engine.specs.Stores.{IsLeft}
+use Rattle.walter_engine.specs.Restarts.{ComesOf, left_over}
+use Rattle.walter_engine.specs.Stores.{IsLeft, layout_by, layout_of}
 use Rattle.walter_engine.specs.declared.answers.RefusedRestart.{RefusedRestart}
 use Rattle.walter_engine.specs.declared.answers.RefusedRestart.TheVariants as refused
-use Rattle.walter_engine.proofs.Resting.{SizeIs, size_told}
-use Rattle.walter_journal.specs.declared.journal.Journal.{Journal}
-use Rattle.walter_journal.specs.Journals.{disk_of, StandsFor}
-use Rattle.walter_journal.specs.Layout.{HasContent, IsForeign, IsDamaged, end_behind}
-use Rattle.walter_journal.specs.Faults.{HasCause}
+use Rattle.walter_engine.proofs.Resting.{SizeIs, size_told, reads_bodies}
+use Rattle.walter_engine.proofs.Laid.{bodies_content, laid_is}
+use Rattle.walter_checkpoint.specs.Areas.{Shape, HasContent, IsForeign, IsDamaged}
+use Rattle.walter_checkpoint.specs.Books.{disk_of, shape_of, StandsFor}
+use Rattle.walter_checkpoint.specs.Faults.{HasCause}
+use Rattle.walter_checkpoint.specs.Loads.{new_size}
+use Rattle.walter_checkpoint.specs.declared.book.Book.{Book}
+use Rattle.walter_checkpoint.specs.declared.book.Live.{Live}
+use Rattle.walter_checkpoint.specs.declared.book.Live.TheVariants.{Whole, A, B}
 use Rattle.walter_journal.specs.declared.fault.JournalFault.{JournalFault}
 use Rattle.walter_journal.specs.declared.fault.JournalFault.TheVariants as fault
 use Rattle.walter_disk.specs.Disks.{DiskState}
@@ -63,14 +68,16 @@ pub none_kept : (kept : Option Record) → IfSome kept (IsFound unmade Restart) 
 none_kept None found = refl
 none_kept (Some rec) found = absurd (let none = found.in_flight in cc)
 
--- a journal without bodies is that of a site before its first event
-pub lies_unmade : {D : Type 0} {g : Ghosts D} (catalog : Catalog) (i : SiteId) (journal : Journal D g)
-    (bodies : List (List ℕ)) → bodies ≡ [] → StandsFor journal bodies → LiesIn {g = g} catalog i unmade journal bodies
-lies_unmade catalog i journal bodies none stands = record {
+-- a book without bodies is that of a site before its first event
+pub lies_unmade : {D : Type 0} {g : Ghosts D} (catalog : Catalog) (i : SiteId) (book : Book D g)
+    (bodies : List (List ℕ)) → bodies ≡ [] → StandsFor book bodies
+    → LiesIn {g = g} catalog (layout_of book) i unmade book bodies
+lies_unmade catalog i book bodies none stands = record {
   down = refl;
   told = told_unmade catalog i;
   spelled = record { records = All-nil (HasRecordSpelling catalog.sites); flight = tt };
   is = none;
+  laid = refl;
   stands = stands;
 }
 
@@ -139,23 +146,18 @@ answer_taken P Failed answer is so = subst (λ a. OnOk a P) (sym is) tt
 answer_taken P Memory answer is so = subst (λ a. OnOk a P) (sym is) tt
 answer_taken P outcome answer is so = absurd is
 
-pub calls_written : (wrote flight : Option Record) (old new : ℕ) → IsSome wrote → AreCallsFor wrote flight old new
-    → new ≡ old + 4
-calls_written (Some rec) flight old new some calls = calls
-calls_written None flight old new some calls = absurd (cc)
-
-pub calls_at_most : (wrote flight : Option Record) (old new : ℕ) → AreCallsFor wrote flight old new → new ≤ old + 4
-calls_at_most (Some rec) flight old new calls = omega (arith, calls)
-calls_at_most None (Some rec) old new calls = calls
-calls_at_most None None old new calls = omega (arith, calls)
+pub calls_written : (wrote : Option Record) (before old new : ℕ) → IsSome wrote → before ≡ 0
+    → IfSome wrote (λ rec. new ≡ old + before + 4) → new ≡ old + 4
+calls_written (Some rec) before old new some none calls = omega (arith, none, calls)
+calls_written None before old new some none calls = absurd (cc)
 
 -- it is up in its first epoch
 pub first_left : {D : Type 0} {g : Ghosts D} (catalog : Catalog) (layout : Layout) (i : SiteId) (came : Came)
-    (why : Option RefusedRestart) (m : Machine) (journal : Journal D g) → came.kept ≡ None → came.sends ≡ []
-    → came.dropped ≡ 0 → Raises {g = g} catalog layout i unmade came why m journal → came.outcome ≡ Taken
-    → IsLeft {g = g} m (standing catalog i (opening ∷ [])) journal
-first_left {g = g} catalog layout i came why m journal kept sends dropped raises taken =
-    subst (λ (c : Came). IsLeft {g = g} m (stands_after catalog i unmade Restart c) journal)
+    (why : Option RefusedRestart) (m : Machine) (book : Book D g) → came.kept ≡ None → came.sends ≡ []
+    → came.dropped ≡ 0 → Raises {g = g} catalog layout i unmade came why m book → came.outcome ≡ Taken
+    → IsLeft {g = g} layout m (standing catalog i (opening ∷ [])) book
+first_left {g = g} catalog layout i came why m book kept sends dropped raises taken =
+    subst (λ (c : Came). IsLeft {g = g} layout m (stands_after catalog i unmade Restart c) book)
     (opens catalog layout i came kept sends dropped taken raises.comes) raises.leaves
 
 -- ---- over a disk
@@ -166,104 +168,139 @@ found_is P None images bytes only told image are = absurd (cc)
 found_is P (Some b) images bytes only told image are = subst P (only b image) are
 
 -- what is answered where no journal was loaded
-pub begun_unloaded : (why : JournalFault) (bytes : List ℕ) (images : List ℕ → Type 0) (old new : DiskState)
-    → HasCause why images old new → Only bytes images → old.size ≡ length bytes → IsSome new.reads
-    → IsBegun bytes (Err (not_loaded_by why))
-begun_unloaded fault.Failed bytes images old new cause only size told = tt
-begun_unloaded fault.NoMemory bytes images old new cause only size told = tt
-begun_unloaded fault.Foreign bytes images old new cause only size told = (
-  found_is IsForeign new.reads images bytes only told cause.image cause.are,
+pub begun_unloaded : (shape : Shape) (why : JournalFault) (bytes : List ℕ) (images : List ℕ → Type 0) (old new : DiskState)
+    → HasCause shape why images old new → Only bytes images → old.size ≡ length bytes → IsSome new.reads
+    → IsBegun shape bytes (Err (not_loaded_by why))
+begun_unloaded shape fault.Failed bytes images old new cause only size told = tt
+begun_unloaded shape fault.NoMemory bytes images old new cause only size told = tt
+begun_unloaded shape fault.Foreign bytes images old new cause only size told = (
+  found_is (IsForeign shape) new.reads images bytes only told cause.image cause.are,
   λ none. absurd (omega (arith, cause.not_new, size, ap length none)),
 )
-begun_unloaded (fault.Damaged at length) bytes images old new cause only size told =
-    found_is (λ b. IsDamaged b at length) new.reads images bytes only told cause.image cause.are
+begun_unloaded shape (fault.Damaged at length) bytes images old new cause only size told =
+    found_is (λ b. IsDamaged shape b at length) new.reads images bytes only told cause.image cause.are
 
-pub unbegun_faults : (why : JournalFault) (images : List ℕ → Type 0) (old new : DiskState) → HasCause why images old new
+pub unbegun_faults : (shape : Shape) (why : JournalFault) (images : List ℕ → Type 0) (old new : DiskState)
+    → HasCause shape why images old new
     → IsFaultOfBegin (Err (not_loaded_by why)) old.faults new.faults
-unbegun_faults fault.Failed images old new cause = cause
-unbegun_faults fault.NoMemory images old new cause = cause
-unbegun_faults fault.Foreign images old new cause = cause.faultless
-unbegun_faults (fault.Damaged at length) images old new cause = cause.faultless
+unbegun_faults shape fault.Failed images old new cause = cause
+unbegun_faults shape fault.NoMemory images old new cause = cause
+unbegun_faults shape fault.Foreign images old new cause = cause.faultless
+unbegun_faults shape (fault.Damaged at length) images old new cause = cause.faultless
 
 -- what is answered over bodies
-pub begun_over : (bytes : List ℕ) (bodies : List (List ℕ)) (answer : Result (Unit {0}) BeginFault)
-    → HasContent bytes bodies ⊎ ((bytes ≡ []) × (bodies ≡ [])) → IsBegunOver bodies answer → IsBegun bytes answer
-begun_over bytes bodies (Ok done) (inl has) is = inr (subst (λ b. HasContent bytes b) is has)
-begun_over bytes bodies (Ok done) (inr none) is = inl none.0
-begun_over bytes bodies (Err unbegun.Failed) has is = tt
-begun_over bytes bodies (Err unbegun.Foreign) has is = absurd is
-begun_over bytes bodies (Err (unbegun.Damaged at length)) has is = absurd is
-begun_over bytes bodies (Err unbegun.Used) (inl has) is = (bodies, has, is)
-begun_over bytes bodies (Err unbegun.Used) (inr none) is = absurd (is none.1)
-begun_over bytes bodies (Err unbegun.NoMemory) has is = tt
+pub begun_over : (shape : Shape) (bytes : List ℕ) (bodies : List (List ℕ)) (answer : Result (Unit {0}) BeginFault)
+    → HasContent shape bytes bodies ⊎ ((bytes ≡ []) × (bodies ≡ [])) → IsBegunOver bodies answer
+    → IsBegun shape bytes answer
+begun_over shape bytes bodies (Ok done) (inl has) is = inr (subst (λ b. HasContent shape bytes b) is has)
+begun_over shape bytes bodies (Ok done) (inr none) is = inl none.0
+begun_over shape bytes bodies (Err unbegun.Failed) has is = tt
+begun_over shape bytes bodies (Err unbegun.Foreign) has is = absurd is
+begun_over shape bytes bodies (Err (unbegun.Damaged at length)) has is = absurd is
+begun_over shape bytes bodies (Err unbegun.Used) (inl has) is = (bodies, has, is)
+begun_over shape bytes bodies (Err unbegun.Used) (inr none) is = absurd (is none.1)
+begun_over shape bytes bodies (Err unbegun.NoMemory) has is = tt
 
--- a Boot finds its place in a new journal
-pub has_place : (bodies slice : List (List ℕ)) (capacity end left : ℕ) → slice ≡ bodies → slice ≡ []
-    → end ≡ end_behind bodies → left ≡ capacity - end → 19 ≤ capacity → 10 ≤ left
-has_place bodies slice capacity end left same none is_end is_left place =
-    let nine : end ≡ 9 = is_end ∙ ap end_behind (sym same ∙ none) in
-    omega (arith, nine, is_left, place)
+-- a Boot finds its place in a new book
+pub has_place : (shape : Shape) (live : Live) → 19 ≤ shape.capacity → (live ≢ Whole → 47 ≤ shape.capacity)
+    → 10 ≤ left_over (layout_by shape live) []
+has_place shape Whole most least = omega (arith, most)
+has_place shape A most least = (let l = least (λ e. cc) in omega (arith, l))
+has_place shape B most least = (let l = least (λ e. cc) in omega (arith, l))
 
 pub on_ok_so : {T E : Type 0} (r : Result T E) (P Q : Type 0) → (P → Q) → OnOk r P → OnOk r Q
 on_ok_so (Ok x) P Q so p = so p
 on_ok_so (Err e) P Q so p = tt
 
+-- it begins over no bodies
+pub on_begun : (bodies : List (List ℕ)) (result : Result (Unit {0}) BeginFault) (P : Type 0) → IsBegunOver bodies result
+    → (bodies ≡ [] → P) → OnOk result P
+on_begun bodies (Ok done) P begun so = so begun
+on_begun bodies (Err fault) P begun so = tt
+
 -- a load, with what it leaves
-module _ {D : Type 0} {g : Ghosts D} (size_is : SizeIs g) (disk mid : D) (bytes : List ℕ) (only : HasOnly g bytes disk)
+module _ {D : Type 0} {g : Ghosts D} (size_is : SizeIs g) (shape : Shape) (areas : ℕ) (disk mid : D) (bytes : List ℕ)
+    (only : HasOnly g bytes disk)
     (first : (g.known disk).size ≡ 0 → Only [] (g.may_leave disk)
-    → LeavesOnly g.moment g.left_since disk mid (λ image. length image ≤ 9))
+    → LeavesOnly g.moment g.left_since disk mid (λ image. length image ≤ new_size shape areas))
     (load : 0 < (g.known disk).size → LeavesOnly g.moment g.left_since disk mid (g.may_leave disk)) where
   pub size_here : (g.known disk).size ≡ length bytes
   size_here = size_told g size_is disk bytes only.told
 
-  pub leaves_load : LeavesOnly g.moment g.left_since disk mid (MayHaveBegun bytes)
+  pub leaves_load : LeavesOnly g.moment g.left_since disk mid (MayHaveBegun shape areas bytes)
   leaves_load = by bytes refl
     where
-      by : (b : List ℕ) → bytes ≡ b → LeavesOnly g.moment g.left_since disk mid (MayHaveBegun bytes)
+      by : (b : List ℕ) → bytes ≡ b → LeavesOnly g.moment g.left_since disk mid (MayHaveBegun shape areas bytes)
       by [] new =
-          weaker g.moment g.left_since disk mid (λ image. length image ≤ 9) (MayHaveBegun bytes)
+          weaker g.moment g.left_since disk mid (λ image. length image ≤ new_size shape areas) (MayHaveBegun shape areas bytes)
           (λ image few. inr (inl (new, few)))
           (first (size_here ∙ ap length new) (subst (λ b. Only b (g.may_leave disk)) new only.only))
       by (b ∷ bs) is =
           let some : 0 < (g.known disk).size = omega (arith, size_here, ap length is) in
-          weaker g.moment g.left_since disk mid (g.may_leave disk) (MayHaveBegun bytes)
+          weaker g.moment g.left_since disk mid (g.may_leave disk) (MayHaveBegun shape areas bytes)
           (λ image left. inl (only.only image left)) (load some)
 
--- a journal that was loaded
-module _ {D : Type 0} {g : Ghosts D} (size_is : SizeIs g) (disk : D) (journal : Journal D g) (loaded slice : List (List ℕ))
-    (bytes : List ℕ) (only : HasOnly g bytes disk) (stands : StandsFor journal slice) (same : slice ≡ loaded)
-    (fresh : (g.known disk).size ≡ 0 → loaded ≡ [])
-    (image : 0 < (g.known disk).size → IsImage (g.known (disk_of journal)).reads (g.may_leave disk)) where
+-- a book that was loaded
+module _ {D : Type 0} {g : Ghosts D} (size_is : SizeIs g) (shape : Shape) (areas : ℕ) (disk : D) (book : Book D g)
+    (shape_is : shape_of book ≡ shape) (loaded slice : List (List ℕ)) (bytes : List ℕ) (only : HasOnly g bytes disk)
+    (stands : StandsFor book slice) (same : slice ≡ loaded) (fresh : (g.known disk).size ≡ 0 → loaded ≡ [])
+    (image : 0 < (g.known disk).size → IsImage (g.known (disk_of book)).reads (g.may_leave disk)) where
+  abbrev reads : List ℕ
+  reads = stands.with.stands.bytes
+
   -- it has the bytes of the disk, or those were none
-  has_same : (stands.bytes ≡ bytes) ⊎ ((bytes ≡ []) × (slice ≡ []))
+  has_same : (reads ≡ bytes) ⊎ ((bytes ≡ []) × (slice ≡ []))
   has_same = by bytes refl
     where
       size : (g.known disk).size ≡ length bytes
       size = size_told g size_is disk bytes only.told
 
-      by : (b : List ℕ) → bytes ≡ b → (stands.bytes ≡ bytes) ⊎ ((bytes ≡ []) × (slice ≡ []))
+      by : (b : List ℕ) → bytes ≡ b → (reads ≡ bytes) ⊎ ((bytes ≡ []) × (slice ≡ []))
       by [] new = inr (new, same ∙ fresh (size ∙ ap length new))
       by (b ∷ bs) is =
           let some : 0 < (g.known disk).size = omega (arith, size, ap length is) in
-          inl (only.only stands.bytes (subst (λ reads. IsImage reads (g.may_leave disk)) stands.told (image some)))
+          inl (only.only reads (subst (λ reads. IsImage reads (g.may_leave disk)) stands.with.stands.told (image some)))
 
-  pub content_or_new : HasContent bytes slice ⊎ ((bytes ≡ []) × (slice ≡ []))
-  content_or_new = ⊎_elim (λ is. inl (subst (λ b. HasContent b slice) is stands.content)) (λ new. inr new) has_same
+  laid : HasBodies (layout_by shape book.live) reads slice
+  laid =
+      subst (λ (s : Shape). HasBodies (layout_by s book.live) reads slice) shape_is (reads_bodies g book slice stands)
 
-  first_may : (stands.bytes ≡ bytes) ⊎ ((bytes ≡ []) × (slice ≡ [])) → (image : List ℕ) → MayHaveFirst stands.bytes slice image
-      → MayHaveBegun bytes image
+  content : HasContent shape reads slice
+  content = bodies_content shape (layout_by shape book.live) reads slice (laid_is shape book.live) laid
+
+  pub content_or_new : HasContent shape bytes slice ⊎ ((bytes ≡ []) × (slice ≡ []))
+  content_or_new = ⊎_elim (λ is. inl (subst (λ b. HasContent shape b slice) is content)) (λ new. inr new) has_same
+
+  -- and is laid out as these are, or as was asked for
+  pub laid_over : (asked : Layout) → slice ≡ [] → ((g.known disk).size ≡ 0 → layout_by shape book.live ≡ asked)
+      → IsLaidOver bytes asked (layout_by shape book.live)
+  laid_over asked none new =
+      ⊎_elim (λ is. inr (subst (λ l. HasBodies (layout_by shape book.live) bytes l) none
+      (subst (λ b. HasBodies (layout_by shape book.live) b slice) is laid)))
+      (λ made. inl (made.0, new (size_told g size_is disk bytes only.told ∙ ap length made.0))) has_same
+
+  first_may : (reads ≡ bytes) ⊎ ((bytes ≡ []) × (slice ≡ [])) → (image : List ℕ) → MayHaveFirst shape reads slice image
+      → MayHaveBegun shape areas bytes image
   first_may (inl same) image (inl is) = inl (is ∙ same)
   first_may (inl same) image (inr has) =
-      inr (inr (inr (subst (λ b. HasContent b []) same (subst (λ bodies. HasContent stands.bytes bodies) has.0 stands.content)), has.1))
+      inr (inr (inr (subst (λ b. HasContent shape b []) same (subst (λ bodies. HasContent shape reads bodies) has.0 content)), has.1))
   first_may (inr new) image (inl is) =
-      inr (inr (inl new.0, inl (subst (λ b. HasContent b []) (sym is) (subst (λ bodies. HasContent stands.bytes bodies) new.1 stands.content))))
+      inr (inr (inl new.0, inl (subst (λ b. HasContent shape b []) (sym is) (subst (λ bodies. HasContent shape reads bodies) new.1 content))))
   first_may (inr new) image (inr has) = inr (inr (inl new.0, has.1))
 
-  -- a crash within it leaves the bytes, or the first ones of a journal, or no record, or the first Boot
-  pub leaves_begun : (after : D) → LeavesOnly g.moment g.left_since disk (disk_of journal) (MayHaveBegun bytes)
-      → LeavesOnly g.moment g.left_since (disk_of journal) after (MayHaveFirst stands.bytes slice)
-      → LeavesOnly g.moment g.left_since disk after (MayHaveBegun bytes)
+  -- a crash within it leaves the bytes, or the first ones of a book, or no record, or the first Boot
+  pub leaves_begun : (after : D) → LeavesOnly g.moment g.left_since disk (disk_of book) (MayHaveBegun shape areas bytes)
+      → LeavesOnly g.moment g.left_since (disk_of book) after (MayHaveFirst shape reads slice)
+      → LeavesOnly g.moment g.left_since disk after (MayHaveBegun shape areas bytes)
   leaves_begun after load run =
-      joined g.moment g.left_since disk (disk_of journal) after (MayHaveBegun bytes) load
-      (weaker g.moment g.left_since (disk_of journal) after (MayHaveFirst stands.bytes slice) (MayHaveBegun bytes)
+      joined g.moment g.left_since disk (disk_of book) after (MayHaveBegun shape areas bytes) load
+      (weaker g.moment g.left_since (disk_of book) after (MayHaveFirst shape reads slice) (MayHaveBegun shape areas bytes)
       (first_may has_same) run)
+
+-- what a crash within a restart over no bodies leaves, in the words of a first restart
+pub first_next : (shape : Shape) (catalog : Catalog) (live : Live) (i : SiteId) (image : List ℕ)
+    → MayHaveNext catalog (layout_by shape live) i unmade Restart None image → MayHaveBoot shape image
+first_next shape catalog live i image (inl none) =
+    inl (bodies_content shape (layout_by shape live) image [] (laid_is shape live) none)
+first_next shape catalog live i image (inr boot) =
+    inr (bodies_content shape (layout_by shape live) image _ (laid_is shape live) boot)

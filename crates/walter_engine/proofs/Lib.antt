@@ -1,10 +1,14 @@
 pub mod Bodies
 pub mod Crashes
 pub mod Resting
+pub mod Packed
+pub mod Packing
+pub mod Left
 pub mod Room
 pub mod Spelled
 pub mod Written
 pub mod Raising
+pub mod Laid
 pub mod Loads
 pub mod Firsts
 pub mod Taking

@@ -1,5 +1,5 @@
 -- A restart from the disk of a site that is down.
-use Rattle.std.proofs.Common.{◌≡◌, ℕ, ◌+◌, ◌-◌, ◌<◌, ◌≤◌, ◌≢◌, List, [], ◌∷◌, ◌++◌, map, length, false, if◌then◌else◌, Option, Some, None, refl, ap, sym, ◌∙◌, subst, inl, inr, ◌⊎◌, ⊎_elim, arith}
+use Rattle.std.proofs.Common.{◌≡◌, ℕ, ◌+◌, ◌<◌, ◌≢◌, List, [], ◌∷◌, ◌++◌, map, length, false, if◌then◌else◌, Option, Some, None, refl, ap, sym, ◌∙◌, subst, inl, inr, ◌⊎◌, ⊎_elim, arith}
 use Rattle.std.specs.Prelude.{IfSome, IsSome, is_some}
 use Rattle.std.proofs.lemmas.List.{length-append, length-map}
 use Rattle.walter_base.specs.declared.catalog.Catalog.{Catalog}
@@ -13,22 +13,25 @@ use Rattle.walter_engine.specs.declared.answers.RefusedRestart.{RefusedRestart}
 use Rattle.walter_engine.specs.declared.answers.RefusedRestart.TheVariants as refused
 use Rattle.walter_engine.specs.declared.engine.Engine.{Engine}
 use Rattle.walter_engine.specs.declared.store.Store.TheVariants.{Open, Closed}
-use Rattle.walter_engine.specs.Contents.{AreSpelled, MayHaveRecords, MayHaveNext}
-use Rattle.walter_engine.specs.Effects.{AreCallsFor, HasCome, IsRefusedOver, IsRefusedFor}
-use Rattle.walter_engine.specs.Engines.{Stands}
-use Rattle.walter_engine.specs.Raises.{LiesIn, Raises, unloaded_by}
-use Rattle.walter_engine.specs.Restarts.{ComesOf, RestartsOver}
-use Rattle.walter_engine.specs.Stores.{IsOnDisk, IsStored, IsLeft}
+use Rattle.walter_engine.specs.Contents.{AreSpelled, HasBodies, MayHaveRecords, MayHaveNext}
+use Rattle.walter_engine.specs.Effects.{HasCome, IsRefusedOver, IsRefusedFor}
+use Rattle.walter_engine.specs.Engines.{Stands, layout_in}
+use Rattle.walter_engine.specs.Raises.{LiesIn, Raises, calls_before, unloaded_by}
+use Rattle.walter_engine.specs.Restarts.{ComesOf, RestartsOver, left_over}
+use Rattle.walter_engine.specs.Stores.{IsOnDisk, IsStored, IsLeft, layout_by, layout_of}
 use Rattle.walter_engine.proofs.Crashes.{settled_next}
-use Rattle.walter_engine.proofs.Resting.{SizeIs, size_told}
+use Rattle.walter_engine.proofs.Resting.{SizeIs, size_told, reads_bodies}
+use Rattle.walter_engine.proofs.Laid.{IsLayoutOf, bodies_content, laid_is, one_layout}
 use Rattle.walter_engine.proofs.Spelled.{spelled_settled}
 use Rattle.walter_engine.proofs.Taking.{is_full}
 use Rattle.walter_journal.specs.declared.fault.JournalFault.{JournalFault}
 use Rattle.walter_journal.specs.declared.fault.JournalFault.TheVariants as fault
-use Rattle.walter_journal.specs.declared.journal.Journal.{Journal}
-use Rattle.walter_journal.specs.Faults.{HasCause, Finds}
-use Rattle.walter_journal.specs.Journals.{disk_of, StandsFor}
-use Rattle.walter_journal.specs.Layout.{HasContent, IsForeign, IsDamaged, end_behind}
+use Rattle.walter_journal.specs.Faults.{Finds}
+use Rattle.walter_checkpoint.specs.Areas.{Shape, HasContent, IsForeign, IsDamaged}
+use Rattle.walter_checkpoint.specs.Books.{disk_of, shape_of, calls_of_pack, StandsFor}
+use Rattle.walter_checkpoint.specs.Faults.{HasCause}
+use Rattle.walter_checkpoint.specs.declared.book.Book.{Book}
+use Rattle.walter_checkpoint.specs.declared.book.Live.{Live}
 use Rattle.walter_machine.specs.Comings.{is_faulty, RisesIf, IsRest}
 use Rattle.walter_site.specs.Members.{IsShortOutcome}
 use Rattle.walter_machine.specs.Machines.{is_up, AreFound}
@@ -42,15 +45,18 @@ use Rattle.walter_rules.specs.Layouts.{Layout}
 use Rattle.walter_rules.specs.Standing.{Standing, settled, stands_after}
 use Rattle.walter_rules.specs.Trails.{Comes, IsFound, TakesMemory, only}
 
--- the laws of a journal's bytes
-abbrev pub OneContent : Type 0
-OneContent = (bytes : List ℕ) (a b : List (List ℕ)) → HasContent bytes a → HasContent bytes b → a ≡ b
+-- the laws of a book's bytes
+abbrev pub OneContent : Shape → Type 0
+OneContent shape =
+    (bytes : List ℕ) (a b : List (List ℕ)) → HasContent shape bytes a → HasContent shape bytes b → a ≡ b
 
-abbrev pub NotForeign : Type 0
-NotForeign = (bytes : List ℕ) (bodies : List (List ℕ)) → HasContent bytes bodies → IsForeign bytes → ⊥
+abbrev pub NotForeign : Shape → Type 0
+NotForeign shape = (bytes : List ℕ) (bodies : List (List ℕ)) → HasContent shape bytes bodies → IsForeign shape bytes → ⊥
 
-abbrev pub NotDamaged : Type 0
-NotDamaged = (bytes : List ℕ) (bodies : List (List ℕ)) (at claimed : ℕ) → HasContent bytes bodies → IsDamaged bytes at claimed → ⊥
+abbrev pub NotDamaged : Shape → Type 0
+NotDamaged shape =
+    (bytes : List ℕ) (bodies : List (List ℕ)) (at claimed : ℕ) → HasContent shape bytes bodies
+    → IsDamaged shape bytes at claimed → ⊥
 
 -- ---- what was found
 
@@ -61,13 +67,19 @@ AreThere S bodies =
     ⊎ ((rec : Record) × (S.flight ≡ Some rec) × (bodies ≡ map record_spelled (S.records ++ rec ∷ [])))
 
 -- what may be there is what was found
-there : OneContent → (S : Standing) (flight : Option Record) → S.flight ≡ flight → (bytes : List ℕ)
-    (bodies : List (List ℕ)) → MayHaveRecords S.records flight bytes → HasContent bytes bodies → AreThere S bodies
-there one S None is bytes bodies has content = inl (one bytes bodies (map record_spelled S.records) content has)
-there one S (Some rec) is bytes bodies (inl has) content =
-    inl (one bytes bodies (map record_spelled S.records) content has)
-there one S (Some rec) is bytes bodies (inr has) content =
-    inr (rec, is, one bytes bodies (map record_spelled (S.records ++ rec ∷ [])) content has)
+there : (shape : Shape) → OneContent shape → (layout : Layout) → IsLayoutOf shape layout → (S : Standing)
+    (flight : Option Record) → S.flight ≡ flight → (bytes : List ℕ) (bodies : List (List ℕ))
+    → MayHaveRecords layout S.records flight bytes → HasContent shape bytes bodies → AreThere S bodies
+there shape one layout of_ S None is bytes bodies has content =
+    inl (one bytes bodies (map record_spelled S.records) content (bodies_content shape layout bytes _ of_ has))
+there shape one layout of_ S (Some rec) is bytes bodies (inl has) content =
+    inl (one bytes bodies (map record_spelled S.records) content (bodies_content shape layout bytes _ of_ has))
+there shape one layout of_ S (Some rec) is bytes bodies (inr has) content =
+    inr (
+      rec,
+      is,
+      one bytes bodies (map record_spelled (S.records ++ rec ∷ [])) content (bodies_content shape layout bytes _ of_ has),
+    )
 
 pub found_there : (S : Standing) (bodies : List (List ℕ)) → AreThere S bodies → AreFound S (length bodies)
 found_there S bodies (inl is) = inl (ap length is ∙ length-map S.records record_spelled)
@@ -141,24 +153,27 @@ with_kept catalog layout i S event came kept (Comes.full rec brings less is) =
     (record { outcome_is = is.outcome_is; wrote = is.wrote; flight_is = is.flight_is; sends = is.sends; dropped = is.dropped })
 
 -- bytes with bodies for which it is refused
-refused_for : (catalog : Catalog) (i : SiteId) (bytes : List ℕ) (bodies : List (List ℕ)) (why : RefusedRestart) → HasContent bytes bodies → IsRefusedOver catalog i bodies why → IsRefusedFor catalog i bytes why
-refused_for catalog i bytes bodies refused.Foreign content over = absurd over
-refused_for catalog i bytes bodies (refused.Damaged at length) content over = absurd over
-refused_for catalog i bytes bodies (refused.Unreadable index) content over = (bodies, content, over)
-refused_for catalog i bytes bodies refused.LastEpoch content over = (bodies, content, over)
+refused_for : (catalog : Catalog) (shape : Shape) (i : SiteId) (bytes : List ℕ) (bodies : List (List ℕ))
+    (why : RefusedRestart) → HasContent shape bytes bodies → IsRefusedOver catalog i bodies why
+    → IsRefusedFor catalog shape i bytes why
+refused_for catalog shape i bytes bodies refused.Foreign content over = absurd over
+refused_for catalog shape i bytes bodies (refused.Damaged at length) content over = absurd over
+refused_for catalog shape i bytes bodies (refused.Unreadable index) content over = (bodies, content, over)
+refused_for catalog shape i bytes bodies refused.LastEpoch content over = (bodies, content, over)
 
 -- what holds of all holds of what is there
 pub always : {A : Type 0} (Q : A → Type 0) (o : Option A) → ((x : A) → Q x) → IfSome o Q
 always Q None so = tt
 always Q (Some x) so = so x
 
--- a journal that was not loaded
-pub refused_unloaded : (catalog : Catalog) (i : SiteId) (why : JournalFault) (images : List ℕ → Type 0) (old new : DiskState)
-    → HasCause why images old new → IfSome new.reads (λ bytes. IfSome (unloaded_by why).1 (IsRefusedFor catalog i bytes))
-refused_unloaded catalog i fault.Failed images old new cause = always _ new.reads (λ bytes. tt)
-refused_unloaded catalog i fault.Foreign images old new cause = cause.are
-refused_unloaded catalog i (fault.Damaged at length) images old new cause = cause.are
-refused_unloaded catalog i fault.NoMemory images old new cause = always _ new.reads (λ bytes. tt)
+-- a book that was not loaded
+pub refused_unloaded : (catalog : Catalog) (shape : Shape) (i : SiteId) (why : JournalFault) (images : List ℕ → Type 0)
+    (old new : DiskState) → HasCause shape why images old new
+    → IfSome new.reads (λ bytes. IfSome (unloaded_by why).1 (IsRefusedFor catalog shape i bytes))
+refused_unloaded catalog shape i fault.Failed images old new cause = always _ new.reads (λ bytes. tt)
+refused_unloaded catalog shape i fault.Foreign images old new cause = cause.are
+refused_unloaded catalog shape i (fault.Damaged at length) images old new cause = cause.are
+refused_unloaded catalog shape i fault.NoMemory images old new cause = always _ new.reads (λ bytes. tt)
 
 pub unloaded_is : (why : JournalFault) → IsRest (unloaded_by why).0 × IsShortOutcome (unloaded_by why).0
     × (is_full (unloaded_by why).0 ≡ false) × ((unloaded_by why).0 ≡ Refused → IsSome (unloaded_by why).1)
@@ -167,148 +182,193 @@ unloaded_is fault.NoMemory = (tt, tt, refl, λ e. absurd (cc))
 unloaded_is fault.Foreign = (tt, tt, refl, λ e. refl)
 unloaded_is (fault.Damaged at length) = (tt, tt, refl, λ e. refl)
 
-pub unloaded_faults : (why : JournalFault) (images : List ℕ → Type 0) (old new : DiskState) → HasCause why images old new
+pub unloaded_faults : (shape : Shape) (why : JournalFault) (images : List ℕ → Type 0) (old new : DiskState)
+    → HasCause shape why images old new
     → RisesIf (is_faulty (unloaded_by why).0) old.faults new.faults
-unloaded_faults fault.Failed images old new cause = cause
-unloaded_faults fault.NoMemory images old new cause = cause
-unloaded_faults fault.Foreign images old new cause = cause.faultless
-unloaded_faults (fault.Damaged at length) images old new cause = cause.faultless
+unloaded_faults shape fault.Failed images old new cause = cause
+unloaded_faults shape fault.NoMemory images old new cause = cause
+unloaded_faults shape fault.Foreign images old new cause = cause.faultless
+unloaded_faults shape (fault.Damaged at length) images old new cause = cause.faultless
 
--- the calls of the load come before those of the write
-pub calls_of_restart : (wrote flight : Option Record) (load old mid new : ℕ) → mid ≡ old + load
-    → AreCallsFor wrote flight mid new → IfSome wrote (λ rec. new ≡ old + load + 4) × (new ≤ old + load + 4)
-calls_of_restart (Some rec) flight load old mid new is calls = (omega (arith, is, calls), omega (arith, is, calls))
-calls_of_restart None (Some rec) load old mid new is calls = (tt, omega (arith, is, calls))
-calls_of_restart None None load old mid new is calls = (tt, omega (arith, is, calls))
+-- the calls of the load come before the others
+pub calls_of_restart : (wrote : Option Record) (load before old mid new : ℕ) → mid ≡ old + load
+    → IfSome wrote (λ rec. new ≡ mid + before + 4) → IfSome wrote (λ rec. new ≡ old + (load + before) + 4)
+calls_of_restart (Some rec) load before old mid new is calls = omega (arith, is, calls)
+calls_of_restart None load before old mid new is calls = tt
+
+-- those of a pack, by how many bytes the disk has then
+pub packs_are : {D : Type 0} {g : Ghosts D} (shape : Shape) (book : Book D g) (bodies : List (List ℕ)) → shape_of book ≡ shape
+    → (calls_before book bodies ≡ 0)
+    ⊎ ((live : Live) × (now : ℕ) × (calls_before book bodies ≡ calls_of_pack shape live now))
+packs_are shape book [] is = inl refl
+packs_are {g = g} shape book (body ∷ bodies) is =
+    inr (
+      book.live,
+      (g.known (disk_of book)).size,
+      ap (λ (s : Shape). calls_of_pack s book.live (g.known (disk_of book)).size) is,
+    )
 
 -- what was found wrong can't be
 not_wrong : (P : List ℕ → Type 0) (reads : Option (List ℕ)) (images : List ℕ → Type 0) → ((bytes : List ℕ) → images bytes → P bytes → ⊥) → IsSome reads → IsImage reads images → IfSome reads P → ⊥
 not_wrong P None images differ told image are = absurd (cc)
 not_wrong P (Some bytes) images differ told image are = differ bytes image are
 
-some_content : (records : List Record) (flight : Option Record) (bytes : List ℕ) → MayHaveRecords records flight bytes → (bodies : List (List ℕ)) × HasContent bytes bodies
-some_content records None bytes has = (map record_spelled records, has)
-some_content records (Some rec) bytes (inl has) = (map record_spelled records, has)
-some_content records (Some rec) bytes (inr has) = (map record_spelled (records ++ rec ∷ []), has)
+some_bodies : (layout : Layout) (records : List Record) (flight : Option Record) (bytes : List ℕ)
+    → MayHaveRecords layout records flight bytes → (bodies : List (List ℕ)) × HasBodies layout bytes bodies
+some_bodies layout records None bytes has = (map record_spelled records, has)
+some_bodies layout records (Some rec) bytes (inl has) = (map record_spelled records, has)
+some_bodies layout records (Some rec) bytes (inr has) = (map record_spelled (records ++ rec ∷ []), has)
 
 module _ {D : Type 0} {g : Ghosts D} where
   -- the engine over what was left
-  pub stands_left : (engine : Engine D g) (T : Standing) (journal : Journal D g) → IsLeft {g = g} engine.machine T journal
-      → engine.store ≡ Some (if is_up engine.machine then Open journal else Closed (disk_of journal)) → Stands engine T
-  stands_left engine T journal left is = record {
+  pub stands_left : (engine : Engine D g) (T : Standing) (book : Book D g) (layout : Layout) → layout_in engine ≡ layout
+      → IsLeft {g = g} layout engine.machine T book
+      → engine.store ≡ Some (if is_up engine.machine then Open book else Closed (disk_of book)) → Stands engine T
+  stands_left engine T book layout same left is = record {
     machine = left.machine;
     spelled = left.spelled;
-    store = subst (λ o. IsStored {g = g} T o) (sym is) left.stored;
+    store = subst (λ (l : Layout). IsStored {g = g} l T engine.store) (sym same)
+        (subst (λ o. IsStored {g = g} layout T o) (sym is) left.stored);
   }
 
-  -- ---- over a journal that was loaded
+  -- ---- over a book that was loaded
 
-  module _ (one : OneContent) (S : Standing) (disk : D) (journal : Journal D g) (bodies : List (List ℕ))
-      (resting : IsOnDisk g S disk) (image : IsImage (g.known (disk_of journal)).reads (g.may_leave disk))
-      (stands : StandsFor journal bodies) where
+  module _ (shape : Shape) (one : OneContent shape) (layout : Layout) (of_ : IsLayoutOf shape layout) (S : Standing)
+      (disk : D) (book : Book D g) (shape_is : shape_of book ≡ shape) (bodies : List (List ℕ))
+      (resting : IsOnDisk g layout S disk) (image : IsImage (g.known (disk_of book)).reads (g.may_leave disk))
+      (stands : StandsFor book bodies) where
+    bytes : List ℕ
+    bytes = stands.with.stands.bytes
+
+    was : MayHaveRecords layout S.records S.flight bytes
+    unfolding bytes
+    was = resting.images bytes (subst (λ reads. IsImage reads (g.may_leave disk)) stands.with.stands.told image)
+
+    now : HasBodies (layout_by shape book.live) bytes bodies
+    unfolding bytes
+    now = subst (λ (s : Shape). HasBodies (layout_by s book.live) bytes bodies) shape_is (reads_bodies g book bodies stands)
+
     pub there_loaded : AreThere S bodies
     there_loaded =
-        let has = resting.images stands.bytes (subst (λ reads. IsImage reads (g.may_leave disk)) stands.told image) in
-        there one S S.flight refl stands.bytes bodies has stands.content
+        there shape one layout of_ S S.flight refl bytes bodies was
+        (bodies_content shape (layout_by shape book.live) bytes bodies (laid_is shape book.live) now)
+
+    -- the layout is the one that it had
+    pub laid_loaded : layout_of book ≡ layout
+    laid_loaded =
+        let some = some_bodies layout S.records S.flight bytes was in
+        ap (λ (s : Shape). layout_by s book.live) shape_is
+        ∙ one_layout shape layout book.live bytes some.0 bodies of_ some.1 now
 
     -- behind the count of the bodies
     pub lies_settled : (catalog : Catalog) (i : SiteId) (kept : Option Record) → AreSpelled catalog.sites S → S.up ≡ false
         → AreTold catalog i (settled catalog i kept S) → IfSome kept (IsFound S Restart)
         → length bodies ≡ length (settled catalog i kept S).records
-        → LiesIn {g = g} catalog i (settled catalog i kept S) journal bodies
+        → LiesIn {g = g} catalog layout i (settled catalog i kept S) book bodies
     lies_settled catalog i kept spelled down told found count = record {
       down = settled_up catalog i S kept ∙ down;
       told = told;
       spelled = spelled_settled catalog.sites catalog i S kept spelled (has_spelling catalog.sites S kept spelled found);
       is = settled_there catalog i S kept bodies there_loaded found count;
+      laid = laid_loaded;
       stands = stands;
     }
 
   pub come_raised : (catalog : Catalog) (layout : Layout) (i : SiteId) (S : Standing) (kept : Option Record) (came : Came)
-      (why : Option RefusedRestart) (engine : Engine D g) (journal : Journal D g) → IfSome kept (IsFound S Restart)
-      → Raises {g = g} catalog layout i (settled catalog i kept S) came why engine.machine journal
-      → engine.store ≡ Some (if is_up engine.machine then Open journal else Closed (disk_of journal))
+      (why : Option RefusedRestart) (engine : Engine D g) (book : Book D g) → layout_in engine ≡ layout
+      → IfSome kept (IsFound S Restart) → Raises {g = g} catalog layout i (settled catalog i kept S) came why engine.machine book
+      → engine.store ≡ Some (if is_up engine.machine then Open book else Closed (disk_of book))
       → HasCome catalog layout i S Restart (record came { kept = kept }) why engine
-  come_raised catalog layout i S kept came why engine journal found raises is = record {
+  come_raised catalog layout i S kept came why engine book same found raises is = record {
     found = found;
     comes = ⊎_elim (λ refused. inl refused)
         (λ comes. inr (with_kept catalog layout i (settled catalog i kept S) Restart came kept comes)) raises.comes;
-    stands = stands_left engine (stands_after catalog i (settled catalog i kept S) Restart came) journal raises.leaves is;
+    stands = stands_left engine (stands_after catalog i (settled catalog i kept S) Restart came) book layout same raises.leaves is;
     last = raises.last;
     takes_none = λ down restart last.
         let none = raises.takes_none last in
         record { rest = none.rest; wrote = none.wrote; flight = none.flight };
   }
 
-  pub leaves_loaded : (catalog : Catalog) (i : SiteId) (S : Standing) (kept : Option Record) (disk : D)
-      (journal : Journal D g) (after : D) → IsOnDisk g S disk → IfSome kept (IsFound S Restart)
-      → LeavesOnly g.moment g.left_since disk (disk_of journal) (g.may_leave disk)
-      → LeavesOnly g.moment g.left_since (disk_of journal) after (MayHaveNext catalog i (settled catalog i kept S) Restart None)
-      → LeavesOnly g.moment g.left_since disk after (MayHaveNext catalog i S Restart kept)
-  leaves_loaded catalog i S kept disk journal after resting found load run =
-      joined g.moment g.left_since disk (disk_of journal) after (MayHaveNext catalog i S Restart kept)
-      (weaker g.moment g.left_since disk (disk_of journal) (g.may_leave disk) (MayHaveNext catalog i S Restart kept)
+  pub leaves_loaded : (catalog : Catalog) (layout : Layout) (i : SiteId) (S : Standing) (kept : Option Record) (disk : D)
+      (book : Book D g) (after : D) → IsOnDisk g layout S disk → IfSome kept (IsFound S Restart)
+      → LeavesOnly g.moment g.left_since disk (disk_of book) (g.may_leave disk)
+      → LeavesOnly g.moment g.left_since (disk_of book) after
+      (MayHaveNext catalog layout i (settled catalog i kept S) Restart None)
+      → LeavesOnly g.moment g.left_since disk after (MayHaveNext catalog layout i S Restart kept)
+  leaves_loaded catalog layout i S kept disk book after resting found load run =
+      joined g.moment g.left_since disk (disk_of book) after (MayHaveNext catalog layout i S Restart kept)
+      (weaker g.moment g.left_since disk (disk_of book) (g.may_leave disk) (MayHaveNext catalog layout i S Restart kept)
       (λ image left. inl (resting.images image left)) load)
-      (weaker g.moment g.left_since (disk_of journal) after (MayHaveNext catalog i (settled catalog i kept S) Restart None)
-      (MayHaveNext catalog i S Restart kept) (settled_next catalog i S Restart kept found) run)
+      (weaker g.moment g.left_since (disk_of book) after (MayHaveNext catalog layout i (settled catalog i kept S) Restart None)
+      (MayHaveNext catalog layout i S Restart kept) (settled_next catalog layout i S Restart kept found) run)
 
   -- where it is refused, the bytes that the disk has are the cause
-  pub refused_loaded : (catalog : Catalog) (i : SiteId) (disk after : D) (journal : Journal D g) (bodies : List (List ℕ))
-      (why : Option RefusedRestart) → (IsSome (g.known disk).reads → StandsFor journal bodies)
-      → is_some (g.known (disk_of journal)).reads ≡ is_some (g.known disk).reads
-      → IfSome why (λ cause. (after ≡ disk_of journal) × IsRefusedOver catalog i bodies cause)
-      → IfSome (g.known after).reads (λ bytes. IfSome why (IsRefusedFor catalog i bytes))
-  refused_loaded catalog i disk after journal bodies None loaded tells over = always _ (g.known after).reads (λ bytes. tt)
-  refused_loaded catalog i disk after journal bodies (Some cause) loaded tells over =
-      subst (λ (d : D). IfSome (g.known d).reads (λ bytes. IsRefusedFor catalog i bytes cause)) (sym over.0)
-      (at (g.known (disk_of journal)).reads refl)
+  pub refused_loaded : (catalog : Catalog) (shape : Shape) (i : SiteId) (disk after : D) (book : Book D g)
+      (bodies : List (List ℕ)) (why : Option RefusedRestart) → shape_of book ≡ shape
+      → (IsSome (g.known disk).reads → StandsFor book bodies)
+      → is_some (g.known (disk_of book)).reads ≡ is_some (g.known disk).reads
+      → IfSome why (λ cause. (after ≡ disk_of book) × IsRefusedOver catalog i bodies cause)
+      → IfSome (g.known after).reads (λ bytes. IfSome why (IsRefusedFor catalog shape i bytes))
+  refused_loaded catalog shape i disk after book bodies None shape_is loaded tells over =
+      always _ (g.known after).reads (λ bytes. tt)
+  refused_loaded catalog shape i disk after book bodies (Some cause) shape_is loaded tells over =
+      subst (λ (d : D). IfSome (g.known d).reads (λ bytes. IsRefusedFor catalog shape i bytes cause)) (sym over.0)
+      (at (g.known (disk_of book)).reads refl)
     where
-      at : (reads : Option (List ℕ)) → (g.known (disk_of journal)).reads ≡ reads
-          → IfSome reads (λ bytes. IsRefusedFor catalog i bytes cause)
+      at : (reads : Option (List ℕ)) → (g.known (disk_of book)).reads ≡ reads
+          → IfSome reads (λ bytes. IsRefusedFor catalog shape i bytes cause)
       at None is = tt
       at (Some bytes) is =
           let stands = loaded (sym tells ∙ ap is_some is) in
-          let named : Some stands.bytes ≡ Some bytes = sym stands.told ∙ is in
-          let same : stands.bytes ≡ bytes = cc in
-          refused_for catalog i bytes bodies cause (subst (λ b. HasContent b bodies) same stands.content) over.1
+          let named : Some stands.with.stands.bytes ≡ Some bytes = sym stands.with.stands.told ∙ is in
+          let same : stands.with.stands.bytes ≡ bytes = cc in
+          let content = bodies_content (shape_of book) (layout_of book) stands.with.stands.bytes bodies
+          (laid_is (shape_of book) book.live) (reads_bodies g book bodies stands) in
+          refused_for catalog shape i bytes bodies cause
+          (subst (λ (s : Shape). HasContent s bytes bodies) shape_is
+          (subst (λ b. HasContent (shape_of book) b bodies) same content)) over.1
 
-  -- ---- over a disk whose journal was not loaded
+  -- ---- over a disk whose book was not loaded
 
-  module _ (not_foreign : NotForeign) (not_damaged : NotDamaged) (S : Standing) (old new : D) (resting : IsOnDisk g S old)
+  module _ (shape : Shape) (not_foreign : NotForeign shape) (not_damaged : NotDamaged shape) (layout : Layout)
+      (of_ : IsLayoutOf shape layout) (S : Standing) (old new : D) (resting : IsOnDisk g layout S old)
       (tells : is_some (g.known new).reads ≡ is_some (g.known old).reads) where
-    wrong : (P : List ℕ → Type 0) → ((bytes : List ℕ) (bodies : List (List ℕ)) → HasContent bytes bodies → P bytes → ⊥)
+    wrong : (P : List ℕ → Type 0) → ((bytes : List ℕ) (bodies : List (List ℕ)) → HasContent shape bytes bodies → P bytes → ⊥)
         → Finds P (g.may_leave old) (g.known old) (g.known new) → ⊥
     wrong P differ finds =
         not_wrong P (g.known new).reads (g.may_leave old)
-        (λ bytes left is. let has = some_content S.records S.flight bytes (resting.images bytes left) in differ bytes has.0 has.1 is)
+        (λ bytes left is.
+        let has = some_bodies layout S.records S.flight bytes (resting.images bytes left) in
+        differ bytes has.0 (bodies_content shape layout bytes has.0 of_ has.1) is)
         (tells ∙ resting.told) finds.image finds.are
 
     -- what it comes to
-    pub comes_unloaded : (catalog : Catalog) (layout : Layout) (i : SiteId) → S.up ≡ false → (why : JournalFault)
-        → HasCause why (g.may_leave old) (g.known old) (g.known new)
+    pub comes_unloaded : (catalog : Catalog) (i : SiteId) → S.up ≡ false → (why : JournalFault)
+        → HasCause shape why (g.may_leave old) (g.known old) (g.known new)
         → Comes catalog layout i S Restart (only (unloaded_by why).0) × ((unloaded_by why).1 ≡ None)
-    comes_unloaded catalog layout i down fault.Failed cause = (
+    comes_unloaded catalog i down fault.Failed cause = (
       Comes.unread refl down
           (record { outcome_is = refl; wrote = refl; flight_is = refl; sends = refl; dropped = refl }),
       refl,
     )
-    comes_unloaded catalog layout i down fault.NoMemory cause = (
+    comes_unloaded catalog i down fault.NoMemory cause = (
       Comes.no_memory (subst (λ up. TakesMemory up Restart) (sym down) tt)
           (record { outcome_is = refl; wrote = refl; flight_is = refl; sends = refl; dropped = refl }),
       refl,
     )
-    comes_unloaded catalog layout i down fault.Foreign cause = absurd (wrong IsForeign not_foreign cause)
-    comes_unloaded catalog layout i down (fault.Damaged at claimed) cause =
-        absurd (wrong (λ bytes. IsDamaged bytes at claimed) (λ bytes bodies. not_damaged bytes bodies at claimed) cause)
+    comes_unloaded catalog i down fault.Foreign cause = absurd (wrong (IsForeign shape) not_foreign cause)
+    comes_unloaded catalog i down (fault.Damaged at claimed) cause =
+        absurd (wrong (λ bytes. IsDamaged shape bytes at claimed) (λ bytes bodies. not_damaged bytes bodies at claimed) cause)
 
     -- so the engine over its disk has come to this
-    pub come_unloaded : (catalog : Catalog) (layout : Layout) (i : SiteId) (why : JournalFault) (came : Came)
+    pub come_unloaded : (catalog : Catalog) (i : SiteId) (why : JournalFault) (came : Came)
         (refused : Option RefusedRestart) (engine : Engine D g) → S.up ≡ false
-        → HasCause why (g.may_leave old) (g.known old) (g.known new) → came ≡ only (unloaded_by why).0
+        → HasCause shape why (g.may_leave old) (g.known old) (g.known new) → came ≡ only (unloaded_by why).0
         → refused ≡ (unloaded_by why).1 → Stands engine (stands_after catalog i S Restart came)
         → HasCome catalog layout i S Restart came refused engine
-    come_unloaded catalog layout i why came refused engine down cause is_came is_refused stands =
-        let comes = comes_unloaded catalog layout i down why cause in
+    come_unloaded catalog i why came refused engine down cause is_came is_refused stands =
+        let comes = comes_unloaded catalog i down why cause in
         subst (λ (c : Came). HasCome catalog layout i S Restart c refused engine) (sym is_came)
         (subst (λ (r : Option RefusedRestart). HasCome catalog layout i S Restart (only (unloaded_by why).0) r engine)
         (sym (is_refused ∙ comes.1)) (record {
@@ -328,19 +388,19 @@ module _ {D : Type 0} (g : Ghosts D) where
   found_told size_is old bytes told some none =
       absurd (omega (arith, some, size_told g size_is old bytes told, ap length none))
 
-  pub restarts_unloaded : SizeIs g → (catalog : Catalog) (capacity : ℕ) (i : SiteId) (why : JournalFault)
+  pub restarts_unloaded : SizeIs g → (catalog : Catalog) (shape : Shape) (asked : Layout) (i : SiteId) (why : JournalFault)
       (old new : D) (came : Came) (refused : Option RefusedRestart)
       → is_some (g.known new).reads ≡ is_some (g.known old).reads
-      → HasCause why (g.may_leave old) (g.known old) (g.known new) → came.outcome ≡ (unloaded_by why).0
+      → HasCause shape why (g.may_leave old) (g.known old) (g.known new) → came.outcome ≡ (unloaded_by why).0
       → refused ≡ (unloaded_by why).1
-      → IfSome (g.known old).reads (λ bytes. RestartsOver catalog i capacity bytes (g.may_leave old) came refused)
-  restarts_unloaded size_is catalog capacity i why old new came refused tells cause is is_why =
+      → IfSome (g.known old).reads (λ bytes. RestartsOver catalog shape asked i bytes (g.may_leave old) came refused)
+  restarts_unloaded size_is catalog shape asked i why old new came refused tells cause is is_why =
       at (g.known old).reads (g.known new).reads refl refl why cause is is_why
     where
       at : (reads reads' : Option (List ℕ)) → (g.known old).reads ≡ reads → (g.known new).reads ≡ reads'
-          → (w : JournalFault) → HasCause w (g.may_leave old) (g.known old) (g.known new)
+          → (w : JournalFault) → HasCause shape w (g.may_leave old) (g.known old) (g.known new)
           → came.outcome ≡ (unloaded_by w).0 → refused ≡ (unloaded_by w).1
-          → IfSome reads (λ bytes. RestartsOver catalog i capacity bytes (g.may_leave old) came refused)
+          → IfSome reads (λ bytes. RestartsOver catalog shape asked i bytes (g.may_leave old) came refused)
       at None reads' told told' w cause is is_why = tt
       at (Some bytes) reads' told told' fault.Failed cause is is_why = RestartsOver.hindered (inl is) is_why
       at (Some bytes) reads' told told' fault.NoMemory cause is is_why = RestartsOver.hindered (inr is) is_why
@@ -351,33 +411,36 @@ module _ {D : Type 0} (g : Ghosts D) where
       at (Some bytes) (Some found) told told' fault.Foreign cause is is_why =
           RestartsOver.over_others found (found_told size_is old bytes told cause.not_new)
           (subst (λ r. IsImage r (g.may_leave old)) told' cause.image)
-          (inl (is_why, subst (λ r. IfSome r IsForeign) told' cause.are)) is
+          (inl (is_why, subst (λ r. IfSome r (IsForeign shape)) told' cause.are)) is
       at (Some bytes) (Some found) told told' (fault.Damaged place claimed) cause is is_why =
           RestartsOver.over_others found (found_told size_is old bytes told cause.not_new)
           (subst (λ r. IsImage r (g.may_leave old)) told' cause.image)
-          (inr (place, claimed, is_why, subst (λ r. IfSome r (λ b. IsDamaged b place claimed)) told' cause.are)) is
+          (inr (place, claimed, is_why, subst (λ r. IfSome r (λ b. IsDamaged shape b place claimed)) told' cause.are)) is
 
-  pub restarts_loaded : SizeIs g → (catalog : Catalog) (capacity left : ℕ) (i : SiteId) (disk : D)
-      (journal : Journal D g) (bodies : List (List ℕ)) (came : Came) (why : Option RefusedRestart)
-      → (IsSome (g.known disk).reads → StandsFor journal bodies) → ((g.known disk).size ≡ 0 → bodies ≡ [])
-      → (0 < (g.known disk).size → IsImage (g.known (disk_of journal)).reads (g.may_leave disk))
-      → left ≡ capacity - end_behind bodies → ComesOf catalog i left bodies came.wrote why came.outcome
-      → IfSome (g.known disk).reads (λ bytes. RestartsOver catalog i capacity bytes (g.may_leave disk) came why)
-  restarts_loaded size_is catalog capacity left i disk journal bodies came why loaded fresh image is comes =
+  pub restarts_loaded : SizeIs g → (catalog : Catalog) (shape : Shape) (asked : Layout) (i : SiteId) (disk : D)
+      (book : Book D g) (bodies : List (List ℕ)) (came : Came) (why : Option RefusedRestart) → shape_of book ≡ shape
+      → (IsSome (g.known disk).reads → StandsFor book bodies) → ((g.known disk).size ≡ 0 → bodies ≡ [])
+      → ((g.known disk).size ≡ 0 → layout_of book ≡ asked)
+      → (0 < (g.known disk).size → IsImage (g.known (disk_of book)).reads (g.may_leave disk))
+      → ComesOf catalog i (left_over (layout_of book) bodies) bodies came.wrote why came.outcome
+      → IfSome (g.known disk).reads (λ bytes. RestartsOver catalog shape asked i bytes (g.may_leave disk) came why)
+  restarts_loaded size_is catalog shape asked i disk book bodies came why shape_is loaded fresh new image comes =
       at (g.known disk).reads refl
     where
-      here : ComesOf catalog i (capacity - end_behind bodies) bodies came.wrote why came.outcome
-      here = subst (λ n. ComesOf catalog i n bodies came.wrote why came.outcome) is comes
-
       at : (reads : Option (List ℕ)) → (g.known disk).reads ≡ reads
-          → IfSome reads (λ bytes. RestartsOver catalog i capacity bytes (g.may_leave disk) came why)
+          → IfSome reads (λ bytes. RestartsOver catalog shape asked i bytes (g.may_leave disk) came why)
       at None told = tt
       at (Some []) told =
+          let none = size_told g size_is disk [] told in
           RestartsOver.over_none refl
-          (subst (λ b. ComesOf catalog i (capacity - end_behind b) b came.wrote why came.outcome)
-          (fresh (size_told g size_is disk [] told)) here)
+          (subst (λ b. ComesOf catalog i (left_over asked b) b came.wrote why came.outcome) (fresh none)
+          (subst (λ (l : Layout). ComesOf catalog i (left_over l bodies) bodies came.wrote why came.outcome) (new none) comes))
       at (Some (byte ∷ bytes)) told =
           let stands = loaded (ap is_some told) in
           let some = image (omega (arith, size_told g size_is disk (byte ∷ bytes) told)) in
-          RestartsOver.over_journal stands.bytes bodies (λ e. absurd (cc))
-          (subst (λ r. IsImage r (g.may_leave disk)) stands.told some) stands.content here
+          RestartsOver.over_book stands.with.stands.bytes book.live bodies (λ e. absurd (cc))
+          (subst (λ r. IsImage r (g.may_leave disk)) stands.with.stands.told some)
+          (subst (λ (s : Shape). HasBodies (layout_by s book.live) stands.with.stands.bytes bodies) shape_is
+          (reads_bodies g book bodies stands))
+          (subst (λ (s : Shape). ComesOf catalog i (left_over (layout_by s book.live) bodies) bodies came.wrote why came.outcome)
+          shape_is comes)

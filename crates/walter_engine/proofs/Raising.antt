@@ -1,40 +1,44 @@
 -- A restart of a site that is down, by the bodies of its journal.
-use Rattle.std.proofs.Common.{◌≡◌, ◌⊎◌, ℕ, ◌+◌, ◌<◌, List, [], map, false, Option, Some, None, refl, ap, sym, ◌∙◌, subst, inl, inr}
-use Rattle.std.specs.Prelude.{IfSome, IsSome, is_some}
+use Rattle.std.proofs.Common.{◌≡◌, ◌⊎◌, ℕ, ◌+◌, ◌<◌, List, [], map, true, false, Option, Some, None, refl, ap, sym, ◌∙◌, subst, inl, inr}
+use Rattle.std.specs.Prelude.{All, IfSome, IsSome, is_some}
 use Rattle.walter_base.specs.declared.catalog.Catalog.{Catalog}
 use Rattle.walter_base.specs.declared.message.Record.{Record}
 use Rattle.walter_base.specs.declared.message.Record.TheVariants.{Boot}
 use Rattle.walter_base.specs.declared.names.SiteId.{SiteId}
+use Rattle.walter_disk.proofs.Moments.{joined}
 use Rattle.walter_disk.specs.declared.disk.Disk.{Ghosts}
+use Rattle.walter_disk.specs.Disks.{Fails}
 use Rattle.walter_disk.specs.Images.{LeavesOnly}
 use Rattle.walter_engine.specs.declared.answers.RefusedRestart.{RefusedRestart}
 use Rattle.walter_engine.specs.declared.answers.RefusedRestart.TheVariants.{Foreign, Damaged, Unreadable, LastEpoch}
-use Rattle.walter_engine.specs.Contents.{MayHaveNext}
+use Rattle.walter_engine.specs.Contents.{HasBodies, MayHaveNext}
 use Rattle.walter_engine.specs.Effects.{Tell, IsUnreadable, IsRefusedOver, TakesNoEpoch}
-use Rattle.walter_engine.specs.Raises.{LiesIn, Raises, hindered_by}
+use Rattle.walter_engine.specs.Raises.{IsPacked, LiesIn, Raises, hindered_by}
 use Rattle.walter_engine.specs.Replays.{Tells, IsReadyOver}
-use Rattle.walter_engine.specs.Restarts.{ComesOf}
-use Rattle.walter_engine.specs.Writings.{IsOutcomeOf}
+use Rattle.walter_engine.specs.Restarts.{ComesOf, left_over}
+use Rattle.walter_engine.specs.Stores.{IsKept, layout_of}
+use Rattle.walter_engine.specs.Writings.{IsOutcomeOf, IsSameButRoom}
 use Rattle.walter_engine.proofs.Bodies.{readable, one_list}
-use Rattle.walter_engine.proofs.Crashes.{unmoved}
-use Rattle.walter_engine.proofs.Resting.{SizeIs, OnlyNow, may_have}
+use Rattle.walter_engine.proofs.Crashes.{unmoved, stays_next, packs_next}
+use Rattle.walter_engine.proofs.Resting.{SizeIs, CountsNow, OnlyNow, may_have}
+use Rattle.walter_engine.proofs.Room.{IsFor, left_packed}
 use Rattle.walter_engine.proofs.Taking.{same_parts}
-use Rattle.walter_engine.proofs.Written.{leaves_same}
-use Rattle.walter_journal.specs.declared.journal.Journal.{Journal}
-use Rattle.walter_journal.specs.Journals.{disk_of, StandsFor}
+use Rattle.walter_engine.proofs.Written.{leaves_same, leaves_unpacked, same_layout}
+use Rattle.walter_checkpoint.specs.Books.{disk_of, StandsFor}
+use Rattle.walter_checkpoint.specs.declared.book.Book.{Book}
 use Rattle.walter_machine.specs.declared.machine.Machine.{Machine}
 use Rattle.walter_machine.specs.declared.ready.Ready.{Ready}
 use Rattle.walter_machine.specs.declared.ready.Step.{Step}
 use Rattle.walter_machine.specs.declared.ready.Step.TheVariants.{Answer, Apply, Fall, Rise}
 use Rattle.walter_machine.specs.Steps.{IsStep, record_of, outcome_of, sends_of}
 use Rattle.walter_machine.specs.Comings.{IsRest, is_faulty}
-use Rattle.walter_machine.specs.Machines.{catalog_in, HasStanding}
+use Rattle.walter_machine.specs.Machines.{catalog_in, tables_in, HasStanding}
 use Rattle.walter_machine.specs.Readiness.{rec_in, came_in, IsReadyFor, IsReadyAnyway}
-use Rattle.walter_record.specs.Spelling.{record_spelled}
+use Rattle.walter_record.specs.Spelling.{record_spelled, HasRecordSpelling}
 use Rattle.walter_rules.specs.declared.entry.Came.{Came}
 use Rattle.walter_rules.specs.declared.event.Event.TheVariants.{Restart}
 use Rattle.walter_rules.specs.declared.outcome.Outcome.{Outcome}
-use Rattle.walter_rules.specs.declared.outcome.Outcome.TheVariants.{Taken, Refused}
+use Rattle.walter_rules.specs.declared.outcome.Outcome.TheVariants.{Taken, Failed, Memory, Refused}
 use Rattle.walter_rules.specs.Knowledge.{Knowledge, fresh}
 use Rattle.walter_rules.specs.Layouts.{Layout, need_of}
 use Rattle.walter_rules.specs.Records.{replayed}
@@ -123,8 +127,8 @@ pub refused_last : (catalog : Catalog) (i : SiteId) (bodies : List (List ℕ)) (
     → Tells catalog i bodies tables → (values_of tables).epoch ≡ 4294967295 → IsRefusedOver catalog i bodies LastEpoch
 refused_last catalog i bodies tables tells last = (tells.records, tells.tell, sym tells.stands.epoch ∙ last)
 
-module _ {D : Type 0} {g : Ghosts D} (catalog : Catalog) (i : SiteId) (S : Standing) (journal : Journal D g)
-    (bodies : List (List ℕ)) (lies : LiesIn {g = g} catalog i S journal bodies) where
+module _ {D : Type 0} {g : Ghosts D} (catalog : Catalog) (layout : Layout) (i : SiteId) (S : Standing)
+    (book : Book D g) (bodies : List (List ℕ)) (lies : LiesIn {g = g} catalog layout i S book bodies) where
   -- what is there can be read
   pub readable_here : (index : ℕ) → IsUnreadable catalog i bodies index → ⊥
   readable_here index bad =
@@ -147,17 +151,32 @@ module _ {D : Type 0} {g : Ghosts D} (catalog : Catalog) (i : SiteId) (S : Stand
   only_last (Some (Unreadable index)) over = absurd (readable_here index over)
   only_last (Some LastEpoch) over = (refl, ap (λ (K : Knowledge). K.epoch) (sym (knows_here over.0 over.1)) ∙ over.2)
 
-  pub stands_here : StandsFor journal (map record_spelled S.records)
-  stands_here = subst (λ (b : List (List ℕ)). StandsFor journal b) lies.is lies.stands
+  pub stands_here : StandsFor book (map record_spelled S.records)
+  stands_here = subst (λ (b : List (List ℕ)). StandsFor book b) lies.is lies.stands
+
+  -- where all is packed, what is left is what the records leave
+  pub kept_here : (sites : ℕ) → IsFor sites layout → sites ≡ catalog.sites → (old mid : Book D g)
+      → IsSameButRoom book old → IsPacked old mid bodies → IsKept layout S mid
+  kept_here sites for_ same_sites old mid same packed =
+      let laid : layout_of old ≡ layout = same_layout book old same.book.shape same.book.live ∙ lies.laid in
+      record {
+        laid = packed.layout ∙ laid;
+        stands = subst (λ (b : List (List ℕ)). StandsFor mid b) lies.is (packed.stands (same.book.stands bodies lies.stands));
+        left = packed.left ∙ ap (λ (l : Layout). left_over l bodies) laid ∙ ap (left_over layout) lies.is
+            ∙ left_packed layout sites S lies.down for_
+            (subst (λ n. All (HasRecordSpelling n) S.records) (sym same_sites) lies.spelled.records);
+      }
 
   -- where nothing was done, a crash leaves the records
   pub rests_next : OnlyNow g
-      → LeavesOnly g.moment g.left_since (disk_of journal) (disk_of journal) (MayHaveNext catalog i S Restart None)
+      → LeavesOnly g.moment g.left_since (disk_of book) (disk_of book) (MayHaveNext catalog layout i S Restart None)
   rests_next only_now =
-      unmoved {g = g} only_now journal (map record_spelled S.records) stands_here (MayHaveNext catalog i S Restart None)
-      (λ image has. inl (may_have S.records S.flight image has))
+      unmoved {g = g} only_now book (map record_spelled S.records) stands_here
+      (MayHaveNext catalog layout i S Restart None)
+      (λ image has. inl (may_have layout S.records S.flight image
+      (subst (λ (l : Layout). HasBodies l image (map record_spelled S.records)) lies.laid has)))
 
-  module _ (size_is : SizeIs g) (m : Machine) (catalog_is : catalog_in m ≡ catalog) (layout : Layout) (came : Came)
+  module _ (size_is : SizeIs g) (m : Machine) (catalog_is : catalog_in m ≡ catalog) (came : Came)
       (standing : HasStanding m (stands_after catalog i S Restart came)) where
     comes_to : (why : Option RefusedRestart) → came ≡ only (hindered_by why)
         → (came.outcome ≡ Refused) ⊎ Comes catalog layout i S Restart came
@@ -172,14 +191,74 @@ module _ {D : Type 0} {g : Ghosts D} (catalog : Catalog) (i : SiteId) (S : Stand
         }))
     comes_to (Some cause) is = inl (ap (λ (c : Came). c.outcome) is)
 
+    -- the site stays down
+    never_up : (outcome : Outcome) → came.outcome ≡ outcome → up_after Restart outcome false ≡ false
+        → (stands_after catalog i S Restart came).up ≡ true → ⊥
+    never_up outcome is rests up =
+        let e = sym up ∙ ap (λ (o : Outcome). up_after Restart o S.up) is ∙ ap (up_after Restart outcome) lies.down ∙ rests in
+        absurd (cc)
+
     -- where none is ready
     pub raises_hindered : (why : Option RefusedRestart) → IfSome why (IsRefusedOver catalog i bodies)
-        → came ≡ only (hindered_by why) → Raises {g = g} catalog layout i S came why m journal
+        → came ≡ only (hindered_by why) → Raises {g = g} catalog layout i S came why m book
     raises_hindered why refused is = record {
       comes = comes_to why is;
-      leaves = leaves_same {g = g} size_is catalog i S Restart lies.spelled m catalog_is came standing journal stands_here
+      leaves = leaves_same {g = g} size_is catalog layout i S Restart lies.spelled m catalog_is came standing book lies.laid
+          stands_here (λ up. absurd (never_up (hindered_by why) (ap (λ (c : Came). c.outcome) is) (hindered_is why).3 up))
           (ap (λ (c : Came). c.wrote) is) (ap (λ (c : Came). c.flight) is);
       last = only_last why refused;
       takes_none = λ last.
           subst (λ (c : Came). TakesNoEpoch c) (sym is) (record { rest = (hindered_is why).0; wrote = refl; flight = refl });
     }
+
+    module _ (mid : Book D g) (same : IsSameButRoom book mid) where
+      laid_mid : layout_of mid ≡ layout
+      laid_mid = same_layout book mid same.book.shape same.book.live ∙ lies.laid
+
+      stands_mid : StandsFor mid (map record_spelled S.records)
+      stands_mid = same.book.stands (map record_spelled S.records) stands_here
+
+      -- where memory ran out before anything was written
+      pub raises_wanting : came ≡ only Memory → Raises {g = g} catalog layout i S came None m mid
+      raises_wanting is = record {
+        comes = comes_to None is;
+        leaves = leaves_same {g = g} size_is catalog layout i S Restart lies.spelled m catalog_is came standing mid laid_mid
+            stands_mid (λ up. absurd (never_up Memory (ap (λ (c : Came). c.outcome) is) refl up))
+            (ap (λ (c : Came). c.wrote) is) (ap (λ (c : Came). c.flight) is);
+        last = tt;
+        takes_none = λ last. subst (λ (c : Came). TakesNoEpoch c) (sym is) (record { rest = tt; wrote = refl; flight = refl });
+      }
+
+      -- where the pack met a fault
+      pub raises_unpacked : (new : Book D g) → CountsNow g → Fails (g.known (disk_of mid)) (g.known (disk_of new))
+          → LeavesOnly g.moment g.left_since (disk_of mid) (disk_of new)
+          (λ image. HasBodies (layout_of mid) image bodies) → tables_in m ≡ None → came ≡ only Failed
+          → Raises {g = g} catalog layout i S came None m new
+      raises_unpacked new counts_now fails run down is = record {
+        comes = inr (Comes.unread refl lies.down (record {
+          outcome_is = ap (λ (c : Came). c.outcome) is;
+          wrote = ap (λ (c : Came). c.wrote) is;
+          flight_is = ap (λ (c : Came). c.flight) is;
+          sends = ap (λ (c : Came). c.sends) is;
+          dropped = ap (λ (c : Came). c.dropped) is;
+        }));
+        leaves = leaves_unpacked {g = g} size_is catalog layout i S Restart lies.spelled m catalog_is came standing new
+            counts_now mid laid_mid stands_mid fails
+            (subst (λ (b : List (List ℕ)). LeavesOnly g.moment g.left_since (disk_of mid) (disk_of new)
+            (λ image. HasBodies (layout_of mid) image b)) lies.is run)
+            down (ap (λ (c : Came). c.wrote) is) (ap (λ (c : Came). c.flight) is);
+        last = tt;
+        takes_none = λ last. subst (λ (c : Came). TakesNoEpoch c) (sym is) (record { rest = tt; wrote = refl; flight = refl });
+      }
+
+  -- and what a crash leaves from before the record is written, where a pack was made or wasn't
+  pub packed_next : (mid : Book D g) → IsSameButRoom book mid → (new : D)
+      → LeavesOnly g.moment g.left_since (disk_of mid) new (λ image. HasBodies (layout_of mid) image bodies)
+      → LeavesOnly g.moment g.left_since (disk_of book) new (MayHaveNext catalog layout i S Restart None)
+  packed_next mid same new run =
+      joined g.moment g.left_since (disk_of book) (disk_of mid) new (MayHaveNext catalog layout i S Restart None)
+      (stays_next {g = g} catalog layout i S Restart book lies.laid stands_here mid same)
+      (packs_next {g = g} catalog layout i S Restart mid (same_layout book mid same.book.shape same.book.live ∙ lies.laid)
+      (same.book.stands (map record_spelled S.records) stands_here) new
+      (subst (λ (b : List (List ℕ)). LeavesOnly g.moment g.left_since (disk_of mid) new (λ image. HasBodies (layout_of mid) image b))
+      lies.is run))

@@ -1,5 +1,5 @@
 -- What an event that loads no journal comes to at an engine.
-use Rattle.std.proofs.Common.{◌≡◌, List, map, Bool, true, false, Option, Some, None, refl, ap, sym, ◌∙◌, subst, inl, inr}
+use Rattle.std.proofs.Common.{◌≡◌, List, Bool, true, false, Option, Some, None, refl, ap, sym, ◌∙◌, subst, inl, inr}
 use Rattle.std.specs.Prelude.{◌≢◌, IfSome, is_some}
 use Rattle.walter_base.specs.declared.catalog.Catalog.{Catalog}
 use Rattle.walter_base.specs.declared.message.Record.{Record}
@@ -9,22 +9,20 @@ use Rattle.walter_engine.specs.declared.engine.Engine.{Engine}
 use Rattle.walter_engine.specs.declared.store.Store.{Store}
 use Rattle.walter_engine.specs.declared.store.Store.TheVariants.{Open, Closed}
 use Rattle.walter_engine.specs.Contents.{AreSpelled, MayHaveRecords}
-use Rattle.walter_engine.specs.Stores.{IsStored}
+use Rattle.walter_engine.specs.Stores.{IsStored, is_open_under}
 use Rattle.walter_engine.proofs.Spelled.{spelled_after}
 use Rattle.walter_engine.proofs.Written.{holds_none}
 use Rattle.walter_engine.specs.Effects.{HasCome}
-use Rattle.walter_engine.specs.Engines.{Stands, catalog_in}
-use Rattle.walter_machine.specs.States.{IsState}
+use Rattle.walter_engine.specs.Engines.{Stands, catalog_in, layout_in}
 use Rattle.walter_machine.specs.Steps.{IsStep, record_of}
 use Rattle.walter_machine.specs.declared.ready.Step.{Step}
 use Rattle.walter_machine.specs.declared.ready.Step.TheVariants.{Answer, Apply, Fall, Rise}
 use Rattle.walter_rules.specs.declared.entry.Came.{Came}
 use Rattle.walter_rules.specs.declared.event.Event.{Event}
 use Rattle.walter_rules.specs.declared.event.Event.TheVariants.{Given, Stop, Restart}
-use Rattle.walter_journal.specs.Journals.{StandsFor}
 use Rattle.walter_machine.specs.Machines.{HasStanding, IsCounted}
 use Rattle.walter_machine.specs.declared.machine.Machine.{Machine}
-use Rattle.walter_record.specs.Spelling.{record_spelled, HasRecordSpelling}
+use Rattle.walter_record.specs.Spelling.{HasRecordSpelling}
 use Rattle.walter_rules.proofs.RulesAllowed.{rule_allowed}
 use Rattle.walter_rules.specs.declared.outcome.Outcome.{Outcome}
 use Rattle.walter_rules.specs.declared.outcome.Outcome.TheVariants.{Full}
@@ -46,11 +44,6 @@ pub if_twice : {A : Type 0} (o : Option A) (R : A → A → Type 0) → ((x : A)
     → IfSome o (λ before. IfSome o (λ now. R before now))
 if_twice None R so = tt
 if_twice (Some x) R so = so x
-
--- the site is up just where it has its tables
-pub state_up : (S : Standing) (site : Option Tables) → IsState S site → S.up ≡ is_some site
-state_up S None is = is
-state_up S (Some tables) is = is.up
 
 -- a stop brings no record
 pub stop_brings : (catalog : Catalog) (i : SiteId) (S : Standing) → (rule catalog i S Stop).wrote ≡ None
@@ -96,34 +89,35 @@ flight_stays (Full need left) old fits = absurd (cc)
 flight_stays outcome old fits = refl
 
 module _ {D : Type 0} {g : Ghosts D} where
-  stored_as : (S T : Standing) (store : Option (Store D g)) → T.records ≡ S.records → T.flight ≡ S.flight
-      → IsStored S store → IsStored T store
-  stored_as S T None records flight is = is
-  stored_as S T (Some (Open journal)) records flight is =
-      subst (λ (rs : List Record). StandsFor journal (map record_spelled rs)) (sym records) is
-  stored_as S T (Some (Closed disk)) records flight is = record {
+  stored_as : (layout : Layout) (S T : Standing) (store : Option (Store D g)) → is_open_under store ≡ false
+      → T.records ≡ S.records → T.flight ≡ S.flight → IsStored layout S store → IsStored layout T store
+  stored_as layout S T None closed records flight is = is
+  stored_as layout S T (Some (Open book)) closed records flight is = absurd (cc)
+  stored_as layout S T (Some (Closed disk)) closed records flight is = record {
     told = is.told;
     begun = is.begun;
     images = λ image left.
-        subst (λ (rs : List Record). MayHaveRecords rs T.flight image) (sym records)
-        (subst (λ (f : Option Record). MayHaveRecords S.records f image) (sym flight) (is.images image left));
+        subst (λ (rs : List Record). MayHaveRecords layout rs T.flight image) (sym records)
+        (subst (λ (f : Option Record). MayHaveRecords layout S.records f image) (sym flight) (is.images image left));
   }
 
-  -- what comes without a record leaves the records where they are
+  -- what comes without a record to a site that is down leaves the records where they are
   pub stands_same : (engine : Engine D g) (catalog : Catalog) (i : SiteId) (S : Standing) (event : Event) (came : Came)
       → HasStanding engine.machine (stands_after catalog i S event came) → AreSpelled (catalog_in engine).sites S
-      → IsStored S engine.store → came.wrote ≡ None → came.flight ≡ None
+      → (layout : Layout) → layout_in engine ≡ layout → IsStored layout S engine.store → is_open_under engine.store ≡ false
+      → came.wrote ≡ None → came.flight ≡ None
       → is_full came.outcome ≡ false → Stands engine (stands_after catalog i S event came)
-  stands_same engine catalog i S event came standing spelled stored wrote flight fits = record {
+  stands_same engine catalog i S event came standing spelled layout same stored closed wrote flight fits = record {
     machine = standing;
     spelled = spelled_after (catalog_in engine).sites catalog i S event came spelled
         (holds_none (HasRecordSpelling (catalog_in engine).sites) came.wrote wrote)
         (holds_none (HasRecordSpelling (catalog_in engine).sites) came.flight flight);
-    store = stored_as S (stands_after catalog i S event came) engine.store
+    store = subst (λ (l : Layout). IsStored l (stands_after catalog i S event came) engine.store) (sym same)
+        (stored_as layout S (stands_after catalog i S event came) engine.store closed
         (ap (λ (w : Option Record). records_after w S.records) wrote)
         ((λ j. flight_after (flight j) (wrote j) came.outcome S.flight)
         ∙ flight_stays came.outcome S.flight fits)
-        stored;
+        stored);
   }
 
   -- nothing was found, and no restart was refused

@@ -1,5 +1,5 @@
 -- What the write of a record leaves, and what comes of it.
-use Rattle.std.proofs.Common.{◌≡◌, ℕ, ◌<◌, ◌≤◌, List, [], ◌∷◌, ◌++◌, map, Bool, true, false, Option, Some, None, Result, Err, refl, ap, sym, ◌∙◌, subst, inl, inr, arith, if◌then◌else◌}
+use Rattle.std.proofs.Common.{◌≡◌, ℕ, ◌-◌, ◌<◌, ◌≤◌, List, [], ◌∷◌, ◌++◌, map, Bool, true, false, Option, Some, None, Result, Err, refl, ap, sym, ◌∙◌, subst, inl, inr, arith, if◌then◌else◌}
 use Rattle.std.specs.Prelude.{IfSome, IsSome, OnErr, is_some}
 use Rattle.std.proofs.lemmas.Bool.{cases_lt}
 use Rattle.std.proofs.lemmas.List.{map-append}
@@ -9,26 +9,28 @@ use Rattle.walter_base.specs.declared.message.Record.TheVariants.{Boot}
 use Rattle.walter_base.specs.declared.names.SiteId.{SiteId}
 use Rattle.walter_base.specs.Sizes.{CanBeRecorded}
 use Rattle.walter_engine.specs.Effects.{AreCalls, AreCallsFor}
+use Rattle.walter_checkpoint.proofs.Adding.{stands_more}
+use Rattle.walter_checkpoint.specs.Books.{disk_of, shape_of, left_of, IsLaidBeforeOrBehind, StandsFor, Appends}
+use Rattle.walter_checkpoint.specs.declared.book.Book.{Book}
 use Rattle.walter_disk.specs.declared.disk.Disk.{Ghosts}
 use Rattle.walter_disk.specs.Disks.{Fails}
 use Rattle.walter_disk.specs.Images.{LeavesOnly}
 use Rattle.walter_engine.specs.declared.store.Store.TheVariants.{Open, Closed}
-use Rattle.walter_engine.specs.Contents.{AreSpelled}
-use Rattle.walter_engine.specs.Stores.{IsStored, IsLeft}
-use Rattle.walter_engine.specs.Writings.{IsSpelling, IsSpellingIfAny, IsOutcomeOf}
+use Rattle.walter_engine.specs.Contents.{AreSpelled, HasBodies}
+use Rattle.walter_engine.specs.Stores.{layout_by, layout_of, IsKept, IsStored, IsLeft}
+use Rattle.walter_engine.specs.Writings.{IsSameButRoom, IsSpelling, IsSpellingIfAny, IsOutcomeOf}
 use Rattle.walter_engine.proofs.Bodies.{some_is}
-use Rattle.walter_engine.proofs.Resting.{SizeIs, CountsNow, stored, stored_failed}
-use Rattle.walter_engine.proofs.Room.{fits, need_is, left_is}
+use Rattle.walter_engine.proofs.Resting.{SizeIs, CountsNow, stored, stored_failed, stored_unpacked}
+use Rattle.walter_engine.proofs.Left.{AnyPlain, AnyBoot, IsPlain, IsBoot, brings_plain, brings_boot, stays_down, left_more, left_same}
+use Rattle.walter_engine.proofs.Room.{need_is}
 use Rattle.walter_engine.proofs.Spelled.{spelled_among, spelled_after}
 use Rattle.walter_journal.specs.declared.fault.AppendFault.{AppendFault}
 use Rattle.walter_journal.specs.declared.fault.AppendFault.TheVariants as append
-use Rattle.walter_journal.specs.declared.journal.Journal.{Journal}
-use Rattle.walter_journal.specs.Journals.{disk_of, capacity_of, left_of, need_of as body_need, StandsFor, Appends}
-use Rattle.walter_journal.specs.Layout.{IsBeforeOrBehind}
+use Rattle.walter_journal.specs.Journals.{need_of as body_need}
 use Rattle.walter_machine.specs.declared.machine.Machine.{Machine}
 use Rattle.walter_machine.proofs.Sizes.{none_sent}
 use Rattle.walter_machine.specs.Comings.{is_faulty, IsFaulty, RisesIf, IsSized}
-use Rattle.walter_machine.specs.States.{CanBeNext}
+use Rattle.walter_machine.specs.States.{CanBeNext, IsState}
 use Rattle.walter_machine.specs.Readiness.{rec_in, IsReadyFor, IsReadyAnyway}
 use Rattle.walter_machine.specs.declared.ready.Ready.{Ready}
 use Rattle.walter_machine.specs.Machines.{catalog_in, tables_in, is_up, HasStanding}
@@ -41,7 +43,7 @@ use Rattle.walter_rules.specs.declared.outcome.Outcome.{Outcome}
 use Rattle.walter_rules.specs.declared.outcome.Outcome.TheVariants.{Refused, Taken}
 use Rattle.walter_rules.specs.Allowed.{IsKind, boots}
 use Rattle.walter_rules.specs.Calls.{Expected}
-use Rattle.walter_rules.specs.Layouts.{need_of, left_behind, FitsIn, one_area}
+use Rattle.walter_rules.specs.Layouts.{Layout, need_of, left_behind, FitsIn}
 use Rattle.walter_rules.specs.Rule.{rule}
 use Rattle.walter_rules.proofs.RulesAllowed.{rule_allowed}
 use Rattle.walter_rules.specs.Standing.{Standing, records_after, flight_after, stands_after, up_after}
@@ -50,32 +52,32 @@ use Rattle.walter_site.specs.Members.{IsShortOutcome}
 use Rattle.walter_tables.specs.declared.tables.Tables.{Tables}
 
 -- the spelling of the record, where there is one
-pub spelling_some : {D : Type 0} {g : Ghosts D} (journal : Journal D g) (rec : Option Record) (body : Option (List ℕ))
-    (b : List ℕ) → IsSpellingIfAny journal rec body → body ≡ Some b
-    → (r : Record) × (rec ≡ Some r) × IsSpelling journal r b
-spelling_some {D} {g} journal rec body b all is =
-    at rec (subst (λ (o : Option (List ℕ)). IsSpellingIfAny {g = g} journal rec o) is all)
+pub spelling_some : {D : Type 0} {g : Ghosts D} (book : Book D g) (rec : Option Record) (body : Option (List ℕ))
+    (b : List ℕ) → IsSpellingIfAny book rec body → body ≡ Some b
+    → (r : Record) × (rec ≡ Some r) × IsSpelling book r b
+spelling_some {D} {g} book rec body b all is =
+    at rec (subst (λ (o : Option (List ℕ)). IsSpellingIfAny {g = g} book rec o) is all)
   where
-    at : (o : Option Record) → IsSpellingIfAny {g = g} journal o (Some b)
-        → (r : Record) × (o ≡ Some r) × IsSpelling {g = g} journal r b
+    at : (o : Option Record) → IsSpellingIfAny {g = g} book o (Some b)
+        → (r : Record) × (o ≡ Some r) × IsSpelling {g = g} book r b
     at None a = absurd a
     at (Some r) a = (r, refl, a)
 
 -- where there is none, there is no record
-pub spelling_none : {D : Type 0} {g : Ghosts D} (journal : Journal D g) (rec : Option Record) (body : Option (List ℕ))
-    → IsSpellingIfAny journal rec body → body ≡ None → rec ≡ None
-spelling_none {D} {g} journal rec body all is =
-    at rec (subst (λ (o : Option (List ℕ)). IsSpellingIfAny {g = g} journal rec o) is all)
+pub spelling_none : {D : Type 0} {g : Ghosts D} (book : Book D g) (rec : Option Record) (body : Option (List ℕ))
+    → IsSpellingIfAny book rec body → body ≡ None → rec ≡ None
+spelling_none {D} {g} book rec body all is =
+    at rec (subst (λ (o : Option (List ℕ)). IsSpellingIfAny {g = g} book rec o) is all)
   where
-    at : (o : Option Record) → IsSpellingIfAny {g = g} journal o None → o ≡ None
+    at : (o : Option Record) → IsSpellingIfAny {g = g} book o None → o ≡ None
     at None a = refl
     at (Some r) a = absurd a
 
 -- ---- what an append answered
 
-module _ (result : Result (Unit {0}) AppendFault) (need left : ℕ) (Same Rest End : Type 0)
+module _ (result : Result (Unit {0}) AppendFault) (need left : ℕ) (Same Rest : Type 0)
     (full : left < need → (result ≡ Err (append.Full need left)) × Same)
-    (failed : need ≤ left → OnErr result ((result ≡ Err append.Failed) × Rest × End)) where
+    (failed : need ≤ left → OnErr result ((result ≡ Err append.Failed) × Rest)) where
   -- a journal was full: the body needs more than is left
   pub full_is : (fault : AppendFault) (n l : ℕ) → result ≡ Err fault → fault ≡ append.Full n l
       → (left < need) × (n ≡ need) × (l ≡ left) × Same
@@ -87,7 +89,7 @@ module _ (result : Result (Unit {0}) AppendFault) (need left : ℕ) (Same Rest E
             let same = sym is ∙ here.0 in
             (less, cc, cc, here.1)
         | inr enough ↦
-            let here = subst (λ r. OnErr r ((result ≡ Err append.Failed) × Rest × End)) is (failed enough) in
+            let here = subst (λ r. OnErr r ((result ≡ Err append.Failed) × Rest)) is (failed enough) in
             let same = sym is ∙ here.0 in
             absurd (cc)
       ]
@@ -101,7 +103,7 @@ module _ (result : Result (Unit {0}) AppendFault) (need left : ℕ) (Same Rest E
             let same = sym is ∙ (full less).0 in
             absurd (cc)
         | inr enough ↦
-            let here = subst (λ r. OnErr r ((result ≡ Err append.Failed) × Rest × End)) is (failed enough) in
+            let here = subst (λ r. OnErr r ((result ≡ Err append.Failed) × Rest)) is (failed enough) in
             (enough, here.1)
       ]
 
@@ -178,6 +180,13 @@ calls_as came wrote flight old new is_wrote is_flight calls =
     subst (λ (w : Option Record). AreCallsFor w came.flight old new) (sym is_wrote)
     (subst (λ (f : Option Record). AreCallsFor wrote f old new) (sym is_flight) calls)
 
+-- where nothing was done before
+pub same_faults : (came : Came) (old mid new : ℕ) → mid ≡ old → IsFaulty came mid new → IsFaulty came old new
+same_faults came old mid new same faults = subst (λ n. IsFaulty came n new) same faults
+
+pub same_calls : (came : Came) (old mid new : ℕ) → mid ≡ old → AreCalls came mid new → AreCalls came old new
+same_calls came old mid new same calls = subst (λ n. AreCalls came n new) same calls
+
 pub sized_as : (sites : ℕ) (came other : Came) → came ≡ other → IsSized sites other → IsSized sites came
 sized_as sites came other is sized = subst (λ (c : Came). IsSized sites c) (sym is) sized
 
@@ -195,32 +204,53 @@ module _ (catalog : Catalog) (i : SiteId) (site : Option Tables) (S : Standing) 
   pub has : AreInRange rec → HasRecordSpelling catalog.sites rec
   has ranges = spelled_among catalog.sites rec (some_is (CanBeNext catalog i S) (rec_in ready) rec is ready_for.next).sizes ranges
 
-  -- it finds its place in the journal
-  pub fits_here : {D : Type 0} {g : Ghosts D} (mid : Journal D g) (capacity : ℕ) → capacity_of mid ≡ capacity
-      → AreSpelled catalog.sites S → StandsFor mid (map record_spelled S.records) → CanBeRecorded rec → (body : List ℕ)
-      → body ≡ record_spelled rec → body_need body ≤ left_of mid → IfSome (rec_in ready) (FitsIn (one_area capacity) S)
-  fits_here mid capacity same spelled stands can body body_is enough =
-      holds_some (FitsIn (one_area capacity) S) (rec_in ready) rec is
-      (subst (λ (c : ℕ). FitsIn (one_area c) S rec) same
-      (fits catalog.sites S mid spelled.records stands rec can (subst (λ (b : List ℕ). body_need b ≤ left_of mid) body_is enough)))
+  -- it finds its place in the book
+  pub fits_here : {D : Type 0} {g : Ghosts D} (layout : Layout) (book : Book D g) → IsKept layout S book
+      → CanBeRecorded rec → (body : List ℕ) → body ≡ record_spelled rec → body_need body ≤ left_of book
+      → IfSome (rec_in ready) (FitsIn layout S)
+  fits_here layout book kept can body body_is enough =
+      holds_some (FitsIn layout S) (rec_in ready) rec is
+      (omega (arith, enough, ap body_need body_is, need_is rec can, kept.left))
 
   -- or it doesn't
-  pub lacks_here : {D : Type 0} {g : Ghosts D} (mid : Journal D g) (capacity need left : ℕ) → capacity_of mid ≡ capacity
-      → AreSpelled catalog.sites S → StandsFor mid (map record_spelled S.records) → CanBeRecorded rec → (body : List ℕ)
-      → body ≡ record_spelled rec → left_of mid < body_need body → need ≡ body_need body → left ≡ left_of mid
-      → IfSome (rec_in ready) (λ rec. (need ≡ need_of rec) × (left ≡ left_behind (one_area capacity) S) × (left < need))
-  lacks_here mid capacity need left same spelled stands can body body_is less is_need is_left =
-      holds_some (λ rec. (need ≡ need_of rec) × (left ≡ left_behind (one_area capacity) S) × (left < need)) (rec_in ready) rec is (
+  pub lacks_here : {D : Type 0} {g : Ghosts D} (layout : Layout) (book : Book D g) (need left : ℕ)
+      → IsKept layout S book → CanBeRecorded rec → (body : List ℕ) → body ≡ record_spelled rec
+      → left_of book < body_need body → need ≡ body_need body → left ≡ left_of book
+      → IfSome (rec_in ready) (λ rec. (need ≡ need_of rec) × (left ≡ left_behind layout S) × (left < need))
+  lacks_here layout book need left kept can body body_is less is_need is_left =
+      holds_some (λ rec. (need ≡ need_of rec) × (left ≡ left_behind layout S) × (left < need)) (rec_in ready) rec is (
         is_need ∙ ap body_need body_is ∙ need_is rec can,
-        is_left ∙ left_is catalog.sites S mid spelled.records stands ∙ ap (λ (c : ℕ). left_behind (one_area c) S) same,
+        is_left ∙ kept.left,
         omega (arith, less, is_need, is_left),
       )
 
+-- the site is up just where it has its tables
+pub state_up : (S : Standing) (site : Option Tables) → IsState S site → S.up ≡ is_some site
+state_up S None is = is
+state_up S (Some tables) is = is.up
+
+-- a book that is as before has the same records
+pub same_layout : {D : Type 0} {g : Ghosts D} (old new : Book D g) → shape_of new ≡ shape_of old → new.live ≡ old.live
+    → layout_of new ≡ layout_of old
+same_layout old new shape live = ap (λ s. layout_by s new.live) shape ∙ ap (layout_by (shape_of old)) live
+
+pub same_left : {D : Type 0} {g : Ghosts D} (old new : Book D g) → IsSameButRoom old new → left_of new ≡ left_of old
+same_left old new same = omega (arith, same.book.limit, same.book.end)
+
+pub same_kept : {D : Type 0} {g : Ghosts D} (layout : Layout) (S : Standing) (old new : Book D g) → IsSameButRoom old new
+    → IsKept layout S old → IsKept layout S new
+same_kept layout S old new same kept = record {
+  laid = same_layout old new same.book.shape same.book.live ∙ kept.laid;
+  stands = same.book.stands _ kept.stands;
+  left = same_left old new same ∙ kept.left;
+}
+
 -- ---- what it leaves
 
-module _ {D : Type 0} {g : Ghosts D} (size_is : SizeIs g) (catalog : Catalog) (i : SiteId) (S : Standing) (event : Event)
-    (spelled : AreSpelled catalog.sites S) (m : Machine) (catalog_is : catalog_in m ≡ catalog) (came : Came)
-    (standing : HasStanding m (stands_after catalog i S event came)) (new : Journal D g) where
+module _ {D : Type 0} {g : Ghosts D} (size_is : SizeIs g) (catalog : Catalog) (layout : Layout) (i : SiteId)
+    (S : Standing) (event : Event) (spelled : AreSpelled catalog.sites S) (m : Machine)
+    (catalog_is : catalog_in m ≡ catalog) (came : Came) (standing : HasStanding m (stands_after catalog i S event came))
+    (new : Book D g) where
   abbrev T : Standing
   T = stands_after catalog i S event came
 
@@ -232,47 +262,113 @@ module _ {D : Type 0} {g : Ghosts D} (size_is : SizeIs g) (catalog : Catalog) (i
       subst (λ (c : Catalog). AreSpelled c.sites T) (sym catalog_is)
       (spelled_after catalog.sites catalog i S event came spelled wrote flight)
 
+  up_here : T.up ≡ is_up m
+  up_here = state_up T (tables_in m) standing.state
+
   -- no record was written
-  pub leaves_same : StandsFor new (map record_spelled S.records) → came.wrote ≡ None → came.flight ≡ None
-      → IsLeft {g = g} m T new
-  leaves_same stands wrote flight = record {
+  pub leaves_same : layout_of new ≡ layout → StandsFor new (map record_spelled S.records)
+      → (T.up ≡ true → left_of new ≡ left_behind layout T) → came.wrote ≡ None → came.flight ≡ None
+      → IsLeft {g = g} layout m T new
+  leaves_same laid stands left wrote flight = record {
     machine = standing;
     spelled = spelled_here (subst (λ (w : Option Record). IfSome w Has) (sym wrote) tt)
         (subst (λ (f : Option Record). IfSome f Has) (sym flight) tt);
-    stored = stored g size_is T new (is_up m)
-        (subst (λ (w : Option Record). StandsFor new (map record_spelled (records_after w S.records))) (sym wrote) stands);
+    stored = stored g size_is layout T new (is_up m) laid
+        (subst (λ (w : Option Record). StandsFor new (map record_spelled (records_after w S.records))) (sym wrote) stands)
+        (λ up. left (up_here ∙ up));
   }
 
-  module _ (mid : Journal D g) (rec : Record) (body : List ℕ) (stands : StandsFor mid (map record_spelled S.records))
+  -- and the site didn't come up
+  pub leaves_kept : IsKept layout S new → (T.up ≡ true → S.up ≡ true) → came.wrote ≡ None → came.flight ≡ None
+      → IsLeft {g = g} layout m T new
+  leaves_kept kept ups wrote flight =
+      leaves_same kept.laid kept.stands
+      (λ up. kept.left ∙ sym (left_same layout S T (up ∙ sym (ups up))
+      (ap (λ (w : Option Record). records_after w S.records) wrote))) wrote flight
+
+  -- the disk met a fault before that
+  pub leaves_unpacked : CountsNow g → (old : Book D g) → layout_of old ≡ layout
+      → StandsFor old (map record_spelled S.records) → Fails (g.known (disk_of old)) (g.known (disk_of new))
+      → LeavesOnly g.moment g.left_since (disk_of old) (disk_of new)
+      (λ image. HasBodies (layout_of old) image (map record_spelled S.records)) → tables_in m ≡ None
+      → came.wrote ≡ None → came.flight ≡ None → IsLeft {g = g} layout m T new
+  leaves_unpacked counts_now old laid stands fails run down wrote flight =
+      let same : T.records ≡ S.records = ap (λ (w : Option Record). records_after w S.records) wrote in
+      record {
+        machine = standing;
+        spelled = spelled_here (subst (λ (w : Option Record). IfSome w Has) (sym wrote) tt)
+            (subst (λ (f : Option Record). IfSome f Has) (sym flight) tt);
+        stored = subst
+            (λ (o : Option Tables). IsStored {g = g} layout T (Some (if is_some o then Open new else Closed (disk_of new)))) (sym down)
+            (subst (λ (l : Layout). IsStored {g = g} l T (Some (Closed (disk_of new)))) laid
+            (stored_unpacked g size_is counts_now T old new
+            (subst (λ (rs : List Record). StandsFor old (map record_spelled rs)) (sym same) stands) fails
+            (subst (λ (rs : List Record). LeavesOnly g.moment g.left_since (disk_of old) (disk_of new)
+            (λ image. HasBodies (layout_of old) image (map record_spelled rs))) (sym same) run)));
+      }
+
+  module _ (mid : Book D g) (rec : Record) (body : List ℕ) (kept : IsKept layout S mid)
       (is : body ≡ record_spelled rec) (has : HasRecordSpelling catalog.sites rec) where
     -- one was appended
-    pub leaves_more : Appends mid new body → came.wrote ≡ Some rec → came.flight ≡ None → IsLeft {g = g} m T new
-    leaves_more appended wrote flight = record {
-      machine = standing;
-      spelled = spelled_here (subst (λ (w : Option Record). IfSome w Has) (sym wrote) has)
-          (subst (λ (f : Option Record). IfSome f Has) (sym flight) tt);
-      stored = stored g size_is T new (is_up m)
-          (subst (λ (w : Option Record). StandsFor new (map record_spelled (records_after w S.records))) (sym wrote)
-          (subst (λ (bodies : List (List ℕ)). StandsFor new bodies)
-          (ap (λ (b : List ℕ). map record_spelled S.records ++ b ∷ []) is
-          ∙ sym (map-append record_spelled S.records (rec ∷ [])))
-          (appended.behind (map record_spelled S.records) stands)));
-    }
+    pub leaves_more : Appends mid new body → shape_of new ≡ shape_of mid → new.live ≡ mid.live
+        → (rule catalog i S event).wrote ≡ Some rec → came.wrote ≡ Some rec → came.flight ≡ None
+        → IsLeft {g = g} layout m T new
+    leaves_more appended shape live ruled wrote flight =
+        let records : T.records ≡ S.records ++ rec ∷ [] = ap (λ (w : Option Record). records_after w S.records) wrote in
+        let plain : S.up ≡ true → IsPlain rec =
+        λ up. subst (λ (w : Option Record). AnyPlain w) ruled (brings_plain catalog i S event up) in
+        let boot : S.up ≡ false → IsBoot rec =
+        λ down. subst (λ (w : Option Record). AnyBoot w) ruled (brings_boot catalog i S event down) in
+        record {
+          machine = standing;
+          spelled = spelled_here (subst (λ (w : Option Record). IfSome w Has) (sym wrote) has)
+              (subst (λ (f : Option Record). IfSome f Has) (sym flight) tt);
+          stored = stored g size_is layout T new (is_up m) (same_layout mid new shape live ∙ kept.laid)
+              (subst (λ (w : Option Record). StandsFor new (map record_spelled (records_after w S.records))) (sym wrote)
+              (subst (λ (bodies : List (List ℕ)). StandsFor new bodies)
+              (ap (λ (b : List ℕ). map record_spelled S.records ++ b ∷ []) is
+              ∙ sym (map-append record_spelled S.records (rec ∷ [])))
+              (stands_more mid new body appended (map record_spelled S.records) kept.stands)))
+              (λ up. appended.left ∙ ap (λ n. n - body_need body) kept.left
+              ∙ ap (λ n. left_behind layout S - n) (ap body_need is ∙ need_is rec has.sizes)
+              ∙ sym (left_more layout S T rec (up_here ∙ up) records plain boot));
+        }
 
     -- one is in flight
     pub leaves_flying : CountsNow g → Fails (g.known (disk_of mid)) (g.known (disk_of new))
         → LeavesOnly g.moment g.left_since (disk_of mid) (disk_of new)
-        (IsBeforeOrBehind (map record_spelled S.records) body) → tables_in m ≡ None → came.wrote ≡ None
-        → came.flight ≡ Some rec → IsLeft {g = g} m T new
+        (IsLaidBeforeOrBehind mid.live (shape_of mid) (map record_spelled S.records) body) → tables_in m ≡ None
+        → came.wrote ≡ None → came.flight ≡ Some rec → IsLeft {g = g} layout m T new
     leaves_flying counts_now fails run down wrote flight = record {
       machine = standing;
       spelled = spelled_here (subst (λ (w : Option Record). IfSome w Has) (sym wrote) tt)
           (subst (λ (f : Option Record). IfSome f Has) (sym flight) has);
       stored = subst
-          (λ (o : Option Tables). IsStored {g = g} T (Some (if is_some o then Open new else Closed (disk_of new)))) (sym down)
-          (stored_failed g size_is counts_now S.records rec T mid new stands fails
+          (λ (o : Option Tables). IsStored {g = g} layout T (Some (if is_some o then Open new else Closed (disk_of new)))) (sym down)
+          (subst (λ (l : Layout). IsStored {g = g} l T (Some (Closed (disk_of new)))) kept.laid
+          (stored_failed g size_is counts_now S.records rec T mid new kept.stands fails
           (subst (λ (b : List ℕ). LeavesOnly g.moment g.left_since (disk_of mid) (disk_of new)
-          (IsBeforeOrBehind (map record_spelled S.records) b)) is run)
+          (IsLaidBeforeOrBehind mid.live (shape_of mid) (map record_spelled S.records) b)) is run)
           (ap (λ (w : Option Record). records_after w S.records) wrote)
-          (ap (λ (f : Option Record). flight_after f came.wrote came.outcome S.flight) flight));
+          (ap (λ (f : Option Record). flight_after f came.wrote came.outcome S.flight) flight)));
     }
+
+-- ---- whether the site came up without a record
+
+-- where what came leaves it up or down as it was
+pub ups_same : (catalog : Catalog) (i : SiteId) (S : Standing) (event : Event) (came : Came) (outcome : Outcome)
+    → came.outcome ≡ outcome → up_after event outcome S.up ≡ S.up → (stands_after catalog i S event came).up ≡ true
+    → S.up ≡ true
+ups_same catalog i S event came outcome is stays up =
+    sym stays ∙ sym (ap (λ (o : Outcome). up_after event o S.up) is) ∙ up
+
+-- where the rule brings none
+pub ups_ruled : (catalog : Catalog) (i : SiteId) (S : Standing) (event : Event) (came : Came)
+    → came.outcome ≡ (rule catalog i S event).outcome → (rule catalog i S event).wrote ≡ None
+    → (stands_after catalog i S event came).up ≡ true → S.up ≡ true
+ups_ruled catalog i S event came is none up = by S.up refl
+  where
+    by : (before : Bool) → S.up ≡ before → S.up ≡ true
+    by true now = now
+    by false now =
+        absurd (let e = sym (ap (λ (o : Outcome). up_after event o S.up) is ∙ ap (λ (b : Bool). up_after event (rule catalog i S event).outcome b) now ∙ stays_down catalog i S event now none) ∙ up in cc)

@@ -3,32 +3,40 @@ use Rattle.std.specs.Prelude.{◌⊎◌, ℕ, List, [], ◌∷◌, ◌++◌, map
 use Rattle.walter_base.specs.declared.catalog.Catalog.{Catalog}
 use Rattle.walter_base.specs.declared.message.Record.{Record}
 use Rattle.walter_base.specs.declared.names.SiteId.{SiteId}
-use Rattle.walter_journal.specs.Layout.{HasContent}
+use Rattle.walter_checkpoint.specs.Areas.{shape_by, HasTwo}
+use Rattle.walter_journal.specs.Layout as journal
 use Rattle.walter_record.specs.Spelling.{record_spelled, HasRecordSpelling}
 use Rattle.walter_rules.specs.declared.event.Event.{Event}
+use Rattle.walter_rules.specs.Layouts.{Layout, one_area, two_areas}
 use Rattle.walter_rules.specs.Rule.{rule}
 use Rattle.walter_rules.specs.Standing.{Standing, settled}
 
--- the bytes of a journal with these records
-abbrev pub HasRecords : List ℕ → List Record → Type 0
-HasRecords bytes records = HasContent bytes (map record_spelled records)
+-- the bytes of a journal that is laid out so, with these bodies
+abbrev pub HasBodies : Layout → List ℕ → List (List ℕ) → Type 0
+HasBodies (one_area capacity) bytes bodies = journal.HasContent bytes bodies
+HasBodies (two_areas capacity sites) bytes bodies = HasTwo (shape_by capacity sites) bytes bodies
+
+-- and with these records
+abbrev pub HasRecords : Layout → List ℕ → List Record → Type 0
+HasRecords layout bytes records = HasBodies layout bytes (map record_spelled records)
 
 -- with these records; or with the one in flight behind them, where one is
-abbrev pub MayHaveRecords : List Record → Option Record → List ℕ → Type 0
-MayHaveRecords records None image = HasRecords image records
-MayHaveRecords records (Some rec) image = HasRecords image records ⊎ HasRecords image (records ++ rec ∷ [])
+abbrev pub MayHaveRecords : Layout → List Record → Option Record → List ℕ → Type 0
+MayHaveRecords layout records None image = HasRecords layout image records
+MayHaveRecords layout records (Some rec) image =
+    HasRecords layout image records ⊎ HasRecords layout image (records ++ rec ∷ [])
 
 -- with one more record, where there is one
-abbrev pub HasOneMore : List Record → Option Record → List ℕ → Type 0
-HasOneMore records None image = ⊥
-HasOneMore records (Some rec) image = HasRecords image (records ++ rec ∷ [])
+abbrev pub HasOneMore : Layout → List Record → Option Record → List ℕ → Type 0
+HasOneMore layout records None image = ⊥
+HasOneMore layout records (Some rec) image = HasRecords layout image (records ++ rec ∷ [])
 
 -- What a crash within an event leaves: the records from before; or those that it finds, where it finds the one in flight or
 -- doesn't, with the one that the rule brings behind them.
-abbrev pub MayHaveNext : Catalog → SiteId → Standing → Event → Option Record → List ℕ → Type 0
-MayHaveNext catalog i S event kept image =
-    MayHaveRecords S.records S.flight image
-    ⊎ HasOneMore (settled catalog i kept S).records (rule catalog i (settled catalog i kept S) event).wrote image
+abbrev pub MayHaveNext : Catalog → Layout → SiteId → Standing → Event → Option Record → List ℕ → Type 0
+MayHaveNext catalog layout i S event kept image =
+    MayHaveRecords layout S.records S.flight image
+    ⊎ HasOneMore layout (settled catalog i kept S).records (rule catalog i (settled catalog i kept S) event).wrote image
 
 -- each record of a site among so many has a spelling, and the one in flight
 pub record AreSpelled (sites : ℕ) (S : Standing) : Type 0 where

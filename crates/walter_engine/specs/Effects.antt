@@ -10,8 +10,11 @@ use Rattle.walter_engine.specs.declared.answers.RefusedRestart.{RefusedRestart}
 use Rattle.walter_engine.specs.declared.answers.RefusedRestart.TheVariants.{Foreign, Damaged, Unreadable, LastEpoch}
 use Rattle.walter_engine.specs.declared.engine.Engine.{Engine}
 use Rattle.walter_engine.specs.Contents.{MayHaveNext}
-use Rattle.walter_engine.specs.Engines.{Stands, OfDisk, OfDisks, IsSameEngine, catalog_in, site_in, layout_in}
-use Rattle.walter_journal.specs.Layout.{HasContent, IsForeign, IsDamaged}
+use Rattle.walter_engine.specs.Engines.{Stands, OfDisk, OfDisks, IsSameEngine, catalog_in, site_in, layout_in, shape_in}
+use Rattle.walter_checkpoint.specs.Areas.{Shape, HasContent, IsForeign, IsDamaged}
+use Rattle.walter_checkpoint.specs.Books.{calls_of_pack}
+use Rattle.walter_checkpoint.specs.Loads.{calls_of_load}
+use Rattle.walter_checkpoint.specs.declared.book.Live.{Live}
 use Rattle.walter_machine.specs.Comings.{IsRest, IsSized, IsFaulty}
 use Rattle.walter_packet.specs.Framed.{frame_of}
 use Rattle.walter_record.specs.Spelling.{record_spelled, HasRecordSpelling}
@@ -51,11 +54,12 @@ IsRefusedOver catalog i bodies (Unreadable index) = IsUnreadable catalog i bodie
 IsRefusedOver catalog i bodies LastEpoch =
     (records : List Record) × Tell catalog i bodies records × ((replayed catalog i fresh records).epoch ≡ 4294967295)
 
--- by the bytes that the disk has: they are no journal, or a damaged one, or one with such bodies
-abbrev pub IsRefusedFor : Catalog → SiteId → List ℕ → RefusedRestart → Type 0
-IsRefusedFor catalog i bytes Foreign = IsForeign bytes
-IsRefusedFor catalog i bytes (Damaged at length) = IsDamaged bytes at length
-IsRefusedFor catalog i bytes why = (bodies : List (List ℕ)) × HasContent bytes bodies × IsRefusedOver catalog i bodies why
+-- by the bytes that the disk has: they are no book, or a damaged one, or one with such bodies
+abbrev pub IsRefusedFor : Catalog → Shape → SiteId → List ℕ → RefusedRestart → Type 0
+IsRefusedFor catalog shape i bytes Foreign = IsForeign shape bytes
+IsRefusedFor catalog shape i bytes (Damaged at length) = IsDamaged shape bytes at length
+IsRefusedFor catalog shape i bytes why =
+    (bodies : List (List ℕ)) × HasContent shape bytes bodies × IsRefusedOver catalog i bodies why
 
 -- ---- what an event comes to
 
@@ -84,9 +88,9 @@ pub record HasTaken {D : Type 0} {g : Ghosts D} (old new : Engine D g) (event : 
   pub comes : (S : Standing) → Stands old S
       → HasCome (catalog_in old) (layout_in old) (site_in old) S event effect.came effect.refused new
   pub any_moment : (S : Standing) → Stands old S → OfDisks old new (λ before now.
-      LeavesOnly g.moment g.left_since before now (MayHaveNext (catalog_in old) (site_in old) S event effect.came.kept))
+      LeavesOnly g.moment g.left_since before now (MayHaveNext (catalog_in old) (layout_in old) (site_in old) S event effect.came.kept))
   pub refused : OfDisk new (λ disk. IfSome (g.known disk).reads (λ bytes.
-      IfSome effect.refused (IsRefusedFor (catalog_in old) (site_in old) bytes)))
+      IfSome effect.refused (IsRefusedFor (catalog_in old) (shape_in old) (site_in old) bytes)))
   pub why : effect.came.outcome ≡ Refused → IsSome effect.refused
   pub sized : IsSized (catalog_in old).sites effect.came
   pub framed : effect.frames.items ≡ map (λ s. frame_of (catalog_in old).sites s.1) effect.came.sends
@@ -107,7 +111,13 @@ AreCallsFor None None old new = new ≡ old
 abbrev pub AreCalls : Came → ℕ → ℕ → Type 0
 AreCalls came old new = AreCallsFor came.wrote came.flight old new
 
--- so many more are those of the load of a restart: of one that comes up, all
-pub record AreCallsOfRestart (came : Came) (load old new : ℕ) : Type 0 where
-  pub all : IfSome came.wrote (λ rec. new ≡ old + load + 4)
-  pub at_most : new ≤ old + load + 4
+-- so many more are those that a restart makes before it writes its record: of one that comes up, all
+pub record AreCallsOfRestart (came : Came) (before old new : ℕ) : Type 0 where
+  pub all : IfSome came.wrote (λ rec. new ≡ old + before + 4)
+  pub at_most : new ≤ old + before + 4
+
+-- those of a restart: of the load; of a pack, where one is made, by how many bytes the disk has then; and of the record
+pub record AreCallsToRestart (shape : Shape) (areas size : ℕ) (came : Came) (old new : ℕ) : Type 0 where
+  pub pack : ℕ
+  pub packs : (pack ≡ 0) ⊎ ((live : Live) × (now : ℕ) × (pack ≡ calls_of_pack shape live now))
+  pub calls : AreCallsOfRestart came (calls_of_load shape areas size + pack) old new

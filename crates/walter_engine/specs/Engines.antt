@@ -1,14 +1,15 @@
 -- How an engine stands: what is known of its disk, and of the site on it.
-use Rattle.std.specs.Prelude.{◌≡◌, ℕ, Bool, Option, IfSome}
+use Rattle.std.specs.Prelude.{◌≡◌, ◌==◌, if◌then◌else◌, ℕ, Bool, Option, IfSome}
 use Rattle.walter_base.specs.declared.catalog.Catalog.{Catalog}
 use Rattle.walter_base.specs.declared.names.SiteId.{SiteId}
+use Rattle.walter_checkpoint.specs.Areas.{Shape, shape_by}
 use Rattle.walter_disk.specs.declared.disk.Disk.{Ghosts}
 use Rattle.walter_engine.specs.declared.engine.Engine.{Engine}
 use Rattle.walter_engine.specs.Contents.{AreSpelled}
 use Rattle.walter_engine.specs.Stores.{disk_under, IsStored}
 use Rattle.walter_machine.specs.Machines.{HasStanding, HasRoom}
 use Rattle.walter_machine.specs.Machines as machine
-use Rattle.walter_rules.specs.Layouts.{Layout, one_area}
+use Rattle.walter_rules.specs.Layouts.{Layout, one_area, two_areas}
 use Rattle.walter_rules.specs.Standing.{Standing, unmade}
 
 abbrev pub catalog_in : {D : Type 0} {g : Ghosts D} → Engine D g → Catalog
@@ -20,11 +21,18 @@ site_in engine = machine.site_in engine.machine
 abbrev pub capacity_in : {D : Type 0} {g : Ghosts D} → Engine D g → ℕ
 capacity_in engine = engine.capacity
 
--- its journal has one area
-abbrev pub layout_in : {D : Type 0} {g : Ghosts D} → Engine D g → Layout
-layout_in engine = one_area engine.capacity
+-- the layout that a new journal gets, of so many areas
+abbrev pub layout_for : (areas capacity sites : ℕ) → Layout
+layout_for areas capacity sites = if areas == 2 then two_areas capacity sites else one_area capacity
 
--- the disk, bare or under a journal
+-- how its journal is laid out: as it was asked for, or, once the site has begun, as it was found
+abbrev pub layout_in : {D : Type 0} {g : Ghosts D} → Engine D g → Layout
+layout_in engine = layout_for engine.areas engine.capacity (catalog_in engine).sites
+
+abbrev pub shape_in : {D : Type 0} {g : Ghosts D} → Engine D g → Shape
+shape_in engine = shape_by engine.capacity (catalog_in engine).sites
+
+-- the disk, bare or under a book
 abbrev pub disk_in : {D : Type 0} {g : Ghosts D} → Engine D g → Option D
 disk_in engine = disk_under engine.store
 
@@ -51,9 +59,15 @@ OfDisks old new R = OfDisk old (λ before. OfDisk new (λ after. R before after)
 pub record Stands {D : Type 0} {g : Ghosts D} (engine : Engine D g) (S : Standing) : Type 0 where
   pub machine : HasStanding engine.machine S
   pub spelled : AreSpelled (catalog_in engine).sites S
-  pub store : IsStored S engine.store
+  pub store : IsStored (layout_in engine) S engine.store
 
 -- of the same site
+pub record IsOfSameSite {D : Type 0} {g : Ghosts D} (old new : Engine D g) : Type 0 where
+  pub catalog : catalog_in new ≡ catalog_in old
+  pub site : site_in new ≡ site_in old
+  pub capacity : capacity_in new ≡ capacity_in old
+
+-- and its journal is laid out as before
 pub record IsSameEngine {D : Type 0} {g : Ghosts D} (old new : Engine D g) : Type 0 where
   pub catalog : catalog_in new ≡ catalog_in old
   pub site : site_in new ≡ site_in old

@@ -1,9 +1,9 @@
--- What a first restart comes to over a journal that was loaded.
-use Rattle.std.specs.Prelude.{◌≡◌, ◌≢◌, ◌⊎◌, ℕ, List, [], Some, Result, Ok, Err}
-use Rattle.walter_base.specs.declared.message.Record.TheVariants.{Boot}
+-- What a first restart comes to over a book that was loaded.
+use Rattle.std.specs.Prelude.{◌≡◌, ◌≢◌, ◌⊎◌, ℕ, List, [], Result, Ok, Err}
 use Rattle.walter_engine.specs.declared.answers.BeginFault.{BeginFault}
 use Rattle.walter_engine.specs.declared.answers.BeginFault.TheVariants as unbegun
-use Rattle.walter_engine.specs.Contents.{MayHaveRecords}
+use Rattle.walter_checkpoint.specs.Areas.{Shape}
+use Rattle.walter_engine.specs.Begins.{MayHaveBoot}
 use Rattle.walter_journal.specs.declared.fault.JournalFault.{JournalFault}
 use Rattle.walter_journal.specs.declared.fault.JournalFault.TheVariants as fault
 use Rattle.walter_rules.specs.declared.outcome.Outcome.{Outcome}
@@ -25,11 +25,11 @@ IsBegunOver bodies (Err (unbegun.Damaged at length)) = ⊥
 IsBegunOver bodies (Err unbegun.Used) = bodies ≢ []
 IsBegunOver bodies (Err unbegun.NoMemory) = bodies ≡ []
 
--- what a crash within it leaves of a journal with these bytes and bodies
-abbrev pub MayHaveFirst : List ℕ → List (List ℕ) → List ℕ → Type 0
-MayHaveFirst bytes bodies image = (image ≡ bytes) ⊎ ((bodies ≡ []) × MayHaveRecords [] (Some (Boot 1)) image)
+-- what a crash within it leaves of a book with these bytes and bodies
+abbrev pub MayHaveFirst : Shape → List ℕ → List (List ℕ) → List ℕ → Type 0
+MayHaveFirst shape bytes bodies image = (image ≡ bytes) ⊎ ((bodies ≡ []) × MayHaveBoot shape image)
 
--- what it answers where no journal was loaded
+-- what it answers where no book was loaded
 abbrev pub not_loaded_by : JournalFault → BeginFault
 not_loaded_by fault.Failed = unbegun.Failed
 not_loaded_by fault.Foreign = unbegun.Foreign

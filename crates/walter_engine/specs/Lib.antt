@@ -5,6 +5,7 @@ pub mod Effects
 pub mod Begins
 pub mod Writings
 pub mod Replays
-pub mod Raises
 pub mod Restarts
+pub mod Props
+pub mod Raises
 pub mod Firsts

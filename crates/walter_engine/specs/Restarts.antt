@@ -1,5 +1,5 @@
 -- What a restart comes to over what the disk has, whoever left it there.
-use Rattle.std.specs.Prelude.{◌≡◌, ◌≢◌, ◌⊎◌, ◌+◌, ◌-◌, ◌<◌, ℕ, List, [], Option, Some, None}
+use Rattle.std.specs.Prelude.{◌≡◌, ◌≢◌, ◌⊎◌, ◌+◌, ◌-◌, ◌/◌, ◌<◌, ℕ, List, [], length, Option, Some, None}
 use Rattle.walter_base.specs.declared.catalog.Catalog.{Catalog}
 use Rattle.walter_base.specs.declared.message.Record.{Record}
 use Rattle.walter_base.specs.declared.message.Record.TheVariants.{Boot}
@@ -7,11 +7,17 @@ use Rattle.walter_base.specs.declared.names.SiteId.{SiteId}
 use Rattle.walter_engine.specs.declared.answers.RefusedRestart.{RefusedRestart}
 use Rattle.walter_engine.specs.declared.answers.RefusedRestart.TheVariants as refused
 use Rattle.walter_engine.specs.Effects.{Tell, IsRefusedOver}
-use Rattle.walter_journal.specs.Layout.{HasContent, IsForeign, IsDamaged, end_behind}
+use Rattle.walter_engine.specs.Contents.{HasBodies}
+use Rattle.walter_engine.specs.Stores.{layout_by}
+use Rattle.walter_checkpoint.specs.Areas.{Shape, IsForeign, IsDamaged}
+use Rattle.walter_checkpoint.specs.Packs.{renewed_by}
+use Rattle.walter_checkpoint.specs.declared.book.Live.{Live}
+use Rattle.walter_journal.specs.Layout.{end_behind}
 use Rattle.walter_rules.specs.declared.entry.Came.{Came}
 use Rattle.walter_rules.specs.declared.outcome.Outcome.{Outcome}
 use Rattle.walter_rules.specs.declared.outcome.Outcome.TheVariants.{Taken, Failed, Full, Memory, Refused}
 use Rattle.walter_rules.specs.Knowledge.{fresh}
+use Rattle.walter_rules.specs.Layouts.{Layout, one_area, two_areas}
 use Rattle.walter_rules.specs.Records.{replayed}
 
 -- what comes of bodies, where so many bytes are left: they spell records that can follow each other, and the next epoch
@@ -27,22 +33,28 @@ ComesOf catalog i left bodies wrote why Failed = why ≡ None
 ComesOf catalog i left bodies wrote why Memory = why ≡ None
 ComesOf catalog i left bodies wrote why outcome = ⊥
 
--- no journal can be loaded from these bytes: they are none, or a damaged one
-abbrev pub IsUnloadable : List ℕ → Option RefusedRestart → Type 0
-IsUnloadable bytes why = ((why ≡ Some refused.Foreign) × IsForeign bytes)
-    ⊎ ((at claimed : ℕ) × (why ≡ Some (refused.Damaged at claimed)) × IsDamaged bytes at claimed)
+-- how many bytes are left behind bodies: of two areas, where all are packed
+abbrev pub left_over : Layout → List (List ℕ) → ℕ
+left_over (one_area capacity) bodies = capacity - end_behind bodies
+left_over (two_areas capacity sites) bodies = (capacity - 9) / 2 - length (renewed_by sites bodies)
+
+-- no book can be loaded from these bytes: they are none, or a damaged one
+abbrev pub IsUnloadable : Shape → List ℕ → Option RefusedRestart → Type 0
+IsUnloadable shape bytes why = ((why ≡ Some refused.Foreign) × IsForeign shape bytes)
+    ⊎ ((at claimed : ℕ) × (why ≡ Some (refused.Damaged at claimed)) × IsDamaged shape bytes at claimed)
 
 -- What a restart comes to over a disk that reads so, of which a crash leaves these images: it goes by no bodies, where
--- there are no bytes; else by those that one of the images has, or it is refused, since that has none; or a fault or want
--- of memory comes first.
-pub data RestartsOver (catalog : Catalog) (i : SiteId) (capacity : ℕ) (bytes : List ℕ) (images : List ℕ → Type 0)
-    (came : Came) (why : Option RefusedRestart) : Type 0 where
+-- there are no bytes, and makes a book of the layout that is asked for; else by those that one of the images has, in the
+-- layout that it has, or it is refused, since that has none; or a fault or want of memory comes first.
+pub data RestartsOver (catalog : Catalog) (shape : Shape) (asked : Layout) (i : SiteId) (bytes : List ℕ)
+    (images : List ℕ → Type 0) (came : Came) (why : Option RefusedRestart) : Type 0 where
   hindered : (came.outcome ≡ Failed) ⊎ (came.outcome ≡ Memory) → why ≡ None
-      → RestartsOver catalog i capacity bytes images came why
-  over_none : bytes ≡ [] → ComesOf catalog i (capacity - end_behind []) [] came.wrote why came.outcome
-      → RestartsOver catalog i capacity bytes images came why
-  over_journal : (found : List ℕ) (bodies : List (List ℕ)) → bytes ≢ [] → images found → HasContent found bodies
-      → ComesOf catalog i (capacity - end_behind bodies) bodies came.wrote why came.outcome
-      → RestartsOver catalog i capacity bytes images came why
-  over_others : (found : List ℕ) → bytes ≢ [] → images found → IsUnloadable found why → came.outcome ≡ Refused
-      → RestartsOver catalog i capacity bytes images came why
+      → RestartsOver catalog shape asked i bytes images came why
+  over_none : bytes ≡ [] → ComesOf catalog i (left_over asked []) [] came.wrote why came.outcome
+      → RestartsOver catalog shape asked i bytes images came why
+  over_book : (found : List ℕ) (live : Live) (bodies : List (List ℕ)) → bytes ≢ [] → images found
+      → HasBodies (layout_by shape live) found bodies
+      → ComesOf catalog i (left_over (layout_by shape live) bodies) bodies came.wrote why came.outcome
+      → RestartsOver catalog shape asked i bytes images came why
+  over_others : (found : List ℕ) → bytes ≢ [] → images found → IsUnloadable shape found why → came.outcome ≡ Refused
+      → RestartsOver catalog shape asked i bytes images came why

@@ -4,56 +4,65 @@ use Rattle.walter_disk.specs.declared.disk.Disk.{Ghosts}
 use Rattle.walter_engine.specs.declared.store.Store.{Store}
 use Rattle.walter_engine.specs.declared.store.Store.TheVariants.{Open, Closed}
 use Rattle.walter_engine.specs.Contents.{MayHaveRecords, AreSpelled}
-use Rattle.walter_journal.specs.Journals.{disk_of, capacity_of, StandsFor}
-use Rattle.walter_journal.specs.declared.journal.Journal.{Journal}
+use Rattle.walter_checkpoint.specs.Areas.{Shape}
+use Rattle.walter_checkpoint.specs.Books.{disk_of, shape_of, left_of, StandsFor}
+use Rattle.walter_checkpoint.specs.declared.book.Book.{Book}
+use Rattle.walter_checkpoint.specs.declared.book.Live.{Live}
+use Rattle.walter_checkpoint.specs.declared.book.Live.TheVariants.{Whole, A, B}
 use Rattle.walter_machine.specs.declared.machine.Machine.{Machine}
 use Rattle.walter_machine.specs.Machines.{HasStanding, catalog_in, is_up}
 use Rattle.walter_record.specs.Spelling.{record_spelled}
+use Rattle.walter_rules.specs.Layouts.{Layout, one_area, two_areas, left_behind}
 use Rattle.walter_rules.specs.Standing.{Standing}
 
--- the disk, bare or under a journal
+-- the disk, bare or under a book
 abbrev pub disk_of_store : {D : Type 0} {g : Ghosts D} → Store D g → D
-disk_of_store (Open journal) = disk_of journal
+disk_of_store (Open book) = disk_of book
 disk_of_store (Closed disk) = disk
 
 abbrev pub disk_under : {D : Type 0} {g : Ghosts D} → Option (Store D g) → Option D
 disk_under None = None
 disk_under (Some store) = Some (disk_of_store store)
 
--- whether it is a journal
+-- whether it is a book
 abbrev pub is_open : {D : Type 0} {g : Ghosts D} → Store D g → Bool
-is_open (Open journal) = true
+is_open (Open book) = true
 is_open (Closed disk) = false
 
 abbrev pub is_open_under : {D : Type 0} {g : Ghosts D} → Option (Store D g) → Bool
 is_open_under None = false
 is_open_under (Some store) = is_open store
 
--- the capacity of the journal; as much as is said, where there is none
-abbrev pub capacity_under : {D : Type 0} {g : Ghosts D} → ℕ → Option (Store D g) → ℕ
-capacity_under capacity None = capacity
-capacity_under capacity (Some (Open journal)) = capacity_of journal
-capacity_under capacity (Some (Closed disk)) = capacity
+-- how a book is laid out
+abbrev pub layout_by : Shape → Live → Layout
+layout_by shape Whole = one_area shape.capacity
+layout_by shape A = two_areas shape.capacity shape.sites
+layout_by shape B = two_areas shape.capacity shape.sites
 
--- a journal has this capacity
-abbrev pub IsOfCapacity : {D : Type 0} {g : Ghosts D} → ℕ → Option (Store D g) → Type 0
-IsOfCapacity capacity store = capacity_under capacity store ≡ capacity
+abbrev pub layout_of : {D : Type 0} {g : Ghosts D} → Book D g → Layout
+layout_of book = layout_by (shape_of book) book.live
+
+-- it is laid out so, and has the records of a site that stands so, which leave so many bytes
+pub record IsKept {D : Type 0} {g : Ghosts D} (layout : Layout) (S : Standing) (book : Book D g) : Type 0 where
+  pub laid : layout_of book ≡ layout
+  pub stands : StandsFor book (map record_spelled S.records)
+  pub left : left_of book ≡ left_behind layout S
 
 -- the disk of a site that is down tells what it holds, and each crash leaves the site's records
-pub record IsOnDisk {D : Type 0} (g : Ghosts D) (S : Standing) (disk : D) : Type 0 where
+pub record IsOnDisk {D : Type 0} (g : Ghosts D) (layout : Layout) (S : Standing) (disk : D) : Type 0 where
   pub told : IsSome (g.known disk).reads
   pub begun : 0 < (g.known disk).size
-  pub images : (image : List ℕ) → g.may_leave disk image → MayHaveRecords S.records S.flight image
+  pub images : (image : List ℕ) → g.may_leave disk image → MayHaveRecords layout S.records S.flight image
 
 -- the records of a site that stands so lie there
-abbrev pub IsStored : {D : Type 0} {g : Ghosts D} → Standing → Option (Store D g) → Type 0
-IsStored S None = ⊥
-IsStored S (Some (Open journal)) = StandsFor journal (map record_spelled S.records)
-IsStored {g = g} S (Some (Closed disk)) = IsOnDisk g S disk
+abbrev pub IsStored : {D : Type 0} {g : Ghosts D} → Layout → Standing → Option (Store D g) → Type 0
+IsStored layout S None = ⊥
+IsStored layout S (Some (Open book)) = IsKept layout S book
+IsStored {g = g} layout S (Some (Closed disk)) = IsOnDisk g layout S disk
 
--- behind an event: the machine stands so, each record has its spelling, and the records lie in the journal of a site that is
+-- behind an event: the machine stands so, each record has its spelling, and the records lie in the book of a site that is
 -- up, or on the disk under it of one that is down
-pub record IsLeft {D : Type 0} {g : Ghosts D} (m : Machine) (S : Standing) (journal : Journal D g) : Type 0 where
+pub record IsLeft {D : Type 0} {g : Ghosts D} (layout : Layout) (m : Machine) (S : Standing) (book : Book D g) : Type 0 where
   pub machine : HasStanding m S
   pub spelled : AreSpelled (catalog_in m).sites S
-  pub stored : IsStored S (Some (if is_up m then Open journal else Closed (disk_of journal)))
+  pub stored : IsStored layout S (Some (if is_up m then Open book else Closed (disk_of book)))

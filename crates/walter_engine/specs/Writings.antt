@@ -1,10 +1,9 @@
--- How a record is spelled for a journal.
+-- How a record is spelled for a book.
 use Rattle.std.specs.Prelude.{◌≡◌, ◌⊎◌, ◌<◌, ℕ, List, length, Option, Some, None}
 use Rattle.walter_base.specs.declared.message.Record.{Record}
-use Rattle.walter_disk.specs.Images.{LeavesOnly}
 use Rattle.walter_disk.specs.declared.disk.Disk.{Ghosts}
-use Rattle.walter_journal.specs.Journals.{disk_of, end_of, capacity_of, StandsFor, HasRoom}
-use Rattle.walter_journal.specs.declared.journal.Journal.{Journal}
+use Rattle.walter_checkpoint.specs.Books.{disk_of, IsSameBook, HasRoom, HasRoomBehind}
+use Rattle.walter_checkpoint.specs.declared.book.Book.{Book}
 use Rattle.walter_machine.specs.Readiness.{rec_in, came_in}
 use Rattle.walter_machine.specs.declared.ready.Ready.{Ready}
 use Rattle.walter_record.specs.Spelling.{record_spelled, AreInRange}
@@ -13,27 +12,28 @@ use Rattle.walter_rules.specs.Trails.{failure, fullness, want}
 use Rattle.walter_rules.specs.declared.event.Event.{Event}
 use Rattle.walter_rules.specs.declared.outcome.Outcome.{Outcome}
 
--- the journal is as before, but for its room
-pub record IsSameJournal {D : Type 0} {g : Ghosts D} (old new : Journal D g) : Type 0 where
+-- the disk tells what it told, and the book is as before, but for its room
+pub record IsSameButRoom {D : Type 0} {g : Ghosts D} (old new : Book D g) : Type 0 where
   pub disk : g.known (disk_of new) ≡ g.known (disk_of old)
-  pub capacity : capacity_of new ≡ capacity_of old
-  pub end : end_of new ≡ end_of old
-  pub device : g.device_calls (disk_of new) ≡ g.device_calls (disk_of old)
-  pub stands : (bodies : List (List ℕ)) → StandsFor old bodies → StandsFor new bodies
-  pub any_moment : LeavesOnly g.moment g.left_since (disk_of old) (disk_of new) (g.may_leave (disk_of old))
+  pub book : IsSameBook old new
 
--- the spelling of a record, for which the journal has room
-pub record IsSpelling {D : Type 0} {g : Ghosts D} (journal : Journal D g) (rec : Record) (body : List ℕ) : Type 0 where
+-- the spelling of a record, for which the book has room
+pub record IsSpelling {D : Type 0} {g : Ghosts D} (book : Book D g) (rec : Record) (body : List ℕ) : Type 0 where
   pub is : body ≡ record_spelled rec
   pub ranges : AreInRange rec
-  pub room : HasRoom journal (length body)
+  pub room : HasRoom book (length body)
 
 -- of a record where there is one
-abbrev pub IsSpellingIfAny : {D : Type 0} {g : Ghosts D} → Journal D g → Option Record → Option (List ℕ) → Type 0
-IsSpellingIfAny journal None None = Unit {0}
-IsSpellingIfAny journal None (Some body) = ⊥
-IsSpellingIfAny journal (Some rec) None = ⊥
-IsSpellingIfAny journal (Some rec) (Some body) = IsSpelling journal rec body
+abbrev pub IsSpellingIfAny : {D : Type 0} {g : Ghosts D} → Book D g → Option Record → Option (List ℕ) → Type 0
+IsSpellingIfAny book None None = Unit {0}
+IsSpellingIfAny book None (Some body) = ⊥
+IsSpellingIfAny book (Some rec) None = ⊥
+IsSpellingIfAny book (Some rec) (Some body) = IsSpelling book rec body
+
+-- and there is room for it behind a pack too
+abbrev pub HasRoomIfAny : {D : Type 0} {g : Ghosts D} → Book D g → Option (List ℕ) → Type 0
+HasRoomIfAny book None = Unit {0}
+HasRoomIfAny book (Some body) = HasRoomBehind book (length body)
 
 -- what comes of a record that needs more than is left
 pub record IsOverflow (event : Event) (ready : Ready) (left : ℕ) (outcome : Outcome) : Type 0 where

@@ -3,8 +3,9 @@ ghost use Rattle.walter_disk.specs.Images.{LeavesOnly};
 ghost use Rattle.walter_engine.specs.declared.answers.BeginFault.{BeginFault as Fault};
 ghost use Rattle.walter_engine.specs.Begins.{IsFaultOfBegin};
 ghost use Rattle.walter_engine.specs.Firsts.{IsAnswerTo, IsBegunOver, MayHaveFirst, not_loaded_by};
-ghost use Rattle.walter_engine.specs.Stores.{IsLeft};
-ghost use Rattle.walter_journal.specs.Journals.{disk_of, capacity_of, left_of, StandsFor};
+ghost use Rattle.walter_engine.specs.Restarts.{left_over};
+ghost use Rattle.walter_engine.specs.Stores.{IsLeft, layout_of};
+ghost use Rattle.walter_checkpoint.specs.Books.{disk_of, shape_of, GoesOnBehind, IsReady, HasPackRoom, StandsFor};
 ghost use Rattle.walter_machine.specs.Machines.{catalog_in, site_in, tables_in, is_up, HasStanding, HasRoom, IsSameSite};
 ghost use Rattle.walter_rules.specs.Standing.{unmade};
 ghost use Rattle.walter_rules.specs.Trails.{standing, opening};
@@ -12,43 +13,47 @@ ghost use Rattle.walter_rules.specs.Trails.{standing, opening};
 use crate::answers::BeginFault;
 use crate::restarting::raise;
 use std::alloc::Global;
+use walter_checkpoint::Book;
 use walter_disk::Disk;
-use walter_journal::{Journal, JournalFault};
+use walter_journal::JournalFault;
 use walter_machine::Machine;
 use walter_rules::Outcome;
 
-/// Begins a site over its journal, which has these bodies. One that has records is left as it is.
+/// Begins a site over its book, which has these bodies. One that has records is left as it is.
 pub(crate) fn begin_over<D: Disk>(
     alloc: Global,
     machine: &mut Machine,
-    journal: &mut Journal<D>,
+    book: &mut Book<D>,
     bodies: &[Vec<u8>],
 ) -> Result<(), BeginFault>
     requires room { HasRoom machine.old }
     requires down { tables_in machine.old ≡ None }
-    requires place { bodies.now ≡ [] → 10 ≤ left_of journal.old }
+    requires place { 10 ≤ left_over (layout_of book.old) [] }
+    requires sites { (shape_of book.old).sites ≡ (catalog_in machine.old).sites }
+    requires pack_room { HasPackRoom book.old }
+    requires ready { IsReady book.old (map (λ body. body.items) bodies.now) }
+    requires goes_on { GoesOnBehind book.old (map (λ body. body.items) bodies.now) }
     ensures up { is_up machine.new ≡ is_ok result }
-    ensures stands { HasStanding machine.old unmade → StandsFor journal.old (map (λ body. body.items) bodies.now)
-        → OnOk result (IsLeft machine.new
-        (standing (catalog_in machine.old) (site_in machine.old) (opening ∷ [])) journal.new) }
+    ensures stands { HasStanding machine.old unmade → StandsFor book.old (map (λ body. body.items) bodies.now)
+        → OnOk result (IsLeft (layout_of book.old) machine.new
+        (standing (catalog_in machine.old) (site_in machine.old) (opening ∷ [])) book.new) }
     ensures begins { IsBegunOver (map (λ body. body.items) bodies.now) result }
-    ensures any_moment { (stands : StandsFor journal.old (map (λ body. body.items) bodies.now))
-        → LeavesOnly D.moment D.left_since (disk_of journal.old) (disk_of journal.new)
-        (MayHaveFirst stands.bytes (map (λ body. body.items) bodies.now)) }
+    ensures any_moment { (stands : StandsFor book.old (map (λ body. body.items) bodies.now))
+        → LeavesOnly D.moment D.left_since (disk_of book.old) (disk_of book.new)
+        (MayHaveFirst (shape_of book.old) stands.with.stands.bytes (map (λ body. body.items) bodies.now)) }
     ensures faults { IsFaultOfBegin result
-        (D.known (disk_of journal.old)).faults (D.known (disk_of journal.new)).faults }
-    ensures device { OnOk result (D.device_calls (disk_of journal.new) ≡ D.device_calls (disk_of journal.old) + 4) }
-    ensures at_most { D.device_calls (disk_of journal.new) ≤ D.device_calls (disk_of journal.old) + 4 }
-    ensures arms { (D.known (disk_of journal.new)).arms ≡ (D.known (disk_of journal.old)).arms }
-    ensures tells { is_some (D.known (disk_of journal.new)).reads ≡ is_some (D.known (disk_of journal.old)).reads }
-    ensures capacity { capacity_of journal.new ≡ capacity_of journal.old }
+        (D.known (disk_of book.old)).faults (D.known (disk_of book.new)).faults }
+    ensures device { OnOk result (D.device_calls (disk_of book.new) ≡ D.device_calls (disk_of book.old) + 4) }
+    ensures at_most { D.device_calls (disk_of book.new) ≤ D.device_calls (disk_of book.old) + 4 }
+    ensures arms { (D.known (disk_of book.new)).arms ≡ (D.known (disk_of book.old)).arms }
+    ensures tells { is_some (D.known (disk_of book.new)).reads ≡ is_some (D.known (disk_of book.old)).reads }
     ensures same { IsSameSite machine.old machine.new }
 {
     if !bodies.is_empty() {
         return Err(BeginFault::Used);
     }
     machine.settle(0);
-    let (came, _) = raise(alloc, machine, journal, bodies);
+    let (came, _) = raise(alloc, machine, book, bodies);
     answer_to(&came.outcome)
 }
 
@@ -65,7 +70,7 @@ fn answer_to(outcome: &Outcome) -> Result<(), BeginFault>
     }
 }
 
-/// What a first restart answers whose journal was not loaded.
+/// What a first restart answers whose book was not loaded.
 pub(crate) fn not_loaded(fault: JournalFault) -> BeginFault
     ensures { result ≡ not_loaded_by fault }
 {

@@ -1,6 +1,8 @@
 ghost use Rattle.std.specs.Prelude.{◌≡◌, ◌≢◌, ◌+◌, ◌<◌, ◌≤◌, ℕ, List, ◌++◌, ◌∷◌, [], true, false, None, Some, map, is_ok, is_some, IsSome, IfSome, IfOk, IfErr, OnOk, OnErr, option_map};
 ghost use Rattle.walter_base.specs.Vectors.{most_sites};
-ghost use Rattle.walter_engine.specs.Stores.{is_open_under, IsOfCapacity};
+ghost use Rattle.walter_checkpoint.specs.Loads.{IsAreas};
+ghost use Rattle.walter_engine.specs.Props.{props};
+ghost use Rattle.walter_engine.specs.Stores.{is_open_under};
 ghost use Rattle.walter_machine.specs.Machines.{is_up as is_up_machine};
 
 use crate::answers::{BeginFault, Effect, RefusedRestart};
@@ -11,8 +13,8 @@ use crate::writing::write;
 use std::alloc::Global;
 use std::mem;
 use walter_base::{Catalog, MaybeRecord, Mem, NoMemory, SiteId};
+use walter_checkpoint::{books_differ, load};
 use walter_disk::Disk;
-use walter_journal::{layouts_differ, load};
 use walter_machine::Machine;
 use walter_rules::{Came, Event};
 
@@ -22,27 +24,29 @@ pub struct Engine<D: Disk> {
     alloc: Global,
     machine: Machine,
     capacity: u64,
+    // Of how many areas the journal is: as it was asked for, or, once the site has begun, as it was found.
+    areas: u8,
     // None only within a call.
     store: Option<Store<D>>,
     ghost there: { is_some store ≡ true },
     ghost open: { is_open_under store ≡ is_up_machine machine },
-    ghost of: { IsOfCapacity capacity store },
+    ghost laid: { IsAreas areas capacity } by { Prim.hlevel props },
 }
 
 impl<D: Disk + Drop> Engine<D> {
     ghost use Rattle.walter_disk.specs.Images.{LeavesOnly};
-    ghost use Rattle.walter_engine.specs.Begins.{HasOnly, MayHaveBegun, IsBegun, IsFaultOfBegin};
+    ghost use Rattle.walter_engine.specs.Begins.{HasOnly, MayHaveBegun, IsBegun, IsFaultOfBegin, IsLaidOver};
     ghost use Rattle.walter_engine.specs.Contents.{AreSpelled, MayHaveNext};
-    ghost use Rattle.walter_engine.specs.Effects.{HasCome, HasTaken, IsRefusedFor, AreCalls, AreCallsOfRestart};
-    ghost use Rattle.walter_engine.specs.Engines.{catalog_in, site_in, capacity_in, layout_in, disk_in, is_up, OfDisk, OfDisks, IsFresh, IsRoomy, IsSameEngine, Stands};
+    ghost use Rattle.walter_engine.specs.Effects.{HasCome, HasTaken, IsRefusedFor, AreCalls, AreCallsToRestart};
+    ghost use Rattle.walter_engine.specs.Engines.{catalog_in, site_in, capacity_in, layout_for, layout_in, shape_in, disk_in, is_up, OfDisk, OfDisks};
+    ghost use Rattle.walter_engine.specs.Engines.{IsFresh, IsOfSameSite, IsRoomy, IsSameEngine, Stands};
     ghost use Rattle.walter_engine.specs.Restarts.{RestartsOver};
     ghost use Rattle.walter_engine.specs.Stores.{IsOnDisk};
-    ghost use Rattle.walter_journal.specs.Journals.{calls_of_load};
+    ghost use Rattle.walter_checkpoint.specs.Loads.{calls_of_load};
     ghost use Rattle.walter_machine.specs.Comings.{IsSized, IsFaulty};
     ghost use Rattle.walter_machine.specs.States.{AreTold, IsSizedEvent};
     ghost use Rattle.walter_packet.specs.Framed.{frame_of};
     ghost use Rattle.walter_rules.specs.Deliveries.{IsLeastEnabled};
-    ghost use Rattle.walter_rules.specs.Layouts.{one_area};
     ghost use Rattle.walter_rules.specs.Standing.{Standing};
     ghost use Rattle.walter_rules.specs.Trails.{standing, opening};
     ghost use Rattle.walter_rules.specs.declared.event.Event.TheVariants as happens;
@@ -57,21 +61,25 @@ impl<D: Disk + Drop> Engine<D> {
         catalog: &Catalog,
         site: SiteId,
         capacity: u64,
+        areas: u8,
     ) -> Result<Engine<D>, D>
         requires here { site.0 < catalog.now.sites }
         requires most { catalog.now.sites ≤ most_sites }
         requires fewer { catalog.now.tolerated < catalog.now.sites }
+        requires areas { IsAreas areas capacity }
         ensures disk { IfOk result (λ engine. disk_in engine ≡ Some disk) }
         ensures down { IfOk result (λ engine. is_up engine ≡ false) }
         ensures catalog { IfOk result (λ engine. catalog_in engine ≡ catalog.now) }
         ensures site { IfOk result (λ engine. site_in engine ≡ site) }
         ensures capacity { IfOk result (λ engine. capacity_in engine ≡ capacity) }
-        ensures layout { IfOk result (λ engine. layout_in engine ≡ one_area capacity) }
+        ensures layout { IfOk result (λ engine. layout_in engine ≡ layout_for areas capacity catalog.now.sites) }
+        ensures areas { IfOk result (λ engine. engine.areas ≡ areas) }
         ensures fresh { IfOk result IsFresh }
         ensures back { IfErr result (λ back. back ≡ disk) }
         // over a journal with the records of a site that is down, and owes no client anything
         ensures stands { (S : Standing) → S.up ≡ false → S.flight ≡ None → ((client : ℕ) → S.gone client ≡ None)
-            → AreTold catalog.now site S → AreSpelled catalog.now.sites S → IsOnDisk D.Disk S disk
+            → AreTold catalog.now site S → AreSpelled catalog.now.sites S
+            → IsOnDisk D.Disk (layout_for areas capacity catalog.now.sites) S disk
             → IfOk result (λ engine. Stands engine S) }
     {
         let Ok(copy) = catalog.clone() else {
@@ -81,6 +89,7 @@ impl<D: Disk + Drop> Engine<D> {
             alloc,
             machine: Machine::new(alloc, copy, site),
             capacity,
+            areas,
             store: Some(Store::Closed(disk)),
         })
     }
@@ -89,6 +98,12 @@ impl<D: Disk + Drop> Engine<D> {
         ensures { result ≡ is_up self.now }
     {
         self.machine.is_up()
+    }
+
+    fn sites(&self) -> u8
+        ensures { result ≡ (catalog_in self.now).sites }
+    {
+        self.machine.catalog().sites
     }
 
     /// The least peer whose next commit can be committed here; none where the site is down.
@@ -151,15 +166,15 @@ impl<D: Disk + Drop> Engine<D> {
         // what a crash at any moment of it leaves
         ensures any_moment { (S : Standing) → Stands self.old S → OfDisks self.old self.new (λ old new.
             LeavesOnly D.moment D.left_since old new
-            (MayHaveNext (catalog_in self.old) (site_in self.old) S event.now result.came.kept)) }
+            (MayHaveNext (catalog_in self.old) (layout_in self.old) (site_in self.old) S event.now result.came.kept)) }
         // where a restart is refused, the bytes that the disk has are the cause
         ensures refused { OfDisk self.new (λ disk. IfSome (D.known disk).reads (λ bytes.
-            IfSome result.refused (IsRefusedFor (catalog_in self.old) (site_in self.old) bytes))) }
+            IfSome result.refused (IsRefusedFor (catalog_in self.old) (shape_in self.old) (site_in self.old) bytes))) }
         ensures why { result.came.outcome ≡ outcome.Refused → IsSome result.refused }
         // what a restart comes to over any disk that tells what it holds, whoever left that there
         ensures restarts { is_up self.old ≡ false → event.now ≡ happens.Restart → OfDisk self.old (λ disk.
-            IfSome (D.known disk).reads (λ bytes. RestartsOver (catalog_in self.old) (site_in self.old)
-            (capacity_in self.old) bytes (D.may_leave disk) result.came result.refused)) }
+            IfSome (D.known disk).reads (λ bytes. RestartsOver (catalog_in self.old) (shape_in self.old)
+            (layout_in self.old) (site_in self.old) bytes (D.may_leave disk) result.came result.refused)) }
         ensures sized { IsSized (catalog_in self.old).sites result.came }
         ensures framed { result.frames.items
             ≡ map (λ s. frame_of (catalog_in self.old).sites s.1) result.came.sends }
@@ -170,7 +185,7 @@ impl<D: Disk + Drop> Engine<D> {
         ensures device { (is_up self.old ≡ false → event.now ≢ happens.Restart) → OfDisks self.old self.new (λ old new.
             AreCalls result.came (D.device_calls old) (D.device_calls new)) }
         ensures loads { is_up self.old ≡ false → event.now ≡ happens.Restart → OfDisks self.old self.new (λ old new.
-            AreCallsOfRestart result.came (calls_of_load (D.known old).size)
+            AreCallsToRestart (shape_in self.old) self.old.areas (D.known old).size result.came
             (D.device_calls old) (D.device_calls new)) }
         ensures arms { OfDisks self.old self.new (λ old new. (D.known new).arms ≡ (D.known old).arms) }
         ensures tells { OfDisks self.old self.new (λ old new.
@@ -199,19 +214,19 @@ impl<D: Disk + Drop> Engine<D> {
             AreCalls result.came (D.device_calls old) (D.device_calls new)) }
         ensures stops { event.now ≡ happens.Stop → disk_in self.new ≡ disk_in self.old }
     {
-        let Some(Store::Open(mut journal)) = mem::replace(&mut self.store, None) else {
+        let Some(Store::Open(mut book)) = mem::replace(&mut self.store, None) else {
             unreachable!()
         };
         let Ok(ready) = self.machine.prepare(event) else {
-            self.store = Some(Store::Open(journal));
+            self.store = Some(Store::Open(book));
             return Effect {
                 came: self.machine.want(event),
                 frames: Vec::new(self.alloc),
                 refused: None,
             };
         };
-        let (came, frames) = write(self.alloc, &mut self.machine, &mut journal, event, ready);
-        self.store = Some(store_of(self.machine.is_up(), journal));
+        let (came, frames) = write(self.alloc, &mut self.machine, &mut book, event, ready);
+        self.store = Some(store_of(self.machine.is_up(), book));
         Effect {
             came,
             frames,
@@ -247,18 +262,25 @@ impl<D: Disk + Drop> Engine<D> {
         requires down { is_up self.old ≡ false }
         ensures taken { HasTaken self.old self.new happens.Restart result }
         ensures restarts { OfDisk self.old (λ disk. IfSome (D.known disk).reads (λ bytes.
-            RestartsOver (catalog_in self.old) (site_in self.old) (capacity_in self.old) bytes (D.may_leave disk)
-            result.came result.refused)) }
+            RestartsOver (catalog_in self.old) (shape_in self.old) (layout_in self.old) (site_in self.old) bytes
+            (D.may_leave disk) result.came result.refused)) }
         ensures loads { OfDisks self.old self.new (λ old new.
-            AreCallsOfRestart result.came (calls_of_load (D.known old).size)
+            AreCallsToRestart (shape_in self.old) self.old.areas (D.known old).size result.came
             (D.device_calls old) (D.device_calls new)) }
     {
         // What is loaded is then what the site left.
-        layouts_differ();
+        books_differ();
+        let sites = self.sites();
         let Some(store) = mem::replace(&mut self.store, None) else {
             unreachable!()
         };
-        let (mut journal, bodies) = match load(self.alloc, into_disk(store), self.capacity) {
+        let (mut book, bodies) = match load(
+            self.alloc,
+            into_disk(store),
+            self.capacity,
+            self.areas,
+            sites,
+        ) {
             Ok(loaded) => loaded,
             Err((disk, fault)) => {
                 self.store = Some(Store::Closed(disk));
@@ -272,8 +294,8 @@ impl<D: Disk + Drop> Engine<D> {
         };
         let bodies = bodies.as_slice();
         let kept = self.machine.settle(bodies.len() as u64);
-        let (came, refused) = raise(self.alloc, &mut self.machine, &mut journal, bodies);
-        self.store = Some(store_of(self.machine.is_up(), journal));
+        let (came, refused) = raise(self.alloc, &mut self.machine, &mut book, bodies);
+        self.store = Some(store_of(self.machine.is_up(), book));
         Effect {
             came: Came { kept, ..came },
             frames: Vec::new(self.alloc),
@@ -281,8 +303,8 @@ impl<D: Disk + Drop> Engine<D> {
         }
     }
 
-    /// The first restart of a site: over a disk of no bytes, which gets its journal, or over a journal without records.
-    /// The journal is loaded once. One that has records is left as it is.
+    /// The first restart of a site: over a disk of no bytes, which gets its journal, or over a journal without records,
+    /// whose layout stays as it is. The journal is loaded once. One that has records is left as it is.
     pub fn begin(&mut self) -> Result<(), BeginFault>
         requires down { is_up self.old ≡ false }
         requires place { 19 ≤ capacity_in self.old }
@@ -292,39 +314,48 @@ impl<D: Disk + Drop> Engine<D> {
         ensures stands { IsFresh self.old → OfDisk self.old (λ disk. IsSome (D.known disk).reads)
             → OnOk result (Stands self.new (standing (catalog_in self.old) (site_in self.old) (opening ∷ []))) }
         // what it answers, by the bytes that the disk has, where a crash leaves nothing else
-        ensures begins { (bytes : List ℕ) → OfDisk self.old (HasOnly D.Disk bytes) → IsBegun bytes result }
+        ensures begins { (bytes : List ℕ) → OfDisk self.old (HasOnly D.Disk bytes) → IsBegun (shape_in self.old) bytes result }
+        // and how the journal is laid out
+        ensures laid { (bytes : List ℕ) → OfDisk self.old (HasOnly D.Disk bytes)
+            → OnOk result (IsLaidOver bytes (layout_in self.old) (layout_in self.new)) }
         // and what a crash at any moment of it leaves
         ensures any_moment { (bytes : List ℕ) → OfDisk self.old (HasOnly D.Disk bytes)
-            → OfDisks self.old self.new (λ old new. LeavesOnly D.moment D.left_since old new (MayHaveBegun bytes)) }
+            → OfDisks self.old self.new (λ old new. LeavesOnly D.moment D.left_since old new
+            (MayHaveBegun (shape_in self.old) self.old.areas bytes)) }
         ensures faults { OfDisks self.old self.new (λ old new.
             IsFaultOfBegin result (D.known old).faults (D.known new).faults) }
         // how many calls of the disk an arm counts
         ensures device { OnOk result (OfDisks self.old self.new (λ old new.
-            D.device_calls new ≡ D.device_calls old + calls_of_load (D.known old).size + 4)) }
+            D.device_calls new ≡ D.device_calls old
+            + calls_of_load (shape_in self.old) self.old.areas (D.known old).size + 4)) }
         ensures at_most { OfDisks self.old self.new (λ old new.
-            D.device_calls new ≤ D.device_calls old + calls_of_load (D.known old).size + 4) }
+            D.device_calls new ≤ D.device_calls old
+            + calls_of_load (shape_in self.old) self.old.areas (D.known old).size + 4) }
         ensures arms { OfDisks self.old self.new (λ old new. (D.known new).arms ≡ (D.known old).arms) }
         ensures tells { OfDisks self.old self.new (λ old new.
             is_some (D.known new).reads ≡ is_some (D.known old).reads) }
-        ensures engine { IsSameEngine self.old self.new }
+        ensures engine { IsOfSameSite self.old self.new }
     {
+        let sites = self.sites();
         let Some(store) = mem::replace(&mut self.store, None) else {
             unreachable!()
         };
-        let (mut journal, bodies) = match load(self.alloc, into_disk(store), self.capacity) {
+        let (mut book, bodies) = match load(
+            self.alloc,
+            into_disk(store),
+            self.capacity,
+            self.areas,
+            sites,
+        ) {
             Ok(loaded) => loaded,
             Err((disk, fault)) => {
                 self.store = Some(Store::Closed(disk));
                 return Err(not_loaded(fault));
             }
         };
-        let begun = begin_over(
-            self.alloc,
-            &mut self.machine,
-            &mut journal,
-            bodies.as_slice(),
-        );
-        self.store = Some(store_of(self.machine.is_up(), journal));
+        self.areas = book.areas();
+        let begun = begin_over(self.alloc, &mut self.machine, &mut book, bodies.as_slice());
+        self.store = Some(store_of(self.machine.is_up(), book));
         begun
     }
 }

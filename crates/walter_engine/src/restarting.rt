@@ -1,68 +1,103 @@
-ghost use Rattle.std.specs.Prelude.{◌≡◌, [], None, false, map, length, is_some, IfSome};
+ghost use Rattle.std.specs.Prelude.{◌≡◌, ◌+◌, ◌≤◌, [], None, false, map, length, is_some, IfSome, OnErr, OnOk};
+ghost use Rattle.walter_disk.specs.Disks.{Fails};
 ghost use Rattle.walter_disk.specs.Images.{LeavesOnly};
-ghost use Rattle.walter_engine.specs.Contents.{MayHaveNext};
-ghost use Rattle.walter_engine.specs.Effects.{AreCalls, IsRefusedOver};
-ghost use Rattle.walter_engine.specs.Raises.{LiesIn, Raises, hindered_by, unloaded_by};
-ghost use Rattle.walter_engine.specs.Restarts.{ComesOf};
-ghost use Rattle.walter_journal.specs.Journals.{disk_of, capacity_of, left_of};
+ghost use Rattle.walter_engine.specs.Contents.{HasBodies, MayHaveNext};
+ghost use Rattle.walter_engine.specs.Effects.{AreCallsOfRestart, IsRefusedOver};
+ghost use Rattle.walter_engine.specs.Raises.{IsPacked, LiesIn, Raises, calls_before, hindered_by, unloaded_by};
+ghost use Rattle.walter_checkpoint.specs.Books.{disk_of, shape_of, GoesOnBehind, IsReady, HasPackRoom, StandsFor};
+ghost use Rattle.walter_engine.specs.Restarts.{ComesOf, left_over};
+ghost use Rattle.walter_engine.specs.Stores.{layout_of};
 ghost use Rattle.walter_machine.specs.Comings.{IsSized, IsFaulty};
 ghost use Rattle.walter_machine.specs.Machines.{catalog_in, site_in, tables_in, records_in, is_up, HasStanding, HasRoom, IsSameSite};
-ghost use Rattle.walter_rules.specs.Layouts.{one_area};
+ghost use Rattle.walter_rules.specs.Layouts.{Layout};
 ghost use Rattle.walter_rules.specs.Standing.{Standing, up_after};
 ghost use Rattle.walter_rules.specs.declared.event.Event.TheVariants as event;
 
 use crate::answers::RefusedRestart;
 use crate::replaying::ready_over;
-use crate::writing::write;
+use crate::writing::{put, spell_any};
 use std::alloc::Global;
-use walter_disk::Disk;
-use walter_journal::{Journal, JournalFault};
+use walter_checkpoint::Book;
+use walter_disk::{Disk, Failed};
+use walter_journal::JournalFault;
 use walter_machine::Machine;
 use walter_rules::{Came, Event, Outcome};
 
-/// The site comes up that the bodies of its journal tell, in its next epoch, which is journaled. The record in flight
-/// is decided before.
+/// The site comes up that the bodies of its book tell, in its next epoch, which is journaled. The record in flight is
+/// decided before. A book of two areas that has bodies is packed first.
 pub(crate) fn raise<D: Disk>(
     alloc: Global,
     machine: &mut Machine,
-    journal: &mut Journal<D>,
+    book: &mut Book<D>,
     bodies: &[Vec<u8>],
 ) -> (Came, Option<RefusedRestart>)
     requires room { HasRoom machine.old }
     requires down { tables_in machine.old ≡ None }
-    ensures raises { (S : Standing)
-        → LiesIn (catalog_in machine.old) (site_in machine.old) S journal.old (map (λ body. body.items) bodies.now)
+    requires sites { (shape_of book.old).sites ≡ (catalog_in machine.old).sites }
+    requires pack_room { HasPackRoom book.old }
+    requires ready { IsReady book.old (map (λ body. body.items) bodies.now) }
+    requires goes_on { GoesOnBehind book.old (map (λ body. body.items) bodies.now) }
+    ensures raises { (layout : Layout) (S : Standing) → LiesIn (catalog_in machine.old) layout (site_in machine.old) S
+        book.old (map (λ body. body.items) bodies.now)
         → HasStanding machine.old S → records_in machine.old ≡ length S.records
-        → Raises (catalog_in machine.old) (one_area (capacity_of journal.old)) (site_in machine.old) S
-        result.0 result.1 machine.new journal.new }
-    ensures any_moment { (S : Standing)
-        → LiesIn (catalog_in machine.old) (site_in machine.old) S journal.old (map (λ body. body.items) bodies.now)
-        → LeavesOnly D.moment D.left_since (disk_of journal.old) (disk_of journal.new)
-        (MayHaveNext (catalog_in machine.old) (site_in machine.old) S event.Restart None) }
-    ensures refused { IfSome result.1 (λ why. (disk_of journal.new ≡ disk_of journal.old)
+        → Raises (catalog_in machine.old) layout (site_in machine.old) S result.0 result.1 machine.new book.new }
+    ensures any_moment { (layout : Layout) (S : Standing) → LiesIn (catalog_in machine.old) layout (site_in machine.old) S
+        book.old (map (λ body. body.items) bodies.now)
+        → LeavesOnly D.moment D.left_since (disk_of book.old) (disk_of book.new)
+        (MayHaveNext (catalog_in machine.old) layout (site_in machine.old) S event.Restart None) }
+    ensures refused { IfSome result.1 (λ why. (disk_of book.new ≡ disk_of book.old)
         × IsRefusedOver (catalog_in machine.old) (site_in machine.old) (map (λ body. body.items) bodies.now) why) }
     // over any bodies
-    ensures over { ComesOf (catalog_in machine.old) (site_in machine.old) (left_of journal.old)
+    ensures over { ComesOf (catalog_in machine.old) (site_in machine.old)
+        (left_over (layout_of book.old) (map (λ body. body.items) bodies.now))
         (map (λ body. body.items) bodies.now) result.0.wrote result.1 result.0.outcome }
     ensures up { is_up machine.new ≡ up_after event.Restart result.0.outcome false }
     ensures sized { IsSized (catalog_in machine.old).sites result.0 }
     ensures none_sent { result.0.sends ≡ [] }
     ensures none_dropped { result.0.dropped ≡ 0 }
     ensures none_kept { result.0.kept ≡ None }
-    ensures faults { IsFaulty result.0 (D.known (disk_of journal.old)).faults (D.known (disk_of journal.new)).faults }
-    ensures arms { (D.known (disk_of journal.new)).arms ≡ (D.known (disk_of journal.old)).arms }
-    ensures tells { is_some (D.known (disk_of journal.new)).reads ≡ is_some (D.known (disk_of journal.old)).reads }
-    ensures device { AreCalls result.0 (D.device_calls (disk_of journal.old)) (D.device_calls (disk_of journal.new)) }
-    ensures capacity { capacity_of journal.new ≡ capacity_of journal.old }
+    ensures faults { IsFaulty result.0 (D.known (disk_of book.old)).faults (D.known (disk_of book.new)).faults }
+    ensures arms { (D.known (disk_of book.new)).arms ≡ (D.known (disk_of book.old)).arms }
+    ensures tells { is_some (D.known (disk_of book.new)).reads ≡ is_some (D.known (disk_of book.old)).reads }
+    ensures device { AreCallsOfRestart result.0 (calls_before book.old (map (λ body. body.items) bodies.now))
+        (D.device_calls (disk_of book.old)) (D.device_calls (disk_of book.new)) }
     ensures same { IsSameSite machine.old machine.new }
 {
-    match ready_over(alloc, machine.catalog(), machine.id(), bodies) {
-        Ok(ready) => {
-            let (came, _) = write(alloc, machine, journal, &Event::Restart, ready);
-            (came, None)
-        }
-        Err(why) => (machine.rest(hindrance(why)), why),
+    let ready = match ready_over(alloc, machine.catalog(), machine.id(), bodies) {
+        Ok(ready) => ready,
+        Err(why) => return (machine.rest(hindrance(why)), why),
+    };
+    let Ok(body) = spell_any(alloc, book, &ready) else {
+        return (machine.want(&Event::Restart), None);
+    };
+    if pack_any(book, bodies).is_err() {
+        return (machine.rest(Outcome::Failed), None);
     }
+    let (came, _) = put(alloc, machine, book, &Event::Restart, ready, body);
+    (came, None)
+}
+
+// A restart packs what it found, if that is anything. What was to be appended has room still.
+fn pack_any<D: Disk>(book: &mut Book<D>, bodies: &[Vec<u8>]) -> Result<(), Failed>
+    requires pack_room { HasPackRoom book.old }
+    requires ready { IsReady book.old (map (λ body. body.items) bodies.now) }
+    requires goes_on { GoesOnBehind book.old (map (λ body. body.items) bodies.now) }
+    ensures packed { OnOk result (IsPacked book.old book.new (map (λ body. body.items) bodies.now)) }
+    ensures any_moment { StandsFor book.old (map (λ body. body.items) bodies.now)
+        → LeavesOnly D.moment D.left_since (disk_of book.old) (disk_of book.new)
+        (λ image. HasBodies (layout_of book.old) image (map (λ body. body.items) bodies.now)) }
+    ensures failed { OnErr result (Fails (D.known (disk_of book.old)) (D.known (disk_of book.new))) }
+    ensures arms { (D.known (disk_of book.new)).arms ≡ (D.known (disk_of book.old)).arms }
+    ensures tells { is_some (D.known (disk_of book.new)).reads ≡ is_some (D.known (disk_of book.old)).reads }
+    ensures device { OnOk result (D.device_calls (disk_of book.new) ≡ D.device_calls (disk_of book.old)
+        + calls_before book.old (map (λ body. body.items) bodies.now)) }
+    ensures at_most { D.device_calls (disk_of book.new) ≤ D.device_calls (disk_of book.old)
+        + calls_before book.old (map (λ body. body.items) bodies.now) }
+{
+    if bodies.is_empty() {
+        return Ok(());
+    }
+    book.pack()
 }
 
 // What a restart comes to where none is ready.

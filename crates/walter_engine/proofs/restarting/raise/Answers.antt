@@ -1,27 +1,38 @@
-use Rattle.std.proofs.Common.{map, Bool, false, Option, None, refl, sym, ◌∙◌, subst, ap, inr, arith}
+use Rattle.std.proofs.Common.{◌<◌, map, Bool, true, false, Option, None, refl, sym, ◌∙◌, subst, ap, inr, arith}
 use Rattle.std.proofs.lemmas.Option.{IfSome_then}
 use Rattle.std.specs.Prelude.{IfSome, is_some}
 use Rattle.walter_base.specs.declared.catalog.Catalog.{Catalog}
 use Rattle.walter_base.specs.declared.message.Record.{Record}
 use Rattle.walter_base.specs.declared.names.SiteId.{SiteId}
-use Rattle.walter_engine.proofs.Raising.{rises, comes_of, comes_hindered, hindered_is, knows_here, stands_here, rests_next, raises_hindered}
+use Rattle.walter_checkpoint.specs.Books.{disk_of, shape_of}
+use Rattle.walter_disk.proofs.Moments.{joined}
+use Rattle.walter_disk.specs.Disks.{DiskState}
+use Rattle.walter_engine.proofs.Crashes.{stays_next}
+use Rattle.walter_engine.proofs.Packed.{made, unmade, for_shape, calls_behind, calls_before_same, goes_on_same, spelled_packed}
+use Rattle.walter_engine.proofs.Raising.{rises, comes_of, comes_hindered, hindered_is, knows_here, stands_here, kept_here, rests_next, raises_hindered, raises_wanting, raises_unpacked, packed_next}
+use Rattle.walter_engine.proofs.Room.{IsFor}
 use Rattle.walter_engine.proofs.Taking.{same_parts}
-use Rattle.walter_engine.proofs.Written.{faults_as, calls_as, sized_as}
+use Rattle.walter_engine.proofs.Written.{faults_as, same_faults, same_layout, sized_as}
 use Rattle.walter_engine.proofs.restarting.raise.Goals as goal
+use Rattle.walter_engine.specs.Contents.{MayHaveNext}
 use Rattle.walter_engine.specs.Effects.{IsRefusedOver}
 use Rattle.walter_engine.specs.Raises.{hindered_by}
 use Rattle.walter_engine.specs.Replays.{IsReadyOver}
-use Rattle.walter_journal.specs.Journals.{capacity_of}
+use Rattle.walter_engine.specs.Restarts.{ComesOf, left_over}
+use Rattle.walter_engine.specs.Stores.{layout_of}
+use Rattle.walter_engine.specs.Writings.{IsOutcomeOf}
 use Rattle.walter_machine.proofs.Sizes.{sized_only}
 use Rattle.walter_machine.specs.Comings.{is_faulty}
 use Rattle.walter_machine.specs.Machines.{catalog_in, site_in, IsCounted}
 use Rattle.walter_machine.specs.Readiness.{IsReadyFor, IsReadyAnyway}
 use Rattle.walter_rules.specs.declared.entry.Came.{Came}
 use Rattle.walter_rules.specs.declared.event.Event.TheVariants.{Restart}
+use Rattle.walter_rules.specs.declared.outcome.Outcome.{Outcome}
+use Rattle.walter_rules.specs.declared.outcome.Outcome.TheVariants.{Failed, Memory}
 use Rattle.walter_rules.specs.Knowledge.{Knowledge}
-use Rattle.walter_rules.specs.Layouts.{one_area}
+use Rattle.walter_rules.specs.Layouts.{Layout}
 use Rattle.walter_rules.specs.Standing.{up_after}
-use Rattle.walter_rules.specs.Trails.{only}
+use Rattle.walter_rules.specs.Trails.{only, TakesMemory}
 use Rattle.walter_tables.specs.declared.tables.Tables.{Tables}
 
 pub ready_over-requires-clause-here : goal.ready_over-requires-clause-here
@@ -36,60 +47,155 @@ pub ready_over-requires-clause-fewer : goal.ready_over-requires-clause-fewer
 ready_over-requires-clause-fewer g c =
     omega (arith, ap (λ (x : Catalog). x.sites) c.catalog.ensures, ap (λ (x : Catalog). x.tolerated) c.catalog.ensures, c.args.machine.now.fewer)
 
-pub write-came-requires-clause-anyway : goal.write-came-requires-clause-anyway
-write-came-requires-clause-anyway g c =
+pub spell_any-requires : goal.spell_any-requires
+spell_any-requires g c =
+    let over = same_parts (λ x k. IsReadyOver x k (map (λ body. body.items) c.args.bodies.now) c.in-Ok.ready) c.catalog.result.now (catalog_in c.args.machine.now) c.id.result (site_in c.args.machine.now) (sym c.catalog.ensures) (sym c.id.ensures) c.in-Ok.ensures.ready in
+    over.anyway.ready_for.sized.wrote
+
+-- memory ran out
+pub returns-in_default : goal.returns-in_default
+returns-in_default g c =
+    let same = c.spell_any.ensures.same in
+    let came = c.want.ensures.came in
+    record {
+      raises = λ layout S lies standing count.
+          raises_wanting {g = g.D.Disk} (catalog_in c.args.machine.now) layout (site_in c.args.machine.now) S c.args.book.now (map (λ body. body.items) c.args.bodies.now) lies g.met.D.Disk.size_is c.args.machine.now refl c.want.result
+          (c.want.ensures.stands S standing (subst (λ up. TakesMemory up Restart) (sym lies.down) tt)) c.spell_any.new.book same came;
+      any_moment = λ layout S lies.
+          stays_next {g = g.D.Disk} (catalog_in c.args.machine.now) layout (site_in c.args.machine.now) S Restart c.args.book.now lies.laid
+          (stands_here {g = g.D.Disk} (catalog_in c.args.machine.now) layout (site_in c.args.machine.now) S c.args.book.now (map (λ body. body.items) c.args.bodies.now) lies) c.spell_any.new.book same;
+      refused = tt;
+      over = subst (λ (o : Outcome). ComesOf (catalog_in c.args.machine.now) (site_in c.args.machine.now) (left_over (layout_of c.args.book.now) (map (λ body. body.items) c.args.bodies.now)) (map (λ body. body.items) c.args.bodies.now) c.want.result.wrote None o) (sym (ap (λ (x : Came). x.outcome) came)) refl;
+      up = ap is_some c.requires.down ∙ sym (ap (λ (x : Came). up_after Restart x.outcome false) came);
+      sized = sized_as _ c.want.result _ came (sized_only _ Memory tt);
+      none_sent = ap (λ (x : Came). x.sends) came;
+      none_dropped = ap (λ (x : Came). x.dropped) came;
+      none_kept = ap (λ (x : Came). x.kept) came;
+      faults = faults_as c.want.result false _ _ (ap (λ (x : Came). is_faulty x.outcome) came) (ap (λ (d : DiskState). d.faults) same.disk);
+      arms = ap (λ (d : DiskState). d.arms) same.disk;
+      tells = ap (λ (d : DiskState). is_some d.reads) same.disk;
+      device = record { all = rw (ap (λ (x : Came). x.wrote) came) tt; at_most = omega (arith, same.book.device) };
+      same = record { catalog = refl; id = refl };
+    }
+
+pub pack_any-requires-clause-pack_room : goal.pack_any-requires-clause-pack_room
+pack_any-requires-clause-pack_room g c = c.in-Ok-spell_any.ensures.pack_room c.requires.pack_room
+
+pub pack_any-requires-clause-ready : goal.pack_any-requires-clause-ready
+pack_any-requires-clause-ready g c = c.spell_any.ensures.same.book.ready _ c.requires.ready
+
+pub pack_any-requires-clause-goes_on : goal.pack_any-requires-clause-goes_on
+pack_any-requires-clause-goes_on g c = goes_on_same _ _ c.spell_any.ensures.same _ c.requires.goes_on
+
+-- the pack met a fault
+pub returns-then-is_err : goal.returns-then-is_err
+returns-then-is_err g c =
+    let bodies = map (λ body. body.items) c.args.bodies.now in
+    let same = c.spell_any.ensures.same in
+    let came = c.rest-then-is_err.ensures.came in
+    let failed = unmade c.pack_any.result (sym c.is_err.ensures.value ∙ c.if-is_err.true) c.pack_any.ensures.failed in
+    let calls = calls_before_same {g = g.D.Disk} c.args.book.now c.spell_any.new.book same bodies in
+    record {
+      raises = λ layout S lies standing count.
+          raises_unpacked {g = g.D.Disk} (catalog_in c.args.machine.now) layout (site_in c.args.machine.now) S c.args.book.now bodies lies g.met.D.Disk.size_is c.args.machine.now refl c.rest-then-is_err.result
+          (c.rest-then-is_err.ensures.stands S standing lies.down) c.spell_any.new.book same c.pack_any.new.book g.met.D.Disk.counts_now failed
+          (c.pack_any.ensures.any_moment (same.book.stands bodies lies.stands)) c.requires.down came;
+      any_moment = λ layout S lies.
+          packed_next {g = g.D.Disk} (catalog_in c.args.machine.now) layout (site_in c.args.machine.now) S c.args.book.now bodies lies c.spell_any.new.book same (disk_of c.pack_any.new.book)
+          (c.pack_any.ensures.any_moment (same.book.stands bodies lies.stands));
+      refused = tt;
+      over = subst (λ (o : Outcome). ComesOf (catalog_in c.args.machine.now) (site_in c.args.machine.now) (left_over (layout_of c.args.book.now) bodies) bodies c.rest-then-is_err.result.wrote None o) (sym (ap (λ (x : Came). x.outcome) came)) refl;
+      up = ap is_some c.requires.down ∙ sym (ap (λ (x : Came). up_after Restart x.outcome false) came);
+      sized = sized_as _ c.rest-then-is_err.result _ came (sized_only _ Failed tt);
+      none_sent = ap (λ (x : Came). x.sends) came;
+      none_dropped = ap (λ (x : Came). x.dropped) came;
+      none_kept = ap (λ (x : Came). x.kept) came;
+      faults = faults_as c.rest-then-is_err.result true _ _ (ap (λ (x : Came). is_faulty x.outcome) came)
+          (subst (λ (d : DiskState). d.faults < (g.D.Disk.known (disk_of c.pack_any.new.book)).faults) same.disk failed.rises);
+      arms = c.pack_any.ensures.arms ∙ ap (λ (d : DiskState). d.arms) same.disk;
+      tells = c.pack_any.ensures.tells ∙ ap (λ (d : DiskState). is_some d.reads) same.disk;
+      device = record { all = rw (ap (λ (x : Came). x.wrote) came) tt; at_most = omega (arith, same.book.device, c.pack_any.ensures.at_most, calls) };
+      same = record { catalog = refl; id = refl };
+    }
+
+pub put-came-requires-clause-anyway : goal.put-came-requires-clause-anyway
+put-came-requires-clause-anyway g c =
     let over = same_parts (λ x k. IsReadyOver x k (map (λ body. body.items) c.args.bodies.now) c.in-Ok.ready) c.catalog.result.now (catalog_in c.args.machine.now) c.id.result (site_in c.args.machine.now) (sym c.catalog.ensures) (sym c.id.ensures) c.in-Ok.ensures.ready in
     subst (λ (o : Option Tables). IsReadyAnyway (catalog_in c.args.machine.now) (site_in c.args.machine.now) o Restart c.in-Ok.ready) (sym c.requires.down) over.anyway
 
-pub returns-in-Ok-clause-raises : goal.returns-in-Ok-clause-raises
-returns-in-Ok-clause-raises g c S lies standing count =
-    let over = same_parts (λ x k. IsReadyOver x k (map (λ body. body.items) c.args.bodies.now) c.in-Ok.ready) c.catalog.result.now (catalog_in c.args.machine.now) c.id.result (site_in c.args.machine.now) (sym c.catalog.ensures) (sym c.id.ensures) c.in-Ok.ensures.ready in
-    let knows = knows_here {g = g.D.Disk} (catalog_in c.args.machine.now) (site_in c.args.machine.now) S c.args.journal.now (map (λ body. body.items) c.args.bodies.now) lies over.records over.tell in
-    let ready_for = subst (λ (o : Option Tables). IsReadyFor (catalog_in c.args.machine.now) (site_in c.args.machine.now) o S Restart c.in-Ok.ready) (sym c.requires.down) (over.ready_for S lies.down knows) in
-    let counted = subst (λ (o : Option Record). IsCounted c.args.machine.now S o) (sym over.boots) count in
-    let stands = stands_here {g = g.D.Disk} (catalog_in c.args.machine.now) (site_in c.args.machine.now) S c.args.journal.now (map (λ body. body.items) c.args.bodies.now) lies in
+pub put-came-requires-clause-spelled : goal.put-came-requires-clause-spelled
+put-came-requires-clause-spelled g c =
+    let packed = made c.pack_any.result (sym c.is_err.ensures.value ∙ c.if-is_err.false) c.pack_any.ensures.packed in
+    spelled_packed {g = g.D.Disk} c.spell_any.new.book c.pack_any.new.book _ c.in-Ok-spell_any.body c.in-Ok-spell_any.ensures.spelled
+    (c.in-Ok-spell_any.ensures.behind (map (λ body. body.items) c.args.bodies.now) c.requires.ready) packed.room
+
+pub returns : goal.returns
+returns g c =
+    let bodies = map (λ body. body.items) c.args.bodies.now in
+    let catalog = catalog_in c.args.machine.now in
+    let i = site_in c.args.machine.now in
+    let ready = c.in-Ok.ready in
+    let same = c.spell_any.ensures.same in
+    let packed = made c.pack_any.result (sym c.is_err.ensures.value ∙ c.if-is_err.false) c.pack_any.ensures.packed in
+    let over = same_parts (λ x k. IsReadyOver x k bodies ready) c.catalog.result.now catalog c.id.result i (sym c.catalog.ensures) (sym c.id.ensures) c.in-Ok.ensures.ready in
+    let laid = same_layout {g = g.D.Disk} c.args.book.now c.spell_any.new.book same.book.shape same.book.live in
+    let device = made c.pack_any.result (sym c.is_err.ensures.value ∙ c.if-is_err.false) c.pack_any.ensures.device in
+    let calls = calls_before_same {g = g.D.Disk} c.args.book.now c.spell_any.new.book same bodies in
     record {
-      comes = inr (c.write-came.ensures.comes S standing counted ready_for lies.spelled stands);
-      leaves = c.write-came.ensures.leaves S standing counted ready_for lies.spelled stands;
-      last = tt;
-      takes_none = λ last. absurd (over.left (ap (λ (K : Knowledge). K.epoch) knows ∙ last));
+      raises = λ layout S lies standing count.
+          let knows = knows_here {g = g.D.Disk} catalog layout i S c.args.book.now bodies lies over.records over.tell in
+          let ready_for = subst (λ (o : Option Tables). IsReadyFor catalog i o S Restart ready) (sym c.requires.down) (over.ready_for S lies.down knows) in
+          let counted = subst (λ (o : Option Record). IsCounted c.args.machine.now S o) (sym over.boots) count in
+          let kept = kept_here {g = g.D.Disk} catalog layout i S c.args.book.now bodies lies (shape_of c.args.book.now).sites
+          (subst (IsFor (shape_of c.args.book.now).sites) lies.laid (for_shape (shape_of c.args.book.now) c.args.book.now.live))
+          c.requires.sites c.spell_any.new.book c.pack_any.new.book same packed in
+          record {
+            comes = inr (c.put-came.ensures.comes layout S standing counted ready_for lies.spelled kept);
+            leaves = c.put-came.ensures.leaves layout S standing counted ready_for lies.spelled kept;
+            last = tt;
+            takes_none = λ last. absurd (over.left (ap (λ (K : Knowledge). K.epoch) knows ∙ last));
+          };
+      any_moment = λ layout S lies.
+          let knows = knows_here {g = g.D.Disk} catalog layout i S c.args.book.now bodies lies over.records over.tell in
+          let ready_for = subst (λ (o : Option Tables). IsReadyFor catalog i o S Restart ready) (sym c.requires.down) (over.ready_for S lies.down knows) in
+          let kept = kept_here {g = g.D.Disk} catalog layout i S c.args.book.now bodies lies (shape_of c.args.book.now).sites
+          (subst (IsFor (shape_of c.args.book.now).sites) lies.laid (for_shape (shape_of c.args.book.now) c.args.book.now.live))
+          c.requires.sites c.spell_any.new.book c.pack_any.new.book same packed in
+          joined g.D.Disk.moment g.D.Disk.left_since (disk_of c.args.book.now) (disk_of c.pack_any.new.book) (disk_of c.put-came.new.book) (MayHaveNext catalog layout i S Restart None)
+          (packed_next {g = g.D.Disk} catalog layout i S c.args.book.now bodies lies c.spell_any.new.book same (disk_of c.pack_any.new.book)
+          (c.pack_any.ensures.any_moment (same.book.stands bodies lies.stands)))
+          (c.put-came.ensures.any_moment layout S ready_for kept);
+      refused = tt;
+      over = comes_of catalog i _ bodies ready over _ _
+          (subst (λ n. IsOutcomeOf Restart ready n c.put-came.result.0.outcome) (packed.left ∙ ap (λ (l : Layout). left_over l bodies) laid) c.put-came.ensures.outcome)
+          c.put-came.ensures.wrote;
+      up = c.put-came.ensures.up ∙ ap (λ (up : Bool). up_after Restart c.put-came.result.0.outcome up) (ap is_some c.requires.down);
+      sized = c.put-came.ensures.sized;
+      none_sent = c.put-came.ensures.sent (rises _ _ ready _ over.anyway over.boots).1;
+      none_dropped = c.put-came.ensures.none_dropped;
+      none_kept = c.put-came.ensures.none_kept;
+      faults = same_faults c.put-came.result.0 _ _ _ (packed.faultless ∙ ap (λ (d : DiskState). d.faults) same.disk) c.put-came.ensures.faults;
+      arms = c.put-came.ensures.arms ∙ (c.pack_any.ensures.arms ∙ ap (λ (d : DiskState). d.arms) same.disk);
+      tells = c.put-came.ensures.tells ∙ (c.pack_any.ensures.tells ∙ ap (λ (d : DiskState). is_some d.reads) same.disk);
+      device = calls_behind c.put-came.result.0 _ _ _ _ (omega (arith, device, same.book.device, calls)) c.put-came.ensures.device;
+      same = c.put-came.ensures.same;
     }
-
-pub returns-in-Ok-clause-any_moment : goal.returns-in-Ok-clause-any_moment
-returns-in-Ok-clause-any_moment g c S lies =
-    let over = same_parts (λ x k. IsReadyOver x k (map (λ body. body.items) c.args.bodies.now) c.in-Ok.ready) c.catalog.result.now (catalog_in c.args.machine.now) c.id.result (site_in c.args.machine.now) (sym c.catalog.ensures) (sym c.id.ensures) c.in-Ok.ensures.ready in
-    let knows = knows_here {g = g.D.Disk} (catalog_in c.args.machine.now) (site_in c.args.machine.now) S c.args.journal.now (map (λ body. body.items) c.args.bodies.now) lies over.records over.tell in
-    let ready_for = subst (λ (o : Option Tables). IsReadyFor (catalog_in c.args.machine.now) (site_in c.args.machine.now) o S Restart c.in-Ok.ready) (sym c.requires.down) (over.ready_for S lies.down knows) in
-    c.write-came.ensures.any_moment S ready_for (stands_here {g = g.D.Disk} (catalog_in c.args.machine.now) (site_in c.args.machine.now) S c.args.journal.now (map (λ body. body.items) c.args.bodies.now) lies)
-
-pub returns-in-Ok-clause-over : goal.returns-in-Ok-clause-over
-returns-in-Ok-clause-over g c =
-    let over = same_parts (λ x k. IsReadyOver x k (map (λ body. body.items) c.args.bodies.now) c.in-Ok.ready) c.catalog.result.now (catalog_in c.args.machine.now) c.id.result (site_in c.args.machine.now) (sym c.catalog.ensures) (sym c.id.ensures) c.in-Ok.ensures.ready in
-    comes_of (catalog_in c.args.machine.now) (site_in c.args.machine.now) _ (map (λ body. body.items) c.args.bodies.now) c.in-Ok.ready over _ _
-    c.write-came.ensures.outcome c.write-came.ensures.wrote
-
-pub returns-in-Ok-clause-up : goal.returns-in-Ok-clause-up
-returns-in-Ok-clause-up g c =
-    c.write-came.ensures.up ∙ ap (λ (up : Bool). up_after Restart c.write-came.result.0.outcome up) (ap is_some c.requires.down)
-
-pub returns-in-Ok-clause-none_sent : goal.returns-in-Ok-clause-none_sent
-returns-in-Ok-clause-none_sent g c =
-    c.write-came.ensures.sent (rises _ _ c.in-Ok.ready _ c.in-Ok.ensures.ready.anyway c.in-Ok.ensures.ready.boots).1
 
 pub rest-requires : goal.rest-requires
 rest-requires g c = rw c.hindrance.ensures (hindered_is c.in-Err.why).0
 
+-- none is ready
 pub returns-in-Err : goal.returns-in-Err
 returns-in-Err g c =
     let why = c.in-Err.why in
     let refused = same_parts (λ x k. IfSome why (IsRefusedOver x k (map (λ body. body.items) c.args.bodies.now))) c.catalog.result.now (catalog_in c.args.machine.now) c.id.result (site_in c.args.machine.now) (sym c.catalog.ensures) (sym c.id.ensures) c.in-Err.ensures.refused in
     let came = c.rest.ensures.came ∙ ap only c.hindrance.ensures in
     record {
-      raises = λ S lies standing count.
-          raises_hindered {g = g.D.Disk} (catalog_in c.args.machine.now) (site_in c.args.machine.now) S c.args.journal.now (map (λ body. body.items) c.args.bodies.now) lies g.met.D.Disk.size_is c.args.machine.now refl (one_area (capacity_of c.args.journal.now)) c.rest.result
+      raises = λ layout S lies standing count.
+          raises_hindered {g = g.D.Disk} (catalog_in c.args.machine.now) layout (site_in c.args.machine.now) S c.args.book.now (map (λ body. body.items) c.args.bodies.now) lies g.met.D.Disk.size_is c.args.machine.now refl c.rest.result
           (c.rest.ensures.stands S standing lies.down) why refused came;
-      any_moment = λ S lies.
-          rests_next {g = g.D.Disk} (catalog_in c.args.machine.now) (site_in c.args.machine.now) S c.args.journal.now (map (λ body. body.items) c.args.bodies.now) lies g.met.D.Disk.only_now;
+      any_moment = λ layout S lies.
+          rests_next {g = g.D.Disk} (catalog_in c.args.machine.now) layout (site_in c.args.machine.now) S c.args.book.now (map (λ body. body.items) c.args.bodies.now) lies g.met.D.Disk.only_now;
       refused = IfSome_then why refused (λ cause over. (refl, over));
       over = comes_hindered (catalog_in c.args.machine.now) (site_in c.args.machine.now) _ (map (λ body. body.items) c.args.bodies.now) _ _ why refused
           (ap (λ (x : Came). x.outcome) came);
@@ -101,7 +207,6 @@ returns-in-Err g c =
       faults = faults_as c.rest.result false _ _ (ap (λ (x : Came). is_faulty x.outcome) came ∙ (hindered_is why).2) refl;
       arms = refl;
       tells = refl;
-      device = calls_as c.rest.result None None _ _ (ap (λ (x : Came). x.wrote) came) (ap (λ (x : Came). x.flight) came) refl;
-      capacity = refl;
+      device = record { all = rw (ap (λ (x : Came). x.wrote) came) tt; at_most = omega arith };
       same = record { catalog = refl; id = refl };
     }

@@ -1,22 +1,19 @@
-use Rattle.std.proofs.Common.{◌≡◌, [], rules, ◌≤◌, ◌+◌, ℕ, List, length, map, true, false, Some, None, sym, ◌∙◌, subst, ap, inl, inr, refl, arith}
-use Rattle.std.specs.Prelude.{IsSome, is_some}
-use Rattle.walter_base.specs.Sizes.{CanBeRecorded}
+use Rattle.std.proofs.Common.{◌≡◌, [], map, false, None, sym, ◌∙◌, subst, ap, inl, inr, refl}
+use Rattle.std.specs.Prelude.{is_some}
+use Rattle.walter_checkpoint.specs.Books.{disk_of}
+use Rattle.walter_disk.proofs.Moments.{joined}
 use Rattle.walter_disk.specs.Disks.{DiskState}
-use Rattle.walter_engine.proofs.Bodies.{some_is}
-use Rattle.walter_engine.proofs.Crashes.{stays_next, appends_next}
-use Rattle.walter_engine.proofs.Room.{short_enough, need_is}
-use Rattle.walter_engine.proofs.Written.{is_taken, spelling_some, spelling_none, full_is, failed_is, failure_is, want_is, fullness_is, holds_none, takes_memory, faults_as, calls_as, sized_as, sized_flying, brings, has, fits_here, lacks_here, leaves_same, leaves_more, leaves_flying}
+use Rattle.walter_engine.proofs.Crashes.{stays_next}
+use Rattle.walter_engine.proofs.Written.{is_taken, want_is, takes_memory, faults_as, calls_as, sized_as, leaves_kept, same_kept, same_left, same_faults, same_calls, ups_same}
 use Rattle.walter_engine.proofs.writing.write.Goals as goal
-use Rattle.walter_journal.specs.Journals.{disk_of, capacity_of, left_of, need_of, HasRoom, StandsFor}
-use Rattle.walter_journal.specs.declared.journal.Journal.{Journal}
-use Rattle.walter_record.specs.Spelling.{record_spelled}
+use Rattle.walter_engine.specs.Contents.{MayHaveNext}
+use Rattle.walter_engine.specs.Writings.{IsOutcomeOf}
 use Rattle.walter_machine.proofs.Sizes.{sized_only}
 use Rattle.walter_machine.specs.Comings.{is_faulty}
-use Rattle.walter_machine.specs.Machines.{catalog_in, site_in, tables_in, is_up}
+use Rattle.walter_machine.specs.Machines.{catalog_in, site_in, is_up}
 use Rattle.walter_machine.specs.Readiness.{rec_in}
 use Rattle.walter_packet.specs.Framed.{frame_of}
-use Rattle.walter_rules.specs.Layouts.{FitsIn, one_area}
-use Rattle.walter_rules.specs.Trails.{only, failure, want, fullness}
+use Rattle.walter_rules.specs.Trails.{want}
 use Rattle.walter_rules.specs.Sending.{Send}
 use Rattle.walter_rules.specs.Standing.{up_after}
 use Rattle.walter_rules.specs.declared.entry.Came.{Came}
@@ -24,19 +21,52 @@ use Rattle.walter_rules.specs.declared.entry.Came.{Came}
 pub spell_any-requires : goal.spell_any-requires
 spell_any-requires g c = c.requires.anyway.ready_for.sized.wrote
 
+-- the book has room for what is spelled
+pub returns-in-Ok : goal.returns-in-Ok
+returns-in-Ok g c =
+    let same = c.spell_any.ensures.same in
+    let put = c.put.ensures in
+    record {
+      comes = λ layout S standing counted ready_for spelled kept.
+          put.comes layout S standing counted ready_for spelled (same_kept layout S _ _ same kept);
+      leaves = λ layout S standing counted ready_for spelled kept.
+          put.leaves layout S standing counted ready_for spelled (same_kept layout S _ _ same kept);
+      any_moment = λ layout S ready_for kept.
+          joined g.D.Disk.moment g.D.Disk.left_since (disk_of c.args.book.now) (disk_of c.spell_any.new.book) (disk_of c.put.new.book)
+          (MayHaveNext (catalog_in c.args.machine.now) layout (site_in c.args.machine.now) S c.args.event.now None)
+          (stays_next {g = g.D.Disk} (catalog_in c.args.machine.now) layout (site_in c.args.machine.now) S c.args.event.now c.args.book.now kept.laid kept.stands c.spell_any.new.book same)
+          (put.any_moment layout S ready_for (same_kept layout S _ _ same kept));
+      outcome = subst (λ left. IsOutcomeOf c.args.event.now c.args.ready left c.put.result.0.outcome) (same_left _ _ same) put.outcome;
+      up = put.up;
+      sent = put.sent;
+      wrote = put.wrote;
+      untouched = λ none. put.untouched none ∙ ap disk_of (c.spell_any.ensures.untouched none);
+      sized = put.sized;
+      framed = put.framed;
+      none_dropped = put.none_dropped;
+      none_kept = put.none_kept;
+      faults = same_faults c.put.result.0 _ _ _ (ap (λ (d : DiskState). d.faults) same.disk) put.faults;
+      arms = put.arms ∙ ap (λ (d : DiskState). d.arms) same.disk;
+      tells = put.tells ∙ ap (λ (d : DiskState). is_some d.reads) same.disk;
+      device = same_calls c.put.result.0 _ _ _ same.book.device put.device;
+      same = put.same;
+    }
+
 -- memory ran out
 pub returns-in-Err : goal.returns-in-Err
 returns-in-Err g c =
     let came = c.want.ensures.came in
+    let same = c.spell_any.ensures.same in
     record {
-      comes = λ S standing counted ready_for spelled stands.
-          c.want.ensures.comes _ S (takes_memory (rec_in c.args.ready) _ c.in-Err.ensures.free ready_for.takes);
-      leaves = λ S standing counted ready_for spelled stands.
-          leaves_same {g = g.D.Disk} g.met.D.Disk.size_is (catalog_in c.args.machine.now) (site_in c.args.machine.now) S c.args.event.now spelled c.args.machine.now refl
-          c.want.result (c.want.ensures.stands S standing (takes_memory (rec_in c.args.ready) _ c.in-Err.ensures.free ready_for.takes)) c.spell_any.new.journal (c.in-Err.ensures.same.stands _ stands)
+      comes = λ layout S standing counted ready_for spelled kept.
+          c.want.ensures.comes layout S (takes_memory (rec_in c.args.ready) _ c.in-Err.ensures.free ready_for.takes);
+      leaves = λ layout S standing counted ready_for spelled kept.
+          leaves_kept {g = g.D.Disk} g.met.D.Disk.size_is (catalog_in c.args.machine.now) layout (site_in c.args.machine.now) S c.args.event.now spelled c.args.machine.now refl
+          c.want.result (c.want.ensures.stands S standing (takes_memory (rec_in c.args.ready) _ c.in-Err.ensures.free ready_for.takes)) c.spell_any.new.book (same_kept layout S _ _ same kept)
+          (ups_same (catalog_in c.args.machine.now) (site_in c.args.machine.now) S c.args.event.now c.want.result (want c.args.event.now) (ap (λ (x : Came). x.outcome) came) ((want_is c.args.event.now).3 S.up))
           (ap (λ (x : Came). x.wrote) came) (ap (λ (x : Came). x.flight) came);
-      any_moment = λ S ready_for stands.
-          stays_next {g = g.D.Disk} c.args.journal.now c.spell_any.new.journal c.in-Err.ensures.same (catalog_in c.args.machine.now) (site_in c.args.machine.now) S c.args.event.now stands;
+      any_moment = λ layout S ready_for kept.
+          stays_next {g = g.D.Disk} (catalog_in c.args.machine.now) layout (site_in c.args.machine.now) S c.args.event.now c.args.book.now kept.laid kept.stands c.spell_any.new.book same;
       outcome = inr (inl (ap (λ (x : Came). x.outcome) came));
       up = sym (ap (λ (x : Came). up_after c.args.event.now x.outcome (is_up c.args.machine.now)) came ∙ (want_is c.args.event.now).3 (is_up c.args.machine.now));
       sent = λ none. ap (λ (x : Came). x.sends) came;
@@ -49,196 +79,9 @@ returns-in-Err g c =
       none_dropped = ap (λ (x : Came). x.dropped) came;
       none_kept = ap (λ (x : Came). x.kept) came;
       faults = faults_as c.want.result false _ _ (ap (λ (x : Came). is_faulty x.outcome) came ∙ (want_is c.args.event.now).0)
-          (ap (λ (d : DiskState). d.faults) c.in-Err.ensures.same.disk);
-      arms = ap (λ (d : DiskState). d.arms) c.in-Err.ensures.same.disk;
-      tells = ap (λ (d : DiskState). is_some d.reads) c.in-Err.ensures.same.disk;
-      device = calls_as c.want.result None None _ _ (ap (λ (x : Came). x.wrote) came) (ap (λ (x : Came). x.flight) came) c.in-Err.ensures.same.device;
-      capacity = c.in-Err.ensures.same.capacity;
+          (ap (λ (d : DiskState). d.faults) same.disk);
+      arms = ap (λ (d : DiskState). d.arms) same.disk;
+      tells = ap (λ (d : DiskState). is_some d.reads) same.disk;
+      device = calls_as c.want.result None None _ _ (ap (λ (x : Came). x.wrote) came) (ap (λ (x : Came). x.flight) came) same.book.device;
       same = record { catalog = refl; id = refl };
-    }
-
--- there is no record
-pub returns-in_default : goal.returns-in_default
-returns-in_default g c =
-    let came = c.keep.ensures.came in
-    let free = spelling_none {g = g.D.Disk} c.spell_any.new.journal (rec_in c.args.ready) c.in-Ok.body c.in-Ok.ensures.spelled c.in_default.is in
-    record {
-      comes = λ S standing counted ready_for spelled stands.
-          c.keep.ensures.comes _ S ready_for (holds_none (FitsIn (one_area (capacity_of c.args.journal.now)) S) (rec_in c.args.ready) free);
-      leaves = λ S standing counted ready_for spelled stands.
-          leaves_same {g = g.D.Disk} g.met.D.Disk.size_is (catalog_in c.args.machine.now) (site_in c.args.machine.now) S c.args.event.now spelled c.keep.new.self c.keep.ensures.same.catalog
-          c.keep.result.0 (c.keep.ensures.stands S standing counted ready_for) c.spell_any.new.journal (c.in-Ok.ensures.same.stands _ stands)
-          (ap (λ (x : Came). x.wrote) came ∙ free) (ap (λ (x : Came). x.flight) came);
-      any_moment = λ S ready_for stands.
-          stays_next {g = g.D.Disk} c.args.journal.now c.spell_any.new.journal c.in-Ok.ensures.same (catalog_in c.args.machine.now) (site_in c.args.machine.now) S c.args.event.now stands;
-      outcome = inl (ap (λ (x : Came). x.outcome) came);
-      up = c.keep.ensures.up;
-      sent = λ none. ap (λ (x : Came). x.sends) came ∙ none;
-      wrote = λ taken. ap (λ (x : Came). x.wrote) came;
-      untouched = λ none. ap disk_of (c.in-Ok.ensures.untouched none);
-      sized = sized_as _ c.keep.result.0 _ came c.requires.anyway.ready_for.sized;
-      framed = c.keep.ensures.framed ∙ c.requires.anyway.ready_for.framed
-          ∙ ap (λ (x : Came). map (λ (e : Send). frame_of (catalog_in c.args.machine.now).sites e.1) x.sends) (sym came);
-      none_dropped = ap (λ (x : Came). x.dropped) came;
-      none_kept = ap (λ (x : Came). x.kept) came;
-      faults = faults_as c.keep.result.0 false _ _ (ap (λ (x : Came). is_faulty x.outcome) came ∙ c.requires.anyway.ready_for.fine)
-          (ap (λ (d : DiskState). d.faults) c.in-Ok.ensures.same.disk);
-      arms = ap (λ (d : DiskState). d.arms) c.in-Ok.ensures.same.disk;
-      tells = ap (λ (d : DiskState). is_some d.reads) c.in-Ok.ensures.same.disk;
-      device = calls_as c.keep.result.0 None None _ _ (ap (λ (x : Came). x.wrote) came ∙ free) (ap (λ (x : Came). x.flight) came) c.in-Ok.ensures.same.device;
-      capacity = c.in-Ok.ensures.same.capacity;
-      same = c.keep.ensures.same;
-    }
-
--- its record is appended
-pub append-requires-clause-short : goal.append-requires-clause-short
-append-requires-clause-short g c =
-    let s = spelling_some {g = g.D.Disk} c.spell_any.new.journal (rec_in c.args.ready) c.in-Ok.body c.in-Some.body c.in-Ok.ensures.spelled c.in-Some.is in
-    let can = some_is CanBeRecorded (rec_in c.args.ready) s.0 s.1 c.requires.anyway.ready_for.sized.wrote in
-    let is = c.as_slice.ensures ∙ s.2.is in
-    subst (λ (b : List ℕ). length b ≤ 65536) (sym is) (short_enough s.0 can)
-
-pub append-requires-clause-room : goal.append-requires-clause-room
-append-requires-clause-room g c =
-    let s = spelling_some {g = g.D.Disk} c.spell_any.new.journal (rec_in c.args.ready) c.in-Ok.body c.in-Some.body c.in-Ok.ensures.spelled c.in-Some.is in
-    subst (λ (b : List ℕ). HasRoom {g = g.D.Disk} c.spell_any.new.journal (length b)) (sym c.as_slice.ensures) s.2.room
-
-pub returns-in-Ok-append : goal.returns-in-Ok-append
-returns-in-Ok-append g c =
-    let s = spelling_some {g = g.D.Disk} c.spell_any.new.journal (rec_in c.args.ready) c.in-Ok.body c.in-Some.body c.in-Ok.ensures.spelled c.in-Some.is in
-    let can = some_is CanBeRecorded (rec_in c.args.ready) s.0 s.1 c.requires.anyway.ready_for.sized.wrote in
-    let is = c.as_slice.ensures ∙ s.2.is in
-    let came = c.keep-in-Ok-append.ensures.came in
-    record {
-      comes = λ S standing counted ready_for spelled stands.
-          c.keep-in-Ok-append.ensures.comes _ S ready_for (fits_here (catalog_in c.args.machine.now) (site_in c.args.machine.now) (tables_in c.args.machine.now) S c.args.event.now c.args.ready ready_for s.0 s.1 {g = g.D.Disk} c.spell_any.new.journal (capacity_of c.args.journal.now) c.in-Ok.ensures.same.capacity spelled
-          (c.in-Ok.ensures.same.stands _ stands) can c.as_slice.result.now is c.in-Ok-append.ensures.ok.fits);
-      leaves = λ S standing counted ready_for spelled stands.
-          leaves_more {g = g.D.Disk} g.met.D.Disk.size_is (catalog_in c.args.machine.now) (site_in c.args.machine.now) S c.args.event.now spelled c.keep-in-Ok-append.new.self c.keep-in-Ok-append.ensures.same.catalog
-          c.keep-in-Ok-append.result.0 (c.keep-in-Ok-append.ensures.stands S standing counted ready_for) c.append.new.self c.spell_any.new.journal s.0 c.as_slice.result.now
-          (c.in-Ok.ensures.same.stands _ stands) is (has (catalog_in c.args.machine.now) (site_in c.args.machine.now) (tables_in c.args.machine.now) S c.args.event.now c.args.ready ready_for s.0 s.1 s.2.ranges) c.in-Ok-append.ensures.ok
-          (ap (λ (x : Came). x.wrote) came ∙ s.1) (ap (λ (x : Came). x.flight) came);
-      any_moment = λ S ready_for stands.
-          appends_next {g = g.D.Disk} c.args.journal.now c.spell_any.new.journal c.in-Ok.ensures.same (catalog_in c.args.machine.now) (site_in c.args.machine.now) S c.args.event.now stands c.append.new.self s.0 c.as_slice.result.now
-          (brings (catalog_in c.args.machine.now) (site_in c.args.machine.now) (tables_in c.args.machine.now) S c.args.event.now c.args.ready ready_for s.0 s.1) is (c.append.ensures.any_moment _ (c.in-Ok.ensures.same.stands _ stands));
-      outcome = inl (ap (λ (x : Came). x.outcome) came);
-      up = c.keep-in-Ok-append.ensures.up;
-      sent = λ none. ap (λ (x : Came). x.sends) came ∙ none;
-      wrote = λ taken. ap (λ (x : Came). x.wrote) came;
-      untouched = λ none. absurd (let e = sym none ∙ s.1 in cc);
-      sized = sized_as _ c.keep-in-Ok-append.result.0 _ came c.requires.anyway.ready_for.sized;
-      framed = c.keep-in-Ok-append.ensures.framed ∙ c.requires.anyway.ready_for.framed
-          ∙ ap (λ (x : Came). map (λ (e : Send). frame_of (catalog_in c.args.machine.now).sites e.1) x.sends) (sym came);
-      none_dropped = ap (λ (x : Came). x.dropped) came;
-      none_kept = ap (λ (x : Came). x.kept) came;
-      faults = faults_as c.keep-in-Ok-append.result.0 false _ _ (ap (λ (x : Came). is_faulty x.outcome) came ∙ c.requires.anyway.ready_for.fine)
-          (c.in-Ok-append.ensures.ok.faultless ∙ ap (λ (d : DiskState). d.faults) c.in-Ok.ensures.same.disk);
-      arms = c.append.ensures.arms ∙ ap (λ (d : DiskState). d.arms) c.in-Ok.ensures.same.disk;
-      tells = c.append.ensures.tells ∙ ap (λ (d : DiskState). is_some d.reads) c.in-Ok.ensures.same.disk;
-      device = calls_as c.keep-in-Ok-append.result.0 (Some s.0) None _ _ (ap (λ (x : Came). x.wrote) came ∙ s.1)
-          (ap (λ (x : Came). x.flight) came) (c.in-Ok-append.ensures.device ∙ ap (λ (n : ℕ). n + 4) c.in-Ok.ensures.same.device);
-      capacity = c.append.ensures.capacity ∙ c.in-Ok.ensures.same.capacity;
-      same = c.keep-in-Ok-append.ensures.same;
-    }
-
--- it meets a fault
-pub fail-requires-clause-flies : goal.fail-requires-clause-flies
-fail-requires-clause-flies g c =
-    let s = spelling_some {g = g.D.Disk} c.spell_any.new.journal (rec_in c.args.ready) c.in-Ok.body c.in-Some.body c.in-Ok.ensures.spelled c.in-Some.is in
-    ap is_some s.1
-
-pub returns-in-Err-Failed : goal.returns-in-Err-Failed
-returns-in-Err-Failed g c =
-    let s = spelling_some {g = g.D.Disk} c.spell_any.new.journal (rec_in c.args.ready) c.in-Ok.body c.in-Some.body c.in-Ok.ensures.spelled c.in-Some.is in
-    let can = some_is CanBeRecorded (rec_in c.args.ready) s.0 s.1 c.requires.anyway.ready_for.sized.wrote in
-    let is = c.as_slice.ensures ∙ s.2.is in
-    let came = some_is (λ rec. c.fail.result ≡ record (only (failure c.args.event.now rec)) { flight = Some rec }) (rec_in c.args.ready) s.0 s.1 c.fail.ensures.came in
-    let failed = failed_is c.append.result (need_of c.as_slice.result.now) (left_of c.spell_any.new.journal) _ _ _ c.append.ensures.full c.append.ensures.failed c.in-Err-Failed.field-0 c.in-Err-Failed.is c.in-Err-Failed.field-0-is in
-    record {
-      comes = λ S standing counted ready_for spelled stands. c.fail.ensures.comes _ S ready_for (fits_here (catalog_in c.args.machine.now) (site_in c.args.machine.now) (tables_in c.args.machine.now) S c.args.event.now c.args.ready ready_for s.0 s.1 {g = g.D.Disk} c.spell_any.new.journal (capacity_of c.args.journal.now) c.in-Ok.ensures.same.capacity spelled
-          (c.in-Ok.ensures.same.stands _ stands) can c.as_slice.result.now is failed.0);
-      leaves = λ S standing counted ready_for spelled stands.
-          leaves_flying {g = g.D.Disk} g.met.D.Disk.size_is (catalog_in c.args.machine.now) (site_in c.args.machine.now) S c.args.event.now spelled c.fail.new.self c.fail.ensures.same.catalog
-          c.fail.result (c.fail.ensures.stands S standing counted ready_for) c.append.new.self c.spell_any.new.journal s.0 c.as_slice.result.now
-          (c.in-Ok.ensures.same.stands _ stands) is (has (catalog_in c.args.machine.now) (site_in c.args.machine.now) (tables_in c.args.machine.now) S c.args.event.now c.args.ready ready_for s.0 s.1 s.2.ranges) g.met.D.Disk.counts_now failed.1
-          (c.append.ensures.any_moment _ (c.in-Ok.ensures.same.stands _ stands)) c.fail.ensures.down
-          (ap (λ (x : Came). x.wrote) came) (ap (λ (x : Came). x.flight) came);
-      any_moment = λ S ready_for stands.
-          appends_next {g = g.D.Disk} c.args.journal.now c.spell_any.new.journal c.in-Ok.ensures.same (catalog_in c.args.machine.now) (site_in c.args.machine.now) S c.args.event.now stands c.append.new.self s.0 c.as_slice.result.now
-          (brings (catalog_in c.args.machine.now) (site_in c.args.machine.now) (tables_in c.args.machine.now) S c.args.event.now c.args.ready ready_for s.0 s.1) is (c.append.ensures.any_moment _ (c.in-Ok.ensures.same.stands _ stands));
-      outcome = inr (inr (inl (s.0, ap (λ (x : Came). x.outcome) came)));
-      up = ap is_some c.fail.ensures.down
-          ∙ sym (ap (λ (x : Came). up_after c.args.event.now x.outcome (is_up c.args.machine.now)) came ∙ (failure_is c.args.event.now s.0).3 (is_up c.args.machine.now));
-      sent = λ none. ap (λ (x : Came). x.sends) came;
-      wrote = λ taken. absurd (let e = sym (ap is_taken taken) ∙ ap (λ (x : Came). is_taken x.outcome) came ∙ (failure_is c.args.event.now s.0).4 in cc);
-      untouched = λ none. absurd (let e = sym none ∙ s.1 in cc);
-      sized = sized_as _ c.fail.result _ came (sized_flying _ c.args.event.now s.0 can);
-      framed =
-          let none : map (λ (e : Send). frame_of (catalog_in c.args.machine.now).sites e.1) c.fail.result.sends ≡ [] = ap (λ (x : Came). map (λ (e : Send). frame_of (catalog_in c.args.machine.now).sites e.1) x.sends) came in
-          cc;
-      none_dropped = ap (λ (x : Came). x.dropped) came;
-      none_kept = ap (λ (x : Came). x.kept) came;
-      faults = faults_as c.fail.result true _ _ (ap (λ (x : Came). is_faulty x.outcome) came ∙ (failure_is c.args.event.now s.0).0)
-          (omega (arith, failed.1.rises, ap (λ (d : DiskState). d.faults) c.in-Ok.ensures.same.disk));
-      arms = c.append.ensures.arms ∙ ap (λ (d : DiskState). d.arms) c.in-Ok.ensures.same.disk;
-      tells = c.append.ensures.tells ∙ ap (λ (d : DiskState). is_some d.reads) c.in-Ok.ensures.same.disk;
-      device = calls_as c.fail.result None (Some s.0) _ _ (ap (λ (x : Came). x.wrote) came) (ap (λ (x : Came). x.flight) came)
-          (omega (arith, c.append.ensures.at_most, c.in-Ok.ensures.same.device));
-      capacity = c.append.ensures.capacity ∙ c.in-Ok.ensures.same.capacity;
-      same = c.fail.ensures.same;
-    }
-
--- it finds no place
-pub overflow-requires : goal.overflow-requires
-overflow-requires g c =
-    let s = spelling_some {g = g.D.Disk} c.spell_any.new.journal (rec_in c.args.ready) c.in-Ok.body c.in-Some.body c.in-Ok.ensures.spelled c.in-Some.is in
-    let some : IsSome (rec_in c.args.ready) = ap is_some s.1 in
-    search rules
-
-pub returns : goal.returns
-returns g c =
-    let s = spelling_some {g = g.D.Disk} c.spell_any.new.journal (rec_in c.args.ready) c.in-Ok.body c.in-Some.body c.in-Ok.ensures.spelled c.in-Some.is in
-    let can = some_is CanBeRecorded (rec_in c.args.ready) s.0 s.1 c.requires.anyway.ready_for.sized.wrote in
-    let is = c.as_slice.ensures ∙ s.2.is in
-    let full = full_is c.append.result (need_of c.as_slice.result.now) (left_of c.spell_any.new.journal) _ _ _ c.append.ensures.full c.append.ensures.failed c.in-Err-Full.field-0 c.in-Err-Full.need c.in-Err-Full.left c.in-Err-Full.is c.in-Err-Full.field-0-is in
-    let came = c.overflow.ensures.came in
-    record {
-      comes = λ S standing counted ready_for spelled stands.
-          c.overflow.ensures.comes _ S ready_for (lacks_here (catalog_in c.args.machine.now) (site_in c.args.machine.now) (tables_in c.args.machine.now) S c.args.event.now c.args.ready ready_for s.0 s.1 {g = g.D.Disk} c.spell_any.new.journal (capacity_of c.args.journal.now) c.in-Err-Full.need c.in-Err-Full.left
-          c.in-Ok.ensures.same.capacity spelled (c.in-Ok.ensures.same.stands _ stands) can c.as_slice.result.now is full.0 full.1 full.2);
-      leaves = λ S standing counted ready_for spelled stands.
-          leaves_same {g = g.D.Disk} g.met.D.Disk.size_is (catalog_in c.args.machine.now) (site_in c.args.machine.now) S c.args.event.now spelled c.overflow.new.self c.overflow.ensures.same.catalog
-          c.overflow.result (c.overflow.ensures.stands S standing ready_for) c.append.new.self
-          (subst (λ (j : Journal g.row.D.Denot g.D.Disk). StandsFor j (map record_spelled S.records)) (sym full.3) (c.in-Ok.ensures.same.stands _ stands))
-          (ap (λ (x : Came). x.wrote) came) (ap (λ (x : Came). x.flight) came);
-      any_moment = λ S ready_for stands.
-          appends_next {g = g.D.Disk} c.args.journal.now c.spell_any.new.journal c.in-Ok.ensures.same (catalog_in c.args.machine.now) (site_in c.args.machine.now) S c.args.event.now stands c.append.new.self s.0 c.as_slice.result.now
-          (brings (catalog_in c.args.machine.now) (site_in c.args.machine.now) (tables_in c.args.machine.now) S c.args.event.now c.args.ready ready_for s.0 s.1) is (c.append.ensures.any_moment _ (c.in-Ok.ensures.same.stands _ stands));
-      outcome = inr (inr (inr (record {
-        rec = s.0;
-        need = c.in-Err-Full.need;
-        free = c.in-Err-Full.left;
-        is = s.1;
-        less = omega (arith, full.0, ap length is, need_is s.0 can, c.in-Ok.ensures.same.capacity, c.in-Ok.ensures.same.end);
-        outcome_is = ap (λ (x : Came). x.outcome) came;
-      })));
-      up = ap is_some c.overflow.ensures.tables
-          ∙ sym (ap (λ (x : Came). up_after c.args.event.now x.outcome (is_up c.args.machine.now)) came ∙ (fullness_is c.args.event.now c.in-Err-Full.need c.in-Err-Full.left).3 (is_up c.args.machine.now));
-      sent = λ none. ap (λ (x : Came). x.sends) came;
-      wrote = λ taken. absurd (let e = sym (ap is_taken taken) ∙ ap (λ (x : Came). is_taken x.outcome) came ∙ (fullness_is c.args.event.now c.in-Err-Full.need c.in-Err-Full.left).4 in cc);
-      untouched = λ none. absurd (let e = sym none ∙ s.1 in cc);
-      sized = sized_as _ c.overflow.result _ came (sized_only _ (fullness c.args.event.now c.in-Err-Full.need c.in-Err-Full.left) (fullness_is c.args.event.now c.in-Err-Full.need c.in-Err-Full.left).2);
-      framed =
-          let none : map (λ (e : Send). frame_of (catalog_in c.args.machine.now).sites e.1) c.overflow.result.sends ≡ [] = ap (λ (x : Came). map (λ (e : Send). frame_of (catalog_in c.args.machine.now).sites e.1) x.sends) came in
-          cc;
-      none_dropped = ap (λ (x : Came). x.dropped) came;
-      none_kept = ap (λ (x : Came). x.kept) came;
-      faults = faults_as c.overflow.result false _ _ (ap (λ (x : Came). is_faulty x.outcome) came ∙ (fullness_is c.args.event.now c.in-Err-Full.need c.in-Err-Full.left).0)
-          (ap (λ (j : Journal g.row.D.Denot g.D.Disk). (g.D.Disk.known (disk_of j)).faults) full.3 ∙ ap (λ (d : DiskState). d.faults) c.in-Ok.ensures.same.disk);
-      arms = c.append.ensures.arms ∙ ap (λ (d : DiskState). d.arms) c.in-Ok.ensures.same.disk;
-      tells = c.append.ensures.tells ∙ ap (λ (d : DiskState). is_some d.reads) c.in-Ok.ensures.same.disk;
-      device = calls_as c.overflow.result None None _ _ (ap (λ (x : Came). x.wrote) came) (ap (λ (x : Came). x.flight) came)
-          (ap (λ (j : Journal g.row.D.Denot g.D.Disk). g.D.Disk.device_calls (disk_of j)) full.3 ∙ c.in-Ok.ensures.same.device);
-      capacity = c.append.ensures.capacity ∙ c.in-Ok.ensures.same.capacity;
-      same = c.overflow.ensures.same;
     }

@@ -3,19 +3,19 @@ use Rattle.walter_base.specs.declared.catalog.Catalog.{Catalog}
 use Rattle.walter_base.specs.declared.message.Record.{Record}
 use Rattle.walter_disk.specs.Images.{LeavesOnly}
 use Rattle.walter_engine.specs.Contents.{AreSpelled, MayHaveNext}
-use Rattle.walter_engine.specs.Stores.{disk_under, disk_of_store, IsLeft, IsStored, IsOfCapacity}
+use Rattle.walter_engine.specs.Engines.{layout_for}
+use Rattle.walter_engine.specs.Stores.{disk_under, disk_of_store, IsLeft, IsStored}
 use Rattle.walter_engine.specs.declared.store.Store.TheVariants.{Open, Closed}
-use Rattle.walter_journal.specs.Journals.{disk_of}
+use Rattle.walter_checkpoint.specs.Books.{disk_of}
 use Rattle.walter_machine.specs.Machines.{catalog_in, site_in, tables_in}
 use Rattle.walter_machine.specs.Readiness.{rec_in, IsReadyFor}
 use Rattle.walter_rules.specs.declared.entry.Came.{Came}
-use Rattle.walter_rules.specs.Layouts.{one_area}
 use Rattle.walter_rules.specs.Standing.{stands_after}
 use Rattle.walter_rules.specs.Trails.{Comes, TakesMemory, want}
 use Rattle.walter_engine.proofs.Crashes.{unmoved_next}
 use Rattle.walter_engine.proofs.Loads.{stands_left, always}
-use Rattle.walter_engine.proofs.Taking.{same_parts, state_up, come_as, stop_brings, counted_up}
-use Rattle.walter_engine.proofs.Written.{want_is, unrefused, is_refusal, leaves_same, faults_as, calls_as, sized_as}
+use Rattle.walter_engine.proofs.Taking.{same_parts, come_as, stop_brings, counted_up}
+use Rattle.walter_engine.proofs.Written.{state_up, want_is, unrefused, is_refusal, leaves_kept, ups_same, faults_as, calls_as, sized_as}
 use Rattle.walter_engine.proofs.engine.Engine.act.Goals as goal
 use Rattle.walter_machine.proofs.Sizes.{sized_only}
 use Rattle.walter_machine.specs.Comings.{is_faulty, IsSized}
@@ -26,6 +26,9 @@ use Rattle.walter_rules.specs.Sending.{Send}
 
 pub returns-in_default-prepare : goal.returns-in_default-prepare
 returns-in_default-prepare g c =
+    let layout = layout_for c.args.self.now.areas c.args.self.now.capacity (catalog_in c.args.self.now.machine).sites in
+    let same_layout : layout_for c.args.self.now.areas c.args.self.now.capacity (catalog_in c.prepare.new.self).sites ≡ layout =
+    ap (λ (x : Catalog). layout_for c.args.self.now.areas c.args.self.now.capacity x.sites) c.prepare.ensures.same.catalog in
     let was = sym c.replace.ensures.value ∙ c.in-Some-Open.is ∙ ap Some c.in-Some-Open.field-0-is in
     let before = ap disk_under was in
     let came = c.want.ensures.came in
@@ -37,21 +40,21 @@ returns-in_default-prepare g c =
                 let up = state_up S (tables_in c.args.self.now.machine) stands.machine.state in
                 let takes = subst (λ (b : Bool). TakesMemory b c.args.event.now) (sym up) free in
                 let standing = c.prepare.ensures.stands S stands.machine in
-                let stored = subst (λ o. IsStored {g = g.D.Disk} S o) was stands.store in
+                let stored = subst (λ o. IsStored {g = g.D.Disk} layout S o) was stands.store in
                 let spelled = subst (λ (x : Catalog). AreSpelled x.sites S) (sym c.prepare.ensures.same.catalog) stands.spelled in
-                let left = leaves_same {g = g.D.Disk} g.met.D.Disk.size_is (catalog_in c.prepare.new.self) (site_in c.prepare.new.self) S c.args.event.now spelled c.prepare.new.self refl c.want.result
-                (c.want.ensures.stands S standing takes) c.in-Some-Open.journal stored (ap (λ (x : Came). x.wrote) came) (ap (λ (x : Came). x.flight) came) in
-                let store_is = ap (λ (b : Bool). Some (if b then Open c.in-Some-Open.journal else Closed (disk_of c.in-Some-Open.journal))) (sym (c.prepare.ensures.up ∙ c.requires.up)) in
-                let comes = same_parts (λ x k. Comes x (one_area c.args.self.now.capacity) k S c.args.event.now c.want.result) (catalog_in c.prepare.new.self) (catalog_in c.args.self.now.machine) (site_in c.prepare.new.self) (site_in c.args.self.now.machine) (sym c.prepare.ensures.same.catalog) (sym c.prepare.ensures.same.id)
-                (c.want.ensures.comes (one_area c.args.self.now.capacity) S takes) in
-                let left_here = same_parts (λ x k. IsLeft {g = g.D.Disk} c.prepare.new.self (stands_after x k S c.args.event.now c.want.result) c.in-Some-Open.journal) (catalog_in c.prepare.new.self) (catalog_in c.args.self.now.machine) (site_in c.prepare.new.self) (site_in c.args.self.now.machine) (sym c.prepare.ensures.same.catalog) (sym c.prepare.ensures.same.id) left in
-                come_as {g = g.D.Disk} (catalog_in c.args.self.now.machine) (one_area c.args.self.now.capacity) (site_in c.args.self.now.machine) S c.args.event.now c.want.result _ (ap (λ (x : Came). x.kept) came)
+                let left = leaves_kept {g = g.D.Disk} g.met.D.Disk.size_is (catalog_in c.prepare.new.self) layout (site_in c.prepare.new.self) S c.args.event.now spelled c.prepare.new.self refl c.want.result
+                (c.want.ensures.stands S standing takes) c.in-Some-Open.book stored (ups_same (catalog_in c.prepare.new.self) (site_in c.prepare.new.self) S c.args.event.now c.want.result (want c.args.event.now) (ap (λ (x : Came). x.outcome) came) ((want_is c.args.event.now).3 S.up)) (ap (λ (x : Came). x.wrote) came) (ap (λ (x : Came). x.flight) came) in
+                let store_is = ap (λ (b : Bool). Some (if b then Open c.in-Some-Open.book else Closed (disk_of c.in-Some-Open.book))) (sym (c.prepare.ensures.up ∙ c.requires.up)) in
+                let comes = same_parts (λ x k. Comes x layout k S c.args.event.now c.want.result) (catalog_in c.prepare.new.self) (catalog_in c.args.self.now.machine) (site_in c.prepare.new.self) (site_in c.args.self.now.machine) (sym c.prepare.ensures.same.catalog) (sym c.prepare.ensures.same.id)
+                (c.want.ensures.comes layout S takes) in
+                let left_here = same_parts (λ x k. IsLeft {g = g.D.Disk} layout c.prepare.new.self (stands_after x k S c.args.event.now c.want.result) c.in-Some-Open.book) (catalog_in c.prepare.new.self) (catalog_in c.args.self.now.machine) (site_in c.prepare.new.self) (site_in c.args.self.now.machine) (sym c.prepare.ensures.same.catalog) (sym c.prepare.ensures.same.id) left in
+                come_as {g = g.D.Disk} (catalog_in c.args.self.now.machine) layout (site_in c.args.self.now.machine) S c.args.event.now c.want.result _ (ap (λ (x : Came). x.kept) came)
                 (λ down restart. absurd (let e = sym (up ∙ c.requires.up) ∙ down in cc)) comes
-                (stands_left {g = g.D.Disk} _ _ c.in-Some-Open.journal left_here store_is);
+                (stands_left {g = g.D.Disk} _ _ c.in-Some-Open.book layout same_layout left_here store_is);
             any_moment = λ S stands.
                 rw before
-                (unmoved_next {g = g.D.Disk} g.met.D.Disk.only_now c.in-Some-Open.journal (catalog_in c.args.self.now.machine) (site_in c.args.self.now.machine) S c.args.event.now c.want.result.kept (subst (λ o. IsStored {g = g.D.Disk} S o) was stands.store));
-            refused = always (λ (bytes : List ℕ). Unit {0}) (g.D.Disk.known (disk_of c.in-Some-Open.journal)).reads (λ bytes. tt);
+                (unmoved_next {g = g.D.Disk} g.met.D.Disk.only_now c.in-Some-Open.book (catalog_in c.args.self.now.machine) layout (site_in c.args.self.now.machine) S c.args.event.now c.want.result.kept (subst (λ o. IsStored {g = g.D.Disk} layout S o) was stands.store));
+            refused = always (λ (bytes : List ℕ). Unit {0}) (g.D.Disk.known (disk_of c.in-Some-Open.book)).reads (λ bytes. tt);
             why = λ refused. absurd (let e = sym (ap is_refusal refused) ∙ ap (λ (x : Came). is_refusal x.outcome) came ∙ (want_is c.args.event.now).1 in cc);
             sized = sized_as _ c.want.result _ came (sized_only _ (want c.args.event.now) (want_is c.args.event.now).2);
             framed =
@@ -62,7 +65,7 @@ returns-in_default-prepare g c =
                 (faults_as c.want.result false _ _ (ap (λ (x : Came). is_faulty x.outcome) came ∙ (want_is c.args.event.now).0) refl);
             arms = rw before refl;
             tells = rw before refl;
-            engine = record { catalog = c.prepare.ensures.same.catalog; site = c.prepare.ensures.same.id; capacity = refl; layout = refl };
+            engine = record { catalog = c.prepare.ensures.same.catalog; site = c.prepare.ensures.same.id; capacity = refl; layout = same_layout };
           };
       device =
           rw before
@@ -72,6 +75,9 @@ returns-in_default-prepare g c =
 
 pub returns : goal.returns
 returns g c =
+    let layout = layout_for c.args.self.now.areas c.args.self.now.capacity (catalog_in c.args.self.now.machine).sites in
+    let same_layout : layout_for c.args.self.now.areas c.args.self.now.capacity (catalog_in c.write-came.new.machine).sites ≡ layout =
+    ap (λ (x : Catalog). layout_for c.args.self.now.areas c.args.self.now.capacity x.sites) (c.write-came.ensures.same.catalog ∙ c.prepare.ensures.same.catalog) in
     let was = sym c.replace.ensures.value ∙ c.in-Some-Open.is ∙ ap Some c.in-Some-Open.field-0-is in
     let before = ap disk_under was in
     let now = ap Some c.store_of.ensures.disk in
@@ -81,29 +87,28 @@ returns g c =
             comes = λ S stands.
                 let up = state_up S (tables_in c.args.self.now.machine) stands.machine.state in
                 let standing = c.prepare.ensures.stands S stands.machine in
-                let stored = subst (λ o. IsStored {g = g.D.Disk} S o) was stands.store in
+                let stored = subst (λ o. IsStored {g = g.D.Disk} layout S o) was stands.store in
                 let spelled = subst (λ (x : Catalog). AreSpelled x.sites S) (sym c.prepare.ensures.same.catalog) stands.spelled in
                 let ready_for = (same_parts (λ x k. IsReadyFor x k (tables_in c.prepare.new.self) S c.args.event.now c.in-Ok.ready) (catalog_in c.args.self.now.machine) (catalog_in c.prepare.new.self) (site_in c.args.self.now.machine) (site_in c.prepare.new.self) c.prepare.ensures.same.catalog c.prepare.ensures.same.id
                 (c.in-Ok.ensures.ready S stands.machine)) in
                 let counted = counted_up c.prepare.new.self S (rec_in c.in-Ok.ready) (up ∙ c.requires.up) standing in
                 let store_is = ap Some (c.store_of.ensures.is
-                ∙ ap (λ (b : Bool). if b then Open c.write-came.new.journal else Closed (disk_of c.write-came.new.journal)) c.is_up.ensures) in
-                let comes = same_parts (λ x k. Comes x (one_area c.args.self.now.capacity) k S c.args.event.now c.write-came.result.0) (catalog_in c.prepare.new.self) (catalog_in c.args.self.now.machine) (site_in c.prepare.new.self) (site_in c.args.self.now.machine) (sym c.prepare.ensures.same.catalog) (sym c.prepare.ensures.same.id)
-                (subst (λ (n : ℕ). Comes (catalog_in c.prepare.new.self) (one_area n) (site_in c.prepare.new.self) S c.args.event.now c.write-came.result.0) (subst (λ o. IsOfCapacity c.args.self.now.capacity o) was c.args.self.now.of)
-                (c.write-came.ensures.comes S standing counted ready_for spelled stored)) in
-                let left = same_parts (λ x k. IsLeft {g = g.D.Disk} c.write-came.new.machine (stands_after x k S c.args.event.now c.write-came.result.0) c.write-came.new.journal) (catalog_in c.prepare.new.self) (catalog_in c.args.self.now.machine) (site_in c.prepare.new.self) (site_in c.args.self.now.machine) (sym c.prepare.ensures.same.catalog) (sym c.prepare.ensures.same.id)
-                (c.write-came.ensures.leaves S standing counted ready_for spelled stored) in
-                come_as {g = g.D.Disk} (catalog_in c.args.self.now.machine) (one_area c.args.self.now.capacity) (site_in c.args.self.now.machine) S c.args.event.now c.write-came.result.0 _ c.write-came.ensures.none_kept
+                ∙ ap (λ (b : Bool). if b then Open c.write-came.new.book else Closed (disk_of c.write-came.new.book)) c.is_up.ensures) in
+                let comes = same_parts (λ x k. Comes x layout k S c.args.event.now c.write-came.result.0) (catalog_in c.prepare.new.self) (catalog_in c.args.self.now.machine) (site_in c.prepare.new.self) (site_in c.args.self.now.machine) (sym c.prepare.ensures.same.catalog) (sym c.prepare.ensures.same.id)
+                (c.write-came.ensures.comes layout S standing counted ready_for spelled stored) in
+                let left = same_parts (λ x k. IsLeft {g = g.D.Disk} layout c.write-came.new.machine (stands_after x k S c.args.event.now c.write-came.result.0) c.write-came.new.book) (catalog_in c.prepare.new.self) (catalog_in c.args.self.now.machine) (site_in c.prepare.new.self) (site_in c.args.self.now.machine) (sym c.prepare.ensures.same.catalog) (sym c.prepare.ensures.same.id)
+                (c.write-came.ensures.leaves layout S standing counted ready_for spelled stored) in
+                come_as {g = g.D.Disk} (catalog_in c.args.self.now.machine) layout (site_in c.args.self.now.machine) S c.args.event.now c.write-came.result.0 _ c.write-came.ensures.none_kept
                 (λ down restart. absurd (let e = sym (up ∙ c.requires.up) ∙ down in cc)) comes
-                (stands_left {g = g.D.Disk} _ _ c.write-came.new.journal left store_is);
+                (stands_left {g = g.D.Disk} _ _ c.write-came.new.book layout same_layout left store_is);
             any_moment = λ S stands.
                 let ready_for = (same_parts (λ x k. IsReadyFor x k (tables_in c.prepare.new.self) S c.args.event.now c.in-Ok.ready) (catalog_in c.args.self.now.machine) (catalog_in c.prepare.new.self) (site_in c.args.self.now.machine) (site_in c.prepare.new.self) c.prepare.ensures.same.catalog c.prepare.ensures.same.id
                 (c.in-Ok.ensures.ready S stands.machine)) in
                 rw (before, c.store_of.ensures.disk)
-                (same_parts (λ x k. LeavesOnly g.D.Disk.moment g.D.Disk.left_since (disk_of c.in-Some-Open.journal) (disk_of c.write-came.new.journal) (MayHaveNext x k S c.args.event.now c.write-came.result.0.kept))
+                (same_parts (λ x k. LeavesOnly g.D.Disk.moment g.D.Disk.left_since (disk_of c.in-Some-Open.book) (disk_of c.write-came.new.book) (MayHaveNext x layout k S c.args.event.now c.write-came.result.0.kept))
                 (catalog_in c.prepare.new.self) (catalog_in c.args.self.now.machine) (site_in c.prepare.new.self) (site_in c.args.self.now.machine) (sym c.prepare.ensures.same.catalog) (sym c.prepare.ensures.same.id)
-                (subst (λ (o : Option Record). LeavesOnly g.D.Disk.moment g.D.Disk.left_since (disk_of c.in-Some-Open.journal) (disk_of c.write-came.new.journal) (MayHaveNext (catalog_in c.prepare.new.self) (site_in c.prepare.new.self) S c.args.event.now o))
-                (sym c.write-came.ensures.none_kept) (c.write-came.ensures.any_moment S ready_for (subst (λ o. IsStored {g = g.D.Disk} S o) was stands.store))));
+                (subst (λ (o : Option Record). LeavesOnly g.D.Disk.moment g.D.Disk.left_since (disk_of c.in-Some-Open.book) (disk_of c.write-came.new.book) (MayHaveNext (catalog_in c.prepare.new.self) layout (site_in c.prepare.new.self) S c.args.event.now o))
+                (sym c.write-came.ensures.none_kept) (c.write-came.ensures.any_moment layout S ready_for (subst (λ o. IsStored {g = g.D.Disk} layout S o) was stands.store))));
             refused = always (λ (bytes : List ℕ). Unit {0}) (g.D.Disk.known (disk_of_store c.store_of.result)).reads (λ bytes. tt);
             why = λ refused. absurd (let e = sym (ap is_refusal refused)
                 ∙ unrefused _ _ _ c.args.event.now c.in-Ok.ready _ _ c.in-Ok.ensures.anyway c.write-came.ensures.outcome in cc);
@@ -118,7 +123,7 @@ returns g c =
               catalog = c.write-came.ensures.same.catalog ∙ c.prepare.ensures.same.catalog;
               site = c.write-came.ensures.same.id ∙ c.prepare.ensures.same.id;
               capacity = refl;
-              layout = refl;
+              layout = same_layout;
             };
           };
       device = rw (before, c.store_of.ensures.disk) c.write-came.ensures.device;
