@@ -61,6 +61,7 @@ made number calls = record {
   catalog = made_catalog;
   clients = made_clients (made_calls number calls);
   capacity = 16777216;
+  areas = 1;
   link = made_link number;
   ticks = 10000;
   threads = 8;

@@ -4,5 +4,6 @@ pub mod Wrong
 pub mod Declared
 pub mod Sent
 pub mod Scripts
+pub mod Faulted
 pub mod Uniqueness
 pub mod Stages

@@ -9,7 +9,7 @@ use Rattle.walter_scenario.specs.declared.scenario.Arm.{Arm}
 use Rattle.walter_scenario.specs.declared.scenario.Client.{Client}
 use Rattle.walter_scenario.specs.declared.scenario.Scenario.{Scenario}
 use Rattle.walter_scenario.specs.Parts.{whole, list, HasMember, SpellClients, SpellLink, AreArms, AreSteps}
-use Rattle.walter_scenario.specs.Scenarios.{IsJsonObject, GivesCapacity, GivesLink, GivesTicks, GivesThreads, GivesArms, HasSites, HasTolerated, HasContainers, HasClients, HasCapacity, HasLink, HasTicks, HasThreads, HasArms, IsReading}
+use Rattle.walter_scenario.specs.Scenarios.{IsJsonObject, GivesCapacity, GivesAreas, GivesLink, GivesTicks, GivesThreads, GivesArms, HasSites, HasTolerated, HasContainers, HasClients, HasCapacity, HasAreas, HasLink, HasTicks, HasThreads, HasArms, IsReading}
 use Rattle.walter_scenario.proofs.Declared.{same_declared}
 use Rattle.walter_scenario.proofs.Scripts.{same_arms, same_steps}
 use Rattle.walter_scenario.proofs.Sent.{same_clients}
@@ -71,29 +71,45 @@ pub capacity_object : (bytes : List ℕ) (m : Members) (s f : ℕ) (ds : List It
     → HasCapacity bytes m s f ds cs capacity → IsJsonObject bytes m
 capacity_object bytes m s f ds cs capacity has = clients_object bytes m s f ds cs has.has_clients
 
-pub link_object : (bytes : List ℕ) (m : Members) (s f : ℕ) (ds : List Item) (cs : List Client) (capacity : ℕ)
-    (link : Link) → HasLink bytes m s f ds cs capacity link → IsJsonObject bytes m
-link_object bytes m s f ds cs capacity link has = capacity_object bytes m s f ds cs capacity has.has_capacity
+pub areas_object : (bytes : List ℕ) (m : Members) (s f : ℕ) (ds : List Item) (cs : List Client) (capacity areas : ℕ)
+    → HasAreas bytes m s f ds cs capacity areas → IsJsonObject bytes m
+areas_object bytes m s f ds cs capacity areas has = capacity_object bytes m s f ds cs capacity has.has_capacity
 
-pub ticks_object : (bytes : List ℕ) (m : Members) (s f : ℕ) (ds : List Item) (cs : List Client) (capacity : ℕ)
-    (link : Link) (ticks : ℕ) → HasTicks bytes m s f ds cs capacity link ticks → IsJsonObject bytes m
-ticks_object bytes m s f ds cs capacity link ticks has = link_object bytes m s f ds cs capacity link has.has_link
+pub link_object : (bytes : List ℕ) (m : Members) (s f : ℕ) (ds : List Item) (cs : List Client) (capacity areas : ℕ)
+    (link : Link) → HasLink bytes m s f ds cs capacity areas link → IsJsonObject bytes m
+link_object bytes m s f ds cs capacity areas link has = areas_object bytes m s f ds cs capacity areas has.has_areas
 
-pub threads_object : (bytes : List ℕ) (m : Members) (s f : ℕ) (ds : List Item) (cs : List Client) (capacity : ℕ)
-    (link : Link) (ticks threads : ℕ) → HasThreads bytes m s f ds cs capacity link ticks threads
+pub ticks_object : (bytes : List ℕ) (m : Members) (s f : ℕ) (ds : List Item) (cs : List Client) (capacity areas : ℕ)
+    (link : Link) (ticks : ℕ) → HasTicks bytes m s f ds cs capacity areas link ticks → IsJsonObject bytes m
+ticks_object bytes m s f ds cs capacity areas link ticks has =
+    link_object bytes m s f ds cs capacity areas link has.has_link
+
+pub threads_object : (bytes : List ℕ) (m : Members) (s f : ℕ) (ds : List Item) (cs : List Client) (capacity areas : ℕ)
+    (link : Link) (ticks threads : ℕ) → HasThreads bytes m s f ds cs capacity areas link ticks threads
     → IsJsonObject bytes m
-threads_object bytes m s f ds cs capacity link ticks threads has =
-    ticks_object bytes m s f ds cs capacity link ticks has.has_ticks
+threads_object bytes m s f ds cs capacity areas link ticks threads has =
+    ticks_object bytes m s f ds cs capacity areas link ticks has.has_ticks
 
-pub arms_object : (bytes : List ℕ) (m : Members) (s f : ℕ) (ds : List Item) (cs : List Client) (capacity : ℕ)
-    (link : Link) (ticks threads : ℕ) (arms : List Arm) → HasArms bytes m s f ds cs capacity link ticks threads arms
-    → IsJsonObject bytes m
-arms_object bytes m s f ds cs capacity link ticks threads arms has =
-    threads_object bytes m s f ds cs capacity link ticks threads has.has_threads
+pub arms_object : (bytes : List ℕ) (m : Members) (s f : ℕ) (ds : List Item) (cs : List Client) (capacity areas : ℕ)
+    (link : Link) (ticks threads : ℕ) (arms : List Arm)
+    → HasArms bytes m s f ds cs capacity areas link ticks threads arms → IsJsonObject bytes m
+arms_object bytes m s f ds cs capacity areas link ticks threads arms has =
+    threads_object bytes m s f ds cs capacity areas link ticks threads has.has_threads
 
-pub one_capacity : (given : Option Data) (m n : ℕ) → GivesCapacity given m → GivesCapacity given n → m ≡ n
-one_capacity None m n a b = a ∙ sym b
-one_capacity (Some value) m n a b = let e : whole m ≡ whole n = sym a.0 ∙ b.0 in cc
+one_given_capacity : (given : Option Data) (c d : ℕ) → GivesCapacity given c → GivesCapacity given d → c ≡ d
+one_given_capacity None c d a b = a ∙ sym b
+one_given_capacity (Some value) c d a b = let e : whole c ≡ whole d = sym a.0 ∙ b.0 in cc
+
+pub one_capacity : (m n : Members) (c d : ℕ) → m ≡ n → GivesCapacity (get_member (codes "capacity") m) c
+    → GivesCapacity (get_member (codes "capacity") n) d → c ≡ d
+one_capacity m n c d same a b =
+    one_given_capacity (get_member (codes "capacity") n) c d
+    (subst (λ ms. GivesCapacity (get_member (codes "capacity") ms) c) same a) b
+
+pub one_of_areas : (given : Option Data) (capacity m n : ℕ) → GivesAreas given m capacity → GivesAreas given n capacity
+    → m ≡ n
+one_of_areas None capacity m n a b = a ∙ sym b
+one_of_areas (Some value) capacity m n a b = let e : whole m ≡ whole n = sym a.0 ∙ b.0 in cc
 
 one_spelled_link : (m n : Members) (a b : Link) → m ≡ n → SpellLink m a → SpellLink n b → a ≡ b
 one_spelled_link m n a b same s t =
@@ -135,8 +151,10 @@ one_scenario bytes s t a b =
     let threads_t = b.has_arms.has_threads in
     let ticks_s = threads_s.has_ticks in
     let ticks_t = threads_t.has_ticks in
-    let in_s = ticks_s.has_link.has_capacity in
-    let in_t = ticks_t.has_link.has_capacity in
+    let areas_s = ticks_s.has_link.has_areas in
+    let areas_t = ticks_t.has_link.has_areas in
+    let in_s = areas_s.has_capacity in
+    let in_t = areas_t.has_capacity in
     let of_s = in_s.has_clients.has_containers.has_tolerated in
     let of_t = in_t.has_clients.has_containers.has_tolerated in
     let m = s.catalog.sites in
@@ -155,8 +173,11 @@ one_scenario bytes s t a b =
     one_of_clients bytes a.members b.members m n f g a.declared b.declared s.clients t.clients in_s.has_clients
     in_t.has_clients in
     let capacity =
-    one_capacity (get_member (codes "capacity") b.members) s.capacity t.capacity
-    (subst (λ ms. GivesCapacity (get_member (codes "capacity") ms) s.capacity) same in_s.given) in_t.given in
+    one_capacity a.members b.members s.capacity t.capacity same in_s.given in_t.given in
+    let of_capacity = subst (λ c. GivesAreas (get_member (codes "areas") a.members) s.areas c) capacity areas_s.given in
+    let areas =
+    one_of_areas (get_member (codes "areas") b.members) t.capacity s.areas t.areas
+    (subst (λ ms. GivesAreas (get_member (codes "areas") ms) s.areas t.capacity) same of_capacity) areas_t.given in
     let link =
     one_link (get_member (codes "link") b.members) s.link t.link
     (subst (λ ms. GivesLink (get_member (codes "link") ms) s.link) same ticks_s.has_link.given)
@@ -181,6 +202,7 @@ one_scenario bytes s t a b =
       catalog = record { sites = sites i; tolerated = tolerated i; containers = containers i };
       clients = clients i;
       capacity = capacity i;
+      areas = areas i;
       link = link i;
       ticks = ticks i;
       threads = threads i;

@@ -63,6 +63,10 @@ pub record AreClients (sites : ℕ) (values : List Data) (clients : List Client)
 abbrev pub IsCapacity : ℕ → Type 0
 IsCapacity n = (19 ≤ n) × (n ≤ 1099511627776)
 
+-- one area; or two, where the capacity has room for both
+abbrev pub IsAreas : ℕ → ℕ → Type 0
+IsAreas areas capacity = (areas ≡ 1) ⊎ ((areas ≡ 2) × (47 ≤ capacity))
+
 -- the keys of a link
 abbrev pub IsLinkKey : List ℕ → Type 0
 IsLinkKey key = (key ≡ codes "seed") ⊎ (key ≡ codes "lose") ⊎ (key ≡ codes "repeat") ⊎ (key ≡ codes "swap")

@@ -1,6 +1,7 @@
 ghost use Rattle.std.specs.Prelude.{◌≤◌, ◌*◌, length, IfOk, IfErr};
 ghost use Rattle.walter_scenario.specs.Members.{AreGroundsOf, IsFaultOf};
 
+use crate::areas::areas_of;
 use crate::capacity::capacity_of;
 use crate::clients::clients_of;
 use crate::containers::catalog_of;
@@ -11,12 +12,13 @@ use crate::place::{Place, ReadFault};
 use std::alloc::Global;
 use walter_base::Catalog;
 
-/// What is played on: the sites with their containers, the clients, and the capacity of each journal.
+/// What is played on: the sites with their containers, the clients, and the capacity and the areas of each journal.
 #[derive(Drop)]
 pub struct Grounds {
     pub catalog: Catalog,
     pub clients: Clients,
     pub capacity: u64,
+    pub areas: u8,
 }
 
 /// The grounds that the parts spell.
@@ -30,9 +32,11 @@ pub fn grounds_of(alloc: Global, parts: Parts<'_>) -> Result<Grounds, ReadFault>
     let catalog = catalog_of(alloc, sites, tolerated, parts.containers)?;
     let clients = clients_of(alloc, sites, parts.clients)?;
     let capacity = capacity_of(parts.capacity).ok_or(Place::Capacity)?;
+    let areas = areas_of(parts.areas, capacity).ok_or(Place::Areas)?;
     Ok(Grounds {
         catalog,
         clients: Clients::from(clients),
         capacity,
+        areas,
     })
 }

@@ -8,7 +8,7 @@ use crate::place::Detail;
 use serde_json::{Map, Value};
 use std::alloc::Global;
 
-/// The values of the keys. Five keys may be absent.
+/// The values of the keys. Six keys may be absent.
 #[derive(Clone, Copy)]
 pub struct Parts<'a> {
     pub sites: &'a Value,
@@ -16,6 +16,7 @@ pub struct Parts<'a> {
     pub containers: &'a Value,
     pub clients: &'a Value,
     pub capacity: Option<&'a Value>,
+    pub areas: Option<&'a Value>,
     pub link: Option<&'a Value>,
     pub ticks: Option<&'a Value>,
     pub threads: Option<&'a Value>,
@@ -34,6 +35,7 @@ fn is_key(name: &str) -> bool
             | "clients"
             | "steps"
             | "capacity"
+            | "areas"
             | "link"
             | "ticks"
             | "threads"
@@ -85,6 +87,7 @@ pub fn parts_of(members: &Map<String, Value>) -> Option<Parts<'_>>
         containers: member(members, "containers")?,
         clients: member(members, "clients")?,
         capacity: member(members, "capacity"),
+        areas: member(members, "areas"),
         link: member(members, "link"),
         ticks: member(members, "ticks"),
         threads: member(members, "threads"),

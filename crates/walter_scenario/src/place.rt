@@ -14,7 +14,7 @@ pub enum Place {
     Json,
     /// A key is none of a scenario's, or one is wanting.
     #[error("the keys: wants sites, f, containers, clients and steps, \
-        and takes capacity, link, ticks, threads and arms besides")]
+        and takes capacity, areas, link, ticks, threads and arms besides")]
     Key,
     #[error("sites: wants a whole number from 1 to 8")]
     Sites,
@@ -30,6 +30,8 @@ pub enum Place {
     Clients(usize),
     #[error("the capacity: wants a whole number from 19 to 1099511627776")]
     Capacity,
+    #[error("the areas: wants 1 or 2, and 2 only where the capacity is at least 47")]
+    Areas,
     #[error("the link: wants an object of just seed, a whole number below 2^64, and lose, repeat and swap, \
         whole numbers from 0 to 1000")]
     Link,

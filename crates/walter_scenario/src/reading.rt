@@ -28,6 +28,7 @@ fn scenario_on(alloc: Global, grounds: Grounds, parts: Parts<'_>) -> Result<Scen
         catalog: grounds.catalog,
         clients: grounds.clients,
         capacity: grounds.capacity,
+        areas: grounds.areas,
         link: settings.link,
         ticks: settings.ticks,
         threads: settings.threads,

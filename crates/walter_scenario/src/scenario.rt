@@ -17,6 +17,12 @@ pub const GREATEST_CAPACITY: u64 = 1_099_511_627_776;
 /// The capacity of each journal in bytes, where a scenario names none.
 pub const COMMON_CAPACITY: u64 = 16_777_216;
 
+/// How many areas each journal has, where a scenario names no number.
+pub const COMMON_AREAS: u8 = 1;
+
+/// The least capacity of a journal of two areas, in bytes: each of them has place for the first epoch.
+pub const LEAST_CAPACITY_OF_TWO: u64 = 47;
+
 /// The greatest rate of a link, of 1,000 packets.
 pub const GREATEST_RATE: u16 = 1000;
 
@@ -84,13 +90,14 @@ pub enum Step {
 }
 
 /// What is to be played: the sites and their containers, the clients by their numbers from 0, the capacity of each
-/// site's journal in bytes, the link between the sites, how many ticks each site may make when it is pumped, how many
-/// client threads a threaded run has, what is armed before the first step, and the script.
+/// site's journal in bytes, how many areas it has, the link between the sites, how many ticks each site may make when
+/// it is pumped, how many client threads a threaded run has, what is armed before the first step, and the script.
 #[derive(Debug, Drop)]
 pub struct Scenario {
     pub catalog: Catalog,
     pub clients: Clients,
     pub capacity: u64,
+    pub areas: u8,
     pub link: Link,
     pub ticks: u32,
     pub threads: u8,

@@ -1,5 +1,5 @@
-use Rattle.std.proofs.Common.{rules}
 use Rattle.std.proofs.lemmas.Result.{err_from_is_err_and}
+use Rattle.walter_scenario.proofs.Faulted.{fault_of_steps}
 use Rattle.walter_scenario.proofs.reading.scenario_on.Goals as goal
 
 pub returns-in_err-settings-clause-fault : goal.returns-in_err-settings-clause-fault
@@ -9,4 +9,8 @@ returns-in_err-settings-clause-fault c =
 
 pub returns-in_err-steps-clause-fault : goal.returns-in_err-steps-clause-fault
 returns-in_err-steps-clause-fault c =
-    let wrong = rw c.as_slice-clients.ensures at c.in_err-steps.ensures.fault in search rules
+    let fault = err_from_is_err_and c.from_residual-in_err-steps.result c.from_residual-in_err-steps.ensures.1 in
+    let wrong = rw c.as_slice-clients.ensures at c.in_err-steps.ensures.fault in
+    rw (fault.1, fault.2)
+    (fault_of_steps c.args.grounds c.args.parts c.in_ok-settings.settings c.in_ok-arms.arms.items
+    c.in_err-steps.field-0.0 c.in_ok-settings.ensures.ok c.in_ok-arms.ensures.ok wrong)
