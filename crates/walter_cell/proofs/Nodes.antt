@@ -11,7 +11,7 @@ use Rattle.walter_disk.specs.declared.disk.Disk.{Ghosts}
 use Rattle.walter_engine.specs.declared.engine.Engine.{Engine}
 use Rattle.walter_engine.specs.declared.store.Store.{Store}
 use Rattle.walter_engine.specs.declared.store.Store.TheVariants.{Open, Closed}
-use Rattle.walter_engine.specs.Engines.{catalog_in, site_in, disk_in, OfDisk, OfDisks, IsSameEngine, Stands}
+use Rattle.walter_engine.specs.Engines.{catalog_in, site_in, layout_in, disk_in, OfDisk, OfDisks, IsSameEngine, Stands}
 use Rattle.walter_engine.specs.Stores.{disk_under, IsStored}
 use Rattle.walter_machine.specs.Comings.{IsSized, is_faulty, RisesIf, IsFaulty}
 use Rattle.walter_machine.specs.States.{AreTold, CanBeNext, IsState}
@@ -22,7 +22,7 @@ use Rattle.walter_packet.specs.Spelling.{HasPacketSpelling}
 use Rattle.walter_rules.specs.declared.entry.Came.{Came}
 use Rattle.walter_rules.specs.declared.entry.Entry.{Entry}
 use Rattle.walter_rules.specs.declared.event.Event.{Event}
-use Rattle.walter_rules.specs.Layouts.{Layout}
+use Rattle.walter_rules.specs.Layouts.{Layout, left_behind, one_area, two_areas}
 use Rattle.walter_rules.specs.Sending.{Send}
 use Rattle.walter_rules.specs.Standing.{Standing, settled, stands_after, carried_after}
 use Rattle.walter_rules.specs.Trails.{Comes, IsFound, IsPutOut, IsNextStamp, AreRight, IsRightTrail, clock, opening, standing}
@@ -72,10 +72,16 @@ module _ (S : Standing) (carried : SiteId → ℕ) where
       flight None is = tt
       flight (Some rec) is = record { sizes = is.sizes; follows = is.follows }
 
-  store_carrying : {D : Type 0} {g : Ghosts D} (store : Option (Store D g)) → IsStored S store → IsStored (carrying carried S) store
-  store_carrying None is = is
-  store_carrying (Some (Open journal)) is = is
-  store_carrying (Some (Closed disk)) is = record { told = is.told; begun = is.begun; images = is.images }
+  left_carrying : (layout : Layout) → left_behind layout (carrying carried S) ≡ left_behind layout S
+  left_carrying (one_area capacity) = refl
+  left_carrying (two_areas capacity sites) = refl
+
+  store_carrying : {D : Type 0} {g : Ghosts D} (layout : Layout) (store : Option (Store D g)) → IsStored layout S store
+      → IsStored layout (carrying carried S) store
+  store_carrying layout None is = is
+  store_carrying layout (Some (Open book)) is =
+      record { laid = is.laid; stands = is.stands; left = is.left ∙ sym (left_carrying layout) }
+  store_carrying layout (Some (Closed disk)) is = record { told = is.told; begun = is.begun; images = is.images }
 
   stands_carrying : {D : Type 0} {g : Ghosts D} (engine : Engine D g) → Stands engine S → Stands engine (carrying carried S)
   stands_carrying engine stands = record {
@@ -87,7 +93,7 @@ module _ (S : Standing) (carried : SiteId → ℕ) where
       owed = m.owed;
     };
     spelled = let s = stands.spelled in record { records = s.records; flight = s.flight };
-    store = store_carrying engine.store stands.store;
+    store = store_carrying (layout_in engine) engine.store stands.store;
   }
 
 module _ {D : Type 0} {g : Ghosts D} where

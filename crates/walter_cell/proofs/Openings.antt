@@ -1,15 +1,17 @@
 -- A site with its trail and its lanes that has come up for the first time.
-use Rattle.std.proofs.Common.{◌≡◌, ◌<◌, ◌≤◌, ◌-◌, ℕ, List, [], ◌∷◌, length, refl, ap, sym, ◌∙◌, subst, arith, Option, Some, None, Result, slice_get}
-use Rattle.std.specs.Prelude.{All, IfSome, reverse, count_by}
+use Rattle.std.proofs.Common.{◌≡◌, ◌<◌, ◌≤◌, ◌-◌, ℕ, List, [], ◌∷◌, length, refl, ap, sym, ◌∙◌, subst, arith, inl, inr, Option, Some, None, Result, slice_get}
+use Rattle.std.specs.Prelude.{All, IfSome, is_some, true, reverse, count_by}
 use Rattle.std.proofs.lemmas.List.Elements.{All-nil, All-push}
 use Rattle.walter_base.specs.declared.catalog.Catalog.{Catalog}
 use Rattle.walter_base.specs.declared.names.SiteId.{SiteId}
+use Rattle.walter_checkpoint.specs.Areas.{Shape, shape_by}
+use Rattle.walter_checkpoint.specs.Loads.{IsAreas}
 use Rattle.walter_disk.specs.Images.{LeavesOnly}
 use Rattle.walter_disk.specs.declared.disk.Disk.{Ghosts}
-use Rattle.walter_engine.specs.Engines.{catalog_in, site_in, layout_in, disk_in, Stands}
+use Rattle.walter_engine.specs.Engines.{catalog_in, site_in, layout_for, layout_in, disk_in, Stands}
 use Rattle.walter_outbox.specs.Lanes.{put_to, HavePut}
 use Rattle.walter_rules.specs.declared.entry.Entry.{Entry}
-use Rattle.walter_rules.specs.Layouts.{Layout, one_area}
+use Rattle.walter_rules.specs.Layouts.{Layout, left_behind}
 use Rattle.walter_rules.specs.Standing.{unmade}
 use Rattle.walter_rules.specs.Trails.{ruled, opening, standing, clock, all_out, IsRightTrail}
 use Rattle.walter_engine.specs.Begins.{HasOnly, IsBegun, IsFaultOfBegin, MayHaveBegun}
@@ -19,15 +21,22 @@ use Rattle.walter_packet.specs.Spelling.{HasPacketSpelling}
 use Rattle.walter_rules.specs.Sending.{Send}
 use Rattle.walter_cell.specs.Builds.{Begins, OfBuilt, begun_by}
 use Rattle.walter_cell.specs.Entries.{HaveRisingStamps}
-use Rattle.walter_cell.specs.Nodes.{NodeParts, IsNode, IsKnownNode}
+use Rattle.walter_cell.specs.Nodes.{NodeParts, IsNode, IsKnownNode, is_told}
 
 one_of_all : {X : Type 0} (P : X → Type 0) (x : X) → P x → All P (x ∷ [])
 one_of_all P x holds = All-push P [] x (All-nil P) holds
 
-opening_right : (catalog : Catalog) (capacity : ℕ) (i : SiteId) → 19 ≤ capacity
-    → IsRightTrail catalog (one_area capacity) i (opening ∷ [])
-opening_right catalog capacity i fits =
-    let place : 10 ≤ capacity - 9 = omega (arith, fits) in
+-- there is place for the first epoch
+pub has_place : (areas capacity sites : ℕ) → IsAreas areas capacity → 19 ≤ capacity
+    → 10 ≤ left_behind (layout_for areas capacity sites) unmade
+has_place areas capacity sites (inl one) most =
+    subst (λ (a : ℕ). 10 ≤ left_behind (layout_for a capacity sites) unmade) (sym one) (omega (arith, most))
+has_place areas capacity sites (inr (two, least)) most =
+    subst (λ (a : ℕ). 10 ≤ left_behind (layout_for a capacity sites) unmade) (sym two) (omega (arith, least))
+
+opening_right : (catalog : Catalog) (layout : Layout) (i : SiteId) → 10 ≤ left_behind layout unmade
+    → IsRightTrail catalog layout i (opening ∷ [])
+opening_right catalog layout i place =
     record {
       opening = opening;
       begins = refl;
@@ -71,12 +80,12 @@ module _ {X : Type 0} (P : List X → Type 0) where
 module _ {D : Type 0} {g : Ghosts D} (catalog : Catalog) (layout : Layout) (i : SiteId) (node : NodeParts D g)
     (is : node.trail ≡ opening ∷ []) where
   -- where the engine stands as the opening says
-  pub known_built : (capacity : ℕ) → layout ≡ one_area capacity → 19 ≤ capacity
-      → Stands node.engine (standing catalog i (opening ∷ [])) → IsKnownNode catalog layout i node
-  known_built capacity is_layout fits stands = record {
+  pub known_built : 10 ≤ left_behind layout unmade → Stands node.engine (standing catalog i (opening ∷ []))
+      → IsKnownNode catalog layout i node
+  known_built place stands = record {
     stands = of_one (λ (es : List Entry). Stands node.engine (standing catalog i (reverse es))) node.trail opening is stands;
     right = of_one (λ (es : List Entry). IsRightTrail catalog layout i es) node.trail opening is
-        (subst (λ (l : Layout). IsRightTrail catalog l i (opening ∷ [])) (sym is_layout) (opening_right catalog capacity i fits));
+        (opening_right catalog layout i place);
   }
 
   -- whatever its disk tells
@@ -100,25 +109,40 @@ module _ {D : Type 0} {g : Ghosts D} (catalog : Catalog) (layout : Layout) (i : 
         (λ disk. let none = ap (λ (es : List Entry). count_by (λ (e : Entry). is_faulty e.came.outcome) es) is in omega (arith, none));
   }
 
+-- by equal numbers
+pub shape_same : (a b m n : ℕ) → a ≡ b → m ≡ n → shape_by a m ≡ shape_by b n
+shape_same a b m n x y = λ j. shape_by (x j) (y j)
+
+pub layout_same : (areas a b m n : ℕ) → a ≡ b → m ≡ n → layout_for areas a m ≡ layout_for areas b n
+layout_same areas a b m n x y = λ j. layout_for areas (x j) (y j)
+
+-- whether the disk tells what it holds, as the one did that the site was given
+pub told_here : {D : Type 0} (g : Ghosts D) (old new : Option D) (disk : D) → old ≡ Some disk → is_some new ≡ true
+    → IfSome old (λ a. IfSome new (λ b. is_some (g.known b).reads ≡ is_some (g.known a).reads))
+    → is_told g new ≡ is_some (g.known disk).reads
+told_here g old None disk is there both = absurd cc
+told_here g old (Some now) disk is there both =
+    from_found old disk (λ a. is_some (g.known now).reads ≡ is_some (g.known a).reads) is both
+
 -- what a first restart comes to, told of the disk that the site was given
 module _ {D N : Type 0} (g : Ghosts D)
     (counts_now : (disk : D) (t : ℕ) (image : List ℕ) → t ≤ g.moment disk → g.may_leave disk image → g.left_since disk t image)
-    (disk_of : N → Option D) (disk : D) (r : Result N (D × BeginFault)) (answer : Result (Unit {0}) BeginFault) (old new : Option D)
+    (disk_of : N → Option D) (shape : Shape) (areas : ℕ) (disk : D) (r : Result N (D × BeginFault)) (answer : Result (Unit {0}) BeginFault) (old new : Option D)
     (old_is : old ≡ Some disk) (answered : begun_by r ≡ answer) (now_of : (P : D → Type 0) → IfSome new P → OfBuilt disk_of r P) where
   of_given : (R : D → D → Type 0) → IfSome old (λ x. IfSome new (λ y. R x y)) → IfSome new (λ y. R disk y)
   of_given R both = from_found old disk (λ x. IfSome new (λ y. R x y)) old_is both
 
-  pub begins_by : ((bytes : List ℕ) → IfSome old (HasOnly g bytes) → IsBegun bytes answer)
+  pub begins_by : ((bytes : List ℕ) → IfSome old (HasOnly g bytes) → IsBegun shape bytes answer)
       → ((bytes : List ℕ) → IfSome old (HasOnly g bytes)
-      → IfSome old (λ x. IfSome new (λ y. LeavesOnly g.moment g.left_since x y (MayHaveBegun bytes))))
+      → IfSome old (λ x. IfSome new (λ y. LeavesOnly g.moment g.left_since x y (MayHaveBegun shape areas bytes))))
       → IfSome old (λ x. IfSome new (λ y. IsFaultOfBegin answer (g.known x).faults (g.known y).faults))
       → IfSome old (λ x. IfSome new (λ y. (g.known y).arms ≡ (g.known x).arms))
-      → Begins g disk_of disk r
+      → Begins g disk_of shape areas disk r
   begins_by begins any_moment faults arms = record {
     begins = λ bytes only.
-        subst (λ (a : Result (Unit {0}) BeginFault). IsBegun bytes a) (sym answered) (begins bytes (to_found old disk (HasOnly g bytes) old_is only));
+        subst (λ (a : Result (Unit {0}) BeginFault). IsBegun shape bytes a) (sym answered) (begins bytes (to_found old disk (HasOnly g bytes) old_is only));
     leaves = λ bytes only.
-        now_of _ (leaves_now g counts_now old new disk (MayHaveBegun bytes) old_is (any_moment bytes (to_found old disk (HasOnly g bytes) old_is only)));
+        now_of _ (leaves_now g counts_now old new disk (MayHaveBegun shape areas bytes) old_is (any_moment bytes (to_found old disk (HasOnly g bytes) old_is only)));
     faults = now_of _
         (subst (λ (a : Result (Unit {0}) BeginFault). IfSome new (λ y. IsFaultOfBegin a (g.known disk).faults (g.known y).faults)) (sym answered)
         (of_given (λ x y. IsFaultOfBegin answer (g.known x).faults (g.known y).faults) faults));

@@ -6,13 +6,13 @@ use Rattle.walter_base.specs.declared.message.Record.{Record}
 use Rattle.walter_base.specs.declared.names.SiteId.{SiteId}
 use Rattle.walter_disk.specs.Disks.{DiskState}
 use Rattle.walter_disk.specs.declared.disk.Disk.{Ghosts}
-use Rattle.walter_engine.specs.Contents.{HasRecords, MayHaveRecords}
+use Rattle.walter_engine.proofs.Resting.{leaves_bodies, may_have}
+use Rattle.walter_engine.specs.Contents.{HasBodies, MayHaveRecords}
 use Rattle.walter_engine.specs.Engines.{catalog_in, site_in, layout_in, disk_in, IsSameEngine, Stands}
 use Rattle.walter_engine.specs.Stores.{disk_under, IsStored}
 use Rattle.walter_engine.specs.declared.engine.Engine.{Engine}
 use Rattle.walter_engine.specs.declared.store.Store.{Store}
 use Rattle.walter_engine.specs.declared.store.Store.TheVariants.{Open, Closed}
-use Rattle.walter_journal.specs.Layout.{HasContent}
 use Rattle.walter_record.specs.Spelling.{record_spelled}
 use Rattle.walter_lane.specs.Lanes.{Sending}
 use Rattle.walter_outbox.specs.Lanes.{HavePut, out_rings, mets, met_to}
@@ -68,20 +68,16 @@ module _ {D : Type 0} (g : Ghosts D) where
   told_some None told = tt
   told_some (Some disk) told = told
 
--- whatever is in flight, the records alone may be there
-may_have : (records : List Record) (flight : Option Record) (image : List ℕ) → HasRecords image records → MayHaveRecords records flight image
-may_have records None image has = has
-may_have records (Some rec) image has = inl has
-
 module _ {D : Type 0} {g : Ghosts D} where
   -- what a crash may leave of the disk of a site that stands so
-  leaves_stored : (S : Standing) (store : Option (Store D g)) → IsStored S store
-      → IfSome (disk_under store) (λ disk. (image : List ℕ) → g.may_leave disk image → MayHaveRecords S.records S.flight image)
-  leaves_stored S None is = tt
-  leaves_stored S (Some (Open journal)) is = λ image left.
-      may_have S.records S.flight image
-      (subst (λ (bytes : List ℕ). HasContent bytes (map record_spelled S.records)) (sym (is.durable image left)) is.content)
-  leaves_stored S (Some (Closed disk)) is = is.images
+  leaves_stored : (layout : Layout) (S : Standing) (store : Option (Store D g)) → IsStored layout S store
+      → IfSome (disk_under store) (λ disk. (image : List ℕ) → g.may_leave disk image → MayHaveRecords layout S.records S.flight image)
+  leaves_stored layout S None is = tt
+  leaves_stored layout S (Some (Open book)) is = λ image left.
+      may_have layout S.records S.flight image
+      (subst (λ (l : Layout). HasBodies l image (map record_spelled S.records)) is.laid
+      (leaves_bodies g book (map record_spelled S.records) is.stands image left))
+  leaves_stored layout S (Some (Closed disk)) is = is.images
 
   -- a site with its trail and its lanes is sound
   pub sound_of : (room : Room) (n : NodeParts D g) → IsWhole g n → IsSound g (seen room n)
@@ -93,7 +89,7 @@ module _ {D : Type 0} {g : Ghosts D} where
     put = whole.is.put;
     faults = whole.is.faults;
     right = λ told. (whole.known told).right;
-    leaves = λ told. leaves_stored _ n.engine.store (whole.known told).stands.store;
+    leaves = λ told. leaves_stored _ _ n.engine.store (whole.known told).stands.store;
   }
 
   -- the same but for what its lanes know

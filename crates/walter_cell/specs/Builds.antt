@@ -4,11 +4,12 @@ use Rattle.walter_base.specs.declared.catalog.Catalog.{Catalog}
 use Rattle.walter_base.specs.declared.names.SiteId.{SiteId}
 use Rattle.walter_disk.specs.declared.disk.Disk.{Ghosts}
 use Rattle.walter_engine.specs.declared.answers.BeginFault.{BeginFault}
-use Rattle.walter_engine.specs.Begins.{HasOnly, IsBegun, IsFaultOfBegin, MayHaveBegun}
-use Rattle.walter_engine.specs.Engines.{catalog_in, site_in, capacity_in, layout_in, disk_in, is_up, IsFresh}
+use Rattle.walter_checkpoint.specs.Areas.{Shape}
+use Rattle.walter_engine.specs.Begins.{HasOnly, IsBegun, IsFaultOfBegin, IsLaidOver, MayHaveBegun}
+use Rattle.walter_engine.specs.Engines.{catalog_in, site_in, capacity_in, layout_for, layout_in, disk_in, is_up, IsFresh}
 use Rattle.walter_engine.specs.declared.engine.Engine.{Engine}
 use Rattle.walter_lane.specs.Lanes.{Sending}
-use Rattle.walter_rules.specs.Layouts.{Layout, one_area}
+use Rattle.walter_rules.specs.Layouts.{Layout}
 use Rattle.walter_rules.specs.Trails.{opening}
 use Rattle.walter_cell.specs.Nodes.{NodeValue, is_told}
 
@@ -16,6 +17,10 @@ use Rattle.walter_cell.specs.Nodes.{NodeValue, is_told}
 abbrev pub begun_by : {N D : Type 0} → Result N (D × BeginFault) → Result (Unit {0}) BeginFault
 begun_by (Ok node) = Ok tt
 begun_by (Err back) = Err back.1
+
+-- a layout that a journal of so many bytes can have, at a site among so many
+abbrev pub IsOfCapacity : (capacity sites : ℕ) → Layout → Type 0
+IsOfCapacity capacity sites layout = (areas : ℕ) × (layout ≡ layout_for areas capacity sites)
 
 -- of the disk behind a building P holds, under the site or beside the fault
 abbrev pub OfBuilt : {N D : Type 0} → (N → Option D) → Result N (D × BeginFault) → (D → Type 0) → Type 0
@@ -25,19 +30,23 @@ OfBuilt disk_of (Err back) P = P back.0
 module _ {D : Type 0} (g : Ghosts D) where
   -- what is answered, by the bytes that the disk had, where a crash left nothing else; and what one leaves then. The disk's
   -- faults rise exactly where a call of it failed, and nothing is armed.
-  pub record Begins {N : Type 0} (disk_of : N → Option D) (disk : D) (result : Result N (D × BeginFault)) : Type 0 where
-    pub begins : (bytes : List ℕ) → HasOnly g bytes disk → IsBegun bytes (begun_by result)
+  pub record Begins {N : Type 0} (disk_of : N → Option D) (shape : Shape) (areas : ℕ) (disk : D)
+      (result : Result N (D × BeginFault)) : Type 0 where
+    pub begins : (bytes : List ℕ) → HasOnly g bytes disk → IsBegun shape bytes (begun_by result)
     pub leaves : (bytes : List ℕ) → HasOnly g bytes disk
-        → OfBuilt disk_of result (λ now. (image : List ℕ) → g.may_leave now image → MayHaveBegun bytes image)
+        → OfBuilt disk_of result (λ now. (image : List ℕ) → g.may_leave now image → MayHaveBegun shape areas bytes image)
     pub faults : OfBuilt disk_of result (λ now.
         IsFaultOfBegin (begun_by result) (g.known disk).faults (g.known now).faults)
     pub arms : OfBuilt disk_of result (λ now. (g.known now).arms ≡ (g.known disk).arms)
 
-  -- a site over this disk, up in its first epoch: its trail is the opening
-  pub record HasOpened (catalog : Catalog) (layout : Layout) (i : SiteId) (disk : D) (outs : List Sending)
+  -- a site over this disk, up in its first epoch: its trail is the opening. Its journal is laid out in so many areas, where
+  -- the disk has no bytes, and else as it was.
+  pub record HasOpened (catalog : Catalog) (capacity areas : ℕ) (i : SiteId) (disk : D) (outs : List Sending)
       (node : NodeValue D) : Type 0 where
     pub catalog_is : node.catalog ≡ catalog
-    pub layout_is : node.layout ≡ layout
+    pub sized : IsOfCapacity capacity catalog.sites node.layout
+    pub laid : (bytes : List ℕ) → HasOnly g bytes disk
+        → IsLaidOver bytes (layout_for areas capacity catalog.sites) node.layout
     pub site : node.site ≡ i
     pub trail : node.trail ≡ opening ∷ []
     pub outs_are : node.outs ≡ outs
@@ -45,7 +54,7 @@ module _ {D : Type 0} (g : Ghosts D) where
     pub told : is_told g node.disk ≡ is_some (g.known disk).reads
 
 -- a site that is down over this disk, to which nothing has happened
-pub record IsNewEngine {D : Type 0} {g : Ghosts D} (catalog : Catalog) (capacity : ℕ) (i : SiteId) (disk : D)
+pub record IsNewEngine {D : Type 0} {g : Ghosts D} (catalog : Catalog) (capacity areas : ℕ) (i : SiteId) (disk : D)
     (engine : Engine D g) : Type 0 where
   pub disk_is : disk_in engine ≡ Some disk
   pub down : is_up engine ≡ false
@@ -53,4 +62,4 @@ pub record IsNewEngine {D : Type 0} {g : Ghosts D} (catalog : Catalog) (capacity
   pub catalog_is : catalog_in engine ≡ catalog
   pub site : site_in engine ≡ i
   pub capacity_is : capacity_in engine ≡ capacity
-  pub layout_is : layout_in engine ≡ one_area capacity
+  pub areas_are : engine.areas ≡ areas

@@ -16,7 +16,6 @@ use Rattle.walter_rules.specs.declared.event.Event.{Event}
 use Rattle.walter_rules.specs.declared.event.Event.TheVariants as event
 use Rattle.walter_rules.specs.declared.event.Input.TheVariants as input
 use Rattle.walter_rules.specs.Kinds.{IfCall}
-use Rattle.walter_rules.specs.Layouts.{Layout}
 use Rattle.walter_trail.specs.Calls.{calls_of}
 use Rattle.walter_cell.specs.declared.answers.Acted.{Acted}
 use Rattle.walter_cell.specs.declared.answers.Acted.TheVariants as acted
@@ -76,9 +75,9 @@ module _ {D : Type 0} where
           → MayDrop old.node.catalog old.node.site (met_to old.node.outs) old.node.trail new.node.trail
 
   -- a site began over this disk with these ends of its lanes and these connections
-  pub record HasBegun (g : Ghosts D) (catalog : Catalog) (layout : Layout) (i : SiteId) (disk : D) (outs : List Sending)
-      (ins : List Receiving) (lines : List (Option LineValue)) (cell : CellValue D) : Type 0 where
-    pub node : HasOpened g catalog layout i disk outs cell.node
+  pub record HasBegun (g : Ghosts D) (catalog : Catalog) (capacity areas : ℕ) (i : SiteId) (disk : D)
+      (outs : List Sending) (ins : List Receiving) (lines : List (Option LineValue)) (cell : CellValue D) : Type 0 where
+    pub node : HasOpened g catalog capacity areas i disk outs cell.node
     pub ins_are : cell.ins ≡ ins
     pub lines_are : cell.lines ≡ lines
 

@@ -12,7 +12,8 @@ ghost use Rattle.walter_cell.specs.Entries.{IsPlain, IsSpent};
 ghost use Rattle.walter_cell.specs.Lines.{is_here, IsLineAt, CanFail, HasFaultAt};
 ghost use Rattle.walter_cell.specs.Nodes.{clock_in, IsSound};
 ghost use Rattle.walter_outbox.specs.Lanes.{put_to, arrived_from, posted, ring_to, ring_from};
-ghost use Rattle.walter_rules.specs.Layouts.{one_area};
+ghost use Rattle.walter_checkpoint.specs.Areas.{shape_by};
+ghost use Rattle.walter_checkpoint.specs.Loads.{IsAreas};
 ghost use Rattle.walter_rules.specs.Merges.{put_out_to};
 
 use crate::answers::{Acted, Moved, Serve};
@@ -69,6 +70,7 @@ impl<D: Disk + Drop, S: Source + Drop, K: Sink + Drop> Cell<D, S, K> {
         catalog: &Catalog,
         site: SiteId,
         capacity: u64,
+        areas: u8,
         outs: Vec<Outbound>,
         ins: Vec<Inbound>,
         lines: Vec<Option<Line<S, K>>>,
@@ -77,14 +79,15 @@ impl<D: Disk + Drop, S: Source + Drop, K: Sink + Drop> Cell<D, S, K> {
         requires most { catalog.now.sites ≤ most_sites }
         requires fewer { catalog.now.tolerated < catalog.now.sites }
         requires place { 19 ≤ capacity }
+        requires areas { IsAreas areas capacity }
         requires outs { length outs.items ≡ catalog.now.sites }
         requires ins { length ins.items ≡ catalog.now.sites }
         requires empty { (k : ℕ) → k < catalog.now.sites → put_to outs.items k ≡ [] }
         ensures opens { IfOk result
-            (HasBegun D.Disk catalog.now (one_area capacity) site disk outs.items ins.items lines.items) }
-        ensures begins { Begins D.Disk (λ cell. cell.node.disk) disk result }
+            (HasBegun D.Disk catalog.now capacity areas site disk outs.items ins.items lines.items) }
+        ensures begins { Begins D.Disk (λ cell. cell.node.disk) (shape_by capacity catalog.now.sites) areas disk result }
     {
-        let node = Node::begin(alloc, disk, catalog, site, capacity, outs)?;
+        let node = Node::begin(alloc, disk, catalog, site, capacity, areas, outs)?;
         Ok(Cell { node, ins, lines })
     }
 

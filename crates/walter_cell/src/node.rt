@@ -6,9 +6,10 @@ ghost use Rattle.walter_engine.specs.Engines.{IsRoomy};
 ghost use Rattle.walter_engine.specs.declared.answers.BeginFault.TheVariants as unbegun;
 ghost use Rattle.walter_machine.specs.States.{IsSizedEvent};
 ghost use Rattle.walter_cell.specs.Builds.{Begins, HasOpened, IsNewEngine};
+ghost use Rattle.walter_checkpoint.specs.Areas.{shape_by};
+ghost use Rattle.walter_checkpoint.specs.Loads.{IsAreas};
 ghost use Rattle.walter_cell.specs.Entries.{IsSpent, HasPlace};
 ghost use Rattle.walter_outbox.specs.Lanes.{put_to, met_to, mets, ring_to, out_rings};
-ghost use Rattle.walter_rules.specs.Layouts.{one_area};
 ghost use Rattle.walter_rules.specs.Trails.{opening};
 
 use std::alloc::Global;
@@ -80,21 +81,23 @@ impl<D: Disk + Drop> Node<D> {
         catalog: &Catalog,
         site: SiteId,
         capacity: u64,
+        areas: u8,
         outs: Vec<Outbound>,
     ) -> Result<Node<D>, (D, BeginFault)>
         requires here { site.0 < catalog.now.sites }
         requires most { catalog.now.sites ≤ most_sites }
         requires fewer { catalog.now.tolerated < catalog.now.sites }
         requires place { 19 ≤ capacity }
+        requires areas { IsAreas areas capacity }
         requires lanes { length outs.items ≡ catalog.now.sites }
         requires empty { (k : ℕ) → k < catalog.now.sites → put_to outs.items k ≡ [] }
-        ensures opens { IfOk result (HasOpened D.Disk catalog.now (one_area capacity) site disk outs.items) }
-        ensures begins { Begins D.Disk (λ node. node.disk) disk result }
+        ensures opens { IfOk result (HasOpened D.Disk catalog.now capacity areas site disk outs.items) }
+        ensures begins { Begins D.Disk (λ node. node.disk) (shape_by capacity catalog.now.sites) areas disk result }
     {
         let Ok((mut entries, place)) = open(alloc) else {
             return Err((disk, BeginFault::NoMemory));
         };
-        let mut engine = new_engine(alloc, disk, catalog, site, capacity)?;
+        let mut engine = new_engine(alloc, disk, catalog, site, capacity, areas)?;
         if let Err(why) = engine.begin() {
             return Err((Box::into_inner(engine).into_disk(), why));
         }
@@ -239,15 +242,17 @@ fn new_engine<D: Disk + Drop>(
     catalog: &Catalog,
     site: SiteId,
     capacity: u64,
+    areas: u8,
 ) -> Result<Box<Engine<D>>, (D, BeginFault)>
     requires here { site.0 < catalog.now.sites }
     requires most { catalog.now.sites ≤ most_sites }
     requires fewer { catalog.now.tolerated < catalog.now.sites }
-    ensures ok { IfOk result (λ engine. IsNewEngine catalog.now capacity site disk engine.value) }
+    requires areas { IsAreas areas capacity }
+    ensures ok { IfOk result (λ engine. IsNewEngine catalog.now capacity areas site disk engine.value) }
     ensures room { IfOk result (λ engine. IsRoomy engine.value) }
     ensures back { IfErr result (λ back. (back.0 ≡ disk) × (back.1 ≡ unbegun.NoMemory)) }
 {
-    let mut engine = match Engine::new(alloc, disk, catalog, site, capacity) {
+    let mut engine = match Engine::new(alloc, disk, catalog, site, capacity, areas) {
         Ok(engine) => engine,
         Err(disk) => return Err((disk, BeginFault::NoMemory)),
     };

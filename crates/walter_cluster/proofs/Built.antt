@@ -23,7 +23,7 @@ use Rattle.walter_scenario.specs.declared.scenario.Scenario.{Scenario}
 use Rattle.walter_trail.specs.Calls.{calls_of}
 use Rattle.walter_cluster.specs.declared.opening.Parts.{Parts}
 use Rattle.walter_cluster.specs.Benches.{outs_at, ins_at, arms_at, is_site, is_home, IsCellAt, IsBench, IsOf, IsToldAt, AreAllConnected, AreAllAnswered, AreMet, HasRoom}
-use Rattle.walter_cluster.specs.Builds.{AreUnread, AreUnwritten, AreUnarmed, HadNoRecords}
+use Rattle.walter_cluster.specs.Builds.{AreUnread, AreUnwritten, AreUnarmed, AreLaid, HadNoRecords}
 use Rattle.walter_cluster.specs.Lanes.{AreJoined, rows_in, columns_in, row_of, column_of}
 use Rattle.walter_cluster.specs.Moments.{IsFirst, moment_of}
 use Rattle.walter_cluster.specs.Openings.{HasPlaces, HasBegunAt, HaveBegun, ArePrepared}
@@ -123,15 +123,19 @@ module _ {D : Type 0} (g : Ghosts D) (t : Scenario) (disks : List D) (rows : Lis
   of_built homes homes_are = record {
     sites = begun.long;
     catalogs = λ i c at. (begun_at i c at).2.begun.node.catalog_is;
-    layouts = λ i c at. (begun_at i c at).2.begun.node.layout_is;
     homes = homes_are;
   }
 
   pub told_built : (homes : List SiteId) (i : ℕ) (disk : D) → slice_get disks i ≡ Some disk → IsSome (g.known disk).reads → IsToldAt g i (record { cells = cells; homes = homes })
   told_built homes i disk at told c here = (begun.each i disk c at here).begun.node.told ∙ told
 
-  pub none_had_built : HadNoRecords g disks
+  pub none_had_built : HadNoRecords g t disks
   none_had_built = none_had g t disks rows columns lists t.catalog.sites cells begun (sym disks_long)
+
+  pub laid_built : AreLaid g t disks cells
+  laid_built i disk c bytes at here has =
+      let node = (begun.each i disk c at here).begun.node in
+      record { sized = node.sized; laid = node.laid bytes has }
 
   -- ---- their lanes
 

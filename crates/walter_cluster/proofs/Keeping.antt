@@ -17,7 +17,7 @@ use Rattle.walter_outbox.specs.Lanes.{arrived_from, ring_to, ring_from, no_ring,
 use Rattle.walter_psi.proofs.Lists.{contains_at}
 use Rattle.walter_rules.specs.Knowledge.{site_at}
 use Rattle.walter_scenario.specs.declared.scenario.Scenario.{Scenario}
-use Rattle.walter_cluster.specs.Benches.{BenchValue, IsCellAt, IsBench, IsOf, AreConnected, AreAnswered, AreAllConnected, AreAllAnswered, AtEach, EachKeeps, Keeps, IsToldAt, HasRoom, outs_at, ins_at, is_site, is_home, layout_of}
+use Rattle.walter_cluster.specs.Benches.{BenchValue, IsCellAt, IsBench, IsOf, AreConnected, AreAnswered, AreAllConnected, AreAllAnswered, AtEach, EachKeeps, Keeps, IsToldAt, HasRoom, outs_at, ins_at, is_site, is_home}
 use Rattle.walter_cluster.specs.Meetings.{HaveLanes}
 use Rattle.walter_cluster.specs.Pumps.{IsPumpAt}
 use Rattle.walter_link.specs.Pumps.{PumpValue}
@@ -190,7 +190,6 @@ module _ {D : Type 0} (g : Ghosts D) where
     of_each t homes is = record {
       sites = all.long ∙ is.sites;
       catalogs = kept_each old.cells new.cells all (λ i c. c.node.catalog ≡ t.catalog) (λ i a b kept was. kept.node.catalog ∙ was) is.catalogs;
-      layouts = kept_each old.cells new.cells all (λ i c. c.node.layout ≡ layout_of t) (λ i a b kept was. kept.node.layout ∙ was) is.layouts;
       homes = homes ∙ is.homes;
     }
 

@@ -16,7 +16,7 @@ use Rattle.walter_psi.proofs.Lists.{slice_get-push_cases, slice_get-append_left}
 use Rattle.walter_rules.specs.Knowledge.{site_at}
 use Rattle.walter_scenario.specs.declared.scenario.Scenario.{Scenario}
 use Rattle.walter_cluster.specs.declared.opening.Unbuilt.{Unbuilt}
-use Rattle.walter_cluster.specs.Benches.{disks_of, layout_of}
+use Rattle.walter_cluster.specs.Benches.{disks_of, shape_of}
 use Rattle.walter_cluster.specs.Builds.{LeavesDisk, LeavesDisks, HadNoRecords, IsWhyNone}
 use Rattle.walter_cluster.specs.Lanes.{row_of, column_of}
 use Rattle.walter_cluster.specs.Openings.{HasBegunAt, HaveBegun}
@@ -25,21 +25,21 @@ use Rattle.walter_cluster.proofs.Places.{at_place, slice_get_behind, slice_get-d
 
 -- ---- disks
 
-module _ {D : Type 0} (g : Ghosts D) where
+module _ {D : Type 0} (g : Ghosts D) (t : Scenario) where
   -- a disk that wasn't touched
-  pub untouched : (disk : D) → LeavesDisk g disk disk
+  pub untouched : (disk : D) → LeavesDisk g t disk disk
   untouched disk = record {
     images = λ bytes has image may. inl (has.only image may);
     faults = omega arith;
     arms = refl;
   }
 
-  pub faults_grow : (why : BeginFault) (old new : ℕ) → IsFaultOfBegin (Err why) old new → old ≤ new
-  faults_grow Failed old new h = omega (arith, h)
-  faults_grow Foreign old new h = omega (arith, h)
-  faults_grow (Damaged at length) old new h = omega (arith, h)
-  faults_grow Used old new h = omega (arith, h)
-  faults_grow NoMemory old new h = omega (arith, h)
+pub faults_grow : (why : BeginFault) (old new : ℕ) → IsFaultOfBegin (Err why) old new → old ≤ new
+faults_grow Failed old new h = omega (arith, h)
+faults_grow Foreign old new h = omega (arith, h)
+faults_grow (Damaged at length) old new h = omega (arith, h)
+faults_grow Used old new h = omega (arith, h)
+faults_grow NoMemory old new h = omega (arith, h)
 
 -- a disk that is there
 module _ {D : Type 0} where
@@ -55,8 +55,8 @@ module _ {D : Type 0} where
 module _ {D : Type 0} (g : Ghosts D) (t : Scenario) where
   -- a cell that began
   pub cell_begins : (i : ℕ) (disk : D) (row : List Sending) (column : List Receiving) (list : List (Option LineValue)) (c : CellValue D)
-      → HasBegun g t.catalog (layout_of t) (site_at i) disk row column list c
-      → Begins g {N = CellValue D} (λ (x : CellValue D). x.node.disk) disk (Ok c)
+      → HasBegun g t.catalog t.capacity t.areas (site_at i) disk row column list c
+      → Begins g {N = CellValue D} (λ (x : CellValue D). x.node.disk) (shape_of t) t.areas disk (Ok c)
       → HasBegunAt g t i disk row column list c
   cell_begins i disk row column list c begun begins =
       let there = one_is c.node.disk begun.node.there in
@@ -67,7 +67,7 @@ module _ {D : Type 0} (g : Ghosts D) (t : Scenario) where
         now = there.0;
         now_is = there.1;
         leaves = record {
-          images = λ bytes has. of_one c.node.disk there.0 (λ (now : D). (image : List ℕ) → g.may_leave now image → MayHaveBegun bytes image) there.1 (begins.leaves bytes has);
+          images = λ bytes has. of_one c.node.disk there.0 (λ (now : D). (image : List ℕ) → g.may_leave now image → MayHaveBegun (shape_of t) t.areas bytes image) there.1 (begins.leaves bytes has);
           faults = omega (arith, same);
           arms = of_one c.node.disk there.0 (λ (now : D). (g.known now).arms ≡ (g.known disk).arms) there.1 begins.arms;
         };
@@ -103,7 +103,7 @@ module _ {D : Type 0} (g : Ghosts D) (t : Scenario) where
     module _ (n : ℕ) (cells : List (CellValue D)) (h : HaveBegun g t disks rows columns lists n cells) where
       -- the disk of a site that began
       begun_of : (i : ℕ) (disk : D) → i < n → slice_get disks i ≡ Some disk
-          → (now : D) × (slice_get (disks_of cells) i ≡ Some (Some now)) × LeavesDisk g disk now × ((g.known now).faults ≡ (g.known disk).faults)
+          → (now : D) × (slice_get (disks_of cells) i ≡ Some (Some now)) × LeavesDisk g t disk now × ((g.known now).faults ≡ (g.known disk).faults)
       begun_of i disk lt at =
           let there = at_place cells i (omega (arith, lt, h.long)) in
           let begun = h.each i disk there.0 at there.1 in (
@@ -114,16 +114,16 @@ module _ {D : Type 0} (g : Ghosts D) (t : Scenario) where
           )
 
       -- what a site that began left of its disk
-      pub left_of : (i : ℕ) (disk : D) → i < n → slice_get disks i ≡ Some disk → (now : D) × (slice_get (disks_of cells) i ≡ Some (Some now)) × LeavesDisk g disk now
+      pub left_of : (i : ℕ) (disk : D) → i < n → slice_get disks i ≡ Some disk → (now : D) × (slice_get (disks_of cells) i ≡ Some (Some now)) × LeavesDisk g t disk now
       left_of i disk lt at = let begun = begun_of i disk lt at in (begun.0, begun.1, begun.2)
 
-      pub had_none_before : (i : ℕ) (disk : D) (bytes : List ℕ) → i < n → slice_get disks i ≡ Some disk → HasOnly g bytes disk → HasNoRecord bytes
+      pub had_none_before : (i : ℕ) (disk : D) (bytes : List ℕ) → i < n → slice_get disks i ≡ Some disk → HasOnly g bytes disk → HasNoRecord (shape_of t) bytes
       had_none_before i disk bytes lt at has =
           let there = at_place cells i (omega (arith, lt, h.long)) in
           (h.each i disk there.0 at there.1).had_none bytes has
 
       -- all began
-      pub none_had : n ≡ length disks → HadNoRecords g disks
+      pub none_had : n ≡ length disks → HadNoRecords g t disks
       none_had all i disk bytes at has = let lt = slice_get_within disks i disk at in had_none_before i disk bytes (omega (arith, lt, all)) at has
 
       -- the next did not begin, and all disks come back
@@ -141,17 +141,17 @@ module _ {D : Type 0} (g : Ghosts D) (t : Scenario) where
             ∙ slice_get-map (λ (d : D). Some d) rest (i - (n + 1))
             ∙ ap (option_map (λ (d : D). Some d)) (ap (λ ds. slice_get ds (i - (n + 1))) rest_is ∙ slice_get-drop disks (n + 1) i (i - (n + 1)) (omega (arith, past)) ∙ at)
 
-        back_at : LeavesDisk g disk failed → (i : ℕ) (d : D) → slice_get disks i ≡ Some d → (i < n) ⊎ (n ≤ i) → (i ≡ n) ⊎ (i ≡ n → ⊥)
-            → (now : D) × (slice_get (disks_of cells ++ map (λ (d : D). Some d) (failed ∷ rest)) i ≡ Some (Some now)) × LeavesDisk g d now
+        back_at : LeavesDisk g t disk failed → (i : ℕ) (d : D) → slice_get disks i ≡ Some d → (i < n) ⊎ (n ≤ i) → (i ≡ n) ⊎ (i ≡ n → ⊥)
+            → (now : D) × (slice_get (disks_of cells ++ map (λ (d : D). Some d) (failed ∷ rest)) i ≡ Some (Some now)) × LeavesDisk g t d now
         back_at leaves i d at (inl before) _ =
             let left = left_of i d before at in
             (left.0, slice_get-append_left (disks_of cells) (map (λ (d : D). Some d) (failed ∷ rest)) (Some left.0) i left.1, left.2)
         back_at leaves i d at (inr past) (inl here) =
             let same : disk ≡ d = same_Some disk d (sym next ∙ ap (slice_get disks) (sym here) ∙ at) in
-            (failed, ap (slice_get (disks_of cells ++ map (λ (d : D). Some d) (failed ∷ rest))) here ∙ failed_at, subst (λ e. LeavesDisk g e failed) same leaves)
-        back_at leaves i d at (inr past) (inr apart) = (d, rest_at i d (omega (arith, past, apart)) at, untouched g d)
+            (failed, ap (slice_get (disks_of cells ++ map (λ (d : D). Some d) (failed ∷ rest))) here ∙ failed_at, subst (λ e. LeavesDisk g t e failed) same leaves)
+        back_at leaves i d at (inr past) (inr apart) = (d, rest_at i d (omega (arith, past, apart)) at, untouched g t d)
 
-        pub all_back : LeavesDisk g disk failed → LeavesDisks g disks (Err unbuilt)
+        pub all_back : LeavesDisk g t disk failed → LeavesDisks g t disks (Err unbuilt)
         all_back leaves i d at =
             let left = back_at leaves i d at (cases_lt i n) (cases_eq i n) in
             (left.0, ap (λ ds. slice_get ds i) is ∙ left.1, left.2)
@@ -168,8 +168,8 @@ module _ {D : Type 0} (g : Ghosts D) (t : Scenario) where
             let Now : D → Type 0 = λ e. (g.known e).faults ≡ (g.known d).faults in
             subst Now (same_Some begun.0 now its) begun.3
 
-        pub why_none : unbuilt.site.0 ≡ n → ((bytes : List ℕ) → HasOnly g bytes disk → IsBegun bytes (Err unbuilt.why))
-            → IsFaultOfBegin (Err unbuilt.why) (g.known disk).faults (g.known failed).faults → IsWhyNone g disks unbuilt
+        pub why_none : unbuilt.site.0 ≡ n → ((bytes : List ℕ) → HasOnly g bytes disk → IsBegun (shape_of t) bytes (Err unbuilt.why))
+            → IsFaultOfBegin (Err unbuilt.why) (g.known disk).faults (g.known failed).faults → IsWhyNone g t disks unbuilt
         why_none site why faults =
             let lt = slice_get_within disks n disk next in
             let who : (d : D) → slice_get disks unbuilt.site.0 ≡ Some d → disk ≡ d = λ d at. same_Some disk d (sym next ∙ ap (slice_get disks) (sym site) ∙ at) in

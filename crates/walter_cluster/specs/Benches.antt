@@ -4,17 +4,21 @@ use Rattle.std.specs.declared.alloc.Global.{Global}
 use Rattle.walter_base.specs.declared.names.SiteId.{SiteId}
 use Rattle.walter_base.specs.Names.{same_site}
 use Rattle.walter_base.specs.Vectors.{most_sites}
+use Rattle.walter_cell.specs.Builds.{IsOfCapacity}
 use Rattle.walter_cell.specs.Cells.{CellValue}
 use Rattle.walter_cell.specs.Cells as cell
 use Rattle.walter_cell.specs.Lines.{LineValue, is_here, IsLineAt}
 use Rattle.walter_cell.specs.Nodes.{arms_under, is_told}
 use Rattle.walter_cell.specs.Written.{AreWrittenAt}
+use Rattle.walter_checkpoint.specs.Areas.{Shape, shape_by}
 use Rattle.walter_disk.specs.declared.disk.Disk.{Ghosts}
+use Rattle.walter_engine.specs.Begins.{IsLaidOver}
+use Rattle.walter_engine.specs.Engines.{layout_for}
 use Rattle.walter_lane.specs.Lanes.{Sending, Receiving}
 use Rattle.walter_outbox.specs.Lanes.{arrived_from, met_to, ring_to, ring_from}
 use Rattle.walter_rules.specs.declared.entry.Entry.{Entry}
 use Rattle.walter_rules.specs.Knowledge.{site_at}
-use Rattle.walter_rules.specs.Layouts.{Layout, one_area}
+use Rattle.walter_rules.specs.Layouts.{Layout}
 use Rattle.walter_scenario.specs.declared.scenario.Client.{Client}
 use Rattle.walter_scenario.specs.declared.scenario.Scenario.{Scenario}
 use Rattle.walter_trail.specs.Calls.{calls_of}
@@ -32,9 +36,19 @@ pub record BenchValue (D : Type 0) : Type 0 where
   pub cells : List (CellValue D)
   pub homes : List SiteId
 
--- each site's journal has one area
+-- by what the bytes of a site's disk are read, beside themselves
+abbrev pub shape_of : Scenario → Shape
+shape_of t = shape_by t.capacity t.catalog.sites
+
+-- how the journal of a site is laid out that begins over a disk of no bytes
 abbrev pub layout_of : Scenario → Layout
-layout_of t = one_area t.capacity
+layout_of t = layout_for t.areas t.capacity t.catalog.sites
+
+-- so the journal of a site is laid out that begins over a disk with these bytes: over none as the scenario says, else as
+-- they are
+pub record IsLaidFor (t : Scenario) (bytes : List ℕ) (layout : Layout) : Type 0 where
+  pub sized : IsOfCapacity t.capacity t.catalog.sites layout
+  pub laid : IsLaidOver bytes (layout_of t) layout
 
 -- there are as many elements, and of what each was and became it is so
 pub record EachBecomes {X : Type 0} (R : (old new : X) → Type 0) (old new : List X) : Type 0 where
@@ -91,7 +105,6 @@ module _ {D : Type 0} where
   pub record IsOf (t : Scenario) (bench : BenchValue D) : Type 0 where
     pub sites : length bench.cells ≡ t.catalog.sites
     pub catalogs : AtEach bench.cells (λ i c. c.node.catalog ≡ t.catalog)
-    pub layouts : AtEach bench.cells (λ i c. c.node.layout ≡ layout_of t)
     pub homes : bench.homes ≡ map (λ (client : Client). client.site) t.clients
 
   -- of the bytes of each client of the site the calls in the trail were read

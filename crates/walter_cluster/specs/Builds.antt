@@ -6,7 +6,8 @@ use Rattle.walter_cell.specs.Written.{AreWritten}
 use Rattle.walter_disk.specs.declared.disk.Disk.{Ghosts}
 use Rattle.walter_engine.specs.Begins.{HasOnly, IsBegun, IsFaultOfBegin, MayHaveBegun, HasNoRecord}
 use Rattle.walter_scenario.specs.declared.scenario.Client.{Client}
-use Rattle.walter_cluster.specs.Benches.{BenchValue, disks_of, trails_of}
+use Rattle.walter_scenario.specs.declared.scenario.Scenario.{Scenario}
+use Rattle.walter_cluster.specs.Benches.{BenchValue, IsLaidFor, disks_of, shape_of, trails_of}
 use Rattle.walter_cluster.specs.declared.closing.Closed.{Closed}
 use Rattle.walter_cluster.specs.declared.opening.Unbuilt.{Unbuilt}
 
@@ -20,34 +21,41 @@ abbrev pub AreUnwritten : (ℕ → List ℕ) → List LineValue → Type 0
 AreUnwritten before conns = (number : ℕ) (line : LineValue)
     → slice_get conns number ≡ Some line → AreWritten (before number) [] line.incoming.state line.sent
 
-module _ {D : Type 0} (g : Ghosts D) where
-  -- no disk was armed, where it tells that
-  abbrev pub AreUnarmed : List D → Type 0
-  AreUnarmed disks = (i : ℕ) (disk : D) → slice_get disks i ≡ Some disk → IfSome (g.known disk).arms (λ arms. arms ≡ [])
+-- no disk was armed, where it tells that
+abbrev pub AreUnarmed : {D : Type 0} → Ghosts D → List D → Type 0
+AreUnarmed {D = D} g disks = (i : ℕ) (disk : D) → slice_get disks i ≡ Some disk
+    → IfSome (g.known disk).arms (λ arms. arms ≡ [])
 
+module _ {D : Type 0} (g : Ghosts D) (t : Scenario) where
   -- what the building leaves of the disk of a site, which it was given so
   pub record LeavesDisk (disk now : D) : Type 0 where
     pub images : (bytes : List ℕ) → HasOnly g bytes disk
-        → (image : List ℕ) → g.may_leave now image → MayHaveBegun bytes image
+        → (image : List ℕ) → g.may_leave now image
+        → MayHaveBegun (shape_of t) t.areas bytes image
     pub faults : (g.known disk).faults ≤ (g.known now).faults
     pub arms : (g.known now).arms ≡ (g.known disk).arms
 
   -- where all sites begin, no record stood on the disk of any
   abbrev pub HadNoRecords : List D → Type 0
   HadNoRecords disks = (i : ℕ) (disk : D) (bytes : List ℕ) → slice_get disks i ≡ Some disk → HasOnly g bytes disk
-      → HasNoRecord bytes
+      → HasNoRecord (shape_of t) bytes
+
+  -- and the journal of each is laid out as the bytes of its disk say, or the scenario
+  abbrev pub AreLaid : List D → List (CellValue D) → Type 0
+  AreLaid disks cells = (i : ℕ) (disk : D) (c : CellValue D) (bytes : List ℕ) → slice_get disks i ≡ Some disk
+      → slice_get cells i ≡ Some c → HasOnly g bytes disk → IsLaidFor t bytes c.node.layout
 
   -- where one doesn't, it is one of the sites, and its disk is why; or memory ran out. The sites before it began, and no
   -- call of their disks failed
   pub record IsWhyNone (disks : List D) (unbuilt : Unbuilt D) : Type 0 where
     pub there : unbuilt.site.0 < length disks
     pub why : (disk : D) (bytes : List ℕ) → slice_get disks unbuilt.site.0 ≡ Some disk → HasOnly g bytes disk
-        → IsBegun bytes (Err unbuilt.why)
+        → IsBegun (shape_of t) bytes (Err unbuilt.why)
     pub fault : (disk now : D) → slice_get disks unbuilt.site.0 ≡ Some disk
         → slice_get unbuilt.disks.items unbuilt.site.0 ≡ Some now
         → IsFaultOfBegin (Err unbuilt.why) (g.known disk).faults (g.known now).faults
     pub before : (i : ℕ) (disk : D) (bytes : List ℕ) → i < unbuilt.site.0 → slice_get disks i ≡ Some disk
-        → HasOnly g bytes disk → HasNoRecord bytes
+        → HasOnly g bytes disk → HasNoRecord (shape_of t) bytes
     pub faultless : (i : ℕ) (disk now : D) → i < unbuilt.site.0 → slice_get disks i ≡ Some disk
         → slice_get unbuilt.disks.items i ≡ Some now → (g.known now).faults ≡ (g.known disk).faults
     pub all_back : length unbuilt.disks.items ≡ length disks
@@ -58,9 +66,9 @@ module _ {D : Type 0} where
   disks_after (Ok bench) = disks_of bench.cells
   disks_after (Err unbuilt) = map (λ (d : D). Some d) unbuilt.disks.items
 
-  abbrev pub LeavesDisks : Ghosts D → List D → Result (BenchValue D) (Unbuilt D) → Type 0
-  LeavesDisks g disks result = (i : ℕ) (disk : D) → slice_get disks i ≡ Some disk
-      → (now : D) × (slice_get (disks_after result) i ≡ Some (Some now)) × LeavesDisk g disk now
+  abbrev pub LeavesDisks : Ghosts D → Scenario → List D → Result (BenchValue D) (Unbuilt D) → Type 0
+  LeavesDisks g t disks result = (i : ℕ) (disk : D) → slice_get disks i ≡ Some disk
+      → (now : D) × (slice_get (disks_after result) i ≡ Some (Some now)) × LeavesDisk g t disk now
 
 -- the disk, the trail and the connections of each cell, in order
 pub record GivesBack {D S K : Type 0} (cells : List (CellValue D)) (closed : Closed D S K) : Type 0 where

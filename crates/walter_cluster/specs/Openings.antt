@@ -11,7 +11,7 @@ use Rattle.walter_scenario.specs.declared.scenario.Client.{Client}
 use Rattle.walter_scenario.specs.declared.scenario.Scenario.{Scenario}
 use Rattle.walter_cluster.specs.declared.opening.Parts.{Parts}
 use Rattle.walter_cluster.specs.declared.opening.Room.{Room}
-use Rattle.walter_cluster.specs.Benches.{BenchValue, layout_of}
+use Rattle.walter_cluster.specs.Benches.{BenchValue, shape_of}
 use Rattle.walter_cluster.specs.Builds.{LeavesDisk}
 use Rattle.walter_cluster.specs.Lanes.{AreJoined, rows_in, columns_in, row_of, column_of}
 use Rattle.walter_cluster.specs.Seats.{lists_in, list_of, HavePlaces, AreSeated, AreAtHome}
@@ -44,11 +44,11 @@ module _ {D : Type 0} (g : Ghosts D) where
   -- of the disks, and none failed.
   pub record HasBegunAt (t : Scenario) (i : ℕ) (disk : D) (row : List Sending) (column : List Receiving)
       (list : List (Option LineValue)) (c : CellValue D) : Type 0 where
-    pub begun : HasBegun g t.catalog (layout_of t) (site_at i) disk row column list c
-    pub had_none : (bytes : List ℕ) → HasOnly g bytes disk → HasNoRecord bytes
+    pub begun : HasBegun g t.catalog t.capacity t.areas (site_at i) disk row column list c
+    pub had_none : (bytes : List ℕ) → HasOnly g bytes disk → HasNoRecord (shape_of t) bytes
     pub now : D
     pub now_is : c.node.disk ≡ Some now
-    pub leaves : LeavesDisk g disk now
+    pub leaves : LeavesDisk g t disk now
     pub faultless : (g.known now).faults ≡ (g.known disk).faults
 
   pub record HaveBegun (t : Scenario) (disks : List D) (rows : List (List Sending)) (columns : List (List Receiving))

@@ -2,10 +2,11 @@ ghost use Rattle.std.specs.Prelude.{◌≡◌, ◌<◌, ◌≤◌, ◌+◌, ◌�
 ghost use Rattle.walter_base.specs.Vectors.{most_sites};
 ghost use Rattle.walter_scenario.specs.declared.scenario.Client.{Client};
 ghost use Rattle.walter_cell.specs.Lines.{LineValue};
+ghost use Rattle.walter_checkpoint.specs.Loads.{IsAreas};
 ghost use Rattle.walter_cluster.specs.Benches.{IsOf, IsToldAt, AreAllConnected, AreAllAnswered, AreMet, disks_of};
 ghost use Rattle.walter_cluster.specs.Lanes.{rows_in, columns_in};
 ghost use Rattle.walter_cluster.specs.Seats.{lists_in};
-ghost use Rattle.walter_cluster.specs.Builds.{AreUnread, AreUnwritten, AreUnarmed, LeavesDisks, HadNoRecords, IsWhyNone};
+ghost use Rattle.walter_cluster.specs.Builds.{AreUnread, AreUnwritten, AreUnarmed, LeavesDisks, HadNoRecords, AreLaid, IsWhyNone};
 ghost use Rattle.walter_cluster.specs.Moments.{IsFirst, moment_of};
 ghost use Rattle.walter_cluster.specs.Openings.{HasPlaces, ArePrepared, IsBegunBench};
 
@@ -62,6 +63,7 @@ pub fn build<D: Disk + Drop, S: Source + Drop, K: Sink + Drop>(
     requires few { scenario.now.catalog.sites ≤ most_sites }
     requires fewer { scenario.now.catalog.tolerated < scenario.now.catalog.sites }
     requires place { 19 ≤ scenario.now.capacity }
+    requires areas { IsAreas scenario.now.areas scenario.now.capacity }
     requires within { All (λ (client : Client). client.site.0 < scenario.now.catalog.sites) scenario.now.clients }
     requires disks { length disks.items ≡ scenario.now.catalog.sites }
     requires conns { length conns.items ≡ length scenario.now.clients }
@@ -74,9 +76,10 @@ pub fn build<D: Disk + Drop, S: Source + Drop, K: Sink + Drop>(
     ensures met { IfOk result AreMet }
     ensures first { AreUnarmed D.Disk disks.items
         → IfOk result (λ bench. IsFirst scenario.now.catalog.sites (moment_of D.Disk bench.cells)) }
-    ensures leaves { LeavesDisks D.Disk disks.items result }
-    ensures had_none { OnOk result (HadNoRecords D.Disk disks.items) }
-    ensures why { IfErr result (λ unbuilt. IsWhyNone D.Disk disks.items unbuilt) }
+    ensures leaves { LeavesDisks D.Disk scenario.now disks.items result }
+    ensures had_none { OnOk result (HadNoRecords D.Disk scenario.now disks.items) }
+    ensures laid { IfOk result (λ bench. AreLaid D.Disk scenario.now disks.items bench.cells) }
+    ensures why { IfErr result (λ unbuilt. IsWhyNone D.Disk scenario.now disks.items unbuilt) }
 {
     let Ok(parts) = prepare(alloc, scenario, conns) else {
         return Err(Unbuilt {
@@ -147,13 +150,14 @@ fn begin_all<D: Disk + Drop, S: Source + Drop, K: Sink + Drop>(
     requires few { scenario.now.catalog.sites ≤ most_sites }
     requires fewer { scenario.now.catalog.tolerated < scenario.now.catalog.sites }
     requires place { 19 ≤ scenario.now.capacity }
+    requires areas { IsAreas scenario.now.areas scenario.now.capacity }
     requires within { All (λ (client : Client). client.site.0 < scenario.now.catalog.sites) scenario.now.clients }
     requires disks { length disks.items ≡ scenario.now.catalog.sites }
     requires ready { (conns : List LineValue) × ArePrepared scenario.now conns parts }
     ensures begun { IfOk result (IsBegunBench D.Disk scenario.now disks.items (rows_in parts.rows.items)
         (columns_in parts.columns.items) (lists_in parts.lists.items) parts.homes.items) }
-    ensures leaves { LeavesDisks D.Disk disks.items result }
-    ensures why { IfErr result (λ unbuilt. IsWhyNone D.Disk disks.items unbuilt) }
+    ensures leaves { LeavesDisks D.Disk scenario.now disks.items result }
+    ensures why { IfErr result (λ unbuilt. IsWhyNone D.Disk scenario.now disks.items unbuilt) }
 {
     let Parts {
         mut rows,
@@ -180,6 +184,7 @@ fn begin_all<D: Disk + Drop, S: Source + Drop, K: Sink + Drop>(
             &scenario.catalog,
             site,
             scenario.capacity,
+            scenario.areas,
             outs,
             ins,
             lines,

@@ -14,7 +14,6 @@ use Rattle.walter_cluster.proofs.Built.{bench_built, room_built}
 use Rattle.walter_cluster.proofs.Opened.{cell_begins, begun_none, begun_more, left_of, all_back, why_none, faults_grow}
 use Rattle.walter_cluster.proofs.Places.{left_next, left_first}
 use Rattle.walter_cluster.proofs.opening.begin_all.Goals as goal
-use Rattle.walter_cluster.specs.Benches.{layout_of}
 
 pub loop-number-init : goal.loop-number-init
 loop-number-init g c = record {
@@ -66,7 +65,7 @@ returns-in-Err-clause-leaves g c =
     (c.remove-disk.ensures.items ∙ left_next disks c.loop-number.disks.items n is.disks) c.give_back.ensures
     (record {
       images = λ bytes has. c.in-Err.ensures.begins.leaves bytes has;
-      faults = faults_grow g.D.Disk c.in-Err.why _ _ c.in-Err.ensures.begins.faults;
+      faults = faults_grow c.in-Err.why _ _ c.in-Err.ensures.begins.faults;
       arms = c.in-Err.ensures.begins.arms;
     })
 
@@ -104,9 +103,9 @@ loop-number-preserved g c =
     let row = field_read (λ (v : Vec Sending Global). v.items) rows n c.remove-outs.result [] in_rows (left_first rows c.loop-number.rows.items n is.rows c.remove-outs.result c.remove-outs.ensures.value) in
     let column = field_read (λ (v : Vec Receiving Global). v.items) columns n c.remove-ins.result [] in_columns (left_first columns c.loop-number.columns.items n is.columns c.remove-ins.result c.remove-ins.ensures.value) in
     let list = field_read (λ (v : Vec (Option (LineValue)) Global). v.items) lists n c.remove-lines.result [] in_lists (left_first lists c.loop-number.lists.items n is.lists c.remove-lines.result c.remove-lines.ensures.value) in
-    let Rows : List Sending → Type 0 = λ os. HasBegun g.D.Disk t.catalog (layout_of t) (site_at n) disk os c.remove-ins.result.items c.remove-lines.result.items cell in
-    let Columns : List Receiving → Type 0 = λ is. HasBegun g.D.Disk t.catalog (layout_of t) (site_at n) disk (row_of (rows_in rows) n) is c.remove-lines.result.items cell in
-    let Lists : List (Option LineValue) → Type 0 = λ ls. HasBegun g.D.Disk t.catalog (layout_of t) (site_at n) disk (row_of (rows_in rows) n) (column_of (columns_in columns) n) ls cell in
+    let Rows : List Sending → Type 0 = λ os. HasBegun g.D.Disk t.catalog t.capacity t.areas (site_at n) disk os c.remove-ins.result.items c.remove-lines.result.items cell in
+    let Columns : List Receiving → Type 0 = λ is. HasBegun g.D.Disk t.catalog t.capacity t.areas (site_at n) disk (row_of (rows_in rows) n) is c.remove-lines.result.items cell in
+    let Lists : List (Option LineValue) → Type 0 = λ ls. HasBegun g.D.Disk t.catalog t.capacity t.areas (site_at n) disk (row_of (rows_in rows) n) (column_of (columns_in columns) n) ls cell in
     let one = cell_begins g.D.Disk t n disk (row_of (rows_in rows) n) (column_of (columns_in columns) n) (list_of (lists_in lists) n) cell
     (subst Lists (sym list) (subst Columns (sym column) (subst Rows (sym row) made.opens))) made.begins in
     record {

@@ -1,12 +1,12 @@
 use Rattle.std.proofs.Common.{◌∙◌}
 use Rattle.std.proofs.lemmas.Result.{IfOk-weaker}
 use Rattle.walter_cluster.specs.Benches.{BenchValue, IsOf, IsToldAt, AreAllConnected, AreAllAnswered, AreMet}
-use Rattle.walter_cluster.specs.Builds.{HadNoRecords}
+use Rattle.walter_cluster.specs.Builds.{HadNoRecords, AreLaid}
 use Rattle.walter_cluster.specs.Lanes.{rows_in, columns_in}
 use Rattle.walter_cluster.specs.Moments.{IsFirst, moment_of}
 use Rattle.walter_cluster.specs.Openings.{IsBegunBench}
 use Rattle.walter_cluster.specs.Seats.{lists_in}
-use Rattle.walter_cluster.proofs.Built.{of_built, told_built, connected_built, answered_built, met_built, first_built, none_had_built}
+use Rattle.walter_cluster.proofs.Built.{of_built, told_built, connected_built, answered_built, met_built, first_built, none_had_built, laid_built}
 use Rattle.walter_cluster.proofs.opening.build.Goals as goal
 
 pub returns-clause-of : goal.returns-clause-of
@@ -96,6 +96,19 @@ returns-clause-had_none g c =
     let columns = columns_in parts.columns.items in
     let lists = lists_in parts.lists.items in
     let ready = c.in-Ok.ensures in
-    IfOk-weaker c.begin_all.result (IsBegunBench g.D.Disk t disks rows columns lists parts.homes.items) (λ _. HadNoRecords g.D.Disk disks)
+    IfOk-weaker c.begin_all.result (IsBegunBench g.D.Disk t disks rows columns lists parts.homes.items) (λ _. HadNoRecords g.D.Disk t disks)
     (λ (bench : BenchValue g.row.D.Denot) begun. none_had_built g.D.Disk t disks rows columns lists bench.cells begun.begun c.requires.disks)
+    c.begin_all.ensures.begun
+
+pub returns-clause-laid : goal.returns-clause-laid
+returns-clause-laid g c =
+    let t = c.args.scenario.now in
+    let parts = c.in-Ok.parts in
+    let disks = c.args.disks.items in
+    let rows = rows_in parts.rows.items in
+    let columns = columns_in parts.columns.items in
+    let lists = lists_in parts.lists.items in
+    IfOk-weaker c.begin_all.result (IsBegunBench g.D.Disk t disks rows columns lists parts.homes.items)
+    (λ (bench : BenchValue g.row.D.Denot). AreLaid g.D.Disk t disks bench.cells)
+    (λ (bench : BenchValue g.row.D.Denot) begun. laid_built g.D.Disk t disks rows columns lists bench.cells begun.begun c.requires.disks)
     c.begin_all.ensures.begun

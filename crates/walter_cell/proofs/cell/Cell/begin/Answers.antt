@@ -1,7 +1,8 @@
-use Rattle.std.proofs.Common.{◌≡◌, List, [], Option, Result, Ok, Err, true, reverse, refl, ap, sym, ◌∙◌, subst}
+use Rattle.std.proofs.Common.{◌≡◌, ℕ, List, [], Option, Result, Ok, Err, true, reverse, refl, ap, sym, ◌∙◌, subst}
 use Rattle.std.specs.Prelude.{All}
 use Rattle.std.specs.Result.{IsErrAnd}
 use Rattle.std.proofs.lemmas.List.Elements.{All-nil, All-push}
+use Rattle.walter_checkpoint.specs.Areas.{Shape, shape_by}
 use Rattle.walter_disk.specs.declared.disk.Disk.{Ghosts}
 use Rattle.walter_engine.specs.declared.answers.BeginFault.{BeginFault}
 use Rattle.walter_outbox.specs.Lanes.{AreNext}
@@ -15,17 +16,18 @@ use Rattle.walter_cell.specs.Nodes.{NodeValue}
 use Rattle.walter_cell.proofs.cell.Cell.begin.Goals as goal
 
 -- what came back with the disk comes back
-begins_back : {D M N : Type 0} (g : Ghosts D) (of_node : M → Option D) (of_cell : N → Option D) (disk : D) (r : Result N (D × BeginFault)) (back : D × BeginFault)
-    → IsErrAnd r (λ e. e ≡ back) → Begins g {N = M} of_node disk (Err back) → Begins g {N = N} of_cell disk r
-begins_back g of_node of_cell disk (Ok x) back is begins = absurd is
-begins_back {D = D} {N = N} g of_node of_cell disk (Err e) back is begins =
-    subst (λ (b : D × BeginFault). Begins g {N = N} of_cell disk (Err b)) (sym is)
+begins_back : {D M N : Type 0} (g : Ghosts D) (of_node : M → Option D) (of_cell : N → Option D) (shape : Shape) (areas : ℕ) (disk : D)
+    (r : Result N (D × BeginFault)) (back : D × BeginFault)
+    → IsErrAnd r (λ e. e ≡ back) → Begins g {N = M} of_node shape areas disk (Err back) → Begins g {N = N} of_cell shape areas disk r
+begins_back g of_node of_cell shape areas disk (Ok x) back is begins = absurd is
+begins_back {D = D} {N = N} g of_node of_cell shape areas disk (Err e) back is begins =
+    subst (λ (b : D × BeginFault). Begins g {N = N} of_cell shape areas disk (Err b)) (sym is)
     (record { begins = begins.begins; leaves = begins.leaves; faults = begins.faults; arms = begins.arms })
 
 pub returns-in_err-node-clause-begins : goal.returns-in_err-node-clause-begins
 returns-in_err-node-clause-begins g c =
-    begins_back {M = NodeValue g.row.D.Denot} {N = CellValue g.row.D.Denot} g.D.Disk (λ node. node.disk) (λ cell. cell.node.disk) c.args.disk
-    c.from_residual.result c.in_err-node.field-0.0 c.from_residual.ensures.1 c.in_err-node.ensures.begins
+    begins_back {M = NodeValue g.row.D.Denot} {N = CellValue g.row.D.Denot} g.D.Disk (λ node. node.disk) (λ cell. cell.node.disk)
+    (shape_by c.args.capacity c.args.catalog.now.sites) c.args.areas c.args.disk c.from_residual.result c.in_err-node.field-0.0 c.from_residual.ensures.1 c.in_err-node.ensures.begins
 
 pub invariant_of-result : goal.invariant_of-result
 invariant_of-result g c =

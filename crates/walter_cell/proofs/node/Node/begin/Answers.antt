@@ -1,36 +1,111 @@
-use Rattle.std.proofs.Common.{◌≡◌, ◌++◌, ◌∷◌, [], List, Some, Option, refl, ap, sym, ◌∙◌, subst}
+use Rattle.std.proofs.Common.{◌≡◌, ◌≤◌, ◌++◌, ◌∷◌, [], ℕ, List, Some, Option, Result, refl, ap, sym, ◌∙◌, subst}
 use Rattle.std.specs.Prelude.{IfSome}
 use Rattle.walter_base.specs.declared.catalog.Catalog.{Catalog}
 use Rattle.walter_base.specs.declared.names.SiteId.{SiteId}
-use Rattle.walter_engine.specs.Engines.{catalog_in, site_in, layout_in, disk_in, IsFresh, Stands}
+use Rattle.walter_checkpoint.specs.Areas.{Shape, shape_by}
+use Rattle.walter_disk.specs.declared.disk.Disk.{Ghosts}
+use Rattle.walter_engine.specs.Begins.{HasOnly, IsLaidOver}
+use Rattle.walter_engine.specs.Engines.{catalog_in, site_in, capacity_in, layout_for, layout_in, shape_in, disk_in, IsFresh, IsOfSameSite, Stands}
+use Rattle.walter_engine.specs.declared.answers.BeginFault.{BeginFault}
 use Rattle.walter_engine.specs.declared.engine.Engine.{Engine}
 use Rattle.walter_rules.specs.declared.entry.Entry.{Entry}
-use Rattle.walter_rules.specs.Layouts.{one_area}
+use Rattle.walter_rules.specs.Layouts.{Layout}
 use Rattle.walter_rules.specs.Trails.{opening, standing}
-use Rattle.walter_cell.proofs.Openings.{begins_by, known_built, node_built}
+use Rattle.walter_cell.specs.Builds.{Begins, IsNewEngine, IsOfCapacity}
+use Rattle.walter_cell.proofs.Nodes.{has_disk}
+use Rattle.walter_cell.proofs.Openings.{begins_by, has_place, known_built, layout_same, node_built, shape_same, to_found, told_here}
 use Rattle.walter_cell.proofs.Wholes.{whole_of, reads_before}
 use Rattle.walter_cell.proofs.node.Node.begin.Goals as goal
 
 opened : (entries none : List Entry) (first : Entry) → entries ≡ none ++ first ∷ [] → none ≡ [] → first ≡ opening → entries ≡ opening ∷ []
 opened entries none first is empty same = is ∙ (ap (λ (es : List Entry). es ++ first ∷ []) empty ∙ ap (λ (e : Entry). e ∷ []) same)
 
+-- the engine, as it was made
+module _ {D : Type 0} {g : Ghosts D} (catalog : Catalog) (capacity areas : ℕ) (i : SiteId) (disk : D)
+    (lent made : Engine D g) (is : lent ≡ made) (new : IsNewEngine catalog capacity areas i disk made) where
+  disk_is : disk_in lent ≡ Some disk
+  disk_is = ap (λ (e : Engine D g). disk_in e) is ∙ new.disk_is
+
+  catalog_is : catalog_in lent ≡ catalog
+  catalog_is = ap (λ (e : Engine D g). catalog_in e) is ∙ new.catalog_is
+
+  site_is : site_in lent ≡ i
+  site_is = ap (λ (e : Engine D g). site_in e) is ∙ new.site
+
+  capacity_is : capacity_in lent ≡ capacity
+  capacity_is = ap (λ (e : Engine D g). capacity_in e) is ∙ new.capacity_is
+
+  areas_are : lent.areas ≡ areas
+  areas_are = ap (λ (e : Engine D g). e.areas) is ∙ new.areas_are
+
+  sites_are : (catalog_in lent).sites ≡ catalog.sites
+  sites_are = ap (λ (k : Catalog). k.sites) catalog_is
+
+  -- what is told by how it was made
+  begins_as : {N : Type 0} (disk_of : N → Option D) (r : Result N (D × BeginFault))
+      → Begins g disk_of (shape_in lent) lent.areas disk r
+      → Begins g disk_of (shape_by capacity catalog.sites) areas disk r
+  begins_as disk_of r begins =
+      subst (λ (s : Shape). Begins g disk_of s areas disk r) (shape_same _ _ _ _ capacity_is sites_are)
+      (subst (λ (n : ℕ). Begins g disk_of (shape_in lent) n disk r) areas_are begins)
+
+  laid_as : (bytes : List ℕ) (found : Layout) → IsLaidOver bytes (layout_in lent) found
+      → IsLaidOver bytes (layout_for areas capacity catalog.sites) found
+  laid_as bytes found laid =
+      subst (λ (l : Layout). IsLaidOver bytes l found) (layout_same areas _ _ _ _ capacity_is sites_are)
+      (subst (λ (n : ℕ). IsLaidOver bytes (layout_for n lent.capacity (catalog_in lent).sites) found) areas_are laid)
+
+  -- and of the same site behind its first restart
+  module _ (engine : Engine D g) (same : IsOfSameSite lent engine) where
+    sized_as : IsOfCapacity capacity catalog.sites (layout_in engine)
+    sized_as = (
+      engine.areas,
+      layout_same engine.areas _ _ _ _ (same.capacity ∙ capacity_is) (ap (λ (k : Catalog). k.sites) (same.catalog ∙ catalog_is)),
+    )
+
 pub returns-in-Err-clause-begins : goal.returns-in-Err-clause-begins
 returns-in-Err-clause-begins g c =
-    let old = disk_in c.deref_mut.result.now in
+    let lent = c.deref_mut.result.now in
+    let made = c.in_ok-engine.ensures.ok in
     let new = disk_in c.begin.new.self in
     let back : Some c.into_disk.result ≡ new = c.into_disk.ensures ∙ ap (λ (e : Engine g.row.D.Denot g.D.Disk). disk_in e) c.into_inner.ensures in
-    let is : old ≡ Some c.args.disk = ap (λ (e : Engine g.row.D.Denot g.D.Disk). disk_in e) c.deref_mut.ensures.value ∙ c.in_ok-engine.ensures.ok.disk_is in
-    begins_by g.D.Disk g.met.D.Disk.counts_now _ c.args.disk _ c.begin.result old new is (sym c.in-Err.is)
+    begins_as c.args.catalog.now c.args.capacity c.args.areas c.args.site c.args.disk lent _ c.deref_mut.ensures.value made _ _
+    (begins_by g.D.Disk g.met.D.Disk.counts_now _ (shape_in lent) lent.areas c.args.disk _ c.begin.result (disk_in lent) new
+    (disk_is c.args.catalog.now c.args.capacity c.args.areas c.args.site c.args.disk lent _ c.deref_mut.ensures.value made) (sym c.in-Err.is)
     (λ P holds. subst (λ (o : Option g.row.D.Denot). IfSome o P) (sym back) holds)
-    c.begin.ensures.begins c.begin.ensures.any_moment c.begin.ensures.faults c.begin.ensures.arms
+    c.begin.ensures.begins c.begin.ensures.any_moment c.begin.ensures.faults c.begin.ensures.arms)
 
 pub returns-clause-begins : goal.returns-clause-begins
 returns-clause-begins g c =
-    let old = disk_in c.deref_mut.result.now in
-    let is : old ≡ Some c.args.disk = ap (λ (e : Engine g.row.D.Denot g.D.Disk). disk_in e) c.deref_mut.ensures.value ∙ c.in_ok-engine.ensures.ok.disk_is in
-    begins_by g.D.Disk g.met.D.Disk.counts_now _ c.args.disk _ c.begin.result old (disk_in c.begin.new.self) is (sym c.in_default-begin.is)
-    (λ P holds. holds)
-    c.begin.ensures.begins c.begin.ensures.any_moment c.begin.ensures.faults c.begin.ensures.arms
+    let lent = c.deref_mut.result.now in
+    let made = c.in_ok-engine.ensures.ok in
+    begins_as c.args.catalog.now c.args.capacity c.args.areas c.args.site c.args.disk lent _ c.deref_mut.ensures.value made _ _
+    (begins_by g.D.Disk g.met.D.Disk.counts_now _ (shape_in lent) lent.areas c.args.disk _ c.begin.result (disk_in lent)
+    (disk_in c.begin.new.self)
+    (disk_is c.args.catalog.now c.args.capacity c.args.areas c.args.site c.args.disk lent _ c.deref_mut.ensures.value made)
+    (sym c.in_default-begin.is) (λ P holds. holds)
+    c.begin.ensures.begins c.begin.ensures.any_moment c.begin.ensures.faults c.begin.ensures.arms)
+
+pub returns-clause-opens : goal.returns-clause-opens
+returns-clause-opens g c =
+    let lent = c.deref_mut.result.now in
+    let made = c.in_ok-engine.ensures.ok in
+    let engine = c.begin.new.self in
+    let same = c.begin.ensures.engine in
+    let catalog = c.args.catalog.now in
+    let lent_is = disk_is catalog c.args.capacity c.args.areas c.args.site c.args.disk lent _ c.deref_mut.ensures.value made in
+    record {
+      catalog_is = same.catalog ∙ catalog_is catalog c.args.capacity c.args.areas c.args.site c.args.disk lent _ c.deref_mut.ensures.value made;
+      sized = sized_as catalog c.args.capacity c.args.areas c.args.site c.args.disk lent _ c.deref_mut.ensures.value made engine same;
+      laid = λ bytes only.
+          laid_as catalog c.args.capacity c.args.areas c.args.site c.args.disk lent _ c.deref_mut.ensures.value made bytes (layout_in engine)
+          ((rw c.in_default-begin.is at c.begin.ensures.laid) bytes (to_found (disk_in lent) c.args.disk (HasOnly g.D.Disk bytes) lent_is only));
+      site = same.site ∙ site_is catalog c.args.capacity c.args.areas c.args.site c.args.disk lent _ c.deref_mut.ensures.value made;
+      trail = opened _ _ _ c.push_reserved.ensures.items c.in-Ok.ensures.entries c.opening_of.ensures;
+      outs_are = refl;
+      there = has_disk engine;
+      told = told_here g.D.Disk (disk_in lent) (disk_in engine) c.args.disk lent_is (has_disk engine) c.begin.ensures.tells;
+    }
 
 pub invariant_of-result : goal.invariant_of-result
 invariant_of-result g c =
@@ -39,14 +114,19 @@ invariant_of-result g c =
     let engine = c.begin.new.self in
     let made = c.in_ok-engine.ensures.ok in
     let same = c.begin.ensures.engine in
-    let catalog : catalog_in engine ≡ c.args.catalog.now = same.catalog ∙ (ap (λ (e : Engine g.row.D.Denot g.D.Disk). catalog_in e) c.deref_mut.ensures.value ∙ made.catalog_is) in
-    let site : site_in engine ≡ c.args.site = same.site ∙ (ap (λ (e : Engine g.row.D.Denot g.D.Disk). site_in e) c.deref_mut.ensures.value ∙ made.site) in
-    let layout : layout_in engine ≡ one_area c.args.capacity = same.layout ∙ (ap (λ (e : Engine g.row.D.Denot g.D.Disk). layout_in e) c.deref_mut.ensures.value ∙ made.layout_is) in
-    whole_of c.args.catalog.now (one_area c.args.capacity) c.args.site _
-    (node_built c.args.catalog.now (one_area c.args.capacity) c.args.site _ is catalog site layout refl c.requires.lanes c.requires.empty)
+    let to = c.args.catalog.now in
+    let catalog : catalog_in engine ≡ to =
+    same.catalog ∙ catalog_is to c.args.capacity c.args.areas c.args.site c.args.disk lent _ c.deref_mut.ensures.value made in
+    let site : site_in engine ≡ c.args.site =
+    same.site ∙ site_is to c.args.capacity c.args.areas c.args.site c.args.disk lent _ c.deref_mut.ensures.value made in
+    let capacity : engine.capacity ≡ c.args.capacity =
+    same.capacity ∙ capacity_is to c.args.capacity c.args.areas c.args.site c.args.disk lent _ c.deref_mut.ensures.value made in
+    let layout = layout_in engine in
+    whole_of to layout c.args.site _ (node_built to layout c.args.site _ is catalog site refl refl c.requires.lanes c.requires.empty)
     (λ told.
     let fresh : IsFresh lent = subst (λ (e : Engine g.row.D.Denot g.D.Disk). IsFresh e) (sym c.deref_mut.ensures.value) made.fresh in
     let stands = (rw c.in_default-begin.is at c.begin.ensures.stands) fresh (reads_before lent engine c.begin.ensures.tells told) in
-    known_built c.args.catalog.now (one_area c.args.capacity) c.args.site _ is c.args.capacity refl c.requires.place
+    known_built to layout c.args.site _ is
+    (has_place engine.areas engine.capacity (catalog_in engine).sites engine.laid (subst (λ (n : ℕ). 19 ≤ n) (sym capacity) c.requires.place))
     (subst (λ (k : Catalog). Stands engine (standing k c.args.site (opening ∷ []))) (sym same.catalog ∙ catalog)
     (subst (λ (i : SiteId). Stands engine (standing (catalog_in lent) i (opening ∷ []))) (sym same.site ∙ site) stands)))

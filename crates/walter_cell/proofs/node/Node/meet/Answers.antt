@@ -2,8 +2,9 @@ use Rattle.std.proofs.Common.{◌≡◌, ◌<◌, ℕ, List, length, ap, sym, �
 use Rattle.std.specs.Prelude.{OnOk}
 use Rattle.walter_lane.specs.Lanes.{Sending}
 use Rattle.walter_outbox.specs.Lanes.{put_to, met_to, out_rings}
+use Rattle.walter_cell.specs.Nodes.{NodeValue, IsSound}
 use Rattle.walter_cell.proofs.Meeting.{on_ok, put_met, put_here, met_here, met_elsewhere, rings_met, put_kept}
-use Rattle.walter_cell.proofs.Wholes.{whole_lanes}
+use Rattle.walter_cell.proofs.Wholes.{sound_of, whole_lanes}
 use Rattle.walter_cell.proofs.node.Node.meet.Goals as goal
 
 pub invariant_of-self : goal.invariant_of-self
@@ -50,3 +51,7 @@ pub returns-clause-other_mets : goal.returns-clause-other_mets
 returns-clause-other_mets g c = λ k apart.
     met_elsewhere c.self.inside.outs.items c.from.result c.index_mut.result.now c.meet.new.outbound c.index_mut.ensures.value k
     (λ same. apart (same ∙ c.from.ensures)) ∙ ap (λ v. met_to v.outs k) c.self.view_is
+
+pub returns-clause-sound : goal.returns-clause-sound
+returns-clause-sound g c =
+    subst (λ (v : NodeValue g.row.D.Denot). IsSound g.D.Disk v) c.self.view_is (sound_of _ _ c.self.invariant)
